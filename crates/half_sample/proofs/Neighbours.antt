@@ -73,7 +73,7 @@ lower_rows p r mb x y v hx hy samples leads is rows = λ j i hj hi.
 -- ---- all of them
 
 pub all_around : (p : Picture) (r mb : ℕ) (v : Vector) (to : Place) (a : Around) → IsBetween v → LeadsTo 16 p.format Y mb v to →
-    AreRowsAround p r to.x to.y 17 a.left a.right a.up a.up_left a.up_right → AreAround p mb v r a
+    AreRowsAround p r to.x to.y 17 a → AreAround p mb v r a
 all_around p r mb v to a odd leads rows =
     let x = to.x in
     let y = to.y in

@@ -3,12 +3,15 @@ use Rattle.std.specs.Prelude.{◌≡◌, ℕ, ◌+◌, ◌*◌, ◌<◌, Bool, t
 use Rattle.std.specs.Int.RustNames.{bit_xor}
 use Rattle.std.specs.List.{range_with_len}
 use Rattle.std.specs.Simd.Lanes.{zip2, Each1}
+use Rattle.h263_types.specs.declared.format.Format.{Format}
 use Rattle.h263_planes.specs.Picture.{Picture}
-use Rattle.h263_planes.specs.Samples.{sample_at}
+use Rattle.h263_planes.specs.Samples.{sample_at, Inside}
 use Rattle.h263_planes.specs.declared.Plane.TheVariants.{Y}
 use Rattle.half_sample.specs.Averages.{average}
 use Rattle.half_sample.specs.Prediction.{interpolated}
+use Rattle.half_sample.specs.declared.around.Around.{Around}
 use Rattle.half_sample.specs.declared.around.Line.{Line}
+use Rattle.half_sample.specs.declared.place.Place.{Place}
 
 -- n samples
 pub record AreSamples (n : ℕ) (xs : List ℕ) : Type 0 where
@@ -44,10 +47,16 @@ abbrev pub AreRowsFrom : Picture → Bool → Bool → ℕ → ℕ → ℕ → �
 AreRowsFrom p half_x half_y r x y n samples =
     (j i : ℕ) → j < n → i < 16 → slice_index samples (16 * j + i) ≡ interpolated p Y half_x half_y r (x + i) (y + j)
 
+-- the eighteen rows of eighteen luma samples from a place on lie inside the picture
+pub record ReadsAround (f : Format) (at : Place) : Type 0 where
+  pub inside : Inside f Y at.x (at.y + 17) 18
+  pub x : at.x < 65536
+  pub y : at.y < 60000
+
 -- those of the five places around column x + 1 of row y + 1
-pub record AreRowsAround (p : Picture) (r x y n : ℕ) (ls rs us uls urs : List ℕ) : Type 0 where
-  pub left : AreRowsFrom p true false r x y n ls
-  pub right : AreRowsFrom p true false r (x + 1) y n rs
-  pub up : AreRowsFrom p false true r (x + 1) y n us
-  pub up_left : AreRowsFrom p true true r x y n uls
-  pub up_right : AreRowsFrom p true true r (x + 1) y n urs
+pub record AreRowsAround (p : Picture) (r x y n : ℕ) (a : Around) : Type 0 where
+  pub left : AreRowsFrom p true false r x y n a.left
+  pub right : AreRowsFrom p true false r (x + 1) y n a.right
+  pub up : AreRowsFrom p false true r (x + 1) y n a.up
+  pub up_left : AreRowsFrom p true true r x y n a.up_left
+  pub up_right : AreRowsFrom p true true r (x + 1) y n a.up_right

@@ -6,9 +6,9 @@ ghost use Rattle.h263_planes.specs.Lent.{picture};
 ghost use Rattle.h263_planes.specs.Samples.{Inside};
 ghost use Rattle.h263_planes.specs.declared.Plane.TheVariants.{Y};
 ghost use Rattle.half_sample.specs.Around.{AreAround, IsBetween};
-ghost use Rattle.half_sample.specs.Rows.{AreRowsAround, IsLine};
+ghost use Rattle.half_sample.specs.Rows.{AreRowsAround, IsLine, ReadsAround};
 
-use crate::place::place_of;
+use crate::place::{Place, place_of};
 use crate::rows::{load, mean, of_mean, of_means, store};
 use h263_planes::{PictureRef, Plane};
 use h263_types::Vector;
@@ -70,52 +70,31 @@ fn line_at(reference: PictureRef<'_>, x: u32, y: u32) -> Line
 // its averages serve the rows above and below. Called with a rounding that is known, it has a loop
 // for this one alone.
 #[inline(always)]
-fn rows_around(
-    reference: PictureRef<'_>,
-    x: u32,
-    y: u16,
-    rounding: u8,
-    left: &mut [u8],
-    right: &mut [u8],
-    up: &mut [u8],
-    up_left: &mut [u8],
-    up_right: &mut [u8],
-)
-    requires inside { Inside (picture reference).format Y x (y + 17) 18 }
-    requires x { x < 65536 }
-    requires y { y < 60000 }
+fn rows_around(reference: PictureRef<'_>, place: Place, rounding: u8, out: &mut Around)
+    requires place { ReadsAround (picture reference).format place }
     requires rounding { rounding ≤ 1 }
-    requires left { length left.old ≡ 272 }
-    requires right { length right.old ≡ 272 }
-    requires up { length up.old ≡ 272 }
-    requires up_left { length up_left.old ≡ 272 }
-    requires up_right { length up_right.old ≡ 272 }
-    ensures { AreRowsAround (picture reference.entry) rounding x y 17
-        left.new right.new up.new up_left.new up_right.new }
+    ensures { AreRowsAround (picture reference.entry) rounding place.x place.y 17 out.new }
 {
-    let top = u32::from(y);
-    let mut above = line_at(reference, x, top);
+    let top = u32::from(place.y);
+    let mut above = line_at(reference, place.x, top);
     for j in 0..17usize {
-        let below = line_at(reference, x, top + (j as u32 + 1));
+        let below = line_at(reference, place.x, top + (j as u32 + 1));
         let at = 16 * j;
         let (l, m) = (above.left, below.left);
         let (r, s) = (above.right, below.right);
         let odd = above.centre ^ below.centre;
-        store(of_mean(l, above.left_odd, rounding), left, at);
-        store(of_mean(r, above.right_odd, rounding), right, at);
-        store(
-            of_mean(mean(above.centre, below.centre), odd, rounding),
-            up,
-            at,
-        );
+        let up = mean(above.centre, below.centre);
+        store(of_mean(l, above.left_odd, rounding), &mut out.left, at);
+        store(of_mean(r, above.right_odd, rounding), &mut out.right, at);
+        store(of_mean(up, odd, rounding), &mut out.up, at);
         store(
             of_means(l, above.left_odd, m, below.left_odd, rounding),
-            up_left,
+            &mut out.up_left,
             at,
         );
         store(
             of_means(r, above.right_odd, s, below.right_odd, rounding),
-            up_right,
+            &mut out.up_right,
             at,
         );
         above = below;
@@ -140,46 +119,18 @@ pub fn luma_around(
     ensures { AreAround (picture reference.entry) mb vector rounding out.new }
 {
     let place = place_of(reference, Plane::Y, mb, vector);
-    rows_rounded(
-        reference,
-        place.x,
-        place.y,
-        rounding,
-        &mut out.left,
-        &mut out.right,
-        &mut out.up,
-        &mut out.up_left,
-        &mut out.up_right,
-    );
+    rows_rounded(reference, place, rounding, out);
 }
 
 // The same for any rounding.
 #[inline(always)]
-fn rows_rounded(
-    reference: PictureRef<'_>,
-    x: u32,
-    y: u16,
-    rounding: u8,
-    left: &mut [u8],
-    right: &mut [u8],
-    up: &mut [u8],
-    up_left: &mut [u8],
-    up_right: &mut [u8],
-)
-    requires inside { Inside (picture reference).format Y x (y + 17) 18 }
-    requires x { x < 65536 }
-    requires y { y < 60000 }
+fn rows_rounded(reference: PictureRef<'_>, place: Place, rounding: u8, out: &mut Around)
+    requires place { ReadsAround (picture reference).format place }
     requires rounding { rounding ≤ 1 }
-    requires left { length left.old ≡ 272 }
-    requires right { length right.old ≡ 272 }
-    requires up { length up.old ≡ 272 }
-    requires up_left { length up_left.old ≡ 272 }
-    requires up_right { length up_right.old ≡ 272 }
-    ensures { AreRowsAround (picture reference.entry) rounding x y 17
-        left.new right.new up.new up_left.new up_right.new }
+    ensures { AreRowsAround (picture reference.entry) rounding place.x place.y 17 out.new }
 {
     match rounding {
-        0 => rows_around(reference, x, y, 0, left, right, up, up_left, up_right),
-        _ => rows_around(reference, x, y, 1, left, right, up, up_left, up_right),
+        0 => rows_around(reference, place, 0, out),
+        _ => rows_around(reference, place, 1, out),
     }
 }

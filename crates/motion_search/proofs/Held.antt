@@ -14,8 +14,9 @@ use Rattle.h263_planes.specs.declared.Plane.TheVariants.{Y}
 use Rattle.motion_search.specs.Differences.{differences}
 use Rattle.motion_search.specs.Cost.{square}
 use Rattle.motion_search.specs.declared.areas.Quarters.{Quarters}
+use Rattle.motion_search.specs.declared.kept.AreaRows.{AreaRows}
 use Rattle.motion_search.specs.declared.kept.KeptSums.{KeptSums}
-use Rattle.motion_search.specs.Areas.{area_sum, sixteen, AreBytes, AreQuarters, AreSomeBeside, AreSumsOf, IsBeside, IsRow, samples_from}
+use Rattle.motion_search.specs.Areas.{area_sum, sixteen, AreBytes, AreQuarters, AreSomeBeside, AreSumsOf, IsBeside, IsRow, LeavesRest, samples_from}
 use Rattle.motion_search.proofs.AreaSums.{area_is, area_small, at_sixteen, more_than, ruled_out}
 
 -- a number reaches another, or not
@@ -202,6 +203,15 @@ width_small Qcif = omega arith
 width_small Cif = omega arith
 
 -- ---- rows of areas that are kept, and more of them
+
+-- what two strips leave after each other
+pub rest_twice : (rows : AreaRows) (old mid new : List ℕ) → LeavesRest rows old mid → LeavesRest rows mid new → LeavesRest rows old new
+rest_twice rows old mid new one two =
+    record {
+      whole = two.whole;
+      above = λ k hk. two.above k hk ∙ one.above k hk;
+      small = λ h. two.small (one.small h);
+    }
 
 -- those that were kept reach no further than those that are wanted
 pub begins_before : (old_first old_end new_end from end : ℕ) → (new_end ≡ from) ⊎ ((old_first ≤ from) × (from < old_end) × (new_end ≡ old_end)) →

@@ -23,6 +23,13 @@ IsFirst radius least first = (n : ℕ) → (first ≤ n) ↔ (least ≤ℤ whole
 abbrev pub IsEnd : ℕ → ℤ → ℕ → Type 0
 IsEnd radius most end = (n : ℕ) → (n < end) ↔ ((n < 2 * radius + 1) × (whole_component radius n ≤ℤ most))
 
+-- the same of an end that is called otherwise
+pub first_is : (radius first : ℕ) (a b : ℤ) → a ≡ b → IsFirst radius a first → IsFirst radius b first
+first_is radius first a b e h = subst (λ (z : ℤ). IsFirst radius z first) e h
+
+pub end_is : (radius end : ℕ) (a b : ℤ) → a ≡ b → IsEnd radius a end → IsEnd radius b end
+end_is radius end a b e h = subst (λ (z : ℤ). IsEnd radius z end) e h
+
 module _ (f : Format) (mb radius : ℕ) (reach : Reach) (is : Reaches f mb reach) (row : ℕ) where
   -- a place in reach lies between the ends
   pub from_first : (first i : ℕ) → IsFirst radius reach.left first → InReach f mb (whole_component radius i) (whole_component radius row) → first ≤ i

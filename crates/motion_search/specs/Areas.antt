@@ -1,12 +1,13 @@
 -- Sums of samples over areas of 8 x 8.
 use Rattle.std.specs.Prelude.{◌≡◌, ℕ, zero, suc, ◌+◌, ◌*◌, ◌<◌, ◌≤◌, Option, None, Some, List, length, map, slice_index}
 use Rattle.std.specs.List.{range_with_len}
-use Rattle.h263_types.specs.Sizes.{width_of}
+use Rattle.h263_types.specs.Sizes.{height_of, width_of}
 use Rattle.h263_planes.specs.Picture.{Picture}
 use Rattle.h263_planes.specs.Samples.{sample_at, AreSamples}
 use Rattle.h263_planes.specs.declared.Plane.TheVariants.{Y}
 use Rattle.motion_search.specs.declared.areas.Columns.{Columns}
 use Rattle.motion_search.specs.declared.areas.Quarters.{Quarters}
+use Rattle.motion_search.specs.declared.kept.AreaRows.{AreaRows}
 use Rattle.motion_search.specs.declared.kept.KeptSums.{KeptSums}
 
 -- f 0 + f 1 + .. + f (n - 1)
@@ -85,7 +86,26 @@ pub record AreSumsOf (p : Picture) (s : KeptSums) : Type 0 where
       → slice_index s.sums (384 * k + x) ≡ area_sum (sample_at p Y) x (s.first + k)
   pub small : (k : ℕ) → slice_index s.sums k ≤ 16320
 
--- the same of a reference that there may be
+-- rows of areas for which there is room among those that are kept, and which lie inside a picture
+pub record FitIn (p : Picture) (rows : AreaRows) : Type 0 where
+  pub order : rows.begin ≤ rows.end
+  pub room : rows.end ≤ 39
+  pub low : rows.first < 60000
+  pub down : rows.first + rows.end + 7 ≤ height_of p.format
+
+-- the sums of the rows above these stay; where all sums were ones that an area can have, all still are
+pub record LeavesRest (rows : AreaRows) (old new : List ℕ) : Type 0 where
+  pub whole : length new ≡ 14976
+  pub above : (k : ℕ) → k < 384 * rows.begin → slice_index new k ≡ slice_index old k
+  pub small : ((k : ℕ) → slice_index old k ≤ 16320) → (k : ℕ) → slice_index new k ≤ 16320
+
+-- the sums of all areas in these rows are written
+pub record AreAdded (p : Picture) (rows : AreaRows) (old new : List ℕ) : Type 0 where
+  pub rest : LeavesRest rows old new
+  pub sums : (x k : ℕ) → x + 8 ≤ width_of p.format → rows.begin ≤ k → k < rows.end
+      → slice_index new (384 * k + x) ≡ area_sum (sample_at p Y) x (rows.first + k)
+
+-- sums that are kept of a reference that there may be
 abbrev pub AreSumsOfAny : Option Picture → KeptSums → Type 0
 AreSumsOfAny None s = Unit {0}
 AreSumsOfAny (Some p) s = AreSumsOf p s

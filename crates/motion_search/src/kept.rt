@@ -3,9 +3,9 @@
 ghost use Rattle.std.specs.Prelude.{◌≡◌, ℕ, ◌+◌, ◌*◌, ◌<◌, ◌≤◌, ◌⊎◌, ◌↔◌, IsTrue, length, slice_index};
 ghost use Rattle.h263_types.specs.Sizes.{height_of, width_of};
 ghost use Rattle.h263_planes.specs.Lent.{picture};
-ghost use Rattle.h263_planes.specs.Samples.{Inside, IsPicture, sample_at};
+ghost use Rattle.h263_planes.specs.Samples.{Inside, IsPicture};
 ghost use Rattle.h263_planes.specs.declared.Plane.TheVariants.{Y};
-ghost use Rattle.motion_search.specs.Areas.{area_sum, AreBytes, AreColumns, AreSomeBeside, AreSomeColumns, AreSumsOf, IsBeside};
+ghost use Rattle.motion_search.specs.Areas.{area_sum, AreAdded, AreBytes, AreColumns, AreSomeBeside, AreSomeColumns, AreSumsOf, FitIn, IsBeside, LeavesRest};
 
 use crate::areas::{Columns, areas, no_rows, with_row, without_row};
 use crate::lent::known;
@@ -29,6 +29,15 @@ pub struct KeptSums {
     // the first row of areas, and the one after the last
     pub(crate) first: u32,
     pub(crate) end: u32,
+}
+
+// Rows of areas that are added to those that are kept: from row `begin` to before row `end` of
+// these, which is row `first + begin` of the picture and so on.
+#[derive(Clone, Copy)]
+struct AreaRows {
+    first: u32,
+    begin: u32,
+    end: u32,
 }
 
 impl KeptSums {
@@ -76,8 +85,12 @@ impl KeptSums {
         ensures end { self.new.end ≡ end }
     {
         self.drop_before(from);
-        let begin = self.end - self.first;
-        add_rows(&mut self.sums, reference, from, begin, end - from);
+        let rows = AreaRows {
+            first: from,
+            begin: self.end - self.first,
+            end: end - from,
+        };
+        add_rows(&mut self.sums, reference, rows);
         self.end = end;
     }
 
@@ -207,40 +220,26 @@ fn put_areas(columns: Columns, out: &mut [u16], at: usize)
     put(right, out, at + 8);
 }
 
-// Writes the sums of 24 areas in some rows of areas down, from row `begin` to before row `end` of
-// those that are kept, which is row `first + begin` of the picture and so on. They are those of the
-// sixteen columns from `x` on with the sixteen from `z` on to their right: the next ones, or at the
-// right edge the same again.
+// Writes the sums of 24 areas in some rows of areas down. They are those of the sixteen columns from
+// `x` on with the sixteen from `z` on to their right: the next ones, or at the right edge the same
+// again.
 #[inline(always)]
-fn add_strip(
-    out: &mut [u16],
-    reference: PictureRef<'_>,
-    x: u32,
-    z: u32,
-    first: u32,
-    begin: u32,
-    end: u32,
-)
+fn add_strip(out: &mut [u16], reference: PictureRef<'_>, x: u32, z: u32, rows: AreaRows)
     requires beside { AreSomeBeside (picture reference) x z }
-    requires order { begin ≤ end }
-    requires room { end ≤ 39 }
+    requires rows { FitIn (picture reference) rows }
     requires across { (x + 24 ≤ 384) × (x + 16 ≤ width_of (picture reference).format)
         × (z + 16 ≤ width_of (picture reference).format) }
-    requires low { first < 60000 }
-    requires down { first + end + 7 ≤ height_of (picture reference).format }
     requires whole { length out.old ≡ 14976 }
-    ensures whole { length out.new ≡ 14976 }
+    ensures rest { LeavesRest rows out.old out.new }
     ensures stored { (f : ℕ → ℕ → ℕ) → AreBytes f → IsBeside (picture reference.entry) x z f
-        → (k i : ℕ) → begin ≤ k → k < end → i < 24
-        → slice_index out.new (384 * k + (x + i)) ≡ area_sum f i (first + k) }
+        → (k i : ℕ) → rows.begin ≤ k → k < rows.end → i < 24
+        → slice_index out.new (384 * k + (x + i)) ≡ area_sum f i (rows.first + k) }
     ensures before { (k c : ℕ)
         → c < x → slice_index out.new (384 * k + c) ≡ slice_index out.old (384 * k + c) }
-    ensures above { (k : ℕ) → k < 384 * begin → slice_index out.new k ≡ slice_index out.old k }
-    ensures small { ((k : ℕ) → slice_index out.old k ≤ 16320)
-        → (k : ℕ) → slice_index out.new k ≤ 16320 }
 {
-    let mut columns = seven_rows(reference, x, z, first + begin);
-    for k in begin..end {
+    let first = rows.first;
+    let mut columns = seven_rows(reference, x, z, first + rows.begin);
+    for k in rows.begin..rows.end {
         let full = with_samples(columns, reference, x, z, first + k + 7);
         put_areas(full, out, STRIDE * k as usize + x as usize);
         columns = without_samples(full, reference, x, z, first + k);
@@ -249,57 +248,32 @@ fn add_strip(
 
 // Writes the sums of all areas in some rows down.
 #[inline(always)]
-fn add_strips<const WIDTH: u32>(
-    out: &mut [u16],
-    reference: PictureRef<'_>,
-    first: u32,
-    begin: u32,
-    end: u32,
-)
+fn add_strips<const WIDTH: u32>(out: &mut [u16], reference: PictureRef<'_>, rows: AreaRows)
     requires width { width_of (picture reference).format ≡ WIDTH }
     requires narrow { (16 ≤ WIDTH) × (WIDTH ≤ 352) }
     requires picture { IsPicture (picture reference) }
-    requires order { begin ≤ end }
-    requires room { end ≤ 39 }
-    requires low { first < 60000 }
-    requires down { first + end + 7 ≤ height_of (picture reference).format }
+    requires rows { FitIn (picture reference) rows }
     requires whole { length out.old ≡ 14976 }
-    ensures whole { length out.new ≡ 14976 }
-    ensures sums { (x k : ℕ) → x + 8 ≤ width_of (picture reference.entry).format
-        → begin ≤ k → k < end → slice_index out.new (384 * k + x)
-        ≡ area_sum (sample_at (picture reference.entry) Y) x (first + k) }
-    ensures above { (k : ℕ) → k < 384 * begin → slice_index out.new k ≡ slice_index out.old k }
-    ensures small { ((k : ℕ) → slice_index out.old k ≤ 16320)
-        → (k : ℕ) → slice_index out.new k ≤ 16320 }
+    ensures { AreAdded (picture reference.entry) rows out.old out.new }
 {
     for s in 0..WIDTH / 24 {
         let x = 24 * s;
-        add_strip(out, reference, x, x + 16, first, begin, end);
+        add_strip(out, reference, x, x + 16, rows);
     }
     let x = WIDTH - 16;
-    add_strip(out, reference, x, x, first, begin, end);
+    add_strip(out, reference, x, x, rows);
 }
 
 // The same. Called for each format by itself, it has code for each width, whose rows stand at
 // distances that are known.
-fn add_rows(out: &mut [u16], reference: PictureRef<'_>, first: u32, begin: u32, end: u32)
-    requires order { begin ≤ end }
-    requires room { end ≤ 39 }
-    requires low { first < 60000 }
-    requires down { first + end + 7 ≤ height_of (picture reference).format }
+fn add_rows(out: &mut [u16], reference: PictureRef<'_>, rows: AreaRows)
+    requires rows { FitIn (picture reference) rows }
     requires whole { length out.old ≡ 14976 }
-    ensures whole { length out.new ≡ 14976 }
-    ensures sums { (x k : ℕ) → x + 8 ≤ width_of (picture reference.entry).format
-        → begin ≤ k → k < end → slice_index out.new (384 * k + x)
-        ≡ area_sum (sample_at (picture reference.entry) Y) x (first + k) }
-    ensures above { (k : ℕ) → k < 384 * begin → slice_index out.new k ≡ slice_index out.old k }
-    ensures small { ((k : ℕ) → slice_index out.old k ≤ 16320)
-        → (k : ℕ) → slice_index out.new k ≤ 16320 }
+    ensures { AreAdded (picture reference.entry) rows out.old out.new }
 {
-    let r = reference;
     match reference.format() {
-        Format::SubQcif => add_strips::<128>(out, known(r, Format::SubQcif), first, begin, end),
-        Format::Qcif => add_strips::<176>(out, known(r, Format::Qcif), first, begin, end),
-        Format::Cif => add_strips::<352>(out, known(r, Format::Cif), first, begin, end),
+        Format::SubQcif => add_strips::<128>(out, known(reference, Format::SubQcif), rows),
+        Format::Qcif => add_strips::<176>(out, known(reference, Format::Qcif), rows),
+        Format::Cif => add_strips::<352>(out, known(reference, Format::Cif), rows),
     }
 }

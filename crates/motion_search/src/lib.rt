@@ -43,6 +43,7 @@ mod within;
 
 use crate::half::best_of_neighbours;
 use crate::whole::best_of_whole;
+use crate::window::SearchArea;
 use h263_planes::PictureRef;
 use h263_types::Vector;
 use half_sample::luma;
@@ -77,7 +78,8 @@ pub fn search(
     ensures sums { AreSumsOf (picture reference.entry) sums.new }
 {
     let block = samples(frame, mb);
-    let whole = best_of_whole(&block, reference, mb, radius, guess, sums);
+    let area = SearchArea { radius, guess };
+    let whole = best_of_whole(&block, reference, mb, area, sums);
     let best = best_of_neighbours(&block, reference, mb, rounding, whole);
     (best.vector, best.cost)
 }

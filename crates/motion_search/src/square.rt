@@ -27,13 +27,44 @@ pub(crate) fn whole_vector(radius: u8, column: u32, row: u32) -> Vector
     }
 }
 
-// The first column of the square whose vectors lead no further left than the reach.
+// The least and the greatest component of the vectors in reach, across or down.
+#[derive(Clone, Copy)]
+pub(crate) struct Side {
+    pub(crate) least: i8,
+    pub(crate) most: i8,
+}
+
+// The side across.
 #[inline(always)]
-pub(crate) fn first_column(radius: u8, reach: Reach) -> u32
-    requires radius { radius ≤ 15 }
-    ensures { (n : ℕ) → (result ≤ n) ↔ (reach.left ≤ℤ whole_component radius n) }
+pub(crate) fn across(reach: Reach) -> Side
+    ensures least { result.least ≡ reach.left }
+    ensures most { result.most ≡ reach.right }
 {
-    let least = i32::from(reach.left) + 2 * i32::from(radius);
+    Side {
+        least: reach.left,
+        most: reach.right,
+    }
+}
+
+// The side down.
+#[inline(always)]
+pub(crate) fn down(reach: Reach) -> Side
+    ensures least { result.least ≡ reach.up }
+    ensures most { result.most ≡ reach.down }
+{
+    Side {
+        least: reach.up,
+        most: reach.down,
+    }
+}
+
+// The first column or row of the square whose vectors lead no further back than the reach.
+#[inline(always)]
+pub(crate) fn first_in(radius: u8, side: Side) -> u32
+    requires radius { radius ≤ 15 }
+    ensures { (n : ℕ) → (result ≤ n) ↔ (side.least ≤ℤ whole_component radius n) }
+{
+    let least = i32::from(side.least) + 2 * i32::from(radius);
     if least <= 0 {
         0
     } else {
@@ -41,47 +72,15 @@ pub(crate) fn first_column(radius: u8, reach: Reach) -> u32
     }
 }
 
-// The column after the last one whose vectors lead no further right than the reach.
+// The column or row after the last one whose vectors lead no further on than the reach.
 #[inline(always)]
-pub(crate) fn end_column(radius: u8, reach: Reach) -> u32
+pub(crate) fn end_in(radius: u8, side: Side) -> u32
     requires radius { radius ≤ 15 }
     ensures { (n : ℕ)
-        → (n < result) ↔ ((n < 2 * radius + 1) × (whole_component radius n ≤ℤ reach.right)) }
+        → (n < result) ↔ ((n < 2 * radius + 1) × (whole_component radius n ≤ℤ side.most)) }
 {
     let end = 2 * u32::from(radius) + 1;
-    let most = i32::from(reach.right) + 2 * i32::from(radius);
-    if most < 0 {
-        0
-    } else if most as u32 / 2 + 1 < end {
-        most as u32 / 2 + 1
-    } else {
-        end
-    }
-}
-
-// The first row of the square whose vectors lead no further up than the reach.
-#[inline(always)]
-pub(crate) fn first_row(radius: u8, reach: Reach) -> u32
-    requires radius { radius ≤ 15 }
-    ensures { (n : ℕ) → (result ≤ n) ↔ (reach.up ≤ℤ whole_component radius n) }
-{
-    let least = i32::from(reach.up) + 2 * i32::from(radius);
-    if least <= 0 {
-        0
-    } else {
-        (least as u32 + 1) / 2
-    }
-}
-
-// The row after the last one whose vectors lead no further down than the reach.
-#[inline(always)]
-pub(crate) fn end_row(radius: u8, reach: Reach) -> u32
-    requires radius { radius ≤ 15 }
-    ensures { (n : ℕ)
-        → (n < result) ↔ ((n < 2 * radius + 1) × (whole_component radius n ≤ℤ reach.down)) }
-{
-    let end = 2 * u32::from(radius) + 1;
-    let most = i32::from(reach.down) + 2 * i32::from(radius);
+    let most = i32::from(side.most) + 2 * i32::from(radius);
     if most < 0 {
         0
     } else if most as u32 / 2 + 1 < end {

@@ -15,7 +15,7 @@ use crate::candidate::Candidate;
 use crate::kept::{KeptSums, STRIDE};
 use crate::lent::better_whole;
 use crate::marks::{lowest, without};
-use crate::square::{end_column, end_row, first_row, place, whole_vector};
+use crate::square::{across, down, end_in, first_in, place, whole_vector};
 use crate::window::Window;
 
 // Of the sixteen vectors that lead to columns `x` to `x + 15` of row `y`, those whose differences may
@@ -65,7 +65,8 @@ fn better_in_row(window: Window<'_>, column: u32, row: u32, best: Candidate) -> 
     ensures none { column < 2 * window.entry.radius + 1
         → IsBehind window.entry column row result }
 {
-    let end = end_column(window.radius, window.reach);
+    let across = across(window.reach);
+    let end = end_in(window.radius, across);
     if column < end {
         let vector = whole_vector(window.radius, column, row);
         let x = place(window.left, column, window.radius);
@@ -141,9 +142,10 @@ pub(crate) fn best_of_strip(
         → column + i < 2 * window.entry.radius + 1 → IsBehind window.entry (column + i) m result }
 {
     let x = place(window.left, column, window.radius);
-    let first_row = first_row(window.radius, window.reach);
+    let down = down(window.reach);
+    let first_row = first_in(window.radius, down);
     let mut first = best;
-    for row in first_row..end_row(window.radius, window.reach) {
+    for row in first_row..end_in(window.radius, down) {
         let y = place(window.top, row, window.radius);
         let marks = marks_in_row(window, quarters, sums, x, y, most(first));
         first = best_of_marked(window, column, row, marks, first);

@@ -12,12 +12,12 @@ use crate::areas::{Quarters, quarters_of};
 use crate::candidate::{Candidate, is_settled};
 use crate::kept::KeptSums;
 use crate::lent::known;
-use crate::square::{better_at, end_column, first_column, nearest};
+use crate::square::{across, better_at, end_in, first_in, nearest};
 use crate::start::zero;
 use crate::strip::best_of_strip;
-use crate::window::Window;
+use crate::window::{SearchArea, Window};
 use h263_planes::PictureRef;
-use h263_types::{Format, Vector, reach};
+use h263_types::{Format, reach};
 
 // The first of the vectors of whole samples within the radius. A low cost that is found early rules
 // out many of the others. So the one nearest to the guess is looked at before all others. Each width
@@ -27,22 +27,22 @@ fn best_in<const WIDTH: u32>(
     block: &[u8; 256],
     reference: PictureRef<'_>,
     mb: u32,
-    radius: u8,
-    guess: Vector,
+    area: SearchArea,
     sums: &mut KeptSums,
     zero: Candidate,
 ) -> Candidate
     requires width { width_of (picture reference).format ≡ WIDTH }
     requires mb { mb < mbs_of (picture reference).format }
-    requires radius { radius ≤ 15 }
+    requires radius { area.radius ≤ 15 }
     requires zero { zero ≡ candidate_of block.now (picture reference) mb 0 zero_vector }
     requires cost { IsCost zero.cost }
     requires sums { AreSumsOf (picture reference) sums.old }
     ensures best { (rounding : ℕ)
-        → result ≡ best_whole block.now (picture reference.entry) mb radius rounding }
+        → result ≡ best_whole block.now (picture reference.entry) mb area.radius rounding }
     ensures cost { IsCost result.cost }
     ensures sums { AreSumsOf (picture reference.entry) sums.new }
 {
+    let radius = area.radius;
     let format = reference.format();
     let left = 16 * (mb % format.columns());
     let top = 16 * (mb / format.columns());
@@ -56,8 +56,8 @@ fn best_in<const WIDTH: u32>(
         reach,
         radius,
     };
-    let across = nearest(radius, guess.x);
-    let down = nearest(radius, guess.y);
+    let across = nearest(radius, area.guess.x);
+    let down = nearest(radius, area.guess.y);
     let mut first = better_at(window, across, down, zero);
     let quarters = quarters_of(block);
     let from = first_of_rows(top, radius);
@@ -83,8 +83,9 @@ fn best_of_strips(
         → n < 2 * window.entry.radius + 1 → IsBehind window.entry n m result }
 {
     let mut first = best;
-    let mut column = first_column(window.radius, window.reach);
-    while column < end_column(window.radius, window.reach) {
+    let across = across(window.reach);
+    let mut column = first_in(window.radius, across);
+    while column < end_in(window.radius, across) {
         first = best_of_strip(window, quarters, sums, column, first);
         column += 16;
     }
@@ -122,15 +123,14 @@ pub(crate) fn best_of_whole(
     block: &[u8; 256],
     reference: PictureRef<'_>,
     mb: u32,
-    radius: u8,
-    guess: Vector,
+    area: SearchArea,
     sums: &mut KeptSums,
 ) -> Candidate
     requires mb { mb < mbs_of (picture reference).format }
-    requires radius { radius ≤ 15 }
+    requires radius { area.radius ≤ 15 }
     requires sums { AreSumsOf (picture reference) sums.old }
     ensures best { (rounding : ℕ)
-        → result ≡ best_whole block.now (picture reference.entry) mb radius rounding }
+        → result ≡ best_whole block.now (picture reference.entry) mb area.radius rounding }
     ensures cost { IsCost result.cost }
     ensures sums { AreSumsOf (picture reference.entry) sums.new }
 {
@@ -141,24 +141,10 @@ pub(crate) fn best_of_whole(
     let r = reference;
     // for each format by itself, so that its rows stand at distances that are known
     match reference.format() {
-        Format::SubQcif => best_in::<128>(
-            block,
-            known(r, Format::SubQcif),
-            mb,
-            radius,
-            guess,
-            sums,
-            zero,
-        ),
-        Format::Qcif => best_in::<176>(
-            block,
-            known(r, Format::Qcif),
-            mb,
-            radius,
-            guess,
-            sums,
-            zero,
-        ),
-        Format::Cif => best_in::<352>(block, known(r, Format::Cif), mb, radius, guess, sums, zero),
+        Format::SubQcif => {
+            best_in::<128>(block, known(r, Format::SubQcif), mb, area, sums, zero)
+        }
+        Format::Qcif => best_in::<176>(block, known(r, Format::Qcif), mb, area, sums, zero),
+        Format::Cif => best_in::<352>(block, known(r, Format::Cif), mb, area, sums, zero),
     }
 }

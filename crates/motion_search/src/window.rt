@@ -5,7 +5,14 @@ ghost use Rattle.h263_types.specs.Vectors.{InReach, IsWithin};
 ghost use Rattle.h263_planes.specs.Lent.{picture};
 
 use h263_planes::PictureRef;
-use h263_types::Reach;
+use h263_types::{Reach, Vector};
+
+// How many whole samples far a search goes, 0 to 15, and near which vector it begins.
+#[derive(Clone, Copy)]
+pub(crate) struct SearchArea {
+    pub(crate) radius: u8,
+    pub(crate) guess: Vector,
+}
 
 // The samples of a macroblock, the picture that is to predict it, its first column and row there,
 // how far its vectors reach, and how many whole samples far they are searched.

@@ -1,16 +1,14 @@
-use Rattle.std.proofs.Common.{◌≡◌, ℕ, ◌≤◌, ◌<◌, ◌+◌, ◌*◌, length, slice_index}
+use Rattle.std.proofs.Common.{◌≡◌, ℕ, ◌≤◌, ◌<◌, ◌+◌, ◌*◌, slice_index}
 use Rattle.h263_planes.specs.Lent.{picture}
-use Rattle.motion_search.specs.Areas.{area_sum, AreBytes, AreColumns, IsBeside}
+use Rattle.motion_search.specs.Areas.{area_sum, AreBytes, AreColumns, IsBeside, LeavesRest}
 use Rattle.motion_search.proofs.kept.add_strip.Given as goal
 
 -- the rows before are written, and seven rows of the next one are summed up
 abbrev pub invariant-loop-k : goal.invariant-loop-k
 invariant-loop-k l = record {
-  few : l.k ≤ l.end;
-  whole : length l.out ≡ 14976;
+  few : l.k ≤ l.fn.rows.end;
+  rest : LeavesRest l.fn.rows l.fn.out l.out;
   columns : (f : ℕ → ℕ → ℕ) → AreBytes f → IsBeside (picture l.reference) l.x l.z f → AreColumns f (l.first + l.k) 7 l.columns;
-  stored : (f : ℕ → ℕ → ℕ) → AreBytes f → IsBeside (picture l.reference) l.x l.z f → (k i : ℕ) → l.begin ≤ k → k < l.k → i < 24 → slice_index l.out (384 * k + (l.x + i)) ≡ area_sum f i (l.first + k);
+  stored : (f : ℕ → ℕ → ℕ) → AreBytes f → IsBeside (picture l.reference) l.x l.z f → (k i : ℕ) → l.fn.rows.begin ≤ k → k < l.k → i < 24 → slice_index l.out (384 * k + (l.x + i)) ≡ area_sum f i (l.first + k);
   before : (k c : ℕ) → c < l.x → slice_index l.out (384 * k + c) ≡ slice_index l.fn.out (384 * k + c);
-  above : (k : ℕ) → k < 384 * l.begin → slice_index l.out k ≡ slice_index l.fn.out k;
-  small : ((k : ℕ) → slice_index l.fn.out k ≤ 16320) → (k : ℕ) → slice_index l.out k ≤ 16320;
 }

@@ -65,7 +65,7 @@ best_of_strips-requires-clause-so_far g c =
     let block = c.args.block.now in
     let p = picture c.args.reference in
     let mb = c.args.mb in
-    let radius = c.args.radius in
+    let radius = c.args.area.radius in
     let v = whole_at radius c.nearest-across.result c.nearest-down.result in
     let e : c.better_at-first.result ≡ step_of block p mb 0 v c.args.zero = c.better_at-first.ensures.first in
     let is_zero = subst (IsWholeCandidate block p mb radius 0) (sym c.requires.zero) (zero_is_candidate block p mb 0 radius c.requires.mb) in
@@ -82,7 +82,7 @@ returns-clause-best g c = λ r.
     let block = c.args.block.now in
     let p = picture c.args.reference in
     let mb = c.args.mb in
-    let radius = c.args.radius in
+    let radius = c.args.area.radius in
     let first = c.best_of_strips.result in
     is_best_whole block p mb r radius first c.requires.mb
     (whole_not_rounded block p mb radius r first c.best_of_strips.ensures.so_far.candidate)

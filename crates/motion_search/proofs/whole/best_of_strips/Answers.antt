@@ -5,7 +5,7 @@ use Rattle.motion_search.specs.Cost.{candidate_of}
 use Rattle.motion_search.specs.Order.{before}
 use Rattle.motion_search.specs.Vectors.{whole_at}
 use Rattle.motion_search.specs.SoFar.{IsBehind}
-use Rattle.motion_search.proofs.Reaches.{from_first, before_end}
+use Rattle.motion_search.proofs.Reaches.{from_first, before_end, end_is, first_is}
 use Rattle.motion_search.proofs.Strips.{seen_or_next}
 use Rattle.motion_search.proofs.whole.best_of_strips.Goals as goal
 
@@ -13,18 +13,18 @@ pub loop-column-init : goal.loop-column-init
 loop-column-init c =
     let w = c.args.window in
     record {
-      left = (c.first_column-column.ensures c.first_column-column.result).0 (omega arith);
+      left = ((first_is c.args.window.radius c.first_in-column.result _ _ c.across-across.ensures.least c.first_in-column.ensures) c.first_in-column.result).0 (omega arith);
       so_far = c.requires.so_far;
       none = λ m n hm hn to reached.
-          let past = from_first (picture w.reference).format w.mb w.radius w.reach w.reaches m c.first_column-column.result n c.first_column-column.ensures reached in
+          let past = from_first (picture w.reference).format w.mb w.radius w.reach w.reaches m c.first_in-column.result n (first_is c.args.window.radius c.first_in-column.result _ _ c.across-across.ensures.least c.first_in-column.ensures) reached in
           absurd (omega (arith, to, past));
     }
 
 pub best_of_strip-first-requires-clause-column : goal.best_of_strip-first-requires-clause-column
-best_of_strip-first-requires-clause-column c = omega (arith, ((c.end_column.ensures c.loop-column.column).0 c.loop-column-test.true).0)
+best_of_strip-first-requires-clause-column c = omega (arith, (((end_is c.args.window.radius c.end_in.result _ _ c.across-across.ensures.most c.end_in.ensures) c.loop-column.column).0 c.loop-column-test.true).0)
 
 pub best_of_strip-first-requires-clause-across : goal.best_of_strip-first-requires-clause-across
-best_of_strip-first-requires-clause-across c = (c.loop-column.invariant.left, ((c.end_column.ensures c.loop-column.column).0 c.loop-column-test.true).1)
+best_of_strip-first-requires-clause-across c = (c.loop-column.invariant.left, (((end_is c.args.window.radius c.end_in.result _ _ c.across-across.ensures.most c.end_in.ensures) c.loop-column.column).0 c.loop-column-test.true).1)
 
 pub loop-column-preserved : goal.loop-column-preserved
 loop-column-preserved c =
@@ -44,10 +44,10 @@ loop-column-preserved c =
     }
 
 pub loop-column-smaller : goal.loop-column-smaller
-loop-column-smaller c = omega (arith, ((c.end_column.ensures c.loop-column.column).0 c.loop-column-test.true).0)
+loop-column-smaller c = omega (arith, (((end_is c.args.window.radius c.end_in.result _ _ c.across-across.ensures.most c.end_in.ensures) c.loop-column.column).0 c.loop-column-test.true).0)
 
 pub returns-clause-none : goal.returns-clause-none
 returns-clause-none c = λ m n hm hn reached.
     let w = c.args.window in
-    let ends = before_end (picture w.reference).format w.mb w.radius w.reach w.reaches m c.end_column.result n c.end_column.ensures hn reached in
+    let ends = before_end (picture w.reference).format w.mb w.radius w.reach w.reaches m c.end_in.result n (end_is c.args.window.radius c.end_in.result _ _ c.across-across.ensures.most c.end_in.ensures) hn reached in
     c.loop-column.invariant.none m n hm hn (omega (arith, ends, c.loop-column-test.false)) reached

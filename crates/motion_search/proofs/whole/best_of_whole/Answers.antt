@@ -12,7 +12,7 @@ returns-then-is_settled-clause-best c = λ r.
     let block = c.args.block.now in
     let p = picture c.args.reference in
     let mb = c.args.mb in
-    let radius = c.args.radius in
+    let radius = c.args.area.radius in
     let zero = c.zero-zero.result in
     let whole : IsWholeCandidate block p mb radius 0 zero = subst (IsWholeCandidate block p mb radius 0) (sym c.zero-zero.ensures.candidate) (zero_is_candidate block p mb 0 radius c.requires.mb) in
     is_best_whole block p mb r radius zero c.requires.mb (whole_not_rounded block p mb radius r zero whole)

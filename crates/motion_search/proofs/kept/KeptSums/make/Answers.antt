@@ -12,19 +12,15 @@ drop_before-requires-clause-whole c = c.requires.sums.whole
 pub drop_before-requires-clause-room : goal.drop_before-requires-clause-room
 drop_before-requires-clause-room c = c.requires.sums.room
 
-pub add_rows-requires-clause-order : goal.add_rows-requires-clause-order
-add_rows-requires-clause-order c =
+pub add_rows-requires-clause-rows : goal.add_rows-requires-clause-rows
+add_rows-requires-clause-rows c =
     let ends = begins_before c.args.self.now.first c.args.self.now.end c.drop_before.new.self.end c.args.from c.args.end c.drop_before.ensures.end c.requires.more c.requires.order in
-    omega (arith, ends.1, c.drop_before.ensures.first)
-
-pub add_rows-requires-clause-room : goal.add_rows-requires-clause-room
-add_rows-requires-clause-room c = omega (arith, c.requires.room)
-
-pub add_rows-requires-clause-low : goal.add_rows-requires-clause-low
-add_rows-requires-clause-low c = omega (arith, c.requires.order, c.requires.inside, height_small (picture c.args.reference).format)
-
-pub add_rows-requires-clause-down : goal.add_rows-requires-clause-down
-add_rows-requires-clause-down c = omega (arith, c.requires.order, c.requires.inside)
+    record {
+      order = omega (arith, ends.1, c.drop_before.ensures.first);
+      room = omega (arith, c.requires.room);
+      low = omega (arith, c.requires.order, c.requires.inside, height_small (picture c.args.reference).format);
+      down = omega (arith, c.requires.order, c.requires.inside);
+    }
 
 pub returns-clause-sums : goal.returns-clause-sums
 returns-clause-sums c =
@@ -34,6 +30,6 @@ returns-clause-sums c =
     let first : c.args.from ≡ s.first = sym c.drop_before.ensures.first in
     let ends = begins_before old.first old.end s.end c.args.from c.args.end c.drop_before.ensures.end c.requires.more c.requires.order in
     let are = c.drop_before.ensures.sums p c.requires.sums in
-    rows_added p s _ c.args.end are c.add_rows.ensures.whole refl refl ends.1 (omega (arith, c.requires.room, c.drop_before.ensures.first))
+    rows_added p s _ c.args.end are c.add_rows.ensures.rest.whole refl refl ends.1 (omega (arith, c.requires.room, c.drop_before.ensures.first))
     (λ x k hx begun more. c.add_rows.ensures.sums x k hx begun (omega (arith, more, first)) ∙ ap (λ (n : ℕ). area_sum (sample_at p Y) x (n + k)) first)
-    c.add_rows.ensures.above (c.add_rows.ensures.small are.small)
+    c.add_rows.ensures.rest.above (c.add_rows.ensures.rest.small are.small)
