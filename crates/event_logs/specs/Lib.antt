@@ -1,4 +1,5 @@
 pub mod Entry
 pub mod Text
+pub mod Place
 pub mod Reader
 pub mod Log

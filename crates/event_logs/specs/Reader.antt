@@ -3,11 +3,12 @@ use Rattle.std.specs.Prelude.{ℕ, ◌≡◌, ◌+◌, ◌<◌, ◌≤◌, List,
 use Rattle.event_logs.specs.declared.entry.Entry.{Entry}
 use Rattle.event_logs.specs.declared.fault.LogStop.{LogStop}
 use Rattle.event_logs.specs.declared.fault.LogStop.TheVariants.{Read, BadRecord, TooMany}
-use Rattle.event_logs.specs.declared.reader.LogReader.{LogReader}
 use Rattle.event_logs.specs.Entry.{bytes_of, reach, entry_in}
+use Rattle.event_logs.specs.Place.{LogPlace}
 
--- how a call moves a reader, and which place it gives: where the next entry begins
-abbrev pub Moves : Result (Option (ℕ × Entry)) LogStop → LogReader → LogReader → Type 0
+-- how a call moves a reader, by its places before and after, and which byte it gives: where the
+-- next entry begins
+abbrev pub Moves : Result (Option (ℕ × Entry)) LogStop → LogPlace → LogPlace → Type 0
 Moves (Ok (Some found)) old new = (found.0 ≡ old.at) × (new.side ≡ old.side)
     × (new.entries ≡ old.entries + 1) × (new.at ≡ old.at + (3 + bytes_of found.1))
 Moves (Ok None) old new = new ≡ old
@@ -16,14 +17,15 @@ Moves (Err (BadRecord at)) old new = (old.entries < 16777216) × (at ≡ old.at)
 Moves (Err (TooMany at)) old new = (old.entries ≡ 16777216) × (at ≡ old.at) × (new ≡ old)
 
 -- what was taken when a read failed has no whole entry
-pub record IsCut (reader : LogReader) (rest : List ℕ) (left : Option (List ℕ)) : Type 0 where
+pub record IsCut (place : LogPlace) (rest : List ℕ) (left : Option (List ℕ)) : Type 0 where
   pub taken : ℕ
   pub within : taken ≤ length rest
   pub gone : left ≡ Some (drop taken rest)
-  pub none : entry_in reader.side (take taken rest) ≡ None
+  pub none : entry_in place.side (take taken rest) ≡ None
 
--- what a reader says of the rest of a log, with an entry's bytes in the buffer, and what is left of it then
-abbrev pub EntryGives : Result (Option (ℕ × Entry)) LogStop → LogReader → List ℕ → List ℕ → Option (List ℕ) → Type 0
+-- what a reader at a place says of the rest of a log, with an entry's bytes in the buffer, and what
+-- is left of it then
+abbrev pub EntryGives : Result (Option (ℕ × Entry)) LogStop → LogPlace → List ℕ → List ℕ → Option (List ℕ) → Type 0
 EntryGives (Ok (Some found)) old rest buf left =
     (entry_in old.side rest ≡ Some found.1)
     × (take (bytes_of found.1) buf ≡ take (bytes_of found.1) (drop 3 rest))

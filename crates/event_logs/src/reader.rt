@@ -1,10 +1,9 @@
 //! The reader of a log.
-ghost use Rattle.std.specs.Prelude.{◌≤◌, ◌*◌};
-
 use crate::entry::{HEAD, begun, bytes_of};
 use crate::input::read;
 use crate::{Entry, LogStop, Side};
 use h263_outside::{Desk, laws as outside_laws};
+use std::marker::Model;
 
 /// The most entries of a log.
 pub const MAX_ENTRIES: u32 = 16_777_216;
@@ -16,8 +15,19 @@ pub struct LogReader {
     side: Side,
     entries: u32,
     at: u64,
-    ghost few: { entries ≤ 16777216 },
-    ghost near: { at ≤ 65538 * entries },
+}
+
+impl Model for LogReader {
+    ghost use Rattle.event_logs.specs.Place.{LogPlace, IsInLog};
+
+    ghost Value = { LogPlace };
+
+    ghost view = { λ r. record { side = r.side; entries = r.entries; at = r.at } };
+
+    ghost invariant = { λ r.
+        IsInLog (record { side = r.side; entries = r.entries; at = r.at }) };
+
+    ghost inverse = { λ p. record { side = p.side; entries = p.entries; at = p.at } };
 }
 
 impl LogReader {
@@ -26,6 +36,7 @@ impl LogReader {
     ghost use Rattle.h263_outside.specs.declared.desk.Role.{Role};
     ghost use Rattle.h263_outside.specs.declared.desk.Role.TheVariants.{Events};
     ghost use Rattle.event_logs.specs.Entry.{bytes_of};
+    ghost use Rattle.event_logs.specs.Place.{IsInLog};
     ghost use Rattle.event_logs.specs.Reader.{Moves, EntryGives};
 
     /// A reader before the first entry.
@@ -53,6 +64,8 @@ impl LogReader {
         ensures gives { (rest : List ℕ) → (D.outside desk.old).left Events ≡ Some rest
             → EntryGives result self.old rest buf.new ((D.outside desk.new).left Events) }
         ensures moves { Moves result self.old self.new }
+        ensures was_in { IsInLog self.old }
+        ensures is_in { IsInLog self.new }
         ensures cause { IsErrOf result LogStop.Read
             → Rose (D.outside desk.old).faults.read (D.outside desk.new).faults.read }
         ensures others { (r : Role)
@@ -60,12 +73,12 @@ impl LogReader {
         ensures rest { OnlyReads (D.outside desk.old) (D.outside desk.new) }
     {
         outside_laws::calls();
+        let at = self.at;
         let mut head = [0; HEAD];
         let came = read(desk, &mut head)?;
         if came == 0 {
             return Ok(None);
         }
-        let at = self.at;
         if self.entries == MAX_ENTRIES {
             return Err(LogStop::TooMany { at });
         }

@@ -7,8 +7,8 @@ use Rattle.h263_outside.specs.Desk.{Outside}
 use Rattle.h263_outside.specs.declared.desk.Role.{Role}
 use Rattle.event_logs.specs.declared.entry.Entry.{Entry}
 use Rattle.event_logs.specs.declared.entry.Side.{Side}
-use Rattle.event_logs.specs.declared.reader.LogReader.{LogReader}
 use Rattle.event_logs.specs.Entry.{bytes_of, entry_in}
+use Rattle.event_logs.specs.Place.{LogPlace, IsInLog}
 use Rattle.event_logs.specs.Reader.{EntryGives, Moves}
 use Rattle.call_report.specs.Status.{phase}
 use Rattle.call_report.specs.declared.status.Status.{Status}
@@ -32,14 +32,14 @@ module _ {State : Type 0} (r : Result Bool Status) (step : Step State) (stands :
       turn_stops status is (subst (λ (s : Status). GivesUp (phase s) s step now inputs old new) (sym fault) cut)
 
 -- what the reader says, by what it answered
-pub gave : (o known : Option (ℕ × Entry)) (reader : LogReader) (rest buf : List ℕ) (left : Option (List ℕ)) → o ≡ known → EntryGives (Ok o) reader rest buf left → EntryGives (Ok known) reader rest buf left
+pub gave : (o known : Option (ℕ × Entry)) (reader : LogPlace) (rest buf : List ℕ) (left : Option (List ℕ)) → o ≡ known → EntryGives (Ok o) reader rest buf left → EntryGives (Ok known) reader rest buf left
 gave o known reader rest buf left is gives = subst (λ (x : Option (ℕ × Entry)). EntryGives (Ok x) reader rest buf left) is gives
 
-pub moved : (o known : Option (ℕ × Entry)) (reader after : LogReader) → o ≡ known → Moves (Ok o) reader after → Moves (Ok known) reader after
+pub moved : (o known : Option (ℕ × Entry)) (reader after : LogPlace) → o ≡ known → Moves (Ok o) reader after → Moves (Ok known) reader after
 moved o known reader after is moves = subst (λ (x : Option (ℕ × Entry)). Moves (Ok x) reader after) is moves
 
 -- an entry was read, by what the machine has kept in mind
-pub record Entered {State : Type 0} (side : Side) (s : LogState State) (after : LogReader) (at : ℕ) (entry : Entry) (rest buf : List ℕ) (left : Option (List ℕ)) : Type 0 where
+pub record Entered {State : Type 0} (side : Side) (s : LogState State) (after : LogPlace) (at : ℕ) (entry : Entry) (rest buf : List ℕ) (left : Option (List ℕ)) : Type 0 where
   pub few : s.entries < 16777216
   pub place : s.at ≡ at
   pub is : entry_in side rest ≡ Some entry
@@ -48,15 +48,15 @@ pub record Entered {State : Type 0} (side : Side) (s : LogState State) (after : 
   pub next_at : s.at + (3 + bytes_of entry) ≡ after.at
   pub next_count : s.entries + 1 ≡ after.entries
 
-pub entered : {State : Type 0} (side : Side) (s : LogState State) (reader after : LogReader) (at : ℕ) (found entry : Entry) (rest buf : List ℕ) (left : Option (List ℕ)) (o : Option (ℕ × Entry))
-    → s.at ≡ reader.at → s.entries ≡ reader.entries → reader.side ≡ side → o ≡ Some (at, found) → found ≡ entry
+pub entered : {State : Type 0} (side : Side) (s : LogState State) (reader after : LogPlace) (at : ℕ) (found entry : Entry) (rest buf : List ℕ) (left : Option (List ℕ)) (o : Option (ℕ × Entry))
+    → s.at ≡ reader.at → s.entries ≡ reader.entries → reader.side ≡ side → IsInLog after → o ≡ Some (at, found) → found ≡ entry
     → EntryGives (Ok o) reader rest buf left → Moves (Ok o) reader after → Entered side s after at entry rest buf left
-entered side s reader after at found entry rest buf left o place count of_side some is gives moves =
+entered side s reader after at found entry rest buf left o place count of_side within some is gives moves =
     let known : o ≡ Some (at, entry) = some ∙ ap (λ (e : Entry). let x : Option (ℕ × Entry) = Some (at, e) in x) is in
     let g = gave o (Some (at, entry)) reader rest buf left known gives in
     let v = moved o (Some (at, entry)) reader after known moves in
     record {
-      few = omega (arith, v.2, after.few, count);
+      few = omega (arith, v.2, within.few, count);
       place = place ∙ sym v.0;
       is = subst (λ (x : Side). entry_in x rest ≡ Some entry) of_side g.0;
       bytes = g.1;

@@ -14,8 +14,8 @@ use Rattle.event_logs.specs.declared.entry.Entry.TheVariants as log_entry
 use Rattle.event_logs.specs.declared.fault.LogFault.TheVariants.{BadRecord, TooMany}
 use Rattle.event_logs.specs.declared.fault.LogStop.{LogStop}
 use Rattle.event_logs.specs.declared.fault.LogStop.TheVariants as stops
-use Rattle.event_logs.specs.declared.reader.LogReader.{LogReader}
 use Rattle.event_logs.specs.Entry.{entry_in, bytes_of}
+use Rattle.event_logs.specs.Place.{LogPlace}
 use Rattle.event_logs.specs.Reader.{EntryGives, Moves}
 use Rattle.call_report.specs.declared.status.Status.{Status}
 use Rattle.call_report.specs.declared.status.Status.TheVariants.{Ok as Fine, LogRefused}
@@ -86,12 +86,12 @@ abbrev no_step : End → Step SendState
 no_step last = Ends last
 
 -- the reader is where the state says
-pub record IsReadAt (s : SendState) (reader : LogReader) : Type 0 where
+pub record IsReadAt (s : SendState) (reader : LogPlace) : Type 0 where
   pub side_is : reader.side ≡ sides.Send
   pub at_is : s.at ≡ reader.at
   pub read_is : s.read ≡ reader.entries
 
-module _ (laws : TurnLaws) (cut : CutBehind) (s : SendState) (inputs : Role → List ℕ) (old mid : Outside) (told : Tells old inputs) (others : (r : Role) → r ≢ Events → mid.left r ≡ old.left r) (same : mid.written ≡ old.written) (reader after : LogReader) (at : IsReadAt s reader) (bytes : List ℕ) where
+module _ (laws : TurnLaws) (cut : CutBehind) (s : SendState) (inputs : Role → List ℕ) (old mid : Outside) (told : Tells old inputs) (others : (r : Role) → r ≢ Events → mid.left r ≡ old.left r) (same : mid.written ≡ old.written) (reader after : LogPlace) (at : IsReadAt s reader) (bytes : List ℕ) where
   -- the reader of a sender's log
   sent_in : (text : List ℕ) (e : Option Entry) → entry_in reader.side text ≡ e → entry_in sides.Send text ≡ e
   sent_in text e is = ap (λ (side : Side). entry_in side text) (sym at.side_is) ∙ is
@@ -147,10 +147,10 @@ module _ (laws : TurnLaws) (cut : CutBehind) (s : SendState) (inputs : Role → 
     found_told = laws.one_read Events (3 + bytes_of found.1) old mid inputs told e.2 others
 
 -- what the reader says, by what it answered
-pub gave_entry : (o known : Option (ℕ × Entry)) (reader : LogReader) (rest bytes : List ℕ) (left : Option (List ℕ)) → o ≡ known → EntryGives (Ok o) reader rest bytes left → EntryGives (Ok known) reader rest bytes left
+pub gave_entry : (o known : Option (ℕ × Entry)) (reader : LogPlace) (rest bytes : List ℕ) (left : Option (List ℕ)) → o ≡ known → EntryGives (Ok o) reader rest bytes left → EntryGives (Ok known) reader rest bytes left
 gave_entry o known reader rest bytes left is gives = subst (λ (x : Option (ℕ × Entry)). EntryGives (Ok x) reader rest bytes left) is gives
 
-pub moved_entry : (o known : Option (ℕ × Entry)) (reader after : LogReader) → o ≡ known → Moves (Ok o) reader after → Moves (Ok known) reader after
+pub moved_entry : (o known : Option (ℕ × Entry)) (reader after : LogPlace) → o ≡ known → Moves (Ok o) reader after → Moves (Ok known) reader after
 moved_entry o known reader after is moves = subst (λ (x : Option (ℕ × Entry)). Moves (Ok x) reader after) is moves
 
 -- an entry of a receiver's log is refused

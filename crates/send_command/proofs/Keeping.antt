@@ -13,8 +13,8 @@ use Rattle.event_logs.specs.declared.entry.Side.{Side}
 use Rattle.event_logs.specs.declared.entry.Entry.{Entry}
 use Rattle.event_logs.specs.declared.entry.Entry.TheVariants.{Back}
 use Rattle.event_logs.specs.Entry.{begun, bytes_of, entry_in, reach, reach_of}
+use Rattle.event_logs.specs.Place.{LogPlace, IsInLog}
 use Rattle.event_logs.specs.Reader.{EntryGives, Moves}
-use Rattle.event_logs.specs.declared.reader.LogReader.{LogReader}
 use Rattle.y4m.specs.declared.reader.Y4mReader.{Y4mReader}
 use Rattle.call_model.specs.Sending.{Capture, Feedback, Reply, feedback_answer}
 use Rattle.call_decoding.specs.Rules.{rules_of}
@@ -83,8 +83,8 @@ module _ (m : Send) (s : SendState) (size : ℕ) (stood : StoodBefore m s size) 
       let goal_is : s.target ≡ target_of new.sender.pace = target_is ∙ ap target_of (sym pace) in
       let fewer : s.more ≡ m.video.more = ap (λ (x : SendState). x.more) stood.is in
       let more_is : s.more - 1 ≡ new.video.more = omega (arith, more, fewer) in
-      let at_is : s.at + 3 ≡ new.log.at = ap (λ (k : ℕ). s.at + k) (sym three) ∙ ap (λ (x : SendState). x.at) stood.is ∙ ap (λ (l : LogReader). l.at) (sym log) in
-      let read_is : s.read + 1 ≡ new.log.entries = ap (λ (x : SendState). x.read) stood.is ∙ ap (λ (l : LogReader). l.entries) (sym log) in
+      let at_is : s.at + 3 ≡ new.log.at = ap (λ (k : ℕ). s.at + k) (sym three) ∙ ap (λ (x : SendState). x.at) stood.is ∙ ap (λ (l : LogPlace). l.at) (sym log) in
+      let read_is : s.read + 1 ≡ new.log.entries = ap (λ (x : SendState). x.read) stood.is ∙ ap (λ (l : LogPlace). l.entries) (sym log) in
       let sender : Stands (pace_of s.target s.params) new.sender (Capture out ∷ s.entries) =
       subst (λ (f : Frame). Stands (pace_of s.target s.params) new.sender (Capture f ∷ s.entries)) same
       (subst (λ (x : SendState). Stands (pace_of x.target x.params) new.sender (Capture frame ∷ s.entries)) (sym stood.is) cap.stands)
@@ -121,8 +121,8 @@ keeps_feedback m s len bytes stood new reply inputs long stands answer params pa
     let tally_is : with_reply (feedback_answer (rules_of s.params) (length (run_of s.params (pace_of s.target s.params) s.entries).coded) (read_message s.params.clock bytes)) s.tally ≡ new.tally =
     (λ i. with_reply (answer_is i) (old i)) ∙ sym tally
     in
-    let at_is : s.at + (3 + length bytes) ≡ new.log.at = ap (λ (k : ℕ). s.at + (3 + k)) long ∙ ap (λ (x : SendState). x.at) stood.is ∙ ap (λ (l : LogReader). l.at) (sym log) in
-    let read_is : s.read + 1 ≡ new.log.entries = ap (λ (x : SendState). x.read) stood.is ∙ ap (λ (l : LogReader). l.entries) (sym log) in
+    let at_is : s.at + (3 + length bytes) ≡ new.log.at = ap (λ (k : ℕ). s.at + (3 + k)) long ∙ ap (λ (x : SendState). x.at) stood.is ∙ ap (λ (l : LogPlace). l.at) (sym log) in
+    let read_is : s.read + 1 ≡ new.log.entries = ap (λ (x : SendState). x.read) stood.is ∙ ap (λ (l : LogPlace). l.entries) (sym log) in
     let place_is : s.video_at ≡ new.video.at = ap (λ (x : SendState). x.video_at) stood.is ∙ ap (λ (v : Y4mReader). v.at) (sym video) in
     let more_is : s.more ≡ new.video.more = ap (λ (x : SendState). x.more) stood.is ∙ ap (λ (v : Y4mReader). v.more) (sym video) in
     record {
@@ -150,7 +150,7 @@ module _ (m : Send) (s : SendState) (inputs : Role → List ℕ) (stands : SendS
   }
 
   -- the machine that has read an entry
-  pub stood_before : (log : LogReader) (bytes : Vec ℕ Global) (size : ℕ) → log.at ≡ m.log.at + size → log.entries ≡ m.log.entries + 1 → StoodBefore (record m { log = log; bytes = bytes }) s size
+  pub stood_before : (log : LogPlace) (bytes : Vec ℕ Global) (size : ℕ) → log.at ≡ m.log.at + size → log.entries ≡ m.log.entries + 1 → StoodBefore (record m { log = log; bytes = bytes }) s size
   stood_before log bytes size at entries =
       let at_is : s.at + size ≡ log.at = ap (λ (x : SendState). x.at + size) stands.is ∙ sym at in
       let read_is : s.read + 1 ≡ log.entries = ap (λ (x : SendState). x.read + 1) stands.is ∙ sym entries in
@@ -169,7 +169,7 @@ module _ (m : Send) (s : SendState) (inputs : Role → List ℕ) (stands : SendS
       }
 
 -- what is known after an entry that was read
-pub record IsBehind (m : Send) (s : SendState) (inputs : Role → List ℕ) (old mid : Outside) (log : LogReader) (bytes : Vec ℕ Global) (buf : List ℕ) (place : ℕ) (entry : Entry) : Type 0 where
+pub record IsBehind (m : Send) (s : SendState) (inputs : Role → List ℕ) (old mid : Outside) (log : LogPlace) (bytes : Vec ℕ Global) (buf : List ℕ) (place : ℕ) (entry : Entry) : Type 0 where
   pub step_is : send_step s inputs ≡ entry_step s inputs (Some entry)
   pub stood : StoodBefore (record m { log = log; bytes = bytes }) s (3 + bytes_of entry)
   pub taken : HasTaken (3 + bytes_of entry) inputs old mid
@@ -194,12 +194,12 @@ entry_whole side text entry is = at_test (nat_lt (length text) (reach side text)
         enough (bytes_of entry) text (omega (arith, far, ltb-false (length text) (reach side text) same))
 
 pub is_behind : (laws : TurnLaws) (cut : CutBehind) (m : Send) (s : SendState) (inputs : Role → List ℕ) (stands : SendStands m s inputs) (old mid : Outside) (told : Tells old inputs) (others : (r : Role) → r ≢ Events → mid.left r ≡ old.left r) (same : mid.written ≡ old.written)
-    (side : m.log.side ≡ sides.Send) (log : LogReader) (bytes : Vec ℕ Global) (buf : List ℕ) (place : ℕ) (entry : Entry)
+    (side : m.log.side ≡ sides.Send) (log : LogPlace) (within : IsInLog log) (bytes : Vec ℕ Global) (buf : List ℕ) (place : ℕ) (entry : Entry)
     → EntryGives (Ok (Some (place, entry))) m.log (inputs Events) buf (mid.left Events) → Moves (Ok (Some (place, entry))) m.log log
     → IsBehind m s inputs old mid log bytes buf place entry
-is_behind laws cut m s inputs stands old mid told others same side log bytes buf place entry e moves =
+is_behind laws cut m s inputs stands old mid told others same side log within bytes buf place entry e moves =
     let at = read_at m s inputs stands side in
-    let few : m.log.entries < 16777216 = omega (arith, log.few, moves.2) in
+    let few : m.log.entries < 16777216 = omega (arith, within.few, moves.2) in
     record {
       step_is = found_is laws cut s inputs old mid told others same m.log log at buf (place, entry) e few;
       stood = stood_before m s inputs stands log bytes (3 + bytes_of entry) moves.3 moves.2;
@@ -210,7 +210,7 @@ is_behind laws cut m s inputs stands old mid told others same side log bytes buf
     }
 
 -- the parts still fit
-pub fit_behind : (m : Send) (log : LogReader) (bytes : Vec ℕ Global) (old now : Role → Bool) → IsFit m old → log.side ≡ m.log.side → length bytes.items ≡ 65535 → now ≡ old → IsFit (record m { log = log; bytes = bytes }) now
+pub fit_behind : (m : Send) (log : LogPlace) (bytes : Vec ℕ Global) (old now : Role → Bool) → IsFit m old → log.side ≡ m.log.side → length bytes.items ≡ 65535 → now ≡ old → IsFit (record m { log = log; bytes = bytes }) now
 fit_behind m log bytes old now fit side long attached = record {
   video = ap (λ (f : Role → Bool). f Video) attached ∙ fit.video;
   events = ap (λ (f : Role → Bool). f Events) attached ∙ fit.events;

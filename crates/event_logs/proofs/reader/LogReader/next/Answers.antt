@@ -1,5 +1,6 @@
 use Rattle.std.proofs.Common.{◌≡◌, ◌<◌, ℕ, List, length, take, drop, Some, None, refl, sym, ap, subst, ◌∙◌, arith}
 use Rattle.event_logs.specs.Entry.{bytes_of, begun, reach_of}
+use Rattle.event_logs.specs.Place.{LogPlace}
 use Rattle.event_logs.proofs.Heads.{some_came, behind_head, begun_is, none_begun}
 use Rattle.event_logs.proofs.Readers.{front_len, head_cut, stopped, bytes_cut, cut_off, there}
 use Rattle.event_logs.proofs.reader.LogReader.next.Goals as goal
@@ -23,7 +24,7 @@ returns-in_default-clause-gives g c = λ rest told.
     let h = c.in_ok-came.ensures.told rest told in
     let head = c.read.new.buf in
     let came = c.in_ok-came.came in
-    let begins : begun self.side rest ≡ None = sym (begun_is rest head came c.read.auto.buf c.in_ok-came.ensures.count h.0 self.side) ∙ sym c.begun.ensures.is ∙ c.in_default.is in
+    let begins : begun self.side rest ≡ None = sym (begun_is rest head came c.read.auto.buf c.in_ok-came.ensures.count h.0 self.side) ∙ ap (λ (p : LogPlace). begun p.side (take came head)) (sym c.self.view_is) ∙ sym c.begun.ensures.is ∙ c.in_default.is in
     let reach : 3 ≡ reach_of (begun self.side rest) = ap reach_of (sym begins) in (
       some_came rest head came c.read.auto.buf c.in_ok-came.ensures.count h.0 c.if-came-eq0.false,
       none_begun self.side rest begins,
@@ -36,7 +37,7 @@ returns-in_err-read-clause-gives g c = λ rest told.
     let h = c.in_ok-came.ensures.told rest told in
     let head = c.read.new.buf in
     let came = c.in_ok-came.came in
-    let begins : begun self.side rest ≡ Some c.in-Some.entry = sym (begun_is rest head came c.read.auto.buf c.in_ok-came.ensures.count h.0 self.side) ∙ sym c.begun.ensures.is ∙ c.in-Some.is in
+    let begins : begun self.side rest ≡ Some c.in-Some.entry = sym (begun_is rest head came c.read.auto.buf c.in_ok-came.ensures.count h.0 self.side) ∙ ap (λ (p : LogPlace). begun p.side (take came head)) (sym c.self.view_is) ∙ sym c.begun.ensures.is ∙ c.in-Some.is in
     let behind : drop came rest ≡ drop 3 rest = behind_head rest head came c.read.auto.buf c.in_ok-came.ensures.count h.0 in
     let lost = c.in_err-read.ensures.lost (drop 3 rest) (h.1 ∙ ap (λ (l : List ℕ). Some l) behind) in
     let size : length (take c.bytes_of-len.result c.args.buf.now) ≡ bytes_of c.in-Some.entry = front_len c.args.buf.now (take c.bytes_of-len.result c.args.buf.now) c.bytes_of-len.result (bytes_of c.in-Some.entry) refl c.bytes_of-len.ensures c.in-Some.ensures.within c.requires.room in
@@ -49,7 +50,7 @@ returns-then-branch-len-clause-gives g c = λ rest told.
     let h = c.in_ok-came.ensures.told rest told in
     let head = c.read.new.buf in
     let came = c.in_ok-came.came in
-    let begins : begun self.side rest ≡ Some c.in-Some.entry = sym (begun_is rest head came c.read.auto.buf c.in_ok-came.ensures.count h.0 self.side) ∙ sym c.begun.ensures.is ∙ c.in-Some.is in
+    let begins : begun self.side rest ≡ Some c.in-Some.entry = sym (begun_is rest head came c.read.auto.buf c.in_ok-came.ensures.count h.0 self.side) ∙ ap (λ (p : LogPlace). begun p.side (take came head)) (sym c.self.view_is) ∙ sym c.begun.ensures.is ∙ c.in-Some.is in
     let behind : drop came rest ≡ drop 3 rest = behind_head rest head came c.read.auto.buf c.in_ok-came.ensures.count h.0 in
     let bytes = c.in_ok-read.ensures.told (drop 3 rest) (h.1 ∙ ap (λ (l : List ℕ). Some l) behind) in
     let size : length c.read-2.new.buf ≡ bytes_of c.in-Some.entry = front_len c.args.buf.now c.read-2.new.buf c.bytes_of-len.result (bytes_of c.in-Some.entry) c.read-2.auto.buf c.bytes_of-len.ensures c.in-Some.ensures.within c.requires.room in
@@ -62,7 +63,7 @@ returns-clause-gives g c = λ rest told.
     let h = c.in_ok-came.ensures.told rest told in
     let head = c.read.new.buf in
     let came = c.in_ok-came.came in
-    let begins : begun self.side rest ≡ Some c.in-Some.entry = sym (begun_is rest head came c.read.auto.buf c.in_ok-came.ensures.count h.0 self.side) ∙ sym c.begun.ensures.is ∙ c.in-Some.is in
+    let begins : begun self.side rest ≡ Some c.in-Some.entry = sym (begun_is rest head came c.read.auto.buf c.in_ok-came.ensures.count h.0 self.side) ∙ ap (λ (p : LogPlace). begun p.side (take came head)) (sym c.self.view_is) ∙ sym c.begun.ensures.is ∙ c.in-Some.is in
     let behind : drop came rest ≡ drop 3 rest = behind_head rest head came c.read.auto.buf c.in_ok-came.ensures.count h.0 in
     let bytes = c.in_ok-read.ensures.told (drop 3 rest) (h.1 ∙ ap (λ (l : List ℕ). Some l) behind) in
     let size : length c.read-2.new.buf ≡ bytes_of c.in-Some.entry = front_len c.args.buf.now c.read-2.new.buf c.bytes_of-len.result (bytes_of c.in-Some.entry) c.read-2.auto.buf c.bytes_of-len.ensures c.in-Some.ensures.within c.requires.room in

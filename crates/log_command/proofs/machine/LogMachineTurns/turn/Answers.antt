@@ -58,7 +58,7 @@ returns-in_err-packet-in-Packet-clause-gives g c = λ s inputs stands told.
     let len = c.in-Packet.len in
     let size : c.len_of.result ≡ len = c.len_of.ensures ∙ ap bytes_of c.in-Packet.is in
     let bytes = take c.min-len.result c.deref.result.now in
-    let e = entered does.side s m.reader c.next.new.self c.in-Some.at c.in-Some.entry (Packet len) (inputs Events) c.next.new.buf _ c.in_ok-at.field-0 stands.at stands.entries c.requires.side c.in-Some.is c.in-Packet.is
+    let e = entered does.side s m.reader c.next.new.self c.in-Some.at c.in-Some.entry (Packet len) (inputs Events) c.next.new.buf _ c.in_ok-at.field-0 stands.at stands.entries c.requires.side c.next.ensures.is_in c.in-Some.is c.in-Packet.is
     (c.in_ok-at.ensures.gives (inputs Events) (told Events refl)) c.in_ok-at.ensures.moves
     in
     let bytes_are : bytes ≡ take len (drop 3 (inputs Events)) =
@@ -78,7 +78,7 @@ returns-in_ok-packet-in-Packet-clause-gives g c = λ s inputs stands told.
     let len = c.in-Packet.len in
     let size : c.len_of.result ≡ len = c.len_of.ensures ∙ ap bytes_of c.in-Packet.is in
     let bytes = take c.min-len.result c.deref.result.now in
-    let e = entered does.side s m.reader c.next.new.self c.in-Some.at c.in-Some.entry (Packet len) (inputs Events) c.next.new.buf _ c.in_ok-at.field-0 stands.at stands.entries c.requires.side c.in-Some.is c.in-Packet.is
+    let e = entered does.side s m.reader c.next.new.self c.in-Some.at c.in-Some.entry (Packet len) (inputs Events) c.next.new.buf _ c.in_ok-at.field-0 stands.at stands.entries c.requires.side c.next.ensures.is_in c.in-Some.is c.in-Packet.is
     (c.in_ok-at.ensures.gives (inputs Events) (told Events refl)) c.in_ok-at.ensures.moves
     in
     let bytes_are : bytes ≡ take len (drop 3 (inputs Events)) =
@@ -100,7 +100,7 @@ returns-then-plays-ge-MAX_PLAYS-clause-gives g c = λ s inputs stands told.
     let outside = g.D.Desk.outside in
     let does = g.C.LogCommand.rules in
     let m = c.args.self.now in
-    let e = entered does.side s m.reader c.next.new.self c.in-Some.at c.in-Some.entry c.in-Some.entry (inputs Events) c.next.new.buf _ c.in_ok-at.field-0 stands.at stands.entries c.requires.side c.in-Some.is refl
+    let e = entered does.side s m.reader c.next.new.self c.in-Some.at c.in-Some.entry c.in-Some.entry (inputs Events) c.next.new.buf _ c.in_ok-at.field-0 stands.at stands.entries c.requires.side c.next.ensures.is_in c.in-Some.is refl
     (c.in_ok-at.ensures.gives (inputs Events) (told Events refl)) c.in_ok-at.ensures.moves
     in
     let all : 1048576 ≤ does.plays s.mind = subst (λ (n : ℕ). 1048576 ≤ n) (c.plays.ensures.is s.mind stands.mind) c.if-plays-ge-MAX_PLAYS.true in
@@ -113,7 +113,7 @@ returns-in_err-other-in_default-entry-clause-gives g c = λ s inputs stands told
     let outside = g.D.Desk.outside in
     let does = g.C.LogCommand.rules in
     let m = c.args.self.now in
-    let e = entered does.side s m.reader c.next.new.self c.in-Some.at c.in-Some.entry c.in-Some.entry (inputs Events) c.next.new.buf _ c.in_ok-at.field-0 stands.at stands.entries c.requires.side c.in-Some.is refl
+    let e = entered does.side s m.reader c.next.new.self c.in-Some.at c.in-Some.entry c.in-Some.entry (inputs Events) c.next.new.buf _ c.in_ok-at.field-0 stands.at stands.entries c.requires.side c.next.ensures.is_in c.in-Some.is refl
     (c.in_ok-at.ensures.gives (inputs Events) (told Events refl)) c.in_ok-at.ensures.moves
     in
     let entry = c.in-Some.entry in
@@ -133,7 +133,7 @@ returns-in_ok-other-in_default-entry-clause-gives g c = λ s inputs stands told.
     let outside = g.D.Desk.outside in
     let does = g.C.LogCommand.rules in
     let m = c.args.self.now in
-    let e = entered does.side s m.reader c.next.new.self c.in-Some.at c.in-Some.entry c.in-Some.entry (inputs Events) c.next.new.buf _ c.in_ok-at.field-0 stands.at stands.entries c.requires.side c.in-Some.is refl
+    let e = entered does.side s m.reader c.next.new.self c.in-Some.at c.in-Some.entry c.in-Some.entry (inputs Events) c.next.new.buf _ c.in_ok-at.field-0 stands.at stands.entries c.requires.side c.next.ensures.is_in c.in-Some.is refl
     (c.in_ok-at.ensures.gives (inputs Events) (told Events refl)) c.in_ok-at.ensures.moves
     in
     let entry = c.in-Some.entry in
@@ -156,14 +156,14 @@ returns-in_ok-other-in_default-entry-clause-gives g c = λ s inputs stands told.
 pub close-requires : goal.close-requires
 close-requires g c =
     let m = c.args.self.now in
-    ready_behind (g.C.LogCommand.ready m.command) 16777216 m.reader.entries _ _ m.reader.few c.next.ensures.rest.attached c.requires.command
+    ready_behind (g.C.LogCommand.ready m.command) 16777216 m.reader.entries _ _ c.next.ensures.was_in.few c.next.ensures.rest.attached c.requires.command
 
 pub packet-requires : goal.packet-requires
 packet-requires g c =
     let m = c.args.self.now in
     let v = moved c.in_ok-at.field-0 (Some (c.in-Some.at, c.in-Some.entry)) m.reader c.next.new.self c.in-Some.is c.in_ok-at.ensures.moves in
     let n = v.2 in
-    let few = c.next.new.self.few in
+    let few = c.next.ensures.is_in.few in
     ready_behind (g.C.LogCommand.ready m.command) 16777215 m.reader.entries _ _ (omega (arith, n, few)) c.next.ensures.rest.attached c.requires.command
 
 pub other-requires-clause-ready : goal.other-requires-clause-ready
@@ -171,7 +171,7 @@ other-requires-clause-ready g c =
     let m = c.args.self.now in
     let v = moved c.in_ok-at.field-0 (Some (c.in-Some.at, c.in-Some.entry)) m.reader c.next.new.self c.in-Some.is c.in_ok-at.ensures.moves in
     let n = v.2 in
-    let few = c.next.new.self.few in
+    let few = c.next.ensures.is_in.few in
     ready_behind (g.C.LogCommand.ready m.command) 16777215 m.reader.entries _ _ (omega (arith, n, few)) c.next.ensures.rest.attached c.requires.command
 
 pub returns-in_ok-packet-in-Packet-clause-ready : goal.returns-in_ok-packet-in-Packet-clause-ready

@@ -64,7 +64,7 @@ returns-in_err-take_frame-in-Capture-clause-gives g c = λ s inputs stands told.
     let new = outside c.take_frame.new.desk in
     let status = c.in_err-take_frame-in-Capture.field-0.0 in
     let is = c.in-Some.is ∙ ap (λ (e : Entry). Some (c.in-Some.at, e)) c.in-Capture.is in
-    let b = is_behind c.of_turns.ensures c.cut_behind.ensures m s inputs stands old (outside c.next.new.desk) told c.next.ensures.others c.next.ensures.rest.written c.requires.fit.side c.next.new.self (with_items m.bytes c.next.new.buf) c.next.new.buf c.in-Some.at Capture
+    let b = is_behind c.of_turns.ensures c.cut_behind.ensures m s inputs stands old (outside c.next.new.desk) told c.next.ensures.others c.next.ensures.rest.written c.requires.fit.side c.next.new.self c.next.ensures.is_in (with_items m.bytes c.next.new.buf) c.next.new.buf c.in-Some.at Capture
     (gave_entry c.in_ok-at.field-0 (Some (c.in-Some.at, Capture)) m.log (inputs Events) c.next.new.buf _ is (c.in_ok-at.ensures.gives (inputs Events) (told Events refl)))
     (moved_entry c.in_ok-at.field-0 (Some (c.in-Some.at, Capture)) m.log c.next.new.self is c.in_ok-at.ensures.moves)
     in
@@ -78,7 +78,7 @@ returns-in_ok-take_frame-in-Capture-clause-gives g c = λ s inputs stands told.
     let m = c.args.self.now in
     let old = outside c.args.desk.now in
     let is = c.in-Some.is ∙ ap (λ (e : Entry). Some (c.in-Some.at, e)) c.in-Capture.is in
-    let b = is_behind c.of_turns.ensures c.cut_behind.ensures m s inputs stands old (outside c.next.new.desk) told c.next.ensures.others c.next.ensures.rest.written c.requires.fit.side c.next.new.self (with_items m.bytes c.next.new.buf) c.next.new.buf c.in-Some.at Capture
+    let b = is_behind c.of_turns.ensures c.cut_behind.ensures m s inputs stands old (outside c.next.new.desk) told c.next.ensures.others c.next.ensures.rest.written c.requires.fit.side c.next.new.self c.next.ensures.is_in (with_items m.bytes c.next.new.buf) c.next.new.buf c.in-Some.at Capture
     (gave_entry c.in_ok-at.field-0 (Some (c.in-Some.at, Capture)) m.log (inputs Events) c.next.new.buf _ is (c.in_ok-at.ensures.gives (inputs Events) (told Events refl)))
     (moved_entry c.in_ok-at.field-0 (Some (c.in-Some.at, Capture)) m.log c.next.new.self is c.in_ok-at.ensures.moves)
     in
@@ -94,7 +94,7 @@ returns-in-Back-clause-gives g c = λ s inputs stands told.
     let len = c.in-Back.len in
     let buf = c.next.new.buf in
     let is = c.in-Some.is ∙ ap (λ (e : Entry). Some (c.in-Some.at, e)) c.in-Back.is in
-    let b = is_behind c.of_turns.ensures c.cut_behind.ensures m s inputs stands old mid told c.next.ensures.others c.next.ensures.rest.written c.requires.fit.side c.next.new.self (with_items m.bytes buf) buf c.in-Some.at (Back len)
+    let b = is_behind c.of_turns.ensures c.cut_behind.ensures m s inputs stands old mid told c.next.ensures.others c.next.ensures.rest.written c.requires.fit.side c.next.new.self c.next.ensures.is_in (with_items m.bytes buf) buf c.in-Some.at (Back len)
     (gave_entry c.in_ok-at.field-0 (Some (c.in-Some.at, Back len)) m.log (inputs Events) buf _ is (c.in_ok-at.ensures.gives (inputs Events) (told Events refl)))
     (moved_entry c.in_ok-at.field-0 (Some (c.in-Some.at, Back len)) m.log c.next.new.self is c.in_ok-at.ensures.moves)
     in
@@ -126,7 +126,7 @@ returns-in-Packet-clause-gives g c = λ s inputs stands told.
     let old = outside c.args.desk.now in
     let mid = outside c.next.new.desk in
     let entry = c.in-Some.entry in
-    let b = is_behind c.of_turns.ensures c.cut_behind.ensures m s inputs stands old mid told c.next.ensures.others c.next.ensures.rest.written c.requires.fit.side c.next.new.self (with_items m.bytes c.next.new.buf) c.next.new.buf c.in-Some.at entry
+    let b = is_behind c.of_turns.ensures c.cut_behind.ensures m s inputs stands old mid told c.next.ensures.others c.next.ensures.rest.written c.requires.fit.side c.next.new.self c.next.ensures.is_in (with_items m.bytes c.next.new.buf) c.next.new.buf c.in-Some.at entry
     (gave_entry c.in_ok-at.field-0 (Some (c.in-Some.at, entry)) m.log (inputs Events) c.next.new.buf _ c.in-Some.is (c.in_ok-at.ensures.gives (inputs Events) (told Events refl)))
     (moved_entry c.in_ok-at.field-0 (Some (c.in-Some.at, entry)) m.log c.next.new.self c.in-Some.is c.in_ok-at.ensures.moves)
     in
