@@ -11,7 +11,7 @@ from setuptools.command.build_py import build_py
 from wheel.bdist_wheel import bdist_wheel
 
 HERE = Path(__file__).resolve().parent
-LIBRARY = Path(os.environ.get("H263RPS_BUILD", HERE / "build")) / "libh263rps.so.3"
+LIBRARY = Path(os.environ.get("H263RPS_BUILD", HERE / "build")) / "libh263rps.so.2"
 
 
 def version() -> str:

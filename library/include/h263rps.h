@@ -459,8 +459,9 @@ static inline uint32_t h263rps_receiver_play_lent(h263rps_end *end, h263rps_lent
 }
 
 /* A receiver begins a call anew, in the memory that it has: it is as h263rps_receiver_start_at() at
- * this number, up to 1,048,576, would leave it, with the parameters of its start. It has counted
- * nothing then.
+ * this number, up to 1,048,576, would leave it, with the parameters of its start, and has counted
+ * nothing. Its sender begins anew as well. Give it no packet of the call before that comes late: it
+ * would count as one of the new call.
  * NOT_STARTED, OTHER_END, BAD_PARAMS. */
 static inline uint32_t h263rps_receiver_reset(h263rps_end *end, uint32_t number) {
     if (!end) return H263RPS_NULL;
@@ -583,8 +584,9 @@ static inline uint32_t h263rps_sender_forget(h263rps_end *end) {
 }
 
 /* A sender begins a call anew, in the memory that it has: it is as h263rps_sender_start() left it,
- * but for its target, which is this many bytes a picture, up to 999,999, or none where it is 0. It
- * has no packets then, and has counted nothing.
+ * but for its target, which is this many bytes a picture, up to 999,999, or none where it is 0. So
+ * it has no packets, and has counted nothing. Its receiver begins anew as well. Give it no message
+ * of the call before that comes late: it would count as one about a picture of the new call.
  * NOT_STARTED, OTHER_END, BAD_PARAMS. */
 static inline uint32_t h263rps_sender_reset(h263rps_end *end, uint32_t bytes) {
     if (!end) return H263RPS_NULL;
@@ -600,7 +602,7 @@ static inline uint32_t h263rps_sender_sent(h263rps_end *end, uint32_t *count) {
 
 /* Writes to `count` how many pictures a sender knows to be complete on the other side, of those to
  * which its next picture may refer: the last `slots - lead - 1`, but for what it forgot. With 0 the
- * next picture is intra. How it moves tells how a line does.
+ * next picture is intra.
  * NOT_STARTED, OTHER_END. */
 static inline uint32_t h263rps_sender_known(h263rps_end *end, uint32_t *count) {
     if (!end || !count) return H263RPS_NULL;

@@ -277,8 +277,22 @@ static void feedback(int changes) {
     check((reply.kind == H263RPS_NO_MESSAGE) == (reply.fault != 0), "a fault of a message");
 }
 
+/* The sender begins anew, and both receivers at some number, but in a run that `recv` makes again. */
+static void begin_anew(void) {
+    check(h263rps_sender_reset(&sender, params.target) == H263RPS_OK, "a sender's reset");
+    sent = 0;
+#ifndef REPLAY
+    uint32_t at = drawn() % 4 ? 0 : number(60000) * 16;
+    for (int i = 0; i < 2; i++)
+        check(h263rps_receiver_reset(&receivers[i], at) == H263RPS_OK, "a receiver's reset");
+#endif
+}
+
 static void steer(void) {
-    if (drawn() % 2) {
+    uint32_t how = drawn();
+    if (how == 254) {
+        begin_anew();
+    } else if (how % 2) {
         uint32_t target = drawn() % 8 ? number(5000) : 1000000u * drawn();
         uint32_t status = h263rps_sender_target(&sender, target);
         check(status == (target > 999999 ? H263RPS_BAD_PARAMS : H263RPS_OK), "a target");
@@ -301,9 +315,15 @@ static void call_wrongly(void) {
           "a receiver codes");
     check(h263rps_sender_feedback(&receivers[0], "abc", 3, &reply) == wanted, "a receiver is told");
     check(h263rps_sender_sent(&receivers[0], &count) == wanted && count == 77, "a receiver's count");
+    check(h263rps_sender_known(&receivers[0], &count) == wanted && count == 77, "a receiver knows");
+    check(h263rps_sender_reset(&receivers[0], 0) == wanted, "a receiver's reset as a sender");
+    check(h263rps_receiver_reset(&sender, 0) == wanted, "a sender's reset as a receiver");
+    check(h263rps_sender_reset(&sender, 1000000) == H263RPS_BAD_PARAMS, "a great target");
+    check(h263rps_receiver_reset(&receivers[0], 1048577) == H263RPS_BAD_PARAMS, "a number");
     check(h263rps_receiver_play(&receivers[0], shown[0], drawn(), &answer) == H263RPS_WRONG_LENGTH,
           "a short room");
     check(h263rps_receiver_start(&receivers[0], &params, &count) == H263RPS_STARTED, "started");
+    check(h263rps_sender_known(&sender, &count) == H263RPS_OK && count <= sent, "what is known");
     check(answer.kind == 0xABABABABu, "a refused call writes");
 }
 

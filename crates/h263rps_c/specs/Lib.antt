@@ -1,5 +1,6 @@
 pub mod Holds
 pub mod Lending
+pub mod Stays
 pub mod Returned
 pub mod Pace
 pub mod Asked
@@ -12,4 +13,3 @@ pub mod Steering
 pub mod Slots
 pub mod Ends
 pub mod Start
-pub mod Resetting

@@ -139,7 +139,7 @@ heard_answer heards.Early = plain 3
 heard_answer heards.Repeat = plain 4
 heard_answer (heards.Refused fault) = refusing fault
 
--- a number, or 0
+-- a picture's number, or 0 where there is none
 abbrev pub number_or_zero : Option ℕ → ℕ
 number_or_zero None = 0
 number_or_zero (Some n) = n
@@ -153,7 +153,7 @@ mark_number marks.Exact = 0
 mark_number marks.Patched = 1
 mark_number marks.Held = 2
 
--- there is a reference, as a number
+-- whether there is a reference, as a number
 abbrev pub is_predicted : Option ℕ → ℕ
 is_predicted None = 0
 is_predicted (Some m) = 1

@@ -58,6 +58,10 @@ code_refusal bytes back s =
     else unless_none (messages_of s.params.clock back))
     else Some WrongLength
 
+-- a call that begins anew at the picture of this number
+abbrev pub reset_refusal : ℕ → Kept → Option Refusal
+reset_refusal number r = if nat_lt 1048576 number then Some BadParams else None
+
 -- a target in bytes per picture
 abbrev pub target_refusal : ℕ → SenderState SendPace → Option Refusal
 target_refusal target s = if nat_lt 999999 target then Some BadParams else None

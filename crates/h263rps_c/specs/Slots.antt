@@ -1,5 +1,5 @@
 -- Where a slot has what is inside, and what a call of it answers.
-use Rattle.std.specs.Prelude.{ℕ, Option, Some, None, Result, Ok, Err}
+use Rattle.std.specs.Prelude.{ℕ, Bool, true, false, Option, Some, None, Result, Ok, Err}
 use Rattle.h263_types.specs.declared.params.Params.{Params}
 use Rattle.sender_end.specs.State.{SenderState}
 use Rattle.receiver_end.specs.declared.kept.Kept.{Kept}
@@ -36,3 +36,8 @@ fault_after None (Ok p) before = before
 -- an end of the right kind refuses nothing
 abbrev pub never : {S : Type 0} → S → Option Refusal
 never s = None
+
+-- a call that an end of the right kind never refuses: a receiver, or else a sender
+abbrev pub for_kind : Bool → Option End → Option Refusal
+for_kind true inside = for_receiver never inside
+for_kind false inside = for_sender never inside

@@ -143,10 +143,11 @@ fn is_predicted(reference: Option<u32>) -> u32
     }
 }
 
-fn number_or_zero(reference: Option<u32>) -> u32
-    ensures { result ≡ numbers.number_or_zero reference }
+// A picture's number, or 0 where there is none.
+fn number_or_zero(number: Option<u32>) -> u32
+    ensures { result ≡ numbers.number_or_zero number }
 {
-    match reference {
+    match number {
         None => 0,
         Some(number) => number,
     }

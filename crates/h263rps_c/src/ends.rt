@@ -24,7 +24,7 @@ ghost use Rattle.h263rps_c.specs.Steering as steering;
 ghost use Rattle.h263rps_c.specs.Messages.{messages_of};
 ghost use Rattle.h263rps_c.specs.Pace.{pace_of, target_in};
 ghost use Rattle.h263rps_c.specs.Refusals.{refusal_in, next_refusal, play_refusal, code_refusal, packet_refusal, target_refusal};
-ghost use Rattle.h263rps_c.specs.Slots.{for_receiver, for_sender, never};
+ghost use Rattle.h263rps_c.specs.Slots.{for_kind, for_receiver, for_sender, never};
 ghost use Rattle.h263rps_c.specs.declared.refusals.Refusal.TheVariants as refusals;
 
 use crate::MOST_PICTURES;
@@ -172,18 +172,15 @@ impl End {
         }
     }
 
-    /// Whether it is a receiver.
-    pub fn is_receiver(&self) -> bool
-        ensures receiver { result ≡ true → for_receiver never (Some self.now) ≡ None }
-        ensures no_sender { result ≡ true
-            → for_sender never (Some self.now) ≡ Some refusals.OtherEnd }
-        ensures sender { result ≡ false → for_sender never (Some self.now) ≡ None }
-        ensures no_receiver { result ≡ false
-            → for_receiver never (Some self.now) ≡ Some refusals.OtherEnd }
+    /// Whether it is of one kind: a receiver, or else a sender.
+    pub fn is_of(&self, receiver: bool) -> bool
+        ensures of { result ≡ true → for_kind receiver (Some self.now) ≡ None }
+        ensures other { result ≡ false
+            → for_kind receiver (Some self.now) ≡ Some refusals.OtherEnd }
     {
         match self {
-            End::Sending(_) => false,
-            End::Receiving(_) => true,
+            End::Sending(_) => !receiver,
+            End::Receiving(_) => receiver,
         }
     }
 

@@ -9,6 +9,7 @@ ghost use Rattle.h263rps_c.specs.Counting as counts;
 ghost use Rattle.h263rps_c.specs.Ends.{HoldsReceiver};
 ghost use Rattle.h263rps_c.specs.Refusals.{refusal_number, status_of};
 ghost use Rattle.h263rps_c.specs.Slots.{fault_after, for_receiver, never, start_refusal};
+ghost use Rattle.h263rps_c.specs.Stays.{Stays};
 ghost use Rattle.h263rps_c.specs.declared.refusals.Refusal.TheVariants as refusals;
 
 use crate::asked::Asked;
@@ -31,8 +32,7 @@ pub extern "C" fn h263rps_raw_receiver_start_at(
         ≡ status_of (start_refusal slot.old.handle.inside (params_at number (params_of asked.now))) }
     ensures memory { result ≡ refusal_number refusals.NoMemory
         → start_refusal slot.old.handle.inside (params_at number (params_of asked.now)) ≡ None }
-    ensures same { result ≢ 0 → slot.new.handle.inside ≡ slot.old.handle.inside }
-    ensures counts { result ≢ 0 → slot.new.counted ≡ slot.old.counted }
+    ensures same { result ≢ 0 → Stays slot.old slot.new }
     ensures nothing { result ≡ 0 → slot.new.counted ≡ counts.none }
     ensures fault { fault.new
         ≡ fault_after slot.old.handle.inside (params_at number (params_of asked.now)) fault.old }
@@ -61,8 +61,7 @@ pub extern "C" fn h263rps_raw_receiver_start_at(
 #[unsafe(no_mangle)]
 pub extern "C" fn h263rps_raw_receiver_played(slot: &mut Slot, count: &mut u32) -> u32
     ensures result { result ≡ status_of (for_receiver never slot.old.handle.inside) }
-    ensures same { slot.new.handle.inside ≡ slot.old.handle.inside }
-    ensures counts { slot.new.counted ≡ slot.old.counted }
+    ensures same { Stays slot.old slot.new }
     ensures uncounted { result ≢ 0 → count.new ≡ count.old }
     ensures stands { (p : Params) (past : List ReceiverEntry)
         → HoldsReceiver p past slot.old.handle.inside → result ≡ 0

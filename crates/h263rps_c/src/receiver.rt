@@ -12,6 +12,7 @@ ghost use Rattle.h263rps_c.specs.Returned.{KeepsEnd};
 ghost use Rattle.h263rps_c.specs.Numbers.{NamesReference};
 ghost use Rattle.h263rps_c.specs.Refusals.{next_refusal, play_refusal, refusal_in, status_of, refusal_number};
 ghost use Rattle.h263rps_c.specs.Slots.{fault_after, for_receiver, never, start_refusal};
+ghost use Rattle.h263rps_c.specs.Stays.{Stays};
 ghost use Rattle.h263rps_c.specs.declared.refusals.Refusal.TheVariants as refusals;
 
 use crate::answers::Answer;
@@ -41,8 +42,7 @@ pub extern "C" fn h263rps_raw_receiver_start(
         → result ≡ status_of (start_refusal slot.old.handle.inside (params_of asked.now)) }
     ensures memory { result ≡ refusal_number refusals.NoMemory
         → start_refusal slot.old.handle.inside (params_of asked.now) ≡ None }
-    ensures same { result ≢ 0 → slot.new.handle.inside ≡ slot.old.handle.inside }
-    ensures counts { result ≢ 0 → slot.new.counted ≡ slot.old.counted }
+    ensures same { result ≢ 0 → Stays slot.old slot.new }
     ensures nothing { result ≡ 0 → slot.new.counted ≡ counts.none }
     ensures fault { fault.new
         ≡ fault_after slot.old.handle.inside (params_of asked.now) fault.old }
@@ -75,8 +75,7 @@ pub extern "C" fn h263rps_raw_receiver_packet(
     answer: &mut Answer,
 ) -> u32
     ensures result { result ≡ status_of (for_receiver never slot.old.handle.inside) }
-    ensures same { result ≢ 0 → slot.new.handle.inside ≡ slot.old.handle.inside }
-    ensures counts { result ≢ 0 → slot.new.counted ≡ slot.old.counted }
+    ensures same { result ≢ 0 → Stays slot.old slot.new }
     ensures counted { result ≡ 0
         → slot.new.counted ≡ counts.with_heard (length bytes.now) answer.new slot.old.counted }
     ensures unanswered { result ≢ 0 → answer.new ≡ answer.old }
@@ -113,8 +112,7 @@ pub extern "C" fn h263rps_raw_receiver_play(
 ) -> u32
     ensures result { result
         ≡ status_of (for_receiver (play_refusal (length picture.old)) slot.old.handle.inside) }
-    ensures same { result ≢ 0 → slot.new.handle.inside ≡ slot.old.handle.inside }
-    ensures counts { result ≢ 0 → slot.new.counted ≡ slot.old.counted }
+    ensures same { result ≢ 0 → Stays slot.old slot.new }
     ensures counted { result ≡ 0
         → slot.new.counted ≡ counts.with_played answer.new slot.old.counted }
     ensures unanswered { result ≢ 0 → answer.new ≡ answer.old }
@@ -153,8 +151,7 @@ pub extern "C" fn h263rps_raw_receiver_play(
 #[unsafe(no_mangle)]
 pub extern "C" fn h263rps_raw_receiver_next(slot: &mut Slot, answer: &mut Answer) -> u32
     ensures result { result ≡ status_of (for_receiver next_refusal slot.old.handle.inside) }
-    ensures same { result ≢ 0 → slot.new.handle.inside ≡ slot.old.handle.inside }
-    ensures counts { result ≢ 0 → slot.new.counted ≡ slot.old.counted }
+    ensures same { result ≢ 0 → Stays slot.old slot.new }
     ensures counted { result ≡ 0
         → slot.new.counted ≡ counts.with_played answer.new slot.old.counted }
     ensures unanswered { result ≢ 0 → answer.new ≡ answer.old }
@@ -231,15 +228,14 @@ pub extern "C" fn h263rps_raw_receiver_shown<'a>(slot: &'a mut Slot, lent: &mut 
 #[unsafe(no_mangle)]
 pub extern "C" fn h263rps_raw_receiver_finish(alloc: Global, slot: &mut Slot) -> u32
     ensures result { result ≡ status_of (for_receiver never slot.old.handle.inside) }
-    ensures same { result ≢ 0 → slot.new.handle.inside ≡ slot.old.handle.inside }
-    ensures counts { result ≢ 0 → slot.new.counted ≡ slot.old.counted }
+    ensures same { result ≢ 0 → Stays slot.old slot.new }
     ensures empty { result ≡ 0 → slot.new.handle.inside ≡ None }
     ensures nothing { result ≡ 0 → slot.new.counted ≡ counts.none }
 {
     if !slot.is_started() {
         return Refusal::NotStarted.number();
     }
-    if !slot.handle.end_mut().is_receiver() {
+    if !slot.handle.end_mut().is_of(true) {
         return Refusal::OtherEnd.number();
     }
     let _end = taken(alloc, slot);

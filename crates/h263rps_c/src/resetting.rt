@@ -8,10 +8,10 @@ ghost use Rattle.receiver_end.specs.State as receivers;
 ghost use Rattle.receiver_end.specs.State.{plays_alone};
 ghost use Rattle.h263rps_c.specs.Counting as counts;
 ghost use Rattle.h263rps_c.specs.Ends.{HoldsReceiver, HoldsSender, HoldsSteered, packets_in};
-ghost use Rattle.h263rps_c.specs.Refusals.{refusal_in, status_of, target_refusal};
-ghost use Rattle.h263rps_c.specs.Resetting.{number_refusal};
+ghost use Rattle.h263rps_c.specs.Refusals.{refusal_in, reset_refusal, status_of, target_refusal};
 ghost use Rattle.h263rps_c.specs.Slots.{for_receiver, for_sender};
 ghost use Rattle.h263rps_c.specs.Steering.{Steering};
+ghost use Rattle.h263rps_c.specs.Stays.{Stays};
 
 use crate::MOST_PICTURES;
 use crate::counting::Statistics;
@@ -22,7 +22,7 @@ use receiver_end::Receiver;
 
 // Begins a receiver's call anew, if its next picture may have this number.
 fn restart_at(receiver: &mut Receiver, number: u32) -> Result<(), Refusal>
-    ensures refusal { refusal_in result ≡ number_refusal number receiver.old }
+    ensures refusal { refusal_in result ≡ reset_refusal number receiver.old }
     ensures same { IfErr result (λ why. receiver.new ≡ receiver.old) }
     ensures params { receiver.new.params ≡ receiver.old.params }
     ensures stands { IsOk result → receivers.Stands receiver.new (plays_alone number) }
@@ -37,7 +37,7 @@ fn restart_at(receiver: &mut Receiver, number: u32) -> Result<(), Refusal>
 impl End {
     // A receiver begins a call anew at this number.
     fn receive_anew(&mut self, number: u32) -> Result<(), Refusal>
-        ensures refusal { refusal_in result ≡ for_receiver (number_refusal number) (Some self.old) }
+        ensures refusal { refusal_in result ≡ for_receiver (reset_refusal number) (Some self.old) }
         ensures same { IfErr result (λ why. self.new ≡ self.old) }
         ensures stands { (p : Params) (past : List ReceiverEntry)
             → HoldsReceiver p past (Some self.old) → IsOk result
@@ -73,9 +73,8 @@ impl End {
 #[unsafe(no_mangle)]
 pub extern "C" fn h263rps_raw_receiver_reset(slot: &mut Slot, number: u32) -> u32
     ensures result { result
-        ≡ status_of (for_receiver (number_refusal number) slot.old.handle.inside) }
-    ensures same { result ≢ 0 → slot.new.handle.inside ≡ slot.old.handle.inside }
-    ensures counts { result ≢ 0 → slot.new.counted ≡ slot.old.counted }
+        ≡ status_of (for_receiver (reset_refusal number) slot.old.handle.inside) }
+    ensures same { result ≢ 0 → Stays slot.old slot.new }
     ensures nothing { result ≡ 0 → slot.new.counted ≡ counts.none }
     ensures stands { (p : Params) (past : List ReceiverEntry)
         → HoldsReceiver p past slot.old.handle.inside → result ≡ 0
@@ -99,8 +98,7 @@ pub extern "C" fn h263rps_raw_receiver_reset(slot: &mut Slot, number: u32) -> u3
 pub extern "C" fn h263rps_raw_sender_reset(slot: &mut Slot, target: u32) -> u32
     ensures result { result
         ≡ status_of (for_sender (target_refusal target) slot.old.handle.inside) }
-    ensures same { result ≢ 0 → slot.new.handle.inside ≡ slot.old.handle.inside }
-    ensures counts { result ≢ 0 → slot.new.counted ≡ slot.old.counted }
+    ensures same { result ≢ 0 → Stays slot.old slot.new }
     ensures nothing { result ≡ 0 → slot.new.counted ≡ counts.none }
     ensures packets { result ≡ 0 → packets_in slot.new.handle.inside ≡ [] }
     ensures stands { (p : Params) (before : ℕ) (entries : List (SenderEntry Frame))

@@ -8,6 +8,7 @@ ghost use Rattle.h263rps_c.specs.Refusals.{status_of, target_refusal};
 ghost use Rattle.h263rps_c.specs.Slots.{for_sender, never};
 ghost use Rattle.h263rps_c.specs.Steering.{Steering, run_after};
 ghost use Rattle.h263rps_c.specs.Steering as steering;
+ghost use Rattle.h263rps_c.specs.Stays.{Stays};
 
 use crate::handles::Slot;
 use crate::refusals::{OK, Refusal};
@@ -60,8 +61,7 @@ pub extern "C" fn h263rps_raw_sender_forget(slot: &mut Slot) -> u32
 #[unsafe(no_mangle)]
 pub extern "C" fn h263rps_raw_sender_sent(slot: &mut Slot, count: &mut u32) -> u32
     ensures result { result ≡ status_of (for_sender never slot.old.handle.inside) }
-    ensures same { slot.new.handle.inside ≡ slot.old.handle.inside }
-    ensures counts { slot.new.counted ≡ slot.old.counted }
+    ensures same { Stays slot.old slot.new }
     ensures uncounted { result ≢ 0 → count.new ≡ count.old }
     ensures steers { (p : Params) (first : ℕ) (past : List Steering)
         → HoldsSteered p first past slot.old.handle.inside → result ≡ 0
@@ -84,8 +84,7 @@ pub extern "C" fn h263rps_raw_sender_sent(slot: &mut Slot, count: &mut u32) -> u
 #[unsafe(no_mangle)]
 pub extern "C" fn h263rps_raw_sender_known(slot: &mut Slot, count: &mut u32) -> u32
     ensures result { result ≡ status_of (for_sender never slot.old.handle.inside) }
-    ensures same { slot.new.handle.inside ≡ slot.old.handle.inside }
-    ensures counts { slot.new.counted ≡ slot.old.counted }
+    ensures same { Stays slot.old slot.new }
     ensures uncounted { result ≢ 0 → count.new ≡ count.old }
     ensures steers { (p : Params) (first : ℕ) (past : List Steering)
         → HoldsSteered p first past slot.old.handle.inside → result ≡ 0

@@ -18,6 +18,7 @@ ghost use Rattle.h263rps_c.specs.Sending.{frame_of};
 ghost use Rattle.h263rps_c.specs.Steering.{Steering, next_after, run_after};
 ghost use Rattle.h263rps_c.specs.Steering as steering;
 ghost use Rattle.h263rps_c.specs.Slots.{fault_after, for_sender, never, start_refusal};
+ghost use Rattle.h263rps_c.specs.Stays.{Stays};
 ghost use Rattle.h263rps_c.specs.declared.refusals.Refusal.TheVariants as refusals;
 
 use crate::answers::{Made, Reply, Said};
@@ -39,8 +40,7 @@ pub extern "C" fn h263rps_raw_sender_start(
         → result ≡ status_of (start_refusal slot.old.handle.inside (params_of asked.now)) }
     ensures memory { result ≡ refusal_number refusals.NoMemory
         → start_refusal slot.old.handle.inside (params_of asked.now) ≡ None }
-    ensures same { result ≢ 0 → slot.new.handle.inside ≡ slot.old.handle.inside }
-    ensures counts { result ≢ 0 → slot.new.counted ≡ slot.old.counted }
+    ensures same { result ≢ 0 → Stays slot.old slot.new }
     ensures nothing { result ≡ 0 → slot.new.counted ≡ counts.none }
     ensures fault { fault.new
         ≡ fault_after slot.old.handle.inside (params_of asked.now) fault.old }
@@ -77,8 +77,7 @@ pub extern "C" fn h263rps_raw_sender_code(
 ) -> u32
     ensures result { result
         ≡ status_of (for_sender (code_refusal picture.now messages.now) slot.old.handle.inside) }
-    ensures same { result ≢ 0 → slot.new.handle.inside ≡ slot.old.handle.inside }
-    ensures counts { result ≢ 0 → slot.new.counted ≡ slot.old.counted }
+    ensures same { result ≢ 0 → Stays slot.old slot.new }
     ensures counted { result ≡ 0 → slot.new.counted ≡ counts.with_made made.new slot.old.counted }
     ensures unmade { result ≢ 0 → made.new ≡ made.old }
     ensures count { result ≡ 0 → made.new.packets ≡ length (packets_in slot.new.handle.inside) }
@@ -170,8 +169,7 @@ pub extern "C" fn h263rps_raw_sender_feedback(
     reply: &mut Reply,
 ) -> u32
     ensures result { result ≡ status_of (for_sender never slot.old.handle.inside) }
-    ensures same { result ≢ 0 → slot.new.handle.inside ≡ slot.old.handle.inside }
-    ensures counts { result ≢ 0 → slot.new.counted ≡ slot.old.counted }
+    ensures same { result ≢ 0 → Stays slot.old slot.new }
     ensures counted { result ≡ 0
         → slot.new.counted ≡ counts.with_reply reply.new slot.old.counted }
     ensures unanswered { result ≢ 0 → reply.new ≡ reply.old }
@@ -213,15 +211,14 @@ pub extern "C" fn h263rps_raw_sender_feedback(
 #[unsafe(no_mangle)]
 pub extern "C" fn h263rps_raw_sender_finish(alloc: Global, slot: &mut Slot) -> u32
     ensures result { result ≡ status_of (for_sender never slot.old.handle.inside) }
-    ensures same { result ≢ 0 → slot.new.handle.inside ≡ slot.old.handle.inside }
-    ensures counts { result ≢ 0 → slot.new.counted ≡ slot.old.counted }
+    ensures same { result ≢ 0 → Stays slot.old slot.new }
     ensures empty { result ≡ 0 → slot.new.handle.inside ≡ None }
     ensures nothing { result ≡ 0 → slot.new.counted ≡ counts.none }
 {
     if !slot.is_started() {
         return Refusal::NotStarted.number();
     }
-    if slot.handle.end_mut().is_receiver() {
+    if !slot.handle.end_mut().is_of(false) {
         return Refusal::OtherEnd.number();
     }
     let _end = taken(alloc, slot);

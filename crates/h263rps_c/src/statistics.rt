@@ -1,11 +1,29 @@
-//! What an end of C has counted since its start.
+//! What an end of C has counted since its start or its reset.
 ghost use Rattle.std.specs.Prelude.{◌≡◌, ◌≢◌};
 ghost use Rattle.h263rps_c.specs.Refusals.{status_of};
-ghost use Rattle.h263rps_c.specs.Slots.{for_receiver, for_sender, never};
+ghost use Rattle.h263rps_c.specs.Slots.{for_kind, for_receiver, for_sender, never};
+ghost use Rattle.h263rps_c.specs.Stays.{Stays};
 
 use crate::counting::Statistics;
 use crate::handles::Slot;
 use crate::refusals::{OK, Refusal};
+
+// What an end has counted: a receiver, or else a sender.
+fn counted_by(slot: &mut Slot, receiver: bool, statistics: &mut Statistics) -> u32
+    ensures result { result ≡ status_of (for_kind receiver slot.old.handle.inside) }
+    ensures same { Stays slot.old slot.new }
+    ensures untold { result ≢ 0 → statistics.new ≡ statistics.old }
+    ensures told { result ≡ 0 → statistics.new ≡ slot.old.counted }
+{
+    if !slot.is_started() {
+        return Refusal::NotStarted.number();
+    }
+    if !slot.handle.end_mut().is_of(receiver) {
+        return Refusal::OtherEnd.number();
+    }
+    *statistics = slot.counted;
+    OK
+}
 
 /// What a receiver has counted.
 #[unsafe(no_mangle)]
@@ -14,36 +32,20 @@ pub extern "C" fn h263rps_raw_receiver_statistics(
     statistics: &mut Statistics,
 ) -> u32
     ensures result { result ≡ status_of (for_receiver never slot.old.handle.inside) }
-    ensures same { slot.new.handle.inside ≡ slot.old.handle.inside }
-    ensures counts { slot.new.counted ≡ slot.old.counted }
+    ensures same { Stays slot.old slot.new }
     ensures untold { result ≢ 0 → statistics.new ≡ statistics.old }
     ensures told { result ≡ 0 → statistics.new ≡ slot.old.counted }
 {
-    if !slot.is_started() {
-        return Refusal::NotStarted.number();
-    }
-    if !slot.handle.end_mut().is_receiver() {
-        return Refusal::OtherEnd.number();
-    }
-    *statistics = slot.counted;
-    OK
+    counted_by(slot, true, statistics)
 }
 
 /// What a sender has counted.
 #[unsafe(no_mangle)]
 pub extern "C" fn h263rps_raw_sender_statistics(slot: &mut Slot, statistics: &mut Statistics) -> u32
     ensures result { result ≡ status_of (for_sender never slot.old.handle.inside) }
-    ensures same { slot.new.handle.inside ≡ slot.old.handle.inside }
-    ensures counts { slot.new.counted ≡ slot.old.counted }
+    ensures same { Stays slot.old slot.new }
     ensures untold { result ≢ 0 → statistics.new ≡ statistics.old }
     ensures told { result ≡ 0 → statistics.new ≡ slot.old.counted }
 {
-    if !slot.is_started() {
-        return Refusal::NotStarted.number();
-    }
-    if slot.handle.end_mut().is_receiver() {
-        return Refusal::OtherEnd.number();
-    }
-    *statistics = slot.counted;
-    OK
+    counted_by(slot, false, statistics)
 }

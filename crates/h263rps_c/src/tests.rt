@@ -207,54 +207,33 @@ fn starts(alloc: Global, asked: &Asked) -> [u32; 3] {
     [sender, receiver, fault]
 }
 
+// Parameters whose first fault is the one of this number. With two at once the size comes first.
+fn faulty(fault: u32) -> Asked {
+    let mut asked = ASKED;
+    match fault {
+        1 => asked.quant = 32,
+        2 => asked.keep = 0,
+        3 => asked.radius = 16,
+        4 => asked.limit = 9001,
+        5 => asked.slots = 65,
+        6 => asked.lead = 15,
+        7 => asked.messages = 0,
+        8 => asked.format = 4,
+        9 => asked.clock = 2,
+        10 => asked.target = 1_000_000,
+        _ => {
+            asked.size = 28;
+            asked.format = 4;
+        }
+    }
+    asked
+}
+
 #[test]
 fn parameters(rt: HostRuntime) {
-    let faults = [
-        (
-            Asked {
-                size: 28,
-                format: 4,
-                ..ASKED
-            },
-            12,
-        ),
-        (Asked { quant: 32, ..ASKED }, 1),
-        (Asked { keep: 0, ..ASKED }, 2),
-        (
-            Asked {
-                radius: 16,
-                ..ASKED
-            },
-            3,
-        ),
-        (
-            Asked {
-                limit: 9001,
-                ..ASKED
-            },
-            4,
-        ),
-        (Asked { slots: 65, ..ASKED }, 5),
-        (Asked { lead: 15, ..ASKED }, 6),
-        (
-            Asked {
-                messages: 0,
-                ..ASKED
-            },
-            7,
-        ),
-        (Asked { format: 4, ..ASKED }, 8),
-        (Asked { clock: 2, ..ASKED }, 9),
-        (
-            Asked {
-                target: 1_000_000,
-                ..ASKED
-            },
-            10,
-        ),
-    ];
-    for (asked, fault) in faults {
-        assert_eq!(rt; starts(rt.alloc(), &asked), [4, 4, fault], "{fault}");
+    for fault in [1, 2, 3, 4, 5, 6, 7, 8, 9, 10, 12] {
+        let answers = starts(rt.alloc(), &faulty(fault));
+        assert_eq!(rt; answers, [4, 4, fault], "{fault}");
     }
     let mut asked = Asked { quant: 0, ..ASKED };
     assert_eq!(rt; h263rps_raw_defaults(0, &mut asked), 4);
@@ -271,7 +250,7 @@ fn parameters(rt: HostRuntime) {
 }
 
 // A picture of a sender goes to a receiver: whether anything is refused, what its last packet is
-// answered, how it is shown, and whether it is intra. A wrong reference is a refusal, too.
+// answered, how it is shown, and whether it is intra. A wrong number or reference is a refusal, too.
 fn sent(sender: &mut Slot, receiver: &mut Slot, picture: &mut [u8]) -> [u32; 4] {
     let mut made = Made {
         number: 0,
@@ -295,7 +274,11 @@ fn sent(sender: &mut Slot, receiver: &mut Slot, picture: &mut [u8]) -> [u32; 4] 
     let said = &heard.message.bytes[..heard.message.length.min(5) as usize];
     refused |= h263rps_raw_sender_feedback(sender, said, &mut reply);
     let completed = heard.kind;
+    let number = heard.number;
     refused |= h263rps_raw_receiver_play(receiver, picture, &mut heard);
+    if number != made.number || heard.number != made.number {
+        refused = 98;
+    }
     if heard.predicted == made.intra || heard.reference != made.reference {
         refused = 99;
     }

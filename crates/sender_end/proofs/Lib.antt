@@ -5,3 +5,4 @@ pub mod Storing
 pub mod Captured
 pub mod Noted
 pub mod Counted
+pub mod Beginning

@@ -1,38 +1,20 @@
 use Rattle.std.proofs.Common.{◌∙◌, sym, subst}
+use Rattle.sender_end.specs.Parts.{state_of}
 use Rattle.sender_end.specs.Stands.{Holds}
 use Rattle.sender_end.specs.State.{SenderState}
+use Rattle.sender_end.proofs.Beginning.{ready_as, seen_as}
 use Rattle.sender_end.proofs.sender.Sender.forget.Goals as goal
 
 pub invariant_of-self : goal.invariant_of-self
-invariant_of-self g c =
-    let ready = c.self.invariant in
-    record {
-      params = ready.params;
-      cutter_format = ready.cutter_format;
-      cutter_limit = ready.cutter_limit;
-      store_format = ready.store_format;
-      slots = ready.slots;
-      works = ready.works;
-      kept = ready.kept;
-      selects = ready.selects;
-      few = ready.few;
-      small = ready.small;
-    }
+invariant_of-self g c = let i = c.self.inside in ready_as i i.pace i.sent c.self.invariant
 
 pub returns-clause-holds : goal.returns-clause-holds
 returns-clause-holds g c = λ run held.
+    let i = c.self.inside in
     let was = subst (λ (x : SenderState g.row.P.Denot). Holds x run) (sym c.self.view_is) held in
-    let seen = was.seen in
     record {
       s = was.s;
-      seen = record {
-        sent = seen.sent;
-        sequence = seen.sequence;
-        packets = seen.packets;
-        sizes = seen.sizes;
-        picture = seen.picture;
-        selects = seen.selects;
-      };
-      since = sym seen.sent ∙ was.holds.keeps.sent;
+      seen = seen_as (state_of i) i.pace i.sent was.s was.seen;
+      since = sym was.seen.sent ∙ was.holds.keeps.sent;
       holds = was.holds;
     }
