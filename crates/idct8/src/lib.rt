@@ -29,5 +29,5 @@ mod two_passes;
 pub use lines::{inverse_of_column, inverse_of_row};
 pub use narrow::{inverse_by_rows, narrow_inverse};
 pub use sixteenths::nearly;
-pub use small::are_below;
+pub use small::{are_below, sum_of_squares};
 pub use two_passes::{forward, inverse};

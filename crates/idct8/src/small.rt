@@ -3,15 +3,16 @@
 //! one of four parts of the block, which is folded across and down, with or without a change of
 //! sign; and but for its rounding the square of a coefficient is at most a quarter of the sum of
 //! squares of its part.
-ghost use Rattle.std.specs.Prelude.{◌≡◌, ℕ, ◌+◌, ◌-◌, ◌<◌, ◌≤◌, All, IsTrue, pos, ◌+ℤ◌, ◌-ℤ◌, unsigned_abs};
+ghost use Rattle.std.specs.Prelude.{◌≡◌, ℕ, ◌+◌, ◌-◌, ◌<◌, ◌≤◌, All, IsTrue, pos, ◌+ℤ◌, ◌-ℤ◌, ◌≤ℤ◌, slice_index_or, unsigned_abs};
 ghost use Rattle.idct8.specs.Ranges.{IsSample};
+ghost use Rattle.idct8.specs.Sums.{total};
 ghost use Rattle.idct8.specs.Transform.{entry, forward_at};
 ghost use Rattle.idct8.specs.Vectors.{lane, EightWithin, RowsWithin, row_at, square};
 
 use crate::passes::{Row, Rows};
 use crate::terms::pair;
 use crate::turns::transposed;
-use crate::two_passes::row;
+use crate::two_passes::{row, rows};
 use std::simd::prelude::*;
 
 /// Whether a quick test shows that no coefficient of a block of samples, or of their differences,
@@ -25,6 +26,52 @@ pub fn are_below(samples: &[i16; 64], least: u32) -> bool
     let (sums, differences) = squares_across(folded(samples));
     let largest = larger_half(sums).max(larger_half(differences));
     largest + 4 * least + 4 < 4 * least * least
+}
+
+/// The sum of the squares of a block of samples, or of their differences.
+pub fn sum_of_squares(samples: &[i16; 64]) -> u32
+    requires { All IsSample samples.now }
+    ensures sum { result ≡ total 64 (λ k. square (slice_index_or samples.now k (pos 0))) }
+    ensures most { result ≤ 4161600 }
+{
+    sum_of_lanes(squares_down(rows(samples)))
+}
+
+// The squares of each column of a block of samples, added up.
+#[inline(always)]
+fn squares_down(r: Rows) -> i32x8
+    requires { RowsWithin 255 r }
+    ensures value { (i : ℕ) → i < 8 → lane result i
+        ≡ pos (square (lane (row_at r 0) i) + square (lane (row_at r 1) i)
+        + square (lane (row_at r 2) i) + square (lane (row_at r 3) i)
+        + (square (lane (row_at r 4) i) + square (lane (row_at r 5) i)
+        + square (lane (row_at r 6) i) + square (lane (row_at r 7) i))) }
+    ensures size { EightWithin 520200 result }
+{
+    squares_of_four(r[0].lanes, r[1].lanes, r[2].lanes, r[3].lanes)
+        + squares_of_four(r[4].lanes, r[5].lanes, r[6].lanes, r[7].lanes)
+}
+
+// The sum of eight numbers, of which none is below 0.
+#[inline(always)]
+fn sum_of_lanes(v: i32x8) -> u32
+    requires size { EightWithin 520200 v }
+    requires up { (i : ℕ) → i < 8 → pos 0 ≤ℤ lane v i }
+    ensures sum { result ≡ unsigned_abs (lane v 0)
+        + unsigned_abs (lane v 1) + unsigned_abs (lane v 2) + unsigned_abs (lane v 3)
+        + unsigned_abs (lane v 4) + unsigned_abs (lane v 5) + unsigned_abs (lane v 6)
+        + unsigned_abs (lane v 7) }
+    ensures most { result ≤ 4161600 }
+{
+    let n = v.to_array();
+    n[0] as u32
+        + n[1] as u32
+        + n[2] as u32
+        + n[3] as u32
+        + n[4] as u32
+        + n[5] as u32
+        + n[6] as u32
+        + n[7] as u32
 }
 
 // The sums and the differences of two vectors of samples, or of their differences.
