@@ -1,10 +1,8 @@
 //! The levels of what a prediction leaves of a block.
-ghost use Rattle.std.specs.Prelude.{◌≡◌, ℕ, ◌*◌, ◌≤◌, All, IsTrue, pos, slice_index_or, unsigned_abs};
+ghost use Rattle.std.specs.Prelude.{◌≡◌, ℕ, All, IsTrue, pos};
 ghost use Rattle.h263_types.specs.Blocks.{IsQuant};
 ghost use Rattle.h263_types.specs.Marks.{marks_of};
 ghost use Rattle.idct8.specs.Ranges.{IsSample};
-ghost use Rattle.idct8.specs.Sums.{total};
-ghost use Rattle.idct8.specs.Vectors.{square};
 ghost use Rattle.quantiser.specs.Factors.{IsFactor};
 ghost use Rattle.quantiser.specs.Levels.{inter_level};
 ghost use Rattle.mode_choice.specs.Choice as choice;
@@ -13,7 +11,7 @@ ghost use Rattle.mode_choice.specs.Walk.{zero_block};
 use crate::coefficients::{Coding, Quantisation, least_size};
 use crate::transformed::transformed;
 use h263_types::Block;
-use idct8::{are_below, laws as idct8_laws};
+use idct8::{are_below, laws as idct8_laws, sum_of_squares};
 
 // Puts the levels of a block of residuals into a block of zeros, and gives their marks.
 pub(crate) fn residual_block(
@@ -56,31 +54,6 @@ fn are_small(quant: u8, residuals: &[i16; 64]) -> bool
     } else {
         false
     }
-}
-
-// The sum of the squares of the residuals.
-#[inline(always)]
-fn sum_of_squares(residuals: &[i16; 64]) -> u32
-    requires { All IsSample residuals.now }
-    ensures sum { result ≡ total 64 (λ k. square (slice_index_or residuals.now k (pos 0))) }
-    ensures most { result ≤ 4161600 }
-{
-    let mut squares = 0;
-    for k in 0..64 {
-        squares += square(residuals[k]);
-    }
-    squares
-}
-
-// The square of a residual.
-#[inline(always)]
-fn square(residual: i16) -> u32
-    requires { IsSample residual }
-    ensures square { result ≡ unsigned_abs residual * unsigned_abs residual }
-    ensures most { result ≤ 65025 }
-{
-    let residual = i32::from(residual);
-    (residual * residual) as u32
 }
 
 // Whether no level of the blocks is left.

@@ -1,7 +1,7 @@
 use Rattle.std.proofs.Common.{◌≡◌, ℕ, ◌+◌, ◌*◌, ◌^◌, ◌<◌, ◌∙◌, List, ℤ, pos, length, slice_index_or, ap, arith, lit≤}
 use Rattle.h263_types.specs.Blocks.{IsValue}
 use Rattle.idct8.specs.Transform.{entry}
-use Rattle.idct8.specs.Vectors.{lane, EightWithin}
+use Rattle.idct8.specs.Vectors.{EightWithin}
 use Rattle.idct8.proofs.Factors.{within_same}
 use Rattle.idct8.proofs.Results.{value_within}
 use Rattle.idct8.proofs.Vectors.{passed_lane16, passed_within16}

@@ -1,4 +1,4 @@
-use Rattle.std.proofs.Common.{◌+◌, ◌*◌, ◌≡◌, ◌∙◌, ap, lit≤, ℤ, ℕ, ◌<◌, pos, ◌*ℤ◌, map, w16, to_z, of_z}
+use Rattle.std.proofs.Common.{◌∙◌, ap, lit≤, ℤ, pos, ◌*ℤ◌, map, w16, to_z, of_z}
 use Rattle.idct8.specs.Passes.{factor}
 use Rattle.idct8.specs.Transform.{entry, rounded}
 use Rattle.idct8.specs.Vectors.{lane}

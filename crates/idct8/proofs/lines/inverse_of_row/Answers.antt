@@ -1,7 +1,5 @@
-use Rattle.std.proofs.Common.{◌+◌, ◌*◌, ◌≡◌, ◌∙◌, ap, lit≤, ℤ, ℕ, ◌<◌, pos, ◌*ℤ◌, map, w16, to_z, of_z}
-use Rattle.idct8.specs.Passes.{factor}
-use Rattle.idct8.specs.Transform.{entry, rounded}
-use Rattle.idct8.specs.Vectors.{lane}
+use Rattle.std.proofs.Common.{◌∙◌, ap, lit≤, ℤ, pos, ◌*ℤ◌, map, w16, to_z, of_z}
+use Rattle.idct8.specs.Transform.{rounded}
 use Rattle.idct8.specs.declared.passes.Direction.TheVariants.{Inverse}
 use Rattle.idct8.proofs.Alone.{row_alone}
 use Rattle.idct8.proofs.Factors.{within_same}

@@ -1,4 +1,4 @@
-use Rattle.std.proofs.Common.{◌+◌, ◌*◌, ◌≡◌, ◌<◌, ◌∙◌, ℕ, ℤ, List, pos, ◌+ℤ◌, ◌*ℤ◌, ap, sym}
+use Rattle.std.proofs.Common.{◌≡◌, ◌<◌, ◌∙◌, ℕ, ℤ, List, pos, ◌+ℤ◌, ◌*ℤ◌, ap, sym}
 use Rattle.idct8.specs.declared.passes.Direction.TheVariants.{Inverse}
 use Rattle.idct8.specs.declared.passes.Row.{Row}
 use Rattle.idct8.specs.Vectors.{lane, list_at, row_at, sum_at}
