@@ -44,14 +44,14 @@ impl LogCommand for Auditing {
     }
 
     fn start<D: Desk>(alloc: Global, setup: &Params, _desk: &mut D) -> Result<Auditing, Status> {
-        desk_program_laws::of_turns();
+        desk_program_laws::turn_laws();
         Ok(Auditing {
             audit: stream_audit::Audit::start(alloc, setup)?,
         })
     }
 
     fn packet<D: Desk>(&mut self, _desk: &mut D, bytes: &[u8]) -> Result<(), Status> {
-        desk_program_laws::of_turns();
+        desk_program_laws::turn_laws();
         self.audit.packet(bytes);
         Ok(())
     }
@@ -63,7 +63,7 @@ impl LogCommand for Auditing {
 
     // A message that had arrived.
     fn other<D: Desk>(&mut self, _desk: &mut D, bytes: &[u8]) -> Result<(), Status> {
-        desk_program_laws::of_turns();
+        desk_program_laws::turn_laws();
         self.audit.feedback(bytes);
         Ok(())
     }

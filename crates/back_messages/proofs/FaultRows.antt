@@ -326,9 +326,9 @@ field_small : (f : First) (bits : List Bool) → Holds bits f → number bits < 
 field_small f bits h = number_small 24 bits (holds_length f bits h)
 
 -- right fields of a long message, and a fault of its flags
-behind_first : (clock : Clock) (f : First) (bits left : List Bool) (kind : FaultKind) → Holds bits f → IsRight clock true f → Faults flags [] left kind → Faults (message clock) bits left kind
+after_first : (clock : Clock) (f : First) (bits left : List Bool) (kind : FaultKind) → Holds bits f → IsRight clock true f → Faults flags [] left kind → Faults (message clock) bits left kind
 unfolding message Faults
-behind_first clock f bits left kind h right g =
+after_first clock f bits left kind h right g =
     let long : (f.urf == 1) ≡ true = eq-eqb f.urf 1 right.urf_is in
     let is : is_long (number bits) ≡ true = is_urf f bits h ∙ long in
     let free : allowed_message clock (number bits) ≡ None =
@@ -356,9 +356,9 @@ from_field clock bits kind place (refused f front rest d parts h first) =
     let text : bits ≡ spelled 24 (number front) ++ rest = parts ∙ ap (λ (t : List Bool). t ++ rest) (field_text f front h) in
     ([], bits, refl, refl, inl (refl, inr (number front, rest, field_small f front h, text, fault)))
 from_field clock bits kind place (cut_flags f front rest parts h right lt) =
-    (front, rest, parts, holds_length f front h, behind_first clock f front rest faults.Ended h right (flags_cut rest lt))
+    (front, rest, parts, holds_length f front h, after_first clock f front rest faults.Ended h right (flags_cut rest lt))
 from_field clock bits kind place (refused_flags f first second front middle rest parts h right two none) =
-    (front, middle ++ rest, parts, holds_length f front h, behind_first clock f front (middle ++ rest) faults.Messages h right (flags_refused middle rest first second two none))
+    (front, middle ++ rest, parts, holds_length f front h, after_first clock f front (middle ++ rest) faults.Messages h right (flags_refused middle rest first second two none))
 
 -- the fields of a number of 24 bits
 first_at : (n : ℕ) → AreFirst (spelled 24 n)

@@ -8,7 +8,7 @@ use Rattle.h263_bits.specs.declared.fault.FaultKind.TheVariants as faults
 use Rattle.h263_bits.specs.Bits.{spelled, fields}
 use Rattle.h263_bits.specs.Syntax.{Spells, any, again}
 use Rattle.h263_bits.specs.Elements.{HasFault}
-use Rattle.h263_bits.proofs.SyntaxLaws.{first_fault_is, fault_here, fault_in_part, fault_behind_part, fault_of_whole_part, fault_in_turn, fault_behind_turn, spells_field, spells_done}
+use Rattle.h263_bits.proofs.SyntaxLaws.{first_fault_is, fault_here, fault_in_part, fault_after_part, fault_of_whole_part, fault_in_turn, fault_after_turn, spells_field, spells_done}
 use Rattle.code_tables.specs.Laws.{TableLaws}
 use Rattle.code_tables.specs.Tables.{Coefficient, event}
 use Rattle.block_layer.specs.Text.{allowed_place, placed, after_event, event_turn, events, allowed_dc, dc_of, no_levels, intra_dc, intra_block, inter_block}
@@ -29,11 +29,11 @@ dc_spelt : (code : ℕ) → code < 256 → allowed_dc code ≡ None → Spells i
 unfolding intra_dc
 dc_spelt code lt good = spells_field 8 allowed_dc _ (slice_set no_levels 0 (dc_of code)) code [] lt good (spells_done (slice_set no_levels 0 (dc_of code)))
 
-behind_dc : (code : ℕ) (text : List Bool) (kind : FaultKind) (place : ℕ) → code < 256 → (code ≡ 0 → ⊥) → (code ≡ 128 → ⊥)
+after_dc : (code : ℕ) (text : List Bool) (kind : FaultKind) (place : ℕ) → code < 256 → (code ≡ 0 → ⊥) → (code ≡ 128 → ⊥)
     → HasFault (events 1 (slice_set no_levels 0 (dc_of code))) text kind place → HasFault (intra_block true) (fields ((8, code) ∷ []) ++ text) kind (8 + place)
 unfolding intra_block spelled
-behind_dc code text kind place lt zero middle h =
-    fault_behind_part intra_dc any _ (slice_set no_levels 0 (dc_of code)) (fields ((8, code) ∷ [])) text kind place dc_productive (dc_spelt code lt (good_dc code zero middle)) refl h
+after_dc code text kind place lt zero middle h =
+    fault_after_part intra_dc any _ (slice_set no_levels 0 (dc_of code)) (fields ((8, code) ∷ [])) text kind place dc_productive (dc_spelt code lt (good_dc code zero middle)) refl h
 
 inter_row : (text : List Bool) (kind : FaultKind) (place : ℕ) → HasFault (events 0 no_levels) text kind place → HasFault inter_block text kind place
 unfolding inter_block
@@ -43,7 +43,7 @@ dc_faults : DcFaults
 dc_faults = record {
   code_0 = λ coded. dc_row coded 0 (omega arith) refl;
   code_128 = λ coded. dc_row coded 128 (omega arith) refl;
-  behind = behind_dc;
+  after = after_dc;
   inter = inter_row;
 }
 
@@ -77,11 +77,11 @@ turn_spelt from levels e front spelt lt last =
     let on : again (at_place (from + e.run + 1) (slice_set levels (from + e.run) e.level)) ≡ after_event levels (next (from + e.run) e.level e.last) = rw last refl in
     (next (from + e.run) e.level e.last, front, [], sym (append-nil front), (e, front, [], sym (append-nil front), spelt, inside from e lt, (refl, refl)), refl, (on, refl))
 
-behind_row : TableLaws → (from : ℕ) (levels : List ℤ) (e : Coefficient) (front text : List Bool) (kind : FaultKind) (place : ℕ) → Spells event e front → from + e.run < 64 → e.last ≡ false
+after_row : TableLaws → (from : ℕ) (levels : List ℤ) (e : Coefficient) (front text : List Bool) (kind : FaultKind) (place : ℕ) → Spells event e front → from + e.run < 64 → e.last ≡ false
     → HasFault (events (from + e.run + 1) (slice_set levels (from + e.run) e.level)) text kind place → HasFault (events from levels) (front ++ text) kind (length front + place)
 unfolding events
-behind_row tables from levels e front text kind place spelt lt last h =
-    fault_behind_turn (at_place from levels) (at_place (from + e.run + 1) (slice_set levels (from + e.run) e.level)) event_turn front text kind place (turn_productive tables (at_place from levels)) turn_some (turn_spelt from levels e front spelt lt last) h
+after_row tables from levels e front text kind place spelt lt last h =
+    fault_after_turn (at_place from levels) (at_place (from + e.run + 1) (slice_set levels (from + e.run) e.level)) event_turn front text kind place (turn_productive tables (at_place from levels)) turn_some (turn_spelt from levels e front spelt lt last) h
 
 pub block_faults : TableLaws → BlockFaults
 block_faults tables = record {
@@ -90,5 +90,5 @@ block_faults tables = record {
     inter = λ b fault. first_fault_is inter_block b fault (inter_productive tables);
   };
   dc = dc_faults;
-  events = record { of_event = event_row; past = past_row tables; behind = behind_row tables };
+  events = record { of_event = event_row; past = past_row tables; after = after_row tables };
 }

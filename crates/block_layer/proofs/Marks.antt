@@ -16,24 +16,24 @@ use Rattle.block_layer.proofs.Steps.{left_text}
 
 -- ---- after the first ones
 
-one_behind : (b : Bool) (n : ℕ) → (cond b 1 0 + 2 * n) / 2 ≡ n
-one_behind true n = omega arith
-one_behind false n = omega arith
+one_after : (b : Bool) (n : ℕ) → (cond b 1 0 + 2 * n) / 2 ≡ n
+one_after true n = omega arith
+one_after false n = omega arith
 
-pub behind_one : (z : ℤ) (levels : List ℤ) → marks_of (z ∷ levels) / 2 ≡ marks_of levels
+pub after_one : (z : ℤ) (levels : List ℤ) → marks_of (z ∷ levels) / 2 ≡ marks_of levels
 unfolding marks_of
-behind_one z levels = one_behind (not (is_zero z)) (marks_of levels)
+after_one z levels = one_after (not (is_zero z)) (marks_of levels)
 
 -- a shift leaves the marks of the levels after the first k
-pub behind : (k : ℕ) (levels : List ℤ) → marks_of levels / 2 ^ k ≡ marks_of (drop k levels)
+pub marks_after : (k : ℕ) (levels : List ℤ) → marks_of levels / 2 ^ k ≡ marks_of (drop k levels)
 unfolding marks_of
-behind zero levels = omega arith
-behind (suc k) [] = zero-div (2 ^ suc k)
-behind (suc k) (z ∷ levels) =
+marks_after zero levels = omega arith
+marks_after (suc k) [] = zero-div (2 ^ suc k)
+marks_after (suc k) (z ∷ levels) =
     ap (λ (n : ℕ). marks_of (z ∷ levels) / n) (pow-succ' 2 k)
     ∙ sym (div-div-eq-div-mul (marks_of (z ∷ levels)) 2 (2 ^ k))
-    ∙ ap (λ (n : ℕ). n / 2 ^ k) (behind_one z levels)
-    ∙ behind k levels
+    ∙ ap (λ (n : ℕ). n / 2 ^ k) (after_one z levels)
+    ∙ marks_after k levels
 
 -- there is no mark where no level is left
 twice : (n : ℕ) → eqb (0 + 2 * n) 0 ≡ eqb n 0
@@ -121,8 +121,8 @@ module _ (place run left : ℕ) (levels : List ℤ) (long : length levels ≡ 64
   marked : left / 2 ^ run / 2 ≡ marks_of (drop (place + run + 1) levels)
   marked =
       ap (λ (n : ℕ). n / 2 ^ run / 2) marks
-      ∙ ap (λ (n : ℕ). n / 2) (behind run (drop place levels))
-      ∙ behind 1 (drop run (drop place levels))
+      ∙ ap (λ (n : ℕ). n / 2) (marks_after run (drop place levels))
+      ∙ marks_after 1 (drop run (drop place levels))
       ∙ ap (λ (l : List ℤ). marks_of l) (drop-drop 1 run (drop place levels) ∙ ap (λ (n : ℕ). drop n (drop place levels)) (add-one run) ∙ rest_is)
 
   last : eqb (left / 2 ^ run / 2) 0 ≡ none_left (drop (place + run + 1) levels)

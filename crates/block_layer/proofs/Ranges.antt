@@ -176,14 +176,14 @@ dc_within levels text h = subst (λ (l : List ℤ). AreAll IsPlaced l) (sym h.5.
     at zero = is_dc_of h.0 h.2 h.3
     at (suc k) = zeros_within 63 k
 
-behind_dc : (k : ℕ) (z : ℤ) → 1 ≤ k → IsLevel z → IsPlaced k z
+after_dc : (k : ℕ) (z : ℤ) → 1 ≤ k → IsLevel z → IsPlaced k z
 unfolding IsPlaced
-behind_dc zero z after level = absurd (omega arith)
-behind_dc (suc k) z after level = level
+after_dc zero z after level = absurd (omega arith)
+after_dc (suc k) z after level = level
 
 either_within : (coded : Bool) (levels out : List ℤ) (text : List Bool) → AreAll IsPlaced levels → Spells (either coded (events 1 levels) (done levels)) out text → AreAll IsPlaced out
 unfolding Spells
-either_within true levels out text all h = events_within IsPlaced 1 behind_dc levels out text all h
+either_within true levels out text all h = events_within IsPlaced 1 after_dc levels out text all h
 either_within false levels out text all h = subst (λ (l : List ℤ). AreAll IsPlaced l) (sym h.0) all
 
 placed_level : (k : ℕ) (z : ℤ) → 1 ≤ k → IsPlaced k z → IsLevel z

@@ -71,30 +71,30 @@ dc_spelt z is =
 
 -- ---- whole blocks
 
-events_behind : TableLaws → (z : ℤ) (rest : List ℤ) → length rest ≡ 63 → none_left rest ≡ false → ((k : ℕ) → IsWritten (level_at rest k)) → Spells (events 1 (alone z)) (z ∷ rest) (levels_text 1 (z ∷ rest))
+events_after : TableLaws → (z : ℤ) (rest : List ℤ) → length rest ≡ 63 → none_left rest ≡ false → ((k : ℕ) → IsWritten (level_at rest k)) → Spells (events 1 (alone z)) (z ∷ rest) (levels_text 1 (z ∷ rest))
 unfolding events levels_text alone
-events_behind tables z rest long some range =
+events_after tables z rest long some range =
     subst (λ (n : ℕ). Spells (repeat (at_place 1 (z ∷ replicate n (pos 0))) event_turn) (z ∷ rest) (levels_text 1 (z ∷ rest))) long
     (events_spelt tables (z ∷ []) rest 1 0 refl (omega arith) some range)
 
-nothing_behind : (z : ℤ) (rest : List ℤ) → length rest ≡ 63 → none_left rest ≡ true → z ∷ rest ≡ alone z
+nothing_after : (z : ℤ) (rest : List ℤ) → length rest ≡ 63 → none_left rest ≡ true → z ∷ rest ≡ alone z
 unfolding alone
-nothing_behind z rest long none = ap (λ (l : List ℤ). z ∷ l) (all_zeros rest none ∙ ap (λ (n : ℕ). replicate n (pos 0)) long)
+nothing_after z rest long none = ap (λ (l : List ℤ). z ∷ l) (all_zeros rest none ∙ ap (λ (n : ℕ). replicate n (pos 0)) long)
 
-behind_spelt : TableLaws → (z : ℤ) (rest : List ℤ) → length rest ≡ 63 → ((k : ℕ) → IsWritten (level_at rest k))
+after_spelt : TableLaws → (z : ℤ) (rest : List ℤ) → length rest ≡ 63 → ((k : ℕ) → IsWritten (level_at rest k))
     → Spells (either (is_coded (z ∷ rest)) (events 1 (alone z)) (done (alone z))) (z ∷ rest) (coded_text (z ∷ rest))
-behind_spelt tables z rest long range = at (none_left rest) refl
+after_spelt tables z rest long range = at (none_left rest) refl
   where
     at : (t : Bool) → none_left rest ≡ t → Spells (either (not t) (events 1 (alone z)) (done (alone z))) (z ∷ rest) (cond (not t) (levels_text 1 (z ∷ rest)) [])
     at true none =
-        let same : z ∷ rest ≡ alone z = nothing_behind z rest long none in
+        let same : z ∷ rest ≡ alone z = nothing_after z rest long none in
         subst (λ (l : List ℤ). Spells (done l) (z ∷ rest) []) same (spells_done (z ∷ rest))
-    at false some = events_behind tables z rest long some range
+    at false some = events_after tables z rest long some range
 
 intra_at : TableLaws → (z : ℤ) (rest : List ℤ) → length rest ≡ 63 → IsDc z → ((k : ℕ) → IsWritten (level_at rest k)) → Spells (intra_block (is_coded (z ∷ rest))) (z ∷ rest) (intra_text (z ∷ rest))
 unfolding intra_block intra_text
 intra_at tables z rest long dc range =
-    spells_part intra_dc any (λ levels. either (is_coded (z ∷ rest)) (events 1 levels) (done levels)) (z ∷ rest) (alone z) (spelled 8 (dc_code z)) (coded_text (z ∷ rest)) (dc_spelt z dc) refl (behind_spelt tables z rest long range)
+    spells_part intra_dc any (λ levels. either (is_coded (z ∷ rest)) (events 1 levels) (done levels)) (z ∷ rest) (alone z) (spelled 8 (dc_code z)) (coded_text (z ∷ rest)) (dc_spelt z dc) refl (after_spelt tables z rest long range)
 
 pub intra_written : TableLaws → (b : Block) → length b.levels ≡ 64 → IsIntraBlock b → Spells (intra_block (is_coded b.levels)) b.levels (intra_text b.levels)
 intra_written tables b long is = at b.levels long is.dc is.levels

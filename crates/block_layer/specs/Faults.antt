@@ -20,7 +20,7 @@ pub record AreFirst : Type 0 where
 pub record DcFaults : Type 0 where
   pub code_0 : (coded : Bool) → HasFault (intra_block coded) (fields ((8, 0) ∷ [])) faults.BadDc 0
   pub code_128 : (coded : Bool) → HasFault (intra_block coded) (fields ((8, 128) ∷ [])) faults.BadDc 0
-  pub behind : (code : ℕ) (text : List Bool) (kind : FaultKind) (place : ℕ)
+  pub after : (code : ℕ) (text : List Bool) (kind : FaultKind) (place : ℕ)
       → code < 256 → (code ≡ 0 → ⊥) → (code ≡ 128 → ⊥)
       → HasFault (events 1 (slice_set no_levels 0 (dc_of code))) text kind place
       → HasFault (intra_block true) (fields ((8, code) ∷ []) ++ text) kind (8 + place)
@@ -35,7 +35,7 @@ pub record EventFaults : Type 0 where
   pub past : (from : ℕ) (levels : List ℤ) (e : Coefficient) (text : List Bool) → Spells event e text
       → 64 ≤ from + e.run → HasFault (events from levels) text faults.PastEnd 0
   -- after an event that isn't the last
-  pub behind : (from : ℕ) (levels : List ℤ) (e : Coefficient) (front text : List Bool)
+  pub after : (from : ℕ) (levels : List ℤ) (e : Coefficient) (front text : List Bool)
       (kind : FaultKind) (place : ℕ) → Spells event e front → from + e.run < 64 → e.last ≡ false
       → HasFault (events (from + e.run + 1) (slice_set levels (from + e.run) e.level)) text
       kind place → HasFault (events from levels) (front ++ text) kind (length front + place)

@@ -13,7 +13,7 @@ use Rattle.loss_trace.specs.declared.fault.TraceFault.TheVariants.{NoFrame}
 use Rattle.loss_trace.specs.Lines.{is_closed}
 use Rattle.call_report.specs.declared.status.Status.TheVariants.{TraceRefused, VideoRefused}
 use Rattle.call_report.specs.Status.{phase, video_stop}
-use Rattle.desk_program.specs.Run.{Step, behind, refusal}
+use Rattle.desk_program.specs.Run.{Step, left_after, refusal}
 use Rattle.desk_program.specs.Ends.{Tells, IsPart, Went, Ended, EndsBy, GivesUp, step_turns}
 use Rattle.desk_program.specs.Texts.{no_texts, of}
 use Rattle.desk_program.specs.Laws.{TurnLaws}
@@ -54,10 +54,10 @@ module _ (turns : TurnLaws) (laws : VideoLaws) (s : CallState) (inputs : Role �
   abbrev step : Step CallState
   step = capture_step s trace (inputs Video)
 
-  video_told : (k : ℕ) → mid.left Video ≡ Some (drop k (inputs Video)) → Tells mid (behind inputs (with_frame_bytes trace k))
+  video_told : (k : ℕ) → mid.left Video ≡ Some (drop k (inputs Video)) → Tells mid (left_after inputs (with_frame_bytes trace k))
   video_told k gone =
       turns.both_reads (of Events (line_size trace)) (of Video k) mid inputs
-      (turns.one_read Video k old mid (behind inputs (of Events (line_size trace))) taken.left gone others)
+      (turns.one_read Video k old mid (left_after inputs (of Events (line_size trace))) taken.left gone others)
 
   pub frame_stops : (stop : VideoStop) → Gives (Err stop) s (inputs Video) out reader (mid.left Video)
       → GivesUp (phase (video_stop stop)) (video_stop stop) step true inputs before mid
@@ -83,7 +83,7 @@ module _ (turns : TurnLaws) (laws : VideoLaws) (s : CallState) (inputs : Role �
     is = ap (capture_step s trace) e.0;
     by = subst (λ (n : ℕ). EndsBy (refused_line trace (NoFrame (s.lines + 1))) (TraceRefused (NoFrame n)) inputs before mid) (sym is)
         (refused_by turns (NoFrame (s.lines + 1)) inputs before mid (record {
-          left = turns.none_read Video old mid (behind inputs (of Events (line_size trace))) taken.left e.0 e.1 others;
+          left = turns.none_read Video old mid (left_after inputs (of Events (line_size trace))) taken.left e.0 e.1 others;
           written = same ∙ taken.written;
         }));
   }
@@ -96,7 +96,7 @@ module _ (turns : TurnLaws) (laws : VideoLaws) (s : CallState) (inputs : Role �
     abbrev sent : CallState
     sent = record (after_line (with_frame s (bare (picture_of s.params.format out))) trace) { at = s.at + size; more = s.more - 1 }
 
-    pub frame_sent : (stands : CallState → (Role → List ℕ) → Type 0) → stands sent (behind inputs (with_frame_bytes trace size))
+    pub frame_sent : (stands : CallState → (Role → List ℕ) → Type 0) → stands sent (left_after inputs (with_frame_bytes trace size))
         → Went step stands may_read true inputs before mid
     frame_sent stands kept = record {
       next = sent;

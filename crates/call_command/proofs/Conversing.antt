@@ -16,7 +16,7 @@ use Rattle.sender_end.specs.Stands as sender_end
 use Rattle.receiver_end.specs.State as receiver_end
 use Rattle.receiver_end.specs.declared.kept.Kept.{Kept}
 use Rattle.call_command.specs.declared.begun.Begun.{Begun}
-use Rattle.call_command.specs.declared.carrier.Carrier.{Carrier}
+use Rattle.call_command.specs.declared.link.Link.{Link}
 use Rattle.call_command.specs.declared.world.World.{World}
 use Rattle.call_command.specs.declared.terms.Terms.{Terms}
 use Rattle.one_way.specs.Both.{steady}
@@ -30,18 +30,18 @@ use Rattle.call_command.proofs.Counting.{ends_stand}
 use Rattle.call_command.proofs.Starting.{stands_first}
 
 -- what was begun, and what carries it
-abbrev pub parts_with : Begun → Carrier → Parts
-parts_with begun carrier =
+abbrev pub parts_with : Begun → Link → Parts
+parts_with begun link =
     record {
       terms = begun.terms;
       video = begun.video;
       sender = begun.both.sender;
       receiver = begun.both.receiver;
-      carrier = carrier;
+      link = link;
     }
 
 -- its parts stand
-pub lent_first : (x : Parts) (before : List ReceiverEntry) (inputs : Role → List ℕ) → WayLaws x.terms.params → IsFresh x.terms x.carrier
+pub lent_first : (x : Parts) (before : List ReceiverEntry) (inputs : Role → List ℕ) → WayLaws x.terms.params → IsFresh x.terms x.link
     → x.sender.params ≡ x.terms.params → sender_end.Stands (steady x.terms.params) x.sender [] → x.sender.sent ≡ 0
     → x.video.more ≡ 1048576 → x.receiver.params ≡ x.terms.params → x.receiver.played ≡ 0 → receiver_end.Stands x.receiver before
     → PartsStand x (first_state x.terms before x.video.at) inputs
@@ -50,15 +50,15 @@ lent_first x before inputs laws fresh sender_params sends sent more receiver_par
     (subst (λ (p : Params). (receiver_end.run_of p before).played ≡ 0) receiver_params (sym receives.played ∙ played))
 
 -- no frame and no line was read yet
-most_is : (x : Parts) → x.carrier.trace.lines ≡ 0 → x.video.more ≡ 1048576 → more_of x ≡ most_turns x.terms.plain
+most_is : (x : Parts) → x.link.trace.lines ≡ 0 → x.video.more ≡ 1048576 → more_of x ≡ most_turns x.terms.plain
 most_is x lines more = by_trace x.terms.plain
   where
-    by_trace : (plain : Bool) → (if plain then x.video.more else 16777216 - x.carrier.trace.lines) ≡ most_turns plain
+    by_trace : (plain : Bool) → (if plain then x.video.more else 16777216 - x.link.trace.lines) ≡ most_turns plain
     by_trace true = more
     by_trace false = ap (λ (n : ℕ). 16777216 - n) lines
 
 -- a run of the ideal call that is under way before the first event is one by both ends
-pub alone_under_way : (x : Parts) → x.carrier.trace.lines ≡ 0 → x.video.more ≡ 1048576
+pub alone_under_way : (x : Parts) → x.link.trace.lines ≡ 0 → x.video.more ≡ 1048576
     → ((rest : Role → List ℕ) → PartsStand x (first_state x.terms [] x.video.at) rest) → TalkIsTheCall x.terms
     → (run : Run) (inputs : Role → List ℕ) (start : Role → Option (List ℕ)) (now : Outside)
     → IsUnderWay call_step may_read run inputs start (IsFirst x.terms x.video.at) (most_turns x.terms.plain) now
@@ -82,7 +82,7 @@ alone_under_way x lines more kept talk run inputs start now u =
       written = u.written;
     }
 
-module _ (x : Parts) (before : List ReceiverEntry) (inputs : Role → List ℕ) (now : Outside) (lines : x.carrier.trace.lines ≡ 0) (more : x.video.more ≡ 1048576)
+module _ (x : Parts) (before : List ReceiverEntry) (inputs : Role → List ℕ) (now : Outside) (lines : x.link.trace.lines ≡ 0) (more : x.video.more ≡ 1048576)
     (kept : PartsStand x (first_state x.terms before x.video.at) inputs) (told : Tells now inputs) where
   abbrev first : CallState
   first = first_state x.terms before x.video.at

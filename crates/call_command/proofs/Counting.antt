@@ -56,7 +56,7 @@ done_now x s holds = subst (λ (l : List Frame). HasDone x s.before l s.past) (a
 
 -- the line of the counts is that of the state
 pub counts_are : (x : Parts) → WayLaws x.terms.params → (s : CallState) (inputs : Role → List ℕ) → PartsStand x s inputs
-    → counts_of x.carrier.network.way.tally x.receiver.played x.sender.sent ≡ call_text (by_ends (state_of x s.before s.frames s.past))
+    → counts_of x.link.network.way.tally x.receiver.played x.sender.sent ≡ call_text (by_ends (state_of x s.before s.frames s.past))
 counts_are x laws s inputs k =
     let h = (done_now x s k.holds).way_holds in
     let played = laws.played x.sender x.receiver s.before s.frames s.past h.joined in

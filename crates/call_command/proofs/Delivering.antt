@@ -26,20 +26,20 @@ use Rattle.call_command.specs.declared.world.World.{World}
 use Rattle.call_command.specs.Call.{CallState, after_line, by_ends, event_step, line_turn, may_read}
 use Rattle.call_command.specs.Standing.{HasDone, Parts, PartsReady, PartsStand, StoodBefore, more_of, parts_of}
 use Rattle.call_command.specs.Turning.{TakesLine, names_of}
-use Rattle.call_command.proofs.Behind.{done_here, event_goes, line_goes_on}
+use Rattle.call_command.proofs.AfterTurn.{done_here, event_goes, line_goes_on}
 use Rattle.call_command.proofs.Readying.{ready_so, recorded_keeps}
 
 -- the parts after a delivery
 abbrev pub with_network : Parts → Network → Kept → Parts
-with_network x network receiver = record x { receiver = receiver; carrier = record x.carrier { network = network } }
+with_network x network receiver = record x { receiver = receiver; link = record x.link { network = network } }
 
 module _ (x : Parts) (attached : Role → Bool) (r : PartsReady x attached) (recorded : x.terms.plain ≡ false) where
   -- the parts are as ready after it
-  pub ready_delivered : (network : Network) (receiver : Kept) → network.way ≡ x.carrier.network.way → receiver.played ≡ x.receiver.played
-      → said_of network.messages ≤ 400 * (x.carrier.trace.lines + x.sender.sent)
+  pub ready_delivered : (network : Network) (receiver : Kept) → network.way ≡ x.link.network.way → receiver.played ≡ x.receiver.played
+      → said_of network.messages ≤ 400 * (x.link.trace.lines + x.sender.sent)
       → PartsReady (with_network x network receiver) attached
   ready_delivered network receiver way played said =
-      ready_so x attached attached r refl x.video x.sender receiver (record x.carrier { network = network }) refl refl
+      ready_so x attached attached r refl x.video x.sender receiver (record x.link { network = network }) refl refl
       (subst (λ (w : Way). CanSend w x.sender) (sym way) r.can) (ap (λ (w : Way). period_of w.packets) way)
       r.sent (omega (arith, r.played, played)) (λ plain. absurd (cc (plain, recorded))) r.frame (λ plain. absurd (cc (plain, recorded)))
       (ap (λ (w : Way). total_of w.tally) way ∙ r.counted ∙ sym played) said
@@ -47,7 +47,7 @@ module _ (x : Parts) (attached : Role → Bool) (r : PartsReady x attached) (rec
   -- a packet that is not refused is among those that are kept, and near
   pub may_deliver : NearLaws x.terms.params → (s : CallState) (inputs : Role → List ℕ) → StoodBefore x s inputs → (later : List Frame) (n j : ℕ)
       → refusal_after x.terms.params s.before (s.frames ++ later) s.past (Deliver n j) ≡ None
-      → IsAmongLast x.carrier.network.way.packets (length (both_after x.terms.params (steady x.terms.params) (s.frames ++ later) s.before s.past).sender.coded) n
+      → IsAmongLast x.link.network.way.packets (length (both_after x.terms.params (steady x.terms.params) (s.frames ++ later) s.before s.past).sender.coded) n
       × MayHappenNow x.terms.params s.before (s.frames ++ later) s.past (Deliver n j)
   may_deliver near s inputs k later n j none =
       let p = x.terms.params in
@@ -76,6 +76,6 @@ delivered_goes_on m y line event said n j mid network receiver events is names s
     (λ o s inputs b.
     let k = b.stood in
     subst (λ (q : Parts). Went (event_step by_ends s inputs (inputs Events) said) (PartsStand q) may_read true inputs o mid) (sym same)
-    (event_goes x s inputs k x.sender receiver (record x.carrier { network = network }) refl refl turns o mid b.taken said (events s)
+    (event_goes x s inputs k x.sender receiver (record x.link { network = network }) refl refl turns o mid b.taken said (events s)
     (step s inputs k (none s s.frames k.begun (done_here x s inputs k)))
     (λ later. holds s inputs k later (may_deliver x mid.attached r recorded near s inputs k later n j (none s (s.frames ++ later) k.begun (k.holds later))))))

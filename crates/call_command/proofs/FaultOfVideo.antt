@@ -7,7 +7,7 @@ use Rattle.y4m.specs.declared.fault.Y4mFault.{Y4mFault}
 use Rattle.y4m.specs.Frame.{next_frame, frame_size}
 use Rattle.y4m.specs.Head.{head_of, head_size}
 use Rattle.y4m.specs.Laws.{FrameLaws}
-use Rattle.y4m.specs.Video.{fault_of, fault_behind, video_fault}
+use Rattle.y4m.specs.Video.{fault_of, fault_after_head, video_fault}
 use Rattle.loss_trace.specs.declared.event.Event.{Event as Line}
 use Rattle.loss_trace.specs.declared.event.Event.TheVariants as says
 use Rattle.loss_trace.specs.Lines.{first_line}
@@ -15,7 +15,7 @@ use Rattle.loss_trace.specs.Reading.{event_in}
 use Rattle.call_report.specs.declared.status.Status.TheVariants.{VideoRefused}
 use Rattle.call_model.specs.IdealCall.{Event, Send, Deliver, Play, Back}
 use Rattle.call_model.specs.Refusals.{Refusal}
-use Rattle.desk_program.specs.Run.{Run, Step, behind, follow, run_from, run_of, silence}
+use Rattle.desk_program.specs.Run.{Run, Step, left_after, follow, run_from, run_of, silence}
 use Rattle.desk_program.specs.Texts.{of, and_of}
 use Rattle.call_command.specs.declared.terms.Terms.{Terms}
 use Rattle.call_command.specs.Call.{CallState, by_call, call_begin, call_step, capture_step, captured_step, first_state, frame_step, head_step, line_size, line_step, most_turns, refusal_at, trace_step, unless, video_step, with_format}
@@ -30,16 +30,16 @@ module _ (frame_laws : FrameLaws) (fault : Y4mFault) where
 
   module _ (s : CallState) (inputs : Role → List ℕ) (rest : CallState → (Role → ℕ) → Run)
       (more : (next : CallState) (taken : Role → ℕ) → (rest next taken).last.status ≡ VideoRefused fault
-      → fault_of next.params.format next.more next.at (behind inputs taken Video) ≡ Some fault) where
+      → fault_of next.params.format next.more next.at (left_after inputs taken Video) ≡ Some fault) where
     abbrev Refuses : Step CallState → Type 0
     Refuses step = (follow step rest).last.status ≡ VideoRefused fault
 
     -- the fault stands after the first frame
-    behind_it : (b : ℕ) (v planes : List ℕ) → inputs Video ≡ b ∷ v → next_frame s.more s.params.format s.at (b ∷ v) ≡ Ok planes
+    after_it : (b : ℕ) (v planes : List ℕ) → inputs Video ≡ b ∷ v → next_frame s.more s.params.format s.at (b ∷ v) ≡ Ok planes
         → let size = frame_size s.params.format (b ∷ v) in
         fault_of s.params.format (s.more - 1) (s.at + size) (drop size (inputs Video)) ≡ Some fault
         → fault_of s.params.format s.more s.at (b ∷ v) ≡ Some fault
-    behind_it b v planes video is later =
+    after_it b v planes video is later =
         let f = s.params.format in
         let size = frame_size f (b ∷ v) in
         let e = frame_laws.next f s.more (s.more - 1) s.at (b ∷ v) planes (some_left s.more s.at f (b ∷ v) planes is) (omega arith) is in
@@ -55,7 +55,7 @@ module _ (frame_laws : FrameLaws) (fault : Y4mFault) where
     at_frame : (b : ℕ) (v : List ℕ) → inputs Video ≡ b ∷ v → (r : Result (List ℕ) Y4mFault) → next_frame s.more s.params.format s.at (b ∷ v) ≡ r
         → Refuses (frame_step by_call s (b ∷ v) r) → fault_of s.params.format s.more s.at (b ∷ v) ≡ Some fault
     at_frame b v video (Ok planes) is ends =
-        behind_it b v planes video is (more _ (of Video (frame_size s.params.format (b ∷ v))) ends)
+        after_it b v planes video is (more _ (of Video (frame_size s.params.format (b ∷ v))) ends)
     at_frame b v video (Err broken) is ends = at_fault b v broken is ends
 
     at_video : (video : List ℕ) → inputs Video ≡ video → Refuses (video_step by_call s video) → fault_of s.params.format s.more s.at video ≡ Some fault
@@ -71,7 +71,7 @@ module _ (frame_laws : FrameLaws) (fault : Y4mFault) where
           let f = s.params.format in
           let size = frame_size f (b ∷ v) in
           let taken : 0 + size ≡ size = omega arith in
-          behind_it b v planes video is
+          after_it b v planes video is
           (subst (λ (k : ℕ). fault_of f (s.more - 1) (s.at + size) (drop k (inputs Video)) ≡ Some fault) taken
           (more _ (and_of (of Events (line_size trace)) (of Video size)) ends))
       at_captured b v video (Err broken) is ends = at_fault b v broken is ends
@@ -118,7 +118,7 @@ module _ (frame_laws : FrameLaws) (fault : Y4mFault) where
   unfolding run_of
   run_refused zero s inputs ends = at_turn s inputs (λ next taken. silence) (λ next taken is. absurd (cc is)) s.plain ends
   run_refused (suc n) s inputs ends =
-      at_turn s inputs (λ next taken. run_of call_step n next (behind inputs taken)) (λ next taken is. run_refused n next (behind inputs taken) is) s.plain ends
+      at_turn s inputs (λ next taken. run_of call_step n next (left_after inputs taken)) (λ next taken is. run_refused n next (left_after inputs taken) is) s.plain ends
 
   pub video_refused : (t : Terms) (inputs : Role → List ℕ) → (run_from (call_begin t inputs) call_step (most_turns t.plain) inputs).last.status ≡ VideoRefused fault
       → video_fault (inputs Video) ≡ Some fault
@@ -126,8 +126,8 @@ module _ (frame_laws : FrameLaws) (fault : Y4mFault) where
   video_refused t inputs ends = by_head (head_of (inputs Video)) refl ends
     where
       by_head : (r : Result Format Y4mFault) → head_of (inputs Video) ≡ r
-          → (follow (head_step t (inputs Video) r) (λ next taken. run_of call_step (most_turns t.plain) next (behind inputs taken))).last.status ≡ VideoRefused fault
-          → fault_behind r (head_size (inputs Video)) (drop (head_size (inputs Video)) (inputs Video)) ≡ Some fault
+          → (follow (head_step t (inputs Video) r) (λ next taken. run_of call_step (most_turns t.plain) next (left_after inputs taken))).last.status ≡ VideoRefused fault
+          → fault_after_head r (head_size (inputs Video)) (drop (head_size (inputs Video)) (inputs Video)) ≡ Some fault
       by_head (Ok f) is ends =
-          run_refused (most_turns t.plain) (first_state (with_format t f) [] (head_size (inputs Video))) (behind inputs (of Video (head_size (inputs Video)))) ends
+          run_refused (most_turns t.plain) (first_state (with_format t f) [] (head_size (inputs Video))) (left_after inputs (of Video (head_size (inputs Video)))) ends
       by_head (Err broken) is ends = ap (λ (x : Y4mFault). Some x) (refused_is broken fault ends)

@@ -19,7 +19,7 @@ use Rattle.y4m.specs.Text.{head_text}
 use Rattle.call_report.specs.declared.status.Status.{Status}
 use Rattle.call_report.specs.declared.status.Status.TheVariants.{Ok as Fine, OutOfMemory, WriteFault, VideoRefused}
 use Rattle.call_report.specs.Status.{phase, video_stop}
-use Rattle.desk_program.specs.Run.{Step, behind, refusal}
+use Rattle.desk_program.specs.Run.{Step, left_after, refusal}
 use Rattle.desk_program.specs.Run.Step.{Ends}
 use Rattle.desk_program.specs.Ends.{Tells, Gains, GainsFronts, IsPart, Went, Ended, GivesUp, HasCause, StartGives, start_status, step_texts, step_turns}
 use Rattle.desk_program.specs.Texts.{no_bytes, on, of}
@@ -176,7 +176,7 @@ module _ (turns : TurnLaws) (laws : VideoLaws) (inputs : Role → List ℕ) (old
           (subst (λ (t : Role → List ℕ). GainsFronts t mid.written new.written) texts_are gains))
 
       pub frame_goes : (stands : CallState → (Role → List ℕ) → Type 0)
-          → stands (record (with_picture by_ends s out) { at = s.at + size; more = s.more - 1 }) (behind inputs (of Video size))
+          → stands (record (with_picture by_ends s out) { at = s.at + size; more = s.more - 1 }) (left_after inputs (of Video size))
           → Gains texts mid.written new.written → Went (video_step by_ends s (inputs Video)) stands may_read (may_read s) inputs old new
       frame_goes stands kept gains = record {
         next = record (with_picture by_ends s out) { at = s.at + size; more = s.more - 1 };
@@ -203,7 +203,7 @@ module _ (turns : TurnLaws) (laws : VideoLaws) (inputs : Role → List ℕ) (old
       abbrev first : CallState
       first = first_state (with_format t f) [] (head_size (inputs Video))
 
-      pub head_goes : (stands : CallState → (Role → List ℕ) → Type 0) → stands first (behind inputs (of Video (head_size (inputs Video))))
+      pub head_goes : (stands : CallState → (Role → List ℕ) → Type 0) → stands first (left_after inputs (of Video (head_size (inputs Video))))
           → Gains (on Pictures (head_text f)) mid.written new.written → Went (call_begin t inputs) stands may_read true inputs old new
       head_goes stands kept gains = record {
         next = first;

@@ -29,7 +29,7 @@ use Rattle.one_way.specs.Network.{IsAmongLast}
 use Rattle.one_way.specs.Seen.{in_both}
 use Rattle.one_way.specs.Trace.{delivered, passed_on}
 use Rattle.one_way.specs.Way.{HoldsNetwork, MayHappenNow}
-use Rattle.call_command.specs.declared.carrier.Carrier.{Carrier}
+use Rattle.call_command.specs.declared.link.Link.{Link}
 use Rattle.call_command.specs.Call.{CallState, by_ends, play_texts, with_picture}
 use Rattle.call_command.specs.Standing.{Parts, PartsStand, state_of}
 use Rattle.call_command.proofs.After.{at_end, below_end, longer, push_then}
@@ -102,11 +102,11 @@ module _ (x : Parts) (laws : WayLaws x.terms.params) (events : EventLaws x.terms
       let shown : played ≡ length s.frames = same ∙ level ∙ k.sent in
       λ i. play_texts (in_both (both [] (passed_on (number i) (count_of [] (number i)) s.past))) (shown i)
 
-  pub stands_after : (video : Y4mReader) (sender : State) (receiver : Kept) (carrier : Carrier) (n size : ℕ) (rest : Role → List ℕ) → n ≡ x.sender.sent
-      → ((later : List Frame) → HoldsNetwork p carrier.network sender receiver s.before (all later) (passed_on n (count_of later n) s.past))
-      → carrier.trace ≡ x.carrier.trace → sender.sent ≡ x.sender.sent + 1 → video.at ≡ x.video.at + size → video.more + 1 ≡ x.video.more → rest Events ≡ inputs Events
-      → PartsStand (record { terms = x.terms; video = video; sender = sender; receiver = receiver; carrier = carrier }) (record then { at = x.video.at + size; more = x.video.more - 1 }) rest
-  stands_after video sender receiver carrier n size rest number holds same sent place fewer still = record {
+  pub stands_after : (video : Y4mReader) (sender : State) (receiver : Kept) (link : Link) (n size : ℕ) (rest : Role → List ℕ) → n ≡ x.sender.sent
+      → ((later : List Frame) → HoldsNetwork p link.network sender receiver s.before (all later) (passed_on n (count_of later n) s.past))
+      → link.trace ≡ x.link.trace → sender.sent ≡ x.sender.sent + 1 → video.at ≡ x.video.at + size → video.more + 1 ≡ x.video.more → rest Events ≡ inputs Events
+      → PartsStand (record { terms = x.terms; video = video; sender = sender; receiver = receiver; link = link }) (record then { at = x.video.at + size; more = x.video.more - 1 }) rest
+  stands_after video sender receiver link n size rest number holds same sent place fewer still = record {
     is = let less : x.video.more - 1 ≡ video.more = omega (arith, fewer) in
         λ i. record {
           params = x.terms.params;
@@ -123,7 +123,7 @@ module _ (x : Parts) (laws : WayLaws x.terms.params) (events : EventLaws x.terms
     sent = sent ∙ ap (λ (i : ℕ). i + 1) k.sent ∙ sym (longer s.frames f);
     over = λ ended. still ∙ k.over (ap (λ (r : TraceReader). r.ended) (sym same) ∙ ended);
     holds = λ later.
-        subst (λ (l : List Frame). HoldsNetwork p carrier.network sender receiver s.before l then.past) (sym (push_then s.frames later f))
-        (subst (λ (i : ℕ). HoldsNetwork p carrier.network sender receiver s.before (all later) (passed_on (length s.frames) i s.past)) (count_same later (length s.frames))
-        (subst (λ (i : ℕ). HoldsNetwork p carrier.network sender receiver s.before (all later) (passed_on i (count_of later i) s.past)) (number ∙ k.sent) (holds later)));
+        subst (λ (l : List Frame). HoldsNetwork p link.network sender receiver s.before l then.past) (sym (push_then s.frames later f))
+        (subst (λ (i : ℕ). HoldsNetwork p link.network sender receiver s.before (all later) (passed_on (length s.frames) i s.past)) (count_same later (length s.frames))
+        (subst (λ (i : ℕ). HoldsNetwork p link.network sender receiver s.before (all later) (passed_on i (count_of later i) s.past)) (number ∙ k.sent) (holds later)));
   }

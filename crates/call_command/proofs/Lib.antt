@@ -10,7 +10,7 @@ mod Readying
 mod Starting
 mod Cutting
 mod LineTurning
-mod Behind
+mod AfterTurn
 mod Delivering
 mod LineRead
 mod Capturing

@@ -16,7 +16,7 @@ use Rattle.call_command.specs.declared.world.World.{World}
 use Rattle.call_command.specs.Call.{CallState, by_ends, event_step, may_read, talk_step}
 use Rattle.call_command.specs.Standing.{HasRoom, Parts, PartsReady, PartsStand, ReadsTrace, more_of, parts_of, state_of}
 use Rattle.call_command.specs.Turning.{IsRead, TakesLine, TakesTurn}
-use Rattle.call_command.proofs.Behind.{stood_behind}
+use Rattle.call_command.proofs.AfterTurn.{stood_after}
 use Rattle.call_command.proofs.Counting.{line_by_line}
 use Rattle.call_command.proofs.LineTurning.{found_could, found_is, found_number, found_taken}
 use Rattle.call_command.proofs.Readying.{ready_so}
@@ -59,7 +59,7 @@ module _ {m : World} {after : TraceReader} {line : ℕ} {event : Line} {old mid 
 
   pub ready_read : PartsReady x old.attached → PartsReady (parts_of (read_on m after)) mid.attached
   ready_read ready =
-      ready_so x old.attached mid.attached ready w.rest.attached x.video x.sender x.receiver (record x.carrier { trace = after })
+      ready_so x old.attached mid.attached ready w.rest.attached x.video x.sender x.receiver (record x.link { trace = after })
       refl refl ready.can refl ready.sent ready.played ready.level ready.frame (λ plain. absurd (cc (plain, w.recorded))) ready.counted (omega (arith, ready.said, w.moves.2))
 
   only : {inputs : Role → List ℕ} → Tells old inputs → ReadsTrace inputs old mid
@@ -71,7 +71,7 @@ module _ {m : World} {after : TraceReader} {line : ℕ} {event : Line} {old mid 
       let here = state_of x s.before s.frames s.past in
       let e = w.gives (inputs Events) (told Events refl) in
       record {
-        stood = stood_behind x s inputs k w.recorded after _ w.moves.2 e.0;
+        stood = stood_after x s inputs k w.recorded after _ w.moves.2 e.0;
         number = found_number w.laws here inputs old mid (only told) m.trace after (record { lines_are = refl; ended_is = refl }) (line, event) e w.moves after.few;
         taken = found_taken w.laws here inputs old mid (only told) m.trace after (record { lines_are = refl; ended_is = refl }) (line, event) e w.moves after.few;
       }

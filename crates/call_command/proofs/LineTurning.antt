@@ -18,7 +18,7 @@ use Rattle.loss_trace.specs.Reading.{event_in}
 use Rattle.call_report.specs.declared.status.Status.{Status}
 use Rattle.call_report.specs.declared.status.Status.TheVariants.{Ok as Fine, TraceRefused}
 use Rattle.call_report.specs.Status.{phase, trace_stop}
-use Rattle.desk_program.specs.Run.{End, Step, behind}
+use Rattle.desk_program.specs.Run.{End, Step, left_after}
 use Rattle.desk_program.specs.Run.Step.{Goes, Ends}
 use Rattle.desk_program.specs.Ends.{Gains, GainsFronts, Went, Ended, EndsBy, GivesUp, step_texts}
 use Rattle.desk_program.specs.Texts.{of, on}
@@ -68,7 +68,7 @@ module _ (s : CallState) (inputs : Role → List ℕ) (before mid : Outside) (ta
 
   -- one that is done goes on, and writes these texts
   pub line_goes : (next : CallState) (texts : Role → List ℕ) (step : Step CallState) (stands : CallState → (Role → List ℕ) → Type 0)
-      → step ≡ Goes (after_line next trace) (line_turn trace texts) → stands (after_line next trace) (behind inputs (of Events (line_size trace)))
+      → step ≡ Goes (after_line next trace) (line_turn trace texts) → stands (after_line next trace) (left_after inputs (of Events (line_size trace)))
       → (new : Outside) → new.left ≡ mid.left → Gains texts mid.written new.written → Went step stands may_read true inputs before new
   line_goes next texts step stands is kept new still gains = record {
     next = after_line next trace;

@@ -10,10 +10,10 @@ use Rattle.h263_outside.specs.declared.desk.Role.{Role}
 use Rattle.h263_outside.specs.declared.desk.Role.TheVariants.{Video, Events, Pictures, Wire, Report, Video2, Pictures2}
 use Rattle.loss_trace.specs.declared.fault.TraceFault.{TraceFault}
 use Rattle.loss_trace.specs.declared.reader.TraceReader.{TraceReader}
-use Rattle.loss_trace.specs.Lines.{NoNewline, first_line, is_closed, behind_line}
+use Rattle.loss_trace.specs.Lines.{NoNewline, first_line, is_closed, later_lines}
 use Rattle.loss_trace.specs.Reader.{IsOver}
 use Rattle.call_report.specs.declared.status.Status.TheVariants.{Ok as Fine, TraceRefused}
-use Rattle.desk_program.specs.Run.{Turn, behind}
+use Rattle.desk_program.specs.Run.{Turn, left_after}
 use Rattle.desk_program.specs.Ends.{EndsBy, Gains, IsPart, Tells, holds}
 use Rattle.desk_program.specs.Texts.{and_of, no_bytes, no_texts, of}
 use Rattle.desk_program.specs.Laws.{TurnLaws}
@@ -39,12 +39,12 @@ drop_min (suc k) (x ∷ xs) = ap (λ (n : ℕ). drop n (x ∷ xs)) (one_more k (
     one_more a b = omega arith
 
 -- after the line
-pub line_gone : (trace : List ℕ) → drop (line_size trace) trace ≡ behind_line trace
+pub line_gone : (trace : List ℕ) → drop (line_size trace) trace ≡ later_lines trace
 line_gone trace = drop_min (length (first_line trace) + 1) trace
 
 -- after one that has no newline there is nothing
-pub nothing_behind : (trace : List ℕ) → is_closed trace ≡ false → drop (line_size trace) trace ≡ []
-nothing_behind trace open_end =
+pub nothing_after : (trace : List ℕ) → is_closed trace ≡ false → drop (line_size trace) trace ≡ []
+nothing_after trace open_end =
     line_gone trace ∙ drop_all (length (first_line trace) + 1) trace (omega (arith, ltb-false (length (first_line trace)) (length trace) open_end))
 
 pub double_not : (b : Bool) → not (not b) ≡ b
@@ -123,10 +123,10 @@ refused_by laws fault inputs old mid taken =
 -- ---- where the trace alone was read
 
 module _ (laws : TurnLaws) (inputs : Role → List ℕ) (old mid : Outside) (read : ReadsTrace inputs old mid) where
-  pub some_read : (k : ℕ) → mid.left Events ≡ Some (drop k (inputs Events)) → Tells mid (behind inputs (of Events k))
+  pub some_read : (k : ℕ) → mid.left Events ≡ Some (drop k (inputs Events)) → Tells mid (left_after inputs (of Events k))
   some_read k gone = laws.one_read Events k old mid inputs read.told gone read.others
 
-  pub has_taken : mid.left Events ≡ Some (behind_line (inputs Events)) → HasTaken inputs old mid
+  pub has_taken : mid.left Events ≡ Some (later_lines (inputs Events)) → HasTaken inputs old mid
   has_taken gone = record {
     left = some_read (line_size (inputs Events)) (gone ∙ ap (λ (l : List ℕ). Some l) (sym (line_gone (inputs Events))));
     written = read.written;
@@ -139,10 +139,10 @@ module _ (laws : TurnLaws) (inputs : Role → List ℕ) (old mid : Outside) (rea
       zero_is : (k : ℕ) → 0 ≡ k → 0 ≡ 0 + k
       zero_is k is = omega (arith, is)
 
-      untouched : (r : Role) → IsInput r → r ≢ Events → (k : ℕ) → 0 ≡ k → mid.left r ≡ Some (behind inputs (λ _. 0 + k) r)
+      untouched : (r : Role) → IsInput r → r ≢ Events → (k : ℕ) → 0 ≡ k → mid.left r ≡ Some (left_after inputs (λ _. 0 + k) r)
       untouched r input other k none = read.others r other ∙ read.told r input ∙ ap (λ (n : ℕ). Some (drop n (inputs r))) (zero_is k none)
 
-      left_at : (r : Role) → IsInput r → (k : ℕ) → (bad_line fault).taken r ≡ Some k → mid.left r ≡ Some (behind inputs (λ _. 0 + k) r)
+      left_at : (r : Role) → IsInput r → (k : ℕ) → (bad_line fault).taken r ≡ Some k → mid.left r ≡ Some (left_after inputs (λ _. 0 + k) r)
       left_at Video input k said = untouched Video input (λ same. cc) k (cc said)
       left_at Events input k said = absurd (cc said)
       left_at Video2 input k said = untouched Video2 input (λ same. cc) k (cc said)

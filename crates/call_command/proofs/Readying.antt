@@ -13,7 +13,7 @@ use Rattle.one_way.specs.declared.tally.Tally.{Tally}
 use Rattle.one_way.specs.declared.way.Way.{Way}
 use Rattle.one_way.specs.Counts.{total_of}
 use Rattle.one_way.specs.Way.{CanSend}
-use Rattle.call_command.specs.declared.carrier.Carrier.{Carrier}
+use Rattle.call_command.specs.declared.link.Link.{Link}
 use Rattle.call_command.specs.declared.terms.Terms.{Terms}
 use Rattle.h263_types.specs.Clocks as clocks
 use Rattle.call_command.specs.Standing.{CallOpens, Parts, PartsReady, pictures_kept}
@@ -44,15 +44,15 @@ can_still way tally sender can = record {
 }
 
 module _ (x : Parts) (old new : Role → Bool) (r : PartsReady x old) (attached : new ≡ old) where
-  pub ready_so : (video : Y4mReader) (sender : State) (receiver : Kept) (carrier : Carrier)
-      → video.format ≡ x.video.format → sender.params ≡ x.sender.params → CanSend carrier.network.way sender
-      → period_of carrier.network.way.packets ≡ period_of x.carrier.network.way.packets
+  pub ready_so : (video : Y4mReader) (sender : State) (receiver : Kept) (link : Link)
+      → video.format ≡ x.video.format → sender.params ≡ x.sender.params → CanSend link.network.way sender
+      → period_of link.network.way.packets ≡ period_of x.link.network.way.packets
       → sender.sent + video.more ≡ 1048576 → receiver.played ≤ sender.sent → (x.terms.plain ≡ true → receiver.played ≡ sender.sent)
-      → length carrier.frame.items ≡ size_of_picture x.terms.params.format → (x.terms.plain ≡ true → carrier.trace.ended ≡ false)
-      → total_of carrier.network.way.tally ≡ receiver.played
-      → said_of carrier.network.messages ≤ 400 * (carrier.trace.lines + sender.sent)
-      → PartsReady (record { terms = x.terms; video = video; sender = sender; receiver = receiver; carrier = carrier }) new
-  ready_so video sender receiver carrier format params can period sent played level frame unread counted said = record {
+      → length link.frame.items ≡ size_of_picture x.terms.params.format → (x.terms.plain ≡ true → link.trace.ended ≡ false)
+      → total_of link.network.way.tally ≡ receiver.played
+      → said_of link.network.messages ≤ 400 * (link.trace.lines + sender.sent)
+      → PartsReady (record { terms = x.terms; video = video; sender = sender; receiver = receiver; link = link }) new
+  ready_so video sender receiver link format params can period sent played level frame unread counted said = record {
     opens = subst (CallOpens x.terms) (sym attached) r.opens;
     format = format ∙ r.format;
     frame = frame;

@@ -13,12 +13,12 @@ use Rattle.y4m.specs.declared.fault.Y4mFault.{Y4mFault}
 use Rattle.y4m.specs.Frame.{next_frame, frame_size}
 use Rattle.y4m.specs.Laws.{FrameLaws}
 use Rattle.y4m.specs.Text.{frame_text}
-use Rattle.y4m.specs.Video.{behind_frame, frames_of}
+use Rattle.y4m.specs.Video.{after_frame, frames_of}
 use Rattle.loss_trace.specs.declared.event.Event.{Event as Line}
 use Rattle.loss_trace.specs.declared.event.Event.TheVariants as says
 use Rattle.loss_trace.specs.declared.fault.TraceFault.{TraceFault}
 use Rattle.loss_trace.specs.declared.fault.TraceFault.TheVariants.{TooMany}
-use Rattle.loss_trace.specs.Lines.{behind_line, first_line, is_closed}
+use Rattle.loss_trace.specs.Lines.{later_lines, first_line, is_closed}
 use Rattle.loss_trace.specs.Reading.{event_in}
 use Rattle.loss_trace.specs.Trace.{events_from, events_of, fault_from, fault_of as trace_fault_of}
 use Rattle.call_report.specs.declared.status.Status.{Status}
@@ -35,7 +35,7 @@ use Rattle.call_decoding.specs.Styles.{Style}
 use Rattle.call_encoding.specs.Frames.{Frame}
 use Rattle.coded_call.specs.Coding.{coding}
 use Rattle.receiver_end.specs.Answers.{mark_of}
-use Rattle.desk_program.specs.Run.{Run, Step, Turn, behind, follow, run_of, silence, text_of, texts_of}
+use Rattle.desk_program.specs.Run.{Run, Step, Turn, left_after, follow, run_of, silence, text_of, texts_of}
 use Rattle.desk_program.specs.Run.Step.{Goes, Ends}
 use Rattle.desk_program.specs.Texts.{and_of, no_texts, of}
 use Rattle.one_way.specs.Both.{bare, steady}
@@ -220,12 +220,12 @@ module _ (p : Params) (all : List Frame) (later : LaterFrames (coding p) (rules_
 
     module _ (trace : List ℕ) (is : inputs Events ≡ trace)
         (go : (frames2 : List Frame) (past2 : List Event) (at2 more2 : ℕ) (ended2 : Bool) (taken : Role → ℕ) (left : List ℕ)
-        → behind inputs taken Events ≡ behind_line trace → behind inputs taken Video ≡ left → IsOn frames2 past2 (ahead_of more2 at2 left)
+        → left_after inputs taken Events ≡ later_lines trace → left_after inputs taken Video ≡ left → IsOn frames2 past2 (ahead_of more2 at2 left)
         → Comes past2 E F (lines + 1 + 1) (rest (state frames2 past2 at2 more2 (lines + 1) ended2) taken)) where
       abbrev size : ℕ
       size = line_size trace
 
-      gone : behind inputs (of Events size) Events ≡ behind_line trace
+      gone : left_after inputs (of Events size) Events ≡ later_lines trace
       gone = ap (λ (l : List ℕ). drop size l) is ∙ line_gone trace
 
       abbrev Takes : Line → Step CallState → Type 0
@@ -342,7 +342,7 @@ module _ (p : Params) (all : List Frame) (later : LaterFrames (coding p) (rules_
       captured_comes b v video o (Ok planes) found =
           let x = bare (picture_of p.format planes) in
           let frame = frame_size p.format (b ∷ v) in
-          let left = behind_frame p.format (b ∷ v) in
+          let left = after_frame p.format (b ∷ v) in
           let some : 0 < length (b ∷ v) = omega arith in
           let e = frame_laws.next p.format more (more - 1) at (b ∷ v) planes (some_left more at (b ∷ v) planes found) some found in
           let frames2 = frames ++ x ∷ [] in
@@ -415,8 +415,8 @@ module _ (p : Params) (all : List Frame) (later : LaterFrames (coding p) (rules_
     abbrev GoesOn : ℕ → ℕ → List ℕ → (Role → List ℕ) → Type 0
     GoesOn n lines trace inputs =
         (frames2 : List Frame) (past2 : List Event) (at2 more2 : ℕ) (ended2 : Bool) (taken : Role → ℕ) (left : List ℕ)
-        → behind inputs taken Events ≡ behind_line trace → behind inputs taken Video ≡ left → IsOn frames2 past2 (ahead_of more2 at2 left)
-        → Comes past2 (events_of n (behind_line trace)) (trace_fault_of n (lines + 1 + 1) (behind_line trace)) (lines + 1 + 1) (run_of call_step n (state frames2 past2 at2 more2 (lines + 1) ended2) (behind inputs taken))
+        → left_after inputs taken Events ≡ later_lines trace → left_after inputs taken Video ≡ left → IsOn frames2 past2 (ahead_of more2 at2 left)
+        → Comes past2 (events_of n (later_lines trace)) (trace_fault_of n (lines + 1 + 1) (later_lines trace)) (lines + 1 + 1) (run_of call_step n (state frames2 past2 at2 more2 (lines + 1) ended2) (left_after inputs taken))
 
     module _ (frames : List Frame) (past : List Event) (at more lines : ℕ) (ended : Bool) (inputs : Role → List ℕ) (k : IsOn frames past (ahead_of more at (inputs Video))) where
       abbrev here : CallState
@@ -433,15 +433,15 @@ module _ (p : Params) (all : List Frame) (later : LaterFrames (coding p) (rules_
 
       module _ (n : ℕ) where
         abbrev on_with : CallState → (Role → ℕ) → Run
-        on_with next taken = run_of call_step n next (behind inputs taken)
+        on_with next taken = run_of call_step n next (left_after inputs taken)
 
         choice_comes : (b : Bool) (bytes : ℕ) (trace : List ℕ) → inputs Events ≡ bytes ∷ trace → GoesOn n lines (bytes ∷ trace) inputs → lines + suc n ≡ 16777216 → nat_lt lines 16777216 ≡ b
-            → Comes past (events_from (event_in (first_line (bytes ∷ trace))) (events_of n (behind_line (bytes ∷ trace))))
-            (fault_from (event_in (first_line (bytes ∷ trace))) (lines + 1) (trace_fault_of n (lines + 1 + 1) (behind_line (bytes ∷ trace)))) (lines + 1)
+            → Comes past (events_from (event_in (first_line (bytes ∷ trace))) (events_of n (later_lines (bytes ∷ trace))))
+            (fault_from (event_in (first_line (bytes ∷ trace))) (lines + 1) (trace_fault_of n (lines + 1 + 1) (later_lines (bytes ∷ trace)))) (lines + 1)
             (follow (or_many b lines (line_step by_call here inputs (bytes ∷ trace) (event_in (first_line (bytes ∷ trace))))) on_with)
         choice_comes false bytes trace is go room many = absurd (omega (arith, ltb-false lines 16777216 many, room))
         choice_comes true bytes trace is go room few =
-            line_comes frame_laws frames past at more lines ended inputs k (events_of n (behind_line (bytes ∷ trace))) (trace_fault_of n (lines + 1 + 1) (behind_line (bytes ∷ trace))) on_with (bytes ∷ trace) is go (event_in (first_line (bytes ∷ trace)))
+            line_comes frame_laws frames past at more lines ended inputs k (events_of n (later_lines (bytes ∷ trace))) (trace_fault_of n (lines + 1 + 1) (later_lines (bytes ∷ trace))) on_with (bytes ∷ trace) is go (event_in (first_line (bytes ∷ trace)))
 
         step_comes : (trace : List ℕ) → inputs Events ≡ trace → GoesOn n lines trace inputs → lines + suc n ≡ 16777216
             → Comes past (events_of (suc n) trace) (trace_fault_of (suc n) (lines + 1) trace) (lines + 1) (follow (trace_step by_call here inputs trace) on_with)
@@ -459,8 +459,8 @@ module _ (p : Params) (all : List Frame) (later : LaterFrames (coding p) (rules_
     run_comes (suc n) frames past at more lines ended inputs k room =
         step_comes frames past at more lines ended inputs k n (inputs Events) refl
         (λ frames2 past2 at2 more2 ended2 taken left gone seen on.
-        subst (λ (l : List ℕ). Comes past2 (events_of n l) (trace_fault_of n (lines + 1 + 1) l) (lines + 1 + 1) (run_of call_step n (state frames2 past2 at2 more2 (lines + 1) ended2) (behind inputs taken))) gone
-        (run_comes n frames2 past2 at2 more2 (lines + 1) ended2 (behind inputs taken)
+        subst (λ (l : List ℕ). Comes past2 (events_of n l) (trace_fault_of n (lines + 1 + 1) l) (lines + 1 + 1) (run_of call_step n (state frames2 past2 at2 more2 (lines + 1) ended2) (left_after inputs taken))) gone
+        (run_comes n frames2 past2 at2 more2 (lines + 1) ended2 (left_after inputs taken)
         (subst (λ (l : List ℕ). IsOn frames2 past2 (ahead_of more2 at2 l)) (sym seen) on)
         (one_less lines n room)))
         room

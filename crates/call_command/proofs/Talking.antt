@@ -14,7 +14,7 @@ use Rattle.loss_trace.specs.declared.event.Event.TheVariants as says
 use Rattle.loss_trace.specs.declared.fault.TraceFault.TheVariants.{TooMany}
 use Rattle.loss_trace.specs.Lines.{first_line}
 use Rattle.loss_trace.specs.Reading.{event_in}
-use Rattle.desk_program.specs.Run.{Run, Step, behind, follow, run_of, silence}
+use Rattle.desk_program.specs.Run.{Run, Step, left_after, follow, run_of, silence}
 use Rattle.desk_program.specs.Run.Step.{Goes, Ends}
 use Rattle.call_model.specs.CodedPictures.{Coded}
 use Rattle.call_model.specs.IdealCall.{Event, Send, Deliver, Play, Back, slices_at}
@@ -117,29 +117,29 @@ module _ (p : Params) (frames_law : LaterFramesBoth (coding p) (rules_of p)) (ev
       sends = near_sent (omega (arith, level, half_some p.clock))
 
       module _ (count : ℕ) where
-        abbrev behind_it : List Event
-        behind_it = delivered n count ++ Send ∷ past
+        abbrev after_it : List Event
+        after_it = delivered n count ++ Send ∷ past
 
-        near_behind : Near all behind_it
-        near_behind =
+        near_after : Near all after_it
+        near_after =
             events_law.near [] all n count 0 (Send ∷ past)
             (omega (arith, coded_now), omega (arith, played_all, level, half_some p.clock)) sends
 
-        coded_behind : length (both all behind_it).sender.coded ≡ n + 1
-        coded_behind =
+        coded_after : length (both all after_it).sender.coded ≡ n + 1
+        coded_after =
             ap (λ (run : SenderRun Style Mb Picture). length run.coded) (events_law.sender [] all n count (Send ∷ past)) ∙ coded_now
 
-        played_behind : (both all behind_it).receiver.played ≡ n
-        played_behind = events_law.played [] all n count (Send ∷ past) ∙ played_all ∙ level
+        played_after : (both all after_it).receiver.played ≡ n
+        played_after = events_law.played [] all n count (Send ∷ past) ∙ played_all ∙ level
 
         near_passed : Near all (passed_on n count past)
-        near_passed = (omega (arith, played_behind, coded_behind), near_behind)
+        near_passed = (omega (arith, played_after, coded_after), near_after)
 
         on_passed : IsOn true all (passed_on n count past)
         on_passed = record {
           near = near_passed;
-          sent = coded_behind ∙ sym (longer frames f);
-          level = λ _. ap (λ (k : ℕ). k + 1) played_behind ∙ sym (longer frames f);
+          sent = coded_after ∙ sym (longer frames f);
+          level = λ _. ap (λ (k : ℕ). k + 1) played_after ∙ sym (longer frames f);
         }
 
   -- ---- the steps
@@ -323,9 +323,9 @@ module _ (p : Params) (frames_law : LaterFramesBoth (coding p) (rules_of p)) (ev
     unfolding run_of
     same_run zero plain s inputs k = ap (λ (step : Step CallState). follow step (λ next taken. silence)) (same_turn plain s inputs k)
     same_run (suc turns) plain s inputs k =
-        follow_same plain (talk_step s inputs) (λ next taken. run_of talk_step turns next (behind inputs taken)) (λ next taken. run_of call_step turns next (behind inputs taken)) (keeps_turn plain s inputs k)
-        (λ next on taken. same_run turns plain next (behind inputs taken) on)
-        ∙ ap (λ (step : Step CallState). follow step (λ next taken. run_of call_step turns next (behind inputs taken))) (same_turn plain s inputs k)
+        follow_same plain (talk_step s inputs) (λ next taken. run_of talk_step turns next (left_after inputs taken)) (λ next taken. run_of call_step turns next (left_after inputs taken)) (keeps_turn plain s inputs k)
+        (λ next on taken. same_run turns plain next (left_after inputs taken) on)
+        ∙ ap (λ (step : Step CallState). follow step (λ next taken. run_of call_step turns next (left_after inputs taken))) (same_turn plain s inputs k)
 
 -- from the first state on
 pub talk_is_the_call : (t : Terms) → LaterFramesBoth (coding t.params) (rules_of t.params) → EventLaws t.params → NearLaws t.params

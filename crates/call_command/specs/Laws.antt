@@ -6,7 +6,7 @@ use Rattle.h263_outside.specs.declared.desk.Role.TheVariants.{Events, Video}
 use Rattle.h263_types.specs.declared.format.Format.{Format}
 use Rattle.y4m.specs.Head.{head_of, head_size}
 use Rattle.y4m.specs.Frame.{frame_of, frame_size}
-use Rattle.loss_trace.specs.Lines.{NoNewline, behind_line, is_closed}
+use Rattle.loss_trace.specs.Lines.{NoNewline, later_lines, is_closed}
 use Rattle.loss_trace.specs.Reader.{IsOver}
 use Rattle.loss_trace.specs.declared.fault.TraceFault.{TraceFault}
 use Rattle.loss_trace.specs.declared.reader.TraceReader.{TraceReader}
@@ -15,7 +15,7 @@ use Rattle.call_model.specs.Coding.{Rules}
 use Rattle.call_model.specs.IdealCall.{Send, Deliver, Play}
 use Rattle.call_model.specs.Refusals.{NoFrame, Refusal, first_refusal}
 use Rattle.desk_program.specs.Ends.{EndsBy, Gains, IsPart, Tells, holds}
-use Rattle.desk_program.specs.Run.{Turn, behind, run_of}
+use Rattle.desk_program.specs.Run.{Turn, left_after, run_of}
 use Rattle.desk_program.specs.Texts.{and_of, no_texts, of}
 use Rattle.call_command.specs.declared.terms.Terms.{Terms}
 use Rattle.call_command.specs.Call.{bad_line, call_step, first_state, line_size, refused_line, talk_step}
@@ -74,7 +74,7 @@ pub record IsPlayedOut (inputs : Role → List ℕ) (old mid new : Outside) : Ty
 
 pub record LineLaws : Type 0 where
   -- what stands after the first line: nothing where it has no newline
-  pub gone : (trace : List ℕ) → drop (line_size trace) trace ≡ behind_line trace
+  pub gone : (trace : List ℕ) → drop (line_size trace) trace ≡ later_lines trace
   pub last : (trace : List ℕ) → is_closed trace ≡ false → drop (line_size trace) trace ≡ []
   -- bytes without a newline hold no turn, and neither does the line with a part of its frame
   pub line_part : (trace : List ℕ) (k : ℕ) (turns : List Turn) → NoNewline (take k trace)
@@ -83,9 +83,9 @@ pub record LineLaws : Type 0 where
       → holds (capture_turn trace size) (and_of (of Events (line_size trace)) (of Video k)) ≡ false
   -- this many bytes of the trace were read, or its first line
   pub some : (inputs : Role → List ℕ) (old mid : Outside) (k : ℕ) → ReadsTrace inputs old mid
-      → mid.left Events ≡ Some (drop k (inputs Events)) → Tells mid (behind inputs (of Events k))
+      → mid.left Events ≡ Some (drop k (inputs Events)) → Tells mid (left_after inputs (of Events k))
   pub line : (inputs : Role → List ℕ) (old mid : Outside) → ReadsTrace inputs old mid
-      → mid.left Events ≡ Some (behind_line (inputs Events)) → HasTaken inputs old mid
+      → mid.left Events ≡ Some (later_lines (inputs Events)) → HasTaken inputs old mid
   -- a line that says an event which is refused, and one that says none or is one too many
   pub refused : (fault : TraceFault) (inputs : Role → List ℕ) (old mid : Outside) → HasTaken inputs old mid
       → EndsBy (refused_line (inputs Events) fault) (TraceRefused fault) inputs old mid

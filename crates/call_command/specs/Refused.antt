@@ -6,8 +6,8 @@ use Rattle.loss_trace.specs.declared.fault.TraceFault.{TraceFault}
 use Rattle.loss_trace.specs.declared.fault.TraceFault.TheVariants as trace
 use Rattle.call_model.specs.IdealCall.{Event}
 use Rattle.call_model.specs.Refusals.{Refusal}
-use Rattle.one_way.specs.declared.refusals.Refusal.{Refusal as Told}
-use Rattle.one_way.specs.declared.refusals.Refusal.TheVariants.{NotSent, NotSaid, Far, PlayBeforeSend, NoFrame}
+use Rattle.one_way.specs.declared.refusals.EventRefusal.{EventRefusal as Told}
+use Rattle.one_way.specs.declared.refusals.EventRefusal.TheVariants.{NotSent, NotSaid, Far, PlayBeforeSend, NoFrame}
 use Rattle.one_way.specs.Refused.{told_as}
 
 -- with its line

@@ -11,7 +11,7 @@ use Rattle.h263_planes.specs.Picture.{Picture}
 use Rattle.y4m.specs.declared.reader.Y4mReader.{Y4mReader}
 use Rattle.y4m.specs.Text.{frame_text}
 use Rattle.call_report.specs.Text.{picture_text}
-use Rattle.desk_program.specs.Run.{behind}
+use Rattle.desk_program.specs.Run.{left_after}
 use Rattle.desk_program.specs.Ends.{Tells}
 use Rattle.desk_program.specs.Texts.{on, then_also, of}
 use Rattle.call_rings.specs.Keeping as ring
@@ -25,7 +25,7 @@ use Rattle.one_way.specs.Both.{AreJoined, State, steady}
 use Rattle.one_way.specs.Counts.{total_of}
 use Rattle.one_way.specs.Way.{CanSend, HoldsNetwork, IsNewNetwork}
 use Rattle.call_command.specs.declared.terms.Terms.{Terms}
-use Rattle.call_command.specs.declared.carrier.Carrier.{Carrier}
+use Rattle.call_command.specs.declared.link.Link.{Link}
 use Rattle.call_command.specs.declared.world.World.{World}
 use Rattle.call_command.specs.Call.{CallState, line_size, after_line}
 
@@ -42,7 +42,7 @@ pub record Parts : Type 0 where
   pub video : Y4mReader
   pub sender : State
   pub receiver : Kept
-  pub carrier : Carrier
+  pub link : Link
 
 -- those that a machine owns, and that are lent to it
 abbrev pub parts_of : World → Parts
@@ -52,7 +52,7 @@ parts_of m =
       video = m.video.now;
       sender = m.sender.now;
       receiver = m.receiver.now;
-      carrier = record { trace = m.trace; network = m.network; frame = m.frame };
+      link = record { trace = m.trace; network = m.network; frame = m.frame };
     }
 
 -- the state of these frames and events
@@ -66,13 +66,13 @@ state_of x before frames past =
       past = past;
       at = x.video.at;
       more = x.video.more;
-      lines = x.carrier.trace.lines;
-      ended = x.carrier.trace.ended;
+      lines = x.link.trace.lines;
+      ended = x.link.trace.ended;
     }
 
 -- both ends and the network have done these events
 abbrev pub HasDone : Parts → List ReceiverEntry → List Frame → List Event → Type 0
-HasDone x before frames past = HoldsNetwork x.terms.params x.carrier.network x.sender x.receiver before frames past
+HasDone x before frames past = HoldsNetwork x.terms.params x.link.network x.sender x.receiver before frames past
 
 -- The parts stand at a state: each of its frames was sent, and so it is whatever frames come after
 -- them. The receiver had played nothing before. After a last line without a newline the trace is at
@@ -81,7 +81,7 @@ pub record PartsStand (x : Parts) (s : CallState) (inputs : Role → List ℕ) :
   pub is : s ≡ state_of x s.before s.frames s.past
   pub begun : (receiver_end.run_of x.terms.params s.before).played ≡ 0
   pub sent : x.sender.sent ≡ length s.frames
-  pub over : x.carrier.trace.ended ≡ true → inputs Events ≡ []
+  pub over : x.link.trace.ended ≡ true → inputs Events ≡ []
   pub holds : (later : List Frame) → HasDone x s.before (s.frames ++ later) s.past
 
 -- both ends stand for what was done in the call
@@ -90,7 +90,7 @@ EndsStand t sender receiver s = AreJoined t.params (steady t.params) sender rece
 
 -- how many turns may still come, and the input whose end is the end of the call
 abbrev pub more_of : Parts → ℕ
-more_of x = if x.terms.plain then x.video.more else 16777216 - x.carrier.trace.lines
+more_of x = if x.terms.plain then x.video.more else 16777216 - x.link.trace.lines
 
 abbrev pub source_of : Terms → Role
 source_of t = if t.plain then Video else Events
@@ -112,28 +112,28 @@ pub record CallOpens (t : Terms) (attached : Role → Bool) : Type 0 where
 pub record PartsReady (x : Parts) (attached : Role → Bool) : Type 0 where
   pub opens : CallOpens x.terms attached
   pub format : x.video.format ≡ x.terms.params.format
-  pub frame : length x.carrier.frame.items ≡ size_of_picture x.terms.params.format
+  pub frame : length x.link.frame.items ≡ size_of_picture x.terms.params.format
   pub sender_params : x.sender.params ≡ x.terms.params
-  pub can : CanSend x.carrier.network.way x.sender
-  pub period : ring.period_of x.carrier.network.way.packets ≡ pictures_kept x.terms
+  pub can : CanSend x.link.network.way x.sender
+  pub period : ring.period_of x.link.network.way.packets ≡ pictures_kept x.terms
   pub sent : x.sender.sent + x.video.more ≡ 1048576
   pub played : x.receiver.played ≤ x.sender.sent
   pub level : x.terms.plain ≡ true → x.receiver.played ≡ x.sender.sent
-  pub unread : x.terms.plain ≡ true → x.carrier.trace.ended ≡ false
-  pub counted : total_of x.carrier.network.way.tally ≡ x.receiver.played
+  pub unread : x.terms.plain ≡ true → x.link.trace.ended ≡ false
+  pub counted : total_of x.link.network.way.tally ≡ x.receiver.played
   -- a line or a frame makes 400 messages at most
-  pub said : said_of x.carrier.network.messages ≤ 400 * (x.carrier.trace.lines + x.sender.sent)
+  pub said : said_of x.link.network.messages ≤ 400 * (x.link.trace.lines + x.sender.sent)
 
 -- there is room for the messages of one more
 abbrev pub HasRoom : Parts → Type 0
-HasRoom x = said_of x.carrier.network.messages + 400 ≤ 400 * (x.carrier.trace.lines + x.sender.sent)
+HasRoom x = said_of x.link.network.messages + 400 ≤ 400 * (x.link.trace.lines + x.sender.sent)
 
 -- before the first event
-pub record IsFresh (t : Terms) (carrier : Carrier) : Type 0 where
-  pub lines : carrier.trace.lines ≡ 0
-  pub ended : carrier.trace.ended ≡ false
-  pub frame : length carrier.frame.items ≡ size_of_picture t.params.format
-  pub network_is : IsNewNetwork t.params (pictures_kept t) carrier.network
+pub record IsFresh (t : Terms) (link : Link) : Type 0 where
+  pub lines : link.trace.lines ≡ 0
+  pub ended : link.trace.ended ≡ false
+  pub frame : length link.frame.items ≡ size_of_picture t.params.format
+  pub network_is : IsNewNetwork t.params (pictures_kept t) link.network
 
 -- ---- a line that was read
 
@@ -145,7 +145,7 @@ pub record ReadsTrace (inputs : Role → List ℕ) (old new : Outside) : Type 0 
 
 -- its bytes were taken, and nothing was written
 pub record HasTaken (inputs : Role → List ℕ) (old new : Outside) : Type 0 where
-  pub left : Tells new (behind inputs (of Events (line_size (inputs Events))))
+  pub left : Tells new (left_after inputs (of Events (line_size (inputs Events))))
   pub written : new.written ≡ old.written
 
 -- the parts stood at the state before the line, and the reader of the trace has passed it
@@ -154,5 +154,5 @@ pub record StoodBefore (x : Parts) (s : CallState) (inputs : Role → List ℕ) 
   pub begun : (receiver_end.run_of x.terms.params s.before).played ≡ 0
   pub sent : x.sender.sent ≡ length s.frames
   pub recorded : x.terms.plain ≡ false
-  pub over : x.carrier.trace.ended ≡ true → behind inputs (of Events (line_size (inputs Events))) Events ≡ []
+  pub over : x.link.trace.ended ≡ true → left_after inputs (of Events (line_size (inputs Events))) Events ≡ []
   pub holds : (later : List Frame) → HasDone x s.before (s.frames ++ later) s.past

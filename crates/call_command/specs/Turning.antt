@@ -12,7 +12,7 @@ use Rattle.call_model.specs.IdealCall.{Event, Send, Deliver, Play, Back}
 use Rattle.call_model.specs.Refusals.{Refusal}
 use Rattle.desk_program.specs.Run.{Step}
 use Rattle.desk_program.specs.Ends.{Falls, HasCause, IsStop, KeepsRoles, OnEnd, OnGoing, OnSettled, Tells, TurnGives, turn_status}
-use Rattle.one_way.specs.declared.refusals.Refusal.{Refusal as Told}
+use Rattle.one_way.specs.declared.refusals.EventRefusal.{EventRefusal as Told}
 use Rattle.one_way.specs.Refused.{IsAllowed}
 use Rattle.call_command.specs.declared.terms.Terms.{Terms}
 use Rattle.call_command.specs.declared.world.World.{World}

@@ -33,8 +33,8 @@ fn begin<D: Desk>(alloc: Global, setup: &Terms, desk: &mut D) -> Result<Begun, S
         ((D.outside desk.new).faults ≡ (D.outside desk.old).faults) }
     ensures rest { KeepsRoles (D.outside desk.old) (D.outside desk.new) }
 {
-    desk_program_laws::of_turns();
-    laws::of_the_video();
+    desk_program_laws::turn_laws();
+    laws::video_laws();
     let video = Y4mReader::head(desk)?;
     let params = Params {
         format: video.format(),
@@ -76,8 +76,8 @@ impl Acts for Call {
 
     fn act<D: Desk>(alloc: Global, setup: &Terms, desk: &mut D) -> Status {
         outside_laws::calls();
-        desk_program_laws::of_steps();
-        desk_program_laws::of_runs::<World>();
+        desk_program_laws::step_laws();
+        desk_program_laws::run_laws::<World>();
         match begin(alloc, setup, desk) {
             Ok(mut begun) => {
                 let status = converse(alloc, desk, &mut begun);

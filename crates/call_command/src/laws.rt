@@ -26,11 +26,11 @@ use back_messages::MessageFault;
 use call_decoding::{Pictured, Styled};
 use call_encoding::Framed;
 use call_model::laws::{frames_by_events, later_frames, refusals, searches};
-use desk_program::laws::of_turns;
+use desk_program::laws::turn_laws;
 use h263_bits::Fault;
 use h263_types::Mb;
 use one_way::laws as one_way_laws;
-use y4m::laws::{cut_behind, frame_by_frame};
+use y4m::laws::{cut_after, frame_by_frame};
 
 /// Of a video a call shows each frame's reconstruction, as it was coded by itself, in order, up to
 /// the video's first fault (`frames`). So it ends with `Ok` where the video has no fault, and else
@@ -45,7 +45,7 @@ pub fn a_call_shows_each_frame()
         → (run_from (call_begin (record { params = p; plain = true }) inputs) call_step 1048576
         inputs).last.status ≡ status_for (video_fault (inputs Video)) }
 {
-    one_way_laws::of_the_ends();
+    one_way_laws::call_laws();
     searches();
     frame_by_frame();
 }
@@ -108,25 +108,25 @@ pub fn talks_agree()
 {
     one_way_laws::later_frames();
     one_way_laws::ends_agree();
-    one_way_laws::of_near_events();
-    one_way_laws::of_events();
+    one_way_laws::near_event_laws();
+    one_way_laws::event_laws();
 }
 
 /// A whole head or frame stays what it is where the text after it is cut.
-pub fn of_the_video()
+pub fn video_laws()
     ensures { VideoLaws }
 {
-    cut_behind();
+    cut_after();
 }
 
 /// What the turns of lines take and leave of a trace, whatever a machine keeps in mind.
-pub fn of_lines()
+pub fn line_laws()
     ensures { LineLaws }
 {
-    of_turns();
+    turn_laws();
 }
 
 /// How many frames there are to be sent matters to a capture alone.
-pub fn of_frames_left()
+pub fn frames_left()
     ensures { FramesLeft }
 {}

@@ -14,7 +14,7 @@ ghost use Rattle.call_command.specs.Converse.{IsFirst, talk_end, talk_of};
 ghost use Rattle.call_command.specs.Standing.{CallOpens, EndsStand, source_of};
 ghost use Rattle.call_command.specs.Turning.{IsAnswer};
 
-use crate::carrier::Carrier;
+use crate::link::Link;
 use crate::world::World;
 use crate::{Begun, laws};
 use call_report::Status;
@@ -100,11 +100,11 @@ pub fn converse<D: Desk>(alloc: Global, desk: &mut D, call: &mut Begun) -> Statu
     ensures cause { HasCause result (D.outside desk.old).faults (D.outside desk.new).faults }
     ensures rest { KeepsRoles (D.outside desk.old) (D.outside desk.new) }
 {
-    desk_program_laws::of_turns();
-    desk_program_laws::of_runs::<World>();
+    desk_program_laws::turn_laws();
+    desk_program_laws::run_laws::<World>();
     laws::talks_agree();
-    one_way_laws::of_the_way();
-    let Ok(carrier) = Carrier::start(alloc, &call.terms) else {
+    one_way_laws::way_laws();
+    let Ok(link) = Link::start(alloc, &call.terms) else {
         return Status::OutOfMemory;
     };
     let mut world = World {
@@ -112,9 +112,9 @@ pub fn converse<D: Desk>(alloc: Global, desk: &mut D, call: &mut Begun) -> Statu
         video: &mut call.video,
         sender: &mut call.both.sender,
         receiver: &mut call.both.receiver,
-        trace: carrier.trace,
-        network: carrier.network,
-        frame: carrier.frame,
+        trace: link.trace,
+        network: link.network,
+        frame: link.frame,
     };
     let status = take_turns(desk, &mut world);
     let World {

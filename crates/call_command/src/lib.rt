@@ -15,10 +15,10 @@
 
 mod begun;
 mod call;
-mod carrier;
 mod counts;
 pub mod laws;
 mod lent;
+mod link;
 mod refused;
 mod show;
 mod terms;

@@ -4,24 +4,24 @@ ghost use Rattle.call_command.specs.Refused.{IsNotRefused, IsRefusedWith, fault_
 
 use call_report::Status;
 use loss_trace::TraceFault;
-use one_way::Refusal;
+use one_way::EventRefusal;
 
 // The refusal of an event, with the line that says it.
-fn fault_at(line: u32, refusal: Refusal) -> TraceFault
+fn fault_at(line: u32, refusal: EventRefusal) -> TraceFault
     ensures { result ≡ fault_at line refusal }
 {
     match refusal {
-        Refusal::NotSent => TraceFault::NotSent { line },
-        Refusal::NotSaid => TraceFault::NotSaid { line },
-        Refusal::Far { given, other } => TraceFault::Far { line, given, other },
-        Refusal::PlayBeforeSend => TraceFault::PlayBeforeSend { line },
-        Refusal::NoFrame => TraceFault::NoFrame { line },
+        EventRefusal::NotSent => TraceFault::NotSent { line },
+        EventRefusal::NotSaid => TraceFault::NotSaid { line },
+        EventRefusal::Far { given, other } => TraceFault::Far { line, given, other },
+        EventRefusal::PlayBeforeSend => TraceFault::PlayBeforeSend { line },
+        EventRefusal::NoFrame => TraceFault::NoFrame { line },
     }
 }
 
 /// Goes on where the event that a line says is not refused; otherwise the run ends with the
 /// refusal.
-pub fn allow(line: u32, checked: Result<(), Refusal>) -> Result<(), Status>
+pub fn allow(line: u32, checked: Result<(), EventRefusal>) -> Result<(), Status>
     ensures ok { OnOk result (IsNotRefused checked) }
     ensures err { IfErr result (IsRefusedWith line checked) }
 {

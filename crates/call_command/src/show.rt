@@ -52,7 +52,7 @@ fn show<D: Desk>(
     ensures rest { OnlyWrites (D.outside desk.old) (D.outside desk.new) }
 {
     outside_laws::calls();
-    desk_program_laws::of_turns();
+    desk_program_laws::turn_laws();
     put_picture(desk, mark, picture)?;
     let line = picture_line(PictureRow {
         party: None,
@@ -105,7 +105,7 @@ pub fn play_next<D: Desk>(
         (D.outside desk.new).faults.write) }
     ensures rest { OnlyWrites (D.outside desk.old) (D.outside desk.new) }
 {
-    one_way_laws::of_the_way();
+    one_way_laws::way_laws();
     let reference = network.reference_of(receiver);
     let played = network.play(receiver);
     show(

@@ -10,7 +10,8 @@ use h263_planes::PictureRef;
 use h263_types::FixedPace;
 use loss_trace::{Event, TraceFault, TraceReader};
 use one_way::{
-    Network, Refusal, check_back, check_capture, check_packet, check_play, laws as one_way_laws,
+    EventRefusal, Network, check_back, check_capture, check_packet, check_play,
+    laws as one_way_laws,
 };
 use receiver_end::Receiver;
 use sender_end::Sender;
@@ -38,12 +39,12 @@ impl<'a> World<'a> {
         requires plain { self.old.terms.plain ≡ true }
         ensures { TakesTurn self.old self.new result (D.outside desk.old) (D.outside desk.new) }
     {
-        desk_program_laws::of_turns();
-        desk_program_laws::of_steps();
+        desk_program_laws::turn_laws();
+        desk_program_laws::step_laws();
         outside_laws::calls();
-        laws::of_the_video();
-        one_way_laws::of_the_way();
-        one_way_laws::of_events();
+        laws::video_laws();
+        one_way_laws::way_laws();
+        one_way_laws::event_laws();
         one_way_laws::later_frames();
         if !self.video.frame(desk, &mut self.frame)? {
             tell_counts(desk, &self.network, self.sender, self.receiver)?;
@@ -62,10 +63,10 @@ impl<'a> World<'a> {
         requires recorded { self.old.terms.plain ≡ false }
         ensures { TakesTurn self.old self.new result (D.outside desk.old) (D.outside desk.new) }
     {
-        desk_program_laws::of_turns();
-        desk_program_laws::of_steps();
+        desk_program_laws::turn_laws();
+        desk_program_laws::step_laws();
         outside_laws::calls();
-        one_way_laws::of_the_way();
+        one_way_laws::way_laws();
         let Some((line, event)) = self.trace.next(desk)? else {
             tell_counts(desk, &self.network, self.sender, self.receiver)?;
             return Ok(false);
@@ -81,11 +82,11 @@ impl<'a> World<'a> {
         ensures { TakesLine self.old self.new line event result
             (D.outside desk.old) (D.outside desk.new) }
     {
-        desk_program_laws::of_turns();
-        desk_program_laws::of_steps();
+        desk_program_laws::turn_laws();
+        desk_program_laws::step_laws();
         one_way_laws::later_frames();
-        one_way_laws::of_the_way();
-        one_way_laws::of_near_events();
+        one_way_laws::way_laws();
+        one_way_laws::near_event_laws();
         let half = self.terms.params.clock.half();
         match event {
             Event::Nothing => Ok(true),
@@ -123,13 +124,13 @@ impl<'a> World<'a> {
         ensures { TakesFrame self.old self.new line result
             (D.outside desk.old) (D.outside desk.new) }
     {
-        desk_program_laws::of_turns();
-        desk_program_laws::of_steps();
+        desk_program_laws::turn_laws();
+        desk_program_laws::step_laws();
         outside_laws::calls();
-        laws::of_the_video();
+        laws::video_laws();
         one_way_laws::later_frames();
-        one_way_laws::of_the_way();
-        one_way_laws::of_near_events();
+        one_way_laws::way_laws();
+        one_way_laws::near_event_laws();
         if !self.video.frame(desk, &mut self.frame)? {
             return Err(Status::TraceRefused {
                 fault: TraceFault::NoFrame { line },

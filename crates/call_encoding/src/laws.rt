@@ -49,7 +49,7 @@ pub fn written_text()
 
 /// The frames of a call are coded as they are: such messages are all carried (`messages`), and a
 /// picture of the format is that picture (`picture`).
-pub fn of_the_call()
+pub fn carried_as_they_are()
     ensures messages { (clock : Clock) (messages : List Message) → length messages ≤ 4
         → AreMessages clock messages → carried clock messages ≡ messages }
     ensures picture { (f : Format) (picture : Picture) → picture.format ≡ f

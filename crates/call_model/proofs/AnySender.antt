@@ -96,7 +96,7 @@ module _ {Style Mb Picture Fault : Type 0} (decoding : Decoding Style Mb Picture
                   let got = is_packet.read_as h.0 h.2 in
                   let same : got.0 ≡ bytes = let e : Some got.0 ≡ Some bytes = sym got.1 ∙ packet in cc in
                   let d = step_deliver decoding rules lawful ruled c at.taken n j x h.0 at.good near.0 near.1 at_n h.2 in
-                  ap (λ (b : List ℕ). heard decoding rules run (decoding.read b)) (sym same) ∙ ap (heard decoding rules run) got.2 ∙ ap (λ (r : ReceiverRun Style Mb Picture). heard decoding rules r (Ok (record { header = header_of rules n x; slice = h.0 }))) at.is ∙ d.hears
+                  ap (λ (b : List ℕ). heard decoding rules run (decoding.read b)) (sym same) ∙ ap (heard decoding rules run) got.2 ∙ ap (λ (r : ReceiverRun Style Mb Picture). heard decoding rules r (Ok (record { header = header_of rules n x; slice = h.0 }))) at.is ∙ d.heard_so
               | inr h ↦ let none = is_packet.no_other h.1 in absurd (differ (sym none ∙ packet))
             ]
           where

@@ -15,7 +15,7 @@ use Rattle.code_tables.specs.Words.{word}
 use Rattle.code_tables.specs.Tables.{Event, Coefficient, level_of, sized, events, from_runs, last_0_texts, last_1_texts, tcoef_words, event_table, event_parts, event, after_word, allowed_level, signed}
 use Rattle.code_tables.specs.EventWords.{escape_text, IsBadEscape, IsEventWord, IsEventFault}
 use Rattle.code_tables.proofs.Productive.{event_productive}
-use Rattle.code_tables.proofs.FaultRows.{in_behind, level_row}
+use Rattle.code_tables.proofs.FaultRows.{in_after, level_row}
 
 -- ---- the table: each word stands for an event, but the escape
 
@@ -38,7 +38,7 @@ none_rows last run (row ∷ rows) w h = elim (in_cases (w, None) (events last ru
 
 escape_listed : IsIn (word "0000011", None) tcoef_words
 unfolding tcoef_words
-escape_listed = in_behind (word "0000011", None) (from_runs false 0 last_0_texts ++ from_runs true 0 last_1_texts) ((word "0000011", None) ∷ []) (inl refl)
+escape_listed = in_after (word "0000011", None) (from_runs false 0 last_0_texts ++ from_runs true 0 last_1_texts) ((word "0000011", None) ∷ []) (inl refl)
 
 none_is : (w : List Bool) → IsIn (w, None) tcoef_words → w ≡ word "0000011"
 unfolding tcoef_words
@@ -216,10 +216,10 @@ fields_fault rest left kind (inl f) = subst (λ (t : List Bool). IsEventFault ((
     at : IsFieldFault 1 any left kind → IsEventFault ((word "0000011" ++ []) ++ left) kind
     at (inl g) = inl (last_cut left g.0, g.1)
     at (inr g) = absurd (none_refused kind g.4)
-fields_fault rest left kind (inr a) = subst (λ (t : List Bool). IsEventFault ((word "0000011" ++ t) ++ left) kind) (sym a.4) (behind_last a.0 a.1 a.2 a.5)
+fields_fault rest left kind (inr a) = subst (λ (t : List Bool). IsEventFault ((word "0000011" ++ t) ++ left) kind) (sym a.4) (after_last a.0 a.1 a.2 a.5)
   where
-    behind_run : (last run : ℕ) (more : List Bool) → last < 2 → run < 64 → Faults (field 8 allowed_level λ level. done (escaped last run level)) more left kind → IsEventFault ((word "0000011" ++ (spelled 1 last ++ (spelled 6 run ++ more))) ++ left) kind
-    behind_run last run more lt small (inl f) = subst (λ (t : List Bool). IsEventFault ((word "0000011" ++ (spelled 1 last ++ (spelled 6 run ++ t))) ++ left) kind) (sym f.0) (at f.1)
+    after_run : (last run : ℕ) (more : List Bool) → last < 2 → run < 64 → Faults (field 8 allowed_level λ level. done (escaped last run level)) more left kind → IsEventFault ((word "0000011" ++ (spelled 1 last ++ (spelled 6 run ++ more))) ++ left) kind
+    after_run last run more lt small (inl f) = subst (λ (t : List Bool). IsEventFault ((word "0000011" ++ (spelled 1 last ++ (spelled 6 run ++ t))) ++ left) kind) (sym f.0) (at f.1)
       where
         regroup : (w a r v x : List Bool) → (w ++ (a ++ (r ++ []))) ++ (v ++ x) ≡ (w ++ (a ++ (r ++ (v ++ [])))) ++ x
         regroup w a r v x =
@@ -233,15 +233,15 @@ fields_fault rest left kind (inr a) = subst (λ (t : List Bool). IsEventFault ((
             let whole : (word "0000011" ++ (spelled 1 last ++ (spelled 6 run ++ []))) ++ left ≡ escape_text last run g.0 ++ g.1 =
             ap (λ (t : List Bool). (word "0000011" ++ (spelled 1 last ++ (spelled 6 run ++ []))) ++ t) g.3 ∙ regroup (word "0000011") (spelled 1 last) (spelled 6 run) (spelled 8 g.0) g.1 in
             inr (inl (record { last = last; run = run; level = g.0; rest = g.1; one = lt; six = small; bad = b.0; parts = whole }, b.1))
-    behind_run last run more lt small (inr g) = absurd g.5
+    after_run last run more lt small (inr g) = absurd g.5
 
-    behind_last : (last : ℕ) (more : List Bool) → last < 2 → Faults (field 6 any λ run. field 8 allowed_level λ level. done (escaped last run level)) more left kind → IsEventFault ((word "0000011" ++ (spelled 1 last ++ more)) ++ left) kind
-    behind_last last more lt (inl f) = subst (λ (t : List Bool). IsEventFault ((word "0000011" ++ (spelled 1 last ++ t)) ++ left) kind) (sym f.0) (at f.1)
+    after_last : (last : ℕ) (more : List Bool) → last < 2 → Faults (field 6 any λ run. field 8 allowed_level λ level. done (escaped last run level)) more left kind → IsEventFault ((word "0000011" ++ (spelled 1 last ++ more)) ++ left) kind
+    after_last last more lt (inl f) = subst (λ (t : List Bool). IsEventFault ((word "0000011" ++ (spelled 1 last ++ t)) ++ left) kind) (sym f.0) (at f.1)
       where
         at : IsFieldFault 6 any left kind → IsEventFault ((word "0000011" ++ (spelled 1 last ++ [])) ++ left) kind
         at (inl g) = inl (run_cut last left lt g.0, g.1)
         at (inr g) = absurd (none_refused kind g.4)
-    behind_last last more lt (inr g) = subst (λ (t : List Bool). IsEventFault ((word "0000011" ++ (spelled 1 last ++ t)) ++ left) kind) (sym g.4) (behind_run last g.0 g.1 lt g.2 g.5)
+    after_last last more lt (inr g) = subst (λ (t : List Bool). IsEventFault ((word "0000011" ++ (spelled 1 last ++ t)) ++ left) kind) (sym g.4) (after_run last g.0 g.1 lt g.2 g.5)
 
 -- a sign that is cut
 sign_fault : (w : List Bool) (e : Event) (rest left : List Bool) (kind : FaultKind) → IsIn (w, Some e) tcoef_words → Faults (after_word (Some e)) rest left kind → IsEventFault ((w ++ rest) ++ left) kind

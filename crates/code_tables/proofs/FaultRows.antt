@@ -8,7 +8,7 @@ use Rattle.h263_bits.specs.declared.fault.FaultKind.TheVariants.{Ended, BadCode,
 use Rattle.h263_bits.specs.Bits.{spelled, fields}
 use Rattle.h263_bits.specs.Syntax.{IsIn, IsProductive, Spells, reading, begins, any, done, element}
 use Rattle.h263_bits.specs.Elements.{IsWordOf, HasFault, EndsWithFault}
-use Rattle.h263_bits.proofs.SyntaxLaws.{word_only, fault_of_no_word, fault_in_element, fault_of_element, fault_behind_word, fault_behind_field, fault_here, fault_of_cut, ends_behind_word, ends_in_element, fault_of_text, spells_code, spells_field, spells_done}
+use Rattle.h263_bits.proofs.SyntaxLaws.{word_only, fault_of_no_word, fault_in_element, fault_of_element, fault_after_word, fault_after_field, fault_here, fault_of_cut, ends_after_word, ends_in_element, fault_of_text, spells_code, spells_field, spells_done}
 use Rattle.code_tables.specs.Words.{word}
 use Rattle.code_tables.specs.Mcbpc.{mcbpc, mcbpc_table, mcbpc_words, class_texts, dquant, dquant_table, dquant_words}
 use Rattle.code_tables.specs.Tables.{Event, cbpy, cbpy_table, cbpy_words, cbpy_texts, mvd, mvd_parts, magnitude_table, magnitude_words, magnitude_texts, signed, allowed_difference, event, event_parts, event_table, tcoef_words, from_runs, last_0_texts, last_1_texts, after_word, allowed_level}
@@ -78,24 +78,24 @@ sign_cut : (w : List Bool) (e : Event) → IsIn (w, Some e) tcoef_words → Ends
 unfolding event event_parts event_table
 sign_cut w e h =
     λ at. ap (λ (t : List Bool). reading event (record { at = at; bits = t })) (sym (append-nil w))
-    ∙ ends_in_element event_parts any done (w ++ []) Ended (length w + 0) (ends_behind_word event_table after_word w (Some e) [] Ended 0 h (fault_of_cut 1 any _ [] (omega arith))) at
+    ∙ ends_in_element event_parts any done (w ++ []) Ended (length w + 0) (ends_after_word event_table after_word w (Some e) [] Ended 0 h (fault_of_cut 1 any _ [] (omega arith))) at
 
-pub in_behind : {X : Type 0} (x : X) (xs ys : List X) → IsIn x ys → IsIn x (xs ++ ys)
-in_behind x [] ys h = h
-in_behind x (v ∷ xs) ys h = inr (in_behind x xs ys h)
+pub in_after : {X : Type 0} (x : X) (xs ys : List X) → IsIn x ys → IsIn x (xs ++ ys)
+in_after x [] ys h = h
+in_after x (v ∷ xs) ys h = inr (in_after x xs ys h)
 
 escape_in : IsIn (word "0000011", None) event_table.list
 unfolding event_table tcoef_words
-escape_in = in_behind (word "0000011", None) (from_runs false 0 last_0_texts) (from_runs true 0 last_1_texts ++ (word "0000011", None) ∷ []) (in_behind (word "0000011", None) (from_runs true 0 last_1_texts) ((word "0000011", None) ∷ []) (inl refl))
+escape_in = in_after (word "0000011", None) (from_runs false 0 last_0_texts) (from_runs true 0 last_1_texts ++ (word "0000011", None) ∷ []) (in_after (word "0000011", None) (from_runs true 0 last_1_texts) ((word "0000011", None) ∷ []) (inl refl))
 
 -- the fields of an escape, up to a LEVEL that is refused
 pub level_row : (last run level : ℕ) → last < 2 → run < 64 → level < 256 → allowed_level level ≡ Some BadLevel → HasFault event (word "0000011" ++ fields ((1, last) ∷ (6, run) ∷ (8, level) ∷ [])) BadLevel 0
 unfolding event event_parts
 level_row last run level l r v refused =
     fault_in_element event_parts any done (word "0000011" ++ fields ((1, last) ∷ (6, run) ∷ (8, level) ∷ [])) BadLevel 14
-    (fault_behind_word event_table after_word (word "0000011") None (fields ((1, last) ∷ (6, run) ∷ (8, level) ∷ [])) BadLevel 7 escape_in
-    (fault_behind_field 1 any _ last (fields ((6, run) ∷ (8, level) ∷ [])) BadLevel 6 l refl
-    (fault_behind_field 6 any _ run (fields ((8, level) ∷ [])) BadLevel 0 r refl
+    (fault_after_word event_table after_word (word "0000011") None (fields ((1, last) ∷ (6, run) ∷ (8, level) ∷ [])) BadLevel 7 escape_in
+    (fault_after_field 1 any _ last (fields ((6, run) ∷ (8, level) ∷ [])) BadLevel 6 l refl
+    (fault_after_field 6 any _ run (fields ((8, level) ∷ [])) BadLevel 0 r refl
     (fault_here 8 allowed_level _ level [] BadLevel v refused))))
 
 have_event_faults : HasEventFaults

@@ -126,9 +126,9 @@ option_there (o ∷ options) name h = go (bytes_eq o name) refl h (option_there 
     go true e k rest = rw e refl
     go false e k rest = rw e (rest (rw e at k))
 
-behind_front : (front rest : List Rule) (name : Text) → is_some (arg_by_id rest name) ≡ true → is_some (arg_by_id (front ++ rest) name) ≡ true
-behind_front [] rest name h = h
-behind_front (a ∷ front) rest name h = go (bytes_eq a.id name) refl (behind_front front rest name h)
+after_front : (front rest : List Rule) (name : Text) → is_some (arg_by_id rest name) ≡ true → is_some (arg_by_id (front ++ rest) name) ≡ true
+after_front [] rest name h = h
+after_front (a ∷ front) rest name h = go (bytes_eq a.id name) refl (after_front front rest name h)
   where
     go : (t : Bool) → bytes_eq a.id name ≡ t → is_some (arg_by_id (front ++ rest) name) ≡ true → is_some (arg_by_id (a ∷ (front ++ rest)) name) ≡ true
     go true e k = rw e refl
@@ -159,7 +159,7 @@ left_of front i (name ∷ names) options c all h small is =
     let rest = places_from (suc i) names ++ map option_at options in
     let here : arg_by_index (place_at i name ∷ rest) i ≡ Some (place_at i name) = rw ((Decides-eqb i i).1 refl) refl in
     let there : is_some (arg_by_id (front ++ (place_at i name ∷ rest)) name) ≡ true =
-    behind_front front (place_at i name ∷ rest) name (rw (same_bytes name) refl) in
+    after_front front (place_at i name ∷ rest) name (rw (same_bytes name) refl) in
     let small2 : suc i + length names < 1000 = omega arith in (
       rw is (h i (omega arith) (place_at i name ∷ rest) ∙ here),
       known_by_id c name all (rw is there),
@@ -322,7 +322,7 @@ setting_of places options = record {
   by_short = all_by_short 1 places options.valued options.switches;
   known = λ name h. known_first (valued_rules places options.valued) (map switch_at options.switches) name
       (known_by_id (valued_rules places options.valued) name (all_valued 1 places options.valued)
-      (behind_front (places_from 1 places) (map option_at options.valued) name (option_there options.valued name h)));
+      (after_front (places_from 1 places) (map option_at options.valued) name (option_there options.valued name h)));
   plain = all_plain 1 places options.valued options.switches;
   missing = missing 1 places options.valued options.switches;
 }

@@ -143,7 +143,7 @@ two_hyphens = 45 ∷ 45 ∷ []
 -- no character stands after a hyphen
 data IsBare (x : Text) : Type 0 where
   no_hyphen : short_of x ≡ None → IsBare x
-  nothing_behind : (flags : Text) → short_of x ≡ Some flags → slice_get (chars flags) 0 ≡ None → IsBare x
+  nothing_after : (flags : Text) → short_of x ≡ Some flags → slice_get (chars flags) 0 ≡ None → IsBare x
 
 data Looks (x : Text) : Type 0 where
   as_dashes : bytes_eq x two_hyphens ≡ true → kind_of x ≡ dashes → Looks x
@@ -156,30 +156,30 @@ looks_short x d l None e = as_plain d l (no_hyphen e) (rw (d, l, e) refl)
 looks_short x d l (Some flags) e = go (slice_get (chars flags) 0) refl
   where
     go : (f : Option ℕ) → slice_get (chars flags) 0 ≡ f → Looks x
-    go None k = as_plain d l (nothing_behind flags e k) (rw (d, l, e, k) refl)
+    go None k = as_plain d l (nothing_after flags e k) (rw (d, l, e, k) refl)
     go (Some first) k = as_short flags first d l e k (rw (d, l, e, k) refl)
 
-looks_behind : (x : Text) → bytes_eq x two_hyphens ≡ false → (l : Option (Text × Option Text)) → long_of x ≡ l → Looks x
-looks_behind x d None e = looks_short x d e (short_of x) refl
-looks_behind x d (Some p) e = as_long p.0 p.1 d e (rw (d, e) refl)
+looks_after : (x : Text) → bytes_eq x two_hyphens ≡ false → (l : Option (Text × Option Text)) → long_of x ≡ l → Looks x
+looks_after x d None e = looks_short x d e (short_of x) refl
+looks_after x d (Some p) e = as_long p.0 p.1 d e (rw (d, e) refl)
 
 looks : (x : Text) → Looks x
 looks x = go (bytes_eq x two_hyphens) refl
   where
     go : (t : Bool) → bytes_eq x two_hyphens ≡ t → Looks x
     go true e = as_dashes e (rw e refl)
-    go false e = looks_behind x e (long_of x) refl
+    go false e = looks_after x e (long_of x) refl
 
 -- a word with no flag in it
 bare_fault : (c : List Rule) (x : Text) (done : List Given) (pending : Option (Text × List Text)) → IsBare x
     → option_map_or (λ flags. bundle_fault c false flags (held done pending)) (short_of x) [] ≡ []
 bare_fault c x done pending (no_hyphen e) = rw e refl
-bare_fault c x done pending (nothing_behind flags e k) = rw e (sym (fault_ends c false (length flags) flags 0 (held done pending) (sym k)))
+bare_fault c x done pending (nothing_after flags e k) = rw e (sym (fault_ends c false (length flags) flags 0 (held done pending) (sym k)))
 
 bare_met : (c : List Rule) (waiting : Waiting) (x : Text) (done : List Given) (pending : Option (Text × List Text)) → IsBare x
     → short_or_plain c waiting x (short_of x) (held done pending) ≡ plain_word c waiting x (held done pending)
 bare_met c waiting x done pending (no_hyphen e) = rw e refl
-bare_met c waiting x done pending (nothing_behind flags e k) = rw (e, ← bundle_ends c (length flags) flags 0 bare_outcome (held done pending) (sym k)) refl
+bare_met c waiting x done pending (nothing_after flags e k) = rw (e, ← bundle_ends c (length flags) flags 0 bare_outcome (held done pending) (sym k)) refl
 
 -- a word of a flag that no command here has
 short_fault_is : (c : List Rule) (flags : Text) (first : ℕ) (done : List Given) (pending : Option (Text × List Text)) → slice_get (chars flags) 0 ≡ Some first → arg_by_short c first ≡ None

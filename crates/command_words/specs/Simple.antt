@@ -33,12 +33,12 @@ pub data Kind : Type 0 where
 abbrev pub is_short : Text → Bool
 is_short word = is_some (option_and_then (λ flags. slice_get (chars flags) 0) (short_of word))
 
-abbrev pub kind_behind : Option (Text × Option Text) → Text → Kind
-kind_behind (Some p) word = long p.0 p.1
-kind_behind None word = if is_short word then short else plain
+abbrev pub kind_after : Option (Text × Option Text) → Text → Kind
+kind_after (Some p) word = long p.0 p.1
+kind_after None word = if is_short word then short else plain
 
 abbrev pub kind_of : Text → Kind
-kind_of word = if bytes_eq word (45 ∷ 45 ∷ []) then dashes else kind_behind (long_of word) word
+kind_of word = if bytes_eq word (45 ∷ 45 ∷ []) then dashes else kind_after (long_of word) word
 
 abbrev pub is_among : List Text → Text → Bool
 is_among names name = list_any (λ n. bytes_eq n name) names

@@ -77,15 +77,15 @@ module _ (t : DemoTerms) where
   p = t.params
 
   -- what the lines say after a line
-  pub behind_line : (past : List Event) (line : Line) (lines : List Line) → made_events t past (line ∷ lines) ≡ made_events t (with_line t past line) lines
+  pub after_line : (past : List Event) (line : Line) (lines : List Line) → made_events t past (line ∷ lines) ≡ made_events t (with_line t past line) lines
   unfolding expanded
-  behind_line past line lines = refl
+  after_line past line lines = refl
 
   pub near_line : (past : List Event) (line : Line) (lines : List Line) → AllMayHappen (coding p) (rules_of p) (steady p) (made_video t) (made_events t past (line ∷ lines))
       → AllMayHappen (coding p) (rules_of p) (steady p) (made_video t) (with_line t past line)
   near_line past line lines near =
       near_before (pictures_of (coding p)) (rules_of p) (encoded (coding p) (rules_of p) (steady p) (made_video t)) (length (made_video t)) lines (with_line t past line)
-      (subst (λ (l : List Event). AllMayHappen (coding p) (rules_of p) (steady p) (made_video t) l) (behind_line past line lines) near)
+      (subst (λ (l : List Event). AllMayHappen (coding p) (rules_of p) (steady p) (made_video t) l) (after_line past line lines) near)
 
 -- ---- slices
 

@@ -27,7 +27,7 @@ use Rattle.demo_command.specs.declared.terms.DemoTerms.{DemoTerms}
 use Rattle.demo_command.specs.Demo.{DemoState, all_done, demo_step, lines_step, made_call, made_events, made_video, silent_turn, with_line}
 use Rattle.demo_command.specs.Laws.{MadeLaws}
 use Rattle.demo_command.specs.Machine.{AreInPlace, DemoStands, HasDone, sent_after}
-use Rattle.demo_command.proofs.Made.{behind_line, near_line}
+use Rattle.demo_command.proofs.Made.{after_line, near_line}
 
 -- ---- what is answered
 
@@ -43,13 +43,13 @@ cut_gives status step now inputs old new is fronts = subst (λ (y : Status). Giv
 
 -- ---- lines in place
 
-behind_in_place : (sent : ℕ) (event : Line) (lines : List Line) → AreInPlace 10000 sent (event ∷ lines) → AreInPlace 10000 (sent_after event sent) lines
-behind_in_place sent says.Nothing lines placed = placed
-behind_in_place sent says.Send lines placed = placed.1
-behind_in_place sent (says.Packet n j) lines placed = placed
-behind_in_place sent (says.All n) lines placed = placed.1
-behind_in_place sent (says.Back k) lines placed = placed
-behind_in_place sent says.Play lines placed = placed
+after_in_place : (sent : ℕ) (event : Line) (lines : List Line) → AreInPlace 10000 sent (event ∷ lines) → AreInPlace 10000 (sent_after event sent) lines
+after_in_place sent says.Nothing lines placed = placed
+after_in_place sent says.Send lines placed = placed.1
+after_in_place sent (says.Packet n j) lines placed = placed
+after_in_place sent (says.All n) lines placed = placed.1
+after_in_place sent (says.Back k) lines placed = placed
+after_in_place sent says.Play lines placed = placed
 
 -- the first of them alone
 pub first_only : (sent : ℕ) (event : Line) (lines : List Line) → AreInPlace 10000 sent (event ∷ lines) → AreInPlace 10000 sent (event ∷ [])
@@ -62,7 +62,7 @@ first_only sent says.Play lines placed = tt
 
 pub next_in_place : (sent now : ℕ) (event : Line) (all lines : List Line) → all ≡ event ∷ lines → now ≡ sent_after event sent → AreInPlace 10000 sent all → AreInPlace 10000 now lines
 next_in_place sent now event all lines is after placed =
-    subst (λ (n : ℕ). AreInPlace 10000 n lines) (sym after) (behind_in_place sent event lines (subst (λ (l : List Line). AreInPlace 10000 sent l) is placed))
+    subst (λ (n : ℕ). AreInPlace 10000 n lines) (sym after) (after_in_place sent event lines (subst (λ (l : List Line). AreInPlace 10000 sent l) is placed))
 
 -- ---- a turn
 
@@ -120,7 +120,7 @@ module _ (m : Demo) (s : DemoState) (inputs : Role → List ℕ) (k : DemoStands
         lines = sym left;
         ahead = subst (λ (x : DemoTerms). made_events x next.past lines ≡ made_events x [] (made_trace x.seed x.frames)) (sym terms)
             (ap (λ (l : List Event). made_events t l lines) (sym past_is)
-            ∙ sym (behind_line t s.past event lines)
+            ∙ sym (after_line t s.past event lines)
             ∙ ap (λ (l : List Line). made_events t s.past l) (sym (k.lines ∙ is))
             ∙ k.ahead);
         done = subst (λ (l : List Event). HasDone after l) past_is done;

@@ -2,7 +2,7 @@
 use Rattle.std.proofs.Common.{◌≡◌, ℕ, List, [], ◌∷◌, ◌++◌, length, refl, ap}
 use Rattle.h263_outside.specs.declared.desk.Role.{Role}
 use Rattle.loss_trace.specs.declared.event.Event.{Event as Line}
-use Rattle.desk_program.specs.Run.{End, Run, behind, run_from, run_of, texts_of}
+use Rattle.desk_program.specs.Run.{End, Run, left_after, run_from, run_of, texts_of}
 use Rattle.desk_program.specs.Texts.{no_bytes}
 use Rattle.make_input.specs.Expanded.{expanded}
 use Rattle.make_input.specs.Trace.{made_trace}
@@ -24,12 +24,12 @@ silent : (t : DemoTerms) (lines : List Line) (past : List Event) (inputs : Role 
 unfolding run_of expanded
 silent t [] past inputs = record { last = refl; texts = λ r. refl }
 silent t (line ∷ lines) past inputs =
-    let rest = silent t lines (with_line t past line) (behind inputs no_bytes) in
+    let rest = silent t lines (with_line t past line) (left_after inputs no_bytes) in
     record { last = rest.last; texts = rest.texts }
 
 pub tells : (t : DemoTerms) (inputs : Role → List ℕ) → TellsCounts t (run_from (demo_begin t inputs) demo_step (most_turns t) inputs)
 tells t inputs =
-    let run = silent t (made_trace t.seed t.frames) [] (behind inputs no_bytes) in
+    let run = silent t (made_trace t.seed t.frames) [] (left_after inputs no_bytes) in
     record {
       status = ap (λ (last : End). last.status) run.last;
       texts = λ r. (λ i. run.texts r i ++ (run.last i).texts r);

@@ -39,10 +39,10 @@ impl Turns for Demo {
     ghost reading = { λ _. None };
 
     fn turn<D: Desk>(&mut self, desk: &mut D) -> Result<bool, Status> {
-        desk_program_laws::of_turns();
-        one_way_laws::of_the_way();
+        desk_program_laws::turn_laws();
+        one_way_laws::way_laws();
         one_way_laws::ends_agree();
-        laws::of_made_input();
+        laws::made_laws();
         let Some(event) = self.lines.next() else {
             tell_counts(desk, &self.network, &self.both.sender, &self.both.receiver)?;
             return Ok(false);
@@ -70,9 +70,9 @@ impl Begins for Demo {
     ghost source = { λ _. None };
 
     fn start<D: Desk>(alloc: Global, setup: &DemoTerms, _: &mut D) -> Result<Demo, Status> {
-        desk_program_laws::of_turns();
-        desk_program_laws::of_runs::<Demo>();
-        one_way_laws::of_the_way();
+        desk_program_laws::turn_laws();
+        desk_program_laws::run_laws::<Demo>();
+        one_way_laws::way_laws();
         let params = setup.params;
         let network = Network::start(alloc, &params, params.clock.period())?;
         let frame = vec![in alloc; 0; params.format.size() as usize]?;

@@ -28,7 +28,7 @@ pub fn counts_are_told()
 
 /// No line of the made trace is refused in the call of the made video: each of its events is in
 /// place and near. And each picture that is sent has a slice.
-pub fn of_made_input()
+pub fn made_laws()
     ensures { (t : DemoTerms) → IsParams t.params → MadeLaws t }
 {
     is_coding();

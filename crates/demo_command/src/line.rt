@@ -38,8 +38,8 @@ impl Demo {
         ensures done { (past : List Happens) → HasDone self.old past
             → IsNearNow self.old.terms (Send ∷ past) → HasDone self.new (Send ∷ past) }
     {
-        one_way_laws::of_the_way();
-        one_way_laws::of_near_events();
+        one_way_laws::way_laws();
+        one_way_laws::near_event_laws();
         let format = self.terms.params.format;
         make_frame(
             format,
@@ -69,10 +69,10 @@ impl Demo {
             → IsNearNow self.old.terms (with_line self.old.terms past event)
             → HasDone self.new (with_line self.old.terms past event) }
     {
-        one_way_laws::of_the_way();
+        one_way_laws::way_laws();
         one_way_laws::ends_agree();
-        one_way_laws::of_near_events();
-        laws::of_made_input();
+        one_way_laws::near_event_laws();
+        laws::made_laws();
         match event {
             Event::Nothing => {}
             Event::Send => self.send_made(),

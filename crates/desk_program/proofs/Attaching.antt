@@ -139,18 +139,18 @@ not_attached (Err x) s first order i d old new below a roles same gave kind = su
     before : AreAttached (first ++ names (take i order)) new
     before = still_attached _ old new roles same a
 
-    behind_these : (first ++ names (take i order)) ++ names (drop i order) ≡ first ++ names order
-    behind_these = append_assoc first (names (take i order)) (names (drop i order)) ∙ ap (λ (l : List (Role × List ℕ)). first ++ l) (names_whole order i)
+    after_these : (first ++ names (take i order)) ++ names (drop i order) ≡ first ++ names order
+    after_these = append_assoc first (names (take i order)) (names (drop i order)) ∙ ap (λ (l : List (Role × List ℕ)). first ++ l) (names_whole order i)
 
     by_kind : (s : Status) → (s ≡ OpenFault (get_or order i d).0) ⊎ (s ≡ OutOfMemory) → AttachedAt (first ++ names order) s new
     by_kind s (inl is) = subst (λ (s : Status). AttachedAt (first ++ names order) s new) (sym is) (record {
       first = first ++ names (take i order);
       name = (get_or order i d).1.now;
       rest = names (drop (i + 1) order);
-      whole = ap (λ (l : List (Role × List ℕ)). (first ++ names (take i order)) ++ l) (sym (names_rest order i d below)) ∙ behind_these;
+      whole = ap (λ (l : List (Role × List ℕ)). (first ++ names (take i order)) ++ l) (sym (names_rest order i d below)) ∙ after_these;
       attached = before;
     })
-    by_kind s (inr is) = subst (λ (s : Status). AttachedAt (first ++ names order) s new) (sym is) (record { first = first ++ names (take i order); rest = names (drop i order); whole = behind_these; attached = before })
+    by_kind s (inr is) = subst (λ (s : Status). AttachedAt (first ++ names order) s new) (sym is) (record { first = first ++ names (take i order); rest = names (drop i order); whole = after_these; attached = before })
 
 true_if : (b a : Bool) → a ≡ true → (if b then true else a) ≡ true
 true_if true a is = refl

@@ -10,7 +10,7 @@ use Rattle.call_report.specs.Status.{Phase, phase}
 use Rattle.call_report.specs.Status.Phase.{finished, refused, unread, unwritten, starved, unasked, unopened}
 use Rattle.call_report.specs.Text.{status_text}
 use Rattle.desk_program.specs.Run.{Turn, Run, texts_of, text_of}
-use Rattle.desk_program.specs.Ends.{ComesAtOpening, Gains, GainsFronts, ReadOutIn, IsReadOut, silent, IsExactly, IsCutBehind, EndedIn, HasEnded}
+use Rattle.desk_program.specs.Ends.{ComesAtOpening, Gains, GainsFronts, ReadOutIn, IsReadOut, silent, IsExactly, IsCutAfter, EndedIn, HasEnded}
 use Rattle.desk_program.specs.Attached.{AttachedAt}
 use Rattle.desk_program.specs.Lines.{end_text, Finishes}
 use Rattle.desk_program.specs.Promises.{SettlesIn, StopsIn, HasTexts, ReportIn, HasPrefixes}
@@ -144,8 +144,8 @@ module _ (run : Run) (inputs : Role → List ℕ) (old : Role → Option (List �
     };
   }
 
-  cut_behind : (status : Status) (done rest : List Turn) → done ++ rest ≡ run.turns → Gains (λ r. texts_of done r ++ []) old mid.written → Ending status mid.written new.written → IsCutBehind run (end_text) old new.written
-  cut_behind status done rest front gains end = record {
+  cut_after : (status : Status) (done rest : List Turn) → done ++ rest ≡ run.turns → Gains (λ r. texts_of done r ++ []) old mid.written → Ending status mid.written new.written → IsCutAfter run (end_text) old new.written
+  cut_after status done rest front gains end = record {
     done = done;
     rest = rest;
     front = front;
@@ -159,10 +159,10 @@ module _ (run : Run) (inputs : Role → List ℕ) (old : Role → Option (List �
   not_told : (p : Phase) (status : Status) → phase status ≡ p → EndedIn p run silent status inputs old mid → Ending status mid.written new.written → new.left ≡ mid.left → HasEnded run end_text WriteFault inputs old new
   not_told finished status is e end same = inl (cut_line status e end)
   not_told refused status is e end same = inl (cut_line status e end)
-  not_told starved status is e end same = inr (cut_behind status e.done e.rest e.front e.written end)
-  not_told unread status is e end same = inr (cut_behind status e.done e.rest e.front e.written end)
-  not_told unasked status is e end same = inr (cut_behind status [] run.turns refl e end)
-  not_told (unopened role) status is e end same = inr (cut_behind status [] run.turns refl e end)
+  not_told starved status is e end same = inr (cut_after status e.done e.rest e.front e.written end)
+  not_told unread status is e end same = inr (cut_after status e.done e.rest e.front e.written end)
+  not_told unasked status is e end same = inr (cut_after status [] run.turns refl e end)
+  not_told (unopened role) status is e end same = inr (cut_after status [] run.turns refl e end)
   not_told unwritten status is e end same =
       let quiet : (r : Role) → end_text status r ≡ [] = λ r. ap (λ (l : List ℕ). if is_role Report r then l else []) (no_line status is) ∙ no_text (is_role Report r) in
       told unwritten WriteFault refl e

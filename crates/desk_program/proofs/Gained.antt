@@ -13,8 +13,8 @@ gained-gained None a b = refl
 gained-gained (Some xs) a b = ap (λ (l : List ℕ). Some l) (append_assoc xs a b)
 
 -- a prefix of a part that comes after what was gained is a prefix of the whole
-pub front_behind : (before part rest all : List ℕ) (old middle new : Option (List ℕ)) → before ++ (part ++ rest) ≡ all → middle ≡ gained old before → Front part middle new → Front all old new
-front_behind before part rest all old middle new whole gains f = record {
+pub front_after : (before part rest all : List ℕ) (old middle new : Option (List ℕ)) → before ++ (part ++ rest) ≡ all → middle ≡ gained old before → Front part middle new → Front all old new
+front_after before part rest all old middle new whole gains f = record {
   rest = f.rest ++ rest;
   so_far = record {
     front = before ++ f.so_far.front;

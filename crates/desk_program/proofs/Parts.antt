@@ -6,7 +6,7 @@ use Rattle.h263_outside.specs.Gains.{gained}
 use Rattle.h263_outside.specs.declared.desk.Role.{Role}
 use Rattle.h263_outside.specs.declared.desk.Role.TheVariants.{Video, Events, Pictures, Wire, Report, Video2, Pictures2}
 use Rattle.call_report.specs.declared.status.Status.{Status}
-use Rattle.desk_program.specs.Run.{behind, refusal}
+use Rattle.desk_program.specs.Run.{left_after, refusal}
 use Rattle.desk_program.specs.Ends.{Tells, Gains, GainsFronts, EndsBy}
 use Rattle.desk_program.proofs.Gained.{gained-nil, gained-gained}
 use Rattle.desk_program.specs.Texts.{no_texts, on, then_also, no_bytes, of, and_of}
@@ -62,7 +62,7 @@ fronts_second first second old mid new p q = λ r. record {
 -- ---- reads
 
 -- nothing was taken
-pub tells_none : (old new : Outside) (inputs : Role → List ℕ) → new.left ≡ old.left → Tells old inputs → Tells new (behind inputs no_bytes)
+pub tells_none : (old new : Outside) (inputs : Role → List ℕ) → new.left ≡ old.left → Tells old inputs → Tells new (left_after inputs no_bytes)
 tells_none old new inputs same told = λ r input. ap (λ (l : Role → Option (List ℕ)). l r) same ∙ told r input
 
 -- bytes of one input were taken, and the others stay
@@ -129,10 +129,10 @@ same_is Pictures2 = refl
 apart : (role r : Role) → is_role role r ≡ false → r ≢ role
 apart role r differ same = absurd (cc (same_is role, ap (λ (x : Role). is_role role x) same))
 
-pub tells_one : (role : Role) (n : ℕ) (old new : Outside) (inputs : Role → List ℕ) → Tells old inputs → new.left role ≡ Some (drop n (inputs role)) → ((r : Role) → r ≢ role → new.left r ≡ old.left r) → Tells new (behind inputs (of role n))
+pub tells_one : (role : Role) (n : ℕ) (old new : Outside) (inputs : Role → List ℕ) → Tells old inputs → new.left role ≡ Some (drop n (inputs role)) → ((r : Role) → r ≢ role → new.left r ≡ old.left r) → Tells new (left_after inputs (of role n))
 tells_one role n old new inputs told lost others = λ r input. at r input (is_role role r) refl
   where
-    at : (r : Role) → IsInput r → (t : Bool) → is_role role r ≡ t → new.left r ≡ Some (behind inputs (of role n) r)
+    at : (r : Role) → IsInput r → (t : Bool) → is_role role r ≡ t → new.left r ≡ Some (left_after inputs (of role n) r)
     at r input true is = ap new.left (sym (is_same role r is)) ∙ lost ∙ (λ i. Some (drop (if sym is i then n else 0) (inputs (is_same role r is i))))
     at r input false is = others r (apart role r is) ∙ told r input ∙ ap (λ (t : Bool). Some (drop (if t then n else 0) (inputs r))) (sym is)
 
@@ -143,13 +143,13 @@ tells_end role old new inputs told none gone others = λ r input. at r input (is
     at r input true is = ap new.left (sym (is_same role r is)) ∙ gone ∙ ap (λ (l : List ℕ). Some l) (sym none ∙ ap inputs (is_same role r is))
     at r input false is = others r (apart role r is) ∙ told r input
 
-pub tells_both : (first second : Role → ℕ) (new : Outside) (inputs : Role → List ℕ) → Tells new (behind (behind inputs first) second) → Tells new (behind inputs (and_of first second))
+pub tells_both : (first second : Role → ℕ) (new : Outside) (inputs : Role → List ℕ) → Tells new (left_after (left_after inputs first) second) → Tells new (left_after inputs (and_of first second))
 tells_both first second new inputs told = λ r input. told r input ∙ ap (λ (l : List ℕ). Some l) (drop-drop (second r) (first r) (inputs r))
 
 -- ---- ends
 
 -- an end that takes this much of each input
-pub ends_at : (status : Status) (taken : Role → ℕ) (texts inputs : Role → List ℕ) (old new : Outside) → Tells new (behind inputs taken) → Gains texts old.written new.written → EndsBy (record { status = status; taken = λ r. Some (taken r); texts = texts }) status inputs old new
+pub ends_at : (status : Status) (taken : Role → ℕ) (texts inputs : Role → List ℕ) (old new : Outside) → Tells new (left_after inputs taken) → Gains texts old.written new.written → EndsBy (record { status = status; taken = λ r. Some (taken r); texts = texts }) status inputs old new
 ends_at status taken texts inputs old new told gains = record {
   known = refl;
   left = λ r input k said. told r input ∙ ap (λ (n : ℕ). Some (drop n (inputs r))) (same (taken r) k (cc said));

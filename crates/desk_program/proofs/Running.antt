@@ -9,11 +9,11 @@ use Rattle.call_report.specs.declared.status.Status.{Status}
 use Rattle.call_report.specs.declared.status.Status.TheVariants.{Ok as Fine}
 use Rattle.call_report.specs.Status.{Phase, phase}
 use Rattle.call_report.specs.Status.Phase.{finished, refused, unread, unwritten, starved, unasked, unopened}
-use Rattle.desk_program.specs.Run.{Turn, End, Step, Run, run_of, run_from, end_state, follow_state, follow, silence, behind, texts_of, text_of, taken_of, IsWholeTurn}
+use Rattle.desk_program.specs.Run.{Turn, End, Step, Run, run_of, run_from, end_state, follow_state, follow, silence, left_after, texts_of, text_of, taken_of, IsWholeTurn}
 use Rattle.desk_program.specs.Run.Step.{Goes, Ends}
 use Rattle.desk_program.specs.Ends.{Tells, Gains, GainsFronts, IsPart, KeepsRoles, Went, Ended, Lost, TurnGives, GivesUp, step_texts, step_turns, IsExactly, IsSoFar, IsWholeOnly, EndedIn, HasEnded, silent, Falls, OnGoing, OnEnd, OnceSettled, OnSettled, ComesAtStart, ComesAtStop, ComesLater, ReadOutIn}
 use Rattle.desk_program.specs.UnderWay.{IsUnderWay, EndsIn, LeftIn}
-use Rattle.desk_program.proofs.Gained.{gained-nil, gained-gained, front_behind}
+use Rattle.desk_program.proofs.Gained.{gained-nil, gained-gained, front_after}
 
 -- ---- lists of turns
 
@@ -31,19 +31,19 @@ whole-append a t all is = All-append IsWholeTurn a (t ∷ []) all (All-cons IsWh
 -- ---- the run, unfolded once
 
 -- what comes after a step
-pub behind_step : {State : Type 0} → (State → (Role → List ℕ) → Step State) → ℕ → (Role → List ℕ) → State → (Role → ℕ) → Run
-behind_step step zero inputs next taken = silence
-behind_step step (suc n) inputs next taken = run_of step n next (behind inputs taken)
+pub after_step : {State : Type 0} → (State → (Role → List ℕ) → Step State) → ℕ → (Role → List ℕ) → State → (Role → ℕ) → Run
+after_step step zero inputs next taken = silence
+after_step step (suc n) inputs next taken = run_of step n next (left_after inputs taken)
 
-pub run_is : {State : Type 0} (step : State → (Role → List ℕ) → Step State) (n : ℕ) (s : State) (inputs : Role → List ℕ) → run_of step n s inputs ≡ follow (step s inputs) (behind_step step n inputs)
-unfolding run_of behind_step
+pub run_is : {State : Type 0} (step : State → (Role → List ℕ) → Step State) (n : ℕ) (s : State) (inputs : Role → List ℕ) → run_of step n s inputs ≡ follow (step s inputs) (after_step step n inputs)
+unfolding run_of after_step
 run_is step zero s inputs = refl
 run_is step (suc n) s inputs = refl
 
 run_goes : {State : Type 0} (step : State → (Role → List ℕ) → Step State) (n : ℕ) (s : State) (inputs : Role → List ℕ) (next : State) (t : Turn) → step s inputs ≡ Goes next t
-    → run_of step (suc n) s inputs ≡ record { turns = t ∷ (run_of step n next (behind inputs t.taken)).turns; last = (run_of step n next (behind inputs t.taken)).last }
+    → run_of step (suc n) s inputs ≡ record { turns = t ∷ (run_of step n next (left_after inputs t.taken)).turns; last = (run_of step n next (left_after inputs t.taken)).last }
 unfolding run_of
-run_goes {State} step n s inputs next t is = ap (λ (x : Step State). follow x (λ next taken. run_of step n next (behind inputs taken))) is
+run_goes {State} step n s inputs next t is = ap (λ (x : Step State). follow x (λ next taken. run_of step n next (left_after inputs taken))) is
 
 -- where these bytes don't hold the first turn of a step, they don't hold the first of the run
 part_follow : {State : Type 0} (x : Step State) (rest : State → (Role → ℕ) → Run) (k : Role → ℕ) → IsPart (step_turns x) k → IsPart (follow x rest).turns k
@@ -68,7 +68,7 @@ pub record IsBefore {State : Type 0} (x : Step State) (cont : State → (Role �
   pub rest : Role → List ℕ
   pub turns : done ++ (follow x cont).turns ≡ run.turns
   pub last : (follow x cont).last ≡ run.last
-  pub place : rest ≡ behind inputs (taken_of done)
+  pub place : rest ≡ left_after inputs (taken_of done)
   pub whole : reads ≡ true → All IsWholeTurn done
   pub written : Gains (texts_of done) start now.written
 
@@ -77,16 +77,16 @@ module _ {State : Type 0} (x : Step State) (cont : State → (Role → ℕ) → 
   place_at : (k : ℕ) (r : Role) → drop k (p.rest r) ≡ drop (taken_of p.done r + k) (inputs r)
   place_at k r = ap (λ (f : Role → List ℕ). drop k (f r)) p.place ∙ drop-drop k (taken_of p.done r) (inputs r)
 
-  place_behind : (k : ℕ) (r : Role) → drop k (p.rest r) ≡ drop (taken_of (p.done) r + (k + 0)) (inputs r)
-  place_behind k r = place_at k r ∙ ap (λ (n : ℕ). drop (taken_of p.done r + n) (inputs r)) (sym (add-zero k))
+  place_after : (k : ℕ) (r : Role) → drop k (p.rest r) ≡ drop (taken_of (p.done) r + (k + 0)) (inputs r)
+  place_after k r = place_at k r ∙ ap (λ (n : ℕ). drop (taken_of p.done r + n) (inputs r)) (sym (add-zero k))
 
   -- a text after that of the turns so far
   gains_more : (bytes : List ℕ) (r : Role) → new.written r ≡ gained (old.written r) bytes → new.written r ≡ gained (start r) (texts_of p.done r ++ bytes)
   gains_more bytes r is = is ∙ ap (λ (o : Option (List ℕ)). gained o bytes) (p.written r) ∙ gained-gained (start r) (texts_of p.done r) bytes
 
   -- one turn more is done
-  pub more_place : (t : Turn) → behind p.rest t.taken ≡ behind inputs (taken_of (p.done ++ t ∷ []))
-  more_place t = λ i r. (place_behind (t.taken r) r ∙ ap (λ (n : ℕ). drop n (inputs r)) (sym (taken-append p.done (t ∷ []) r))) i
+  pub more_place : (t : Turn) → left_after p.rest t.taken ≡ left_after inputs (taken_of (p.done ++ t ∷ []))
+  more_place t = λ i r. (place_after (t.taken r) r ∙ ap (λ (n : ℕ). drop n (inputs r)) (sym (taken-append p.done (t ∷ []) r))) i
 
   pub more_written : (t : Turn) → Gains t.texts old.written new.written → Gains (texts_of (p.done ++ t ∷ [])) start new.written
   more_written t w = λ r.
@@ -138,7 +138,7 @@ module _ {State : Type 0} (x : Step State) (cont : State → (Role → ℕ) → 
 
   cut : GainsFronts (step_texts x) old.written new.written → GainsFronts (λ r. text_of run r ++ []) start new.written
   cut fronts = λ r.
-      front_behind (texts_of p.done r) (step_texts x r) (tail_of x cont r) (text_of run r ++ []) (start r) (old.written r) (new.written r)
+      front_after (texts_of p.done r) (step_texts x r) (tail_of x cont r) (text_of run r ++ []) (start r) (old.written r) (new.written r)
       (whole_text r ∙ sym (append-nil (text_of run r))) (p.written r) (fronts r)
 
   -- a step that doesn't go on ends the run
@@ -155,7 +155,7 @@ module _ {State : Type 0} (x : Step State) (cont : State → (Role → ℕ) → 
 
 -- before the first step nothing is done
 abbrev pub at_start : {State : Type 0} (first : Step State) (step : State → (Role → List ℕ) → Step State) (most : ℕ) (inputs : Role → List ℕ) (now : Outside)
-    → IsBefore first (λ next taken. run_of step most next (behind inputs taken)) (run_from first step most inputs) inputs now.written true now
+    → IsBefore first (λ next taken. run_of step most next (left_after inputs taken)) (run_from first step most inputs) inputs now.written true now
 at_start first step most inputs now = record {
   done = [];
   rest = inputs;
@@ -170,14 +170,14 @@ pub started : {State : Type 0} (first : Step State) (step : State → (Role → 
     → Went first stands reads true inputs old new → IsUnderWay step reads (run_from first step most inputs) inputs old.written stands most new
 started {State} first step reads most inputs old new stands w =
     let p = at_start first step most inputs old in
-    let next = run_of step most w.next (behind inputs w.turn.taken) in
+    let next = run_of step most w.next (left_after inputs w.turn.taken) in
     record {
       done = w.turn ∷ [];
       state = w.next;
-      rest = behind inputs w.turn.taken;
+      rest = left_after inputs w.turn.taken;
       kept = w.kept;
-      turns = more_turns _ _ _ _ _ _ old _ p w.turn next (ap (λ (y : Step State). follow y (λ next taken. run_of step most next (behind inputs taken))) w.is);
-      last = ap (λ (y : Step State). (follow y (λ next taken. run_of step most next (behind inputs taken))).last) (sym w.is);
+      turns = more_turns _ _ _ _ _ _ old _ p w.turn next (ap (λ (y : Step State). follow y (λ next taken. run_of step most next (left_after inputs taken))) w.is);
+      last = ap (λ (y : Step State). (follow y (λ next taken. run_of step most next (left_after inputs taken))).last) (sym w.is);
       place = more_place _ _ _ _ _ _ old _ p w.turn;
       told = w.left;
       whole = λ can. All-cons IsWholeTurn w.turn [] (w.whole ∙ can) (All-nil IsWholeTurn);
@@ -188,7 +188,7 @@ started {State} first step reads most inputs old new stands w =
 
 module _ {State : Type 0} (step : State → (Role → List ℕ) → Step State) (reads : State → Bool) (run : Run) (inputs : Role → List ℕ) (start : Role → Option (List ℕ)) (old new : Outside) (stands : State → (Role → List ℕ) → Type 0) (more : ℕ) (p : IsUnderWay step reads run inputs start stands more old) where
   -- the same run, before its next step
-  abbrev pub before_step : IsBefore (step p.state p.rest) (behind_step step more p.rest) run inputs start (reads p.state) old
+  abbrev pub before_step : IsBefore (step p.state p.rest) (after_step step more p.rest) run inputs start (reads p.state) old
   before_step = record {
     done = p.done;
     rest = p.rest;
@@ -201,14 +201,14 @@ module _ {State : Type 0} (step : State → (Role → List ℕ) → Step State) 
 
   pub goes_on : (after : State → (Role → List ℕ) → Type 0) (fewer : ℕ) → fewer + 1 ≡ more → Went (step p.state p.rest) after reads (reads p.state) p.rest old new → IsUnderWay step reads run inputs start after fewer new
   goes_on after fewer less w =
-      let next = run_of step fewer w.next (behind p.rest w.turn.taken) in
+      let next = run_of step fewer w.next (left_after p.rest w.turn.taken) in
       let is : run_of step more p.state p.rest ≡ record { turns = w.turn ∷ next.turns; last = next.last } =
       ap (λ (n : ℕ). run_of step n p.state p.rest) (sym less ∙ add-one fewer) ∙ run_goes step fewer p.state p.rest w.next w.turn w.is in
       let b = before_step in
       record {
         done = p.done ++ w.turn ∷ [];
         state = w.next;
-        rest = behind p.rest w.turn.taken;
+        rest = left_after p.rest w.turn.taken;
         kept = w.kept;
         turns = append_assoc p.done (w.turn ∷ []) next.turns ∙ ap (λ (y : Run). p.done ++ y.turns) (sym is) ∙ p.turns;
         last = ap (λ (y : Run). y.last) (sym is) ∙ p.last;
@@ -286,20 +286,20 @@ tells_still old new inputs same told = λ r input. ap (λ (l : Role → Option (
 
 -- ---- the state at the end
 
-state_goes : {State : Type 0} (step : State → (Role → List ℕ) → Step State) (n : ℕ) (s : State) (inputs : Role → List ℕ) (next : State) (t : Turn) → step s inputs ≡ Goes next t → end_state step (suc n) s inputs ≡ end_state step n next (behind inputs t.taken)
+state_goes : {State : Type 0} (step : State → (Role → List ℕ) → Step State) (n : ℕ) (s : State) (inputs : Role → List ℕ) (next : State) (t : Turn) → step s inputs ≡ Goes next t → end_state step (suc n) s inputs ≡ end_state step n next (left_after inputs t.taken)
 unfolding end_state
-state_goes {State} step n s inputs next t is = ap (λ (x : Step State). follow_state x s (λ next taken. end_state step n next (behind inputs taken))) is
+state_goes {State} step n s inputs next t is = ap (λ (x : Step State). follow_state x s (λ next taken. end_state step n next (left_after inputs taken))) is
 
 state_ends : {State : Type 0} (step : State → (Role → List ℕ) → Step State) (n : ℕ) (s : State) (inputs : Role → List ℕ) (last : End) → step s inputs ≡ Ends last → end_state step n s inputs ≡ s
 unfolding end_state
 state_ends {State} step zero s inputs last is = refl
-state_ends {State} step (suc n) s inputs last is = ap (λ (x : Step State). follow_state x s (λ next taken. end_state step n next (behind inputs taken))) is
+state_ends {State} step (suc n) s inputs last is = ap (λ (x : Step State). follow_state x s (λ next taken. end_state step n next (left_after inputs taken))) is
 
 module _ {State : Type 0} (step : State → (Role → List ℕ) → Step State) (reads : State → Bool) (final : State) (old new : Outside) (stands : State → (Role → List ℕ) → Type 0) (more : ℕ) (p : EndsIn step final stands more old) where
   pub state_on : (after : State → (Role → List ℕ) → Type 0) (fewer : ℕ) → fewer + 1 ≡ more → Went (step p.state p.rest) after reads (reads p.state) p.rest old new → EndsIn step final after fewer new
   state_on after fewer less w = record {
     state = w.next;
-    rest = behind p.rest w.turn.taken;
+    rest = left_after p.rest w.turn.taken;
     kept = w.kept;
     told = w.left;
     ends = sym (ap (λ (n : ℕ). end_state step n p.state p.rest) (sym less ∙ add-one fewer) ∙ state_goes step fewer p.state p.rest w.next w.turn w.is) ∙ p.ends;

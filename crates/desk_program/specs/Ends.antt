@@ -8,7 +8,7 @@ use Rattle.call_report.specs.declared.status.Status.{Status}
 use Rattle.call_report.specs.declared.status.Status.TheVariants.{Ok as Fine}
 use Rattle.call_report.specs.Status.{Phase, phase}
 use Rattle.call_report.specs.Status.Phase.{finished, refused, unread, unwritten, starved, unasked, unopened}
-use Rattle.desk_program.specs.Run.{Turn, End, Step, Run, behind, texts_of, text_of, taken_of, IsWholeTurn}
+use Rattle.desk_program.specs.Run.{Turn, End, Step, Run, left_after, texts_of, text_of, taken_of, IsWholeTurn}
 use Rattle.desk_program.specs.Run.Step.{Goes, Ends}
 
 -- the desk tells that this much is left of each input
@@ -31,7 +31,7 @@ IsTaken (Some k) n = k ≡ n
 -- what is left after an end: where it says how much it takes, just that is gone
 abbrev pub LeavesBehind : (Role → Option ℕ) → (Role → List ℕ) → (Role → ℕ) → Outside → Type 0
 LeavesBehind taken inputs before now = (r : Role) → IsInput r
-    → (k : ℕ) → taken r ≡ Some k → now.left r ≡ Some (behind inputs (λ r. before r + k) r)
+    → (k : ℕ) → taken r ≡ Some k → now.left r ≡ Some (left_after inputs (λ r. before r + k) r)
 
 -- these bytes hold the whole turn
 abbrev pub holds : Turn → (Role → ℕ) → Bool
@@ -118,9 +118,9 @@ pub record Went {State : Type 0} (step : Step State) (stands : State → (Role �
   pub turn : Turn
   pub could : now ≡ true
   pub is : step ≡ Goes next turn
-  pub kept : stands next (behind inputs turn.taken)
+  pub kept : stands next (left_after inputs turn.taken)
   pub whole : turn.whole ≡ reads next
-  pub left : Tells new (behind inputs turn.taken)
+  pub left : Tells new (left_after inputs turn.taken)
   pub written : Gains turn.texts old.written new.written
 
 -- this end has come: its status, and what it takes and writes
@@ -152,7 +152,7 @@ pub record Lost {State : Type 0}
   pub part : Role → ℕ
   pub partly : IsPart (step_turns step) part
   pub could : reads ≡ true
-  pub left : Tells new (behind inputs part)
+  pub left : Tells new (left_after inputs part)
   pub written : new.written ≡ old.written
 
 -- what a turn that gives up makes of a desk
@@ -262,11 +262,11 @@ pub record IsWholeOnly (run : Run) (after : Role → List ℕ)
   pub whole : All IsWholeTurn done
   pub part : Role → ℕ
   pub partly : IsPart rest part
-  pub left : Tells new (behind inputs (λ r. taken_of done r + part r))
+  pub left : Tells new (left_after inputs (λ r. taken_of done r + part r))
   pub written : Gains (λ r. texts_of done r ++ after r) old new.written
 
 -- the texts of some first turns, and then a prefix of what another end writes
-pub record IsCutBehind (run : Run) (after : Status → Role → List ℕ) (old new : Role → Option (List ℕ)) : Type 0 where
+pub record IsCutAfter (run : Run) (after : Status → Role → List ℕ) (old new : Role → Option (List ℕ)) : Type 0 where
   pub done : List Turn
   pub rest : List Turn
   pub front : done ++ rest ≡ run.turns
@@ -284,7 +284,7 @@ EndedIn refused run after status inputs old new = IsExactly run after status inp
 EndedIn unread run after status inputs old new = IsWholeOnly run (after status) inputs old new
 EndedIn starved run after status inputs old new = IsSoFar run (after status) old new
 EndedIn unwritten run after status inputs old new =
-    GainsFronts (λ r. text_of run r ++ after run.last.status r) old new.written ⊎ IsCutBehind run after old new.written
+    GainsFronts (λ r. text_of run r ++ after run.last.status r) old new.written ⊎ IsCutAfter run after old new.written
 EndedIn unasked run after status inputs old new = Gains (after status) old new.written
 EndedIn (unopened role) run after status inputs old new = Gains (after status) old new.written
 

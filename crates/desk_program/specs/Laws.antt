@@ -9,7 +9,7 @@ use Rattle.loss_trace.specs.declared.fault.TraceStop.TheVariants as trace
 use Rattle.call_report.specs.declared.status.Status.{Status}
 use Rattle.call_report.specs.declared.status.Status.TheVariants.{OutOfMemory}
 use Rattle.call_report.specs.Status.{phase, trace_stop, video_stop}
-use Rattle.desk_program.specs.Run.{Run, Step, behind, refusal, run_from}
+use Rattle.desk_program.specs.Run.{Run, Step, left_after, refusal, run_from}
 use Rattle.desk_program.specs.Ends.{Tells, Gains, GainsFronts, EndsBy, GivesUp, HasCause, HasEnded, IsStop, KeepsRoles, Went, silent, turn_status}
 use Rattle.desk_program.specs.UnderWay.{IsUnderWay}
 use Rattle.desk_program.specs.Texts.{no_texts, on, then_also, no_bytes, of, and_of}
@@ -31,21 +31,21 @@ pub record TurnLaws : Type 0 where
       Gains first old mid → GainsFronts second mid new → GainsFronts (then_also first second) old new
   -- nothing was read
   pub no_byte : (old new : Outside) (inputs : Role → List ℕ) →
-      new.left ≡ old.left → Tells old inputs → Tells new (behind inputs no_bytes)
+      new.left ≡ old.left → Tells old inputs → Tells new (left_after inputs no_bytes)
   -- this many bytes of one input were read, and none of the others
   pub one_read : (role : Role) (n : ℕ) (old new : Outside) (inputs : Role → List ℕ) →
       Tells old inputs → new.left role ≡ Some (drop n (inputs role))
-      → ((r : Role) → r ≢ role → new.left r ≡ old.left r) → Tells new (behind inputs (of role n))
+      → ((r : Role) → r ≢ role → new.left r ≡ old.left r) → Tells new (left_after inputs (of role n))
   -- a read at the end of an input found nothing
   pub none_read : (role : Role) (old new : Outside) (inputs : Role → List ℕ) →
       Tells old inputs → inputs role ≡ [] → new.left role ≡ Some []
       → ((r : Role) → r ≢ role → new.left r ≡ old.left r) → Tells new inputs
   -- one read after the other
   pub both_reads : (first second : Role → ℕ) (new : Outside) (inputs : Role → List ℕ) →
-      Tells new (behind (behind inputs first) second) → Tells new (behind inputs (and_of first second))
+      Tells new (left_after (left_after inputs first) second) → Tells new (left_after inputs (and_of first second))
   -- an end that takes this much of each input, and writes its texts
   pub ends : (status : Status) (taken : Role → ℕ) (texts inputs : Role → List ℕ) (old new : Outside) →
-      Tells new (behind inputs taken) → Gains texts old.written new.written
+      Tells new (left_after inputs taken) → Gains texts old.written new.written
       → EndsBy (record { status = status; taken = λ r. Some (taken r); texts = texts }) status inputs old new
   -- a refusal says nothing of what it takes, and writes nothing
   pub refuses : (status : Status) (inputs : Role → List ℕ) (old new : Outside) →

@@ -29,8 +29,8 @@ pub record Run : Type 0 where
   pub last : End
 
 -- what is left of each input after this many bytes
-abbrev pub behind : (Role → List ℕ) → (Role → ℕ) → Role → List ℕ
-behind inputs taken r = drop (taken r) (inputs r)
+abbrev pub left_after : (Role → List ℕ) → (Role → ℕ) → Role → List ℕ
+left_after inputs taken r = drop (taken r) (inputs r)
 
 -- nothing at all
 abbrev pub silence : Run
@@ -44,7 +44,7 @@ follow (Ends last) rest = record { turns = []; last = last }
 -- the run of a machine from a state, over what is left of each input, where this many turns may come before the end
 unfoldable pub run_of : {State : Type 0} → (State → (Role → List ℕ) → Step State) → ℕ → State → (Role → List ℕ) → Run
 run_of turn zero s inputs = follow (turn s inputs) (λ next taken. silence)
-run_of turn (suc n) s inputs = follow (turn s inputs) (λ next taken. run_of turn n next (behind inputs taken))
+run_of turn (suc n) s inputs = follow (turn s inputs) (λ next taken. run_of turn n next (left_after inputs taken))
 
 abbrev pub follow_state : {State : Type 0} → Step State → State → (State → (Role → ℕ) → State) → State
 follow_state (Goes next turn) s rest = rest next turn.taken
@@ -55,11 +55,11 @@ unfoldable pub end_state : {State : Type 0}
     → (State → (Role → List ℕ) → Step State) → ℕ → State → (Role → List ℕ) → State
 end_state turn zero s inputs = s
 end_state turn (suc n) s inputs =
-    follow_state (turn s inputs) s (λ next taken. end_state turn n next (behind inputs taken))
+    follow_state (turn s inputs) s (λ next taken. end_state turn n next (left_after inputs taken))
 
 -- the run of a command whose first step is this one
 abbrev pub run_from : {State : Type 0} → Step State → (State → (Role → List ℕ) → Step State) → ℕ → (Role → List ℕ) → Run
-run_from first turn most inputs = follow first (λ next taken. run_of turn most next (behind inputs taken))
+run_from first turn most inputs = follow first (λ next taken. run_of turn most next (left_after inputs taken))
 
 -- the text of some turns on one output
 abbrev pub texts_of : List Turn → Role → List ℕ

@@ -6,12 +6,12 @@ use crate::Turns;
 use h263_outside::laws::calls;
 
 /// What a turn rests on, whatever the machine keeps in mind.
-pub fn of_turns()
+pub fn turn_laws()
     ensures { TurnLaws }
 {}
 
 /// How two steps over a desk add up, and why a turn stops.
-pub fn of_steps()
+pub fn step_laws()
     ensures { StepLaws }
 {
     calls();
@@ -19,6 +19,6 @@ pub fn of_steps()
 
 /// How the run of a machine begins, and how it has ended where its start gives up, or where memory
 /// is refused to it.
-pub fn of_runs<M: Turns>()
+pub fn run_laws<M: Turns>()
     ensures { RunLaws M.stands M.more }
 {}

@@ -55,7 +55,7 @@ impl Ends {
         ensures sent { self.new.sender.sent ≡ self.old.sender.sent + 1 }
         ensures played { self.new.receiver.played ≡ self.old.receiver.played }
     {
-        let coded = self.sender.code(frame, &[]);
+        let coded = self.sender.capture(frame, &[]);
         if let Some(message) = carry(&self.sender, &mut self.receiver, coded) {
             self.sender.feedback(message.text());
         }

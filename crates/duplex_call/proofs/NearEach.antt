@@ -10,7 +10,7 @@ use Rattle.call_model.specs.IdealCall.{Event, Send, Deliver, Play, Back, Call, M
 use Rattle.call_model.specs.LaterFrames.{LaterFrames}
 use Rattle.duplex_call.specs.declared.line.Party.{Party}
 use Rattle.duplex_call.specs.declared.line.Party.TheVariants.{A, B}
-use Rattle.duplex_call.specs.Duplex.{other, Lettered, WayRun, WayRuns, way, with_way, WayCoding, call_of, brought, brings, with_shot, event_after, ways_after, MayBeBrought, MayHappenOf, AllMayHappenOf}
+use Rattle.duplex_call.specs.Duplex.{other, Lettered, WayRun, WayRuns, way, with_way, WayCoding, call_of, brought, brings, with_capture, event_after, ways_after, MayBeBrought, MayHappenOf, AllMayHappenOf}
 
 module _ {Frame Style Mb Picture Fault MessageFault : Type 0}
     (later : (coding : Coding Frame Style Mb Picture Fault MessageFault) (rules : Rules) → LaterFrames coding rules) where
@@ -37,7 +37,7 @@ module _ {Frame Style Mb Picture Fault MessageFault : Type 0}
         let here : MayHappen rules (length (frames ++ more)) (ideal coding rules pace frames past) Send = (some, few) in
         (subst (λ (c : Call Style Mb Picture). MayHappen rules (length (frames ++ more)) c Send) (sym both.0) here, both.1)
 
-  module _ {Shot : Type 0} (side : Party → WayCoding Shot Frame Style Mb Picture Fault MessageFault) where
+  module _ {Captured : Type 0} (side : Party → WayCoding Captured Frame Style Mb Picture Fault MessageFault) where
     -- each event of the party is near by its own ideal call
     abbrev pub AreNear : Party → WayRun Frame → Type 0
     AreNear x w = AllMayHappen (side x).coding (side x).rules (side x).pace w.frames w.past
@@ -62,29 +62,29 @@ module _ {Frame Style Mb Picture Fault MessageFault : Type 0}
         let size = length-append w.frames (frame ∷ []) in
         near_sent (side x).coding (side x).rules (side x).pace w.frames (frame ∷ []) w.past near (omega (arith, few, size)) here
 
-    pub step_shot : (x : Party) (shot : Shot) (left : ℕ) (ways : WayRuns Frame) → ((y : Party) → AreNear y (way y ways)) → MayHappenOf side left x Send ways → (y : Party) → AreNear y (way y (with_shot side x shot ways))
-    step_shot A shot left ways near here A = sent A ways.a _ (near A) here.1
-    step_shot A shot left ways near here B = near B
-    step_shot B shot left ways near here A = near A
-    step_shot B shot left ways near here B = sent B ways.b _ (near B) here.1
+    pub step_capture : (x : Party) (captured : Captured) (left : ℕ) (ways : WayRuns Frame) → ((y : Party) → AreNear y (way y ways)) → MayHappenOf side left x Send ways → (y : Party) → AreNear y (way y (with_capture side x captured ways))
+    step_capture A captured left ways near here A = sent A ways.a _ (near A) here.1
+    step_capture A captured left ways near here B = near B
+    step_capture B captured left ways near here A = near A
+    step_capture B captured left ways near here B = sent B ways.b _ (near B) here.1
 
-    pub step : (shots : Party → List Shot) (x : Party) (e : Event) (ways : WayRuns Frame) → ((y : Party) → AreNear y (way y ways)) → MayHappenOf side (length (shots x)) x e ways → (y : Party) → AreNear y (way y (event_after side shots x e ways))
-    step shots x Send ways near here y = go (slice_get (shots x) (length (way x ways).frames))
+    pub step : (captures : Party → List Captured) (x : Party) (e : Event) (ways : WayRuns Frame) → ((y : Party) → AreNear y (way y ways)) → MayHappenOf side (length (captures x)) x e ways → (y : Party) → AreNear y (way y (event_after side captures x e ways))
+    step captures x Send ways near here y = go (slice_get (captures x) (length (way x ways).frames))
       where
-        go : (o : Option Shot) → AreNear y (way y (option_map_or (λ shot. with_shot side x shot ways) o ways))
+        go : (o : Option Captured) → AreNear y (way y (option_map_or (λ captured. with_capture side x captured ways) o ways))
         go None = near y
-        go (Some shot) = step_shot x shot (length (shots x)) ways near here y
-    step shots A (Deliver n j) ways near here A = (here.0, near A)
-    step shots A (Deliver n j) ways near here B = none_brought B ways.b _ _ (near B) here.1
-    step shots B (Deliver n j) ways near here A = none_brought A ways.a _ _ (near A) here.1
-    step shots B (Deliver n j) ways near here B = (here.0, near B)
-    step shots A Play ways near here A = (here, near A)
-    step shots A Play ways near here B = near B
-    step shots B Play ways near here A = near A
-    step shots B Play ways near here B = (here, near B)
-    step shots x (Back k) ways near here y = absurd here
+        go (Some captured) = step_capture x captured (length (captures x)) ways near here y
+    step captures A (Deliver n j) ways near here A = (here.0, near A)
+    step captures A (Deliver n j) ways near here B = none_brought B ways.b _ _ (near B) here.1
+    step captures B (Deliver n j) ways near here A = none_brought A ways.a _ _ (near A) here.1
+    step captures B (Deliver n j) ways near here B = (here.0, near B)
+    step captures A Play ways near here A = (here, near A)
+    step captures A Play ways near here B = near B
+    step captures B Play ways near here A = near A
+    step captures B Play ways near here B = (here, near B)
+    step captures x (Back k) ways near here y = absurd here
 
-    pub near_each : (shots : Party → List Shot) (past : List Lettered) → AllMayHappenOf side shots past → (x : Party) → AreNear x (way x (ways_after side shots past))
-    near_each shots [] near A = near
-    near_each shots [] near B = near
-    near_each shots (e ∷ past) near x = step shots e.party e.event (ways_after side shots past) (near_each shots past near.1) near.0 x
+    pub near_each : (captures : Party → List Captured) (past : List Lettered) → AllMayHappenOf side captures past → (x : Party) → AreNear x (way x (ways_after side captures past))
+    near_each captures [] near A = near
+    near_each captures [] near B = near
+    near_each captures (e ∷ past) near x = step captures e.party e.event (ways_after side captures past) (near_each captures past near.1) near.0 x

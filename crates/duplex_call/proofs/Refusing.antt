@@ -16,7 +16,7 @@ both_none : (a b : Option Refusal) → a ≡ None → b ≡ None → first_of a 
 both_none None b first second = second
 both_none (Some r) b first second = cc
 
-module _ {Shot Frame Style Mb Picture Fault MessageFault : Type 0} (none : (rules : Rules) → NoneWhereItMayHappen rules Style Mb Picture) (side : Party → WayCoding Shot Frame Style Mb Picture Fault MessageFault) where
+module _ {Captured Frame Style Mb Picture Fault MessageFault : Type 0} (none : (rules : Rules) → NoneWhereItMayHappen rules Style Mb Picture) (side : Party → WayCoding Captured Frame Style Mb Picture Fault MessageFault) where
   heard : (x : Party) (w : WayRun Frame) (ks : List ℕ) → heard_refusal side x w ks ≡ None → MayBeBrought side x w ks
   heard x w [] is = tt
   heard x w (k ∷ ks) is =

@@ -63,15 +63,15 @@ brought [] past = past
 brought (k ∷ ks) past = brought ks (Back k ∷ past)
 
 -- how the pictures of a party are coded
-pub record WayCoding (Shot Frame Style Mb Picture Fault MessageFault : Type 0) : Type 0 where
+pub record WayCoding (Captured Frame Style Mb Picture Fault MessageFault : Type 0) : Type 0 where
   pub coding : Coding Frame Style Mb Picture Fault MessageFault
   pub rules : Rules
   pub pace : List ℕ → ℕ
   -- the frame of a captured picture whose header carries these messages
-  pub carrying : Shot → List Message → Frame
+  pub carrying : Captured → List Message → Frame
 
-module _ {Shot Frame Style Mb Picture Fault MessageFault : Type 0}
-    (side : Party → WayCoding Shot Frame Style Mb Picture Fault MessageFault) where
+module _ {Captured Frame Style Mb Picture Fault MessageFault : Type 0}
+    (side : Party → WayCoding Captured Frame Style Mb Picture Fault MessageFault) where
   -- the ideal call of a party's pictures
   abbrev pub call_of : Party → WayRun Frame → Call Style Mb Picture
   call_of x w = ideal (side x).coding (side x).rules (side x).pace w.frames w.past
@@ -82,13 +82,13 @@ module _ {Shot Frame Style Mb Picture Fault MessageFault : Type 0}
 
   -- this picture is captured and sent as the party's next one. Its header carries the last messages
   -- of the party's receiver
-  abbrev pub with_shot : Party → Shot → WayRuns Frame → WayRuns Frame
-  with_shot x shot ways =
+  abbrev pub with_capture : Party → Captured → WayRuns Frame → WayRuns Frame
+  with_capture x captured ways =
       let own = way x ways in
       let said = said_of (other x) (way (other x) ways) in
       let numbers = numbers_carried own.loaded (length said) in
       with_way x (record {
-        frames = own.frames ++ (side x).carrying shot (messages_at said numbers) ∷ [];
+        frames = own.frames ++ (side x).carrying captured (messages_at said numbers) ∷ [];
         past = Send ∷ own.past;
         carried = own.carried ++ numbers ∷ [];
         loaded = length said;
@@ -130,11 +130,11 @@ module _ {Shot Frame Style Mb Picture Fault MessageFault : Type 0}
 
   -- ---- a whole call, where these pictures are there to be captured
 
-  module _ (shots : Party → List Shot) where
+  module _ (captures : Party → List Captured) where
     -- the next picture is sent, if one is left
     abbrev pub with_send : Party → WayRuns Frame → WayRuns Frame
     with_send x ways =
-        option_map_or (λ shot. with_shot x shot ways) (slice_get (shots x) (length (way x ways).frames)) ways
+        option_map_or (λ captured. with_capture x captured ways) (slice_get (captures x) (length (way x ways).frames)) ways
 
     abbrev pub event_after : Party → Event → WayRuns Frame → WayRuns Frame
     event_after x Send ways = with_send x ways
@@ -151,4 +151,4 @@ module _ {Shot Frame Style Mb Picture Fault MessageFault : Type 0}
     abbrev pub AllMayHappenOf : List Lettered → Type 0
     AllMayHappenOf [] = ⊤
     AllMayHappenOf (e ∷ past) =
-        MayHappenOf (length (shots e.party)) e.party e.event (ways_after past) × AllMayHappenOf past
+        MayHappenOf (length (captures e.party)) e.party e.event (ways_after past) × AllMayHappenOf past

@@ -8,14 +8,14 @@ use Rattle.duplex_call.specs.declared.line.Party.{Party}
 use Rattle.duplex_call.specs.Duplex.{WayCoding, WayRun, call_of, numbers_carried, messages_at}
 
 -- what the laws of a call ask of a side
-pub record IsWayCoding {Shot Frame Style Mb Picture Fault MessageFault : Type 0}
-    (side : WayCoding Shot Frame Style Mb Picture Fault MessageFault) : Type 0 where
+pub record IsWayCoding {Captured Frame Style Mb Picture Fault MessageFault : Type 0}
+    (side : WayCoding Captured Frame Style Mb Picture Fault MessageFault) : Type 0 where
   pub coding : IsCoding side.coding side.rules
   pub rules : IsRules side.rules
   pub pace : IsPace side.pace
 
-module _ {Shot Frame Style Mb Picture Fault MessageFault : Type 0}
-    (side : Party → WayCoding Shot Frame Style Mb Picture Fault MessageFault) where
+module _ {Captured Frame Style Mb Picture Fault MessageFault : Type 0}
+    (side : Party → WayCoding Captured Frame Style Mb Picture Fault MessageFault) where
   -- the two ends of a party's pictures, with its frames and its events
   abbrev pub ends_of : Party → WayRun Frame → Joined Style Mb Picture
   ends_of x w =

@@ -10,8 +10,8 @@ abbrev pub first_of : Option Refusal → Option Refusal → Option Refusal
 first_of None second = second
 first_of (Some refusal) second = Some refusal
 
-module _ {Shot Frame Style Mb Picture Fault MessageFault : Type 0}
-    (side : Party → WayCoding Shot Frame Style Mb Picture Fault MessageFault) where
+module _ {Captured Frame Style Mb Picture Fault MessageFault : Type 0}
+    (side : Party → WayCoding Captured Frame Style Mb Picture Fault MessageFault) where
   -- the refusal of an event by the counts of its own party, where so many pictures are there
   abbrev pub own_refusal : ℕ → Party → WayRun Frame → Event → Option Refusal
   own_refusal left x w e = refusal_in (side x).rules left (call_of side x w) e
@@ -37,8 +37,8 @@ module _ {Shot Frame Style Mb Picture Fault MessageFault : Type 0}
       (refusal_of left x e ways ≡ None) ↔ MayHappenOf side left x e ways
 
   -- none of these events was refused
-  abbrev pub passed : (Party → List Shot) → List Lettered → Bool
-  passed shots [] = true
-  passed shots (e ∷ past) =
-      not (is_some (refusal_of (length (shots e.party)) e.party e.event (ways_after side shots past)))
-      && passed shots past
+  abbrev pub passed : (Party → List Captured) → List Lettered → Bool
+  passed captures [] = true
+  passed captures (e ∷ past) =
+      not (is_some (refusal_of (length (captures e.party)) e.party e.event (ways_after side captures past)))
+      && passed captures past

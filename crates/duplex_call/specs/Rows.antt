@@ -16,11 +16,11 @@ small_side x = record {
   coding = small;
   rules = rules_of 16 3;
   pace = steady;
-  carrying = λ shot messages. shot;
+  carrying = λ captured messages. captured;
 }
 
-abbrev pub row_shots : Party → List Two
-row_shots x = flat 100 ∷ flat 100 ∷ []
+abbrev pub row_captures : Party → List Two
+row_captures x = flat 100 ∷ flat 100 ∷ []
 
 abbrev pub at : Party → Event → Lettered
 at x e = record { party = x; event = e }
@@ -36,10 +36,10 @@ row =
     ++ at A Play ∷ at A Play ∷ at B Play ∷ []
 
 abbrev pub row_ways : WayRuns Two
-row_ways = ways_after small_side row_shots (reverse row)
+row_ways = ways_after small_side row_captures (reverse row)
 
 abbrev pub row_passes : Bool
-row_passes = passed small_side row_shots (reverse row)
+row_passes = passed small_side row_captures (reverse row)
 
 abbrev pub row_references : Party → List (Option ℕ)
 row_references x = references (call_of small_side x (way x row_ways)).coded
@@ -56,8 +56,8 @@ row_ends_marks x = marks (ends_of small_side x (way x row_ways)).plays
 -- ---- more calls, of a's pictures whole one after the other, and of messages that ride in b's headers
 
 -- this many pictures of a party are there
-abbrev pub shots_of : ℕ → Party → List Two
-shots_of count x = replicate count (flat 100)
+abbrev pub captures_of : ℕ → Party → List Two
+captures_of count x = replicate count (flat 100)
 
 -- a's next picture is sent, lost, and played
 abbrev pub lost : List Lettered
@@ -69,7 +69,7 @@ abbrev pub five_row : List Lettered
 five_row = lost ++ lost ++ lost ++ lost ++ lost ++ at B Send ∷ lost ++ at B Send ∷ []
 
 abbrev pub five_ways : WayRuns Two
-five_ways = ways_after small_side (shots_of 6) (reverse five_row)
+five_ways = ways_after small_side (captures_of 6) (reverse five_row)
 
 -- a's picture n is sent, and both its packets are delivered
 abbrev pub seen : ℕ → List Lettered
@@ -80,7 +80,7 @@ abbrev pub no_packet_row : List Lettered
 no_packet_row = seen 0 ++ at B Send ∷ at B (Deliver 0 9) ∷ []
 
 abbrev pub no_packet_ways : WayRuns Two
-no_packet_ways = ways_after small_side row_shots (reverse no_packet_row)
+no_packet_ways = ways_after small_side row_captures (reverse no_packet_row)
 
 -- with half a period of three pictures
 abbrev pub narrow_side : Party → WayCoding Two Two SmallStyle SmallMb Two SmallFault SmallFault
@@ -88,7 +88,7 @@ narrow_side x = record {
   coding = small;
   rules = record { slots = 16; lead = 3; half = 3; chain = 131; mbs = 2; flags = 0 };
   pace = steady;
-  carrying = λ shot messages. shot;
+  carrying = λ captured messages. captured;
 }
 
 -- b's picture carries the acknowledgement of a's picture 0, and a has sent three pictures since it began
@@ -97,4 +97,4 @@ far_row = seen 0 ++ at B Send ∷ at A Send ∷ at A Send ∷ []
 
 abbrev pub far_refusal : ℕ → Option Refusal
 far_refusal place =
-    refusal_of narrow_side 3 B (Deliver 0 place) (ways_after narrow_side (shots_of 3) (reverse far_row))
+    refusal_of narrow_side 3 B (Deliver 0 place) (ways_after narrow_side (captures_of 3) (reverse far_row))

@@ -10,11 +10,11 @@ use call_model::laws as call_model_laws;
 
 /// Where each event may happen, the four ends do what the two ideal calls say: both stores of each
 /// way agree with its call.
-pub fn four_stores<Shot, Frame, Style, Mb, Picture, Fault, MessageFault>()
-    ensures { (side : Party → WayCoding Shot Frame Style Mb Picture Fault MessageFault)
-        (shots : Party → List Shot) (past : List Lettered) → ((x : Party) → IsWayCoding (side x))
-        → AllMayHappenOf side shots past
-        → (x : Party) → Follows side x (way x (ways_after side shots past)) }
+pub fn four_stores<Captured, Frame, Style, Mb, Picture, Fault, MessageFault>()
+    ensures { (side : Party → WayCoding Captured Frame Style Mb Picture Fault MessageFault)
+        (captures : Party → List Captured) (past : List Lettered) → ((x : Party) → IsWayCoding (side x))
+        → AllMayHappenOf side captures past
+        → (x : Party) → Follows side x (way x (ways_after side captures past)) }
 {
     call_model_laws::later_frames::<Frame, Style, Mb, Picture, Fault, MessageFault>();
     call_model_laws::two_stores::<Frame, Style, Mb, Picture, Fault, MessageFault>();
@@ -22,8 +22,8 @@ pub fn four_stores<Shot, Frame, Style, Mb, Picture, Fault, MessageFault>()
 
 /// An event has no refusal exactly where it is in place and near, by the counts of its own way and,
 /// for the messages that a delivery brings, by those of the other.
-pub fn two_way_refusals<Shot, Frame, Style, Mb, Picture, Fault, MessageFault>()
-    ensures { (side : Party → WayCoding Shot Frame Style Mb Picture Fault MessageFault)
+pub fn two_way_refusals<Captured, Frame, Style, Mb, Picture, Fault, MessageFault>()
+    ensures { (side : Party → WayCoding Captured Frame Style Mb Picture Fault MessageFault)
         → NoneWhereItMayHappenOf side }
 {
     call_model_laws::refusals::<Frame, Style, Mb, Picture, Fault, MessageFault>();
@@ -31,11 +31,11 @@ pub fn two_way_refusals<Shot, Frame, Style, Mb, Picture, Fault, MessageFault>()
 
 /// In a near call of two parties the events of each party's pictures, with the messages that are
 /// brought to it, are near by its own ideal call.
-pub fn each_way_is_near<Shot, Frame, Style, Mb, Picture, Fault, MessageFault>()
-    ensures { (side : Party → WayCoding Shot Frame Style Mb Picture Fault MessageFault)
-        (shots : Party → List Shot) (past : List Lettered) → AllMayHappenOf side shots past
+pub fn each_way_is_near<Captured, Frame, Style, Mb, Picture, Fault, MessageFault>()
+    ensures { (side : Party → WayCoding Captured Frame Style Mb Picture Fault MessageFault)
+        (captures : Party → List Captured) (past : List Lettered) → AllMayHappenOf side captures past
         → (x : Party) → AllMayHappen (side x).coding (side x).rules (side x).pace
-        (way x (ways_after side shots past)).frames (way x (ways_after side shots past)).past }
+        (way x (ways_after side captures past)).frames (way x (ways_after side captures past)).past }
 {
     call_model_laws::later_frames::<Frame, Style, Mb, Picture, Fault, MessageFault>();
 }

@@ -13,12 +13,12 @@
 //! ```
 #![tactic(auto)]
 
-mod carrier;
 mod counts;
 pub mod laws;
 mod line;
+mod queue;
 pub mod worked;
 
-pub use carrier::{Carried, Carrier};
 pub use counts::{Counts, Far};
 pub use line::{Party, party_line};
+pub use queue::{Carried, MessageQueue};

@@ -6,7 +6,7 @@ use Rattle.h263_outside.specs.declared.desk.Role.TheVariants.{Video, Events, Pic
 use Rattle.loss_trace.specs.declared.reader.TraceReader.{TraceReader}
 use Rattle.call_report.specs.declared.status.Status.{Status}
 use Rattle.call_report.specs.declared.status.Status.TheVariants.{VideoRefused, Video2Refused}
-use Rattle.desk_program.specs.Run.{Step, behind}
+use Rattle.desk_program.specs.Run.{Step, left_after}
 use Rattle.desk_program.specs.Ends.{OnGoing, Tells, TurnGives}
 use Rattle.desk_program.specs.Texts.{of}
 use Rattle.h263_types.specs.declared.params.Params.{Params}
@@ -16,7 +16,7 @@ use Rattle.duplex_call.specs.Duplex.{other}
 use Rattle.duplex_ends.specs.Laws.{PairLaws}
 use Rattle.duplex_ends.specs.Pair.{AreInCall}
 use Rattle.duplex_ends.specs.declared.party.PartyEnds.{PartyEnds}
-use Rattle.duplex_command.specs.declared.event.Said.{Said}
+use Rattle.duplex_command.specs.declared.event.TraceLine.{TraceLine}
 use Rattle.duplex_command.specs.declared.station.Station.{Station}
 use Rattle.duplex_command.specs.Duplex.{DuplexState, event_step, may_read, party_step}
 use Rattle.duplex_command.specs.Exchange.{for_second, second_result}
@@ -31,7 +31,7 @@ Laws = (p : Party → Params) → PairLaws p
 
 -- ---- on the desk with both exchanged
 
-module _ (own far own_new far_new : Station) (said : Said) (room : ℕ) (na nb : ℕ) (mid new : Outside) where
+module _ (own far own_new far_new : Station) (said : TraceLine) (room : ℕ) (na nb : ℕ) (mid new : Outside) where
   abbrev x : Party
   x = said.party
 
@@ -41,8 +41,8 @@ module _ (own far own_new far_new : Station) (said : Said) (room : ℕ) (na nb :
     stood = b.stood;
     number = b.number;
     taken = record {
-      left = subst (λ (t : Role → ℕ). Tells (exchanged_outside na mid) (behind (for_second inputs) t)) (line_taken (line_size (inputs Events)))
-          (told_at_second na mid (behind inputs (of Events (line_size (inputs Events)))) b.taken.left);
+      left = subst (λ (t : Role → ℕ). Tells (exchanged_outside na mid) (left_after (for_second inputs) t)) (line_taken (line_size (inputs Events)))
+          (told_at_second na mid (left_after inputs (of Events (line_size (inputs Events)))) b.taken.left);
       written = ap (λ (w : Role → Option (List ℕ)). for_second w) b.taken.written;
     };
   }
@@ -73,7 +73,7 @@ stands_so (Ok true) step P Q reads now inputs old new so w = record {
   turn = w.turn;
   could = w.could;
   is = w.is;
-  kept = so w.next (behind inputs w.turn.taken) w.kept;
+  kept = so w.next (left_after inputs w.turn.taken) w.kept;
   whole = w.whole;
   left = w.left;
   written = w.written;
@@ -113,8 +113,8 @@ module _ (laws : Laws) where
   pub stations_too : (own far : Station) (room : ℕ) → StationsReady own far room → StationsReady far own room
   stations_too own far room r = record { own_ready = r.far_ready; far_ready = r.own_ready; ends = in_call_too laws own.ends far.ends r.ends }
 
-  module _ (a b a_new b_new : Station) (said : Said) (r : Result Bool Status) (mid new : Outside) (room : ℕ) where
-    abbrev by_party : Party → Said
+  module _ (a b a_new b_new : Station) (said : TraceLine) (r : Result Bool Status) (mid new : Outside) (room : ℕ) where
+    abbrev by_party : Party → TraceLine
     by_party x = record { line = said.line; party = x; event = said.event }
 
     party_is : (x : Party) → said.party ≡ x → said ≡ by_party x
@@ -139,11 +139,11 @@ module _ (laws : Laws) where
     -- of the first party
     pub line_of_a : said.party ≡ A → TakesEvent Video Pictures VideoRefused a b a_new b_new said r mid new room → TakesLine a b a_new b_new said r mid new room
     line_of_a is t =
-        subst (λ (q : Said). TakesLine a b a_new b_new q r mid new room) (sym (party_is A is))
-        (a_line (subst (λ (q : Said). TakesEvent Video Pictures VideoRefused a b a_new b_new q r mid new room) (party_is A is) t))
+        subst (λ (q : TraceLine). TakesLine a b a_new b_new q r mid new room) (sym (party_is A is))
+        (a_line (subst (λ (q : TraceLine). TakesEvent Video Pictures VideoRefused a b a_new b_new q r mid new room) (party_is A is) t))
 
     -- of the second
     pub line_of_b : said.party ≡ B → TakesEvent Video2 Pictures2 Video2Refused b a b_new a_new said r mid new room → TakesLine a b a_new b_new said r mid new room
     line_of_b is t =
-        subst (λ (q : Said). TakesLine a b a_new b_new q r mid new room) (sym (party_is B is))
-        (b_line (subst (λ (q : Said). TakesEvent Video2 Pictures2 Video2Refused b a b_new a_new q r mid new room) (party_is B is) t))
+        subst (λ (q : TraceLine). TakesLine a b a_new b_new q r mid new room) (sym (party_is B is))
+        (b_line (subst (λ (q : TraceLine). TakesEvent Video2 Pictures2 Video2Refused b a b_new a_new q r mid new room) (party_is B is) t))

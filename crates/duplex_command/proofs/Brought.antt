@@ -162,20 +162,20 @@ module _ (p : Party → Params) where
             (subst (λ (l : List (List ℕ)). MayBeBrought (sides p) (other x) (way (other x) ways) (slice_index_or l n [])) (sym (kept.carried x)) may.1),
       )
 
-  module _ (shots : Party → List Picture) where
-    pub ways_packets : (x : Party) (n count : ℕ) (past : List Lettered) → with_places p x n count (ways_of p shots past) ≡ ways_of p shots (with_packets p shots x n count past)
+  module _ (captures : Party → List Picture) where
+    pub ways_packets : (x : Party) (n count : ℕ) (past : List Lettered) → with_places p x n count (ways_of p captures past) ≡ ways_of p captures (with_packets p captures x n count past)
     ways_packets x n zero past = refl
     ways_packets x n (suc j) past = ap (with_delivery (sides p) x n j) (ways_packets x n j past)
 
-    pub near_packets : (x : Party) (n i count : ℕ) (past : List Lettered) → MayHappenOf (sides p) (length (shots x)) x (Deliver n i) (ways_of p shots past)
-        → AllMayHappenOf (sides p) shots past → AllMayHappenOf (sides p) shots (with_packets p shots x n count past)
+    pub near_packets : (x : Party) (n i count : ℕ) (past : List Lettered) → MayHappenOf (sides p) (length (captures x)) x (Deliver n i) (ways_of p captures past)
+        → AllMayHappenOf (sides p) captures past → AllMayHappenOf (sides p) captures (with_packets p captures x n count past)
     near_packets x n i zero past may near = near
     near_packets x n i (suc j) past may near = (
-      subst (MayHappenOf (sides p) (length (shots x)) x (Deliver n j)) (ways_packets x n j past) (may_place x n (length (shots x)) i j j (ways_of p shots past) may),
+      subst (MayHappenOf (sides p) (length (captures x)) x (Deliver n j)) (ways_packets x n j past) (may_place x n (length (captures x)) i j j (ways_of p captures past) may),
       near_packets x n i j past may near,
     )
 
     -- nothing is told of them
-    pub told_packets : (x : Party) (n count : ℕ) (past : List Lettered) → told_lines p shots (with_packets p shots x n count past) ≡ told_lines p shots past
+    pub told_packets : (x : Party) (n count : ℕ) (past : List Lettered) → told_lines p captures (with_packets p captures x n count past) ≡ told_lines p captures past
     told_packets x n zero past = refl
-    told_packets x n (suc j) past = append-nil (told_lines p shots (with_packets p shots x n j past)) ∙ told_packets x n j past
+    told_packets x n (suc j) past = append-nil (told_lines p captures (with_packets p captures x n j past)) ∙ told_packets x n j past

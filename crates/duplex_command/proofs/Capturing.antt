@@ -14,7 +14,7 @@ use Rattle.loss_trace.specs.declared.fault.TraceFault.TheVariants.{NoFrame}
 use Rattle.loss_trace.specs.Lines.{is_closed}
 use Rattle.call_report.specs.declared.status.Status.TheVariants.{TraceRefused, VideoRefused}
 use Rattle.call_report.specs.Status.{phase, video_stop}
-use Rattle.desk_program.specs.Run.{Step, behind}
+use Rattle.desk_program.specs.Run.{Step, left_after}
 use Rattle.desk_program.specs.Ends.{Tells, IsPart, Went, Ended, EndsBy, GivesUp, step_turns}
 use Rattle.desk_program.specs.Texts.{no_texts, of, and_of}
 use Rattle.desk_program.specs.Laws.{TurnLaws}
@@ -102,10 +102,10 @@ module _ (x : Party) (s : DuplexState) where
     abbrev step : Step DuplexState
     step = step_at trace (inputs Video)
 
-    video_told : (k : ℕ) → mid.left Video ≡ Some (drop k (inputs Video)) → Tells mid (behind inputs (some_of trace k))
+    video_told : (k : ℕ) → mid.left Video ≡ Some (drop k (inputs Video)) → Tells mid (left_after inputs (some_of trace k))
     video_told k gone =
         turns.both_reads (of Events (line_size trace)) (of Video k) mid inputs
-        (turns.one_read Video k old mid (behind inputs (of Events (line_size trace))) taken.left gone others)
+        (turns.one_read Video k old mid (left_after inputs (of Events (line_size trace))) taken.left gone others)
 
     pub frame_stops : (stop : VideoStop) → Gives (Err stop) (inputs Video) out reader (mid.left Video)
         → GivesUp (phase (video_stop stop)) (video_stop stop) step true inputs before mid
@@ -132,7 +132,7 @@ module _ (x : Party) (s : DuplexState) where
       is = ap (step_at trace) e.0;
       by = subst (λ (n : ℕ). EndsBy (refused_line trace (NoFrame (s.lines + 1))) (TraceRefused (NoFrame n)) inputs before mid) (sym is)
           (lines.refused (NoFrame (s.lines + 1)) inputs before mid (record {
-            left = turns.none_read Video old mid (behind inputs (of Events (line_size trace))) taken.left e.0 e.1 others;
+            left = turns.none_read Video old mid (left_after inputs (of Events (line_size trace))) taken.left e.0 e.1 others;
             written = same ∙ taken.written;
           }));
     }
@@ -142,7 +142,7 @@ module _ (x : Party) (s : DuplexState) where
       abbrev size : ℕ
       size = frame_size format (inputs Video)
 
-      pub frame_sent : (stands : DuplexState → (Role → List ℕ) → Type 0) → stands (after_line (with_frame x s size out) trace) (behind inputs (some_of trace size))
+      pub frame_sent : (stands : DuplexState → (Role → List ℕ) → Type 0) → stands (after_line (with_frame x s size out) trace) (left_after inputs (some_of trace size))
           → Went step stands may_read true inputs before mid
       frame_sent stands kept = record {
         next = after_line (with_frame x s size out) trace;

@@ -11,7 +11,7 @@ use Rattle.loss_trace.specs.declared.fault.TraceFault.{TraceFault}
 use Rattle.loss_trace.specs.declared.reader.TraceReader.{TraceReader}
 use Rattle.call_report.specs.declared.status.Status.{Status}
 use Rattle.call_report.specs.declared.status.Status.TheVariants.{TraceRefused, VideoRefused, WriteFault}
-use Rattle.desk_program.specs.Run.{Step, behind}
+use Rattle.desk_program.specs.Run.{Step, left_after}
 use Rattle.desk_program.specs.Run.Step.{Goes}
 use Rattle.desk_program.specs.Ends.{Ended, Gains, GainsFronts, KeepsRoles, TurnGives, Went, step_texts}
 use Rattle.desk_program.specs.Laws.{StepLaws, TurnLaws}
@@ -20,11 +20,11 @@ use Rattle.call_model.specs.IdealCall.{Event, Send, Deliver, Play, Back}
 use Rattle.call_model.specs.Refusals.{Refusal}
 use Rattle.call_encoding.specs.Frames.{Frame}
 use Rattle.h263_planes.specs.Layout.{picture_of}
-use Rattle.one_way.specs.declared.refusals.Refusal.{Refusal as Told}
+use Rattle.one_way.specs.declared.refusals.EventRefusal.{EventRefusal as Told}
 use Rattle.one_way.specs.Refused.{IsAllowed}
 use Rattle.duplex_call.specs.declared.line.Party.{Party}
 use Rattle.duplex_call.specs.declared.line.Party.TheVariants.{A, B}
-use Rattle.duplex_call.specs.Duplex.{MayHappenOf, WayRuns, other, with_shot}
+use Rattle.duplex_call.specs.Duplex.{MayHappenOf, WayRuns, other, with_capture}
 use Rattle.duplex_call.specs.Refused.{NoneWhereItMayHappenOf, refusal_of}
 use Rattle.duplex_ends.specs.Keeping.{KeepsInDelivery}
 use Rattle.duplex_ends.specs.Pair.{AreInCall, HoldsPair, IsInCall}
@@ -125,7 +125,7 @@ module _ (x : Party) (own far : Station) (line : ℕ) (trace_new : TraceReader) 
   -- the stations where both ways are these
   pub stands_event : (own_new far_new : Station) (ways : WayRuns Frame) → own_new.video ≡ own.video → far_new.video ≡ far.video
       → HoldsPair s.params x own_new.ends far_new.ends ways
-      → StationsStand x own_new far_new trace_new (after_line (record s { ways = ways }) trace) (behind inputs taken_line Events)
+      → StationsStand x own_new far_new trace_new (after_line (record s { ways = ways }) trace) (left_after inputs taken_line Events)
   stands_event own_new far_new ways own_same far_same holds = record {
     own_place = place_same x (after_line (record s { ways = ways }) trace) (after_line s trace) refl refl ∙ b.stood.own_place ∙ ap place_in (sym own_same);
     far_place = place_same (other x) (after_line (record s { ways = ways }) trace) (after_line s trace) refl refl ∙ b.stood.far_place ∙ ap place_in (sym far_same);
@@ -158,7 +158,7 @@ module _ (x : Party) (own far : Station) (line : ℕ) (trace_new : TraceReader) 
     play_is : step_of says.Play ≡ Goes (after_line (with_next x s) trace) (line_turn trace shown)
     play_is = step_is Play (play_step Video Pictures VideoRefused x s trace) none
 
-    pub play_goes : (stands : DuplexState → (Role → List ℕ) → Type 0) → stands (after_line (with_next x s) trace) (behind inputs taken_line)
+    pub play_goes : (stands : DuplexState → (Role → List ℕ) → Type 0) → stands (after_line (with_next x s) trace) (left_after inputs taken_line)
         → Gains shown mid.written new.written → Went (step_of says.Play) stands may_read true inputs before new
     play_goes stands kept gains = line_goes s inputs before mid b.taken (with_next x s) shown _ stands play_is kept new still gains
 
@@ -170,8 +170,8 @@ module _ (x : Party) (own far : Station) (line : ℕ) (trace_new : TraceReader) 
   -- ---- the frame that the line asks for was sent
 
   pub stands_sent : (own_new : Station) (size : ℕ) (out : List ℕ) → own_new.video.at ≡ (place_of x s).at + size → own_new.video.more + 1 ≡ (place_of x s).more
-      → HoldsPair s.params x own_new.ends far.ends (with_shot (sides s.params) x (picture_of (s.params x).format out) s.ways)
-      → StationsStand x own_new far trace_new (after_line (with_frame x s size out) trace) (behind inputs (and_of taken_line (of Video size)) Events)
+      → HoldsPair s.params x own_new.ends far.ends (with_capture (sides s.params) x (picture_of (s.params x).format out) s.ways)
+      → StationsStand x own_new far trace_new (after_line (with_frame x s size out) trace) (left_after inputs (and_of taken_line (of Video size)) Events)
   stands_sent own_new size out place fewer holds = by_party x (place_same (other x) s (after_line s trace) refl refl ∙ b.stood.far_place) b.stood.lines b.stood.ended place_is holds
     where
       less : (a b : ℕ) → a + 1 ≡ b → b - 1 ≡ a
@@ -188,8 +188,8 @@ module _ (x : Party) (own far : Station) (line : ℕ) (trace_new : TraceReader) 
 
       by_party : (y : Party) → place_of (other y) s ≡ place_in far.video → s.lines + 1 ≡ trace_new.lines → (after_line s trace).ended ≡ trace_new.ended
           → record { at = (place_of y s).at + size; more = (place_of y s).more - 1 } ≡ place_in own_new.video
-          → HoldsPair s.params y own_new.ends far.ends (with_shot (sides s.params) y (picture_of (s.params y).format out) s.ways)
-          → StationsStand y own_new far trace_new (after_line (with_frame y s size out) trace) (behind inputs (and_of taken_line (of Video size)) Events)
+          → HoldsPair s.params y own_new.ends far.ends (with_capture (sides s.params) y (picture_of (s.params y).format out) s.ways)
+          → StationsStand y own_new far trace_new (after_line (with_frame y s size out) trace) (left_after inputs (and_of taken_line (of Video size)) Events)
       by_party A far_place lines ended own_place holds = record { own_place = own_place; far_place = far_place; lines = lines; ended = ended; over = over; holds = holds }
       by_party B far_place lines ended own_place holds = record { own_place = own_place; far_place = far_place; lines = lines; ended = ended; over = over; holds = holds }
 

@@ -8,7 +8,7 @@ use Rattle.h263_outside.specs.declared.desk.Role.{Role}
 use Rattle.h263_outside.specs.declared.desk.Role.TheVariants.{Video, Events, Pictures, Wire, Report, Video2, Pictures2}
 use Rattle.call_report.specs.declared.status.Status.{Status}
 use Rattle.call_report.specs.declared.status.Status.TheVariants.{Ok as Fine, OutOfMemory, Usage, ReadFault, WriteFault, VideoRefused, TraceRefused, LogRefused, OpenFault, Video2Refused}
-use Rattle.desk_program.specs.Run.{Turn, Step, behind}
+use Rattle.desk_program.specs.Run.{Turn, Step, left_after}
 use Rattle.desk_program.specs.Run.Step.{Goes, Ends}
 use Rattle.desk_program.specs.Ends.{Ended, Gains, GainsFronts, HasCause, IsPart, IsStop, KeepsRoles, Lost, OnEnd, OnGoing, Tells, TurnGives, Went, holds, step_texts, step_turns, turn_status}
 use Rattle.duplex_command.specs.Exchange.{for_second, second_end, second_result, second_status, second_step, second_turn}
@@ -112,7 +112,7 @@ held t k = swap_ends t.whole (nat_le (t.taken Video2) (k Video2)) (nat_le (t.tak
 
 module _ {State : Type 0} (stands : State → (Role → List ℕ) → Type 0) (reads : State → Bool) (inputs : Role → List ℕ) (a b : ℕ) (old new : Outside) where
   -- what is left where as much is gone as the second party says
-  left_too : (taken : Role → ℕ) → Tells (exchanged_outside b new) (behind (for_second inputs) taken) → Tells new (behind inputs (for_second taken))
+  left_too : (taken : Role → ℕ) → Tells (exchanged_outside b new) (left_after (for_second inputs) taken) → Tells new (left_after inputs (for_second taken))
   left_too taken told = λ r is. subst (λ (q : Role). new.left q ≡ Some (drop (taken (exchanged r)) (inputs q))) (twice r) (told (exchanged r) (input_too r is))
 
   gains_too : (texts : Role → List ℕ) → Gains texts (exchanged_outside a old).written (exchanged_outside b new).written → Gains (for_second texts) old.written new.written

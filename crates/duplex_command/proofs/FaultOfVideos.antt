@@ -8,7 +8,7 @@ use Rattle.y4m.specs.declared.fault.Y4mFault.{Y4mFault}
 use Rattle.y4m.specs.Frame.{next_frame, frame_size}
 use Rattle.y4m.specs.Head.{head_of, head_size}
 use Rattle.y4m.specs.Laws.{FrameLaws}
-use Rattle.y4m.specs.Video.{fault_of, fault_behind, most_frames, video_fault}
+use Rattle.y4m.specs.Video.{fault_of, fault_after_head, most_frames, video_fault}
 use Rattle.loss_trace.specs.declared.event.Event.{Event as Line}
 use Rattle.loss_trace.specs.declared.event.Event.TheVariants as says
 use Rattle.loss_trace.specs.Lines.{first_line}
@@ -16,7 +16,7 @@ use Rattle.call_report.specs.declared.status.Status.TheVariants.{VideoRefused, V
 use Rattle.call_encoding.specs.Frames.{Frame}
 use Rattle.call_model.specs.IdealCall.{Event, Send, Deliver, Play, Back}
 use Rattle.call_model.specs.Refusals.{Refusal}
-use Rattle.desk_program.specs.Run.{Run, Step, behind, follow, run_of, silence}
+use Rattle.desk_program.specs.Run.{Run, Step, left_after, follow, run_of, silence}
 use Rattle.duplex_call.specs.declared.line.Party.{Party}
 use Rattle.duplex_call.specs.declared.line.Party.TheVariants.{A, B}
 use Rattle.duplex_call.specs.Duplex.{WayRuns}
@@ -40,10 +40,10 @@ module _ (frame_laws : FrameLaws) (fault : Y4mFault) where
   some_left (suc m) at f video planes is = omega arith
 
   -- it stands after the first frame
-  behind_it : (f : Format) (place : VideoPlace) (b : ℕ) (v planes video : List ℕ) → video ≡ b ∷ v → next_frame place.more f place.at (b ∷ v) ≡ Ok planes
+  after_it : (f : Format) (place : VideoPlace) (b : ℕ) (v planes video : List ℕ) → video ≡ b ∷ v → next_frame place.more f place.at (b ∷ v) ≡ Ok planes
       → let size = frame_size f (b ∷ v) in
       HasFault f (record { at = place.at + size; more = place.more - 1 }) (drop (0 + size) video) → HasFault f place (b ∷ v)
-  behind_it f place b v planes video same is later =
+  after_it f place b v planes video same is later =
       let size = frame_size f (b ∷ v) in
       let e = frame_laws.next f place.more (place.more - 1) place.at (b ∷ v) planes (some_left place.more place.at f (b ∷ v) planes is) (omega arith) is in
       let taken : 0 + size ≡ size = omega arith in
@@ -63,7 +63,7 @@ module _ (frame_laws : FrameLaws) (fault : Y4mFault) where
 
     -- what comes later refuses the video only for its fault
     abbrev Later : Party → Type 0
-    Later x = (next : DuplexState) (taken : Role → ℕ) → (rest next taken).last.status ≡ refused_video x fault → IsFaulty x next (behind inputs taken)
+    Later x = (next : DuplexState) (taken : Role → ℕ) → (rest next taken).last.status ≡ refused_video x fault → IsFaulty x next (left_after inputs taken)
 
     module _ (trace : List ℕ) where
       at_quiet : (x : Party) → Later x → (ways : WayRuns Frame) → Refuses x (quiet_step s trace ways) → IsFaulty x s inputs
@@ -81,9 +81,9 @@ module _ (frame_laws : FrameLaws) (fault : Y4mFault) where
           → next_frame (place_of y s).more (s.params y).format (place_of y s).at (b ∷ v) ≡ r
           → Refuses x (captured_step (video_of y) (pictures_of y) (refused_video y) y s trace (frame_size (s.params y).format (b ∷ v)) r) → IsFaulty x s inputs
       at_captured A A later b v same (Ok planes) is ends =
-          subst (λ (l : List ℕ). HasFault (s.params A).format s.video_a l) (sym same) (behind_it (s.params A).format s.video_a b v planes (inputs Video) same is (later _ _ ends))
+          subst (λ (l : List ℕ). HasFault (s.params A).format s.video_a l) (sym same) (after_it (s.params A).format s.video_a b v planes (inputs Video) same is (later _ _ ends))
       at_captured B B later b v same (Ok planes) is ends =
-          subst (λ (l : List ℕ). HasFault (s.params B).format s.video_b l) (sym same) (behind_it (s.params B).format s.video_b b v planes (inputs Video2) same is (later _ _ ends))
+          subst (λ (l : List ℕ). HasFault (s.params B).format s.video_b l) (sym same) (after_it (s.params B).format s.video_b b v planes (inputs Video2) same is (later _ _ ends))
       at_captured A B later b v same (Ok planes) is ends = later _ _ ends
       at_captured B A later b v same (Ok planes) is ends = later _ _ ends
       at_captured A A later b v same (Err broken) is ends =
@@ -144,33 +144,33 @@ module _ (frame_laws : FrameLaws) (fault : Y4mFault) where
   unfolding run_of
   run_refused zero x s inputs ends = at_trace s inputs (λ next taken. silence) x (λ next taken is. absurd (no_fault x is)) (inputs Events) ends
   run_refused (suc n) x s inputs ends =
-      at_trace s inputs (λ next taken. run_of duplex_step n next (behind inputs taken)) x (λ next taken is. run_refused n x next (behind inputs taken) is) (inputs Events) ends
+      at_trace s inputs (λ next taken. run_of duplex_step n next (left_after inputs taken)) x (λ next taken is. run_refused n x next (left_after inputs taken) is) (inputs Events) ends
 
   module _ (p : Params) (inputs : Role → List ℕ) where
     abbrev Ends : Party → Result Format Y4mFault → Result Format Y4mFault → Type 0
     Ends x a b =
-        (follow (heads_step p inputs a b) (λ next taken. run_of duplex_step most_turns next (behind inputs taken))).last.status ≡ refused_video x fault
+        (follow (heads_step p inputs a b) (λ next taken. run_of duplex_step most_turns next (left_after inputs taken))).last.status ≡ refused_video x fault
 
     pub first_refused : (duplex_run p inputs).last.status ≡ VideoRefused fault → video_fault (inputs Video) ≡ Some fault
     unfolding video_fault
     first_refused ends = by_heads (head_of (inputs Video)) (head_of (inputs Video2)) ends
       where
-        by_heads : (a b : Result Format Y4mFault) → Ends A a b → fault_behind a (head_size (inputs Video)) (drop (head_size (inputs Video)) (inputs Video)) ≡ Some fault
+        by_heads : (a b : Result Format Y4mFault) → Ends A a b → fault_after_head a (head_size (inputs Video)) (drop (head_size (inputs Video)) (inputs Video)) ≡ Some fault
         by_heads (Err broken) b ends = ap (λ (x : Y4mFault). Some x) (first_is broken fault ends)
         by_heads (Ok f) (Err broken) ends = absurd (cc ends)
         by_heads (Ok f) (Ok g) ends =
             let size = head_size (inputs Video) in
             let taken : size + 0 ≡ size = omega arith in
-            subst (λ (n : ℕ). fault_of f most_frames size (drop n (inputs Video)) ≡ Some fault) taken (run_refused most_turns A _ (behind inputs (heads_taken inputs)) ends)
+            subst (λ (n : ℕ). fault_of f most_frames size (drop n (inputs Video)) ≡ Some fault) taken (run_refused most_turns A _ (left_after inputs (heads_taken inputs)) ends)
 
     pub second_refused : (duplex_run p inputs).last.status ≡ Video2Refused fault → video_fault (inputs Video2) ≡ Some fault
     unfolding video_fault
     second_refused ends = by_heads (head_of (inputs Video)) (head_of (inputs Video2)) ends
       where
-        by_heads : (a b : Result Format Y4mFault) → Ends B a b → fault_behind b (head_size (inputs Video2)) (drop (head_size (inputs Video2)) (inputs Video2)) ≡ Some fault
+        by_heads : (a b : Result Format Y4mFault) → Ends B a b → fault_after_head b (head_size (inputs Video2)) (drop (head_size (inputs Video2)) (inputs Video2)) ≡ Some fault
         by_heads (Err broken) b ends = absurd (cc ends)
         by_heads (Ok f) (Err broken) ends = ap (λ (x : Y4mFault). Some x) (second_is broken fault ends)
         by_heads (Ok f) (Ok g) ends =
             let size = head_size (inputs Video2) in
             let taken : 0 + size ≡ size = omega arith in
-            subst (λ (n : ℕ). fault_of g most_frames size (drop n (inputs Video2)) ≡ Some fault) taken (run_refused most_turns B _ (behind inputs (heads_taken inputs)) ends)
+            subst (λ (n : ℕ). fault_of g most_frames size (drop n (inputs Video2)) ≡ Some fault) taken (run_refused most_turns B _ (left_after inputs (heads_taken inputs)) ends)

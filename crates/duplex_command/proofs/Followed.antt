@@ -12,38 +12,38 @@ use Rattle.y4m.specs.declared.fault.Y4mFault.{Y4mFault}
 use Rattle.y4m.specs.Head.{head_of, head_size}
 use Rattle.y4m.specs.Laws.{FrameLaws}
 use Rattle.y4m.specs.Text.{head_text}
-use Rattle.y4m.specs.Video.{frames_behind, frames_of, video_frames}
+use Rattle.y4m.specs.Video.{frames_after_head, frames_of, video_frames}
 use Rattle.call_encoding.specs.Frames.{Frame}
 use Rattle.call_model.specs.Before.{sent_before}
 use Rattle.call_command.specs.Recorded.{ShowsWhatArrived, shown_text}
-use Rattle.desk_program.specs.Run.{Run, behind, follow, run_of, texts_of}
+use Rattle.desk_program.specs.Run.{Run, left_after, follow, run_of, texts_of}
 use Rattle.duplex_call.specs.declared.line.Party.{Party}
 use Rattle.duplex_call.specs.declared.line.Party.TheVariants.{A, B}
 use Rattle.duplex_call.specs.Duplex.{AllMayHappenOf, Lettered, no_runs, way}
 use Rattle.duplex_ends.specs.Ways.{sides}
 use Rattle.duplex_command.specs.Begin.{duplex_run, heads_step, heads_taken, heads_text, in_formats}
 use Rattle.duplex_command.specs.Duplex.{DuplexState, VideoPlace, duplex_step, first_state, pictures_of, place_of, video_of}
-use Rattle.duplex_command.specs.Recorded.{FollowsItsTrace, IsEnd, call_after, fault_in, film, said_of, ways_of, with_lines}
+use Rattle.duplex_command.specs.Recorded.{FollowsItsTrace, IsEnd, call_after, fault_in, film, line_events, ways_of, with_lines}
 use Rattle.duplex_command.proofs.Recorded.{CallLaws, Comes, IsOn, run_comes, state}
 
 video_is : (video : List ℕ) (f : Format) → head_of video ≡ Ok f → video_frames video ≡ frames_of f 1048576 (head_size video) (drop (head_size video) video)
 unfolding video_frames
-video_is video f is = ap (λ (r : Result Format Y4mFault). frames_behind r (head_size video) (drop (head_size video) video)) is
+video_is video f is = ap (λ (r : Result Format Y4mFault). frames_after_head r (head_size video) (drop (head_size video) video)) is
 
 module _ (q : Params) (f g : Format) (inputs : Role → List ℕ) where
   abbrev p : Party → Params
   p = in_formats q f g
 
-  abbrev shots : Party → List Picture
-  shots = film p inputs
+  abbrev captures : Party → List Picture
+  captures = film p inputs
 
-  module _ (laws : CallLaws p shots) (frame_laws : FrameLaws) (arrived : (past : List Lettered) → AllMayHappenOf (sides p) shots past → (x : Party) → ShowsWhatArrived (p x) (way x (ways_of p shots past)).frames (way x (ways_of p shots past)).past)
+  module _ (laws : CallLaws p captures) (frame_laws : FrameLaws) (arrived : (past : List Lettered) → AllMayHappenOf (sides p) captures past → (x : Party) → ShowsWhatArrived (p x) (way x (ways_of p captures past)).frames (way x (ways_of p captures past)).past)
       (head_a : head_of (inputs Video) ≡ Ok f) (head_b : head_of (inputs Video2) ≡ Ok g) where
     abbrev rest : DuplexState → (Role → ℕ) → Run
-    rest next taken = run_of duplex_step 16777216 next (behind inputs taken)
+    rest next taken = run_of duplex_step 16777216 next (left_after inputs taken)
 
     abbrev left : Role → List ℕ
-    left = behind inputs (heads_taken inputs)
+    left = left_after inputs (heads_taken inputs)
 
     abbrev first : Party → VideoPlace
     first A = record { at = head_size (inputs Video); more = 1048576 }
@@ -58,7 +58,7 @@ module _ (q : Params) (f g : Format) (inputs : Role → List ℕ) where
     none_before : (n : ℕ) → 0 + n ≡ n
     none_before n = omega arith
 
-    all_ahead : (x : Party) → shots x ≡ map (λ planes. picture_of (p x).format planes) (frames_of (p x).format (first x).more (first x).at (left (video_of x)))
+    all_ahead : (x : Party) → captures x ≡ map (λ planes. picture_of (p x).format planes) (frames_of (p x).format (first x).more (first x).at (left (video_of x)))
     all_ahead A =
         ap (λ (l : List (List ℕ)). map (λ planes. picture_of f planes) l) (video_is (inputs Video) f head_a)
         ∙ ap (λ (m : ℕ). map (λ planes. picture_of f planes) (frames_of f 1048576 (head_size (inputs Video)) (drop m (inputs Video)))) (sym (no_more (head_size (inputs Video))))
@@ -66,29 +66,29 @@ module _ (q : Params) (f g : Format) (inputs : Role → List ℕ) where
         ap (λ (l : List (List ℕ)). map (λ planes. picture_of g planes) l) (video_is (inputs Video2) g head_b)
         ∙ ap (λ (m : ℕ). map (λ planes. picture_of g planes) (frames_of g 1048576 (head_size (inputs Video2)) (drop m (inputs Video2)))) (sym (none_before (head_size (inputs Video2))))
 
-    none_sent : IsOn p shots laws no_runs (state p shots laws no_runs (first A) (first B) 0 false) left
+    none_sent : IsOn p captures laws no_runs (state p captures laws no_runs (first A) (first B) 0 false) left
     none_sent = record { sent = sent; ahead = ahead }
       where
         sent : (x : Party) → sent_before (way {Frame = Frame} x no_runs).past ≡ length (way {Frame = Frame} x no_runs).frames
         sent A = refl
         sent B = refl
 
-        ahead : (x : Party) → drop (length (way {Frame = Frame} x no_runs).frames) (shots x) ≡ map (λ planes. picture_of (p x).format planes) (frames_of (p x).format (place_of x (state p shots laws no_runs (first A) (first B) 0 false)).more (place_of x (state p shots laws no_runs (first A) (first B) 0 false)).at (left (video_of x)))
+        ahead : (x : Party) → drop (length (way {Frame = Frame} x no_runs).frames) (captures x) ≡ map (λ planes. picture_of (p x).format planes) (frames_of (p x).format (place_of x (state p captures laws no_runs (first A) (first B) 0 false)).more (place_of x (state p captures laws no_runs (first A) (first B) 0 false)).at (left (video_of x)))
         ahead A = all_ahead A
         ahead B = all_ahead B
 
-    comes : Comes p shots laws [] (said_of 16777216 (inputs Events)) (fault_in 16777216 1 (inputs Events)) 1 run
-    comes = run_comes p shots laws frame_laws 16777216 [] (first A) (first B) 0 false left tt none_sent (none_before 16777216)
+    comes : Comes p captures laws [] (line_events 16777216 (inputs Events)) (fault_in 16777216 1 (inputs Events)) 1 run
+    comes = run_comes p captures laws frame_laws 16777216 [] (first A) (first B) 0 false left tt none_sent (none_before 16777216)
 
     one_more : (n : ℕ) → 1 + n ≡ n + 1
     one_more n = omega arith
 
-    end_is : IsEnd p shots (fault_in 16777216 1 (inputs Events)) (length comes.lines + 1) (with_lines p shots [] comes.lines) comes.refused run.last.status
-    end_is = subst (λ (m : ℕ). IsEnd p shots (fault_in 16777216 1 (inputs Events)) m (with_lines p shots [] comes.lines) comes.refused run.last.status) (one_more (length comes.lines)) comes.end
+    end_is : IsEnd p captures (fault_in 16777216 1 (inputs Events)) (length comes.lines + 1) (with_lines p captures [] comes.lines) comes.refused run.last.status
+    end_is = subst (λ (m : ℕ). IsEnd p captures (fault_in 16777216 1 (inputs Events)) m (with_lines p captures [] comes.lines) comes.refused run.last.status) (one_more (length comes.lines)) comes.end
 
     -- the head of each party's pictures is written first
     shown_first : (x : Party) → (heads_text f g (pictures_of x) ++ texts_of run.turns (pictures_of x)) ++ run.last.texts (pictures_of x)
-        ≡ head_text (p x).format ++ shown_text (call_after p shots x (with_lines p shots [] comes.lines)).plays
+        ≡ head_text (p x).format ++ shown_text (call_after p captures x (with_lines p captures [] comes.lines)).plays
     shown_first A =
         ap (λ (l : List ℕ). (l ++ texts_of run.turns (pictures_of A)) ++ run.last.texts (pictures_of A)) (append-nil (head_text f))
         ∙ append_assoc (head_text f) (texts_of run.turns (pictures_of A)) (run.last.texts (pictures_of A))

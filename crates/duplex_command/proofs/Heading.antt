@@ -17,7 +17,7 @@ use Rattle.y4m.specs.Text.{head_text}
 use Rattle.call_report.specs.declared.status.Status.{Status}
 use Rattle.call_report.specs.declared.status.Status.TheVariants.{VideoRefused, Video2Refused}
 use Rattle.call_report.specs.Status.{phase, video_stop}
-use Rattle.desk_program.specs.Run.{Step, behind}
+use Rattle.desk_program.specs.Run.{Step, left_after}
 use Rattle.desk_program.specs.Ends.{Ended, Gains, GainsFronts, GivesUp, IsPart, Lost, Tells, step_turns}
 use Rattle.desk_program.specs.Laws.{TurnLaws}
 use Rattle.desk_program.specs.Texts.{and_of, no_bytes, of, on}
@@ -109,11 +109,11 @@ module _ (turns : TurnLaws) (law : HeadLaw) (inputs : Role → List ℕ) (old mi
   still_there = others Video2 no_first ∙ told Video2 refl
 
   module _ (a : Y4mReader) (first : HeadGives (Ok a) (inputs Video) (mid.left Video)) (new : Outside) (others2 : (r : Role) → r ≢ Video2 → new.left r ≡ mid.left r) (same2 : new.written ≡ mid.written) where
-    read_both : (k : ℕ) → new.left Video2 ≡ Some (drop k (inputs Video2)) → Tells new (behind inputs (and_of (of Video (head_size (inputs Video))) (of Video2 k)))
+    read_both : (k : ℕ) → new.left Video2 ≡ Some (drop k (inputs Video2)) → Tells new (left_after inputs (and_of (of Video (head_size (inputs Video))) (of Video2 k)))
     read_both k gone =
         let size = head_size (inputs Video) in
         turns.both_reads (of Video size) (of Video2 k) new inputs
-        (turns.one_read Video2 k mid new (behind inputs (of Video size)) (turns.one_read Video size old mid inputs told first.2 others) gone others2)
+        (turns.one_read Video2 k mid new (left_after inputs (of Video size)) (turns.one_read Video size old mid inputs told first.2 others) gone others2)
 
     lost_so : (p : Params) → HeadGives (Err Read) (inputs Video2) (new.left Video2) → Lost (duplex_begin p inputs) true inputs old new
     lost_so p e = record {

@@ -20,7 +20,7 @@ use Rattle.loss_trace.specs.Reading.{event_in}
 use Rattle.call_report.specs.declared.status.Status.{Status}
 use Rattle.call_report.specs.declared.status.Status.TheVariants.{Ok as Fine, TraceRefused}
 use Rattle.call_report.specs.Status.{phase, trace_stop}
-use Rattle.desk_program.specs.Run.{End, Step, behind}
+use Rattle.desk_program.specs.Run.{End, Step, left_after}
 use Rattle.desk_program.specs.Run.Step.{Goes, Ends}
 use Rattle.desk_program.specs.Ends.{Gains, GainsFronts, Went, Ended, EndsBy, GivesUp, step_texts}
 use Rattle.desk_program.specs.Texts.{no_texts, of}
@@ -131,7 +131,7 @@ module _ (s : DuplexState) (inputs : Role → List ℕ) (before mid : Outside) (
 
   -- one that is done goes on, and writes these texts
   pub line_goes : (next : DuplexState) (texts : Role → List ℕ) (step : Step DuplexState) (stands : DuplexState → (Role → List ℕ) → Type 0)
-      → step ≡ Goes (after_line next trace) (line_turn trace texts) → stands (after_line next trace) (behind inputs (of Events (line_size trace)))
+      → step ≡ Goes (after_line next trace) (line_turn trace texts) → stands (after_line next trace) (left_after inputs (of Events (line_size trace)))
       → (new : Outside) → new.left ≡ mid.left → Gains texts mid.written new.written → Went step stands may_read true inputs before new
   line_goes next texts step stands is kept new still gains = record {
     next = after_line next trace;
@@ -218,7 +218,7 @@ module _ (laws : LineLaws) (s : DuplexState) (inputs : Role → List ℕ) (old m
 
     -- an empty line
     pub found_empty : party_event (take found.1 buf) ≡ Some None → (stands : DuplexState → (Role → List ℕ) → Type 0)
-        → stands (after_line s (inputs Events)) (behind inputs (of Events (line_size (inputs Events))))
+        → stands (after_line s (inputs Events)) (left_after inputs (of Events (line_size (inputs Events))))
         → Gains no_texts mid.written mid.written → Went (duplex_step s inputs) stands may_read (may_read s) inputs old mid
     found_empty said stands kept silent =
         subst (λ (b : Bool). Went (duplex_step s inputs) stands may_read b inputs old mid) (sym found_could)

@@ -14,12 +14,12 @@ use Rattle.h263_outside.specs.declared.desk.Role.TheVariants.{Video, Events, Rep
 use Rattle.y4m.specs.declared.fault.Y4mFault.{Y4mFault}
 use Rattle.y4m.specs.Frame.{next_frame, frame_size}
 use Rattle.y4m.specs.Laws.{FrameLaws}
-use Rattle.y4m.specs.Video.{behind_frame, frames_of}
+use Rattle.y4m.specs.Video.{after_frame, frames_of}
 use Rattle.loss_trace.specs.declared.event.Event.{Event as Line}
 use Rattle.loss_trace.specs.declared.event.Event.TheVariants as says
 use Rattle.loss_trace.specs.declared.fault.TraceFault.{TraceFault}
 use Rattle.loss_trace.specs.declared.fault.TraceFault.TheVariants.{TooMany}
-use Rattle.loss_trace.specs.Lines.{behind_line, first_line, is_closed}
+use Rattle.loss_trace.specs.Lines.{later_lines, first_line, is_closed}
 use Rattle.call_report.specs.declared.status.Status.{Status}
 use Rattle.call_report.specs.declared.status.Status.TheVariants.{Ok as Fine, TraceRefused}
 use Rattle.call_report.specs.Text.{Text, picture_text}
@@ -33,7 +33,7 @@ use Rattle.call_decoding.specs.Styles.{Style}
 use Rattle.call_encoding.specs.Frames.{Frame}
 use Rattle.coded_call.specs.Coding.{coding}
 use Rattle.receiver_end.specs.Answers.{mark_of}
-use Rattle.desk_program.specs.Run.{Run, Step, Turn, behind, follow, run_of, silence, text_of, texts_of}
+use Rattle.desk_program.specs.Run.{Run, Step, Turn, left_after, follow, run_of, silence, text_of, texts_of}
 use Rattle.desk_program.specs.Run.Step.{Ends}
 use Rattle.desk_program.specs.Texts.{and_of, no_texts, of}
 use Rattle.one_way.specs.Both.{steady}
@@ -44,12 +44,12 @@ use Rattle.call_command.specs.Recorded.{shown_text, told}
 use Rattle.call_command.specs.Refused.{fault_of}
 use Rattle.duplex_call.specs.declared.line.Party.{Party}
 use Rattle.duplex_call.specs.declared.line.Party.TheVariants.{A, B}
-use Rattle.duplex_call.specs.Duplex.{AllMayHappenOf, Lettered, WayRuns, other, way, with_delivery, with_play, with_shot}
+use Rattle.duplex_call.specs.Duplex.{AllMayHappenOf, Lettered, WayRuns, other, way, with_delivery, with_play, with_capture}
 use Rattle.duplex_call.specs.Lines.{party_event}
 use Rattle.duplex_call.specs.Refused.{NoneWhereItMayHappenOf, first_of, heard_refusal, refusal_of}
 use Rattle.duplex_ends.specs.Ways.{call_in, sides, with_places, with_whole}
 use Rattle.duplex_command.specs.Duplex.{DuplexState, VideoPlace, after_line, both_counts, capture_step, captured_step, duplex_step, letter_of, line_step, party_step, pictures_of, place_of, play_step, play_texts, quiet_step, refusal_at, refused_video, seen_of, trace_step, unless, video_of, video_refusal, with_frame, with_next}
-use Rattle.duplex_command.specs.Recorded.{IsEnd, IsRefusal, Said, bad_from, call_after, fault_in, said_from, said_of, told_line, told_lines, ways_of, with_event, with_line, with_lines, with_packets}
+use Rattle.duplex_command.specs.Recorded.{IsEnd, IsRefusal, LineEvent, bad_from, call_after, fault_in, and_event, line_events, told_line, told_lines, ways_of, with_event, with_line, with_lines, with_packets}
 use Rattle.duplex_command.proofs.Brought.{IsKept, kept_all, kept_delivery, kept_places, near_packets, told_packets, ways_packets}
 
 -- ---- lists
@@ -61,22 +61,22 @@ next_in [] (suc n) x more is = absurd (cc is)
 next_in (y ∷ xs) zero x more is = cc is
 next_in (y ∷ xs) (suc n) x more is = next_in xs n x more is
 
-behind_next : {X : Type 0} (xs : List X) (n : ℕ) (x : X) (more : List X) → drop n xs ≡ x ∷ more → drop (suc n) xs ≡ more
-behind_next [] zero x more is = absurd (cc is)
-behind_next [] (suc n) x more is = absurd (cc is)
-behind_next (y ∷ xs) zero x more is = cc is
-behind_next (y ∷ xs) (suc n) x more is = behind_next xs n x more is
+after_next : {X : Type 0} (xs : List X) (n : ℕ) (x : X) (more : List X) → drop n xs ≡ x ∷ more → drop (suc n) xs ≡ more
+after_next [] zero x more is = absurd (cc is)
+after_next [] (suc n) x more is = absurd (cc is)
+after_next (y ∷ xs) zero x more is = cc is
+after_next (y ∷ xs) (suc n) x more is = after_next xs n x more is
 
-some_behind : {X : Type 0} (xs : List X) (n : ℕ) (x : X) (more : List X) → drop n xs ≡ x ∷ more → n < length xs
-some_behind [] zero x more is = absurd (cc is)
-some_behind [] (suc n) x more is = absurd (cc is)
-some_behind (y ∷ xs) zero x more is = omega arith
-some_behind (y ∷ xs) (suc n) x more is = omega (arith, some_behind xs n x more is)
+some_after : {X : Type 0} (xs : List X) (n : ℕ) (x : X) (more : List X) → drop n xs ≡ x ∷ more → n < length xs
+some_after [] zero x more is = absurd (cc is)
+some_after [] (suc n) x more is = absurd (cc is)
+some_after (y ∷ xs) zero x more is = omega arith
+some_after (y ∷ xs) (suc n) x more is = omega (arith, some_after xs n x more is)
 
-none_behind : {X : Type 0} (xs : List X) (n : ℕ) → drop n xs ≡ [] → length xs ≤ n
-none_behind [] n is = omega arith
-none_behind (y ∷ xs) zero is = absurd (cc is)
-none_behind (y ∷ xs) (suc n) is = omega (arith, none_behind xs n is)
+none_after : {X : Type 0} (xs : List X) (n : ℕ) → drop n xs ≡ [] → length xs ≤ n
+none_after [] n is = omega arith
+none_after (y ∷ xs) zero is = absurd (cc is)
+none_after (y ∷ xs) (suc n) is = omega (arith, none_after xs n is)
 
 longer : {X : Type 0} (xs : List X) (x : X) → length (xs ++ x ∷ []) ≡ suc (length xs)
 longer [] x = refl
@@ -92,33 +92,33 @@ abbrev status_with : TraceFault → Status
 status_with fault = TraceRefused fault
 
 -- what the laws say of the ideal calls of both parties
-pub record CallLaws (p : Party → Params) (shots : Party → List Picture) : Type 0 where
+pub record CallLaws (p : Party → Params) (captures : Party → List Picture) : Type 0 where
   pub later : (q : Params) → LaterFrames (coding q) (rules_of q)
   pub none : NoneWhereItMayHappenOf (sides p)
   pub counts : (q : Params) (frames : List Frame) → CountsAreThose (coding q) (rules_of q) (steady q) frames
-  pub each : (past : List Lettered) → AllMayHappenOf (sides p) shots past → (x : Party)
-      → AllMayHappen (coding (p x)) (rules_of (p x)) (steady (p x)) (way x (ways_of p shots past)).frames (way x (ways_of p shots past)).past
+  pub each : (past : List Lettered) → AllMayHappenOf (sides p) captures past → (x : Party)
+      → AllMayHappen (coding (p x)) (rules_of (p x)) (steady (p x)) (way x (ways_of p captures past)).frames (way x (ways_of p captures past)).past
   pub left : FramesLeft
-  pub gone : (trace : List ℕ) → drop (line_size trace) trace ≡ behind_line trace
+  pub gone : (trace : List ℕ) → drop (line_size trace) trace ≡ later_lines trace
 
-module _ (p : Party → Params) (shots : Party → List Picture) (laws : CallLaws p shots) where
+module _ (p : Party → Params) (captures : Party → List Picture) (laws : CallLaws p captures) where
   abbrev Near : List Lettered → Type 0
-  Near past = AllMayHappenOf (sides p) shots past
+  Near past = AllMayHappenOf (sides p) captures past
 
   abbrev ways : List Lettered → WayRuns Frame
-  ways past = ways_of p shots past
+  ways past = ways_of p captures past
 
   abbrev call : Party → List Lettered → Call Style Mb Picture
-  call x past = call_after p shots x past
+  call x past = call_after p captures x past
 
-  abbrev With : List Lettered → Said → List Lettered
-  With past line = with_line p shots past line
+  abbrev With : List Lettered → LineEvent → List Lettered
+  With past line = with_line p captures past line
 
-  abbrev Withs : List Lettered → List Said → List Lettered
-  Withs past lines = with_lines p shots past lines
+  abbrev Withs : List Lettered → List LineEvent → List Lettered
+  Withs past lines = with_lines p captures past lines
 
   abbrev rows : List Lettered → Text
-  rows past = told_lines p shots past
+  rows past = told_lines p captures past
 
   -- ---- the states along the way
 
@@ -126,14 +126,14 @@ module _ (p : Party → Params) (shots : Party → List Picture) (laws : CallLaw
   state met va vb lines ended =
       record { params = p; ways = met; video_a = va; video_b = vb; lines = lines; ended = ended }
 
-  abbrev shots_at : Party → VideoPlace → List ℕ → List Picture
-  shots_at x place video =
+  abbrev captures_at : Party → VideoPlace → List ℕ → List Picture
+  captures_at x place video =
       map (λ planes. picture_of (p x).format planes) (frames_of (p x).format place.more place.at video)
 
   -- of each party all frames were sent, and these are still to come
   pub record IsOn (met : WayRuns Frame) (s : DuplexState) (inputs : Role → List ℕ) : Type 0 where
     pub sent : (x : Party) → sent_before (way x met).past ≡ length (way x met).frames
-    pub ahead : (x : Party) → drop (length (way x met).frames) (shots x) ≡ shots_at x (place_of x s) (inputs (video_of x))
+    pub ahead : (x : Party) → drop (length (way x met).frames) (captures x) ≡ captures_at x (place_of x s) (inputs (video_of x))
 
   -- ---- what a run from there comes to
 
@@ -156,19 +156,19 @@ module _ (p : Party → Params) (shots : Party → List Picture) (laws : CallLaw
   one_refused size B broken B fault is = refl
 
   -- over the events before it, where these lines are still to come
-  pub record Comes (past : List Lettered) (ahead : List Said) (fault : Option TraceFault) (number : ℕ) (run : Run) : Type 0 where
-    pub lines : List Said
-    pub refused : List Said
+  pub record Comes (past : List Lettered) (ahead : List LineEvent) (fault : Option TraceFault) (number : ℕ) (run : Run) : Type 0 where
+    pub lines : List LineEvent
+    pub refused : List LineEvent
     pub read : ahead ≡ lines ++ refused
     pub taken : length run.turns ≡ length lines
     pub near : Near (Withs past lines)
     pub pictures : (x : Party) → shown_text (call x (Withs past lines)).plays ≡ shown_text (call x past).plays ++ text_of run (pictures_of x)
     pub report : rows (Withs past lines) ++ told run.last.status (both_counts p (ways (Withs past lines)) Report) ≡ rows past ++ text_of run Report
-    pub end : IsEnd p shots fault (number + length lines) (Withs past lines) refused run.last.status
+    pub end : IsEnd p captures fault (number + length lines) (Withs past lines) refused run.last.status
     pub others : Spares run.last.status run.last.taken
 
-  comes_stopped : (past : List Lettered) → Near past → (E : List Said) (F : Option TraceFault) (m : ℕ) (rest : DuplexState → (Role → ℕ) → Run)
-      (status : Status) (taken : Role → Option ℕ) → ((text : Text) → told status text ≡ []) → Spares status taken → IsEnd p shots F (m + 0) past E status
+  comes_stopped : (past : List Lettered) → Near past → (E : List LineEvent) (F : Option TraceFault) (m : ℕ) (rest : DuplexState → (Role → ℕ) → Run)
+      (status : Status) (taken : Role → Option ℕ) → ((text : Text) → told status text ≡ []) → Spares status taken → IsEnd p captures F (m + 0) past E status
       → Comes past E F m (follow (Ends (record { status = status; taken = taken; texts = no_texts })) rest)
   comes_stopped past near E F m rest status taken silent spares end = record {
     end = end;
@@ -183,8 +183,8 @@ module _ (p : Party → Params) (shots : Party → List Picture) (laws : CallLaw
   }
 
   -- a fault of the trace ends it
-  comes_faulty : (past : List Lettered) → Near past → (E : List Said) (F : Option TraceFault) (m : ℕ) (rest : DuplexState → (Role → ℕ) → Run)
-      (fault : TraceFault) (taken : Role → Option ℕ) → IsEnd p shots F (m + 0) past E (status_with fault)
+  comes_faulty : (past : List Lettered) → Near past → (E : List LineEvent) (F : Option TraceFault) (m : ℕ) (rest : DuplexState → (Role → ℕ) → Run)
+      (fault : TraceFault) (taken : Role → Option ℕ) → IsEnd p captures F (m + 0) past E (status_with fault)
       → Comes past E F m (follow (Ends (record { status = status_with fault; taken = taken; texts = no_texts })) rest)
   comes_faulty past near E F m rest fault taken end = comes_stopped past near E F m rest (status_with fault) taken (λ text. refl) (no_video_refused fault taken) end
 
@@ -210,7 +210,7 @@ module _ (p : Party → Params) (shots : Party → List Picture) (laws : CallLaw
   one_further m j = omega arith
 
   -- a line more
-  comes_more : (line : Said) (E : List Said) (F : Option TraceFault) (m : ℕ) (past past2 : List Lettered) (turn : Turn) (run : Run) → past2 ≡ With past line
+  comes_more : (line : LineEvent) (E : List LineEvent) (F : Option TraceFault) (m : ℕ) (past past2 : List Lettered) (turn : Turn) (run : Run) → past2 ≡ With past line
       → ((x : Party) → shown_text (call x past2).plays ≡ shown_text (call x past).plays ++ turn.texts (pictures_of x))
       → rows past2 ≡ rows past ++ turn.texts Report
       → Comes past2 E F (m + 1) run → Comes past (line ∷ E) F m (record { turns = turn ∷ run.turns; last = run.last })
@@ -224,11 +224,11 @@ module _ (p : Party → Params) (shots : Party → List Picture) (laws : CallLaw
       subst (λ (q : List Lettered). rows q ≡ rows past ++ turn.texts Report) is report2
       in
       record {
-        end = subst (λ (j : ℕ). IsEnd p shots F j (Withs now comes.lines) comes.refused run.last.status) (one_further m (length comes.lines)) comes.end;
+        end = subst (λ (j : ℕ). IsEnd p captures F j (Withs now comes.lines) comes.refused run.last.status) (one_further m (length comes.lines)) comes.end;
         others = comes.others;
         lines = line ∷ comes.lines;
         refused = comes.refused;
-        read = ap (λ (l : List Said). line ∷ l) comes.read;
+        read = ap (λ (l : List LineEvent). line ∷ l) comes.read;
         taken = ap suc comes.taken;
         near = comes.near;
         pictures = λ x.
@@ -263,7 +263,7 @@ module _ (p : Party → Params) (shots : Party → List Picture) (laws : CallLaw
   plays_count q frames (Back k ∷ past) = plays_count q frames past
 
   module _ (frame_laws : FrameLaws) (past : List Lettered) (near : Near past) (va vb : VideoPlace) (lines : ℕ) (ended : Bool) (inputs : Role → List ℕ)
-      (on : IsOn (ways past) (state (ways past) va vb lines ended) inputs) (E : List Said) (F : Option TraceFault) (rest : DuplexState → (Role → ℕ) → Run) where
+      (on : IsOn (ways past) (state (ways past) va vb lines ended) inputs) (E : List LineEvent) (F : Option TraceFault) (rest : DuplexState → (Role → ℕ) → Run) where
     abbrev s : DuplexState
     s = state (ways past) va vb lines ended
 
@@ -274,68 +274,68 @@ module _ (p : Party → Params) (shots : Party → List Picture) (laws : CallLaw
     trace = inputs Events
 
     module _ (go : (past2 : List Lettered) (met2 : WayRuns Frame) (va2 vb2 : VideoPlace) (ended2 : Bool) (taken : Role → ℕ) → met2 ≡ ways past2 → Near past2
-        → IsOn met2 (state met2 va2 vb2 (lines + 1) ended2) (behind inputs taken) → taken Events ≡ line_size trace
+        → IsOn met2 (state met2 va2 vb2 (lines + 1) ended2) (left_after inputs taken) → taken Events ≡ line_size trace
         → Comes past2 E F (lines + 1 + 1) (rest (state met2 va2 vb2 (lines + 1) ended2) taken)) where
       abbrev size : ℕ
       size = line_size trace
 
-      abbrev Takes : Said → Step DuplexState → Type 0
+      abbrev Takes : LineEvent → Step DuplexState → Type 0
       Takes line step = Comes past (line ∷ E) F (lines + 1) (follow step rest)
 
       -- a refusal ends the call
-      abbrev IsWhy : Said → Party → Event → Type 0
-      IsWhy line x e = (r : Refusal) → refusal_at x s e ≡ Some r → IsEnd p shots F (lines + 1 + 0) past (line ∷ E) (TraceRefused (fault_of (lines + 1) e r))
+      abbrev IsWhy : LineEvent → Party → Event → Type 0
+      IsWhy line x e = (r : Refusal) → refusal_at x s e ≡ Some r → IsEnd p captures F (lines + 1 + 0) past (line ∷ E) (TraceRefused (fault_of (lines + 1) e r))
 
-      unless_comes : (line : Said) (x : Party) (e : Event) (o : Option Refusal) (step : Step DuplexState) → refusal_at x s e ≡ o → IsWhy line x e → (o ≡ None → Takes line step) → Takes line (unless s trace e o step)
+      unless_comes : (line : LineEvent) (x : Party) (e : Event) (o : Option Refusal) (step : Step DuplexState) → refusal_at x s e ≡ o → IsWhy line x e → (o ≡ None → Takes line step) → Takes line (unless s trace e o step)
       unless_comes line x e None step found why takes = takes refl
       unless_comes line x e (Some r) step found why takes = comes_faulty past near (line ∷ E) F (lines + 1) rest _ _ (why r found)
 
-      told_at : (x : Party) (e : Event) (r : Refusal) → refusal_of (sides p) (length (shots x)) x e met ≡ Some r → IsRefusal p shots (lines + 1 + 0) past x e (TraceRefused (fault_of (lines + 1) e r))
+      told_at : (x : Party) (e : Event) (r : Refusal) → refusal_of (sides p) (length (captures x)) x e met ≡ Some r → IsRefusal p captures (lines + 1 + 0) past x e (TraceRefused (fault_of (lines + 1) e r))
       told_at x e r is = (r, is, inl (ap (λ (j : ℕ). status_with (fault_of j e r)) (sym (no_more (lines + 1)))))
 
       -- how many pictures are there makes a difference to a capture alone
-      packet_so : (x : Party) (n j : ℕ) (r : Refusal) → refusal_at x s (Deliver n j) ≡ Some r → refusal_of (sides p) (length (shots x)) x (Deliver n j) met ≡ Some r
+      packet_so : (x : Party) (n j : ℕ) (r : Refusal) → refusal_at x s (Deliver n j) ≡ Some r → refusal_of (sides p) (length (captures x)) x (Deliver n j) met ≡ Some r
       packet_so x n j r is =
           let c = call x past in
           ap (λ (o : Option Refusal). first_of o (heard_refusal (sides p) (other x) (way (other x) met) (slice_index_or (way x met).carried n [])))
-          (laws.left.packet (rules_of (p x)) n j (length (shots x)) (length c.coded + 1) (length c.coded) c.played (map about c.said))
+          (laws.left.packet (rules_of (p x)) n j (length (captures x)) (length c.coded + 1) (length c.coded) c.played (map about c.said))
           ∙ is
 
-      play_so : (x : Party) (r : Refusal) → refusal_at x s Play ≡ Some r → refusal_of (sides p) (length (shots x)) x Play met ≡ Some r
+      play_so : (x : Party) (r : Refusal) → refusal_at x s Play ≡ Some r → refusal_of (sides p) (length (captures x)) x Play met ≡ Some r
       play_so x r is =
           let c = call x past in
-          laws.left.play (rules_of (p x)) (length (shots x)) (length c.coded + 1) (length c.coded) c.played (map about c.said) ∙ is
+          laws.left.play (rules_of (p x)) (length (captures x)) (length c.coded + 1) (length c.coded) c.played (map about c.said) ∙ is
 
-      capture_so : (x : Party) (r : Refusal) → refusal_at x s Send ≡ Some r → refusal_of (sides p) (length (shots x)) x Send met ≡ Some r
+      capture_so : (x : Party) (r : Refusal) → refusal_at x s Send ≡ Some r → refusal_of (sides p) (length (captures x)) x Send met ≡ Some r
       capture_so x r is =
           let c = call x past in
-          laws.left.far (rules_of (p x)) (length (shots x)) (length c.coded) c.played (map about c.said) r is
+          laws.left.far (rules_of (p x)) (length (captures x)) (length c.coded) c.played (map about c.said) r is
 
       -- no frame is left
-      none_left : (x : Party) → shots_at x (place_of x s) (inputs (video_of x)) ≡ [] → refusal_at x s Send ≡ None → refusal_of (sides p) (length (shots x)) x Send met ≡ Some NoPicture
+      none_left : (x : Party) → captures_at x (place_of x s) (inputs (video_of x)) ≡ [] → refusal_at x s Send ≡ None → refusal_of (sides p) (length (captures x)) x Send met ≡ Some NoPicture
       none_left x nothing is =
           let c = call x past in
-          let few : length (shots x) ≤ length (way x met).frames = none_behind (shots x) (length (way x met).frames) (on.ahead x ∙ nothing) in
+          let few : length (captures x) ≤ length (way x met).frames = none_after (captures x) (length (way x met).frames) (on.ahead x ∙ nothing) in
           let coded : length c.coded ≡ length (way x met).frames = coded_are past near x (on.sent x) in
-          laws.left.out (rules_of (p x)) (length (shots x)) (length c.coded) c.played (map about c.said) (omega (arith, few, coded)) is
+          laws.left.out (rules_of (p x)) (length (captures x)) (length c.coded) c.played (map about c.said) (omega (arith, few, coded)) is
 
       -- ---- events that capture nothing
 
       -- each video is as it was left
-      same_ahead : (x : Party) (met2 : WayRuns Frame) (ended2 : Bool) → shots_at x (place_of x s) (inputs (video_of x))
-          ≡ shots_at x (place_of x (state met2 va vb (lines + 1) ended2)) (behind inputs (of Events size) (video_of x))
+      same_ahead : (x : Party) (met2 : WayRuns Frame) (ended2 : Bool) → captures_at x (place_of x s) (inputs (video_of x))
+          ≡ captures_at x (place_of x (state met2 va vb (lines + 1) ended2)) (left_after inputs (of Events size) (video_of x))
       same_ahead A met2 ended2 = refl
       same_ahead B met2 ended2 = refl
 
       on_after : (met2 : WayRuns Frame) (ended2 : Bool) → ((x : Party) → (way x met2).frames ≡ (way x met).frames) → ((x : Party) → sent_before (way x met2).past ≡ sent_before (way x met).past)
-          → IsOn met2 (state met2 va vb (lines + 1) ended2) (behind inputs (of Events size))
+          → IsOn met2 (state met2 va vb (lines + 1) ended2) (left_after inputs (of Events size))
       on_after met2 ended2 frames sent = record {
         sent = λ x. sent x ∙ on.sent x ∙ ap (λ (l : List Frame). length l) (sym (frames x));
-        ahead = λ x. ap (λ (l : List Frame). drop (length l) (shots x)) (frames x) ∙ on.ahead x ∙ same_ahead x met2 ended2;
+        ahead = λ x. ap (λ (l : List Frame). drop (length l) (captures x)) (frames x) ∙ on.ahead x ∙ same_ahead x met2 ended2;
       }
 
       -- those that show nothing
-      quiet : (line : Said) (past2 : List Lettered) (met2 : WayRuns Frame) → past2 ≡ With past line → met2 ≡ ways past2 → Near past2 → IsKept p met2 met → rows past2 ≡ rows past
+      quiet : (line : LineEvent) (past2 : List Lettered) (met2 : WayRuns Frame) → past2 ≡ With past line → met2 ≡ ways past2 → Near past2 → IsKept p met2 met → rows past2 ≡ rows past
           → Takes line (quiet_step s trace met2)
       quiet line past2 met2 same is near2 kept told2 =
           let plays : (x : Party) → (call x past2).plays ≡ (call x past).plays = λ x. ap (λ (w : WayRuns Frame). (call_in p x w).plays) (sym is) ∙ kept.plays x in
@@ -346,15 +346,15 @@ module _ (p : Party → Params) (shots : Party → List Picture) (laws : CallLaw
 
       packet_comes : (x : Party) (n j : ℕ) → refusal_at x s (Deliver n j) ≡ None → Takes (Some (x, says.Packet n j)) (quiet_step s trace (with_delivery (sides p) x n j met))
       packet_comes x n j o =
-          quiet (Some (x, says.Packet n j)) (with_event p shots x (Deliver n j) past) (with_delivery (sides p) x n j met) refl refl
+          quiet (Some (x, says.Packet n j)) (with_event p captures x (Deliver n j) past) (with_delivery (sides p) x n j met) refl refl
           ((laws.none (length (call x past).coded + 1) x (Deliver n j) met).0 o, near) (kept_delivery p x n j met) (append-nil (rows past))
 
       all_comes : (x : Party) (n : ℕ) → refusal_at x s (Deliver n 0) ≡ None → Takes (Some (x, says.All n)) (quiet_step s trace (with_whole p x n met))
       all_comes x n o =
           let count = length (slices_at (call x past).coded n) in
-          quiet (Some (x, says.All n)) (with_packets p shots x n count past) (with_places p x n count met) refl (ways_packets p shots x n count past)
-          (near_packets p shots x n 0 count past ((laws.none (length (call x past).coded + 1) x (Deliver n 0) met).0 o) near)
-          (kept_places p x n count met) (told_packets p shots x n count past)
+          quiet (Some (x, says.All n)) (with_packets p captures x n count past) (with_places p x n count met) refl (ways_packets p captures x n count past)
+          (near_packets p captures x n 0 count past ((laws.none (length (call x past).coded + 1) x (Deliver n 0) met).0 o) near)
+          (kept_places p x n count met) (told_packets p captures x n count past)
 
       -- ---- a play
 
@@ -373,7 +373,7 @@ module _ (p : Party → Params) (shots : Party → List Picture) (laws : CallLaw
       abbrev play_turn : Party → Turn
       play_turn x = line_turn trace (play_texts (pictures_of x) x (seen_of x (with_next x s)) (seen_of x s).played)
 
-      played_pictures : (x y : Party) → shown_text (call y (with_event p shots x Play past)).plays ≡ shown_text (call y past).plays ++ (play_turn x).texts (pictures_of y)
+      played_pictures : (x y : Party) → shown_text (call y (with_event p captures x Play past)).plays ≡ shown_text (call y past).plays ++ (play_turn x).texts (pictures_of y)
       played_pictures A A = ap (λ (l : Text). shown_text (call A past).plays ++ l) (sym (append-nil _))
       played_pictures A B = sym (append-nil (shown_text (call B past).plays))
       played_pictures B A = sym (append-nil (shown_text (call A past).plays))
@@ -386,16 +386,16 @@ module _ (p : Party → Params) (shots : Party → List Picture) (laws : CallLaw
       abbrev row_at : Party → ℕ → Text
       row_at x m = picture_text m (Some (mark_of (newest x).mark)) (Some (reference_in (call x past).coded m)) (Some (letter_of x))
 
-      row_is : (x : Party) → told_line p shots x Play past ≡ (play_turn x).texts Report
+      row_is : (x : Party) → told_line p captures x Play past ≡ (play_turn x).texts Report
       row_is A = ap (row_at A) (plays_count (p A) (way A met).frames (way A met).past)
       row_is B = ap (row_at B) (plays_count (p B) (way B met).frames (way B met).past)
 
       play_comes : (x : Party) → refusal_at x s Play ≡ None → Takes (Some (x, says.Play)) (play_step (video_of x) (pictures_of x) (refused_video x) x s trace)
       play_comes x o =
-          comes_more (Some (x, says.Play)) E F (lines + 1) past (with_event p shots x Play past) (play_turn x) _ refl
+          comes_more (Some (x, says.Play)) E F (lines + 1) past (with_event p captures x Play past) (play_turn x) _ refl
           (played_pictures x)
           (ap (λ (l : Text). rows past ++ l) (row_is x))
-          (go (with_event p shots x Play past) (with_play (sides p) x met) va vb (not (is_closed trace)) (of Events size) refl
+          (go (with_event p captures x Play past) (with_play (sides p) x met) va vb (not (is_closed trace)) (of Events size) refl
           ((laws.none (length (call x past).coded + 1) x Play met).0 o, near)
           (on_after (with_play (sides p) x met) (not (is_closed trace)) (played_frames x) (played_sent x)) refl)
 
@@ -409,15 +409,15 @@ module _ (p : Party → Params) (shots : Party → List Picture) (laws : CallLaw
       line_taken B frame = no_more size
 
       -- the frame is gone from its own video, and nothing from the other
-      frame_gone : (x : Party) (frame : ℕ) → behind inputs (takes_frame x frame) (video_of x) ≡ drop frame (inputs (video_of x))
+      frame_gone : (x : Party) (frame : ℕ) → left_after inputs (takes_frame x frame) (video_of x) ≡ drop frame (inputs (video_of x))
       frame_gone A frame = ap (λ (m : ℕ). drop m (inputs Video)) (more_bytes frame)
       frame_gone B frame = ap (λ (m : ℕ). drop m (inputs Video2)) (more_bytes frame)
 
-      captured_plays : (x y : Party) (shot : Picture) → shown_text (call_in p y (with_shot (sides p) x shot met)).plays ≡ shown_text (call y past).plays
-      captured_plays A A shot = ap (λ (c : Call Style Mb Picture). shown_text c.plays) (laws.later (p A) (steady (p A)) (way A met).frames _ (way A met).past (laws.each past near A)).0
-      captured_plays A B shot = refl
-      captured_plays B A shot = refl
-      captured_plays B B shot = ap (λ (c : Call Style Mb Picture). shown_text c.plays) (laws.later (p B) (steady (p B)) (way B met).frames _ (way B met).past (laws.each past near B)).0
+      captured_plays : (x y : Party) (captured : Picture) → shown_text (call_in p y (with_capture (sides p) x captured met)).plays ≡ shown_text (call y past).plays
+      captured_plays A A captured = ap (λ (c : Call Style Mb Picture). shown_text c.plays) (laws.later (p A) (steady (p A)) (way A met).frames _ (way A met).past (laws.each past near A)).0
+      captured_plays A B captured = refl
+      captured_plays B A captured = refl
+      captured_plays B B captured = ap (λ (c : Call Style Mb Picture). shown_text c.plays) (laws.later (p B) (steady (p B)) (way B met).frames _ (way B met).past (laws.each past near B)).0
 
       -- where the video of a party stands after a frame
       abbrev next_place : Party → ℕ → VideoPlace
@@ -428,35 +428,35 @@ module _ (p : Party → Params) (shots : Party → List Picture) (laws : CallLaw
 
       -- the run goes on after a capture
       frame_on : (x : Party) (planes : List ℕ) (frame : ℕ)
-          → drop (suc (length (way x met).frames)) (shots x) ≡ shots_at x (next_place x frame) (drop frame (inputs (video_of x)))
-          → with_shot (sides p) x (picture_of (p x).format planes) met ≡ ways (with_event p shots x Send past) → Near (with_event p shots x Send past)
-          → Comes (with_event p shots x Send past) E F (lines + 1 + 1) (rest (after_line (with_frame x s frame planes) trace) (takes_frame x frame))
+          → drop (suc (length (way x met).frames)) (captures x) ≡ captures_at x (next_place x frame) (drop frame (inputs (video_of x)))
+          → with_capture (sides p) x (picture_of (p x).format planes) met ≡ ways (with_event p captures x Send past) → Near (with_event p captures x Send past)
+          → Comes (with_event p captures x Send past) E F (lines + 1 + 1) (rest (after_line (with_frame x s frame planes) trace) (takes_frame x frame))
       frame_on A planes frame ahead is near2 =
-          go (with_event p shots A Send past) (with_shot (sides p) A (picture_of (p A).format planes) met) (next_place A frame) vb (not (is_closed trace)) (takes_frame A frame) is near2
+          go (with_event p captures A Send past) (with_capture (sides p) A (picture_of (p A).format planes) met) (next_place A frame) vb (not (is_closed trace)) (takes_frame A frame) is near2
           (record { sent = sent; ahead = aheads }) (line_taken A frame)
         where
-          sent : (y : Party) → sent_before (way y (with_shot (sides p) A (picture_of (p A).format planes) met)).past ≡ length (way y (with_shot (sides p) A (picture_of (p A).format planes) met)).frames
+          sent : (y : Party) → sent_before (way y (with_capture (sides p) A (picture_of (p A).format planes) met)).past ≡ length (way y (with_capture (sides p) A (picture_of (p A).format planes) met)).frames
           sent A = one_sent (sent_before (way A met).past) (length (way A met).frames) _ (on.sent A) (longer (way A met).frames _)
           sent B = on.sent B
 
-          aheads : (y : Party) → drop (length (way y (with_shot (sides p) A (picture_of (p A).format planes) met)).frames) (shots y)
-              ≡ shots_at y (place_of y (after_line (with_frame A s frame planes) trace)) (behind inputs (takes_frame A frame) (video_of y))
+          aheads : (y : Party) → drop (length (way y (with_capture (sides p) A (picture_of (p A).format planes) met)).frames) (captures y)
+              ≡ captures_at y (place_of y (after_line (with_frame A s frame planes) trace)) (left_after inputs (takes_frame A frame) (video_of y))
           aheads A =
-              ap (λ (m : ℕ). drop m (shots A)) (longer (way A met).frames _) ∙ ahead ∙ ap (λ (l : List ℕ). shots_at A (next_place A frame) l) (sym (frame_gone A frame))
+              ap (λ (m : ℕ). drop m (captures A)) (longer (way A met).frames _) ∙ ahead ∙ ap (λ (l : List ℕ). captures_at A (next_place A frame) l) (sym (frame_gone A frame))
           aheads B = on.ahead B
       frame_on B planes frame ahead is near2 =
-          go (with_event p shots B Send past) (with_shot (sides p) B (picture_of (p B).format planes) met) va (next_place B frame) (not (is_closed trace)) (takes_frame B frame) is near2
+          go (with_event p captures B Send past) (with_capture (sides p) B (picture_of (p B).format planes) met) va (next_place B frame) (not (is_closed trace)) (takes_frame B frame) is near2
           (record { sent = sent; ahead = aheads }) (line_taken B frame)
         where
-          sent : (y : Party) → sent_before (way y (with_shot (sides p) B (picture_of (p B).format planes) met)).past ≡ length (way y (with_shot (sides p) B (picture_of (p B).format planes) met)).frames
+          sent : (y : Party) → sent_before (way y (with_capture (sides p) B (picture_of (p B).format planes) met)).past ≡ length (way y (with_capture (sides p) B (picture_of (p B).format planes) met)).frames
           sent A = on.sent A
           sent B = one_sent (sent_before (way B met).past) (length (way B met).frames) _ (on.sent B) (longer (way B met).frames _)
 
-          aheads : (y : Party) → drop (length (way y (with_shot (sides p) B (picture_of (p B).format planes) met)).frames) (shots y)
-              ≡ shots_at y (place_of y (after_line (with_frame B s frame planes) trace)) (behind inputs (takes_frame B frame) (video_of y))
+          aheads : (y : Party) → drop (length (way y (with_capture (sides p) B (picture_of (p B).format planes) met)).frames) (captures y)
+              ≡ captures_at y (place_of y (after_line (with_frame B s frame planes) trace)) (left_after inputs (takes_frame B frame) (video_of y))
           aheads A = on.ahead A
           aheads B =
-              ap (λ (m : ℕ). drop m (shots B)) (longer (way B met).frames _) ∙ ahead ∙ ap (λ (l : List ℕ). shots_at B (next_place B frame) l) (sym (frame_gone B frame))
+              ap (λ (m : ℕ). drop m (captures B)) (longer (way B met).frames _) ∙ ahead ∙ ap (λ (l : List ℕ). captures_at B (next_place B frame) l) (sym (frame_gone B frame))
 
       untold : (x : Party) (fault : Y4mFault) (text : Text) → told (refused_video x fault) text ≡ []
       untold A fault text = refl
@@ -468,42 +468,42 @@ module _ (p : Party → Params) (shots : Party → List Picture) (laws : CallLaw
           → Takes (Some (x, says.Send)) (captured_step (video_of x) (pictures_of x) (refused_video x) x s trace (frame_size (p x).format (b ∷ v)) r)
       captured_comes x b v video o (Err fault) found =
           let place = place_of x s in
-          let nothing : shots_at x place (inputs (video_of x)) ≡ [] =
-          ap (λ (l : List ℕ). shots_at x place l) video ∙ ap (λ (l : List (List ℕ)). map (λ planes. picture_of (p x).format planes) l) (frame_laws.stops (p x).format place.more place.at (b ∷ v) fault (omega arith) found).0
+          let nothing : captures_at x place (inputs (video_of x)) ≡ [] =
+          ap (λ (l : List ℕ). captures_at x place l) video ∙ ap (λ (l : List (List ℕ)). map (λ planes. picture_of (p x).format planes) l) (frame_laws.stops (p x).format place.more place.at (b ∷ v) fault (omega arith) found).0
           in
           comes_stopped past near (Some (x, says.Send) ∷ E) F (lines + 1) rest _ _ (untold x fault) (one_refused size x fault) (NoPicture, none_left x nothing o, inr (refl, (fault, refl)))
       captured_comes x b v video o (Ok planes) found =
           let f = (p x).format in
           let place = place_of x s in
           let frame = frame_size f (b ∷ v) in
-          let shot = picture_of f planes in
+          let captured = picture_of f planes in
           let count = length (way x met).frames in
           let some : 0 < length (b ∷ v) = omega arith in
           let e = frame_laws.next f place.more (place.more - 1) place.at (b ∷ v) planes (some_left place.more place.at f (b ∷ v) planes found) some found in
-          let left = shots_at x (next_place x frame) (behind_frame f (b ∷ v)) in
-          let stands : drop count (shots x) ≡ shot ∷ left =
-          on.ahead x ∙ ap (λ (l : List ℕ). shots_at x place l) video ∙ ap (λ (l : List (List ℕ)). map (λ planes. picture_of f planes) l) e.frames
+          let left = captures_at x (next_place x frame) (after_frame f (b ∷ v)) in
+          let stands : drop count (captures x) ≡ captured ∷ left =
+          on.ahead x ∙ ap (λ (l : List ℕ). captures_at x place l) video ∙ ap (λ (l : List (List ℕ)). map (λ planes. picture_of f planes) l) e.frames
           in
-          let ahead : drop (suc count) (shots x) ≡ shots_at x (next_place x frame) (drop frame (inputs (video_of x))) =
-          behind_next (shots x) count shot left stands ∙ ap (λ (l : List ℕ). shots_at x (next_place x frame) (drop frame l)) (sym video)
+          let ahead : drop (suc count) (captures x) ≡ captures_at x (next_place x frame) (drop frame (inputs (video_of x))) =
+          after_next (captures x) count captured left stands ∙ ap (λ (l : List ℕ). captures_at x (next_place x frame) (drop frame l)) (sym video)
           in
-          let is : with_shot (sides p) x shot met ≡ ways (with_event p shots x Send past) =
-          ap (λ (o : Option Picture). option_map_or (λ (q : Picture). with_shot (sides p) x q met) o met) (sym (next_in (shots x) count shot left stands))
+          let is : with_capture (sides p) x captured met ≡ ways (with_event p captures x Send past) =
+          ap (λ (o : Option Picture). option_map_or (λ (q : Picture). with_capture (sides p) x q met) o met) (sym (next_in (captures x) count captured left stands))
           in
           let coded : length (call x past).coded ≡ count = coded_are past near x (on.sent x) in
-          let many : count < length (shots x) = some_behind (shots x) count shot left stands in
-          let below : length (call x past).coded < length (shots x) = omega (arith, coded, many) in
+          let many : count < length (captures x) = some_after (captures x) count captured left stands in
+          let below : length (call x past).coded < length (captures x) = omega (arith, coded, many) in
           let may = (laws.none (length (call x past).coded + 1) x Send met).0 o in
-          comes_more (Some (x, says.Send)) E F (lines + 1) past (with_event p shots x Send past) _ _ refl
-          (λ y. ap (λ (w : WayRuns Frame). shown_text (call_in p y w).plays) (sym is) ∙ captured_plays x y shot ∙ sym (append-nil (shown_text (call y past).plays)))
+          comes_more (Some (x, says.Send)) E F (lines + 1) past (with_event p captures x Send past) _ _ refl
+          (λ y. ap (λ (w : WayRuns Frame). shown_text (call_in p y w).plays) (sym is) ∙ captured_plays x y captured ∙ sym (append-nil (shown_text (call y past).plays)))
           refl
           (frame_on x planes frame ahead is ((below, may.1), near))
 
       send_comes : (x : Party) (video : List ℕ) → inputs (video_of x) ≡ video → refusal_at x s Send ≡ None → Takes (Some (x, says.Send)) (capture_step (video_of x) (pictures_of x) (refused_video x) x s trace video)
       send_comes x [] there o =
           let place = place_of x s in
-          let nothing : shots_at x place (inputs (video_of x)) ≡ [] =
-          ap (λ (l : List ℕ). shots_at x place l) there ∙ ap (λ (l : List (List ℕ)). map (λ planes. picture_of (p x).format planes) l) (frame_laws.ends (p x).format place.more place.at).0
+          let nothing : captures_at x place (inputs (video_of x)) ≡ [] =
+          ap (λ (l : List ℕ). captures_at x place l) there ∙ ap (λ (l : List (List ℕ)). map (λ planes. picture_of (p x).format planes) l) (frame_laws.ends (p x).format place.more place.at).0
           in
           comes_faulty past near (Some (x, says.Send) ∷ E) F (lines + 1) rest _ _ (told_at x Send NoPicture (none_left x nothing o))
       send_comes x (b ∷ v) there o = captured_comes x b v there o (next_frame (place_of x s).more (p x).format (place_of x s).at (b ∷ v)) refl
@@ -520,7 +520,7 @@ module _ (p : Party → Params) (shots : Party → List Picture) (laws : CallLaw
       party_comes x (says.Back m) = comes_faulty past near (Some (x, says.Back m) ∷ E) F (lines + 1) rest _ _ (told_at x (Back m) NotSaid refl)
       party_comes x says.Play = unless_comes (Some (x, says.Play)) x Play (refusal_at x s Play) _ refl (λ r is. told_at x Play r (play_so x r is)) (play_comes x)
 
-      line_comes : (o : Option Said) → Comes past (said_from o E) (bad_from o (lines + 1) F) (lines + 1) (follow (line_step s inputs o) rest)
+      line_comes : (o : Option LineEvent) → Comes past (and_event o E) (bad_from o (lines + 1) F) (lines + 1) (follow (line_step s inputs o) rest)
       line_comes None = comes_faulty past near [] _ (lines + 1) rest _ _ refl
       line_comes (Some None) = quiet None past met refl refl near (kept_all p met) refl
       line_comes (Some (Some said)) = party_comes said.0 said.1
@@ -535,9 +535,9 @@ module _ (p : Party → Params) (shots : Party → List Picture) (laws : CallLaw
     abbrev GoesOn : ℕ → ℕ → (Role → List ℕ) → Type 0
     GoesOn n lines inputs =
         (past2 : List Lettered) (met2 : WayRuns Frame) (va2 vb2 : VideoPlace) (ended2 : Bool) (taken : Role → ℕ) → met2 ≡ ways past2 → Near past2
-        → IsOn met2 (state met2 va2 vb2 (lines + 1) ended2) (behind inputs taken) → taken Events ≡ line_size (inputs Events)
-        → Comes past2 (said_of n (behind_line (inputs Events))) (fault_in n (lines + 1 + 1) (behind_line (inputs Events))) (lines + 1 + 1)
-        (run_of duplex_step n (state met2 va2 vb2 (lines + 1) ended2) (behind inputs taken))
+        → IsOn met2 (state met2 va2 vb2 (lines + 1) ended2) (left_after inputs taken) → taken Events ≡ line_size (inputs Events)
+        → Comes past2 (line_events n (later_lines (inputs Events))) (fault_in n (lines + 1 + 1) (later_lines (inputs Events))) (lines + 1 + 1)
+        (run_of duplex_step n (state met2 va2 vb2 (lines + 1) ended2) (left_after inputs taken))
 
     module _ (past : List Lettered) (near : Near past) (va vb : VideoPlace) (lines : ℕ) (ended : Bool) (inputs : Role → List ℕ) (on : IsOn (ways past) (state (ways past) va vb lines ended) inputs) where
       abbrev here : DuplexState
@@ -554,21 +554,21 @@ module _ (p : Party → Params) (shots : Party → List Picture) (laws : CallLaw
 
       module _ (n : ℕ) where
         abbrev on_with : DuplexState → (Role → ℕ) → Run
-        on_with next taken = run_of duplex_step n next (behind inputs taken)
+        on_with next taken = run_of duplex_step n next (left_after inputs taken)
 
         choice_comes : (b : Bool) (bytes : ℕ) (trace : List ℕ) → inputs Events ≡ bytes ∷ trace → GoesOn n lines inputs → lines + suc n ≡ 16777216 → nat_lt lines 16777216 ≡ b
-            → Comes past (said_from (party_event (first_line (bytes ∷ trace))) (said_of n (behind_line (bytes ∷ trace))))
-            (bad_from (party_event (first_line (bytes ∷ trace))) (lines + 1) (fault_in n (lines + 1 + 1) (behind_line (bytes ∷ trace)))) (lines + 1)
+            → Comes past (and_event (party_event (first_line (bytes ∷ trace))) (line_events n (later_lines (bytes ∷ trace))))
+            (bad_from (party_event (first_line (bytes ∷ trace))) (lines + 1) (fault_in n (lines + 1 + 1) (later_lines (bytes ∷ trace)))) (lines + 1)
             (follow (or_many b lines (line_step here inputs (party_event (first_line (bytes ∷ trace))))) on_with)
         choice_comes false bytes trace is go room many = absurd (omega (arith, ltb-false lines 16777216 many, room))
         choice_comes true bytes trace is go room few =
             let o = party_event (first_line (bytes ∷ trace)) in
-            subst (λ (l : List ℕ). Comes past (said_from o (said_of n (behind_line l))) (bad_from o (lines + 1) (fault_in n (lines + 1 + 1) (behind_line l))) (lines + 1) (follow (line_step here inputs o) on_with)) is
-            (line_comes frame_laws past near va vb lines ended inputs on (said_of n (behind_line (inputs Events))) (fault_in n (lines + 1 + 1) (behind_line (inputs Events))) on_with go o)
+            subst (λ (l : List ℕ). Comes past (and_event o (line_events n (later_lines l))) (bad_from o (lines + 1) (fault_in n (lines + 1 + 1) (later_lines l))) (lines + 1) (follow (line_step here inputs o) on_with)) is
+            (line_comes frame_laws past near va vb lines ended inputs on (line_events n (later_lines (inputs Events))) (fault_in n (lines + 1 + 1) (later_lines (inputs Events))) on_with go o)
 
         step_comes : (trace : List ℕ) → inputs Events ≡ trace → GoesOn n lines inputs → lines + suc n ≡ 16777216
-            → Comes past (said_of (suc n) trace) (fault_in (suc n) (lines + 1) trace) (lines + 1) (follow (trace_step here inputs trace) on_with)
-        unfolding said_of fault_in
+            → Comes past (line_events (suc n) trace) (fault_in (suc n) (lines + 1) trace) (lines + 1) (follow (trace_step here inputs trace) on_with)
+        unfolding line_events fault_in
         step_comes [] is go room = comes_end past near (lines + 1) on_with
         step_comes (bytes ∷ trace) is go room = choice_comes (nat_lt lines 16777216) bytes trace is go room refl
 
@@ -576,20 +576,20 @@ module _ (p : Party → Params) (shots : Party → List Picture) (laws : CallLaw
     one_less lines n room = omega (arith, room)
 
     -- the bytes after a line, where a turn takes that line
-    behind_taken : (inputs : Role → List ℕ) (taken : Role → ℕ) → taken Events ≡ line_size (inputs Events) → behind inputs taken Events ≡ behind_line (inputs Events)
-    behind_taken inputs taken is = ap (λ (m : ℕ). drop m (inputs Events)) is ∙ laws.gone (inputs Events)
+    after_taken : (inputs : Role → List ℕ) (taken : Role → ℕ) → taken Events ≡ line_size (inputs Events) → left_after inputs taken Events ≡ later_lines (inputs Events)
+    after_taken inputs taken is = ap (λ (m : ℕ). drop m (inputs Events)) is ∙ laws.gone (inputs Events)
 
     pub run_comes : (n : ℕ) (past : List Lettered) (va vb : VideoPlace) (lines : ℕ) (ended : Bool) (inputs : Role → List ℕ) → Near past → IsOn (ways past) (state (ways past) va vb lines ended) inputs
-        → lines + n ≡ 16777216 → Comes past (said_of n (inputs Events)) (fault_in n (lines + 1) (inputs Events)) (lines + 1) (run_of duplex_step n (state (ways past) va vb lines ended) inputs)
-    unfolding run_of said_of fault_in
+        → lines + n ≡ 16777216 → Comes past (line_events n (inputs Events)) (fault_in n (lines + 1) (inputs Events)) (lines + 1) (run_of duplex_step n (state (ways past) va vb lines ended) inputs)
+    unfolding run_of line_events fault_in
     run_comes zero past va vb lines ended inputs near on room = last_comes past near va vb lines ended inputs on (inputs Events) room
     run_comes (suc n) past va vb lines ended inputs near on room =
         step_comes past near va vb lines ended inputs on n (inputs Events) refl
         (λ past2 met2 va2 vb2 ended2 taken is near2 on2 gone.
-        subst (λ (w : WayRuns Frame). IsOn w (state w va2 vb2 (lines + 1) ended2) (behind inputs taken)
-        → Comes past2 (said_of n (behind_line (inputs Events))) (fault_in n (lines + 1 + 1) (behind_line (inputs Events))) (lines + 1 + 1) (run_of duplex_step n (state w va2 vb2 (lines + 1) ended2) (behind inputs taken))) (sym is)
-        (λ (on3 : IsOn (ways past2) (state (ways past2) va2 vb2 (lines + 1) ended2) (behind inputs taken)).
-        subst (λ (l : List ℕ). Comes past2 (said_of n l) (fault_in n (lines + 1 + 1) l) (lines + 1 + 1) (run_of duplex_step n (state (ways past2) va2 vb2 (lines + 1) ended2) (behind inputs taken))) (behind_taken inputs taken gone)
-        (run_comes n past2 va2 vb2 (lines + 1) ended2 (behind inputs taken) near2 on3 (one_less lines n room)))
+        subst (λ (w : WayRuns Frame). IsOn w (state w va2 vb2 (lines + 1) ended2) (left_after inputs taken)
+        → Comes past2 (line_events n (later_lines (inputs Events))) (fault_in n (lines + 1 + 1) (later_lines (inputs Events))) (lines + 1 + 1) (run_of duplex_step n (state w va2 vb2 (lines + 1) ended2) (left_after inputs taken))) (sym is)
+        (λ (on3 : IsOn (ways past2) (state (ways past2) va2 vb2 (lines + 1) ended2) (left_after inputs taken)).
+        subst (λ (l : List ℕ). Comes past2 (line_events n l) (fault_in n (lines + 1 + 1) l) (lines + 1 + 1) (run_of duplex_step n (state (ways past2) va2 vb2 (lines + 1) ended2) (left_after inputs taken))) (after_taken inputs taken gone)
+        (run_comes n past2 va2 vb2 (lines + 1) ended2 (left_after inputs taken) near2 on3 (one_less lines n room)))
         on2)
         room

@@ -6,7 +6,7 @@ use Rattle.h263_outside.specs.declared.desk.Role.TheVariants.{Video, Video2}
 use Rattle.call_report.specs.declared.status.Status.{Status}
 use Rattle.desk_program.specs.Ends.{EndsBy}
 use Rattle.desk_program.specs.Laws.{TurnLaws}
-use Rattle.desk_program.specs.Run.{behind}
+use Rattle.desk_program.specs.Run.{left_after}
 use Rattle.duplex_command.specs.Duplex.{video_refusal}
 
 -- another role
@@ -22,7 +22,7 @@ not_second r is same =
 
 -- of each other input this much was taken, and nothing was written
 pub refused_by : TurnLaws → (video : Role) (before : Role → ℕ) (status : Status) (inputs : Role → List ℕ) (old new : Outside)
-    → ((r : Role) → IsInput r → is_role video r ≡ false → new.left r ≡ Some (behind inputs before r)) → new.written ≡ old.written
+    → ((r : Role) → IsInput r → is_role video r ≡ false → new.left r ≡ Some (left_after inputs before r)) → new.written ≡ old.written
     → EndsBy (video_refusal video before status) status inputs old new
 refused_by turns video before status inputs old new left same = record {
   known = refl;
@@ -33,7 +33,7 @@ refused_by turns video before status inputs old new left same = record {
     so_many : (a k : ℕ) → a ≡ k → a ≡ 0 + k
     so_many a k is = omega (arith, is)
 
-    at_role : (b : Bool) (r : Role) → (b ≡ false → new.left r ≡ Some (behind inputs before r))
-        → (k : ℕ) → (if b then None else Some (before r)) ≡ Some k → new.left r ≡ Some (behind inputs (λ _. 0 + k) r)
+    at_role : (b : Bool) (r : Role) → (b ≡ false → new.left r ≡ Some (left_after inputs before r))
+        → (k : ℕ) → (if b then None else Some (before r)) ≡ Some k → new.left r ≡ Some (left_after inputs (λ _. 0 + k) r)
     at_role true r left k said = absurd (cc said)
     at_role false r left k said = left refl ∙ ap (λ (n : ℕ). Some (drop n (inputs r))) (so_many (before r) k (cc said))

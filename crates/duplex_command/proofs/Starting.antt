@@ -14,7 +14,7 @@ use Rattle.y4m.specs.Video.{most_frames}
 use Rattle.call_report.specs.declared.status.Status.{Status}
 use Rattle.call_report.specs.declared.status.Status.TheVariants.{OutOfMemory, WriteFault}
 use Rattle.call_report.specs.Status.{phase}
-use Rattle.desk_program.specs.Run.{Run, Step, behind}
+use Rattle.desk_program.specs.Run.{Run, Step, left_after}
 use Rattle.desk_program.specs.Ends.{Gains, GainsFronts, GivesUp, HasCause, HasEnded, Went, silent, start_status, step_texts}
 use Rattle.duplex_call.specs.declared.line.Party.{Party}
 use Rattle.duplex_call.specs.declared.line.Party.TheVariants.{A, B}
@@ -105,7 +105,7 @@ module _ (p : Params) (heads : Heads) (m : Talk) (new : IsNewTalk p heads m) (la
       turn = record { taken = heads_taken inputs; whole = true; texts = heads_text heads.a.format heads.b.format };
       could = refl;
       is = begins;
-      kept = begun (behind inputs (heads_taken inputs));
+      kept = begun (left_after inputs (heads_taken inputs));
       whole = refl;
       left = λ r input. ap (λ (l : Role → Option (List ℕ)). l r) still ∙ have.left r input;
       written = subst (λ (w : Role → Option (List ℕ)). Gains (heads_text heads.a.format heads.b.format) w last.written) same gains;

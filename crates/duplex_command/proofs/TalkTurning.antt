@@ -18,7 +18,7 @@ use Rattle.desk_program.specs.Texts.{no_texts}
 use Rattle.duplex_call.specs.declared.line.Party.{Party}
 use Rattle.duplex_call.specs.declared.line.Party.TheVariants.{A}
 use Rattle.duplex_call.specs.Lines.{party_event}
-use Rattle.duplex_command.specs.declared.event.Said.{Said}
+use Rattle.duplex_command.specs.declared.event.TraceLine.{TraceLine}
 use Rattle.duplex_command.specs.declared.talk.Talk.{Talk}
 use Rattle.duplex_command.specs.Duplex.{DuplexState, after_line, duplex_step, line_step, may_read, party_step}
 use Rattle.call_command.specs.Call.{line_size}
@@ -178,7 +178,7 @@ module _ (lines : LineLaws) (steps : StepLaws) (m : Talk) (after : TraceReader) 
       (TalkStands (record m { trace = after })) (stood s inputs k told) silent)
 
   -- a line that says an event of a party
-  pub line_done : (said : Said) → said.line ≡ found.0 → (found.1 ≤ length buf → party_event (take found.1 buf) ≡ Some (Some (said.party, said.event)))
+  pub line_done : (said : TraceLine) → said.line ≡ found.0 → (found.1 ≤ length buf → party_event (take found.1 buf) ≡ Some (Some (said.party, said.event)))
       → TalkReady m old.attached
       → (y : Talk) (r : Result Bool Status) (new : Outside) (room : ℕ) → y.trace ≡ after → length y.frame.items ≡ room
       → TakesLine m.a m.b y.a y.b said r mid new room → TakesTurn m y r old new

@@ -11,7 +11,7 @@ use Rattle.y4m.specs.declared.fault.Y4mFault.{Y4mFault}
 use Rattle.y4m.specs.Head.{head_of, head_size}
 use Rattle.y4m.specs.Text.{head_text}
 use Rattle.call_report.specs.declared.status.Status.TheVariants.{VideoRefused, Video2Refused}
-use Rattle.desk_program.specs.Run.{Run, Step, behind, run_from}
+use Rattle.desk_program.specs.Run.{Run, Step, left_after, run_from}
 use Rattle.desk_program.specs.Run.Step.{Goes, Ends}
 use Rattle.desk_program.specs.Ends.{Tells}
 use Rattle.desk_program.specs.Texts.{and_of, no_bytes, of, on, then_also}
@@ -67,7 +67,7 @@ pub record HaveHeads (heads : Heads) (inputs : Role → List ℕ) (new : Outside
   pub head_b : head_of (inputs Video2) ≡ Ok heads.b.format
   pub at_a : heads.a.at ≡ head_size (inputs Video)
   pub at_b : heads.b.at ≡ head_size (inputs Video2)
-  pub left : Tells new (behind inputs (heads_taken inputs))
+  pub left : Tells new (left_after inputs (heads_taken inputs))
 
 -- before the first line, after these heads
 pub record IsNewTalk (p : Params) (heads : Heads) (m : Talk) : Type 0 where

@@ -27,7 +27,7 @@ use Rattle.desk_program.specs.Texts.{no_texts, on, then_also, of, and_of}
 use Rattle.one_way.specs.Seen.{Seen, in_call, reference_in}
 use Rattle.duplex_call.specs.declared.line.Party.{Party}
 use Rattle.duplex_call.specs.declared.line.Party.TheVariants.{A, B}
-use Rattle.duplex_call.specs.Duplex.{WayRuns, no_runs, with_shot, with_delivery, with_play}
+use Rattle.duplex_call.specs.Duplex.{WayRuns, no_runs, with_capture, with_delivery, with_play}
 use Rattle.duplex_call.specs.Lines.{party_event}
 use Rattle.duplex_call.specs.Refused.{refusal_of}
 use Rattle.call_command.specs.Counts.{call_text_of}
@@ -154,7 +154,7 @@ module _ (x : Party) (s : DuplexState) where
   with_frame size planes =
       with_place x (record { at = (place_of x s).at + size; more = (place_of x s).more - 1 })
       (record s {
-        ways = with_shot (sides s.params) x (picture_of (s.params x).format planes) s.ways;
+        ways = with_capture (sides s.params) x (picture_of (s.params x).format planes) s.ways;
       })
 
   -- the next picture is played

@@ -14,7 +14,7 @@ use Rattle.loss_trace.specs.declared.event.Event.{Event as Line}
 use Rattle.loss_trace.specs.declared.event.Event.TheVariants as says
 use Rattle.loss_trace.specs.declared.fault.TraceFault.{TraceFault}
 use Rattle.loss_trace.specs.declared.fault.TraceFault.TheVariants.{BadLine, TooMany}
-use Rattle.loss_trace.specs.Lines.{behind_line, first_line}
+use Rattle.loss_trace.specs.Lines.{later_lines, first_line}
 use Rattle.call_report.specs.declared.status.Status.{Status}
 use Rattle.call_report.specs.declared.status.Status.TheVariants.{TraceRefused}
 use Rattle.call_report.specs.Text.{Text, picture_text}
@@ -43,30 +43,30 @@ film p inputs x = map (λ planes. picture_of (p x).format planes) (video_frames 
 -- ---- a trace
 
 -- what a line says that isn't bad: an event of a party, or nothing
-abbrev pub Said : Type 0
-Said = Option (Party × Line)
+abbrev pub LineEvent : Type 0
+LineEvent = Option (Party × Line)
 
 -- what a line says, and those after it
-abbrev pub said_from : Option Said → List Said → List Said
-said_from None more = []
-said_from (Some said) more = said ∷ more
+abbrev pub and_event : Option LineEvent → List LineEvent → List LineEvent
+and_event None more = []
+and_event (Some said) more = said ∷ more
 
-abbrev pub bad_from : Option Said → ℕ → Option TraceFault → Option TraceFault
+abbrev pub bad_from : Option LineEvent → ℕ → Option TraceFault → Option TraceFault
 bad_from None line more = Some (BadLine line)
 bad_from (Some said) line more = more
 
 -- what the lines of a text say, of which this many may still come, up to the first that is bad
-unfoldable pub said_of : ℕ → List ℕ → List Said
-said_of zero text = []
-said_of (suc n) [] = []
-said_of (suc n) (b ∷ text) = said_from (party_event (first_line (b ∷ text))) (said_of n (behind_line (b ∷ text)))
+unfoldable pub line_events : ℕ → List ℕ → List LineEvent
+line_events zero text = []
+line_events (suc n) [] = []
+line_events (suc n) (b ∷ text) = and_event (party_event (first_line (b ∷ text))) (line_events n (later_lines (b ∷ text)))
 
 -- the first fault, where the lines are numbered from this one on
 unfoldable pub fault_in : ℕ → ℕ → List ℕ → Option TraceFault
 fault_in n line [] = None
 fault_in zero line (b ∷ text) = Some (TooMany line)
 fault_in (suc n) line (b ∷ text) =
-    bad_from (party_event (first_line (b ∷ text))) line (fault_in n (line + 1) (behind_line (b ∷ text)))
+    bad_from (party_event (first_line (b ∷ text))) line (fault_in n (line + 1) (later_lines (b ∷ text)))
 
 -- ---- texts
 
@@ -77,10 +77,10 @@ newest_line x coded (shown ∷ plays) =
     picture_text (length plays) (Some (mark_of shown.mark))
     (Some (reference_in coded (length plays))) (Some (letter_of x))
 
-module _ (p : Party → Params) (shots : Party → List Picture) where
+module _ (p : Party → Params) (captures : Party → List Picture) where
   -- both ways after these events, and the ideal call of a party's pictures
   abbrev pub ways_of : List Lettered → WayRuns Frame
-  ways_of past = ways_after (sides p) shots past
+  ways_of past = ways_after (sides p) captures past
 
   abbrev pub call_after : Party → List Lettered → Call Style Mb Picture
   call_after x past = call_in p x (ways_of past)
@@ -106,12 +106,12 @@ module _ (p : Party → Params) (shots : Party → List Picture) where
   with_party past x says.Play = with_event x Play past
 
   -- after those of a line
-  abbrev pub with_line : List Lettered → Said → List Lettered
+  abbrev pub with_line : List Lettered → LineEvent → List Lettered
   with_line past None = past
   with_line past (Some said) = with_party past said.0 said.1
 
   -- after those of these lines
-  abbrev pub with_lines : List Lettered → List Said → List Lettered
+  abbrev pub with_lines : List Lettered → List LineEvent → List Lettered
   with_lines past [] = past
   with_lines past (line ∷ lines) = with_lines (with_line past line) lines
 
@@ -135,7 +135,7 @@ module _ (p : Party → Params) (shots : Party → List Picture) where
   -- both counts where it ends with `Ok`. Of each party a picture is marked exact where all its packets
   -- were delivered while it was open, and nowhere else.
   pub record AreCallsOver (past : List Lettered) (run : Run) : Type 0 where
-    pub near : AllMayHappenOf (sides p) shots past
+    pub near : AllMayHappenOf (sides p) captures past
     pub pictures : (x : Party)
         → text_of run (pictures_of x) ≡ head_text (p x).format ++ shown_text (call_after x past).plays
     pub report : text_of run Report ≡ told_lines past ++ told run.last.status (both_counts p (ways_of past) Report)
@@ -148,7 +148,7 @@ module _ (p : Party → Params) (shots : Party → List Picture) where
   -- for it, since the next one of the party's video is refused
   abbrev pub IsRefusal : ℕ → List Lettered → Party → Event → Status → Type 0
   IsRefusal number past x e status =
-      (r : Refusal) × (refusal_of (sides p) (length (shots x)) x e (ways_of past) ≡ Some r)
+      (r : Refusal) × (refusal_of (sides p) (length (captures x)) x e (ways_of past) ≡ Some r)
       × ((status ≡ TraceRefused (fault_of number e r))
       ⊎ ((r ≡ NoFrame) × ((fault : Y4mFault) × (status ≡ refused_video x fault))))
 
@@ -163,7 +163,7 @@ module _ (p : Party → Params) (shots : Party → List Picture) where
 
   -- where the next line, which has this number, says an event of a party, that is refused; where there
   -- is none, the trace is read out, up to its first fault
-  abbrev pub IsEnd : Option TraceFault → ℕ → List Lettered → List Said → Status → Type 0
+  abbrev pub IsEnd : Option TraceFault → ℕ → List Lettered → List LineEvent → Status → Type 0
   IsEnd fault number past [] status = status ≡ read_out fault
   IsEnd fault number past (None ∷ lines) status = ⊥
   IsEnd fault number past (Some said ∷ lines) status = IsRefusedLine number past said.0 said.1 status
@@ -173,9 +173,9 @@ module _ (p : Party → Params) (shots : Party → List Picture) where
 -- and it ends because of the line after them. Where it refuses a video, that turn takes nothing of the
 -- other one.
 pub record FollowsItsTrace (p : Party → Params) (inputs : Role → List ℕ) (run : Run) : Type 0 where
-  pub lines : List Said
-  pub refused : List Said
-  pub read : said_of 16777216 (inputs Events) ≡ lines ++ refused
+  pub lines : List LineEvent
+  pub refused : List LineEvent
+  pub read : line_events 16777216 (inputs Events) ≡ lines ++ refused
   pub taken : length run.turns ≡ length lines + 1
   pub are_calls : AreCallsOver p (film p inputs) (with_lines p (film p inputs) [] lines) run
   pub end : IsEnd p (film p inputs) (fault_in 16777216 1 (inputs Events)) (length lines + 1)

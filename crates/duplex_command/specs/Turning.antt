@@ -11,7 +11,7 @@ use Rattle.call_report.specs.declared.status.Status.{Status}
 use Rattle.call_report.specs.declared.status.Status.TheVariants.{VideoRefused}
 use Rattle.call_report.specs.Text.{picture_text}
 use Rattle.call_model.specs.IdealCall.{Send}
-use Rattle.desk_program.specs.Run.{Step, behind}
+use Rattle.desk_program.specs.Run.{Step, left_after}
 use Rattle.desk_program.specs.Ends.{Falls, HasCause, IsStop, KeepsRoles, OnEnd, OnGoing, Tells, TurnGives, turn_status}
 use Rattle.desk_program.specs.Texts.{of, on, then_also}
 use Rattle.call_command.specs.Call.{line_size}
@@ -19,7 +19,7 @@ use Rattle.call_command.specs.Standing.{HasTaken}
 use Rattle.duplex_call.specs.declared.line.Party.{Party}
 use Rattle.duplex_call.specs.declared.line.Party.TheVariants.{A}
 use Rattle.duplex_ends.specs.Pair.{MayHappenNow}
-use Rattle.duplex_command.specs.declared.event.Said.{Said}
+use Rattle.duplex_command.specs.declared.event.TraceLine.{TraceLine}
 use Rattle.duplex_command.specs.declared.show.Row.{Row}
 use Rattle.duplex_command.specs.declared.station.Station.{Station}
 use Rattle.duplex_command.specs.declared.talk.Talk.{Talk}
@@ -28,7 +28,7 @@ use Rattle.duplex_command.specs.Standing.{StationsReady, StationsStand, TalkRead
 
 -- what is left of the trace after its first line
 abbrev pub after_first : (Role → List ℕ) → List ℕ
-after_first inputs = behind inputs (of Events (line_size (inputs Events))) Events
+after_first inputs = left_after inputs (of Events (line_size (inputs Events))) Events
 
 -- A line was read, which has this number: the stations stood at the state before it, the reader of
 -- the trace has passed it, and nothing else was done since the desk was the old one.
@@ -58,7 +58,7 @@ pub record IsPartyTurn (x : Party) (own far : Station) (result : Result Bool Sta
 
 -- the line says an event of this party, whose video and pictures stand in these roles
 abbrev pub TakesEvent : (video pictures : Role) (refuses : Y4mFault → Status)
-    → Station → Station → Station → Station → Said → Result Bool Status → Outside → Outside → ℕ
+    → Station → Station → Station → Station → TraceLine → Result Bool Status → Outside → Outside → ℕ
     → Type 0
 TakesEvent video pictures refuses own far own_new far_new said result mid new room =
     IsPartyTurn said.party own_new far_new result mid new room
@@ -66,7 +66,7 @@ TakesEvent video pictures refuses own far own_new far_new said result mid new ro
     (λ s inputs. event_step video pictures refuses said.party s (inputs Events) inputs said.event)
 
 -- the line says an event of either party, on the desk of both: a is the first one
-abbrev pub TakesLine : Station → Station → Station → Station → Said → Result Bool Status
+abbrev pub TakesLine : Station → Station → Station → Station → TraceLine → Result Bool Status
     → Outside → Outside → ℕ → Type 0
 TakesLine a b a_new b_new said result mid new room =
     IsPartyTurn A a_new b_new result mid new room

@@ -76,9 +76,9 @@ impl Begins for Duplex {
     ghost source = { λ _. Some Events };
 
     fn start<D: Desk>(alloc: Global, setup: &Params, desk: &mut D) -> Result<Talk, Status> {
-        desk_program_laws::of_turns();
-        desk_program_laws::of_runs::<Talk>();
-        duplex_ends_laws::of_pairs();
+        desk_program_laws::turn_laws();
+        desk_program_laws::run_laws::<Talk>();
+        duplex_ends_laws::pair_laws();
         let heads = read_heads(desk)?;
         let talk = start_talk(alloc, setup, &heads)?;
         if let Err(status) = write_heads(desk, heads.a.format(), heads.b.format()) {

@@ -22,7 +22,7 @@ use loss_trace::{Event, TraceFault};
 
 /// What the line of this number says: an event of a party's pictures.
 #[derive(Clone, Copy)]
-pub struct Said {
+pub struct TraceLine {
     pub line: u32,
     pub party: Party,
     pub event: Event,
@@ -31,7 +31,7 @@ pub struct Said {
 // `S`, which isn't too far ahead of the play: the party's next frame is read and sent.
 fn send_frame<D: Desk>(
     desk: &mut D,
-    said: Said,
+    said: TraceLine,
     own: &mut Station,
     planes: &mut [u8],
 ) -> Result<bool, Status>
@@ -44,12 +44,12 @@ fn send_frame<D: Desk>(
         → TakesFrame said.party own.old far own.new said.line result
         (D.outside desk.old) (D.outside desk.new) room }
 {
-    desk_program_laws::of_turns();
+    desk_program_laws::turn_laws();
     outside_laws::calls();
-    call_command_laws::of_the_video();
-    call_command_laws::of_lines();
-    desk_program_laws::of_steps();
-    laws::of_refusals();
+    call_command_laws::video_laws();
+    call_command_laws::line_laws();
+    desk_program_laws::step_laws();
+    laws::refused_exactly();
     if !own.video.frame(desk, planes)? {
         return Err(Status::TraceRefused {
             fault: TraceFault::NoFrame { line: said.line },
@@ -64,7 +64,7 @@ fn send_frame<D: Desk>(
 // first one. The frame's room is for either video.
 fn party_turn<D: Desk>(
     desk: &mut D,
-    said: Said,
+    said: TraceLine,
     own: &mut Station,
     far: &mut Station,
     frame: &mut [u8],
@@ -74,10 +74,10 @@ fn party_turn<D: Desk>(
     ensures { TakesEvent Video Pictures Status.VideoRefused own.old far.old own.new far.new said
         result (D.outside desk.old) (D.outside desk.new) (length frame.old) }
 {
-    desk_program_laws::of_turns();
-    call_command_laws::of_lines();
-    desk_program_laws::of_steps();
-    laws::of_refusals();
+    desk_program_laws::turn_laws();
+    call_command_laws::line_laws();
+    desk_program_laws::step_laws();
+    laws::refused_exactly();
     match said.event {
         Event::Nothing => Ok(true),
         Event::Send => {
@@ -111,7 +111,7 @@ fn party_turn<D: Desk>(
 // exchanged.
 fn second_turn<D: Desk>(
     desk: &mut D,
-    said: Said,
+    said: TraceLine,
     own: &mut Station,
     far: &mut Station,
     frame: &mut [u8],
@@ -128,7 +128,7 @@ fn second_turn<D: Desk>(
 /// What the line says that was read last is done, or refused. The frame's room is for either video.
 pub fn event_turn<D: Desk>(
     desk: &mut D,
-    said: Said,
+    said: TraceLine,
     a: &mut Station,
     b: &mut Station,
     frame: &mut [u8],
@@ -138,7 +138,7 @@ pub fn event_turn<D: Desk>(
     ensures { TakesLine a.old b.old a.new b.new said result
         (D.outside desk.old) (D.outside desk.new) (length frame.old) }
 {
-    duplex_ends_laws::of_pairs();
+    duplex_ends_laws::pair_laws();
     match said.party {
         Party::A => party_turn(desk, said, a, b, frame),
         Party::B => second_turn(desk, said, b, a, frame),

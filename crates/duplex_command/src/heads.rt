@@ -61,9 +61,9 @@ pub fn read_heads<D: Desk>(desk: &mut D) -> Result<Heads, Status>
         ((D.outside desk.new).faults ≡ (D.outside desk.old).faults) }
     ensures rest { OnlyReads (D.outside desk.old) (D.outside desk.new) }
 {
-    desk_program_laws::of_turns();
+    desk_program_laws::turn_laws();
     outside_laws::calls();
-    y4m_laws::cut_behind();
+    y4m_laws::cut_after();
     let a = Y4mReader::head(desk)?;
     match second_head(desk) {
         Ok(b) => Ok(Heads { a, b }),
@@ -101,7 +101,7 @@ pub fn write_heads<D: Desk>(desk: &mut D, a: Format, b: Format) -> Result<(), St
         (Rose (D.outside desk.old).faults.write (D.outside desk.new).faults.write) }
     ensures rest { OnlyWrites (D.outside desk.old) (D.outside desk.new) }
 {
-    desk_program_laws::of_turns();
+    desk_program_laws::turn_laws();
     outside_laws::calls();
     put_head(desk, a)?;
     put_second_head(desk, b)

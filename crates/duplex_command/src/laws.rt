@@ -20,7 +20,7 @@ ghost use Rattle.h263_types.specs.declared.params.Params.{Params};
 ghost use Rattle.h263_types.specs.Params.{IsParams};
 
 use back_messages::MessageFault;
-use call_command::laws::{of_frames_left, of_lines, what_arrived_is_shown};
+use call_command::laws::{frames_left, line_laws, what_arrived_is_shown};
 use call_decoding::laws::are_rules;
 use call_decoding::{Pictured, Styled};
 use call_encoding::Framed;
@@ -53,18 +53,18 @@ pub fn both_follow_their_trace()
         → IsRefusedAtOnce (Video2Refused fault) Video (head_size (inputs Video))
         (duplex_run p inputs) }
 {
-    of_refusals();
+    refused_exactly();
     later_frames::<Framed, Styled, Mb, Pictured, Fault, MessageFault>();
     frames_by_events::<Framed, Styled, Mb, Pictured, Fault, MessageFault>();
     each_way_is_near::<Pictured, Framed, Styled, Mb, Pictured, Fault, MessageFault>();
     what_arrived_is_shown();
-    of_frames_left();
-    of_lines();
+    frames_left();
+    line_laws();
     frame_by_frame();
 }
 
 /// An event of a party has no refusal exactly where it may happen.
-pub fn of_refusals()
+pub fn refused_exactly()
     ensures { (p : Party → Params) → NoneWhereItMayHappenOf (sides p) }
 {
     two_way_refusals::<Pictured, Framed, Styled, Mb, Pictured, Fault, MessageFault>();
@@ -87,9 +87,9 @@ pub fn refused_videos()
 /// each party's pictures both stores agree with its call: each reference, reconstruction, message
 /// and known number is the ideal call's, and each play shows its picture with its mark.
 pub fn four_stores()
-    ensures { (p : Party → Params) (shots : Party → List Picture) (past : List Lettered)
-        → ((x : Party) → IsParams (p x)) → AllMayHappenOf (sides p) shots past
-        → (x : Party) → Follows (sides p) x (way x (ways_after (sides p) shots past)) }
+    ensures { (p : Party → Params) (captures : Party → List Picture) (past : List Lettered)
+        → ((x : Party) → IsParams (p x)) → AllMayHappenOf (sides p) captures past
+        → (x : Party) → Follows (sides p) x (way x (ways_after (sides p) captures past)) }
 {
     is_coding();
     are_rules();

@@ -64,7 +64,7 @@ fn show<D: Desk>(desk: &mut D, row: &Row, picture: PictureRef<'_>) -> Result<(),
     ensures rest { OnlyWrites (D.outside desk.old) (D.outside desk.new) }
 {
     outside_laws::calls();
-    desk_program_laws::of_turns();
+    desk_program_laws::turn_laws();
     put_picture(desk, row.mark, picture)?;
     let letter = letter(row.party);
     let line = picture_line(PictureRow {
@@ -106,8 +106,8 @@ pub fn play_next<D: Desk>(
         (D.outside desk.new).faults.write) }
     ensures rest { OnlyWrites (D.outside desk.old) (D.outside desk.new) }
 {
-    duplex_ends_laws::of_pairs();
-    duplex_ends_laws::of_plays();
+    duplex_ends_laws::pair_laws();
+    duplex_ends_laws::after_a_play();
     let reference = own.reference_of_next();
     let played = play(own, far);
     let row = Row {
@@ -126,7 +126,7 @@ fn party_line(word: &str, ends: &PartyEnds) -> Line
         → HoldsPair p x ends.now far ways
         → text_of result ≡ call_text_of word.now (in_call (call_in p x ways)) }
 {
-    duplex_ends_laws::of_pairs();
+    duplex_ends_laws::pair_laws();
     counts_line(word, ends.tally(), ends.played(), ends.sent())
 }
 
@@ -145,8 +145,8 @@ pub fn tell_counts<D: Desk>(desk: &mut D, a: &PartyEnds, b: &PartyEnds) -> Resul
     ensures rest { OnlyWrites (D.outside desk.old) (D.outside desk.new) }
 {
     outside_laws::calls();
-    desk_program_laws::of_turns();
-    duplex_ends_laws::of_pairs();
+    desk_program_laws::turn_laws();
+    duplex_ends_laws::pair_laws();
     put_line(desk, &party_line("a played", a))?;
     put_line(desk, &party_line("b played", b))
 }

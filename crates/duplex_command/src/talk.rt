@@ -3,7 +3,7 @@ ghost use Rattle.std.specs.Prelude.{◌≡◌, ◌≤◌, MatchResult, None, Som
 ghost use Rattle.duplex_call.specs.Lines.{party_event};
 
 use crate::Station;
-use crate::event::{Said, event_turn};
+use crate::event::{TraceLine, event_turn};
 use crate::show::tell_counts;
 use call_command::laws as call_command_laws;
 use call_report::Status;
@@ -52,10 +52,10 @@ impl Talk {
         requires { TalkReady self.old (D.outside desk.old).attached }
         ensures { TakesTurn self.old self.new result (D.outside desk.old) (D.outside desk.new) }
     {
-        desk_program_laws::of_turns();
+        desk_program_laws::turn_laws();
         outside_laws::calls();
-        call_command_laws::of_lines();
-        desk_program_laws::of_steps();
+        call_command_laws::line_laws();
+        desk_program_laws::step_laws();
         loss_trace_laws::exact_lines();
         let mut bytes = [0; 64];
         let Some((line, length)) = self.trace.raw(desk, &mut bytes)? else {
@@ -64,7 +64,7 @@ impl Talk {
         };
         match line_in(&bytes, length) {
             Ok(Some((party, event))) => {
-                let said = Said { line, party, event };
+                let said = TraceLine { line, party, event };
                 event_turn(desk, said, &mut self.a, &mut self.b, &mut self.frame)
             }
             Ok(None) => Ok(true),

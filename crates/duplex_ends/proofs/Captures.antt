@@ -21,7 +21,7 @@ use Rattle.call_encoding.specs.Messages.{marked}
 use Rattle.call_rings.specs.Keeping.{period_of}
 use Rattle.coded_call.specs.Coding.{coding}
 use Rattle.receiver_end.specs.State as receiver_end
-use Rattle.duplex_call.specs.declared.carrier.Carried.{Carried}
+use Rattle.duplex_call.specs.declared.queue.Carried.{Carried}
 use Rattle.duplex_call.specs.Duplex.{WayRun, messages_at, numbers_carried}
 use Rattle.duplex_call.specs.Waiting.{Waits, last_four}
 use Rattle.one_way.specs.Both.{both_after, carrying, steady}
@@ -68,8 +68,8 @@ module _ (p q : Params) (own : PartyEnds) (w v : WayRun Frame) (h : HoldsParty p
   abbrev pub frame : Frame
   frame = carrying picture (map marked (messages_at said numbers))
 
-  abbrev pub shot : WayRun Frame
-  shot = record { frames = w.frames ++ frame ∷ []; past = Send ∷ w.past; carried = w.carried ++ numbers ∷ []; loaded = length said }
+  abbrev pub captured : WayRun Frame
+  captured = record { frames = w.frames ++ frame ∷ []; past = Send ∷ w.past; carried = w.carried ++ numbers ∷ []; loaded = length said }
 
   long : length said ≡ length (told_by q v)
   long = map_long (travelling (rules_of q)) (call_by q v).said ∙ sym (map_long (carried_as (rules_of q)) (call_by q v).said)
@@ -125,10 +125,10 @@ module _ (p q : Params) (own : PartyEnds) (w v : WayRun Frame) (h : HoldsParty p
       by_place (inr high) = by_last (cases_lt (length h.carries.headers) n) high
 
   -- the ends after it
-  pub party_sent : (new : PartyEnds) → new.params ≡ own.params → HoldsWay p new.way new.sender new.receiver [] shot.frames shot.past → CanSend new.way new.sender
+  pub party_sent : (new : PartyEnds) → new.params ≡ own.params → HoldsWay p new.way new.sender new.far_end [] captured.frames captured.past → CanSend new.way new.sender
       → period_of new.way.packets ≡ period_of own.way.packets → new.sender.sent ≡ own.sender.sent + 1 → own.sender.sent < 1048576
-      → new.receiver.played ≡ own.receiver.played → total_of new.way.tally ≡ total_of own.way.tally → kept_by new.carried ≡ kept_by own.carried
-      → HoldsHeaders new.carried (h.carries.headers ++ waiting ∷ []) → Waits new.waiting [] → HoldsParty p q new shot v
+      → new.far_end.played ≡ own.far_end.played → total_of new.way.tally ≡ total_of own.way.tally → kept_by new.carried ≡ kept_by own.carried
+      → HoldsHeaders new.carried (h.carries.headers ++ waiting ∷ []) → Waits new.waiting [] → HoldsParty p q new captured v
   party_sent new params done can period sent left played tally kept holds none = record {
     params = params ∙ h.params;
     done = done;
@@ -154,13 +154,13 @@ module _ (p q : Params) (own : PartyEnds) (w v : WayRun Frame) (h : HoldsParty p
   -- it may happen by what the ends have done, once there is its frame
   pub near_send : LaterFramesBoth (coding p) (rules_of p) → Agree (coding p) (rules_of p) (call_by p w) (both_after p (steady p) w.frames [] w.past)
       → own.sender.sent ≡ length (both_after p (steady p) w.frames [] w.past).sender.coded → (left : ℕ) → MayHappen (rules_of p) left (call_by p w) Send
-      → MayHappenNow p [] shot.frames w.past Send
+      → MayHappenNow p [] captured.frames w.past Send
   near_send law agreed sent left may =
       let same = (law (receiver_end.run_of p []) (steady p) w.frames (frame ∷ []) w.past h.done.near).0 in
-      let coded : length (both_after p (steady p) shot.frames [] w.past).sender.coded ≡ length (both_after p (steady p) w.frames [] w.past).sender.coded =
+      let coded : length (both_after p (steady p) captured.frames [] w.past).sender.coded ≡ length (both_after p (steady p) w.frames [] w.past).sender.coded =
       ap (λ (b : Joined Style Mb Picture). length b.sender.coded) same
       in
-      let played : (both_after p (steady p) shot.frames [] w.past).receiver.played ≡ (both_after p (steady p) w.frames [] w.past).receiver.played =
+      let played : (both_after p (steady p) captured.frames [] w.past).receiver.played ≡ (both_after p (steady p) w.frames [] w.past).receiver.played =
       ap (λ (b : Joined Style Mb Picture). b.receiver.played) same
       in
       let ideally = ap (λ (l : List (Coded Style Mb Picture)). length l) agreed.pictures in

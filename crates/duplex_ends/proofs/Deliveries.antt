@@ -23,7 +23,7 @@ use Rattle.call_rings.specs.declared.sent_packets.SentPackets.{SentPackets}
 use Rattle.call_rings.specs.Keeping.{kept_of, period_of}
 use Rattle.coded_call.specs.Coding.{coding}
 use Rattle.receiver_end.specs.State as receiver_end
-use Rattle.duplex_call.specs.declared.carrier.Carried.{Carried}
+use Rattle.duplex_call.specs.declared.queue.Carried.{Carried}
 use Rattle.duplex_call.specs.declared.line.Party.{Party}
 use Rattle.duplex_call.specs.declared.line.Party.TheVariants.{A, B}
 use Rattle.duplex_call.specs.Duplex.{MayBeBrought, MayHappenOf, WayRun, WayRuns, brings, brought, other, way, with_delivery, with_way}
@@ -97,10 +97,10 @@ module _ (p q : Params) (in_range : IsParams p) (calls : CallLaws p) (near_laws 
   both = both_after p (steady p) w.frames [] w.past
 
   pub agrees : Agree (coding p) (rules_of p) (call_by p w) both
-  agrees = agree p in_range calls near_laws own.way own.sender own.receiver w h.done
+  agrees = agree p in_range calls near_laws own.way own.sender own.far_end w h.done
 
   pub near_now : MayHappenNow p [] w.frames w.past (Deliver n j)
-  near_now = delivers p in_range calls near_laws own.way own.sender own.receiver w h.done left n j may
+  near_now = delivers p in_range calls near_laws own.way own.sender own.far_end w h.done left n j may
 
   short : length both.sender.coded < n + clocks.period_of p.clock
   short = near_laws.packets (receiver_end.run_of p []) (steady p) w.frames w.past n j refl (near_now, h.done.near)
@@ -124,7 +124,7 @@ module _ (p q : Params) (in_range : IsParams p) (calls : CallLaws p) (near_laws 
 
 -- they may come back where the delivery is near
 module _ (p : Party → Params) (y : Party) (in_range : IsParams (p y)) (calls : CallLaws (p y)) (near_laws : NearLaws (p y)) (far : PartyEnds) (v : WayRun Frame)
-    (done : HoldsWay (p y) far.way far.sender far.receiver [] v.frames v.past) where
+    (done : HoldsWay (p y) far.way far.sender far.far_end [] v.frames v.past) where
   abbrev far_both : Joined Style Mb Picture
   far_both = both_after (p y) (steady (p y)) v.frames [] v.past
 
@@ -132,12 +132,12 @@ module _ (p : Party → Params) (y : Party) (in_range : IsParams (p y)) (calls :
   may_return [] [] are may = tt
   may_return (k ∷ ks) (m ∷ messages) are may =
       let note = may.0.0 in
-      let agreed = agree (p y) in_range calls near_laws far.way far.sender far.receiver v done in
+      let agreed = agree (p y) in_range calls near_laws far.way far.sender far.far_end v done in
       let same : Some (carried_as (rules_of (p y)) note) ≡ Some m = sym (get_map (carried_as (rules_of (p y))) (call_by (p y) v).said k note may.0.1) ∙ are.0 in
       let is : carried_as (rules_of (p y)) note ≡ m = cc same in (
         record {
           told = told_of write_message (rules_of (p y)) note;
-          is = told_at (p y) in_range calls near_laws far.way far.sender far.receiver v done k note may.0.1;
+          is = told_at (p y) in_range calls near_laws far.way far.sender far.far_end v done k note may.0.1;
           bytes = ap (λ (m : Carried). written m.message) is;
           near = omega (arith, may.0.2, ap (λ (l : List (Coded Style Mb Picture)). length l) agreed.pictures);
         },

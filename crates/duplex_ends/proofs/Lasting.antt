@@ -5,7 +5,7 @@ use Rattle.std.proofs.lemmas.Bool.{lt-ltb}
 use Rattle.std.proofs.lemmas.Option.{slice_get-get_or}
 use Rattle.std.proofs.lemmas.List.{length-drop, length-map, get_or-drop, get_or-map}
 use Rattle.circular_buffer.specs.Buffer.{keep_last}
-use Rattle.duplex_call.specs.declared.carrier.Carried.{Carried}
+use Rattle.duplex_call.specs.declared.queue.Carried.{Carried}
 use Rattle.duplex_call.specs.Waiting.{placed}
 use Rattle.duplex_ends.specs.declared.headers.CarriedRing.{CarriedRing}
 use Rattle.duplex_ends.specs.Headers.{HoldsHeaders, kept_by}

@@ -6,7 +6,7 @@ use Rattle.std.specs.List.{range_with_len}
 use Rattle.std.proofs.lemmas.List.{drop-drop, drop_all}
 use Rattle.back_messages.specs.declared.message.Message.{Message}
 use Rattle.call_model.specs.Coding as call
-use Rattle.duplex_call.specs.declared.carrier.Carried.{Carried}
+use Rattle.duplex_call.specs.declared.queue.Carried.{Carried}
 use Rattle.duplex_call.specs.Duplex.{messages_at, numbers_carried}
 use Rattle.duplex_call.specs.Waiting.{last_four, placed}
 use Rattle.duplex_ends.specs.Bringing.{carried_in, message_in}

@@ -88,10 +88,10 @@ module _ (p : Party → Params) (x : Party) (own far : PartyEnds) (ways : WayRun
 
   pub sent_so : own.sender.sent ≡ length (call_in p x ways).coded
   sent_so =
-      laws.sent own.sender own.receiver [] (way x ways).frames (way x ways).past h.own_holds.done.joined
+      laws.sent own.sender own.far_end [] (way x ways).frames (way x ways).past h.own_holds.done.joined
       ∙ ap (λ (seen : Seen). length seen.coded) same_so
 
-  pub played_so : own.receiver.played ≡ (call_in p x ways).played
+  pub played_so : own.far_end.played ≡ (call_in p x ways).played
   played_so =
-      laws.played own.sender own.receiver [] (way x ways).frames (way x ways).past h.own_holds.done.joined
+      laws.played own.sender own.far_end [] (way x ways).frames (way x ways).past h.own_holds.done.joined
       ∙ ap (λ (seen : Seen). seen.played) same_so

@@ -9,12 +9,12 @@ use Rattle.call_model.specs.IdealCall.{Back, Deliver, Event, Play, about}
 use Rattle.call_model.specs.Refusals as call
 use Rattle.call_model.specs.Refusals.{first_refusal}
 use Rattle.call_decoding.specs.Rules.{rules_of}
-use Rattle.duplex_call.specs.declared.carrier.Carried.{Carried}
+use Rattle.duplex_call.specs.declared.queue.Carried.{Carried}
 use Rattle.duplex_call.specs.declared.line.Party.{Party}
 use Rattle.duplex_call.specs.Duplex.{WayRun}
 use Rattle.duplex_call.specs.Refused.{first_of, heard_refusal, own_refusal}
-use Rattle.one_way.specs.declared.refusals.Refusal.{Refusal}
-use Rattle.one_way.specs.declared.refusals.Refusal.TheVariants.{Far}
+use Rattle.one_way.specs.declared.refusals.EventRefusal.{EventRefusal}
+use Rattle.one_way.specs.declared.refusals.EventRefusal.TheVariants.{Far}
 use Rattle.one_way.specs.Refused.{IsAllowed}
 use Rattle.duplex_ends.specs.Bringing.{first_far}
 use Rattle.duplex_ends.specs.Headers.{AreNumbered}
@@ -22,7 +22,7 @@ use Rattle.duplex_ends.specs.Ways.{call_by, carried_as, sides, told_by}
 use Rattle.duplex_ends.proofs.Lists.{get_map, map_get}
 
 -- what holds where there is no refusal holds where the event is allowed
-pub may_of : (X : Type 0) (result : Result Unit Refusal) (e : Event) (refusal : Option call.Refusal) → IsAllowed result e refusal → (refusal ≡ None → X) → OnOk result X
+pub may_of : (X : Type 0) (result : Result Unit EventRefusal) (e : Event) (refusal : Option call.Refusal) → IsAllowed result e refusal → (refusal ≡ None → X) → OnOk result X
 may_of X (Ok _) e refusal is none = none is
 may_of X (Err told) e refusal is none = tt
 
@@ -43,10 +43,10 @@ about_far rules pictures sent played abouts k t at =
     ap (λ (o : Option ℕ). option_map_or (λ t. if nat_le (t + rules.half) sent then Some (call.Far t sent) else None) o (Some call.NotSaid)) at
 
 -- the first that is refused is told first
-pub first_allowed : (result : Result Unit Refusal) (e : Event) (one two : Option call.Refusal) → one ≡ None → IsAllowed result e two → IsAllowed result e (first_of one two)
+pub first_allowed : (result : Result Unit EventRefusal) (e : Event) (one two : Option call.Refusal) → one ≡ None → IsAllowed result e two → IsAllowed result e (first_of one two)
 first_allowed result e one two none is = subst (λ (o : Option call.Refusal). IsAllowed result e (first_of o two)) (sym none) is
 
-pub first_refused : (told : Refusal) (e : Event) (one two : Option call.Refusal) → IsAllowed (Err told) e one → IsAllowed (Err told) e (first_of one two)
+pub first_refused : (told : EventRefusal) (e : Event) (one two : Option call.Refusal) → IsAllowed (Err told) e one → IsAllowed (Err told) e (first_of one two)
 first_refused told e one two is = (is.0, ap (λ (o : Option call.Refusal). first_of o two) is.1, is.2)
 
 -- the messages of a header are refused as it is told

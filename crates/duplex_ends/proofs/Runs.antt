@@ -18,8 +18,8 @@ use Rattle.call_encoding.specs.Frames.{Frame}
 use Rattle.call_encoding.specs.Messages.{marked, write_message}
 use Rattle.coded_call.specs.Coding.{coding}
 use Rattle.call_rings.specs.Keeping.{period_of}
-use Rattle.duplex_call.specs.declared.carrier.Carried.{Carried}
-use Rattle.duplex_call.specs.declared.carrier.Carrier.{Carrier}
+use Rattle.duplex_call.specs.declared.queue.Carried.{Carried}
+use Rattle.duplex_call.specs.declared.queue.MessageQueue.{MessageQueue}
 use Rattle.duplex_call.specs.Duplex.{WayRun, brought}
 use Rattle.duplex_call.specs.Waiting.{Waits}
 use Rattle.one_way.specs.Both.{both_after, steady}
@@ -121,8 +121,8 @@ module _ (p q : Params) (own : PartyEnds) (w far : WayRun Frame) (h : HoldsParty
 
   pub party_more : (new : PartyEnds) (past : List Event) (now : WayRun Frame) (more : List Carried)
       → new.params ≡ own.params → new.carried ≡ own.carried → period_of new.way.packets ≡ period_of own.way.packets
-      → new.sender.sent ≡ own.sender.sent → new.receiver.played ≤ own.sender.sent → total_of new.way.tally ≡ new.receiver.played
-      → HoldsWay p new.way new.sender new.receiver [] w.frames past → CanSend new.way new.sender
+      → new.sender.sent ≡ own.sender.sent → new.far_end.played ≤ own.sender.sent → total_of new.way.tally ≡ new.far_end.played
+      → HoldsWay p new.way new.sender new.far_end [] w.frames past → CanSend new.way new.sender
       → told_by q now ≡ told_by q far ++ more → Waits new.waiting (drop w.loaded (told_by q far) ++ more)
       → HoldsParty p q new (record w { past = past }) now
   party_more new past now more params carried period sent behind counted done can grows waits =
@@ -163,7 +163,7 @@ module _ (p q : Params) (own : PartyEnds) (w far : WayRun Frame) (h : HoldsParty
   }
 
   -- more was said of it, and waits
-  pub party_waits : (waiting : Carrier) (now : WayRun Frame) (more : List Carried) → told_by q now ≡ told_by q far ++ more
+  pub party_waits : (waiting : MessageQueue) (now : WayRun Frame) (more : List Carried) → told_by q now ≡ told_by q far ++ more
       → Waits waiting (drop w.loaded (told_by q far) ++ more) → HoldsParty p q (record own { waiting = waiting }) w now
   party_waits waiting now more grows waits = record {
     params = h.params;

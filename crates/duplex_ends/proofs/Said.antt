@@ -23,7 +23,7 @@ use Rattle.call_encoding.specs.Frames.{Frame}
 use Rattle.coded_call.specs.Coding.{coding}
 use Rattle.reference_selector.specs.Messages.{message_of}
 use Rattle.one_way.specs.Both.{steady}
-use Rattle.duplex_call.specs.declared.carrier.Carried.{Carried}
+use Rattle.duplex_call.specs.declared.queue.Carried.{Carried}
 use Rattle.duplex_call.specs.Duplex.{WayRun}
 use Rattle.duplex_ends.specs.Bringing.{AreOfClock}
 use Rattle.duplex_ends.specs.Headers.{AreNumbered}

@@ -16,13 +16,13 @@ use Rattle.call_decoding.specs.Styles.{Style}
 use Rattle.call_encoding.specs.Frames.{Frame}
 use Rattle.call_encoding.specs.Messages.{written}
 use Rattle.receiver_end.specs.declared.kept.Kept.{Kept}
-use Rattle.duplex_call.specs.declared.carrier.Carried.{Carried}
+use Rattle.duplex_call.specs.declared.queue.Carried.{Carried}
 use Rattle.duplex_call.specs.Duplex.{brought}
 use Rattle.one_way.specs.declared.way.Way.{Way}
 use Rattle.one_way.specs.Both.{State, both_after, steady}
 use Rattle.one_way.specs.Way.{HoldsWay}
-use Rattle.one_way.specs.declared.refusals.Refusal.{Refusal}
-use Rattle.one_way.specs.declared.refusals.Refusal.TheVariants.{Far}
+use Rattle.one_way.specs.declared.refusals.EventRefusal.{EventRefusal}
+use Rattle.one_way.specs.declared.refusals.EventRefusal.TheVariants.{Far}
 
 -- what was said of picture n is read, and waits: it has no fault
 abbrev pub read_as : ℕ → Result Message MessageFault → List Carried
@@ -74,7 +74,7 @@ pub record IsReturning (p : Params) (way : Way) (sender : State) (receiver : Kep
 
 -- the first of these messages that is about a picture half a period or more behind this count, told
 -- by that picture
-abbrev pub first_far : ℕ → ℕ → List Carried → Result Unit Refusal
+abbrev pub first_far : ℕ → ℕ → List Carried → Result Unit EventRefusal
 first_far half sent [] = Ok tt
 first_far half sent (m ∷ messages) =
     if nat_le (m.about + half) sent then Err (Far m.about sent) else first_far half sent messages

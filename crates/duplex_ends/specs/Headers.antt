@@ -1,7 +1,7 @@
 -- Which messages are kept of the last pictures: those that their headers carry.
 use Rattle.std.specs.Prelude.{◌≡◌, ℕ, ◌-◌, ◌≤◌, ⊤, List, [], ◌∷◌, length, map, slice_get, slice_index_or, Some}
 use Rattle.circular_buffer.specs.Buffer.{keep_last}
-use Rattle.duplex_call.specs.declared.carrier.Carried.{Carried}
+use Rattle.duplex_call.specs.declared.queue.Carried.{Carried}
 use Rattle.duplex_call.specs.Waiting.{placed}
 use Rattle.duplex_ends.specs.declared.headers.CarriedRing.{CarriedRing}
 

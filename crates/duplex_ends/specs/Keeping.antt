@@ -9,8 +9,8 @@ pub record KeepsInDelivery (own far own_new far_new : PartyEnds) : Type 0 where
   pub far_params : far_new.params ≡ far.params
   pub own_sender : own_new.sender ≡ own.sender
   pub far_sent : far_new.sender.sent ≡ far.sender.sent
-  pub own_played : own_new.receiver.played ≡ own.receiver.played
-  pub far_receiver : far_new.receiver ≡ far.receiver
+  pub own_played : own_new.far_end.played ≡ own.far_end.played
+  pub far_receiver : far_new.far_end ≡ far.far_end
 
 -- A play has no part for either sender, nor for the other party's receiver.
 pub record KeepsInPlay (own far own_new far_new : PartyEnds) : Type 0 where
@@ -18,4 +18,4 @@ pub record KeepsInPlay (own far own_new far_new : PartyEnds) : Type 0 where
   pub far_params : far_new.params ≡ far.params
   pub own_sender : own_new.sender ≡ own.sender
   pub far_sender : far_new.sender ≡ far.sender
-  pub far_receiver : far_new.receiver ≡ far.receiver
+  pub far_receiver : far_new.far_end ≡ far.far_end

@@ -28,7 +28,7 @@ pub record PairLaws (p : Party → Params) : Type 0 where
   pub sent : (x : Party) (own far : PartyEnds) (ways : WayRuns Frame)
       → HoldsPair p x own far ways → own.sender.sent ≡ length (call_in p x ways).coded
   pub played : (x : Party) (own far : PartyEnds) (ways : WayRuns Frame)
-      → HoldsPair p x own far ways → own.receiver.played ≡ (call_in p x ways).played
+      → HoldsPair p x own far ways → own.far_end.played ≡ (call_in p x ways).played
 
 -- what the receiver of a way's pictures says
 pub record SaidLaws (p : Params) : Type 0 where

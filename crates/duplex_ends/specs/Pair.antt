@@ -23,13 +23,13 @@ use Rattle.duplex_ends.specs.Ways.{sides, told_by}
 -- said of it since the last capture waits.
 pub record HoldsParty (p q : Params) (own : PartyEnds) (w far : WayRun Frame) : Type 0 where
   pub params : own.params ≡ p
-  pub done : HoldsWay p own.way own.sender own.receiver [] w.frames w.past
+  pub done : HoldsWay p own.way own.sender own.far_end [] w.frames w.past
   pub can : CanSend own.way own.sender
   pub period : period_of own.way.packets ≡ clocks.period_of p.clock
   pub sent : own.sender.sent ≡ length w.frames
   pub few : own.sender.sent ≤ 1048576
-  pub behind : own.receiver.played ≤ own.sender.sent
-  pub counted : total_of own.way.tally ≡ own.receiver.played
+  pub behind : own.far_end.played ≤ own.sender.sent
+  pub counted : total_of own.way.tally ≡ own.far_end.played
   pub kept : kept_by own.carried ≡ clocks.period_of p.clock
   pub carries : HasHeaders own.carried (told_by q far) w.carried
   pub headers : length w.carried ≡ length w.frames
@@ -76,12 +76,12 @@ pub record MayHappenToOne (own : PartyEnds) (e : Event) : Type 0 where
 pub record IsNewParty (p : Params) (own : PartyEnds) : Type 0 where
   pub params : own.params ≡ p
   pub sender_params : own.sender.params ≡ p
-  pub receiver_params : own.receiver.params ≡ p
+  pub receiver_params : own.far_end.params ≡ p
   pub quant : own.sender.pace.quant ≡ p.quant
   pub sent : own.sender.sent ≡ 0
-  pub played : own.receiver.played ≡ 0
+  pub played : own.far_end.played ≡ 0
   pub sends : sender_end.Stands (steady p) own.sender []
-  pub receives : receiver_end.Stands own.receiver []
+  pub receives : receiver_end.Stands own.far_end []
   pub way_is : IsNewWay p (clocks.period_of p.clock) own.way
   pub kept : kept_by own.carried ≡ clocks.period_of p.clock
   pub holds : HoldsHeaders own.carried []

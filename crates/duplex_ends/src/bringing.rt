@@ -1,6 +1,6 @@
 //! The messages of a picture header come back to a sender.
 ghost use Rattle.std.specs.Prelude.{◌≡◌, ◌∷◌, ℕ, List, [], Option};
-ghost use Rattle.duplex_call.specs.declared.carrier.Carried.{Carried};
+ghost use Rattle.duplex_call.specs.declared.queue.Carried.{Carried};
 ghost use Rattle.h263_types.specs.declared.params.Params.{Params};
 ghost use Rattle.call_model.specs.IdealCall.{Event};
 ghost use Rattle.call_encoding.specs.Frames.{Frame};
@@ -29,7 +29,7 @@ fn bring_place(sender: &mut Sender<FixedPace>, clock: Clock, place: &Option<Carr
         → IsReturning p way sender.old receiver frames whole (carried_in (place.now ∷ rest))
         → IsReturning p way sender.new receiver frames whole (carried_in rest) }
 {
-    one_way_laws::of_events();
+    one_way_laws::event_laws();
     let Some(carried) = place else {
         return;
     };
@@ -49,7 +49,7 @@ pub fn bring_header(sender: &mut Sender<FixedPace>, clock: Clock, header: &[Opti
         → MayReturnAll p (both_after p (steady p) frames [] past) ks (carried_in header.now)
         → HoldsWay p way sender.new receiver [] frames (brought ks past) }
 {
-    one_way_laws::of_events();
+    one_way_laws::event_laws();
     'header: for place in header {
         bring_place(sender, clock, place);
     }

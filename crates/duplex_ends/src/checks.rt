@@ -13,11 +13,11 @@ ghost use Rattle.duplex_ends.specs.Ways.{call_in, sides};
 
 use crate::{PartyEnds, laws};
 use duplex_call::Carried;
-use one_way::{Refusal, check_capture, check_packet, is_late, laws as one_way_laws};
+use one_way::{EventRefusal, check_capture, check_packet, is_late, laws as one_way_laws};
 
 /// Whether the party's next picture may be captured: it may not where half a period is on the way.
 /// A frame for it is looked for afterwards.
-pub fn check_send(own: &PartyEnds) -> Result<(), Refusal>
+pub fn check_send(own: &PartyEnds) -> Result<(), EventRefusal>
     requires { IsInCall own.now }
     ensures may { (far : PartyEnds) → AreInCall own.now far
         → OnOk result (MayHappenNow own.now far Send) }
@@ -26,16 +26,16 @@ pub fn check_send(own: &PartyEnds) -> Result<(), Refusal>
         (refusal_of (sides p) (length (call_in p x ways).coded + 1) x Send ways) }
 {
     one_way_laws::ends_agree();
-    laws::of_refusals();
-    check_capture(own.params.clock.half(), &own.sender, &own.receiver)
+    laws::refused_exactly();
+    check_capture(own.params.clock.half(), &own.sender, &own.far_end)
 }
 
 // Whether the message at one place of a header is near, if there is one.
-fn check_place(half: u32, sent: u32, place: &Option<Carried>) -> Result<(), Refusal>
+fn check_place(half: u32, sent: u32, place: &Option<Carried>) -> Result<(), EventRefusal>
     ensures { result ≡ first_far half sent (carried_in (place.now ∷ [])) }
 {
     match place {
-        Some(carried) if is_late(half, carried.about, sent) => Err(Refusal::Far {
+        Some(carried) if is_late(half, carried.about, sent) => Err(EventRefusal::Far {
             given: carried.about,
             other: sent,
         }),
@@ -44,7 +44,7 @@ fn check_place(half: u32, sent: u32, place: &Option<Carried>) -> Result<(), Refu
 }
 
 // The first of the messages of a header that is far, by the count of pictures that were sent.
-fn check_header(half: u32, sent: u32, header: &[Option<Carried>; 4]) -> Result<(), Refusal>
+fn check_header(half: u32, sent: u32, header: &[Option<Carried>; 4]) -> Result<(), EventRefusal>
     ensures { result ≡ first_far half sent (carried_in header.now) }
 {
     'header: for place in header {
@@ -56,7 +56,7 @@ fn check_header(half: u32, sent: u32, header: &[Option<Carried>; 4]) -> Result<(
 /// Whether packets of a picture may be delivered: it was sent, and lies less than half a period
 /// behind the play; then, in their order, each message of its header is about a picture of the
 /// other party that lies less than half a period behind its capture.
-pub fn check_delivery(own: &PartyEnds, far: &PartyEnds, number: u32) -> Result<(), Refusal>
+pub fn check_delivery(own: &PartyEnds, far: &PartyEnds, number: u32) -> Result<(), EventRefusal>
     requires { AreInCall own.now far.now }
     ensures may { (place : ℕ) → OnOk result
         (MayHappenNow own.now far.now (Deliver number place)) }
@@ -65,21 +65,21 @@ pub fn check_delivery(own: &PartyEnds, far: &PartyEnds, number: u32) -> Result<(
         (refusal_of (sides p) left x (Deliver number place) ways) }
 {
     one_way_laws::ends_agree();
-    one_way_laws::of_near_events();
-    one_way_laws::of_the_way();
-    laws::of_pairs();
-    laws::of_refusals();
+    one_way_laws::near_event_laws();
+    one_way_laws::way_laws();
+    laws::pair_laws();
+    laws::refused_exactly();
     let half = own.params.clock.half();
-    match check_packet(half, number, &own.sender, &own.receiver) {
+    match check_packet(half, number, &own.sender, &own.far_end) {
         Ok(()) => check_header(half, far.sender.sent(), &own.carried.get(number)),
         Err(refusal) => Err(refusal),
     }
 }
 
 /// Whether the party's next picture may be played: it was sent.
-pub fn check_play(own: &PartyEnds) -> Result<(), Refusal>
+pub fn check_play(own: &PartyEnds) -> Result<(), EventRefusal>
     requires { IsInCall own.now }
-    ensures ahead { OnOk result (own.now.receiver.played < own.now.sender.sent) }
+    ensures ahead { OnOk result (own.now.far_end.played < own.now.sender.sent) }
     ensures may { (far : PartyEnds) → AreInCall own.now far
         → OnOk result (MayHappenNow own.now far Play) }
     ensures refusal { (p : Party → Params) (x : Party) (far : PartyEnds) (ways : WayRuns Frame)
@@ -87,6 +87,6 @@ pub fn check_play(own: &PartyEnds) -> Result<(), Refusal>
         → IsAllowed result Play (refusal_of (sides p) left x Play ways) }
 {
     one_way_laws::ends_agree();
-    laws::of_refusals();
-    one_way::check_play(&own.sender, &own.receiver)
+    laws::refused_exactly();
+    one_way::check_play(&own.sender, &own.far_end)
 }

@@ -34,15 +34,15 @@ fn bring_carried(own: &PartyEnds, sender: &mut Sender<FixedPace>, number: u32, p
     ensures holds { (p : Party → Params) (x : Party) (ways : WayRuns Frame) (left : ℕ)
         (far : PartyEnds) → HoldsPair p x own.now far ways → far.sender ≡ sender.old
         → MayHappenOf (sides p) left x (Deliver number place) ways
-        → HoldsWay (p (other x)) far.way sender.new far.receiver []
+        → HoldsWay (p (other x)) far.way sender.new far.far_end []
         (way (other x) ways).frames (brought (brings (sides p) x (way x ways) number place)
         (way (other x) ways).past) }
 {
-    one_way_laws::of_the_ends();
-    one_way_laws::of_near_events();
-    one_way_laws::of_the_way();
-    one_way_laws::of_messages();
-    laws::of_said();
+    one_way_laws::call_laws();
+    one_way_laws::near_event_laws();
+    one_way_laws::way_laws();
+    one_way_laws::message_laws();
+    laws::said_laws();
     if place >= own.way.count(number) {
         return;
     }
@@ -61,11 +61,11 @@ pub fn deliver(own: &mut PartyEnds, far: &mut PartyEnds, number: u32, place: u32
         → MayHappenOf (sides p) left x (Deliver number place) ways
         → HoldsPair p x own.new far.new (with_delivery (sides p) x number place ways) }
 {
-    one_way_laws::of_the_ends();
-    one_way_laws::of_near_events();
-    laws::of_said();
+    one_way_laws::call_laws();
+    one_way_laws::near_event_laws();
+    laws::said_laws();
     bring_carried(own, &mut far.sender, number, place);
-    let said = own.way.deliver(&mut own.receiver, number, place);
+    let said = own.way.deliver(&mut own.far_end, number, place);
     put_by(&mut far.waiting, own.params.clock, number, said);
 }
 
@@ -79,9 +79,9 @@ pub fn deliver_all(own: &mut PartyEnds, far: &mut PartyEnds, number: u32)
         → MayHappenOf (sides p) left x (Deliver number 0) ways
         → HoldsPair p x own.new far.new (with_whole p x number ways) }
 {
-    one_way_laws::of_the_ends();
-    one_way_laws::of_near_events();
-    one_way_laws::of_messages();
+    one_way_laws::call_laws();
+    one_way_laws::near_event_laws();
+    one_way_laws::message_laws();
     let count = own.way.count(number);
     'packets: for place in 0..count {
         deliver(own, far, number, place);
@@ -94,8 +94,8 @@ pub fn play(own: &mut PartyEnds, far: &mut PartyEnds) -> Played
     requires { MayHappenNow own.old far.old Play }
     ensures ready { AreInCall own.new far.new }
     ensures keeps { KeepsInPlay own.old far.old own.new far.new }
-    ensures played { own.new.receiver.played ≡ own.old.receiver.played + 1 }
-    ensures number { result.number ≡ own.old.receiver.played }
+    ensures played { own.new.far_end.played ≡ own.old.far_end.played + 1 }
+    ensures number { result.number ≡ own.old.far_end.played }
     ensures mark { (p : Party → Params) (x : Party) (ways : WayRuns Frame) (left : ℕ)
         → HoldsPair p x own.old far.old ways → MayHappenOf (sides p) left x Play ways
         → result.mark ≡ mark_of (shown_next p x ways).mark }
@@ -103,11 +103,11 @@ pub fn play(own: &mut PartyEnds, far: &mut PartyEnds) -> Played
         → HoldsPair p x own.old far.old ways → MayHappenOf (sides p) left x Play ways
         → HoldsPair p x own.new far.new (with_play (sides p) x ways) }
 {
-    one_way_laws::of_the_ends();
-    one_way_laws::of_near_events();
-    laws::of_pairs();
-    laws::of_said();
-    let played = own.way.play(&mut own.receiver);
+    one_way_laws::call_laws();
+    one_way_laws::near_event_laws();
+    laws::pair_laws();
+    laws::said_laws();
+    let played = own.way.play(&mut own.far_end);
     put_by(
         &mut far.waiting,
         own.params.clock,

@@ -1,7 +1,7 @@
 //! The messages of the last picture headers.
 ghost use Rattle.std.specs.Prelude.{◌≡◌, ◌+◌, ◌<◌, ◌≤◌, ◌∷◌, ◌++◌, [], List, length};
 ghost use Rattle.std.specs.Prelude.{IfOk, slice_index_or};
-ghost use Rattle.duplex_call.specs.declared.carrier.Carried.{Carried};
+ghost use Rattle.duplex_call.specs.declared.queue.Carried.{Carried};
 ghost use Rattle.duplex_call.specs.Waiting.{placed};
 
 use circular_buffer::HeapCircularBuffer;

@@ -24,10 +24,10 @@ use one_way::laws as one_way_laws;
 
 /// New ends have done nothing; what both have done may be said from either party; the counts of the
 /// ends are those of the ideal calls.
-pub fn of_pairs()
+pub fn pair_laws()
     ensures { (p : Party → Params) → PairLaws p }
 {
-    one_way_laws::of_the_way();
+    one_way_laws::way_laws();
     one_way_laws::ends_agree();
 }
 
@@ -39,14 +39,14 @@ pub(crate) fn later_calls()
 }
 
 /// An event has no refusal exactly where it may happen.
-pub(crate) fn of_refusals()
+pub(crate) fn refused_exactly()
     ensures { (p : Party → Params) → NoneWhereItMayHappenOf (sides p) }
 {
     two_way_refusals::<Pictured, Framed, Styled, Mb, Pictured, Fault, MessageFault>();
 }
 
 /// What a receiver says is read from its bytes, as a picture header carries it.
-pub(crate) fn of_said()
+pub(crate) fn said_laws()
     ensures { (p : Params) → IsParams p → SaidLaws p }
 {
     exact_text();
@@ -55,6 +55,6 @@ pub(crate) fn of_said()
 }
 
 /// A play shows one picture more, and leaves the pictures that were sent.
-pub fn of_plays()
+pub fn after_a_play()
     ensures { (p : Party → Params) (x : Party) (ways : WayRuns Frame) → AfterPlay p x ways }
 {}

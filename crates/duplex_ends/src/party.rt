@@ -8,12 +8,12 @@ ghost use Rattle.call_encoding.specs.Frames.{Frame};
 ghost use Rattle.one_way.specs.Counts.{AreCounted};
 ghost use Rattle.one_way.specs.Seen.{reference_in};
 ghost use Rattle.duplex_call.specs.declared.line.Party.{Party};
-ghost use Rattle.duplex_call.specs.Duplex.{MayHappenOf, WayRuns, with_shot};
+ghost use Rattle.duplex_call.specs.Duplex.{MayHappenOf, WayRuns, with_capture};
 
 use crate::saying::put_messages;
 use crate::{CarriedRing, laws};
 use back_messages::Message;
-use duplex_call::Carrier;
+use duplex_call::MessageQueue;
 use h263_planes::PictureRef;
 use h263_types::{FixedPace, OutOfMemory, Params};
 use one_way::{Tally, Way, laws as one_way_laws};
@@ -30,14 +30,14 @@ pub struct PartyEnds {
     pub params: Params,
     /// The party's own sender.
     pub sender: Sender<FixedPace>,
-    /// The other party's receiver of these pictures.
-    pub receiver: Receiver,
+    /// The far end of these pictures: the other party's receiver.
+    pub far_end: Receiver,
     /// What is kept of the pictures between both.
     pub way: Way,
     /// The messages that the headers of the last pictures carry.
     pub carried: CarriedRing,
     /// What the party's own receiver has said since the party's last picture.
-    pub waiting: Carrier,
+    pub waiting: MessageQueue,
 }
 
 impl PartyEnds {
@@ -60,13 +60,13 @@ impl PartyEnds {
         };
         let sender = Sender::start(alloc, params, pace)?;
         match Receiver::start(alloc, params) {
-            Ok(receiver) => Ok(PartyEnds {
+            Ok(far_end) => Ok(PartyEnds {
                 params: *params,
                 sender,
-                receiver,
+                far_end,
                 way,
                 carried,
-                waiting: Carrier::new(),
+                waiting: MessageQueue::new(),
             }),
             Err(_) => {
                 sender.finish();
@@ -85,18 +85,18 @@ impl PartyEnds {
             → AreInCall self.new far }
         ensures params { self.new.params ≡ self.old.params }
         ensures sent { self.new.sender.sent ≡ self.old.sender.sent + 1 }
-        ensures receiver { self.new.receiver ≡ self.old.receiver }
+        ensures far_end { self.new.far_end ≡ self.old.far_end }
         ensures holds { (p : Party → Params) (x : Party) (far : PartyEnds) (ways : WayRuns Frame)
             (left : ℕ) → HoldsPair p x self.old far ways
             → MayHappenOf (sides p) left x Send ways
-            → HoldsPair p x self.new far (with_shot (sides p) x (lent frame.entry) ways) }
+            → HoldsPair p x self.new far (with_capture (sides p) x (lent frame.entry) ways) }
     {
-        one_way_laws::of_the_ends();
-        one_way_laws::of_near_events();
-        one_way_laws::of_the_way();
+        one_way_laws::call_laws();
+        one_way_laws::near_event_laws();
+        one_way_laws::way_laws();
         one_way_laws::later_frames();
         laws::later_calls();
-        laws::of_said();
+        laws::said_laws();
         let header = self.waiting.load();
         let mut messages = [NO_MESSAGE; 4];
         let count = put_messages(&header, &mut messages);
@@ -111,20 +111,20 @@ impl PartyEnds {
             (left : ℕ) → HoldsPair p x self.now far ways → MayHappenOf (sides p) left x Play ways
             → result ≡ reference_in (call_in p x ways).coded (call_in p x ways).played }
     {
-        laws::of_pairs();
+        laws::pair_laws();
         one_way_laws::ends_agree();
-        self.way.reference_of(self.receiver.played())
+        self.way.reference_of(self.far_end.played())
     }
 
     /// The picture that the other party sees: the one played last.
     pub fn shown(&self) -> PictureRef<'_>
         ensures holds { (p : Party → Params) (x : Party) (far : PartyEnds) (ways : WayRuns Frame)
             → HoldsPair p x self.now far ways → lent result ≡ on_screen p x ways }
-        ensures format { (lent result).format ≡ self.now.receiver.params.format }
+        ensures format { (lent result).format ≡ self.now.far_end.params.format }
     {
-        one_way_laws::of_the_way();
+        one_way_laws::way_laws();
         one_way_laws::ends_agree();
-        self.receiver.shown()
+        self.far_end.shown()
     }
 
     /// How many pictures were sent.
@@ -136,9 +136,9 @@ impl PartyEnds {
 
     /// How many of them were played.
     pub fn played(&self) -> u32
-        ensures { result ≡ self.now.receiver.played }
+        ensures { result ≡ self.now.far_end.played }
     {
-        self.receiver.played()
+        self.far_end.played()
     }
 
     /// How many pictures were shown with each mark.
@@ -155,12 +155,12 @@ impl PartyEnds {
         let PartyEnds {
             params: _,
             sender,
-            receiver,
+            far_end,
             way: _,
             carried: _,
             waiting: _,
         } = self;
         sender.finish();
-        receiver.finish();
+        far_end.finish();
     }
 }

@@ -65,8 +65,8 @@ module _ (side : Side) (entry : Entry) (letter a b : ℕ) (bytes more : List ℕ
   pub spelled_bytes : take (bytes_of entry) (drop 3 text) ≡ bytes
   spelled_bytes = ap (λ (n : ℕ). take n (bytes ++ more)) size ∙ take-append_seam bytes more
 
-  pub spelled_behind : drop (3 + bytes_of entry) text ≡ more
-  spelled_behind =
+  pub spelled_after : drop (3 + bytes_of entry) text ≡ more
+  spelled_after =
       let place : 3 + bytes_of entry ≡ suc (suc (suc (length bytes))) = omega (arith, size) in
       ap (λ (n : ℕ). drop n text) place ∙ drop-append_seam bytes more
 
@@ -98,8 +98,8 @@ module _ (side : Side) (entry : Entry) (parts : Parts) (more : List ℕ) (is : I
   bytes_found = ap (λ (l : List ℕ). take (bytes_of entry) (drop 3 l)) whole_is ∙ spelled_bytes side entry parts.letter size_of.0 size_of.1 parts.bytes more told_of is.says
 
   -- and what lies after it
-  pub behind_found : drop (3 + bytes_of entry) (text_of parts ++ more) ≡ more
-  behind_found = ap (λ (l : List ℕ). drop (3 + bytes_of entry) l) whole_is ∙ spelled_behind side entry parts.letter size_of.0 size_of.1 parts.bytes more told_of is.says
+  pub after_found : drop (3 + bytes_of entry) (text_of parts ++ more) ≡ more
+  after_found = ap (λ (l : List ℕ). drop (3 + bytes_of entry) l) whole_is ∙ spelled_after side entry parts.letter size_of.0 size_of.1 parts.bytes more told_of is.says
 
   pub text_len : length (text_of parts) ≡ 3 + bytes_of entry
   text_len = omega (arith, length-append (parts.letter ∷ parts.size) parts.bytes, is.two, bytes_are side entry parts.letter (length parts.bytes) is.says)

@@ -88,8 +88,8 @@ module _ (rest head : List ℕ) (came : ℕ) (size : length head ≡ 3) (within 
       past came rest few ∙ sym (past 3 rest (omega (arith, few, within)))
   three_cases false long = let three : came ≡ 3 = omega (arith, within, ltb-false came 3 long) in ap (λ (n : ℕ). drop n rest) three
 
-  pub behind_head : drop came rest ≡ drop 3 rest
-  behind_head = three_cases (nat_lt came 3) refl
+  pub after_head : drop came rest ≡ drop 3 rest
+  after_head = three_cases (nat_lt came 3) refl
 
   begun_cases : (side : Side) (t : Bool) → nat_lt came 3 ≡ t → begun side (take came rest) ≡ begun side rest
   begun_cases side true short = ap (λ (n : ℕ). begun side (take n rest)) (short_rest (ltb-true came 3 short)) ∙ ap (begun side) (take-length rest)

@@ -6,7 +6,7 @@ use Rattle.event_logs.specs.declared.entry.Entry.{Entry}
 use Rattle.event_logs.specs.declared.fault.LogFault.TheVariants.{BadRecord, TooMany}
 use Rattle.event_logs.specs.Entry.{bytes_of, reach_of, reach, entry_in}
 use Rattle.event_logs.specs.Log.{Parts, text_of, IsEntry, Found, Are, IsLog, BeginsNone, found_from, fault_from, found_of, fault_of, log_entries, log_fault}
-use Rattle.event_logs.proofs.Entries.{entry_found, bytes_found, behind_found, text_len, read_whole, entry_is}
+use Rattle.event_logs.proofs.Entries.{entry_found, bytes_found, after_found, text_len, read_whole, entry_is}
 
 module _ (side : Side) where
   -- one step of the reading
@@ -55,8 +55,8 @@ module _ (side : Side) where
     reaches : reach side text ≡ 3 + bytes_of found.entry
     reaches = ap reach_of (read_whole side found.entry text says).0
 
-    behind : drop (reach side text) text ≡ more
-    behind = ap (λ (k : ℕ). drop k text) reaches ∙ behind_found side found.entry parts more is
+    after : drop (reach side text) text ≡ more
+    after = ap (λ (k : ℕ). drop k text) reaches ∙ after_found side found.entry parts more is
 
     next : at + reach side text ≡ at + length (text_of parts)
     next = omega (arith, reaches, text_len side found.entry parts more is)
@@ -65,7 +65,7 @@ module _ (side : Side) where
     one_fault =
         fault_step n at parts.letter ((parts.size ++ parts.bytes) ++ more)
         ∙ ap (λ (o : Option Entry). fault_from o at (fault_of side n (at + reach side text) (drop (reach side text) text))) says
-        ∙ (λ i. fault_of side n (next i) (behind i))
+        ∙ (λ i. fault_of side n (next i) (after i))
 
     same : record { at = at; entry = found.entry; bytes = take (bytes_of found.entry) (drop 3 text) } ≡ found
     same = λ i. record { at = sym place i; entry = found.entry; bytes = (bytes_found side found.entry parts more is ∙ sym bytes) i }
@@ -74,7 +74,7 @@ module _ (side : Side) where
     one_found =
         found_step n at parts.letter ((parts.size ++ parts.bytes) ++ more)
         ∙ ap (λ (o : Option Entry). found_from o at text (found_of side n (at + reach side text) (drop (reach side text) text))) says
-        ∙ (λ i. same i ∷ found_of side n (next i) (behind i))
+        ∙ (λ i. same i ∷ found_of side n (next i) (after i))
 
   passed : (m at n : ℕ) (found : List Found) (all : List Parts) (rest : List ℕ) → n ≡ length all + m → Are side at found all → Passed m at n found all rest
   passed m at n [] [] rest size are =

@@ -56,14 +56,14 @@ module _ (place : LogPlace) (rest : List ℕ) (entry : Entry) (begins : begun pl
 
   -- they came to the start of a buffer
   module _ (front : List ℕ) (k : ℕ) (fills : FillsFront (drop 3 rest) front k) (size : length front ≡ bytes_of entry) (left : Option (List ℕ)) (gone : left ≡ Some (drop k (drop 3 rest))) where
-    behind : left ≡ Some (drop (3 + k) rest)
-    behind = gone ∙ ap (λ (l : List ℕ). Some l) (drop-drop k 3 rest)
+    after : left ≡ Some (drop (3 + k) rest)
+    after = gone ∙ ap (λ (l : List ℕ). Some l) (drop-drop k 3 rest)
 
     pub cut_off : k < bytes_of entry → (entry_in place.side rest ≡ None) × (left ≡ Some (drop (reach place.side rest) rest))
     cut_off few =
         let all : length rest ≡ 3 + k = omega (arith, fills.ends (omega (arith, few, size)), length-drop 3 rest, long) in
         let short : length rest < reach place.side rest = omega (arith, all, few, reach_is) in
-        (cut_entry place.side rest short, behind ∙ ap (λ (l : List ℕ). Some l) (past (3 + k) rest (omega (arith, all)) ∙ sym (past (reach place.side rest) rest (omega (arith, short)))))
+        (cut_entry place.side rest short, after ∙ ap (λ (l : List ℕ). Some l) (past (3 + k) rest (omega (arith, all)) ∙ sym (past (reach place.side rest) rest (omega (arith, short)))))
 
     pub there : (buf : List ℕ) → k ≤ bytes_of entry → bytes_of entry ≤ k → (entry_in place.side rest ≡ Some entry) × (take (bytes_of entry) (front ++ buf) ≡ take (bytes_of entry) (drop 3 rest)) × (left ≡ Some (drop (3 + bytes_of entry) rest))
     there buf within all =
@@ -71,5 +71,5 @@ module _ (place : LogPlace) (rest : List ℕ) (entry : Entry) (begins : begun pl
         let enough : reach place.side rest ≤ length rest = omega (arith, reach_is, fills.within, length-drop 3 rest, long, exact) in (
           whole_entry place.side rest enough ∙ begins,
           take-append-le (bytes_of entry) front buf (omega (arith, size)) ∙ (λ i. take (sym exact i) front) ∙ fills.same ∙ (λ i. take (exact i) (drop 3 rest)),
-          behind ∙ ap (λ (n : ℕ). Some (drop (3 + n) rest)) exact,
+          after ∙ ap (λ (n : ℕ). Some (drop (3 + n) rest)) exact,
         )

@@ -18,7 +18,7 @@ pub fn written_is_read()
     ensures bytes { (side : Side) (entry : Entry) (letter : ℕ) (bytes more : List ℕ)
         → length bytes ≤ 65535 → entry_with side letter (length bytes) ≡ Some entry
         → take (bytes_of entry) (drop 3 (entry_text letter bytes ++ more)) ≡ bytes }
-    ensures behind { (side : Side) (entry : Entry) (letter : ℕ) (bytes more : List ℕ)
+    ensures after { (side : Side) (entry : Entry) (letter : ℕ) (bytes more : List ℕ)
         → length bytes ≤ 65535 → entry_with side letter (length bytes) ≡ Some entry
         → drop (3 + bytes_of entry) (entry_text letter bytes ++ more) ≡ more }
 {}
@@ -33,7 +33,7 @@ pub fn exact_entries()
 {}
 
 /// A whole entry stays what it is where the text after it is cut.
-pub fn cut_behind()
+pub fn cut_after()
     ensures { (side : Side) (entry : Entry) (text : List ℕ) (k : ℕ) → entry_in side text
         ≡ Some entry → 3 + bytes_of entry ≤ k → entry_in side (take k text) ≡ Some entry }
 {}

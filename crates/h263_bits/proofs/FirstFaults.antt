@@ -458,16 +458,16 @@ pub fault_here : {A : Type 0} (n : ℕ) (allowed : Allowed ℕ) (next : ℕ → 
 unfolding reading
 fault_here n allowed next v more kind lt some = λ at rest. rw (append_assoc (spelled n v) more rest, number_again n v at (more ++ rest) lt, some, add-zero at) refl
 
-pub fault_behind_field : {A : Type 0} (n : ℕ) (allowed : Allowed ℕ) (next : ℕ → Syntax A) (v : ℕ) (text : List Bool) (kind : FaultKind) (place : ℕ) → v < 2 ^ n → allowed v ≡ None → HasFault (next v) text kind place
+pub fault_after_field : {A : Type 0} (n : ℕ) (allowed : Allowed ℕ) (next : ℕ → Syntax A) (v : ℕ) (text : List Bool) (kind : FaultKind) (place : ℕ) → v < 2 ^ n → allowed v ≡ None → HasFault (next v) text kind place
     → HasFault (field n allowed next) (spelled n v ++ text) kind (n + place)
 unfolding reading
-fault_behind_field n allowed next v text kind place lt none h =
+fault_after_field n allowed next v text kind place lt none h =
     λ at rest. rw (append_assoc (spelled n v) text rest, field_again n allowed v at (text ++ rest) lt none, h (at + length (spelled n v)) rest, length-spelled n v, add_assoc at n place) refl
 
-pub fault_behind_word : {S A : Type 0} (words : Words S) (next : S → Syntax A) (word : List Bool) (x : S) (text : List Bool) (kind : FaultKind) (place : ℕ) → IsIn (word, x) words.list → HasFault (next x) text kind place
+pub fault_after_word : {S A : Type 0} (words : Words S) (next : S → Syntax A) (word : List Bool) (x : S) (text : List Bool) (kind : FaultKind) (place : ℕ) → IsIn (word, x) words.list → HasFault (next x) text kind place
     → HasFault (code words next) (word ++ text) kind (length word + place)
 unfolding reading
-fault_behind_word words next word x text kind place listed h =
+fault_after_word words next word x text kind place listed h =
     λ at rest. rw (append_assoc word text rest, word_again words.list word x at (text ++ rest) words.apart listed, h (at + length word) rest, add_assoc at (length word) place) refl
 
 pub fault_in_part : {S A : Type 0} (s : Syntax S) (allowed : Allowed S) (next : S → Syntax A) (text : List Bool) (kind : FaultKind) (place : ℕ) → HasFault s text kind place → HasFault (part s allowed next) text kind place
@@ -479,10 +479,10 @@ pub fault_of_part : {S A : Type 0} (s : Syntax S) (allowed : Allowed S) (next : 
 unfolding reading
 fault_of_part s allowed next x text more kind each spelt some = λ at rest. rw (append_assoc text more rest, complete s x text (more ++ rest) at each spelt, some, add-zero at) refl
 
-pub fault_behind_part : {S A : Type 0} (s : Syntax S) (allowed : Allowed S) (next : S → Syntax A) (x : S) (front text : List Bool) (kind : FaultKind) (place : ℕ) → IsProductive s → Spells s x front → allowed x ≡ None → HasFault (next x) text kind place
+pub fault_after_part : {S A : Type 0} (s : Syntax S) (allowed : Allowed S) (next : S → Syntax A) (x : S) (front text : List Bool) (kind : FaultKind) (place : ℕ) → IsProductive s → Spells s x front → allowed x ≡ None → HasFault (next x) text kind place
     → HasFault (part s allowed next) (front ++ text) kind (length front + place)
 unfolding reading
-fault_behind_part s allowed next x front text kind place each spelt none h =
+fault_after_part s allowed next x front text kind place each spelt none h =
     λ at rest. rw (append_assoc front text rest, complete s x front (text ++ rest) at each spelt, none, h (at + length front) rest, add_assoc at (length front) place) refl
 
 -- each fault inside an element stands at the element's first bit
@@ -495,19 +495,19 @@ pub fault_of_element : {S A : Type 0} (s : Syntax S) (allowed : Allowed S) (next
 unfolding reading
 fault_of_element s allowed next x text more kind each spelt some = λ at rest. rw (append_assoc text more rest, complete s x text (more ++ rest) at each spelt, some, add-zero at) refl
 
-pub fault_behind_element : {S A : Type 0} (s : Syntax S) (allowed : Allowed S) (next : S → Syntax A) (x : S) (front text : List Bool) (kind : FaultKind) (place : ℕ) → IsProductive s → Spells s x front → allowed x ≡ None → HasFault (next x) text kind place
+pub fault_after_element : {S A : Type 0} (s : Syntax S) (allowed : Allowed S) (next : S → Syntax A) (x : S) (front text : List Bool) (kind : FaultKind) (place : ℕ) → IsProductive s → Spells s x front → allowed x ≡ None → HasFault (next x) text kind place
     → HasFault (element s allowed next) (front ++ text) kind (length front + place)
 unfolding reading
-fault_behind_element s allowed next x front text kind place each spelt none h =
+fault_after_element s allowed next x front text kind place each spelt none h =
     λ at rest. rw (append_assoc front text rest, complete s x front (text ++ rest) at each spelt, none, h (at + length front) rest, add_assoc at (length front) place) refl
 
 pub fault_in_turn : {S A : Type 0} (s : S) (body : S → Syntax (Turn S A)) (text : List Bool) (kind : FaultKind) (place : ℕ) → HasFault (body s) text kind place → HasFault (repeat s body) text kind place
 unfolding reading
 fault_in_turn s body text kind place h = λ at rest. rw (h at rest) refl
 
-pub fault_behind_turn : {S A : Type 0} (s t : S) (body : S → Syntax (Turn S A)) (front text : List Bool) (kind : FaultKind) (place : ℕ) → IsProductive (body s) → ((t u : S) → Spells (body t) (again u) [] → ⊥) → Spells (body s) (again t) front → HasFault (repeat t body) text kind place
+pub fault_after_turn : {S A : Type 0} (s t : S) (body : S → Syntax (Turn S A)) (front text : List Bool) (kind : FaultKind) (place : ℕ) → IsProductive (body s) → ((t u : S) → Spells (body t) (again u) [] → ⊥) → Spells (body s) (again t) front → HasFault (repeat t body) text kind place
     → HasFault (repeat s body) (front ++ text) kind (length front + place)
-fault_behind_turn s t body front text kind place each some spelt h =
+fault_after_turn s t body front text kind place each some spelt h =
     λ at rest. ap (λ (b : List Bool). reading (repeat s body) (record { at = at; bits = b })) (append_assoc front text rest)
     ∙ repeat-again s t body (record { at = at; bits = front ++ (text ++ rest) }) (record { at = at + length front; bits = text ++ rest }) some (complete (body s) (again t) front (text ++ rest) at each spelt)
     ∙ h (at + length front) rest
@@ -531,9 +531,9 @@ pub fault_of_whole_part : {S A : Type 0} (s : Syntax S) (allowed : Allowed S) (n
 fault_of_whole_part s allowed next x text kind each spelt some = fault_of_text (part s allowed next) (text ++ []) text kind 0 (append-nil text) (fault_of_part s allowed next x text [] kind each spelt some)
 
 -- what ends inside a word's element is cut at its first bit
-pub ends_behind_word : {S A : Type 0} (words : Words S) (next : S → Syntax A) (word : List Bool) (x : S) (text : List Bool) (kind : FaultKind) (place : ℕ) → IsIn (word, x) words.list → EndsWithFault (next x) text kind place → EndsWithFault (code words next) (word ++ text) kind (length word + place)
+pub ends_after_word : {S A : Type 0} (words : Words S) (next : S → Syntax A) (word : List Bool) (x : S) (text : List Bool) (kind : FaultKind) (place : ℕ) → IsIn (word, x) words.list → EndsWithFault (next x) text kind place → EndsWithFault (code words next) (word ++ text) kind (length word + place)
 unfolding reading
-ends_behind_word words next word x text kind place listed h = λ at. rw (word_again words.list word x at text words.apart listed, h (at + length word), add_assoc at (length word) place) refl
+ends_after_word words next word x text kind place listed h = λ at. rw (word_again words.list word x at text words.apart listed, h (at + length word), add_assoc at (length word) place) refl
 
 pub ends_in_element : {S A : Type 0} (s : Syntax S) (allowed : Allowed S) (next : S → Syntax A) (text : List Bool) (kind : FaultKind) (place : ℕ) → EndsWithFault s text kind place → EndsWithFault (element s allowed next) text kind 0
 unfolding reading

@@ -11,7 +11,7 @@ use Rattle.h263_bits.specs.Bits.{spelled, fields}
 use Rattle.h263_bits.specs.Reading.{Bits, number_at, skip, ◌>>=◌}
 use Rattle.h263_bits.specs.Syntax.{reading, any}
 use Rattle.h263_bits.specs.Elements.{HasFault}
-use Rattle.h263_bits.proofs.SyntaxLaws.{stands, err_is, err_not_ok, sound, complete, number_again, first_fault_is, fault_in_part, fault_behind_field, fault_here}
+use Rattle.h263_bits.proofs.SyntaxLaws.{stands, err_is, err_not_ok, sound, complete, number_again, first_fault_is, fault_in_part, fault_after_field, fault_here}
 use Rattle.picture_header.specs.declared.header.Header.{Header}
 use Rattle.picture_header.specs.Text.{header, IsHeaderText}
 use Rattle.picture_header.specs.Laws.{HeaderLaws}
@@ -32,15 +32,15 @@ pub p_row : (rr : ℕ) → rr < 32 → HasFault leading (fields ((5, rr) ∷ (1,
 unfolding leading opening
 p_row rr lt =
     fault_in_part (opening false) any _ (fields ((5, rr) ∷ (1, 0) ∷ [])) faults.FollowOn 5
-    (fault_behind_field 5 any _ rr (fields ((1, 0) ∷ [])) faults.FollowOn 0 lt refl (fault_here 1 (may_follow false) _ 0 [] faults.FollowOn (omega arith) refl))
+    (fault_after_field 5 any _ rr (fields ((1, 0) ∷ [])) faults.FollowOn 0 lt refl (fault_here 1 (may_follow false) _ 0 [] faults.FollowOn (omega arith) refl))
 
-abbrev behind_extra : Opening → Bits → Result (Option Header) Fault → Result Payload Fault
-behind_extra o b extra = extra >>= λ x. begun_at x (skip (8 * o.plen) b)
+abbrev after_extra : Opening → Bits → Result (Option Header) Fault → Result Payload Fault
+after_extra o b extra = extra >>= λ x. begun_at x (skip (8 * o.plen) b)
 
-behind_leading : (format : Format) (b : Bits) (o : Opening) (at : ℕ) (left : List Bool) → Leads b o at left
-    → payload_at format b ≡ behind_extra o (from at left) (extra_at format o.plen o.pebit (from at left))
+after_leading : (format : Format) (b : Bits) (o : Opening) (at : ℕ) (left : List Bool) → Leads b o at left
+    → payload_at format b ≡ after_extra o (from at left) (extra_at format o.plen o.pebit (from at left))
 unfolding payload_at
-behind_leading format b o at left l =
+after_leading format b o at left l =
     let read : reading leading b ≡ Ok (o, from at left) =
     ap (λ (t : List Bool). reading leading (from b.at t)) l.parts ∙ complete leading o l.front left b.at leading_productive l.text ∙ ap (λ (n : ℕ). Ok (o, from n left)) (sym l.place) in
     rw read refl
@@ -54,7 +54,7 @@ unfolding extra_at
 extra_is format plen pebit b some le = rw (ne_eqb plen 0 (λ e. omega (arith, e, some)), le-ltb (length b.bits) (8 * plen) le) refl
 
 cut_row : (format : Format) (b : Bits) (o : Opening) (at : ℕ) (left : List Bool) → Leads b o at left → 0 < o.plen → length left < 8 * o.plen → payload_at format b ≡ Err (stands faults.Ended at)
-cut_row format b o at left l some lt = behind_leading format b o at left l ∙ ap (behind_extra o (from at left)) (extra_cut format o.plen o.pebit (from at left) some lt)
+cut_row format b o at left l some lt = after_leading format b o at left l ∙ ap (after_extra o (from at left)) (extra_cut format o.plen o.pebit (from at left) some lt)
 
 -- the extra header's bits, less the last ones
 less : (o : Opening) (extra left : List Bool) → length extra + o.pebit ≡ 8 * o.plen → take (8 * o.plen - o.pebit) (extra ++ left) ≡ extra
@@ -65,7 +65,7 @@ header_row : (format : Format) (b : Bits) (o : Opening) (start : ℕ) (extra lef
 header_row format b o start extra left fault l some size there e =
     let c = from start (extra ++ left) in
     let read : reading (header format) (first_bits (8 * o.plen - o.pebit) c) ≡ Err fault = ap (λ (t : List Bool). reading (header format) (from start t)) (less o extra left size) ∙ e in
-    behind_leading format b o start (extra ++ left) l ∙ ap (behind_extra o c) (extra_is format o.plen o.pebit c some (omega (arith, length-append extra left, size, there)) ∙ ap filled read)
+    after_leading format b o start (extra ++ left) l ∙ ap (after_extra o c) (extra_is format o.plen o.pebit c some (omega (arith, length-append extra left, size, there)) ∙ ap filled read)
 
 over : (h : Header) (c : Bits) → 0 < length c.bits → filled (Ok (h, c)) ≡ Err (stands faults.ExtraHeader c.at)
 over h c some = rw (ne_eqb (length c.bits) 0 (λ e. omega (arith, e, some))) refl
@@ -80,8 +80,8 @@ left_over_row laws format b o start h text more left l some t extra size there =
     let len : length whole ≡ length (text ++ more) + length left = ap length regroup ∙ length-append (text ++ more) left in
     let read : reading (header format) (first_bits (8 * o.plen - o.pebit) c) ≡ Ok (h, from (start + length text) more) =
     ap (λ (x : List Bool). reading (header format) (from start x)) (ap (take (8 * o.plen - o.pebit)) regroup ∙ less o (text ++ more) left both) ∙ complete (header format) h text more start (laws.productive format) t in
-    behind_leading format b o start whole l
-    ∙ ap (behind_extra o c) (extra_is format o.plen o.pebit c some (omega (arith, len, both, there)) ∙ ap filled read ∙ over h (from (start + length text) more) extra)
+    after_leading format b o start whole l
+    ∙ ap (after_extra o c) (extra_is format o.plen o.pebit c some (omega (arith, len, both, there)) ∙ ap filled read ∙ over h (from (start + length text) more) extra)
 
 -- the data's first two bits
 
@@ -124,7 +124,7 @@ in_data laws format b extra at coded kind r fault =
     let place : r.start + 8 * o.plen ≡ at = omega (arith, again.len, r.place) in
     let left : skip (8 * o.plen) c ≡ from at coded =
     ap (λ (k : ℕ). from k (drop (8 * o.plen) (r.middle ++ coded))) place ∙ ap (λ (t : List Bool). from at t) (drop_at r.middle coded (8 * o.plen) again.len) in
-    behind_leading format b o r.start (r.middle ++ coded) r.leads ∙ ap (behind_extra o c) again.read ∙ ap (begun_at extra) left ∙ fault
+    after_leading format b o r.start (r.middle ++ coded) r.leads ∙ ap (after_extra o c) again.read ∙ ap (begun_at extra) left ∙ fault
 
 from_row : HeaderLaws → (format : Format) (b : Bits) (kind : FaultKind) (at : ℕ) → IsPayloadFault format b kind at → payload_at format b ≡ Err (stands kind at)
 from_row laws format b kind at (in_leading k p f) = leading_row format b (stands k p) ((first_fault_is leading b (stands k p) leading_productive).1 f)

@@ -17,7 +17,7 @@ IsExtraHeader None = Unit {0}
 IsExtraHeader (Some h) = IsHeader h
 
 -- the data has two bits at least, and stands after the payload header's 16
-pub record IsBehind (p : Payload) (rtp : Rtp) : Type 0 where
+pub record IsAfterHeader (p : Payload) (rtp : Rtp) : Type 0 where
   pub extra : IsExtraHeader p.extra
   pub from : 8 * rtp.from + 16 ≤ p.from
   pub two : p.from + 2 ≤ 8 * rtp.to

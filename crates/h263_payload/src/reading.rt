@@ -5,7 +5,7 @@ ghost use Rattle.h263_bits.specs.Syntax.{any, only, field_at, reading};
 ghost use Rattle.rtp_header.specs.Faults.{rtp_in};
 ghost use Rattle.h263_payload.specs.Text.{may_follow, opening, leading, IsPayload};
 ghost use Rattle.h263_payload.specs.Faults.{extra_at, begun_at, payload_at, payload_bits_of, payload_fault};
-ghost use Rattle.h263_payload.specs.Ranges.{IsOpening, IsExtraHeader, IsBehind};
+ghost use Rattle.h263_payload.specs.Ranges.{IsOpening, IsExtraHeader, IsAfterHeader};
 ghost use Rattle.h263_payload.specs.declared.payload.Opening.{Opening};
 ghost use Rattle.h263_payload.specs.declared.payload.Payload.{Payload};
 
@@ -132,7 +132,7 @@ pub fn read_payload(bytes: &[u8], rtp: &Rtp, format: Format) -> Result<Payload, 
     // Otherwise it is the first fault, at its place.
     ensures fault { first_fault result ≡ payload_fault format (payload_bits_of bytes.now rtp.now) }
     ensures exact { result ≡ payload_at format (payload_bits_of bytes.now rtp.now) }
-    ensures range { IfOk result (λ p. IsBehind p rtp.now) }
+    ensures range { IfOk result (λ p. IsAfterHeader p rtp.now) }
 {
     rtp_header_laws::payload_within();
     picture_header_laws::in_a_syntax();

@@ -1,10 +1,10 @@
 -- The number of a refusal tells it.
 use Rattle.std.proofs.Common.{arith, ◌≡◌, refl}
-use Rattle.h263rps_c.specs.declared.refusals.Refusal.{Refusal}
-use Rattle.h263rps_c.specs.declared.refusals.Refusal.TheVariants.{NotStarted, Started, OtherEnd, BadParams, NoMemory, Ended, WrongLength, BadMessages, NoPacket, ShortRoom, NoStart}
+use Rattle.h263rps_c.specs.declared.refusals.EndRefusal.{EndRefusal}
+use Rattle.h263rps_c.specs.declared.refusals.EndRefusal.TheVariants.{NotStarted, Started, OtherEnd, BadParams, NoMemory, Ended, WrongLength, BadMessages, NoPacket, ShortRoom, NoStart}
 use Rattle.h263rps_c.specs.Refusals.{refusal_number}
 
-pub short_room : (r : Refusal) → refusal_number r ≡ 10 → r ≡ ShortRoom
+pub short_room : (r : EndRefusal) → refusal_number r ≡ 10 → r ≡ ShortRoom
 short_room NotStarted e = absurd (omega (arith, e))
 short_room Started e = absurd (omega (arith, e))
 short_room OtherEnd e = absurd (omega (arith, e))

@@ -6,11 +6,11 @@ use Rattle.receiver_end.specs.declared.kept.Kept.{Kept}
 use Rattle.back_messages.specs.declared.message.Message.{Message}
 use Rattle.h263rps_c.specs.declared.answers.Said.{Said}
 use Rattle.rate_control.specs.declared.send_pace.SendPace.{SendPace}
-use Rattle.h263rps_c.specs.declared.refusals.Refusal.{Refusal}
-use Rattle.h263rps_c.specs.declared.refusals.Refusal.TheVariants.{NotStarted, Started, OtherEnd, BadParams, NoMemory, Ended, WrongLength, BadMessages, NoPacket, ShortRoom, NoStart}
+use Rattle.h263rps_c.specs.declared.refusals.EndRefusal.{EndRefusal}
+use Rattle.h263rps_c.specs.declared.refusals.EndRefusal.TheVariants.{NotStarted, Started, OtherEnd, BadParams, NoMemory, Ended, WrongLength, BadMessages, NoPacket, ShortRoom, NoStart}
 use Rattle.h263rps_c.specs.Messages.{messages_of}
 
-abbrev pub refusal_number : Refusal → ℕ
+abbrev pub refusal_number : EndRefusal → ℕ
 refusal_number NotStarted = 1
 refusal_number Started = 2
 refusal_number OtherEnd = 3
@@ -24,34 +24,34 @@ refusal_number ShortRoom = 10
 refusal_number NoStart = 13
 
 -- what a call answers: 0, or the number of its refusal
-abbrev pub status_of : Option Refusal → ℕ
+abbrev pub status_of : Option EndRefusal → ℕ
 status_of None = 0
 status_of (Some refusal) = refusal_number refusal
 
-abbrev pub refusal_in : {T : Type 0} → Result T Refusal → Option Refusal
+abbrev pub refusal_in : {T : Type 0} → Result T EndRefusal → Option EndRefusal
 refusal_in (Ok value) = None
 refusal_in (Err refusal) = Some refusal
 
 -- ---- where an end refuses
 
 -- a play
-abbrev pub next_refusal : Kept → Option Refusal
+abbrev pub next_refusal : Kept → Option EndRefusal
 next_refusal r = if nat_le 1048576 r.played then Some Ended else None
 
 -- a play into room for `count` bytes
-abbrev pub play_refusal : ℕ → Kept → Option Refusal
+abbrev pub play_refusal : ℕ → Kept → Option EndRefusal
 play_refusal count r =
     if nat_le 1048576 r.played then Some Ended
     else if count == size_of_picture r.params.format then None
     else Some WrongLength
 
-abbrev pub unless_none : Option (List Message) → Option Refusal
+abbrev pub unless_none : Option (List Message) → Option EndRefusal
 unless_none None = Some BadMessages
 unless_none (Some messages) = None
 
 -- a picture of these bytes, with these messages
-abbrev pub code_refusal : List ℕ → List Said → SenderState SendPace → Option Refusal
-code_refusal bytes back s =
+abbrev pub capture_refusal : List ℕ → List Said → SenderState SendPace → Option EndRefusal
+capture_refusal bytes back s =
     if nat_le 1048576 s.sent then Some Ended
     else if length bytes == size_of_picture s.params.format then
     (if nat_lt 4 (length back) then Some BadMessages
@@ -59,15 +59,15 @@ code_refusal bytes back s =
     else Some WrongLength
 
 -- a call that begins anew at the picture of this number
-abbrev pub reset_refusal : ℕ → Kept → Option Refusal
+abbrev pub reset_refusal : ℕ → Kept → Option EndRefusal
 reset_refusal number r = if nat_lt 1048576 number then Some BadParams else None
 
 -- a target in bytes per picture
-abbrev pub target_refusal : ℕ → SenderState SendPace → Option Refusal
+abbrev pub target_refusal : ℕ → SenderState SendPace → Option EndRefusal
 target_refusal target s = if nat_lt 999999 target then Some BadParams else None
 
 -- packet i into room for `count` bytes
-abbrev pub packet_refusal : ℕ → ℕ → SenderState SendPace → Option Refusal
+abbrev pub packet_refusal : ℕ → ℕ → SenderState SendPace → Option EndRefusal
 packet_refusal i count s =
     if nat_le (length s.packets) i then Some NoPacket
     else if nat_lt count (length (slice_index_or s.packets i [])) then Some ShortRoom

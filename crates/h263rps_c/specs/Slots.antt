@@ -6,23 +6,23 @@ use Rattle.receiver_end.specs.declared.kept.Kept.{Kept}
 use Rattle.h263rps_c.specs.declared.ends.End.{End}
 use Rattle.h263rps_c.specs.declared.ends.End.TheVariants.{Receiving, Sending}
 use Rattle.rate_control.specs.declared.send_pace.SendPace.{SendPace}
-use Rattle.h263rps_c.specs.declared.refusals.Refusal.{Refusal}
-use Rattle.h263rps_c.specs.declared.refusals.Refusal.TheVariants.{NotStarted, Started, OtherEnd, BadParams}
+use Rattle.h263rps_c.specs.declared.refusals.EndRefusal.{EndRefusal}
+use Rattle.h263rps_c.specs.declared.refusals.EndRefusal.TheVariants.{NotStarted, Started, OtherEnd, BadParams}
 
 -- a call for a receiver, which a receiver refuses so
-abbrev pub for_receiver : (Kept → Option Refusal) → Option End → Option Refusal
+abbrev pub for_receiver : (Kept → Option EndRefusal) → Option End → Option EndRefusal
 for_receiver refuses None = Some NotStarted
 for_receiver refuses (Some (Sending s)) = Some OtherEnd
 for_receiver refuses (Some (Receiving r)) = refuses r
 
 -- a call for a sender
-abbrev pub for_sender : (SenderState SendPace → Option Refusal) → Option End → Option Refusal
+abbrev pub for_sender : (SenderState SendPace → Option EndRefusal) → Option End → Option EndRefusal
 for_sender refuses None = Some NotStarted
 for_sender refuses (Some (Sending s)) = refuses s
 for_sender refuses (Some (Receiving r)) = Some OtherEnd
 
 -- a start with these parameters, if there is memory enough
-abbrev pub start_refusal : Option End → Result Params ℕ → Option Refusal
+abbrev pub start_refusal : Option End → Result Params ℕ → Option EndRefusal
 start_refusal (Some end) p = Some Started
 start_refusal None (Err number) = Some BadParams
 start_refusal None (Ok p) = None
@@ -34,10 +34,10 @@ fault_after None (Err number) before = number
 fault_after None (Ok p) before = before
 
 -- an end of the right kind refuses nothing
-abbrev pub never : {S : Type 0} → S → Option Refusal
+abbrev pub never : {S : Type 0} → S → Option EndRefusal
 never s = None
 
 -- a call that an end of the right kind never refuses: a receiver, or else a sender
-abbrev pub for_kind : Bool → Option End → Option Refusal
+abbrev pub for_kind : Bool → Option End → Option EndRefusal
 for_kind true inside = for_receiver never inside
 for_kind false inside = for_sender never inside

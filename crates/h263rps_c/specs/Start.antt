@@ -7,14 +7,14 @@ use Rattle.picture_header.specs.declared.header.Header.{Header}
 use Rattle.picture_header.specs.Ranges.{messages_in}
 use Rattle.h263rps_c.specs.declared.answers.Said.{Said}
 use Rattle.h263rps_c.specs.declared.start.Start.{Start}
-use Rattle.h263rps_c.specs.declared.refusals.Refusal.{Refusal}
-use Rattle.h263rps_c.specs.declared.refusals.Refusal.TheVariants.{NoStart}
+use Rattle.h263rps_c.specs.declared.refusals.EndRefusal.{EndRefusal}
+use Rattle.h263rps_c.specs.declared.refusals.EndRefusal.TheVariants.{NoStart}
 use Rattle.h263rps_c.specs.Asked.{clock_in, format_in}
 use Rattle.h263rps_c.specs.Messages.{text_in}
 use Rattle.h263rps_c.specs.Numbers.{no_message}
 
 -- bytes without a start are refused
-abbrev pub start_refusal : Option Header → Option Refusal
+abbrev pub start_refusal : Option Header → Option EndRefusal
 start_refusal None = Some NoStart
 start_refusal (Some h) = None
 

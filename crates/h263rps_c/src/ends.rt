@@ -23,13 +23,13 @@ ghost use Rattle.h263rps_c.specs.Steering.{Steering, next_after, run_after};
 ghost use Rattle.h263rps_c.specs.Steering as steering;
 ghost use Rattle.h263rps_c.specs.Messages.{messages_of};
 ghost use Rattle.h263rps_c.specs.Pace.{pace_of, target_in};
-ghost use Rattle.h263rps_c.specs.Refusals.{refusal_in, next_refusal, play_refusal, code_refusal, packet_refusal, target_refusal};
+ghost use Rattle.h263rps_c.specs.Refusals.{refusal_in, next_refusal, play_refusal, capture_refusal, packet_refusal, target_refusal};
 ghost use Rattle.h263rps_c.specs.Slots.{for_kind, for_receiver, for_sender, never};
-ghost use Rattle.h263rps_c.specs.declared.refusals.Refusal.TheVariants as refusals;
+ghost use Rattle.h263rps_c.specs.declared.refusals.EndRefusal.TheVariants as refusals;
 
 use crate::MOST_PICTURES;
 use crate::answers::Said;
-use crate::refusals::Refusal;
+use crate::refusals::EndRefusal;
 use crate::sending::Sending;
 use h263_planes::laws;
 use h263_types::Params;
@@ -61,7 +61,7 @@ fn copy(to: &mut [u8], from: &[u8])
 }
 
 // Plays, if the run hasn't ended.
-fn play_next(receiver: &mut Receiver) -> Result<Played, Refusal>
+fn play_next(receiver: &mut Receiver) -> Result<Played, EndRefusal>
     ensures refusal { refusal_in result ≡ next_refusal receiver.old }
     ensures same { IfErr result (λ why. receiver.new ≡ receiver.old) }
     ensures params { receiver.new.params ≡ receiver.old.params }
@@ -79,13 +79,13 @@ fn play_next(receiver: &mut Receiver) -> Result<Played, Refusal>
         → IsOk result → receivers.Stands receiver.new (PlayNext ∷ past) }
 {
     if receiver.played() >= MOST_PICTURES {
-        return Err(Refusal::Ended);
+        return Err(EndRefusal::Ended);
     }
     Ok(receiver.play())
 }
 
 // Plays into room for a picture.
-fn play_into(receiver: &mut Receiver, picture: &mut [u8]) -> Result<Played, Refusal>
+fn play_into(receiver: &mut Receiver, picture: &mut [u8]) -> Result<Played, EndRefusal>
     ensures refusal { refusal_in result ≡ play_refusal (length picture.old) receiver.old }
     ensures same { IfErr result (λ why. receiver.new ≡ receiver.old) }
     ensures unwritten { IfErr result (λ why. picture.new ≡ picture.old) }
@@ -107,10 +107,10 @@ fn play_into(receiver: &mut Receiver, picture: &mut [u8]) -> Result<Played, Refu
         ≡ bytes_of (receivers.run_of receiver.old.params (PlayNext ∷ past)).screen }
 {
     if receiver.played() >= MOST_PICTURES {
-        return Err(Refusal::Ended);
+        return Err(EndRefusal::Ended);
     }
     if picture.len() != receiver.shown().format().size() as usize {
-        return Err(Refusal::WrongLength);
+        return Err(EndRefusal::WrongLength);
     }
     let played = receiver.play();
     copy(picture, receiver.shown().bytes());
@@ -129,7 +129,7 @@ fn samples_of(receiver: &Receiver) -> &[u8]
 
 impl End {
     /// A receiver before its first packet.
-    pub fn receiver(alloc: Global, params: &Params) -> Result<Box<End>, Refusal>
+    pub fn receiver(alloc: Global, params: &Params) -> Result<Box<End>, EndRefusal>
         requires { IsParams params.now }
         ensures memory { IfErr result (λ why. why ≡ refusals.NoMemory) }
         ensures stands { IfOk result (λ end. HoldsReceiver params.now [] (Some end.value)) }
@@ -138,7 +138,7 @@ impl End {
     }
 
     /// A receiver that has heard nothing and played this many pictures, up to 1,048,576.
-    pub fn receiver_at(alloc: Global, params: &Params, number: u32) -> Result<Box<End>, Refusal>
+    pub fn receiver_at(alloc: Global, params: &Params, number: u32) -> Result<Box<End>, EndRefusal>
         requires params { IsParams params.now }
         requires few { number ≤ 1048576 }
         ensures memory { IfErr result (λ why. why ≡ refusals.NoMemory) }
@@ -146,17 +146,17 @@ impl End {
             HoldsReceiver params.now (plays_alone number) (Some end.value)) }
     {
         let Ok(receiver) = Receiver::start_at(alloc, params, number) else {
-            return Err(Refusal::NoMemory);
+            return Err(EndRefusal::NoMemory);
         };
         match Box::new(alloc, End::Receiving(receiver)) {
-            Err(_) => Err(Refusal::NoMemory),
+            Err(_) => Err(EndRefusal::NoMemory),
             Ok(end) => Ok(end),
         }
     }
 
     /// A sender before its first picture. It follows a target in bytes per picture, or none where
     /// that is 0.
-    pub fn sender(alloc: Global, params: &Params, target: u32) -> Result<Box<End>, Refusal>
+    pub fn sender(alloc: Global, params: &Params, target: u32) -> Result<Box<End>, EndRefusal>
         requires params { IsParams params.now }
         requires target { target ≤ 999999 }
         ensures memory { IfErr result (λ why. why ≡ refusals.NoMemory) }
@@ -164,10 +164,10 @@ impl End {
         ensures steers { IfOk result (λ end. HoldsSteered params.now target [] (Some end.value)) }
     {
         let Ok(sending) = Sending::start(alloc, params, target) else {
-            return Err(Refusal::NoMemory);
+            return Err(EndRefusal::NoMemory);
         };
         match Box::new(alloc, End::Sending(sending)) {
-            Err(_) => Err(Refusal::NoMemory),
+            Err(_) => Err(EndRefusal::NoMemory),
             Ok(end) => Ok(end),
         }
     }
@@ -185,7 +185,7 @@ impl End {
     }
 
     /// Gives a packet to a receiver.
-    pub fn hear(&mut self, bytes: &[u8]) -> Result<Arrival, Refusal>
+    pub fn arrival(&mut self, bytes: &[u8]) -> Result<Arrival, EndRefusal>
         ensures refusal { refusal_in result ≡ for_receiver never (Some self.old) }
         ensures same { IfErr result (λ why. self.new ≡ self.old) }
         ensures untaken { IfOk result (λ x. takes x.heard ≡ false → self.new ≡ self.old) }
@@ -200,13 +200,13 @@ impl End {
             (λ x. x.number ≡ receivers.number_after p past bytes.now) }
     {
         match self {
-            End::Sending(_) => Err(Refusal::OtherEnd),
+            End::Sending(_) => Err(EndRefusal::OtherEnd),
             End::Receiving(receiver) => Ok(receiver.arrival(bytes)),
         }
     }
 
     /// Plays a receiver's next picture, which stays where it is.
-    pub fn next(&mut self) -> Result<Played, Refusal>
+    pub fn next(&mut self) -> Result<Played, EndRefusal>
         ensures refusal { refusal_in result ≡ for_receiver next_refusal (Some self.old) }
         ensures same { IfErr result (λ why. self.new ≡ self.old) }
         ensures told { (p : Params) (past : List ReceiverEntry)
@@ -223,24 +223,24 @@ impl End {
             → HoldsReceiver p (PlayNext ∷ past) (Some self.new) }
     {
         match self {
-            End::Sending(_) => Err(Refusal::OtherEnd),
+            End::Sending(_) => Err(EndRefusal::OtherEnd),
             End::Receiving(receiver) => play_next(receiver),
         }
     }
 
     /// The samples that a receiver shows, lent.
-    pub fn shown(&self) -> Result<&[u8], Refusal>
+    pub fn shown(&self) -> Result<&[u8], EndRefusal>
         ensures refusal { refusal_in result ≡ for_receiver never (Some self.now) }
         ensures shown { IfOk result (λ samples. ShowsPicture (Some self.now) samples.now) }
     {
         match self {
-            End::Sending(_) => Err(Refusal::OtherEnd),
+            End::Sending(_) => Err(EndRefusal::OtherEnd),
             End::Receiving(receiver) => Ok(samples_of(receiver)),
         }
     }
 
     /// Plays a receiver's next picture into room for it.
-    pub fn play(&mut self, picture: &mut [u8]) -> Result<Played, Refusal>
+    pub fn play(&mut self, picture: &mut [u8]) -> Result<Played, EndRefusal>
         ensures refusal { refusal_in result
             ≡ for_receiver (play_refusal (length picture.old)) (Some self.old) }
         ensures same { IfErr result (λ why. self.new ≡ self.old) }
@@ -262,15 +262,15 @@ impl End {
             → picture.new ≡ bytes_of (receivers.run_of p (PlayNext ∷ past)).screen }
     {
         match self {
-            End::Sending(_) => Err(Refusal::OtherEnd),
+            End::Sending(_) => Err(EndRefusal::OtherEnd),
             End::Receiving(receiver) => play_into(receiver, picture),
         }
     }
 
-    /// Codes a sender's next picture, with these messages in its header.
-    pub fn code(&mut self, bytes: &[u8], back: &[Said]) -> Result<Coded, Refusal>
+    /// Captures a sender's next picture, with these messages in its header.
+    pub fn capture(&mut self, bytes: &[u8], back: &[Said]) -> Result<Coded, EndRefusal>
         ensures refusal { refusal_in result
-            ≡ for_sender (code_refusal bytes.now back.now) (Some self.old) }
+            ≡ for_sender (capture_refusal bytes.now back.now) (Some self.old) }
         ensures same { IfErr result (λ why. self.new ≡ self.old) }
         ensures count { IfOk result (λ coded. coded.packets ≡ length (packets_in (Some self.new))) }
         ensures stands { (p : Params) (target : ℕ) (entries : List (SenderEntry Frame))
@@ -296,14 +296,14 @@ impl End {
             (next_after p (target_in first) (frame_of p bytes.now messages) past) coded) }
     {
         match self {
-            End::Sending(sending) => sending.code(bytes, back),
-            End::Receiving(_) => Err(Refusal::OtherEnd),
+            End::Sending(sending) => sending.capture(bytes, back),
+            End::Receiving(_) => Err(EndRefusal::OtherEnd),
         }
     }
 
     /// Copies packet i of the picture that a sender coded last to the start of a room, and says how
     /// many bytes it has.
-    pub fn packet(&self, i: u32, room: &mut [u8]) -> Result<usize, Refusal>
+    pub fn packet(&self, i: u32, room: &mut [u8]) -> Result<usize, EndRefusal>
         ensures refusal { refusal_in result
             ≡ for_sender (packet_refusal i (length room.old)) (Some self.now) }
         ensures unwritten { IfErr result (λ why. room.new ≡ room.old) }
@@ -325,12 +325,12 @@ impl End {
     {
         match self {
             End::Sending(sending) => sending.packet(i, room),
-            End::Receiving(_) => Err(Refusal::OtherEnd),
+            End::Receiving(_) => Err(EndRefusal::OtherEnd),
         }
     }
 
     /// Gives a message to a sender.
-    pub fn feedback(&mut self, bytes: &[u8]) -> Result<Feedback, Refusal>
+    pub fn feedback(&mut self, bytes: &[u8]) -> Result<Feedback, EndRefusal>
         ensures refusal { refusal_in result ≡ for_sender never (Some self.old) }
         ensures same { IfErr result (λ why. self.new ≡ self.old) }
         ensures unnoted { IfOk result (λ answer.
@@ -355,12 +355,12 @@ impl End {
     {
         match self {
             End::Sending(sending) => Ok(sending.feedback(bytes)),
-            End::Receiving(_) => Err(Refusal::OtherEnd),
+            End::Receiving(_) => Err(EndRefusal::OtherEnd),
         }
     }
 
     /// A sender follows this target from the next picture on, or none where it is 0.
-    pub fn follow(&mut self, target: u32) -> Result<(), Refusal>
+    pub fn follow(&mut self, target: u32) -> Result<(), EndRefusal>
         ensures refusal { refusal_in result ≡ for_sender (target_refusal target) (Some self.old) }
         ensures same { IfErr result (λ why. self.new ≡ self.old) }
         ensures packets { packets_in (Some self.new) ≡ packets_in (Some self.old) }
@@ -370,12 +370,12 @@ impl End {
     {
         match self {
             End::Sending(sending) => sending.follow(target),
-            End::Receiving(_) => Err(Refusal::OtherEnd),
+            End::Receiving(_) => Err(EndRefusal::OtherEnd),
         }
     }
 
     /// A sender forgets the pictures that were coded.
-    pub fn forget(&mut self) -> Result<(), Refusal>
+    pub fn forget(&mut self) -> Result<(), EndRefusal>
         ensures refusal { refusal_in result ≡ for_sender never (Some self.old) }
         ensures same { IfErr result (λ why. self.new ≡ self.old) }
         ensures packets { packets_in (Some self.new) ≡ packets_in (Some self.old) }
@@ -388,12 +388,12 @@ impl End {
                 sending.forget();
                 Ok(())
             }
-            End::Receiving(_) => Err(Refusal::OtherEnd),
+            End::Receiving(_) => Err(EndRefusal::OtherEnd),
         }
     }
 
     /// How many pictures a sender has coded.
-    pub fn sent(&self) -> Result<u32, Refusal>
+    pub fn sent(&self) -> Result<u32, EndRefusal>
         ensures refusal { refusal_in result ≡ for_sender never (Some self.now) }
         ensures steers { (p : Params) (first : ℕ) (past : List Steering)
             → HoldsSteered p first past (Some self.now) → IfOk result (λ count.
@@ -401,12 +401,12 @@ impl End {
     {
         match self {
             End::Sending(sending) => Ok(sending.sent()),
-            End::Receiving(_) => Err(Refusal::OtherEnd),
+            End::Receiving(_) => Err(EndRefusal::OtherEnd),
         }
     }
 
     /// How many pictures a sender knows to be complete, of those to which its next one may refer.
-    pub fn known(&self) -> Result<u32, Refusal>
+    pub fn known(&self) -> Result<u32, EndRefusal>
         ensures refusal { refusal_in result ≡ for_sender never (Some self.now) }
         ensures steers { (p : Params) (first : ℕ) (past : List Steering)
             → HoldsSteered p first past (Some self.now) → IfOk result (λ count.
@@ -414,19 +414,19 @@ impl End {
     {
         match self {
             End::Sending(sending) => Ok(sending.known()),
-            End::Receiving(_) => Err(Refusal::OtherEnd),
+            End::Receiving(_) => Err(EndRefusal::OtherEnd),
         }
     }
 
     /// How many pictures a receiver has played.
-    pub fn played(&self) -> Result<u32, Refusal>
+    pub fn played(&self) -> Result<u32, EndRefusal>
         ensures refusal { refusal_in result ≡ for_receiver never (Some self.now) }
         ensures stands { (p : Params) (past : List ReceiverEntry)
             → HoldsReceiver p past (Some self.now) → IfOk result (λ count.
             count ≡ (receivers.run_of p past).played) }
     {
         match self {
-            End::Sending(_) => Err(Refusal::OtherEnd),
+            End::Sending(_) => Err(EndRefusal::OtherEnd),
             End::Receiving(receiver) => Ok(receiver.played()),
         }
     }

@@ -10,12 +10,12 @@ ghost use Rattle.h263rps_c.specs.Ends.{HoldsReceiver};
 ghost use Rattle.h263rps_c.specs.Refusals.{refusal_number, status_of};
 ghost use Rattle.h263rps_c.specs.Slots.{fault_after, for_receiver, never, start_refusal};
 ghost use Rattle.h263rps_c.specs.Stays.{Stays};
-ghost use Rattle.h263rps_c.specs.declared.refusals.Refusal.TheVariants as refusals;
+ghost use Rattle.h263rps_c.specs.declared.refusals.EndRefusal.TheVariants as refusals;
 
 use crate::asked::Asked;
 use crate::ends::End;
 use crate::handles::{Slot, put};
-use crate::refusals::{OK, Refusal};
+use crate::refusals::{EndRefusal, OK};
 use std::alloc::Global;
 
 /// Starts a receiver in an empty slot, whose next picture is the one of this number, up to
@@ -40,12 +40,12 @@ pub extern "C" fn h263rps_raw_receiver_start_at(
         (λ p. HoldsReceiver p (plays_alone number) slot.new.handle.inside) }
 {
     if slot.is_started() {
-        return Refusal::Started.number();
+        return EndRefusal::Started.number();
     }
     match asked.params_at(number) {
         Err(wrong) => {
             *fault = wrong;
-            Refusal::BadParams.number()
+            EndRefusal::BadParams.number()
         }
         Ok(params) => match End::receiver_at(alloc, &params, number) {
             Err(refusal) => refusal.number(),
@@ -68,7 +68,7 @@ pub extern "C" fn h263rps_raw_receiver_played(slot: &mut Slot, count: &mut u32) 
         → count.new ≡ (receivers.run_of p past).played }
 {
     if !slot.is_started() {
-        return Refusal::NotStarted.number();
+        return EndRefusal::NotStarted.number();
     }
     match slot.handle.end_mut().played() {
         Err(refusal) => refusal.number(),

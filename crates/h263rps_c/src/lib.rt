@@ -2,7 +2,7 @@
 //! functions, and docs/LIBRARY.md says how they are used.
 //!
 //! A slot is what C keeps of an end ([`Slot`]). Each function answers 0, or the number of a
-//! [`Refusal`] that changed nothing. Clauses see in a slot the end inside it, which stands for a
+//! [`EndRefusal`] that changed nothing. Clauses see in a slot the end inside it, which stands for a
 //! list of entries as that end by itself does.
 //!
 //! No crate can stand on a static library, so its tests are here.
@@ -32,7 +32,7 @@ pub use answers::{Answer, Made, Reply, Said};
 pub use asked::Asked;
 pub use counting::Statistics;
 pub use handles::Slot;
-pub use refusals::Refusal;
+pub use refusals::EndRefusal;
 pub use start::Start;
 
 /// The most pictures of a run.

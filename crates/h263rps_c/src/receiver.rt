@@ -13,13 +13,13 @@ ghost use Rattle.h263rps_c.specs.Numbers.{NamesReference};
 ghost use Rattle.h263rps_c.specs.Refusals.{next_refusal, play_refusal, refusal_in, status_of, refusal_number};
 ghost use Rattle.h263rps_c.specs.Slots.{fault_after, for_receiver, never, start_refusal};
 ghost use Rattle.h263rps_c.specs.Stays.{Stays};
-ghost use Rattle.h263rps_c.specs.declared.refusals.Refusal.TheVariants as refusals;
+ghost use Rattle.h263rps_c.specs.declared.refusals.EndRefusal.TheVariants as refusals;
 
 use crate::answers::Answer;
 use crate::asked::Asked;
 use crate::ends::End;
 use crate::handles::{Slot, put, taken};
-use crate::refusals::{OK, Refusal};
+use crate::refusals::{EndRefusal, OK};
 use std::alloc::Global;
 
 /// Samples that are lent: Y, then Cb, then Cr.
@@ -50,12 +50,12 @@ pub extern "C" fn h263rps_raw_receiver_start(
         (λ p. HoldsReceiver p [] slot.new.handle.inside) }
 {
     if slot.is_started() {
-        return Refusal::Started.number();
+        return EndRefusal::Started.number();
     }
     match asked.params() {
         Err(number) => {
             *fault = number;
-            Refusal::BadParams.number()
+            EndRefusal::BadParams.number()
         }
         Ok(params) => match End::receiver(alloc, &params) {
             Err(refusal) => refusal.number(),
@@ -91,9 +91,9 @@ pub extern "C" fn h263rps_raw_receiver_packet(
         (receivers.number_after p past bytes.now) }
 {
     if !slot.is_started() {
-        return Refusal::NotStarted.number();
+        return EndRefusal::NotStarted.number();
     }
-    match slot.handle.end_mut().hear(bytes) {
+    match slot.handle.end_mut().arrival(bytes) {
         Err(refusal) => refusal.number(),
         Ok(arrival) => {
             *answer = Answer::arrived(&arrival);
@@ -135,7 +135,7 @@ pub extern "C" fn h263rps_raw_receiver_play(
         → picture.new ≡ bytes_of (receivers.run_of p (PlayNext ∷ past)).screen }
 {
     if !slot.is_started() {
-        return Refusal::NotStarted.number();
+        return EndRefusal::NotStarted.number();
     }
     match slot.handle.end_mut().play(picture) {
         Err(refusal) => refusal.number(),
@@ -170,7 +170,7 @@ pub extern "C" fn h263rps_raw_receiver_next(slot: &mut Slot, answer: &mut Answer
         → NamesReference answer.new (receivers.reference_after p past) }
 {
     if !slot.is_started() {
-        return Refusal::NotStarted.number();
+        return EndRefusal::NotStarted.number();
     }
     match slot.handle.end_mut().next() {
         Err(refusal) => refusal.number(),
@@ -183,21 +183,21 @@ pub extern "C" fn h263rps_raw_receiver_next(slot: &mut Slot, answer: &mut Answer
 }
 
 // The samples that a receiver shows, lent. The slot keeps its end.
-fn samples_in(slot: &mut Slot) -> Result<&[u8], Refusal>
+fn samples_in(slot: &mut Slot) -> Result<&[u8], EndRefusal>
     ensures refusal { refusal_in result ≡ for_receiver never slot.old.handle.inside }
     ensures shown { IfOk result
         (λ samples. ShowsPicture slot.old.handle.inside samples.now) }
     ensures* same { sem 𝓛 (KeepsEnd slot.entry) }
 {
     if !slot.is_started() {
-        return Err(Refusal::NotStarted);
+        return Err(EndRefusal::NotStarted);
     }
     let end: &End = slot.handle.end_mut();
     end.shown()
 }
 
 // Writes down what is lent, if anything is.
-fn note<'a>(samples: Result<&'a [u8], Refusal>, lent: &mut Lent<'a>) -> u32
+fn note<'a>(samples: Result<&'a [u8], EndRefusal>, lent: &mut Lent<'a>) -> u32
     ensures result { result ≡ status_of (refusal_in samples.entry) }
     ensures unlent { result ≢ 0 → lent.new ≡ lent.old }
     ensures lent { result ≡ 0 → samples.entry ≡ Ok lent.new.samples }
@@ -233,10 +233,10 @@ pub extern "C" fn h263rps_raw_receiver_finish(alloc: Global, slot: &mut Slot) ->
     ensures nothing { result ≡ 0 → slot.new.counted ≡ counts.none }
 {
     if !slot.is_started() {
-        return Refusal::NotStarted.number();
+        return EndRefusal::NotStarted.number();
     }
     if !slot.handle.end_mut().is_of(true) {
-        return Refusal::OtherEnd.number();
+        return EndRefusal::OtherEnd.number();
     }
     let _end = taken(alloc, slot);
     OK

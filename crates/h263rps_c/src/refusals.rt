@@ -4,7 +4,7 @@ ghost use Rattle.h263rps_c.specs.Refusals.{refusal_number};
 
 /// Why a call did nothing. Each has a number in the header.
 #[derive(Clone, Copy)]
-pub enum Refusal {
+pub enum EndRefusal {
     /// The slot is empty.
     NotStarted,
     /// The slot already has an end.
@@ -32,25 +32,25 @@ pub enum Refusal {
 /// Nothing was refused.
 pub const OK: u32 = 0;
 
-impl Refusal {
+impl EndRefusal {
     /// Its number, at least 1.
     pub fn number(self) -> u32
         ensures value { result ≡ refusal_number self }
         ensures some { 1 ≤ result }
     {
         match self {
-            Refusal::NotStarted => 1,
-            Refusal::Started => 2,
-            Refusal::OtherEnd => 3,
-            Refusal::BadParams => 4,
-            Refusal::NoMemory => 5,
-            Refusal::Ended => 6,
-            Refusal::WrongLength => 7,
-            Refusal::BadMessages => 8,
-            Refusal::NoPacket => 9,
-            Refusal::ShortRoom => 10,
+            EndRefusal::NotStarted => 1,
+            EndRefusal::Started => 2,
+            EndRefusal::OtherEnd => 3,
+            EndRefusal::BadParams => 4,
+            EndRefusal::NoMemory => 5,
+            EndRefusal::Ended => 6,
+            EndRefusal::WrongLength => 7,
+            EndRefusal::BadMessages => 8,
+            EndRefusal::NoPacket => 9,
+            EndRefusal::ShortRoom => 10,
             // 11 and 12 are the header's own.
-            Refusal::NoStart => 13,
+            EndRefusal::NoStart => 13,
         }
     }
 }

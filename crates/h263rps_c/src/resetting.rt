@@ -17,18 +17,18 @@ use crate::MOST_PICTURES;
 use crate::counting::Statistics;
 use crate::ends::End;
 use crate::handles::Slot;
-use crate::refusals::{OK, Refusal};
+use crate::refusals::{EndRefusal, OK};
 use receiver_end::Receiver;
 
 // Begins a receiver's call anew, if its next picture may have this number.
-fn restart_at(receiver: &mut Receiver, number: u32) -> Result<(), Refusal>
+fn restart_at(receiver: &mut Receiver, number: u32) -> Result<(), EndRefusal>
     ensures refusal { refusal_in result ≡ reset_refusal number receiver.old }
     ensures same { IfErr result (λ why. receiver.new ≡ receiver.old) }
     ensures params { receiver.new.params ≡ receiver.old.params }
     ensures stands { IsOk result → receivers.Stands receiver.new (plays_alone number) }
 {
     if number > MOST_PICTURES {
-        return Err(Refusal::BadParams);
+        return Err(EndRefusal::BadParams);
     }
     receiver.restart(number);
     Ok(())
@@ -36,7 +36,7 @@ fn restart_at(receiver: &mut Receiver, number: u32) -> Result<(), Refusal>
 
 impl End {
     // A receiver begins a call anew at this number.
-    fn receive_anew(&mut self, number: u32) -> Result<(), Refusal>
+    fn receive_anew(&mut self, number: u32) -> Result<(), EndRefusal>
         ensures refusal { refusal_in result ≡ for_receiver (reset_refusal number) (Some self.old) }
         ensures same { IfErr result (λ why. self.new ≡ self.old) }
         ensures stands { (p : Params) (past : List ReceiverEntry)
@@ -44,13 +44,13 @@ impl End {
             → HoldsReceiver p (plays_alone number) (Some self.new) }
     {
         match self {
-            End::Sending(_) => Err(Refusal::OtherEnd),
+            End::Sending(_) => Err(EndRefusal::OtherEnd),
             End::Receiving(receiver) => restart_at(receiver, number),
         }
     }
 
     // A sender begins a call anew with this target.
-    fn send_anew(&mut self, target: u32) -> Result<(), Refusal>
+    fn send_anew(&mut self, target: u32) -> Result<(), EndRefusal>
         ensures refusal { refusal_in result ≡ for_sender (target_refusal target) (Some self.old) }
         ensures same { IfErr result (λ why. self.new ≡ self.old) }
         ensures packets { IsOk result → packets_in (Some self.new) ≡ [] }
@@ -63,7 +63,7 @@ impl End {
     {
         match self {
             End::Sending(sending) => sending.restart(target),
-            End::Receiving(_) => Err(Refusal::OtherEnd),
+            End::Receiving(_) => Err(EndRefusal::OtherEnd),
         }
     }
 }
@@ -81,7 +81,7 @@ pub extern "C" fn h263rps_raw_receiver_reset(slot: &mut Slot, number: u32) -> u3
         → HoldsReceiver p (plays_alone number) slot.new.handle.inside }
 {
     if !slot.is_started() {
-        return Refusal::NotStarted.number();
+        return EndRefusal::NotStarted.number();
     }
     match slot.handle.end_mut().receive_anew(number) {
         Err(refusal) => refusal.number(),
@@ -109,7 +109,7 @@ pub extern "C" fn h263rps_raw_sender_reset(slot: &mut Slot, target: u32) -> u32
         → HoldsSteered p target [] slot.new.handle.inside }
 {
     if !slot.is_started() {
-        return Refusal::NotStarted.number();
+        return EndRefusal::NotStarted.number();
     }
     match slot.handle.end_mut().send_anew(target) {
         Err(refusal) => refusal.number(),

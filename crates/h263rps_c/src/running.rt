@@ -11,7 +11,7 @@ ghost use Rattle.h263rps_c.specs.Steering as steering;
 ghost use Rattle.h263rps_c.specs.Stays.{Stays};
 
 use crate::handles::Slot;
-use crate::refusals::{OK, Refusal};
+use crate::refusals::{EndRefusal, OK};
 
 /// A sender follows another target in bytes per picture from its next picture on, up to 999,999, or
 /// none where it is 0.
@@ -28,7 +28,7 @@ pub extern "C" fn h263rps_raw_sender_target(slot: &mut Slot, target: u32) -> u32
         slot.new.handle.inside }
 {
     if !slot.is_started() {
-        return Refusal::NotStarted.number();
+        return EndRefusal::NotStarted.number();
     }
     match slot.handle.end_mut().follow(target) {
         Err(refusal) => refusal.number(),
@@ -49,7 +49,7 @@ pub extern "C" fn h263rps_raw_sender_forget(slot: &mut Slot) -> u32
         → HoldsSteered p first (steering.Forget ∷ past) slot.new.handle.inside }
 {
     if !slot.is_started() {
-        return Refusal::NotStarted.number();
+        return EndRefusal::NotStarted.number();
     }
     match slot.handle.end_mut().forget() {
         Err(refusal) => refusal.number(),
@@ -68,7 +68,7 @@ pub extern "C" fn h263rps_raw_sender_sent(slot: &mut Slot, count: &mut u32) -> u
         → count.new ≡ length (run_after p (target_in first) past).run.coded }
 {
     if !slot.is_started() {
-        return Refusal::NotStarted.number();
+        return EndRefusal::NotStarted.number();
     }
     match slot.handle.end_mut().sent() {
         Err(refusal) => refusal.number(),
@@ -91,7 +91,7 @@ pub extern "C" fn h263rps_raw_sender_known(slot: &mut Slot, count: &mut u32) -> 
         → count.new ≡ known_in p (run_after p (target_in first) past) }
 {
     if !slot.is_started() {
-        return Refusal::NotStarted.number();
+        return EndRefusal::NotStarted.number();
     }
     match slot.handle.end_mut().known() {
         Err(refusal) => refusal.number(),

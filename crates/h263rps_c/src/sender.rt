@@ -13,19 +13,19 @@ ghost use Rattle.h263rps_c.specs.Counting as counts;
 ghost use Rattle.h263rps_c.specs.Ends.{HoldsSender, HoldsSteered, TellsCoded, TellsReply, packets_in};
 ghost use Rattle.h263rps_c.specs.Messages.{messages_of};
 ghost use Rattle.h263rps_c.specs.Pace.{pace_of, target_in};
-ghost use Rattle.h263rps_c.specs.Refusals.{code_refusal, packet_refusal, status_of, refusal_number};
+ghost use Rattle.h263rps_c.specs.Refusals.{capture_refusal, packet_refusal, status_of, refusal_number};
 ghost use Rattle.h263rps_c.specs.Sending.{frame_of};
 ghost use Rattle.h263rps_c.specs.Steering.{Steering, next_after, run_after};
 ghost use Rattle.h263rps_c.specs.Steering as steering;
 ghost use Rattle.h263rps_c.specs.Slots.{fault_after, for_sender, never, start_refusal};
 ghost use Rattle.h263rps_c.specs.Stays.{Stays};
-ghost use Rattle.h263rps_c.specs.declared.refusals.Refusal.TheVariants as refusals;
+ghost use Rattle.h263rps_c.specs.declared.refusals.EndRefusal.TheVariants as refusals;
 
 use crate::answers::{Made, Reply, Said};
 use crate::asked::Asked;
 use crate::ends::End;
 use crate::handles::{Slot, put, taken};
-use crate::refusals::{OK, Refusal};
+use crate::refusals::{EndRefusal, OK};
 use std::alloc::Global;
 
 /// Starts a sender in an empty slot. Where a parameter is out of its range `fault` has its number.
@@ -50,12 +50,12 @@ pub extern "C" fn h263rps_raw_sender_start(
         (λ p. HoldsSteered p asked.now.target [] slot.new.handle.inside) }
 {
     if slot.is_started() {
-        return Refusal::Started.number();
+        return EndRefusal::Started.number();
     }
     match asked.params() {
         Err(number) => {
             *fault = number;
-            Refusal::BadParams.number()
+            EndRefusal::BadParams.number()
         }
         Ok(params) => match End::sender(alloc, &params, asked.target) {
             Err(refusal) => refusal.number(),
@@ -76,7 +76,7 @@ pub extern "C" fn h263rps_raw_sender_code(
     made: &mut Made,
 ) -> u32
     ensures result { result
-        ≡ status_of (for_sender (code_refusal picture.now messages.now) slot.old.handle.inside) }
+        ≡ status_of (for_sender (capture_refusal picture.now messages.now) slot.old.handle.inside) }
     ensures same { result ≢ 0 → Stays slot.old slot.new }
     ensures counted { result ≡ 0 → slot.new.counted ≡ counts.with_made made.new slot.old.counted }
     ensures unmade { result ≢ 0 → made.new ≡ made.old }
@@ -103,9 +103,9 @@ pub extern "C" fn h263rps_raw_sender_code(
         (next_after p (target_in first) (frame_of p picture.now back) past) made.new }
 {
     if !slot.is_started() {
-        return Refusal::NotStarted.number();
+        return EndRefusal::NotStarted.number();
     }
-    match slot.handle.end_mut().code(picture, messages) {
+    match slot.handle.end_mut().capture(picture, messages) {
         Err(refusal) => refusal.number(),
         Ok(coded) => {
             *made = Made::of(&coded);
@@ -149,7 +149,7 @@ pub extern "C" fn h263rps_raw_sender_packet(
         ≡ slice_index_or (senders.packets_after p (run_after p (target_in first) past)) number [] }
 {
     if !slot.is_started() {
-        return Refusal::NotStarted.number();
+        return EndRefusal::NotStarted.number();
     }
     match slot.handle.end_mut().packet(number, room) {
         Err(refusal) => refusal.number(),
@@ -195,7 +195,7 @@ pub extern "C" fn h263rps_raw_sender_feedback(
         (read_message p.clock message.now)) }
 {
     if !slot.is_started() {
-        return Refusal::NotStarted.number();
+        return EndRefusal::NotStarted.number();
     }
     match slot.handle.end_mut().feedback(message) {
         Err(refusal) => refusal.number(),
@@ -216,10 +216,10 @@ pub extern "C" fn h263rps_raw_sender_finish(alloc: Global, slot: &mut Slot) -> u
     ensures nothing { result ≡ 0 → slot.new.counted ≡ counts.none }
 {
     if !slot.is_started() {
-        return Refusal::NotStarted.number();
+        return EndRefusal::NotStarted.number();
     }
     if !slot.handle.end_mut().is_of(false) {
-        return Refusal::OtherEnd.number();
+        return EndRefusal::OtherEnd.number();
     }
     let _end = taken(alloc, slot);
     OK

@@ -14,15 +14,15 @@ ghost use Rattle.sender_end.specs.Stands as senders;
 ghost use Rattle.h263rps_c.specs.Sending.{IsSender, frame_of};
 ghost use Rattle.h263rps_c.specs.Steering.{Steering, Steers, next_after, run_after};
 ghost use Rattle.h263rps_c.specs.Steering as steering;
-ghost use Rattle.h263rps_c.specs.declared.refusals.Refusal.TheVariants as refusals;
+ghost use Rattle.h263rps_c.specs.declared.refusals.EndRefusal.TheVariants as refusals;
 ghost use Rattle.h263rps_c.specs.Messages.{messages_of};
 ghost use Rattle.h263rps_c.specs.Pace.{pace_of, target_in};
-ghost use Rattle.h263rps_c.specs.Refusals.{refusal_in, code_refusal, packet_refusal, target_refusal};
+ghost use Rattle.h263rps_c.specs.Refusals.{refusal_in, capture_refusal, packet_refusal, target_refusal};
 
 use crate::MOST_PICTURES;
 use crate::answers::Said;
 use crate::messages::messages_from;
-use crate::refusals::Refusal;
+use crate::refusals::EndRefusal;
 use h263_planes::PictureRef;
 use h263_types::{OutOfMemory, Params};
 use rate_control::SendPace;
@@ -89,9 +89,9 @@ impl Sending {
         })
     }
 
-    /// Codes the next picture, with these messages in its header.
-    pub fn code(&mut self, bytes: &[u8], back: &[Said]) -> Result<Coded, Refusal>
-        ensures refusal { refusal_in result ≡ code_refusal bytes.now back.now self.old }
+    /// Captures the next picture, with these messages in its header.
+    pub fn capture(&mut self, bytes: &[u8], back: &[Said]) -> Result<Coded, EndRefusal>
+        ensures refusal { refusal_in result ≡ capture_refusal bytes.now back.now self.old }
         ensures same { IfErr result (λ why. self.new ≡ self.old) }
         ensures count { IfOk result (λ coded. coded.packets ≡ length self.new.packets) }
         ensures stands { (p : Params) (target : ℕ) (entries : List (SenderEntry Frame))
@@ -115,25 +115,25 @@ impl Sending {
             (next_after p (target_in first) (frame_of p bytes.now messages) past) coded) }
     {
         if self.sender.sent() >= MOST_PICTURES {
-            return Err(Refusal::Ended);
+            return Err(EndRefusal::Ended);
         }
         if bytes.len() != self.params.format.size() as usize {
-            return Err(Refusal::WrongLength);
+            return Err(EndRefusal::WrongLength);
         }
         if back.len() > 4 {
-            return Err(Refusal::BadMessages);
+            return Err(EndRefusal::BadMessages);
         }
         let Some(messages) = messages_from(back, self.params.clock) else {
-            return Err(Refusal::BadMessages);
+            return Err(EndRefusal::BadMessages);
         };
         let frame = PictureRef::new(self.params.format, bytes);
-        let coded = self.sender.code(frame, messages.as_slice());
+        let coded = self.sender.capture(frame, messages.as_slice());
         self.packets = coded.packets;
         Ok(coded)
     }
 
     /// Copies packet i of the last picture to the start of a room, and says how many bytes it has.
-    pub fn packet(&self, i: u32, room: &mut [u8]) -> Result<usize, Refusal>
+    pub fn packet(&self, i: u32, room: &mut [u8]) -> Result<usize, EndRefusal>
         ensures refusal { refusal_in result ≡ packet_refusal i (length room.old) self.now }
         ensures unwritten { IfErr result (λ why. room.new ≡ room.old) }
         ensures count { IfOk result (λ count.
@@ -152,11 +152,11 @@ impl Sending {
             ≡ slice_index_or (senders.packets_after p (run_after p (target_in first) past)) i [] }
     {
         if i >= self.packets {
-            return Err(Refusal::NoPacket);
+            return Err(EndRefusal::NoPacket);
         }
         let packet = self.sender.packet(i);
         if packet.len() > room.len() {
-            return Err(Refusal::ShortRoom);
+            return Err(EndRefusal::ShortRoom);
         }
         copy_to_start(room, packet);
         Ok(packet.len())
@@ -187,7 +187,7 @@ impl Sending {
     }
 
     /// Follows this target from the next picture on, or none where it is 0.
-    pub fn follow(&mut self, target: u32) -> Result<(), Refusal>
+    pub fn follow(&mut self, target: u32) -> Result<(), EndRefusal>
         ensures refusal { refusal_in result ≡ target_refusal target self.old }
         ensures same { IfErr result (λ why. self.new ≡ self.old) }
         ensures packets { self.new.packets ≡ self.old.packets }
@@ -196,7 +196,7 @@ impl Sending {
             → Steers p first (steering.Target (target_in target) ∷ past) self.new }
     {
         if target > MOST_BYTES {
-            return Err(Refusal::BadParams);
+            return Err(EndRefusal::BadParams);
         }
         self.sender
             .set_pace(SendPace::choose(followed(target), self.params.quant));
@@ -214,7 +214,7 @@ impl Sending {
     }
 
     /// Begins a call anew in the memory that it has, and follows this target, or none where it is 0.
-    pub fn restart(&mut self, target: u32) -> Result<(), Refusal>
+    pub fn restart(&mut self, target: u32) -> Result<(), EndRefusal>
         ensures refusal { refusal_in result ≡ target_refusal target self.old }
         ensures same { IfErr result (λ why. self.new ≡ self.old) }
         ensures packets { IsOk result → self.new.packets ≡ [] }
@@ -224,7 +224,7 @@ impl Sending {
             → Steers p target [] self.new }
     {
         if target > MOST_BYTES {
-            return Err(Refusal::BadParams);
+            return Err(EndRefusal::BadParams);
         }
         self.sender
             .restart(SendPace::choose(followed(target), self.params.quant));

@@ -13,7 +13,7 @@ ghost use Rattle.h263rps_c.specs.Refusals.{status_of};
 ghost use Rattle.h263rps_c.specs.Start.{IsStart, IsSaidOf, Refers, start_refusal};
 
 use crate::answers::Said;
-use crate::refusals::{OK, Refusal};
+use crate::refusals::{EndRefusal, OK};
 use back_messages::{Message, laws as back_messages_laws, write};
 use h263_types::{Clock, Format};
 use packet_start::{find_start, laws as packet_start_laws};
@@ -117,12 +117,12 @@ impl Start {
 }
 
 // A packet that is read whole has the start of its slice.
-fn of_whole_packets()
+fn whole_packets_start()
     ensures { (format : Format) (bytes : List ℕ) (s : Slice)
         → packet_at format bytes ≡ Ok s → start_in bytes ≡ Some s.header }
 {
     packet_start_laws::starts_as_read();
-    packet_start_laws::of_format();
+    packet_start_laws::start_is_of_format();
     packet_start_laws::one_format();
 }
 
@@ -137,9 +137,9 @@ pub extern "C" fn h263rps_raw_packet_start(bytes: &[u8], start: &mut Start) -> u
     ensures whole { (format : Format) (s : Slice)
         → packet_at format bytes.now ≡ Ok s → start_in bytes.now ≡ Some s.header }
 {
-    of_whole_packets();
+    whole_packets_start();
     match find_start(bytes) {
-        None => Refusal::NoStart.number(),
+        None => EndRefusal::NoStart.number(),
         Some(header) => {
             *start = Start::of(&header);
             OK

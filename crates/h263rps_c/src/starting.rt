@@ -4,12 +4,12 @@ ghost use Rattle.h263_types.specs.Params.{default_params};
 ghost use Rattle.h263_types.specs.Sizes.{size_of_picture};
 ghost use Rattle.std.specs.Option.{option_map_or};
 ghost use Rattle.h263rps_c.specs.Asked.{asked_with, format_in};
-ghost use Rattle.h263rps_c.specs.declared.refusals.Refusal.TheVariants as refusals;
+ghost use Rattle.h263rps_c.specs.declared.refusals.EndRefusal.TheVariants as refusals;
 ghost use Rattle.h263rps_c.specs.Numbers.{library_version};
 ghost use Rattle.h263rps_c.specs.Refusals.{refusal_number};
 
 use crate::asked::{Asked, format_of};
-use crate::refusals::{OK, Refusal};
+use crate::refusals::{EndRefusal, OK};
 
 const VERSION: u32 = 10300;
 
@@ -31,7 +31,7 @@ pub extern "C" fn h263rps_raw_defaults(format: u32, asked: &mut Asked) -> u32
         asked.new ≡ asked_with format (default_params f)) }
 {
     match format_of(format) {
-        None => Refusal::BadParams.number(),
+        None => EndRefusal::BadParams.number(),
         Some(chosen) => {
             *asked = Asked::of(format, chosen);
             OK

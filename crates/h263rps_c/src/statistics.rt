@@ -6,7 +6,7 @@ ghost use Rattle.h263rps_c.specs.Stays.{Stays};
 
 use crate::counting::Statistics;
 use crate::handles::Slot;
-use crate::refusals::{OK, Refusal};
+use crate::refusals::{EndRefusal, OK};
 
 // What an end has counted: a receiver, or else a sender.
 fn counted_by(slot: &mut Slot, receiver: bool, statistics: &mut Statistics) -> u32
@@ -16,10 +16,10 @@ fn counted_by(slot: &mut Slot, receiver: bool, statistics: &mut Statistics) -> u
     ensures told { result ≡ 0 → statistics.new ≡ slot.old.counted }
 {
     if !slot.is_started() {
-        return Refusal::NotStarted.number();
+        return EndRefusal::NotStarted.number();
     }
     if !slot.handle.end_mut().is_of(receiver) {
-        return Refusal::OtherEnd.number();
+        return EndRefusal::OtherEnd.number();
     }
     *statistics = slot.counted;
     OK

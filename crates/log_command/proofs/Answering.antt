@@ -14,7 +14,7 @@ use Rattle.call_report.specs.Status.{phase}
 use Rattle.call_report.specs.declared.status.Status.{Status}
 use Rattle.call_report.specs.declared.status.Status.TheVariants.{WriteFault}
 use Rattle.desk_program.specs.Run.{Step}
-use Rattle.log_command.specs.Log.{LogState, ReadyBehind}
+use Rattle.log_command.specs.Log.{LogState, ReadyAfter}
 use Rattle.desk_program.specs.Ends.{GainsFronts, GivesUp, TurnGives, step_texts}
 
 module _ {State : Type 0} (r : Result Bool Status) (step : Step State) (stands : State → (Role → List ℕ) → Type 0) (reads : State → Bool) (now : Bool) (inputs : Role → List ℕ) (old new : Outside) where
@@ -78,5 +78,5 @@ still_long v buf long whole =
     ap (λ (l : List ℕ). length l) (with_items_is v buf (omega (arith, long, v.ok.0))) ∙ n
 
 -- what a command was ready for it still is where the same roles are attached
-pub ready_behind : (ready : ℕ → (Role → Bool) → Type 0) (most n : ℕ) (old new : Role → Bool) → n ≤ most → new ≡ old → ready n old → ReadyBehind most (λ k. ready k new)
-ready_behind ready most n old new few same is = record { count = n; few = few; is = subst (λ (attached : Role → Bool). ready n attached) (sym same) is }
+pub ready_after : (ready : ℕ → (Role → Bool) → Type 0) (most n : ℕ) (old new : Role → Bool) → n ≤ most → new ≡ old → ready n old → ReadyAfter most (λ k. ready k new)
+ready_after ready most n old new few same is = record { count = n; few = few; is = subst (λ (attached : Role → Bool). ready n attached) (sym same) is }

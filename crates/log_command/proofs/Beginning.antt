@@ -5,14 +5,14 @@ use Rattle.h263_outside.specs.declared.desk.Role.{Role}
 use Rattle.call_report.specs.Status.{Phase, phase}
 use Rattle.call_report.specs.Status.Phase.{finished, refused, unread, unwritten, starved, unasked, unopened}
 use Rattle.call_report.specs.declared.status.Status.{Status}
-use Rattle.desk_program.specs.Run.{behind}
+use Rattle.desk_program.specs.Run.{left_after}
 use Rattle.desk_program.specs.Ends.{ComesAtStart, Gains, GivesUp, IsUnstarted, Tells, Went}
 use Rattle.desk_program.specs.Laws.{TurnLaws}
 use Rattle.desk_program.specs.Texts.{no_bytes}
 use Rattle.log_command.specs.Log.{LogState, StopsAtHead, log_begin}
 
 pub begun : {State : Type 0} (laws : TurnLaws) (first : State) (head : Role → List ℕ) (stands : LogState State → (Role → List ℕ) → Type 0) (inputs : Role → List ℕ) (old new : Outside)
-    → Tells old inputs → new.left ≡ old.left → Gains head old.written new.written → stands (record { mind = first; at = 0; entries = 0 }) (behind inputs no_bytes)
+    → Tells old inputs → new.left ≡ old.left → Gains head old.written new.written → stands (record { mind = first; at = 0; entries = 0 }) (left_after inputs no_bytes)
     → Went (log_begin first head) stands (λ _. true) true inputs old new
 begun laws first head stands inputs old new told same gains kept = record {
   next = record { mind = first; at = 0; entries = 0 };

@@ -12,7 +12,7 @@ use Rattle.event_logs.specs.Entry.{bytes_of, entry_in}
 use Rattle.desk_program.specs.Ends.{IsPart, step_turns}
 use Rattle.desk_program.specs.Run.Step.{Goes}
 use Rattle.desk_program.specs.Texts.{of}
-use Rattle.log_command.specs.Log.{LogRules, LogState, behind_entry, entry_step, entry_turn, log_step, other_step, packet_step, refused_log, step_in}
+use Rattle.log_command.specs.Log.{LogRules, LogState, after_entry, entry_step, entry_turn, log_step, other_step, packet_step, refused_log, step_in}
 
 -- where an entry stands there are bytes
 some_bytes : (side : Side) (log : List ℕ) (e : Entry) → entry_in side log ≡ Some e → 0 < length log
@@ -98,14 +98,14 @@ module _ {State : Type 0} (does : LogRules State) (s : LogState State) where
       no_packet log (Packet len) other = absurd (other len refl)
 
       other_next : (bytes : List ℕ) (t : Bool) → bytes ≡ take (bytes_of e) (drop 3 (inputs Events)) → nat_lt (does.plays s.mind) 1048576 ≡ t → log_step does s inputs
-          ≡ (if t then Goes (behind_entry s (does.other s.mind bytes) (3 + bytes_of e)) (entry_turn (3 + bytes_of e) (does.other_text s.mind bytes)) else refused_log (TooMany s.at))
+          ≡ (if t then Goes (after_entry s (does.other s.mind bytes) (3 + bytes_of e)) (entry_turn (3 + bytes_of e) (does.other_text s.mind bytes)) else refused_log (TooMany s.at))
       other_next bytes t same test =
           entry_next (inputs Events) (Some e) few (some_bytes does.side (inputs Events) e is) is
           ∙ no_packet (inputs Events) e other ∙ ap (other_step does s (3 + bytes_of e)) (sym same)
-          ∙ ap (λ (b : Bool). if b then Goes (behind_entry s (does.other s.mind bytes) (3 + bytes_of e)) (entry_turn (3 + bytes_of e) (does.other_text s.mind bytes)) else refused_log (TooMany s.at)) test
+          ∙ ap (λ (b : Bool). if b then Goes (after_entry s (does.other s.mind bytes) (3 + bytes_of e)) (entry_turn (3 + bytes_of e) (does.other_text s.mind bytes)) else refused_log (TooMany s.at)) test
 
       pub other_is : (bytes : List ℕ) → bytes ≡ take (bytes_of e) (drop 3 (inputs Events)) → does.plays s.mind < 1048576
-          → log_step does s inputs ≡ Goes (behind_entry s (does.other s.mind bytes) (3 + bytes_of e)) (entry_turn (3 + bytes_of e) (does.other_text s.mind bytes))
+          → log_step does s inputs ≡ Goes (after_entry s (does.other s.mind bytes) (3 + bytes_of e)) (entry_turn (3 + bytes_of e) (does.other_text s.mind bytes))
       other_is bytes same more = other_next bytes true same (lt-ltb (does.plays s.mind) 1048576 more)
 
       pub all_played : 1048576 ≤ does.plays s.mind → log_step does s inputs ≡ refused_log (TooMany s.at)

@@ -13,7 +13,7 @@ use Rattle.event_logs.specs.Reader.{EntryGives, Moves}
 use Rattle.call_report.specs.declared.status.Status.{Status}
 use Rattle.call_report.specs.declared.status.Status.TheVariants.{Ok as Fine, LogRefused}
 use Rattle.call_report.specs.Status.{log_stop, phase}
-use Rattle.desk_program.specs.Run.{Step, behind, refusal}
+use Rattle.desk_program.specs.Run.{Step, left_after, refusal}
 use Rattle.desk_program.specs.Run.Step.{Goes, Ends}
 use Rattle.desk_program.specs.Ends.{Tells, Gains, GainsFronts, Ended, GivesUp, Went, step_texts}
 use Rattle.desk_program.specs.Texts.{no_bytes, of}
@@ -68,7 +68,7 @@ module _ {State : Type 0} (does : LogRules State) (laws : TurnLaws) (s : LogStat
 
   -- an entry was handled
   module _ (next : LogState State) (size : ℕ) (texts : Role → List ℕ) (is : log_step does s inputs ≡ Goes next (entry_turn size texts)) (new : Outside) where
-    pub goes : (stands : LogState State → (Role → List ℕ) → Type 0) → stands next (behind inputs (of Events size)) → mid.left Events ≡ Some (drop size (inputs Events)) → new.left ≡ mid.left
+    pub goes : (stands : LogState State → (Role → List ℕ) → Type 0) → stands next (left_after inputs (of Events size)) → mid.left Events ≡ Some (drop size (inputs Events)) → new.left ≡ mid.left
         → Gains texts mid.written new.written → Went (log_step does s inputs) stands (λ _. true) true inputs old new
     goes stands kept gone still gains = record {
       next = next;

@@ -37,7 +37,7 @@ StopsAtHead unwritten head old new = GainsFronts head old new
 StopsAtHead _ head old new = ⊥
 
 -- it is ready after some number of entries, this many at most
-pub record ReadyBehind (most : ℕ) (ready : ℕ → Type 0) : Type 0 where
+pub record ReadyAfter (most : ℕ) (ready : ℕ → Type 0) : Type 0 where
   pub count : ℕ
   pub few : count ≤ most
   pub is : ready count
@@ -58,15 +58,15 @@ log_begin first head =
     (record { taken = no_bytes; whole = true; texts = head })
 
 -- the state after an entry of this many bytes
-abbrev pub behind_entry : {State : Type 0} → LogState State → State → ℕ → LogState State
-behind_entry s mind size = record { mind = mind; at = s.at + size; entries = s.entries + 1 }
+abbrev pub after_entry : {State : Type 0} → LogState State → State → ℕ → LogState State
+after_entry s mind size = record { mind = mind; at = s.at + size; entries = s.entries + 1 }
 
 abbrev pub entry_turn : ℕ → (Role → List ℕ) → Turn
 entry_turn size texts = record { taken = of Events size; whole = true; texts = texts }
 
 abbrev pub packet_step : {State : Type 0} → LogRules State → LogState State → ℕ → List ℕ → Step (LogState State)
 packet_step rules s size bytes =
-    Goes (behind_entry s (rules.packet s.mind bytes) size) (entry_turn size (rules.packet_text s.mind bytes))
+    Goes (after_entry s (rules.packet s.mind bytes) size) (entry_turn size (rules.packet_text s.mind bytes))
 
 -- the log is refused at the entry that is next
 abbrev pub refused_log : {State : Type 0} → LogFault → Step (LogState State)
@@ -76,7 +76,7 @@ refused_log fault = Ends (refusal (LogRefused fault))
 abbrev pub other_step : {State : Type 0} → LogRules State → LogState State → ℕ → List ℕ → Step (LogState State)
 other_step rules s size bytes =
     if nat_lt (rules.plays s.mind) 1048576
-    then Goes (behind_entry s (rules.other s.mind bytes) size) (entry_turn size (rules.other_text s.mind bytes))
+    then Goes (after_entry s (rules.other s.mind bytes) size) (entry_turn size (rules.other_text s.mind bytes))
     else refused_log (TooMany s.at)
 
 -- an entry has its bytes after its letter and their number

@@ -4,7 +4,7 @@ ghost use Rattle.h263_outside.specs.Desk.{OnlyWrites, Rose};
 ghost use Rattle.h263_outside.specs.declared.desk.Role.{Role};
 ghost use Rattle.call_report.specs.Status.{phase};
 ghost use Rattle.desk_program.specs.Ends.{Gains, GainsFronts, HasCause, start_status};
-ghost use Rattle.log_command.specs.Log.{LogRules, ReadyBehind, StopsAtHead};
+ghost use Rattle.log_command.specs.Log.{LogRules, ReadyAfter, StopsAtHead};
 
 use call_report::Status;
 use event_logs::Side;
@@ -61,7 +61,7 @@ pub trait LogCommand {
 
     /// Takes the bytes of a packet.
     fn packet<D: Desk>(&mut self, desk: &mut D, bytes: &[u8]) -> Result<(), Status>
-        requires { ReadyBehind 16777215 (λ n. ready self.old n (D.outside desk.old).attached) }
+        requires { ReadyAfter 16777215 (λ n. ready self.old n (D.outside desk.old).attached) }
         ensures stands { (s : Self.State)
             → stands self.old s → stands self.new (rules.packet s bytes.now) }
         ensures ready { (n : ℕ) → ready self.old n (D.outside desk.old).attached
@@ -85,7 +85,7 @@ pub trait LogCommand {
     /// Takes an entry of the other kind, with its bytes: a play has none.
     fn other<D: Desk>(&mut self, desk: &mut D, bytes: &[u8]) -> Result<(), Status>
         requires played { played self.old < 1048576 }
-        requires ready { ReadyBehind 16777215
+        requires ready { ReadyAfter 16777215
             (λ n. ready self.old n (D.outside desk.old).attached) }
         ensures stands { (s : Self.State)
             → stands self.old s → stands self.new (rules.other s bytes.now) }
@@ -104,7 +104,7 @@ pub trait LogCommand {
 
     /// Writes what comes at the end of the log.
     fn close<D: Desk>(&self, desk: &mut D) -> Result<(), Status>
-        requires { ReadyBehind 16777216 (λ n. ready self.now n (D.outside desk.old).attached) }
+        requires { ReadyAfter 16777216 (λ n. ready self.now n (D.outside desk.old).attached) }
         ensures ok { (s : Self.State) → stands self.now s → OnOk result (Gains (rules.end_text s)
             (D.outside desk.old).written (D.outside desk.new).written) }
         ensures err { (s : Self.State) → stands self.now s

@@ -52,8 +52,8 @@ impl<C: LogCommand> Turns for LogMachine<C> {
     ghost reading = { λ _. Some Events };
 
     fn turn<D: Desk>(&mut self, desk: &mut D) -> Result<bool, Status> {
-        desk_program_laws::of_turns();
-        event_logs_laws::cut_behind();
+        desk_program_laws::turn_laws();
+        event_logs_laws::cut_after();
         outside_laws::calls();
         let Some((at, entry)) = self.reader.next(desk, &mut self.buffer)? else {
             self.command.close(desk)?;
@@ -98,8 +98,8 @@ impl<C: LogCommand> Begins for LogMachine<C> {
         setup: &C::Setup,
         desk: &mut D,
     ) -> Result<LogMachine<C>, Status> {
-        desk_program_laws::of_turns();
-        desk_program_laws::of_runs::<LogMachine<C>>();
+        desk_program_laws::turn_laws();
+        desk_program_laws::run_laws::<LogMachine<C>>();
         let buffer = vec![in alloc; 0; MAX_BYTES]?;
         Ok(LogMachine {
             command: C::start(alloc, setup, desk)?,

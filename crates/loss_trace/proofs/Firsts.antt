@@ -5,7 +5,7 @@ use borrow.Author.Tests.{lt-ltb, le-ltb}
 use Rattle.std.proofs.lemmas.Bool.Decides.{nat_tests}
 use Rattle.std.proofs.lemmas.List.{take_more_set, drop-drop, take-append-drop}
 use Rattle.std.proofs.lemmas.List.Elements.{All-nil, All-cons, All-head, All-tail, All-append}
-use Rattle.loss_trace.specs.Lines.{NoNewline, first_line, is_closed, behind_long}
+use Rattle.loss_trace.specs.Lines.{NoNewline, first_line, is_closed, after_long}
 use Rattle.loss_trace.specs.Input.{IsFirst}
 
 abbrev Other : ℕ → Type 0
@@ -65,8 +65,8 @@ free_more : (front rest : List ℕ) (b : ℕ) → NoNewline front → b ≢ 10 �
 free_more front rest b free other = All-append Other front (b ∷ []) free (All-cons Other b [] other (All-nil Other))
 
 module _ (text buf : List ℕ) (i : ℕ) (came : Came text buf i) (left : Option (List ℕ)) (gone : left ≡ Some (drop 1 (drop i text))) where
-  behind : (n : ℕ) → i ≡ n → left ≡ Some (drop (n + 1) text)
-  behind n is = gone ∙ ap (λ (l : List ℕ). Some l) (drop-drop 1 i text) ∙ ap (λ (k : ℕ). Some (drop (k + 1) text)) is
+  after : (n : ℕ) → i ≡ n → left ≡ Some (drop (n + 1) text)
+  after n is = gone ∙ ap (λ (l : List ℕ). Some l) (drop-drop 1 i text) ∙ ap (λ (k : ℕ). Some (drop (k + 1) text)) is
 
   size : length (take i text) ≡ i
   size = omega (arith, length-take i text, came.within)
@@ -79,7 +79,7 @@ module _ (text buf : List ℕ) (i : ℕ) (came : Came text buf i) (left : Option
       let long : length (first_line text) ≡ i = ap (λ (l : List ℕ). length l) line ∙ size in
       let end : length text ≡ i = ap (λ (l : List ℕ). length l) (sym all) ∙ size in
       let over : length text ≤ length (first_line text) = omega (arith, long, end) in (
-        record { some = omega (arith, some, end); size = long; same = came.same ∙ sym line; gone = behind (length (first_line text)) (sym long) },
+        record { some = omega (arith, some, end); size = long; same = came.same ∙ sym line; gone = after (length (first_line text)) (sym long) },
         le-ltb (length (first_line text)) (length text) over,
       )
 
@@ -96,7 +96,7 @@ module _ (text buf : List ℕ) (i : ℕ) (came : Came text buf i) (left : Option
         let line : first_line text ≡ take i text = ap first_line parts ∙ first_found (take i text) (drop 1 (drop i text)) b came.free ten in
         let long : length (first_line text) ≡ i = ap (λ (l : List ℕ). length l) line ∙ size in
         let more : length (first_line text) < length text = omega (arith, long, longer) in (
-          record { some = omega (arith, longer); size = long; same = came.same ∙ sym line; gone = behind (length (first_line text)) (sym long) },
+          record { some = omega (arith, longer); size = long; same = came.same ∙ sym line; gone = after (length (first_line text)) (sym long) },
           lt-ltb (length (first_line text)) (length text) more,
         )
 
@@ -116,11 +116,11 @@ module _ (text buf : List ℕ) (i : ℕ) (came : Came text buf i) (left : Option
       }
 
       -- it is longer than a line may be
-      pub too_long : i ≡ 64 → (64 < length (first_line text)) × (left ≡ Some (behind_long text))
+      pub too_long : i ≡ 64 → (64 < length (first_line text)) × (left ≡ Some (after_long text))
       too_long is =
           let line : first_line text ≡ take (i + 1) text ++ first_line (drop (i + 1) text) =
           ap first_line (sym (take-append-drop (i + 1) text)) ∙ first_past (take (i + 1) text) (drop (i + 1) text) free_on in
           let all : length (take (i + 1) text) ≡ i + 1 = omega (arith, length-take (i + 1) text, longer) in
           let long : 64 < length (first_line text) = omega (arith, ap (λ (l : List ℕ). length l) line, length-append (take (i + 1) text) (first_line (drop (i + 1) text)), all, is) in
           let most : min (length (first_line text) + 1) 65 ≡ 64 + 1 = omega (arith, long) in
-          (long, behind 64 is ∙ ap (λ (k : ℕ). Some (drop k text)) (sym most))
+          (long, after 64 is ∙ ap (λ (k : ℕ). Some (drop k text)) (sym most))

@@ -5,7 +5,7 @@ use Rattle.loss_trace.specs.declared.fault.TraceStop.{TraceStop}
 use Rattle.loss_trace.specs.declared.fault.TraceStop.TheVariants.{Read, Bad, TooMany}
 use Rattle.loss_trace.specs.declared.reader.TraceReader.{TraceReader}
 use Rattle.loss_trace.specs.declared.reader.Fetched.{Fetched}
-use Rattle.loss_trace.specs.Lines.{first_line, is_closed, behind_long}
+use Rattle.loss_trace.specs.Lines.{first_line, is_closed, after_long}
 use Rattle.loss_trace.specs.Input.{IsFirst}
 use Rattle.loss_trace.specs.Reading.{event_in}
 use Rattle.loss_trace.specs.Reader.{Passes, IsOver, IsPastAll, EventGives, BytesGive, FetchGives}
@@ -48,7 +48,7 @@ module _ (rest buf : List ℕ) (len : ℕ) (left : Option (List ℕ)) (first : I
   pub says : (event : Option Event) → event_in (take len buf) ≡ event → event_in (first_line rest) ≡ event
   says event is = ap event_in (sym first.same) ∙ is
 
-  pub taken : len ≤ 64 → left ≡ Some (behind_long rest)
+  pub taken : len ≤ 64 → left ≡ Some (after_long rest)
   taken le =
       let most : length (first_line rest) + 1 ≡ min (length (first_line rest) + 1) 65 = omega (arith, first.size) in
       first.gone ∙ ap (λ (n : ℕ). Some (drop n rest)) most

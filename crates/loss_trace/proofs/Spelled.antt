@@ -49,9 +49,9 @@ stop_parts : (bytes : List ℕ) (k : ℕ) → position is_stop bytes ≡ Some k 
 stop_parts bytes k e =
     let h = position-Some is_stop bytes k 0 e in
     let stop : get_or bytes k 0 ≡ 46 = eqb-true (get_or bytes k 0) 46 h.1 in
-    let behind : drop k bytes ≡ 46 ∷ drop (k + 1) bytes =
+    let after : drop k bytes ≡ 46 ∷ drop (k + 1) bytes =
     drop-cons bytes k 0 h.0 ∙ (λ i. stop i ∷ drop (sym (add-one k) i) bytes) in
-    sym (take-append-drop k bytes) ∙ ap (λ (l : List ℕ). take k bytes ++ l) behind
+    sym (take-append-drop k bytes) ∙ ap (λ (l : List ℕ). take k bytes ++ l) after
 
 digit_apart : (b : ℕ) → is_ascii_digit b ≡ true → is_stop b ≡ false
 digit_apart b e =
@@ -140,18 +140,18 @@ with_place_at n i place number =
     ∙ ap (λ (o : Option ℕ). option_map (λ k. Packet n k) o) (number_found i place number)
 
 -- parts of which the last is after the first
-word_behind : (word rest front more : List ℕ) → rest ≡ front ++ more → front ≡ word → more ≡ [] → rest ≡ word
-word_behind word rest front more parts is none = parts ∙ (λ i. is i ++ none i) ∙ append-nil word
+word_after : (word rest front more : List ℕ) → rest ≡ front ++ more → front ≡ word → more ≡ [] → rest ≡ word
+word_after word rest front more parts is none = parts ∙ (λ i. is i ++ none i) ∙ append-nil word
 
 place_found : (event : Event) (bytes : List ℕ) → IsPlace event bytes → packet_in bytes ≡ Some event
 place_found Nothing bytes h = absurd h
 place_found Send bytes h = absurd h
-place_found (Packet n i) bytes (digits, rest, parts, is, (dot, behind, more, stop, (digits2, none, all, is2, end))) =
-    let place : behind ≡ digits2 = all ∙ ap (λ (l : List ℕ). digits2 ++ l) end ∙ append-nil digits2 in
+place_found (Packet n i) bytes (digits, rest, parts, is, (dot, after, more, stop, (digits2, none, all, is2, end))) =
+    let place : after ≡ digits2 = all ∙ ap (λ (l : List ℕ). digits2 ++ l) end ∙ append-nil digits2 in
     let whole : bytes ≡ digits ++ 46 ∷ digits2 = parts ∙ ap (λ (l : List ℕ). digits ++ l) (more ∙ (λ j. stop j ++ place j)) in
     ap packet_in whole ∙ packet_at n digits digits2 is ∙ with_place_at n i digits2 is2
 place_found (All n) bytes (digits, rest, parts, is, (dot, none, more, stop, end)) =
-    let whole : bytes ≡ digits ++ 46 ∷ 42 ∷ [] = parts ∙ ap (λ (l : List ℕ). digits ++ l) (word_behind (codes ".*") rest dot none more stop end) in
+    let whole : bytes ≡ digits ++ 46 ∷ 42 ∷ [] = parts ∙ ap (λ (l : List ℕ). digits ++ l) (word_after (codes ".*") rest dot none more stop end) in
     ap packet_in whole ∙ packet_at n digits (42 ∷ []) is
 place_found (Back message) bytes h = absurd h
 place_found Play bytes h = absurd h
@@ -208,7 +208,7 @@ event_is line event e = a_packet line event (bytes_eq (take 2 line) (codes "D ")
 -- an event is found in each of its texts
 pub event_found : (event : Event) (line : List ℕ) → IsLine event line → event_in line ≡ Some event
 event_found Nothing line h = ap event_in h
-event_found Send line (front, rest, parts, is, end) = ap event_in (word_behind (codes "S") line front rest parts is end)
+event_found Send line (front, rest, parts, is, end) = ap event_in (word_after (codes "S") line front rest parts is end)
 event_found (Packet n i) line (front, rest, parts, is, h) =
     ap event_in (parts ∙ ap (λ (l : List ℕ). l ++ rest) is) ∙ place_found (Packet n i) rest h
 event_found (All n) line (front, rest, parts, is, h) =
@@ -216,7 +216,7 @@ event_found (All n) line (front, rest, parts, is, h) =
 event_found (Back n) line (front, rest, parts, is, (digits, none, all, number, end)) =
     let back : rest ≡ digits = all ∙ ap (λ (l : List ℕ). digits ++ l) end ∙ append-nil digits in
     ap event_in (parts ∙ (λ i. is i ++ back i)) ∙ ap (λ (o : Option ℕ). option_map (λ k. Back k) o) (number_found n digits number)
-event_found Play line (front, rest, parts, is, end) = ap event_in (word_behind (codes "P") line front rest parts is end)
+event_found Play line (front, rest, parts, is, end) = ap event_in (word_after (codes "P") line front rest parts is end)
 
 -- a line of an event is short
 abbrev most_of : Part → ℕ

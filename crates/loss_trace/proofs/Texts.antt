@@ -5,7 +5,7 @@ use Rattle.std.proofs.Math.Seq.{drop-append-add}
 use Rattle.std.proofs.Math.ListN.{drop_of_length-le}
 use Rattle.std.proofs.lemmas.List.Elements.{All-nil, All-cons, All-head, All-tail}
 use borrow.Author.Tests.{ltb-true, ltb-false, eqb-true, eqb-false}
-use Rattle.loss_trace.specs.Lines.{NoNewline, first_line, is_closed, behind_line, last_line, IsText}
+use Rattle.loss_trace.specs.Lines.{NoNewline, first_line, is_closed, later_lines, last_line, IsText}
 use Rattle.loss_trace.proofs.Firsts.{first_found, first_all}
 
 abbrev closed_text : List (List ℕ) → List ℕ
@@ -18,7 +18,7 @@ Free line = NoNewline line
 pub record Begins (text : List ℕ) (lines : List (List ℕ)) : Type 0 where
   pub more : List (List ℕ)
   pub first : lines ≡ first_line text ∷ more
-  pub behind : IsText (behind_line text) more
+  pub after : IsText (later_lines text) more
 
 pub no_lines : (lines : List (List ℕ)) → lines ≡ [] → IsText [] lines
 no_lines lines none = record { closed = []; end = []; spelled = refl; apart = All-nil Free; unclosed = All-nil (λ b. b ≢ 10); all = none }
@@ -28,16 +28,16 @@ module _ (line rest : List ℕ) (free : NoNewline line) where
   whole_first : first_line (line ++ 10 ∷ rest) ≡ line
   whole_first = first_found line rest 10 free refl
 
-  whole_behind : behind_line (line ++ 10 ∷ rest) ≡ rest
-  whole_behind = ap (λ (l : List ℕ). drop (length l + 1) (line ++ 10 ∷ rest)) whole_first ∙ drop-append-add line (10 ∷ rest) 1
+  whole_after : later_lines (line ++ 10 ∷ rest) ≡ rest
+  whole_after = ap (λ (l : List ℕ). drop (length l + 1) (line ++ 10 ∷ rest)) whole_first ∙ drop-append-add line (10 ∷ rest) 1
 
 -- the last line is the whole text
 module _ (line : List ℕ) (free : NoNewline line) where
   end_first : first_line line ≡ line
   end_first = first_all line free
 
-  end_behind : behind_line line ≡ []
-  end_behind = ap (λ (l : List ℕ). drop (length l + 1) line) end_first ∙ drop_of_length-le line {i = length line + 1} (omega arith)
+  end_after : later_lines line ≡ []
+  end_after = ap (λ (l : List ℕ). drop (length l + 1) line) end_first ∙ drop_of_length-le line {i = length line + 1} (omega arith)
 
 last_some : (end : List ℕ) (b : ℕ) (rest : List ℕ) → end ≡ b ∷ rest → last_line end ≡ end ∷ []
 last_some end b rest is = ap last_line is ∙ ap (λ (l : List ℕ). l ∷ []) (sym is)
@@ -45,10 +45,10 @@ last_some end b rest is = ap last_line is ∙ ap (λ (l : List ℕ). l ∷ []) (
 begins_end : (text end : List ℕ) (lines : List (List ℕ)) (b : ℕ) (rest : List ℕ) → text ≡ b ∷ rest → text ≡ end → NoNewline end → lines ≡ last_line end → Begins text lines
 begins_end text end lines b rest some is free all =
     let first : first_line text ≡ end = ap first_line is ∙ end_first end free in
-    let behind : behind_line text ≡ [] = ap behind_line is ∙ end_behind end free in record {
+    let after : later_lines text ≡ [] = ap later_lines is ∙ end_after end free in record {
       more = [];
       first = all ∙ last_some end b rest (sym is ∙ some) ∙ ap (λ (l : List ℕ). l ∷ []) (sym first);
-      behind = subst (λ (l : List ℕ). IsText l []) (sym behind) (no_lines [] refl);
+      after = subst (λ (l : List ℕ). IsText l []) (sym after) (no_lines [] refl);
     }
 
 begins_closed : (text line : List ℕ) (closed : List (List ℕ)) (end : List ℕ) (lines : List (List ℕ)) → text ≡ closed_text (line ∷ closed) ++ end → All Free (line ∷ closed) → NoNewline end → lines ≡ (line ∷ closed) ++ last_line end → Begins text lines
@@ -57,11 +57,11 @@ begins_closed text line closed end lines spelled apart free all =
     let none : NoNewline line = All-head Free line closed apart in
     let whole : text ≡ line ++ 10 ∷ rest = spelled ∙ append_assoc (line ++ 10 ∷ []) (closed_text closed) end ∙ append_assoc line (10 ∷ []) rest in
     let first : first_line text ≡ line = ap first_line whole ∙ whole_first line rest none in
-    let behind : behind_line text ≡ rest = ap behind_line whole ∙ whole_behind line rest none in
+    let after : later_lines text ≡ rest = ap later_lines whole ∙ whole_after line rest none in
     let tail : IsText rest (closed ++ last_line end) = record { closed = closed; end = end; spelled = refl; apart = All-tail Free line closed apart; unclosed = free; all = refl } in record {
       more = closed ++ last_line end;
       first = all ∙ ap (λ (l : List ℕ). l ∷ (closed ++ last_line end)) (sym first);
-      behind = subst (λ (l : List ℕ). IsText l (closed ++ last_line end)) (sym behind) tail;
+      after = subst (λ (l : List ℕ). IsText l (closed ++ last_line end)) (sym after) tail;
     }
 
 by_closed : (text : List ℕ) (lines : List (List ℕ)) (b : ℕ) (rest : List ℕ) → text ≡ b ∷ rest → (closed : List (List ℕ)) (end : List ℕ) → text ≡ closed_text closed ++ end → All Free closed → NoNewline end → lines ≡ closed ++ last_line end → Begins text lines
@@ -126,7 +126,7 @@ is_all [] le = refl
 is_all (b ∷ text) le = all_step b text (is_all text) (b == 10) refl le
 
 -- a first line before the lines of a text
-before_text : (text : List ℕ) (more : List (List ℕ)) → text ≡ first_line text ++ 10 ∷ behind_line text → IsText (behind_line text) more → IsText text (first_line text ∷ more)
+before_text : (text : List ℕ) (more : List (List ℕ)) → text ≡ first_line text ++ 10 ∷ later_lines text → IsText (later_lines text) more → IsText text (first_line text ∷ more)
 before_text text more whole is =
     let line = first_line text in record {
       closed = line ∷ is.closed;
@@ -148,14 +148,14 @@ alone text more b rest some is none =
       all = ap (λ (l : List (List ℕ)). line ∷ l) none ∙ sym (last_some line b rest (sym is ∙ some));
     }
 
-before_cases : (b : ℕ) (rest : List ℕ) (more : List (List ℕ)) → IsText (behind_line (b ∷ rest)) more → (t : Bool) → is_closed (b ∷ rest) ≡ t → IsText (b ∷ rest) (first_line (b ∷ rest) ∷ more)
+before_cases : (b : ℕ) (rest : List ℕ) (more : List (List ℕ)) → IsText (later_lines (b ∷ rest)) more → (t : Bool) → is_closed (b ∷ rest) ≡ t → IsText (b ∷ rest) (first_line (b ∷ rest) ∷ more)
 before_cases b rest more is true closed = before_text (b ∷ rest) more (splits (b ∷ rest) (ltb-true (length (first_line (b ∷ rest))) (length (b ∷ rest)) closed)) is
 before_cases b rest more is false closed =
     let short : length (b ∷ rest) ≤ length (first_line (b ∷ rest)) = ltb-false (length (first_line (b ∷ rest))) (length (b ∷ rest)) closed in
-    let behind : behind_line (b ∷ rest) ≡ [] = drop_of_length-le (b ∷ rest) {i = length (first_line (b ∷ rest)) + 1} (omega (arith, short)) in
-    alone (b ∷ rest) more b rest refl (is_all (b ∷ rest) short) (ends more (subst (λ (l : List ℕ). IsText l more) behind is))
+    let after : later_lines (b ∷ rest) ≡ [] = drop_of_length-le (b ∷ rest) {i = length (first_line (b ∷ rest)) + 1} (omega (arith, short)) in
+    alone (b ∷ rest) more b rest refl (is_all (b ∷ rest) short) (ends more (subst (λ (l : List ℕ). IsText l more) after is))
 
-pub before : (b : ℕ) (rest : List ℕ) (more : List (List ℕ)) → IsText (behind_line (b ∷ rest)) more → IsText (b ∷ rest) (first_line (b ∷ rest) ∷ more)
+pub before : (b : ℕ) (rest : List ℕ) (more : List (List ℕ)) → IsText (later_lines (b ∷ rest)) more → IsText (b ∷ rest) (first_line (b ∷ rest) ∷ more)
 before b rest more is = before_cases b rest more is (is_closed (b ∷ rest)) refl
 
 -- each text has lines: n bytes suffice to count down
@@ -163,8 +163,8 @@ lines_from : (n : ℕ) (text : List ℕ) → length text ≤ n → (lines : List
 lines_from n [] le = ([], no_lines [] refl)
 lines_from zero (b ∷ text) le = absurd (omega arith)
 lines_from (suc n) (b ∷ text) le =
-    let less : length (behind_line (b ∷ text)) ≤ n = omega (arith, le, length-drop (length (first_line (b ∷ text)) + 1) (b ∷ text)) in
-    let more = lines_from n (behind_line (b ∷ text)) less in
+    let less : length (later_lines (b ∷ text)) ≤ n = omega (arith, le, length-drop (length (first_line (b ∷ text)) + 1) (b ∷ text)) in
+    let more = lines_from n (later_lines (b ∷ text)) less in
     (first_line (b ∷ text) ∷ more.0, before b text more.0 more.1)
 
 pub some_lines : (text : List ℕ) → (lines : List (List ℕ)) × IsText text lines
@@ -175,10 +175,10 @@ one_from : (n : ℕ) (text : List ℕ) (lines others : List (List ℕ)) → leng
 one_from n [] lines others le is other = ends lines is ∙ sym (ends others other)
 one_from zero (b ∷ text) lines others le is other = absurd (omega arith)
 one_from (suc n) (b ∷ text) lines others le is other =
-    let less : length (behind_line (b ∷ text)) ≤ n = omega (arith, le, length-drop (length (first_line (b ∷ text)) + 1) (b ∷ text)) in
+    let less : length (later_lines (b ∷ text)) ≤ n = omega (arith, le, length-drop (length (first_line (b ∷ text)) + 1) (b ∷ text)) in
     let p = begins b text lines is in
     let q = begins b text others other in
-    p.first ∙ ap (λ (l : List (List ℕ)). first_line (b ∷ text) ∷ l) (one_from n (behind_line (b ∷ text)) p.more q.more less p.behind q.behind) ∙ sym q.first
+    p.first ∙ ap (λ (l : List (List ℕ)). first_line (b ∷ text) ∷ l) (one_from n (later_lines (b ∷ text)) p.more q.more less p.after q.after) ∙ sym q.first
 
 pub one_lines : (text : List ℕ) (lines others : List (List ℕ)) → IsText text lines → IsText text others → lines ≡ others
 one_lines text lines others is other = one_from (length text) text lines others (omega arith) is other

@@ -2,14 +2,14 @@
 use Rattle.std.proofs.Common.{◌≡◌, ℕ, zero, suc, ◌+◌, ◌-◌, ◌<◌, ◌≤◌, ◌++◌, List, [], ◌∷◌, length, Option, Some, None, refl, sym, ap, subst, ◌∙◌, arith, append-nil}
 use Rattle.loss_trace.specs.declared.event.Event.{Event}
 use Rattle.loss_trace.specs.declared.fault.TraceFault.TheVariants.{BadLine, TooMany}
-use Rattle.loss_trace.specs.Lines.{IsText, first_line, behind_line}
+use Rattle.loss_trace.specs.Lines.{IsText, first_line, later_lines}
 use Rattle.loss_trace.specs.Reading.{event_in}
 use Rattle.loss_trace.specs.Trace.{Say, IsTrace, IsBad, events_from, fault_from, events_of, fault_of, trace_events, trace_fault}
 use Rattle.loss_trace.proofs.Spelled.{event_is, event_found}
 use Rattle.loss_trace.proofs.Texts.{begins, ends, before, no_lines}
 
 -- one step of the reading
-fault_step : (n at b : ℕ) (text : List ℕ) → fault_of (suc n) at (b ∷ text) ≡ fault_from (event_in (first_line (b ∷ text))) at (fault_of n (at + 1) (behind_line (b ∷ text)))
+fault_step : (n at b : ℕ) (text : List ℕ) → fault_of (suc n) at (b ∷ text) ≡ fault_from (event_in (first_line (b ∷ text))) at (fault_of n (at + 1) (later_lines (b ∷ text)))
 unfolding fault_of
 fault_step n at b text = refl
 
@@ -22,7 +22,7 @@ unfolding fault_of
 fault_end zero at = refl
 fault_end (suc n) at = refl
 
-events_step : (n b : ℕ) (text : List ℕ) → events_of (suc n) (b ∷ text) ≡ events_from (event_in (first_line (b ∷ text))) (events_of n (behind_line (b ∷ text)))
+events_step : (n b : ℕ) (text : List ℕ) → events_of (suc n) (b ∷ text) ≡ events_from (event_in (first_line (b ∷ text))) (events_of n (later_lines (b ∷ text)))
 unfolding events_of
 events_step n b text = refl
 
@@ -63,16 +63,16 @@ passed m at zero (b ∷ text) (event ∷ events) (line ∷ lines) tail size is s
 passed m at (suc n) (b ∷ text) (event ∷ events) (line ∷ lines) tail size is says =
     let p = begins b text ((line ∷ lines) ++ tail) is in
     let first : line ≡ first_line (b ∷ text) = first_of line (first_line (b ∷ text)) (lines ++ tail) p.more p.first in
-    let behind : IsText (behind_line (b ∷ text)) (lines ++ tail) = subst (λ (l : List (List ℕ)). IsText (behind_line (b ∷ text)) l) (sym (more_of line (first_line (b ∷ text)) (lines ++ tail) p.more p.first)) p.behind in
+    let after : IsText (later_lines (b ∷ text)) (lines ++ tail) = subst (λ (l : List (List ℕ)). IsText (later_lines (b ∷ text)) l) (sym (more_of line (first_line (b ∷ text)) (lines ++ tail) p.more p.first)) p.after in
     let said : event_in (first_line (b ∷ text)) ≡ Some event = ap event_in (sym first) ∙ event_found event line says.0 in
-    let h = passed m (at + 1) n (behind_line (b ∷ text)) events lines tail (omega (arith, size)) behind says.1 in
+    let h = passed m (at + 1) n (later_lines (b ∷ text)) events lines tail (omega (arith, size)) after says.1 in
     let place : at + 1 + length lines ≡ at + length (line ∷ lines) = omega arith in record {
       rest = h.rest;
       is = h.is;
       fault = fault_step n at b text
-          ∙ ap (λ (o : Option Event). fault_from o at (fault_of n (at + 1) (behind_line (b ∷ text)))) said ∙ h.fault ∙ ap (λ (k : ℕ). fault_of m k h.rest) place;
+          ∙ ap (λ (o : Option Event). fault_from o at (fault_of n (at + 1) (later_lines (b ∷ text)))) said ∙ h.fault ∙ ap (λ (k : ℕ). fault_of m k h.rest) place;
       read = events_step n b text
-          ∙ ap (λ (o : Option Event). events_from o (events_of n (behind_line (b ∷ text)))) said ∙ ap (λ (l : List Event). event ∷ l) h.read;
+          ∙ ap (λ (o : Option Event). events_from o (events_of n (later_lines (b ∷ text)))) said ∙ ap (λ (l : List Event). event ∷ l) h.read;
     }
 
 empty_text : (text : List ℕ) → IsText text [] → text ≡ []
@@ -89,16 +89,16 @@ module _ (n m : ℕ) (text : List ℕ) (events : List Event) (lines : List (List
         h.read ∙ ap (λ (l : List ℕ). events ++ events_of m l) none ∙ ap (λ (l : List Event). events ++ l) (events_end m) ∙ append-nil events,
       )
 
-  module _ (at : ℕ) (line : List ℕ) (behind : List (List ℕ)) (is : IsText text (lines ++ line ∷ behind)) where
-    stop_full : (k : ℕ) (rest : List ℕ) → k ≡ 0 → IsText rest (line ∷ behind) → (fault_of k (at + length lines) rest ≡ Some (TooMany (at + length lines))) × (events_of k rest ≡ [])
-    stop_full k [] zero_k is = absurd (no_first line behind (ends (line ∷ behind) is))
+  module _ (at : ℕ) (line : List ℕ) (after : List (List ℕ)) (is : IsText text (lines ++ line ∷ after)) where
+    stop_full : (k : ℕ) (rest : List ℕ) → k ≡ 0 → IsText rest (line ∷ after) → (fault_of k (at + length lines) rest ≡ Some (TooMany (at + length lines))) × (events_of k rest ≡ [])
+    stop_full k [] zero_k is = absurd (no_first line after (ends (line ∷ after) is))
     stop_full zero (b ∷ rest) zero_k is = (fault_full (at + length lines) b rest, events_full (b ∷ rest))
     stop_full (suc k) (b ∷ rest) zero_k is = absurd (omega (arith, zero_k))
 
     -- a line too many is there
     pub full : m ≡ 0 → (fault_of n at text ≡ Some (TooMany (at + length lines))) × (events_of n text ≡ events)
     full none =
-        let h = passed m at n text events lines (line ∷ behind) size is says in
+        let h = passed m at n text events lines (line ∷ after) size is says in
         let stop = stop_full m h.rest none h.is in
         (h.fault ∙ stop.0, h.read ∙ ap (λ (l : List Event). events ++ l) stop.1 ∙ append-nil events)
 
@@ -106,21 +106,21 @@ module _ (n m : ℕ) (text : List ℕ) (events : List Event) (lines : List (List
     none_said None said bad = refl
     none_said (Some event) said bad = absurd (bad event (event_is line event said))
 
-    stop_bad : (k : ℕ) (rest : List ℕ) → 0 < k → IsBad line → IsText rest (line ∷ behind) → (fault_of k (at + length lines) rest ≡ Some (BadLine (at + length lines))) × (events_of k rest ≡ [])
-    stop_bad k [] some bad is = absurd (no_first line behind (ends (line ∷ behind) is))
+    stop_bad : (k : ℕ) (rest : List ℕ) → 0 < k → IsBad line → IsText rest (line ∷ after) → (fault_of k (at + length lines) rest ≡ Some (BadLine (at + length lines))) × (events_of k rest ≡ [])
+    stop_bad k [] some bad is = absurd (no_first line after (ends (line ∷ after) is))
     stop_bad zero (b ∷ rest) some bad is = absurd (omega (arith, some))
     stop_bad (suc k) (b ∷ rest) some bad is =
-        let p = begins b rest (line ∷ behind) is in
-        let first : line ≡ first_line (b ∷ rest) = first_of line (first_line (b ∷ rest)) behind p.more p.first in
+        let p = begins b rest (line ∷ after) is in
+        let first : line ≡ first_line (b ∷ rest) = first_of line (first_line (b ∷ rest)) after p.more p.first in
         let said : event_in (first_line (b ∷ rest)) ≡ None = ap event_in (sym first) ∙ none_said (event_in line) refl bad in (
-          fault_step k (at + length lines) b rest ∙ ap (λ (o : Option Event). fault_from o (at + length lines) (fault_of k (at + length lines + 1) (behind_line (b ∷ rest)))) said,
-          events_step k b rest ∙ ap (λ (o : Option Event). events_from o (events_of k (behind_line (b ∷ rest)))) said,
+          fault_step k (at + length lines) b rest ∙ ap (λ (o : Option Event). fault_from o (at + length lines) (fault_of k (at + length lines + 1) (later_lines (b ∷ rest)))) said,
+          events_step k b rest ∙ ap (λ (o : Option Event). events_from o (events_of k (later_lines (b ∷ rest)))) said,
         )
 
     -- a line that says nothing is there
     pub bad : 0 < m → IsBad line → (fault_of n at text ≡ Some (BadLine (at + length lines))) × (events_of n text ≡ events)
     bad some says_none =
-        let h = passed m at n text events lines (line ∷ behind) size is says in
+        let h = passed m at n text events lines (line ∷ after) size is says in
         let stop = stop_bad m h.rest some says_none h.is in
         (h.fault ∙ stop.0, h.read ∙ ap (λ (l : List Event). events ++ l) stop.1 ∙ append-nil events)
 
@@ -134,11 +134,11 @@ record Lined (n : ℕ) (text : List ℕ) : Type 0 where
 some_not_none : {A : Type 0} (x : A) (o : Option A) → o ≡ Some x → o ≡ None → ⊥
 some_not_none x o is none = cc
 
-line_step : (n at b : ℕ) (text : List ℕ) → ((at : ℕ) → fault_of n at (behind_line (b ∷ text)) ≡ None → Lined n (behind_line (b ∷ text))) → fault_of (suc n) at (b ∷ text) ≡ None → (o : Option Event) → event_in (first_line (b ∷ text)) ≡ o → Lined (suc n) (b ∷ text)
+line_step : (n at b : ℕ) (text : List ℕ) → ((at : ℕ) → fault_of n at (later_lines (b ∷ text)) ≡ None → Lined n (later_lines (b ∷ text))) → fault_of (suc n) at (b ∷ text) ≡ None → (o : Option Event) → event_in (first_line (b ∷ text)) ≡ o → Lined (suc n) (b ∷ text)
 line_step n at b text more none None said =
-    absurd (some_not_none (BadLine at) (fault_of (suc n) at (b ∷ text)) (fault_step n at b text ∙ ap (λ (o : Option Event). fault_from o at (fault_of n (at + 1) (behind_line (b ∷ text)))) said) none)
+    absurd (some_not_none (BadLine at) (fault_of (suc n) at (b ∷ text)) (fault_step n at b text ∙ ap (λ (o : Option Event). fault_from o at (fault_of n (at + 1) (later_lines (b ∷ text)))) said) none)
 line_step n at b text more none (Some event) said =
-    let rest = behind_line (b ∷ text) in
+    let rest = later_lines (b ∷ text) in
     let line = first_line (b ∷ text) in
     let h = more (at + 1) (sym (fault_step n at b text ∙ ap (λ (o : Option Event). fault_from o at (fault_of n (at + 1) rest)) said) ∙ none) in
     let read : events_of (suc n) (b ∷ text) ≡ event ∷ events_of n rest = events_step n b text ∙ ap (λ (o : Option Event). events_from o (events_of n rest)) said in record {
@@ -154,7 +154,7 @@ no_more n = record { lines = []; is = no_lines [] refl; says = subst (λ (l : Li
 lined : (n : ℕ) (text : List ℕ) (at : ℕ) → fault_of n at text ≡ None → Lined n text
 lined n [] at none = no_more n
 lined zero (b ∷ text) at none = absurd (some_not_none (TooMany at) (fault_of zero at (b ∷ text)) (fault_full at b text) none)
-lined (suc n) (b ∷ text) at none = line_step n at b text (lined n (behind_line (b ∷ text))) none (event_in (first_line (b ∷ text))) refl
+lined (suc n) (b ∷ text) at none = line_step n at b text (lined n (later_lines (b ∷ text))) none (event_in (first_line (b ∷ text))) refl
 
 -- the whole trace
 most_is : (n k : ℕ) → k ≤ n → n ≡ k + (n - k)
@@ -175,16 +175,16 @@ pub is_trace : (text : List ℕ) → trace_fault text ≡ None → IsTrace text 
 unfolding trace_fault trace_events
 is_trace text none = let h = lined 16777216 text 1 none in record { lines = h.lines; spelled = h.is; says = h.says; few = h.few }
 
-pub bad_trace : (text : List ℕ) (events : List Event) (lines behind : List (List ℕ)) (line : List ℕ) → IsText text (lines ++ line ∷ behind) → Say events lines → length lines < 16777216 → IsBad line → (trace_fault text ≡ Some (BadLine (length lines + 1))) × (trace_events text ≡ events)
+pub bad_trace : (text : List ℕ) (events : List Event) (lines after : List (List ℕ)) (line : List ℕ) → IsText text (lines ++ line ∷ after) → Say events lines → length lines < 16777216 → IsBad line → (trace_fault text ≡ Some (BadLine (length lines + 1))) × (trace_events text ≡ events)
 unfolding trace_fault trace_events
-bad_trace text events lines behind line is says few says_none =
-    let h = bad 16777216 (16777216 - length lines) text events lines (most_is 16777216 (length lines) (omega (arith, few))) says 1 line behind is (omega (arith, few)) says_none in
+bad_trace text events lines after line is says few says_none =
+    let h = bad 16777216 (16777216 - length lines) text events lines (most_is 16777216 (length lines) (omega (arith, few))) says 1 line after is (omega (arith, few)) says_none in
     let place : 1 + length lines ≡ length lines + 1 = omega arith in
     (h.0 ∙ ap (λ (n : ℕ). Some (BadLine n)) place, h.1)
 
-pub full_trace : (text : List ℕ) (events : List Event) (lines behind : List (List ℕ)) (line : List ℕ) → IsText text (lines ++ line ∷ behind) → Say events lines → length lines ≡ 16777216 → (trace_fault text ≡ Some (TooMany 16777217)) × (trace_events text ≡ events)
+pub full_trace : (text : List ℕ) (events : List Event) (lines after : List (List ℕ)) (line : List ℕ) → IsText text (lines ++ line ∷ after) → Say events lines → length lines ≡ 16777216 → (trace_fault text ≡ Some (TooMany 16777217)) × (trace_events text ≡ events)
 unfolding trace_fault trace_events
-full_trace text events lines behind line is says all =
-    let h = full 16777216 0 text events lines (omega (arith, all)) says 1 line behind is refl in
+full_trace text events lines after line is says all =
+    let h = full 16777216 0 text events lines (omega (arith, all)) says 1 line after is refl in
     let place : 1 + length lines ≡ 16777217 = omega (arith, all) in
     (h.0 ∙ ap (λ (n : ℕ). Some (TooMany n)) place, h.1)

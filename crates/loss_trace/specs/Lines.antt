@@ -15,12 +15,12 @@ abbrev pub is_closed : List ℕ → Bool
 is_closed text = nat_lt (length (first_line text)) (length text)
 
 -- what stands after the first line and its newline
-abbrev pub behind_line : List ℕ → List ℕ
-behind_line text = drop (length (first_line text) + 1) text
+abbrev pub later_lines : List ℕ → List ℕ
+later_lines text = drop (length (first_line text) + 1) text
 
 -- what stands after a line of which no byte past the 65th is looked at
-abbrev pub behind_long : List ℕ → List ℕ
-behind_long text = drop (min (length (first_line text) + 1) 65) text
+abbrev pub after_long : List ℕ → List ℕ
+after_long text = drop (min (length (first_line text) + 1) 65) text
 
 -- what ends a text after its last newline, as a line, if there is something
 abbrev pub last_line : List ℕ → List (List ℕ)

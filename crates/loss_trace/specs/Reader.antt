@@ -5,7 +5,7 @@ use Rattle.loss_trace.specs.declared.fault.TraceStop.{TraceStop}
 use Rattle.loss_trace.specs.declared.fault.TraceStop.TheVariants.{Read, Bad, TooMany}
 use Rattle.loss_trace.specs.declared.reader.TraceReader.{TraceReader}
 use Rattle.loss_trace.specs.declared.reader.Fetched.{Fetched}
-use Rattle.loss_trace.specs.Lines.{first_line, is_closed, behind_line, behind_long, IsCut}
+use Rattle.loss_trace.specs.Lines.{first_line, is_closed, later_lines, after_long, IsCut}
 use Rattle.loss_trace.specs.Input.{IsFirst}
 use Rattle.loss_trace.specs.Reading.{event_in}
 
@@ -21,7 +21,7 @@ Moves (Err (TooMany line)) old new = (old.ended ≡ false) × (old.lines ≡ 167
 pub record Passes (rest : List ℕ) (new : TraceReader) (left : Option (List ℕ)) : Type 0 where
   pub some : 0 < length rest
   pub ends : new.ended ≡ not (is_closed rest)
-  pub gone : left ≡ Some (behind_line rest)
+  pub gone : left ≡ Some (later_lines rest)
 
 -- no line is there; after a last line without a newline nothing is read
 abbrev pub IsOver : TraceReader → List ℕ → Option (List ℕ) → Type 0
@@ -33,7 +33,7 @@ IsPastAll rest left = (0 < length rest) × (left ≡ Some (drop 1 rest))
 
 -- more bytes than a line may have
 abbrev pub IsLong : List ℕ → Option (List ℕ) → Type 0
-IsLong rest left = (64 < length (first_line rest)) × (left ≡ Some (behind_long rest))
+IsLong rest left = (64 < length (first_line rest)) × (left ≡ Some (after_long rest))
 
 -- what a reader says of the rest of a trace, and what is left of it then
 abbrev pub EventGives : Result (Option (ℕ × Event)) TraceStop
@@ -41,7 +41,7 @@ abbrev pub EventGives : Result (Option (ℕ × Event)) TraceStop
 EventGives (Ok (Some line)) old rest new left = Passes rest new left × (event_in (first_line rest) ≡ Some line.1)
 EventGives (Ok None) old rest new left = IsOver old rest left
 EventGives (Err Read) old rest new left = IsCut rest left
-EventGives (Err (Bad line)) old rest new left = (event_in (first_line rest) ≡ None) × (left ≡ Some (behind_long rest))
+EventGives (Err (Bad line)) old rest new left = (event_in (first_line rest) ≡ None) × (left ≡ Some (after_long rest))
 EventGives (Err (TooMany line)) old rest new left = IsPastAll rest left
 
 -- the same of a reader that gives the bytes of a line, in a buffer of 64 bytes, and its length

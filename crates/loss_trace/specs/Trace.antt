@@ -4,7 +4,7 @@ use Rattle.loss_trace.specs.declared.event.Event.{Event}
 use Rattle.loss_trace.specs.declared.fault.TraceFault.{TraceFault}
 use Rattle.loss_trace.specs.declared.fault.TraceFault.TheVariants.{BadLine, TooMany}
 use Rattle.loss_trace.specs.Line.{IsLine}
-use Rattle.loss_trace.specs.Lines.{IsText, first_line, behind_line}
+use Rattle.loss_trace.specs.Lines.{IsText, first_line, later_lines}
 use Rattle.loss_trace.specs.Reading.{event_in}
 
 -- lines that say these events, each one
@@ -38,14 +38,14 @@ fault_from (Some event) line more = more
 unfoldable pub events_of : ℕ → List ℕ → List Event
 events_of zero text = []
 events_of (suc n) [] = []
-events_of (suc n) (b ∷ text) = events_from (event_in (first_line (b ∷ text))) (events_of n (behind_line (b ∷ text)))
+events_of (suc n) (b ∷ text) = events_from (event_in (first_line (b ∷ text))) (events_of n (later_lines (b ∷ text)))
 
 -- the first fault, where the lines are numbered from this one on
 unfoldable pub fault_of : ℕ → ℕ → List ℕ → Option TraceFault
 fault_of n line [] = None
 fault_of zero line (b ∷ text) = Some (TooMany line)
 fault_of (suc n) line (b ∷ text) =
-    fault_from (event_in (first_line (b ∷ text))) line (fault_of n (line + 1) (behind_line (b ∷ text)))
+    fault_from (event_in (first_line (b ∷ text))) line (fault_of n (line + 1) (later_lines (b ∷ text)))
 
 -- the events of a trace, and its first fault
 unfoldable pub trace_events : List ℕ → List Event

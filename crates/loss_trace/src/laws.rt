@@ -40,10 +40,10 @@ pub fn read_is_a_trace()
 /// before it are read.
 pub fn first_fault()
     ensures bad { (text : List ℕ) (events : List Event)
-        (before behind : List (List ℕ)) (line : List ℕ) → IsText text (before ++ line ∷ behind)
+        (before after : List (List ℕ)) (line : List ℕ) → IsText text (before ++ line ∷ after)
         → Say events before → length before < 16777216 → IsBad line
         → (trace_fault text ≡ Some (BadLine (length before + 1))) × (trace_events text ≡ events) }
-    ensures many { (text : List ℕ) (events : List Event) (before behind : List (List ℕ))
-        (line : List ℕ) → IsText text (before ++ line ∷ behind) → Say events before → length before
+    ensures many { (text : List ℕ) (events : List Event) (before after : List (List ℕ))
+        (line : List ℕ) → IsText text (before ++ line ∷ after) → Say events before → length before
         ≡ 16777216 → (trace_fault text ≡ Some (TooMany 16777217)) × (trace_events text ≡ events) }
 {}

@@ -12,7 +12,7 @@ use Rattle.block_layer.specs.Text.{inter_block, no_levels}
 use Rattle.block_layer.specs.Laws.{BlockLaws}
 use Rattle.macroblock_layer.specs.declared.reading.Lead.{Lead}
 use Rattle.macroblock_layer.specs.declared.reading.Lead.TheVariants.{Skipped, Coded}
-use Rattle.macroblock_layer.specs.Text.{is_intra, quantiser, difference, vector, block_of, intra, inter, blocks, intra_mb, inter_mb, coded_mb, behind, mb}
+use Rattle.macroblock_layer.specs.Text.{is_intra, quantiser, difference, vector, block_of, intra, inter, blocks, intra_mb, inter_mb, coded_mb, after_lead, mb}
 use Rattle.macroblock_layer.specs.Laws.{AreProductive}
 use Rattle.macroblock_layer.proofs.Leads.{lead_productive}
 
@@ -66,13 +66,13 @@ inter_mb_productive : TableLaws → BlockLaws → (reach : Reach) (predictor : V
 unfolding inter_mb IsProductive
 inter_mb_productive tables of_blocks reach predictor quant cbpy cbpc = (vector_productive tables reach predictor, λ v. (blocks_productive inter cbpy cbpc (inter_block_productive of_blocks), λ bs. tt))
 
-behind_productive : TableLaws → BlockLaws → (quant : ℕ) (reach : Reach) (predictor : Vector) (l : Lead) → IsProductive (behind quant reach predictor l)
-unfolding behind coded_mb IsProductive
-behind_productive tables of_blocks quant reach predictor Skipped = tt
-behind_productive tables of_blocks quant reach predictor (Coded class cbpc) =
+after_productive : TableLaws → BlockLaws → (quant : ℕ) (reach : Reach) (predictor : Vector) (l : Lead) → IsProductive (after_lead quant reach predictor l)
+unfolding after_lead coded_mb IsProductive
+after_productive tables of_blocks quant reach predictor Skipped = tt
+after_productive tables of_blocks quant reach predictor (Coded class cbpc) =
     (tables.productive.cbpy (is_intra class), λ cbpy. (quantiser_productive tables class quant, λ q. either_productive (is_intra class) (intra_mb q cbpy cbpc) (inter_mb reach predictor q cbpy cbpc) (intra_mb_productive of_blocks q cbpy cbpc) (inter_mb_productive tables of_blocks reach predictor q cbpy cbpc)))
 
 -- each part of a macroblock that is repeated takes a bit at least
 pub mb_productive : TableLaws → BlockLaws → AreProductive
 unfolding mb IsProductive
-mb_productive tables of_blocks kind quant reach predictor = (lead_productive kind, λ l. behind_productive tables of_blocks quant reach predictor l)
+mb_productive tables of_blocks kind quant reach predictor = (lead_productive kind, λ l. after_productive tables of_blocks quant reach predictor l)

@@ -11,7 +11,7 @@ use Rattle.h263_bits.specs.Reading.{Bits, skip, number_at}
 use Rattle.h263_bits.specs.Syntax.{finally, reading}
 use Rattle.h263_bits.proofs.SyntaxLaws.{repeat-finally}
 use Rattle.macroblock_layer.specs.declared.reading.Lead.TheVariants.{Skipped}
-use Rattle.macroblock_layer.specs.Text.{is_skipped, lead_turn, lead, behind, mb}
+use Rattle.macroblock_layer.specs.Text.{is_skipped, lead_turn, lead, after_lead, mb}
 
 -- the first bit, by its number
 pub none_skipped : (bits : List Bool) → length bits ≡ 0 → is_skipped kinds.P bits ≡ false
@@ -34,7 +34,7 @@ lead_skipped at rest = repeat-finally tt Skipped (lead_turn kinds.P) _ _ (one_bi
 
 read_skipped : (quant : ℕ) (reach : Reach) (predictor : Vector) (at : ℕ) (rest : List Bool)
     → reading (mb kinds.P quant reach predictor) (record { at = at; bits = true ∷ rest }) ≡ Ok (Skip, skip 1 (record { at = at; bits = true ∷ rest }))
-unfolding reading mb behind
+unfolding reading mb after_lead
 read_skipped quant reach predictor at rest = rw (lead_skipped at rest) refl
 
 pub skipped_is_read : (kind : Kind) (quant : ℕ) (reach : Reach) (predictor : Vector) (b : Bits) → is_skipped kind b.bits ≡ true → reading (mb kind quant reach predictor) b ≡ Ok (Skip, skip 1 b)

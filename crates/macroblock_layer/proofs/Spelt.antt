@@ -27,7 +27,7 @@ use Rattle.block_layer.specs.Text.{none_left, is_coded, intra_block, inter_block
 use Rattle.block_layer.specs.Laws.{BlockLaws}
 use Rattle.macroblock_layer.specs.declared.reading.Lead.{Lead}
 use Rattle.macroblock_layer.specs.declared.reading.Lead.TheVariants.{Skipped, Coded}
-use Rattle.macroblock_layer.specs.Text.{no_four, after_mcbpc, class_turn, lead_turn, lead, limited, quantiser, wrapped, moved, is_within, difference, in_reach, vector, block_of, intra, inter, blocks, intra_mb, inter_mb, coded_mb, behind, mb}
+use Rattle.macroblock_layer.specs.Text.{no_four, after_mcbpc, class_turn, lead_turn, lead, limited, quantiser, wrapped, moved, is_within, difference, in_reach, vector, block_of, intra, inter, blocks, intra_mb, inter_mb, coded_mb, after_lead, mb}
 use Rattle.macroblock_layer.proofs.Within.{component_of}
 use Rattle.macroblock_layer.specs.Written.{levels_at, has_levels, cbpy_of, cbpc_of, class_of, class_text, step_text, head_text, vector_text, blocks_text, intra_mb_text, inter_mb_text, IsNear}
 use Rattle.macroblock_layer.specs.Laws.{AreSpelt}
@@ -336,7 +336,7 @@ cbpc_low coded bs = (two_bits (coded (levels_at bs 4)) (coded (levels_at bs 5)))
 
 intra_mb_spelt : TableLaws → BlockLaws → (kind : Kind) (quant : ℕ) (reach : Reach) (predictor : Vector) (new : ℕ) (bs : List Block) → IsIntraMb new bs → IsNear quant new → AreWhole bs
     → Spells (mb kind quant reach predictor) (mbs.Intra new bs) (intra_mb_text kind quant new bs)
-unfolding mb behind intra_mb_text head_text
+unfolding mb after_lead intra_mb_text head_text
 intra_mb_spelt tables of_blocks kind quant reach predictor new bs is near whole =
     let m : Mb = mbs.Intra new bs in
     let pattern : ℕ = cbpy_of is_coded bs in
@@ -348,11 +348,11 @@ intra_mb_spelt tables of_blocks kind quant reach predictor new bs is near whole 
     let b = blocks_spelt intra intra_text is_coded (λ (x : Block). IsIntraBlock x) (intra_spelt of_blocks) bs whole is.each in
     let coded = coded_intra tables quant reach predictor new bs pattern cbpc (step_text quant new) (blocks_text intra_text bs) low (new == quant) q b in
     spells_whole (mb kind quant reach predictor) m _ _ (regroup (class_text kind class cbpc) (cbpy_text true pattern) (step_text quant new) (blocks_text intra_text bs))
-    (spells_part (lead kind) any (λ l. behind quant reach predictor l) m (Coded class cbpc) (class_text kind class cbpc) _ lead_at refl coded)
+    (spells_part (lead kind) any (λ l. after_lead quant reach predictor l) m (Coded class cbpc) (class_text kind class cbpc) _ lead_at refl coded)
 
 inter_mb_spelt : TableLaws → BlockLaws → (quant : ℕ) (reach : Reach) (predictor : Vector) (new : ℕ) (v : Vector) (bs : List Block) → IsInterMb new v bs → IsNear quant new → AreWhole bs → IsWithin reach v.x v.y
     → Spells (mb kinds.P quant reach predictor) (mbs.Inter new v bs) (inter_mb_text quant predictor new v bs)
-unfolding mb behind inter_mb_text head_text
+unfolding mb after_lead inter_mb_text head_text
 inter_mb_spelt tables of_blocks quant reach predictor new v bs is near whole within =
     let m : Mb = mbs.Inter new v bs in
     let pattern : ℕ = cbpy_of has_levels bs in
@@ -365,12 +365,12 @@ inter_mb_spelt tables of_blocks quant reach predictor new v bs is near whole wit
     let b = blocks_spelt inter inter_text has_levels (λ (x : Block). IsInterBlock x) (inter_spelt of_blocks) bs whole is.each in
     let coded = coded_inter tables quant reach predictor new bs pattern cbpc (step_text quant new) (blocks_text inter_text bs) low v (vector_text predictor v) (new == quant) q w b in
     spells_whole (mb kinds.P quant reach predictor) m _ _ (regroup_more (class_text kinds.P class cbpc) (cbpy_text false pattern) (step_text quant new) (vector_text predictor v) (blocks_text inter_text bs))
-    (spells_part (lead kinds.P) any (λ l. behind quant reach predictor l) m (Coded class cbpc) (class_text kinds.P class cbpc) _ lead_at refl coded)
+    (spells_part (lead kinds.P) any (λ l. after_lead quant reach predictor l) m (Coded class cbpc) (class_text kinds.P class cbpc) _ lead_at refl coded)
 
 skip_mb_spelt : (quant : ℕ) (reach : Reach) (predictor : Vector) → Spells (mb kinds.P quant reach predictor) mbs.Skip (true ∷ [])
-unfolding mb behind
+unfolding mb after_lead
 skip_mb_spelt quant reach predictor =
-    spells_part (lead kinds.P) any (λ l. behind quant reach predictor l) mbs.Skip Skipped (true ∷ []) [] skip_spelt refl (spells_done mbs.Skip)
+    spells_part (lead kinds.P) any (λ l. after_lead quant reach predictor l) mbs.Skip Skipped (true ∷ []) [] skip_spelt refl (spells_done mbs.Skip)
 
 -- what is written of a macroblock is a text of it, where its vector is in reach
 pub mb_written : TableLaws → BlockLaws → AreSpelt

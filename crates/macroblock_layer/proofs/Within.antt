@@ -24,7 +24,7 @@ use Rattle.code_tables.specs.Mcbpc.{mcbpc, mcbpc_table, mcbpc_words, class_texts
 use Rattle.block_layer.specs.Laws.{BlockLaws}
 use Rattle.macroblock_layer.specs.declared.reading.Lead.{Lead}
 use Rattle.macroblock_layer.specs.declared.reading.Lead.TheVariants.{Skipped, Coded}
-use Rattle.macroblock_layer.specs.Text.{after_mcbpc, class_turn, lead_turn, lead, is_intra, limited, quantiser, wrapped, vector, intra, inter, blocks, intra_mb, inter_mb, coded_mb, behind, mb}
+use Rattle.macroblock_layer.specs.Text.{after_mcbpc, class_turn, lead_turn, lead, is_intra, limited, quantiser, wrapped, vector, intra, inter, blocks, intra_mb, inter_mb, coded_mb, after_lead, mb}
 
 -- ---- what stands first
 
@@ -167,13 +167,13 @@ unfolding LeadOfKind
 skip_of kinds.I is = is
 skip_of kinds.P is = tt
 
-behind_within : BlockLaws → (kind : Kind) (quant : ℕ) (reach : Reach) (predictor : Vector) (l : Lead) (m : Mb) (text : List Bool) → IsQuant quant → LeadOfKind kind l → Spells (behind quant reach predictor l) m text → IsMb m × IsOfKind kind m
-unfolding Spells behind coded_mb
-behind_within of_blocks kind quant reach predictor Skipped m text is of h = subst (λ (x : Mb). IsMb x × IsOfKind kind x) (sym h.0) (tt, skip_of kind of)
-behind_within of_blocks kind quant reach predictor (Coded class cbpc) m text is of h =
+after_within : BlockLaws → (kind : Kind) (quant : ℕ) (reach : Reach) (predictor : Vector) (l : Lead) (m : Mb) (text : List Bool) → IsQuant quant → LeadOfKind kind l → Spells (after_lead quant reach predictor l) m text → IsMb m × IsOfKind kind m
+unfolding Spells after_lead coded_mb
+after_within of_blocks kind quant reach predictor Skipped m text is of h = subst (λ (x : Mb). IsMb x × IsOfKind kind x) (sym h.0) (tt, skip_of kind of)
+after_within of_blocks kind quant reach predictor (Coded class cbpc) m text is of h =
     let more = h.6 in
     either_within of_blocks kind (is_intra class) reach predictor more.0 h.0 cbpc m more.2 (only_intra kind class cbpc of) (quantiser_within class quant more.0 more.1 is more.4) more.6
 
 pub mb_within : BlockLaws → (kind : Kind) (quant : ℕ) (reach : Reach) (predictor : Vector) → IsQuant quant → (m : Mb) (text : List Bool) → Spells (mb kind quant reach predictor) m text → IsMb m × IsOfKind kind m
 unfolding Spells mb
-mb_within of_blocks kind quant reach predictor is m text h = behind_within of_blocks kind quant reach predictor h.0 m h.2 is (lead_within kind h.0 h.1 h.4) h.6
+mb_within of_blocks kind quant reach predictor is m text h = after_within of_blocks kind quant reach predictor h.0 m h.2 is (lead_within kind h.0 h.1 h.4) h.6

@@ -21,7 +21,7 @@ use Rattle.code_tables.specs.Mcbpc.{mcbpc, mcbpc_words, dquant}
 use Rattle.code_tables.specs.Tables.{cbpy, mvd}
 use Rattle.block_layer.specs.Text.{intra_block, inter_block}
 use Rattle.macroblock_layer.specs.declared.reading.Lead.{Lead}
-use Rattle.macroblock_layer.specs.Text.{lead, is_intra, quantiser, moved, is_within, vector, blocks, intra, inter, intra_mb, inter_mb, coded_mb, behind, mb}
+use Rattle.macroblock_layer.specs.Text.{lead, is_intra, quantiser, moved, is_within, vector, blocks, intra, inter, intra_mb, inter_mb, coded_mb, after_lead, mb}
 
 -- COD and MCBPC, after stuffing
 pub record LeadFaults : Type 0 where
@@ -125,7 +125,7 @@ pub record MbFaults : Type 0 where
       → HasFault (mb kind quant reach predictor) text fault place
   pub of_rest : (kind : Kind) (quant : ℕ) (reach : Reach)
       (predictor : Vector) (l : Lead) (front text : List Bool) (fault : FaultKind) (place : ℕ)
-      → Spells (lead kind) l front → HasFault (behind quant reach predictor l) text fault place
+      → Spells (lead kind) l front → HasFault (after_lead quant reach predictor l) text fault place
       → HasFault (mb kind quant reach predictor) (front ++ text) fault (length front + place)
   pub coded : (quant : ℕ) (reach : Reach) (predictor : Vector) (class : MbClass) (cbpc : ℕ)
       → CodedFaults quant reach predictor class cbpc

@@ -142,13 +142,13 @@ coded_mb quant reach predictor class cbpc =
     part (quantiser class quant) any λ quant.
     either (is_intra class) (intra_mb quant cbpy cbpc) (inter_mb reach predictor quant cbpy cbpc)
 
-unfoldable pub behind : ℕ → Reach → Vector → Lead → Syntax Mb
-behind quant reach predictor Skipped = done mbs.Skip
-behind quant reach predictor (Coded class cbpc) = coded_mb quant reach predictor class cbpc
+unfoldable pub after_lead : ℕ → Reach → Vector → Lead → Syntax Mb
+after_lead quant reach predictor Skipped = done mbs.Skip
+after_lead quant reach predictor (Coded class cbpc) = coded_mb quant reach predictor class cbpc
 
 -- a macroblock, with the quantiser before it, its reach and its predictor
 unfoldable pub mb : Kind → ℕ → Reach → Vector → Syntax Mb
-mb kind quant reach predictor = part (lead kind) any λ l. behind quant reach predictor l
+mb kind quant reach predictor = part (lead kind) any λ l. after_lead quant reach predictor l
 
 -- ---- in the format's words
 

@@ -7,7 +7,7 @@ ghost use Rattle.h263_types.specs.declared.blocks.Mb.{Mb};
 ghost use Rattle.h263_types.specs.declared.blocks.Mb.TheVariants.{Skip};
 ghost use Rattle.h263_types.specs.declared.vector.Reach.{Reach};
 ghost use Rattle.h263_types.specs.declared.vector.Vector.{Vector};
-ghost use Rattle.macroblock_layer.specs.Text.{class_turn, lead_turn, is_skipped, lead, is_intra, quantiser, limited, difference, moved, wrapped, is_within_across, is_within_along, is_within, vector, intra, inter, blocks, intra_mb, inter_mb, coded_mb, behind, mb, IsMbText, macroblock_fault};
+ghost use Rattle.macroblock_layer.specs.Text.{class_turn, lead_turn, is_skipped, lead, is_intra, quantiser, limited, difference, moved, wrapped, is_within_across, is_within_along, is_within, vector, intra, inter, blocks, intra_mb, inter_mb, coded_mb, after_lead, mb, IsMbText, macroblock_fault};
 ghost use Rattle.macroblock_layer.specs.Turns.{turn_of, IsIntraOf, IsInterOf, IsMovedOf, moved_mb};
 ghost use Rattle.macroblock_layer.specs.declared.reading.Lead.{Lead};
 
@@ -374,15 +374,15 @@ fn read_coded_mb(
 }
 
 // What follows the leading words.
-#[tactic(auto, unfolding(crate::specs::Text::behind, h263_bits::specs::Syntax::reading))]
-fn read_behind(
+#[tactic(auto, unfolding(crate::specs::Text::after_lead, h263_bits::specs::Syntax::reading))]
+fn read_after_lead(
     reader: &mut BitReader<'_>,
     near: Near,
     lead: Lead,
     out: &mut Mb,
 ) -> Result<(), Fault>
     ensures { Gives (λ _. out.new) result reader.new
-        (reading (behind near.quant near.reach near.predictor lead) reader.old) }
+        (reading (after_lead near.quant near.reach near.predictor lead) reader.old) }
 {
     match lead {
         Lead::Skipped => {
@@ -457,5 +457,5 @@ pub fn read_mb(
         reach,
         predictor,
     };
-    read_behind(reader, near, lead, out)
+    read_after_lead(reader, near, lead, out)
 }

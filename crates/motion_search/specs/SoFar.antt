@@ -22,8 +22,8 @@ abbrev pub IsKept : Candidate → Candidate → Type 0
 IsKept best next = (d : Candidate) → before d best ≡ false → before d next ≡ false
 
 -- the vector in a column and a row of the square is out of reach, or doesn't come before the best one
-abbrev pub IsBehind : Window → ℕ → ℕ → Candidate → Type 0
-IsBehind w column row best =
+abbrev pub IsNoBetter : Window → ℕ → ℕ → Candidate → Type 0
+IsNoBetter w column row best =
     InReach (picture w.reference).format w.mb (whole_at w.radius column row).x (whole_at w.radius column row).y
     → before (candidate_of w.block.now (picture w.reference) w.mb 0 (whole_at w.radius column row)) best ≡ false
 

@@ -7,7 +7,7 @@ ghost use Rattle.h263_planes.specs.Lent.{picture};
 ghost use Rattle.motion_search.specs.Differences.{differences};
 ghost use Rattle.motion_search.specs.Cost.{square, IsCost};
 ghost use Rattle.motion_search.specs.Vectors.{whole_component};
-ghost use Rattle.motion_search.specs.SoFar.{HoldsAround, IsBehind, IsKept, IsSoFar};
+ghost use Rattle.motion_search.specs.SoFar.{HoldsAround, IsNoBetter, IsKept, IsSoFar};
 ghost use Rattle.motion_search.specs.Areas.{AreQuarters, AreSumsOf, samples_from};
 
 use crate::areas::{Quarters, half_away, marks_of};
@@ -63,7 +63,7 @@ fn better_in_row(window: Window<'_>, column: u32, row: u32, best: Candidate) -> 
     ensures so_far { IsSoFar window.entry result }
     ensures kept { IsKept best result }
     ensures none { column < 2 * window.entry.radius + 1
-        → IsBehind window.entry column row result }
+        → IsNoBetter window.entry column row result }
 {
     let across = across(window.reach);
     let end = end_in(window.radius, across);
@@ -94,11 +94,11 @@ fn best_of_marked(
     requires left { window.reach.left ≤ℤ whole_component window.radius column }
     requires so_far { IsSoFar window best }
     requires others { (i : ℕ)
-        → i < 16 → bit_at marks i ≡ 0 → IsBehind window (column + i) row best }
+        → i < 16 → bit_at marks i ≡ 0 → IsNoBetter window (column + i) row best }
     ensures so_far { IsSoFar window.entry result }
     ensures kept { IsKept best result }
     ensures none { (i : ℕ) → i < 16 → column + i < 2 * window.entry.radius + 1
-        → IsBehind window.entry (column + i) row result }
+        → IsNoBetter window.entry (column + i) row result }
 {
     let mut first = best;
     let mut left = marks;
@@ -139,7 +139,7 @@ pub(crate) fn best_of_strip(
     ensures so_far { IsSoFar window.entry result }
     ensures kept { IsKept best result }
     ensures none { (m i : ℕ) → m < 2 * window.entry.radius + 1 → i < 16
-        → column + i < 2 * window.entry.radius + 1 → IsBehind window.entry (column + i) m result }
+        → column + i < 2 * window.entry.radius + 1 → IsNoBetter window.entry (column + i) m result }
 {
     let x = place(window.left, column, window.radius);
     let down = down(window.reach);

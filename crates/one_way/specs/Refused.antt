@@ -9,8 +9,8 @@ use Rattle.call_decoding.specs.Rules.{rules_of}
 use Rattle.call_encoding.specs.Frames.{Frame}
 use Rattle.one_way.specs.Both.{both_after, steady}
 use Rattle.one_way.specs.Seen.{in_both}
-use Rattle.one_way.specs.declared.refusals.Refusal.{Refusal}
-use Rattle.one_way.specs.declared.refusals.Refusal.TheVariants.{NotSent, NotSaid, Far, PlayBeforeSend, NoFrame}
+use Rattle.one_way.specs.declared.refusals.EventRefusal.{EventRefusal}
+use Rattle.one_way.specs.declared.refusals.EventRefusal.TheVariants.{NotSent, NotSaid, Far, PlayBeforeSend, NoFrame}
 
 -- what a far event asks for: of a message its own number is told, not its picture's
 abbrev pub given_by : Event → ℕ → ℕ
@@ -19,7 +19,7 @@ given_by Send given = given
 given_by (Deliver n j) given = given
 given_by Play given = given
 
-abbrev pub told_as : Event → call.Refusal → Refusal
+abbrev pub told_as : Event → call.Refusal → EventRefusal
 told_as e call.NotSent = NotSent
 told_as e call.NotSaid = NotSaid
 told_as e (call.Far given other) = Far (given_by e given) other
@@ -27,7 +27,7 @@ told_as e call.PlayBeforeSend = PlayBeforeSend
 told_as e call.NoFrame = NoFrame
 
 -- an event may happen where it has no refusal, and else is told to be refused so
-abbrev pub IsAllowed : Result Unit Refusal → Event → Option call.Refusal → Type 0
+abbrev pub IsAllowed : Result Unit EventRefusal → Event → Option call.Refusal → Type 0
 IsAllowed (Ok _) e refusal = refusal ≡ None
 IsAllowed (Err told) e refusal = (r : call.Refusal) × (refusal ≡ Some r) × (told ≡ told_as e r)
 

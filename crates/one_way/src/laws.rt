@@ -41,7 +41,7 @@ pub fn later_frames()
 }
 
 /// Both ends in a near call do what the ideal call says.
-pub fn of_the_ends()
+pub fn call_laws()
     ensures { (p : Params) → IsParams p → CallLaws p }
 {
     ends_run();
@@ -51,7 +51,7 @@ pub fn of_the_ends()
 
 /// A message is said by the bytes that are written of it, and a picture has a packet for each
 /// slice.
-pub fn of_messages()
+pub fn message_laws()
     ensures { (p : Params) → MessageLaws p }
 {
     said_bytes();
@@ -64,13 +64,13 @@ pub fn ends_agree()
         → AllMayHappenBoth (coding p) (rules_of p) (run_of p []) (steady p) frames past
         → ShowTheSame p frames past }
 {
-    of_the_ends();
-    of_near_events();
+    call_laws();
+    near_event_laws();
 }
 
 /// The packets of a picture have at most 1,200 bytes together for each macroblock, and there are no
 /// more of them than macroblocks.
-pub fn of_packets()
+pub fn packet_laws()
     ensures { (p : Params) → IsParams p → PacketLaws p }
 {
     header_in_range();
@@ -83,7 +83,7 @@ pub fn of_packets()
 
 /// An event that isn't refused is near by both ends, which is near by the ideal call; and what a
 /// near event asks for is still in the rings.
-pub fn of_near_events()
+pub fn near_event_laws()
     ensures { (p : Params) → IsParams p → NearLaws p }
 {
     is_coding();
@@ -94,13 +94,13 @@ pub fn of_near_events()
 }
 
 /// What both ends have done, by their own counts and pictures.
-pub fn of_the_way()
+pub fn way_laws()
     ensures { (p : Params) → WayLaws p }
 {
     ends_run();
 }
 
 /// What single events leave of both ends as it was.
-pub fn of_events()
+pub fn event_laws()
     ensures { (p : Params) → EventLaws p }
 {}

@@ -3,8 +3,8 @@
 //!
 //! `specs/Both` joins both ends, `specs/Way` says what is kept between them. Both ends are lent to
 //! each call of a [`Network`]. It is a [`Way`], which answers what the receiver says, and keeps that
-//! besides, by its number, for a trace that brings it back so. What an event may not do is a [`Refusal`];
-//! the `check` functions tell it by the counts of both ends, before anything is done.
+//! besides, by its number, for a trace that brings it back so. What an event may not do is an
+//! [`EventRefusal`]; the `check` functions tell it by the counts of both ends, before anything is done.
 //!
 //! ```rust
 //! let mut network = Network::start(alloc, &params, params.clock.period())?;
@@ -25,6 +25,6 @@ mod way;
 pub use both::Both;
 pub use network::Network;
 pub use references::References;
-pub use refusals::{Refusal, check_back, check_capture, check_packet, check_play, is_late};
+pub use refusals::{EventRefusal, check_back, check_capture, check_packet, check_play, is_late};
 pub use tally::Tally;
 pub use way::{Way, are_bytes, bring_back};

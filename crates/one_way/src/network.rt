@@ -135,7 +135,7 @@ impl Network {
             (length (slices_at (both_after p (steady p) frames before past).sender.coded number))
             ++ past) }
     {
-        laws::of_messages();
+        laws::message_laws();
         let count = self.way.count(number);
         'packets: for place in 0..count {
             self.deliver(receiver, number, place);
@@ -205,7 +205,7 @@ impl Network {
             → MayHappenNow p before frames past (Back k)
             → HoldsNetwork p self.now sender.new receiver before frames (Back k ∷ past) }
     {
-        laws::of_near_events();
+        laws::near_event_laws();
         if let Some((_, message)) = self.messages.get(k) {
             bring_back(sender, message.text());
         }

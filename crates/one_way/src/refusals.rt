@@ -19,7 +19,7 @@ use sender_end::Sender;
 
 /// Why an event is not done.
 #[derive(Clone, Copy, Debug, PartialEq, Eq)]
-pub enum Refusal {
+pub enum EventRefusal {
     /// The picture was not sent.
     NotSent,
     /// The message was not said.
@@ -39,7 +39,7 @@ pub fn check_capture(
     half: u32,
     sender: &Sender<FixedPace>,
     receiver: &Receiver,
-) -> Result<(), Refusal>
+) -> Result<(), EventRefusal>
     requires few { receiver.now.played ≤ 1048576 }
     requires half { half ≤ 512 }
     ensures { (p : Params) (before : List ReceiverEntry) (frames : List Frame) (past : List Event)
@@ -47,11 +47,11 @@ pub fn check_capture(
         → AreJoined p (steady p) sender.now receiver.now frames before past
         → IsAllowed result Send (refusal_after p before frames past Send) }
 {
-    laws::of_the_way();
+    laws::way_laws();
     let sent = sender.sent();
     let played = receiver.played();
     if played + half <= sent {
-        return Err(Refusal::Far {
+        return Err(EventRefusal::Far {
             given: sent,
             other: played,
         });
@@ -66,7 +66,7 @@ pub fn check_packet(
     number: u32,
     sender: &Sender<FixedPace>,
     receiver: &Receiver,
-) -> Result<(), Refusal>
+) -> Result<(), EventRefusal>
     requires few { sender.now.sent ≤ 1048576 }
     requires half { half ≤ 512 }
     ensures { (p : Params) (before : List ReceiverEntry) (frames : List Frame) (past : List Event)
@@ -75,14 +75,14 @@ pub fn check_packet(
         → IsAllowed result (Deliver number place)
         (refusal_after p before frames past (Deliver number place)) }
 {
-    laws::of_the_way();
+    laws::way_laws();
     let sent = sender.sent();
     let played = receiver.played();
     if sent <= number {
-        return Err(Refusal::NotSent);
+        return Err(EventRefusal::NotSent);
     }
     if number + half <= played {
-        return Err(Refusal::Far {
+        return Err(EventRefusal::Far {
             given: number,
             other: played,
         });
@@ -91,17 +91,17 @@ pub fn check_packet(
 }
 
 /// Whether the next picture may be played: it was sent.
-pub fn check_play(sender: &Sender<FixedPace>, receiver: &Receiver) -> Result<(), Refusal>
+pub fn check_play(sender: &Sender<FixedPace>, receiver: &Receiver) -> Result<(), EventRefusal>
     ensures ahead { OnOk result (receiver.now.played < sender.now.sent) }
     ensures refusal { (p : Params) (before : List ReceiverEntry) (frames : List Frame) (past : List Event)
         → AreJoined p (steady p) sender.now receiver.now frames before past
         → IsAllowed result Play (refusal_after p before frames past Play) }
 {
-    laws::of_the_way();
+    laws::way_laws();
     let sent = sender.sent();
     let played = receiver.played();
     if sent <= played {
-        return Err(Refusal::PlayBeforeSend);
+        return Err(EventRefusal::PlayBeforeSend);
     }
     Ok(())
 }
@@ -120,21 +120,21 @@ pub fn check_back(
     message: u32,
     sender: &Sender<FixedPace>,
     network: &Network,
-) -> Result<(), Refusal>
+) -> Result<(), EventRefusal>
     ensures { (p : Params) (receiver : Kept) (before : List ReceiverEntry) (frames : List Frame)
         (past : List Event) → IsParams p → half ≡ half_of p.clock → (run_of p before).played ≡ 0
         → HoldsNetwork p network.now sender.now receiver before frames past
         → IsAllowed result (Back message) (refusal_after p before frames past (Back message)) }
 {
-    laws::of_the_way();
-    laws::of_near_events();
+    laws::way_laws();
+    laws::near_event_laws();
     let sent = sender.sent();
     if network.messages.said() <= u64::from(message) {
-        return Err(Refusal::NotSaid);
+        return Err(EventRefusal::NotSaid);
     }
     match network.messages.get(message) {
         Some((about, _)) if !is_late(half, about, sent) => Ok(()),
-        _ => Err(Refusal::Far {
+        _ => Err(EventRefusal::Far {
             given: message,
             other: sent,
         }),

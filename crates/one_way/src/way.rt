@@ -123,9 +123,9 @@ impl Way {
             → HoldsWay p self.new sender.new receiver before frames (Send ∷ past) }
     {
         laws::ends_run();
-        laws::of_packets();
+        laws::packet_laws();
         let number = sender.sent();
-        let coded = sender.code(frame, back);
+        let coded = sender.capture(frame, back);
         self.references.note(number, coded.reference);
         keep_packets(&mut self.packets, sender, coded.packets);
         number
@@ -163,7 +163,7 @@ impl Way {
             ≡ (both_after p (steady p) frames before past).said ++ told_by number result }
     {
         laws::ends_run();
-        laws::of_messages();
+        laws::message_laws();
         receiver_end_laws::answers_say();
         let Some(bytes) = self.packets.packet(number, place) else {
             return None;
@@ -200,7 +200,7 @@ impl Way {
             (both_after p (steady p) frames before past).receiver) }
     {
         laws::ends_run();
-        laws::of_messages();
+        laws::message_laws();
         let played = receiver.play();
         self.tally.count(played.mark);
         as_said(played.message);

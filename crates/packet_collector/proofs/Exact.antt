@@ -20,7 +20,7 @@ use Rattle.slice_layer.specs.Text.{IsSliceText, slice_at}
 use Rattle.slice_layer.specs.Filled.{mbs_from}
 use Rattle.packet_collector.specs.declared.piece.Piece.{Piece}
 use Rattle.h263_payload.specs.Headed.{IsHeaded}
-use Rattle.packet_collector.specs.Packet.{Slice, data_of, IsPacket, headed_at, with_header, slice_behind, packet_at, packet_fault}
+use Rattle.packet_collector.specs.Packet.{Slice, data_of, IsPacket, headed_at, with_header, slice_after, packet_at, packet_fault}
 use Rattle.packet_collector.specs.Laws.{PartLaws}
 use Rattle.packet_collector.specs.Filled.{slice_in, FillsPacket, IsExtraOf, IsPieceIn}
 
@@ -57,16 +57,16 @@ with_ok h (Ok x) s e =
     record { read = ap (λ (t : Slice). Ok (t.first, t.mbs)) same; header = ap (λ (t : Slice). t.header) (sym same) }
 with_ok h (Err fault) s e = absurd cc
 
-record IsBehindText (format : Format) (p : Payload) (s : Slice) (bits : List Bool) : Type 0 where
+record IsAfterText (format : Format) (p : Payload) (s : Slice) (bits : List Bool) : Type 0 where
   front : List Bool
-  behind : List Bool
-  parts : bits ≡ front ++ behind
+  after : List Bool
+  parts : bits ≡ front ++ after
   headed : IsHeaded format p.extra s.header front
-  text : IsSliceText s.header p.begins s.first s.mbs behind
+  text : IsSliceText s.header p.begins s.first s.mbs after
 
-behind_sound : PartLaws → (format : Format) (p : Payload) (s : Slice) (b : Bits) → slice_behind format p b ≡ Ok s → IsBehindText format p s b.bits
-unfolding slice_behind
-behind_sound laws format p s b e =
+after_sound : PartLaws → (format : Format) (p : Payload) (s : Slice) (b : Bits) → slice_after format p b ≡ Ok s → IsAfterText format p s b.bits
+unfolding slice_after
+after_sound laws format p s b e =
     let one = bind_ok (headed_at format p.extra b) (λ x. with_header x.0 (slice_at x.0 p.begins x.1)) s e in
     let h = one.0.0 in
     let c = one.0.1 in
@@ -74,7 +74,7 @@ behind_sound laws format p s b e =
     let w = with_ok h (slice_at h p.begins c) s one.2 in
     record {
       front = front.0;
-      behind = c.bits;
+      after = c.bits;
       parts = front.1;
       headed = subst (λ (x : Header). IsHeaded format p.extra x front.0) (sym w.header) front.2;
       text = subst (λ (x : Header). IsSliceText x p.begins s.first s.mbs c.bits) (sym w.header) ((laws.slices h p.begins s.first s.mbs c).0 w.read);
@@ -84,16 +84,16 @@ behind_sound laws format p s b e =
 pub packet_sound : PartLaws → (format : Format) (s : Slice) (bytes : List ℕ) → packet_at format bytes ≡ Ok s → IsPacket format s bytes
 unfolding packet_at
 packet_sound laws format s bytes e =
-    let one = bind_ok (rtp_in bytes) (λ r. payload_at format (payload_bits_of bytes r) >>= λ p. slice_behind format p (data_of bytes r p)) s e in
+    let one = bind_ok (rtp_in bytes) (λ r. payload_at format (payload_bits_of bytes r) >>= λ p. slice_after format p (data_of bytes r p)) s e in
     let r = one.0 in
-    let two = bind_ok (payload_at format (payload_bits_of bytes r)) (λ p. slice_behind format p (data_of bytes r p)) s one.2 in
+    let two = bind_ok (payload_at format (payload_bits_of bytes r)) (λ p. slice_after format p (data_of bytes r p)) s one.2 in
     let p = two.0 in
-    let t = behind_sound laws format p s (data_of bytes r p) two.2 in
+    let t = after_sound laws format p s (data_of bytes r p) two.2 in
     record {
       rtp = r;
       payload = p;
       front = t.front;
-      behind = t.behind;
+      after = t.after;
       is_rtp = laws.rtp_read r bytes one.1;
       is_payload = laws.payload_read format p (payload_bits_of bytes r) two.1;
       parts = t.parts;
@@ -118,13 +118,13 @@ headed_again laws format (Some x) h at front rest t = record {
 }
 
 pub packet_complete : PartLaws → (format : Format) (s : Slice) (bytes : List ℕ) → IsPacket format s bytes → packet_at format bytes ≡ Ok s
-unfolding packet_at slice_behind
+unfolding packet_at slice_after
 packet_complete laws format s bytes t =
     let r = t.rtp in
     let p = t.payload in
     let one : rtp_in bytes ≡ Ok r = laws.rtp_written r bytes t.is_rtp in
     let two : payload_at format (payload_bits_of bytes r) ≡ Ok p = laws.payload_written format p (payload_bits_of bytes r) t.is_payload in
-    let again = headed_again laws.headers format p.extra s.header p.from t.front t.behind t.headed in
+    let again = headed_again laws.headers format p.extra s.header p.from t.front t.after t.headed in
     let three : headed_at format p.extra (data_of bytes r p) ≡ Ok (s.header, again.left) =
     ap (λ (bits : List Bool). headed_at format p.extra (record { at = p.from; bits = bits })) t.parts ∙ again.read in
     let four : slice_at s.header p.begins again.left ≡ Ok (s.first, s.mbs) =

@@ -18,7 +18,7 @@ use Rattle.h263_payload.specs.Faults.{payload_at, payload_bits_of}
 use Rattle.slice_layer.specs.Text.{slice_at}
 use Rattle.slice_layer.specs.Faults.{IsSliceFault}
 use Rattle.packet_collector.specs.Laws.{PartLaws, FaultLaws}
-use Rattle.packet_collector.specs.Packet.{Slice, data_of, headed_at, with_header, slice_behind, packet_at}
+use Rattle.packet_collector.specs.Packet.{Slice, data_of, headed_at, with_header, slice_after, packet_at}
 use Rattle.packet_collector.specs.Rows.{Carries, IsPacketFault, in_rtp, in_payload, in_header, in_slice}
 
 -- ---- what a row has is found
@@ -32,17 +32,17 @@ unfolding packet_at
 of_payload format bytes fault rtp one e = rw (one, e) refl
 
 -- after the payload header
-behind_payload : (format : Format) (bytes : List ℕ) (fault : Fault) (rtp : Rtp) (payload : Payload) → rtp_in bytes ≡ Ok rtp → payload_at format (payload_bits_of bytes rtp) ≡ Ok payload
-    → slice_behind format payload (data_of bytes rtp payload) ≡ Err fault → packet_at format bytes ≡ Err fault
+after_payload : (format : Format) (bytes : List ℕ) (fault : Fault) (rtp : Rtp) (payload : Payload) → rtp_in bytes ≡ Ok rtp → payload_at format (payload_bits_of bytes rtp) ≡ Ok payload
+    → slice_after format payload (data_of bytes rtp payload) ≡ Err fault → packet_at format bytes ≡ Err fault
 unfolding packet_at
-behind_payload format bytes fault rtp payload one two e = rw (one, two) e
+after_payload format bytes fault rtp payload one two e = rw (one, two) e
 
-of_header : (format : Format) (fault : Fault) (payload : Payload) (b : Bits) → payload.extra ≡ None → reading (header format) b ≡ Err fault → slice_behind format payload b ≡ Err fault
-unfolding slice_behind
+of_header : (format : Format) (fault : Fault) (payload : Payload) (b : Bits) → payload.extra ≡ None → reading (header format) b ≡ Err fault → slice_after format payload b ≡ Err fault
+unfolding slice_after
 of_header format fault payload b none e = let headed : headed_at format payload.extra b ≡ Err fault = ap (λ (x : Option Header). headed_at format x b) none ∙ e in rw headed refl
 
-of_slice : (format : Format) (fault : Fault) (payload : Payload) (b left : Bits) (h : Header) → headed_at format payload.extra b ≡ Ok (h, left) → slice_at h payload.begins left ≡ Err fault → slice_behind format payload b ≡ Err fault
-unfolding slice_behind
+of_slice : (format : Format) (fault : Fault) (payload : Payload) (b left : Bits) (h : Header) → headed_at format payload.extra b ≡ Ok (h, left) → slice_at h payload.begins left ≡ Err fault → slice_after format payload b ≡ Err fault
+unfolding slice_after
 of_slice format fault payload b left h headed e = rw (headed, e) refl
 
 -- what stands before the slice is its header, or there is an extra one
@@ -66,13 +66,13 @@ from_row laws faults format bytes kind at (in_payload rtp k p is r) =
     of_payload format bytes (stands k p) rtp (laws.rtp_written rtp bytes is) ((faults.payload format (payload_bits_of bytes rtp) (stands k p)).1 r)
 from_row laws faults format bytes kind at (in_header rtp payload k p c none f) =
     let parts = carried laws format bytes rtp payload c in
-    behind_payload format bytes (stands k p) rtp payload parts.0 parts.1 (of_header format (stands k p) payload (data_of bytes rtp payload) none ((faults.headers format (data_of bytes rtp payload) (stands k p)).1 f))
+    after_payload format bytes (stands k p) rtp payload parts.0 parts.1 (of_header format (stands k p) payload (data_of bytes rtp payload) none ((faults.headers format (data_of bytes rtp payload) (stands k p)).1 f))
 from_row laws faults format bytes kind at (in_slice rtp payload h front rest k p c split headed f) =
     let parts = carried laws format bytes rtp payload c in
     let left : Bits = record { at = payload.from + length front; bits = rest } in
     let read : headed_at format payload.extra (data_of bytes rtp payload) ≡ Ok (h, left) =
     ap (λ (t : List Bool). headed_at format payload.extra (record { at = payload.from; bits = t })) split ∙ headed_again laws format payload.extra h payload.from front rest headed in
-    behind_payload format bytes (stands k p) rtp payload parts.0 parts.1 (of_slice format (stands k p) payload (data_of bytes rtp payload) left h read ((faults.slices h payload.begins left (stands k p)).1 f))
+    after_payload format bytes (stands k p) rtp payload parts.0 parts.1 (of_slice format (stands k p) payload (data_of bytes rtp payload) left h read ((faults.slices h payload.begins left (stands k p)).1 f))
 
 -- ---- what is found is in a row
 
@@ -92,9 +92,9 @@ headed_err : (format : Format) (extra : Option Header) (b : Bits) (fault : Fault
 headed_err format None b fault e = (refl, e)
 headed_err format (Some x) b fault e = absurd (err_not_ok fault (x, b) (sym e))
 
-at_slice : FaultLaws → (format : Format) (bytes : List ℕ) (rtp : Rtp) (payload : Payload) (fault : Fault) → Carries format bytes rtp payload → slice_behind format payload (data_of bytes rtp payload) ≡ Err fault
+at_slice : FaultLaws → (format : Format) (bytes : List ℕ) (rtp : Rtp) (payload : Payload) (fault : Fault) → Carries format bytes rtp payload → slice_after format payload (data_of bytes rtp payload) ≡ Err fault
     → IsPacketFault format bytes fault.kind fault.at
-unfolding slice_behind
+unfolding slice_after
 at_slice faults format bytes rtp payload fault c e =
     let b = data_of bytes rtp payload in
     elim (bind_err (headed_at format payload.extra b) (λ x. with_header x.0 (slice_at x.0 payload.begins x.1)) fault e) [
@@ -113,12 +113,12 @@ at_slice faults format bytes rtp payload fault c e =
 to_row : PartLaws → FaultLaws → (format : Format) (bytes : List ℕ) (fault : Fault) → packet_at format bytes ≡ Err fault → IsPacketFault format bytes fault.kind fault.at
 unfolding packet_at
 to_row laws faults format bytes fault e =
-    elim (bind_err (rtp_in bytes) (λ rtp. payload_at format (payload_bits_of bytes rtp) >>= λ payload. slice_behind format payload (data_of bytes rtp payload)) fault e) [
+    elim (bind_err (rtp_in bytes) (λ rtp. payload_at format (payload_bits_of bytes rtp) >>= λ payload. slice_after format payload (data_of bytes rtp payload)) fault e) [
       | inl f ↦ in_rtp fault.kind fault.at ((faults.rtp bytes fault).0 f)
       | inr f ↦
           let rtp = f.0 in
           let is = laws.rtp_read rtp bytes f.1 in
-          elim (bind_err (payload_at format (payload_bits_of bytes rtp)) (λ payload. slice_behind format payload (data_of bytes rtp payload)) fault f.2) [
+          elim (bind_err (payload_at format (payload_bits_of bytes rtp)) (λ payload. slice_after format payload (data_of bytes rtp payload)) fault f.2) [
             | inl g ↦ in_payload rtp fault.kind fault.at is ((faults.payload format (payload_bits_of bytes rtp) fault).0 g)
             | inr g ↦ at_slice faults format bytes rtp g.0 fault (record { is_rtp = is; is_payload = laws.payload_read format g.0 (payload_bits_of bytes rtp) g.1 }) g.2
           ]

@@ -34,12 +34,12 @@ pub record IsPacket (format : Format) (s : Slice) (bytes : List ℕ) : Type 0 wh
   pub rtp : Rtp
   pub payload : Payload
   pub front : List Bool
-  pub behind : List Bool
+  pub after : List Bool
   pub is_rtp : IsRtp rtp bytes
   pub is_payload : IsPayload format payload (payload_bits_of bytes rtp)
-  pub parts : (data_of bytes rtp payload).bits ≡ front ++ behind
+  pub parts : (data_of bytes rtp payload).bits ≡ front ++ after
   pub headed : IsHeaded format payload.extra s.header front
-  pub text : IsSliceText s.header payload.begins s.first s.mbs behind
+  pub text : IsSliceText s.header payload.begins s.first s.mbs after
 
 -- ---- what a reader finds
 
@@ -52,15 +52,15 @@ abbrev pub with_header : Header → Result (ℕ × List Mb) Fault → Result Sli
 with_header h (Ok s) = Ok (record { header = h; first = s.0; mbs = s.1 })
 with_header h (Err fault) = Err fault
 
-unfoldable pub slice_behind : Format → Payload → Bits → Result Slice Fault
-slice_behind format payload b =
+unfoldable pub slice_after : Format → Payload → Bits → Result Slice Fault
+slice_after format payload b =
     headed_at format payload.extra b >>= λ x. with_header x.0 (slice_at x.0 payload.begins x.1)
 
 -- the slice that a packet spells, or its first fault at its place
 unfoldable pub packet_at : Format → List ℕ → Result Slice Fault
 packet_at format bytes =
     rtp_in bytes >>= λ rtp. (payload_at format (payload_bits_of bytes rtp) >>= λ payload.
-    slice_behind format payload (data_of bytes rtp payload))
+    slice_after format payload (data_of bytes rtp payload))
 
 -- the first fault of a packet, if there is one
 abbrev pub packet_fault : Format → List ℕ → Option Fault

@@ -15,7 +15,7 @@ ghost use Rattle.packet_collector.specs.Taken.{Taken, IsPlace, TakenLaws};
 use picture_header::laws::in_a_syntax;
 
 // Each part of a packet is read exactly where it is spelled.
-pub(crate) fn of_the_parts()
+pub(crate) fn part_laws()
     ensures { PartLaws }
 {
     in_a_syntax();
@@ -32,7 +32,7 @@ pub fn exact_text()
     ensures no_fault { (format : Format) (bytes : List ℕ)
         → (packet_fault format bytes ≡ None) ↔ ((s : Slice) × IsPacket format s bytes) }
 {
-    of_the_parts();
+    part_laws();
 }
 
 // The faults of a packet's parts, each by its own table.
@@ -51,7 +51,7 @@ pub fn first_faults()
     ensures { (format : Format) (bytes : List ℕ) (fault : Fault)
         → (packet_at format bytes ≡ Err fault) ↔ IsPacketFault format bytes fault.kind fault.at }
 {
-    of_the_parts();
+    part_laws();
     faults_of_the_parts();
 }
 
@@ -63,7 +63,7 @@ pub fn one_reading()
     ensures one { (format : Format) (s other : Slice) (bytes : List ℕ)
         → IsPacket format s bytes → IsPacket format other bytes → s ≡ other }
 {
-    of_the_parts();
+    part_laws();
 }
 
 /// What is read is of the expected format, and has a macroblock and none past the picture.
@@ -73,7 +73,7 @@ pub fn read_inside()
     ensures inside { (format : Format) (s : Slice) (bytes : List ℕ) → packet_at format bytes ≡ Ok s
         → (0 < length s.mbs) × (s.first + length s.mbs ≤ mbs_of format) }
 {
-    of_the_parts();
+    part_laws();
 }
 
 /// A slice stands at one place to those that were taken.

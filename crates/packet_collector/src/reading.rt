@@ -3,9 +3,9 @@ ghost use Rattle.std.specs.Prelude.{◌≡◌, ℕ, ◌*◌, ◌≤◌, List, le
 ghost use Rattle.h263_bits.specs.Reading.{Gives, bits_between, first_fault};
 ghost use Rattle.h263_types.specs.Sizes.{mbs_of};
 ghost use Rattle.picture_header.specs.Ranges.{IsHeader};
-ghost use Rattle.h263_payload.specs.Ranges.{IsExtraHeader, IsBehind};
+ghost use Rattle.h263_payload.specs.Ranges.{IsExtraHeader, IsAfterHeader};
 ghost use Rattle.slice_layer.specs.Filled.{AreOthersSame};
-ghost use Rattle.packet_collector.specs.Packet.{Slice, IsPacket, headed_at, slice_behind, packet_at, packet_fault};
+ghost use Rattle.packet_collector.specs.Packet.{Slice, IsPacket, headed_at, slice_after, packet_at, packet_fault};
 ghost use Rattle.packet_collector.specs.Filled.{IsExtraOf, FillsPacket, IsPieceIn, slice_in};
 
 use crate::laws;
@@ -37,8 +37,8 @@ fn read_front(
 }
 
 // The slice after the payload's header.
-#[tactic(auto, unfolding(crate::specs::Packet::slice_behind))]
-fn read_behind(
+#[tactic(auto, unfolding(crate::specs::Packet::slice_after))]
+fn read_after(
     bytes: &[u8],
     end: u32,
     payload: &Payload,
@@ -52,7 +52,7 @@ fn read_behind(
     requires format { IsExtraOf format payload.now.extra }
     requires picture { length out.old ≡ mbs_of format }
     ensures exact { FillsPacket result out.new
-        (slice_behind format payload.now (bits_between bytes.now payload.now.from end)) }
+        (slice_after format payload.now (bits_between bytes.now payload.now.from end)) }
     ensures range { IfOk result (IsPieceIn format out.new) }
     ensures others { IfOk result (λ piece. AreOthersSame out.old out.new piece.head) }
     ensures size { length out.new ≡ length out.old }
@@ -82,8 +82,8 @@ pub fn read_packet(bytes: &[u8], format: Format, out: &mut [Mb]) -> Result<Piece
     ensures others { IfOk result (λ piece. AreOthersSame out.old out.new piece.head) }
     ensures size { length out.new ≡ length out.old }
 {
-    laws::of_the_parts();
+    laws::part_laws();
     let rtp = rtp_header::read(bytes)?;
     let payload = read_payload(bytes, &rtp, format)?;
-    read_behind(bytes, 8 * rtp.to, &payload, format, out)
+    read_after(bytes, 8 * rtp.to, &payload, format, out)
 }

@@ -30,11 +30,11 @@ bytes_of_bits [] fit = refl
 bytes_of_bits (byte ∷ bytes) fit =
     let long : length (spelled 8 byte) ≡ 8 = length-spelled 8 byte in
     let front : take 8 (spelled 8 byte ++ bits_of bytes) ≡ spelled 8 byte = take_at (spelled 8 byte) (bits_of bytes) 8 long in
-    let behind : drop 8 (spelled 8 byte ++ bits_of bytes) ≡ bits_of bytes = drop_at (spelled 8 byte) (bits_of bytes) 8 long in
+    let after : drop 8 (spelled 8 byte ++ bits_of bytes) ≡ bits_of bytes = drop_at (spelled 8 byte) (bits_of bytes) 8 long in
     let small : byte < 2 ^ 8 = omega (arith, fit 0) in
     ap (λ (t : List Bool). number t ∷ bytes_in (length bytes) (drop 8 (spelled 8 byte ++ bits_of bytes))) front
     ∙ ap (λ (n : ℕ). n ∷ bytes_in (length bytes) (drop 8 (spelled 8 byte ++ bits_of bytes))) (number-spelled 8 byte ∙ mod-eq_of_lt small)
-    ∙ ap (λ (t : List Bool). byte ∷ bytes_in (length bytes) t) behind ∙ ap (λ (l : List ℕ). byte ∷ l) (bytes_of_bits bytes (λ i. fit (suc i)))
+    ∙ ap (λ (t : List Bool). byte ∷ bytes_in (length bytes) t) after ∙ ap (λ (l : List ℕ). byte ∷ l) (bytes_of_bits bytes (λ i. fit (suc i)))
 
 pub AreBytes-take : (n : ℕ) (bytes : List ℕ) → AreBytes bytes → AreBytes (take n bytes)
 AreBytes-take zero bytes fit i = omega arith

@@ -19,12 +19,12 @@ use Rattle.packet_cutter.proofs.Fronts.{AllShort, front_short}
 
 -- ---- a longer slice has no shorter packet
 
-mbs_text-behind : (a : Around) (quant : ℕ) (before mbs more : List Mb) → (behind : List Bool) × (mbs_text a quant before (mbs ++ more) ≡ mbs_text a quant before mbs ++ behind)
+mbs_text-after : (a : Around) (quant : ℕ) (before mbs more : List Mb) → (after : List Bool) × (mbs_text a quant before (mbs ++ more) ≡ mbs_text a quant before mbs ++ after)
 unfolding mbs_text
-mbs_text-behind a quant before [] more = (mbs_text a quant before more, refl)
-mbs_text-behind a quant before (m ∷ mbs) more =
+mbs_text-after a quant before [] more = (mbs_text a quant before more, refl)
+mbs_text-after a quant before (m ∷ mbs) more =
     let front = mb_text a.kind quant (a.predictor before) m in
-    let next = mbs_text-behind a (quant_after quant m) (before ++ m ∷ []) mbs more in
+    let next = mbs_text-after a (quant_after quant m) (before ++ m ∷ []) mbs more in
     let text = mbs_text a (quant_after quant m) (before ++ m ∷ []) mbs in
     (next.0, ap (λ (t : List Bool). front ++ t) next.1 ∙ sym (append_assoc front text next.0))
 
@@ -36,9 +36,9 @@ packet_grows h first run more =
     let opening = opening_text h (begins_at first) first in
     let text = mbs_text (around h first) h.quant [] run in
     let longer = mbs_text (around h first) h.quant [] (run ++ more) in
-    let behind = mbs_text-behind (around h first) h.quant [] run more in
+    let after = mbs_text-after (around h first) h.quant [] run more in
     let bits : length (opening ++ text) ≤ length (opening ++ longer) =
-    omega (arith, length-append opening text, length-append opening longer, ap length behind.1, length-append text behind.0) in
+    omega (arith, length-append opening text, length-append opening longer, ap length after.1, length-append text after.0) in
     omega (arith, bytes_grow (length (opening ++ text)) (length (opening ++ longer)) bits)
 
 -- a slice is the longest where the next macroblock doesn't fit
@@ -63,26 +63,26 @@ longest_by_next h limit first run rest some fits next = record {
 pub record IsFurther (a b c d : List Mb) : Type 0 where
   pub more : List Mb
   pub front : c ≡ a ++ more
-  pub behind : b ≡ more ++ d
+  pub after : b ≡ more ++ d
 
 divided : (a b c d : List Mb) → a ++ b ≡ c ++ d → IsFurther a b c d ⊎ IsFurther c d a b
-divided [] b c d e = inl (record { more = c; front = refl; behind = e })
-divided (x ∷ a) b [] d e = inr (record { more = x ∷ a; front = refl; behind = sym e })
+divided [] b c d e = inl (record { more = c; front = refl; after = e })
+divided (x ∷ a) b [] d e = inr (record { more = x ∷ a; front = refl; after = sym e })
 divided (x ∷ a) b (y ∷ c) d e =
     let same : x ≡ y = cc in
     let tails : a ++ b ≡ c ++ d = cc in
     elim (divided a b c d tails) [
-      | inl w ↦ inl (record { more = w.more; front = ap (λ (t : List Mb). y ∷ t) w.front ∙ ap (λ (z : Mb). z ∷ (a ++ w.more)) (sym same); behind = w.behind })
-      | inr w ↦ inr (record { more = w.more; front = ap (λ (t : List Mb). x ∷ t) w.front ∙ ap (λ (z : Mb). z ∷ (c ++ w.more)) same; behind = w.behind })
+      | inl w ↦ inl (record { more = w.more; front = ap (λ (t : List Mb). y ∷ t) w.front ∙ ap (λ (z : Mb). z ∷ (a ++ w.more)) (sym same); after = w.after })
+      | inr w ↦ inr (record { more = w.more; front = ap (λ (t : List Mb). x ∷ t) w.front ∙ ap (λ (z : Mb). z ∷ (c ++ w.more)) same; after = w.after })
     ]
 
 no_further : (h : Header) (limit first : ℕ) (run rest other left : List Mb) → IsLongest h limit first run rest → IsLongest h limit first other left → IsFurther run rest other left → (run ≡ other) × (rest ≡ left)
-no_further h limit first run rest other left a b w = at_more w.more w.front w.behind
+no_further h limit first run rest other left a b w = at_more w.more w.front w.after
   where
     at_more : (more : List Mb) → other ≡ run ++ more → rest ≡ more ++ left → (run ≡ other) × (rest ≡ left)
-    at_more [] front behind = (sym (front ∙ append-nil run), behind)
-    at_more (m ∷ more) front behind =
-        absurd (omega (arith, a.longest (m ∷ more) left behind (omega arith), b.fits, ap (packet_bytes h first) front))
+    at_more [] front after = (sym (front ∙ append-nil run), after)
+    at_more (m ∷ more) front after =
+        absurd (omega (arith, a.longest (m ∷ more) left after (omega arith), b.fits, ap (packet_bytes h first) front))
 
 same_run : (h : Header) (limit first : ℕ) (run rest other left : List Mb) → IsLongest h limit first run rest → IsLongest h limit first other left → run ++ rest ≡ other ++ left → (run ≡ other) × (rest ≡ left)
 same_run h limit first run rest other left a b e =
@@ -101,9 +101,9 @@ one_cut h limit first mbs [] (other ∷ others) a b = absurd (no_slice mbs other
 one_cut h limit first mbs (run ∷ runs) [] a b = absurd (no_slice mbs run a.0 b a.1 a.2.some)
 one_cut h limit first mbs (run ∷ runs) (other ∷ others) a b =
     let same = same_run h limit first run a.0 other b.0 a.2 b.2 (sym a.1 ∙ b.1) in
-    let behind = subst (λ (l : List Mb). IsCut h limit (first + length run) l others) (sym same.1)
+    let after = subst (λ (l : List Mb). IsCut h limit (first + length run) l others) (sym same.1)
     (subst (λ (l : List Mb). IsCut h limit (first + length l) b.0 others) (sym same.0) b.3) in
-    ap (λ (l : List (List Mb)). run ∷ l) (one_cut h limit (first + length run) a.0 runs others a.3 behind) ∙ ap (λ (l : List Mb). l ∷ others) same.0
+    ap (λ (l : List (List Mb)). run ∷ l) (one_cut h limit (first + length run) a.0 runs others a.3 after) ∙ ap (λ (l : List Mb). l ∷ others) same.0
 
 -- ---- its parts
 
@@ -168,7 +168,7 @@ cut_exists slices short h limit is room (suc n) first (m ∷ mbs) few whole =
     let g = grown h limit first (m ∷ []) mbs (omega arith) (one_fits slices short h limit first m is room (whole 0 m (omega arith))) in
     let run = m ∷ g.more in
     let parts : m ∷ mbs ≡ run ++ g.others = ap (λ (l : List Mb). m ∷ l) g.parts in
-    let behind : All HasWholeBlocks g.others = subst (All HasWholeBlocks) (drop-append_seam run g.others) (All-drop HasWholeBlocks (length run) (run ++ g.others) (subst (All HasWholeBlocks) parts whole)) in
+    let after : All HasWholeBlocks g.others = subst (All HasWholeBlocks) (drop-append_seam run g.others) (All-drop HasWholeBlocks (length run) (run ++ g.others) (subst (All HasWholeBlocks) parts whole)) in
     let fewer : length g.others ≤ n = omega (arith, ap length g.parts, length-append g.more g.others) in
-    let next = cut_exists slices short h limit is room n (first + length run) g.others fewer behind in
+    let next = cut_exists slices short h limit is room n (first + length run) g.others fewer after in
     (run ∷ next.0, (g.others, parts, g.longest, next.1))

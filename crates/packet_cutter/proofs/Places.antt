@@ -93,5 +93,5 @@ appended old d ys post places limit n size same p few within fits =
     let len : length front ≡ at = ap (λ (l : List ℕ). length (take at l)) same ∙ length-take-le at old within in
     let high : at ≤ length new = omega (arith, length-append front (ys ++ post), len) in
     let kept : take at new ≡ take at old = take_at front (ys ++ post) at len ∙ ap (take at) same in
-    let behind : take size (drop at new) ≡ take size ys = ap (take size) (drop_at front (ys ++ post) at len) ∙ take-append-le size ys post fits in
-    one_more old new places limit n size p few within high kept ∙ ap (λ (l : List ℕ). packets_in old places n ++ l ∷ []) behind
+    let after : take size (drop at new) ≡ take size ys = ap (take size) (drop_at front (ys ++ post) at len) ∙ take-append-le size ys post fits in
+    one_more old new places limit n size p few within high kept ∙ ap (λ (l : List ℕ). packets_in old places n ++ l ∷ []) after

@@ -48,8 +48,8 @@ pub record AreReadAgain : Type 0 where
 -- ---- windows of bytes whose bits are known
 
 -- the bits after a text
-behind_text : (bytes : List ℕ) (front rest : List Bool) (at : ℕ) → bits_of bytes ≡ front ++ rest → length front ≡ at → bits_between bytes at (8 * length bytes) ≡ record { at = at; bits = rest }
-behind_text bytes front rest at e len =
+after_text : (bytes : List ℕ) (front rest : List Bool) (at : ℕ) → bits_of bytes ≡ front ++ rest → length front ≡ at → bits_between bytes at (8 * length bytes) ≡ record { at = at; bits = rest }
+after_text bytes front rest at e len =
     let room : length rest ≤ 8 * length bytes - at = omega (arith, length-bits_of bytes, ap length e, length-append front rest) in
     let there : drop at (bits_of bytes) ≡ rest = ap (drop at) e ∙ drop_at front rest at len in
     ap (λ (t : List Bool). record { at = at; bits = t }) (ap (take (8 * length bytes - at)) there ∙ take_all (8 * length bytes - at) rest room)
@@ -116,11 +116,11 @@ read_as below number sequence marker h first run bytes is some within each e sho
     let zeros = spelled (to_byte (length (slice_text h begins first run))) 0 in
     let len : length rtp ≡ 96 = length-rtp marker (sequence % 65536) (timestamp_of number) in
     let from : 96 + length payload ≡ 8 * front_bytes h first = omega (arith, below.many (extra_of h begins), front_whole h first) in
-    let there = behind_text bytes rtp (payload ++ coded) 96 e len in
-    let data_there = behind_text bytes (rtp ++ payload) coded (8 * front_bytes h first) (e ∙ sym (append_assoc rtp payload coded)) (omega (arith, length-append rtp payload, len, from)) in
+    let there = after_text bytes rtp (payload ++ coded) 96 e len in
+    let data_there = after_text bytes (rtp ++ payload) coded (8 * front_bytes h first) (e ∙ sym (append_assoc rtp payload coded)) (omega (arith, length-append rtp payload, len, from)) in
     record {
       front = header_part h begins;
-      behind = head_text h begins first ++ (texts ++ zeros);
+      after = head_text h begins first ++ (texts ++ zeros);
       rtp = rtp_again below number sequence marker bytes (payload ++ coded) e short;
       payload = ap (payload_at h.format) there ∙ payload_again below h begins 96 coded is (started h begins first run) ∙ ap (λ (n : ℕ). ok_payload (record { extra = extra_of h begins; begins = begins; from = n })) from;
       parts = ap (λ (b : Bits). b.bits) data_there ∙ divided h begins first texts zeros;

@@ -35,12 +35,12 @@ cut_is found (suc most) h limit first (m ∷ mbs) (run ∷ runs) few cut =
     let count : longest_of (packet_bytes h) limit first (m ∷ mbs) ≡ length run =
     ap (longest_of (packet_bytes h) limit first) cut.1 ∙ longest_is found (packet_bytes h) limit first run rest longest.some longest.fits longest.longest in
     let front : take (length run) (m ∷ mbs) ≡ run = ap (take (length run)) cut.1 ∙ take_at run rest (length run) refl in
-    let behind : drop (length run) (m ∷ mbs) ≡ rest = ap (drop (length run)) cut.1 ∙ drop_at run rest (length run) refl in
+    let after : drop (length run) (m ∷ mbs) ≡ rest = ap (drop (length run)) cut.1 ∙ drop_at run rest (length run) refl in
     let fewer : length rest ≤ most = omega (arith, ap length cut.1, length-append run rest, longest.some) in
     let slice : List Mb → Slice Mb = λ l. record { first = first; mbs = l } in
     let others = λ (n : ℕ) (l : List Mb). slices_from most (packet_bytes h) limit (first + n) l in
     ap (λ (l : List (Slice Mb)). slice run ∷ l) (cut_is found most h limit (first + length run) rest runs fewer cut.3)
-    ∙ ap (λ (l : List Mb). slice run ∷ others (length run) l) (sym behind) ∙ ap (λ (l : List Mb). slice l ∷ others (length run) (drop (length run) (m ∷ mbs))) (sym front)
+    ∙ ap (λ (l : List Mb). slice run ∷ others (length run) l) (sym after) ∙ ap (λ (l : List Mb). slice l ∷ others (length run) (drop (length run) (m ∷ mbs))) (sym front)
     ∙ ap (λ (n : ℕ). slice (take n (m ∷ mbs)) ∷ others n (drop n (m ∷ mbs))) (sym count)
 
 -- ---- the packets
@@ -54,9 +54,9 @@ pub packets_are : (number sequence : ℕ) (h : Header) (first : ℕ) (runs : Lis
 unfolding ArePackets packets_of
 packets_are number sequence h first [] packets each = each
 packets_are number sequence h first (run ∷ runs) packets each =
-    let behind = packets_are number (sequence + 1) h (first + length run) runs each.1 each.4 in
+    let after = packets_are number (sequence + 1) h (first + length run) runs each.1 each.4 in
     each.2 ∙ ap (λ (p : List ℕ). p ∷ each.1) (each.3 ∙ ap (λ (b : Bool). packet_of number sequence b h first run) (sym (same_last (first + length run) runs)))
-    ∙ ap (λ (l : List (List ℕ)). packet_of number sequence (is_last (slices_at (first + length run) runs)) h first run ∷ l) behind
+    ∙ ap (λ (l : List (List ℕ)). packet_of number sequence (is_last (slices_at (first + length run) runs)) h first run ∷ l) after
 
 pub are_packets : (number sequence : ℕ) (h : Header) (first : ℕ) (runs : List (List Mb)) → ArePackets number sequence h first runs (packets_of number sequence h (slices_at first runs))
 unfolding ArePackets packets_of

@@ -106,7 +106,7 @@ place_below first end [] k row low high = absurd (omega arith)
 place_below first end (slice ∷ slices) k row low high =
     elim (cases_lt k (slice.first + length slice.mbs)) [
       | inl here ↦ omega (arith, place_head slice slices k here)
-      | inr behind ↦ omega (arith, place_tail slice slices k behind, place_below (first + length slice.mbs) end slices k row.2 (omega (arith, row.0, behind)) high)
+      | inr after ↦ omega (arith, place_tail slice slices k after, place_below (first + length slice.mbs) end slices k row.2 (omega (arith, row.0, after)) high)
     ]
 
 pub slice_inside : (first end : ℕ) (slices : List (Slice Mb)) (j : ℕ) (slice : Slice Mb) → AreInRow first end slices → slice_get slices j ≡ Some slice
@@ -129,9 +129,9 @@ not_before : (slice : Slice Mb) (k : ℕ) → k < slice.first → has_mb slice k
 unfolding has_mb
 not_before slice k low = rw (not_from slice.first k low) refl
 
-not_behind : (slice : Slice Mb) (k : ℕ) → slice.first ≤ k → slice.first + length slice.mbs ≤ k → has_mb slice k ≡ false
+not_after : (slice : Slice Mb) (k : ℕ) → slice.first ≤ k → slice.first + length slice.mbs ≤ k → has_mb slice k ≡ false
 unfolding has_mb
-not_behind slice k low high = rw (from slice.first k low, not_below k (slice.first + length slice.mbs) high) refl
+not_after slice k low high = rw (from slice.first k low, not_below k (slice.first + length slice.mbs) high) refl
 
 -- a slice that has macroblock k begins before it and ends after it
 has_parts : (slice : Slice Mb) (k : ℕ) → has_mb slice k ≡ true → (slice.first ≤ k) × (k < slice.first + length slice.mbs)
@@ -160,15 +160,15 @@ one_has first end (head ∷ slices) zero k slice row low e =
     subst (λ (s : Slice Mb). has_mb s k ≡ (0 == place_in (head ∷ slices) k)) same
     (elim (cases_lt k (head.first + length head.mbs)) [
       | inl here ↦ has_it head k (omega (arith, row.0)) here ∙ sym (ap (λ (n : ℕ). 0 == n) (place_head head slices k here))
-      | inr behind ↦ not_behind head k (omega (arith, row.0)) behind ∙ zero_is_no (place_in slices k) ∙ sym (ap (λ (n : ℕ). 0 == n) (place_tail head slices k behind))
+      | inr after ↦ not_after head k (omega (arith, row.0)) after ∙ zero_is_no (place_in slices k) ∙ sym (ap (λ (n : ℕ). 0 == n) (place_tail head slices k after))
     ])
 one_has first end (head ∷ slices) (suc j) k slice row low e =
     elim (cases_lt k (head.first + length head.mbs)) [
       | inl here ↦
           let inside = slice_inside (first + length head.mbs) end slices j slice row.2 e in
           not_before slice k (omega (arith, row.0, inside.0)) ∙ no_is_zero j ∙ sym (ap (λ (n : ℕ). suc j == n) (place_head head slices k here))
-      | inr behind ↦
-          one_has (first + length head.mbs) end slices j k slice row.2 (omega (arith, row.0, behind)) e ∙ both_suc j (place_in slices k) ∙ sym (ap (λ (n : ℕ). suc j == n) (place_tail head slices k behind))
+      | inr after ↦
+          one_has (first + length head.mbs) end slices j k slice row.2 (omega (arith, row.0, after)) e ∙ both_suc j (place_in slices k) ∙ sym (ap (λ (n : ℕ). suc j == n) (place_tail head slices k after))
     ]
 
 pub row_covers : (count : ℕ) (slices : List (Slice Mb)) → AreInRow 0 count slices → Covers count slices
@@ -191,12 +191,12 @@ in_row found (suc most) size limit first (m ∷ mbs) few =
     let range = longest_in found size limit first (m ∷ mbs) (omega arith) in
     let long : length (take count (m ∷ mbs)) ≡ count = length-take-le count (m ∷ mbs) range.1 in
     let left : length (drop count (m ∷ mbs)) ≡ length (m ∷ mbs) - count = length-drop count (m ∷ mbs) in
-    let behind = in_row found most size limit (first + count) (drop count (m ∷ mbs)) (omega (arith, left, range.0)) in
+    let after = in_row found most size limit (first + count) (drop count (m ∷ mbs)) (omega (arith, left, range.0)) in
     let end : first + count + length (drop count (m ∷ mbs)) ≡ first + length (m ∷ mbs) = omega (arith, left, range.1) in (
       refl,
       omega (arith, long, range.0),
       subst (λ (n : ℕ). AreInRow (first + n) (first + length (m ∷ mbs)) (slices_from most size limit (first + count) (drop count (m ∷ mbs)))) (sym long)
-          (subst (λ (n : ℕ). AreInRow (first + count) n (slices_from most size limit (first + count) (drop count (m ∷ mbs)))) end behind),
+          (subst (λ (n : ℕ). AreInRow (first + count) n (slices_from most size limit (first + count) (drop count (m ∷ mbs)))) end after),
     )
 
 pub same_mbs : GreatestIs → (most : ℕ) (size : ℕ → List Mb → ℕ) (limit first : ℕ) (mbs : List Mb) (other : Mb) (j k : ℕ) (slice : Slice Mb) → length mbs ≤ most

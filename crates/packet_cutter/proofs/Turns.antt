@@ -69,8 +69,8 @@ turned number sequence s h limit mbs first n packets packet u lt same next = rec
     goes further others more some cut each =
         let part : (n == length (drop first mbs)) ≡ false = ne_eqb n (length (drop first mbs)) (λ e. omega (arith, e, further, length-drop first mbs)) in
         let here = is (is_last others) (part ∙ sym (not_last others some)) in
-        let cut_behind = subst (λ (k : ℕ). IsCut h limit (first + k) (drop (first + n) mbs) others) (sym len) cut in
+        let cut_after = subst (λ (k : ℕ). IsCut h limit (first + k) (drop (first + n) mbs) others) (sym len) cut in
         let next_sequence : sequence + length (packets ++ packet ∷ []) ≡ sequence + length packets + 1 = omega (arith, length-append packets (packet ∷ [])) in
-        let each_behind = subst (λ (k : ℕ). ArePackets number (sequence + length packets + 1) h (first + k) others more) (sym len) (subst (λ (k : ℕ). ArePackets number k h (first + n) others more) next_sequence each) in
+        let each_after = subst (λ (k : ℕ). ArePackets number (sequence + length packets + 1) h (first + k) others more) (sym len) (subst (λ (k : ℕ). ArePackets number k h (first + n) others more) next_sequence each) in
         subst (ArePacketsOf number sequence h limit mbs) (sym (append_assoc packets (packet ∷ []) more))
-        (u.goes lt (take n (drop first mbs) ∷ others) (packet ∷ more) (omega arith) (drop (first + n) mbs, parts, longest, cut_behind) (packet, more, refl, here, each_behind))
+        (u.goes lt (take n (drop first mbs) ∷ others) (packet ∷ more) (omega arith) (drop (first + n) mbs, parts, longest, cut_after) (packet, more, refl, here, each_after))

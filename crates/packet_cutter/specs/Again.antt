@@ -38,11 +38,11 @@ payload_of h first = record {
 pub record IsReadAs (number sequence : ℕ)
     (marker : Bool) (h : Header) (first : ℕ) (run : List Mb) (bytes : List ℕ) : Type 0 where
   pub front : List Bool
-  pub behind : List Bool
+  pub after : List Bool
   pub rtp : rtp_in bytes ≡ Ok (rtp_of number sequence marker (length bytes))
   pub payload : payload_at h.format
       (payload_bits_of bytes (rtp_of number sequence marker (length bytes)))
       ≡ Ok (payload_of h first)
-  pub parts : (bits_between bytes (8 * front_bytes h first) (8 * length bytes)).bits ≡ front ++ behind
+  pub parts : (bits_between bytes (8 * front_bytes h first) (8 * length bytes)).bits ≡ front ++ after
   pub headed : IsHeaded h.format (extra_of h (begins_at first)) h front
-  pub text : IsSliceText h (begins_at first) first run behind
+  pub text : IsSliceText h (begins_at first) first run after

@@ -17,7 +17,7 @@ use Rattle.rtp_header.specs.Faults.{rtp_in}
 use Rattle.h263_payload.specs.declared.payload.Payload.{Payload}
 use Rattle.h263_payload.specs.Text.{leading, IsExtra, IsPayload}
 use Rattle.h263_payload.specs.Faults.{payload_at, payload_bits_of, extra_at, begun_as, begun_at, filled, first_bits, fault_at}
-use Rattle.packet_collector.specs.Packet.{Slice, data_of, headed_at, with_header, slice_behind, packet_at}
+use Rattle.packet_collector.specs.Packet.{Slice, data_of, headed_at, with_header, slice_after, packet_at}
 use Rattle.packet_start.specs.Start.{alone, start_at, or_else, start_in}
 
 -- ---- the whole packet begins so
@@ -27,11 +27,11 @@ with_ok h (Ok x) s e = ap (λ (t : Slice). t.header) (sym (ok_is (record { heade
 with_ok h (Err fault) s e = absurd cc
 
 pub starts_as_read : (format : Format) (bytes : List ℕ) (s : Slice) → packet_at format bytes ≡ Ok s → start_at format bytes ≡ Ok s.header
-unfolding packet_at slice_behind start_at
+unfolding packet_at slice_after start_at
 starts_as_read format bytes s e =
-    let one = bind_ok (rtp_in bytes) (λ r. payload_at format (payload_bits_of bytes r) >>= λ p. slice_behind format p (data_of bytes r p)) s e in
+    let one = bind_ok (rtp_in bytes) (λ r. payload_at format (payload_bits_of bytes r) >>= λ p. slice_after format p (data_of bytes r p)) s e in
     let r = one.0 in
-    let two = bind_ok (payload_at format (payload_bits_of bytes r)) (λ p. slice_behind format p (data_of bytes r p)) s one.2 in
+    let two = bind_ok (payload_at format (payload_bits_of bytes r)) (λ p. slice_after format p (data_of bytes r p)) s one.2 in
     let p = two.0 in
     let three = bind_ok (headed_at format p.extra (data_of bytes r p)) _ s two.2 in
     rw (one.1, two.1, three.1) (ap ok (sym (with_ok three.0.0 _ s three.2)))
@@ -76,9 +76,9 @@ headed_format format plen pebit None middle b c h is e = header_format format b 
 headed_format format plen pebit (Some x) middle b c h is e =
     ap (λ (y : Header × Bits). y.0.format) (sym (ok_is (x, b) (h, c) e)) ∙ spelled_format format x is.0 is.6
 
-pub of_format : ((format : Format) (p : Payload) (b : Bits) → payload_at format b ≡ Ok p → IsPayload format p b)
+pub start_is_of_format : ((format : Format) (p : Payload) (b : Bits) → payload_at format b ≡ Ok p → IsPayload format p b)
     → (format : Format) (bytes : List ℕ) (h : Header) → start_at format bytes ≡ Ok h → h.format ≡ format
-of_format texts format bytes h e =
+start_is_of_format texts format bytes h e =
     let s = started format bytes h e in
     let t = texts format s.payload (payload_bits_of bytes s.rtp) s.is_payload in
     headed_format format t.opening.plen t.opening.pebit s.payload.extra t.middle (data_of bytes s.rtp s.payload) s.left h t.extra s.headed
@@ -222,9 +222,9 @@ one_headed a b None c x y is p q = one_header a b c x y p q
 one_headed a b (Some h) c x y is p q = absurd cc
 
 -- the same where the payload's headers differ in nothing but the formats by which they were read
-one_behind : (a b : Format) (bytes : List ℕ) (h : Header) (s : Started a bytes h) (q : Payload) (y : Header × Bits)
+one_after : (a b : Format) (bytes : List ℕ) (h : Header) (s : Started a bytes h) (q : Payload) (y : Header × Bits)
     → payload_at b (payload_bits_of bytes s.rtp) ≡ Ok q → headed_at b q.extra (data_of bytes s.rtp q) ≡ Ok y → a ≡ b
-one_behind a b bytes h s q y is headed = at (one_payload a b (payload_bits_of bytes s.rtp) s.payload q s.is_payload is)
+one_after a b bytes h s q y is headed = at (one_payload a b (payload_bits_of bytes s.rtp) s.payload q s.is_payload is)
   where
     at : (a ≡ b) ⊎ ((s.payload.extra ≡ None) × (s.payload ≡ q)) → a ≡ b
     at (inl same) = same
@@ -236,7 +236,7 @@ one_format a b bytes h k e f =
     let s = started a bytes h e in
     let t = started b bytes k f in
     let same = ok_is s.rtp t.rtp (sym s.is_rtp ∙ t.is_rtp) in
-    one_behind a b bytes h s t.payload (k, t.left)
+    one_after a b bytes h s t.payload (k, t.left)
     (subst (λ (r : _). payload_at b (payload_bits_of bytes r) ≡ Ok t.payload) (sym same) t.is_payload)
     (subst (λ (r : _). headed_at b t.payload.extra (data_of bytes r t.payload) ≡ Ok (k, t.left)) (sym same) t.headed)
 

@@ -12,7 +12,7 @@ pub fn starts_as_read()
 {}
 
 /// A start that is read is of the expected format.
-pub fn of_format()
+pub fn start_is_of_format()
     ensures { (format : Format) (bytes : List ℕ) (h : Header)
         → start_at format bytes ≡ Ok h → h.format ≡ format }
 {
@@ -26,5 +26,5 @@ pub fn one_format()
     ensures found { (bytes : List ℕ) (h : Header)
         → (start_in bytes ≡ Some h) ↔ (start_at h.format bytes ≡ Ok h) }
 {
-    of_format();
+    start_is_of_format();
 }

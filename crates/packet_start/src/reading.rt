@@ -14,7 +14,7 @@ use h263_types::Format;
 use picture_header::{Header, read_header};
 
 // The header that stands at the data's first bit, unless there is an extra one.
-fn read_behind(bytes: &[u8], end: u32, payload: &Payload, format: Format) -> Result<Header, Fault>
+fn read_after(bytes: &[u8], end: u32, payload: &Payload, format: Format) -> Result<Header, Fault>
     requires short { length bytes.now ≤ 65535 }
     requires order { payload.now.from ≤ end }
     requires within { end ≤ 8 * length bytes.now }
@@ -39,10 +39,10 @@ pub fn read_start(bytes: &[u8], format: Format) -> Result<Header, Fault>
     ensures format { IfOk result (λ h. h.format ≡ format) }
     ensures range { IfOk result IsHeader }
 {
-    laws::of_format();
+    laws::start_is_of_format();
     let rtp = rtp_header::read(bytes)?;
     let payload = read_payload(bytes, &rtp, format)?;
-    read_behind(bytes, 8 * rtp.to, &payload, format)
+    read_after(bytes, 8 * rtp.to, &payload, format)
 }
 
 /// The header of the picture that a packet belongs to, in whichever format that is: there is at

@@ -51,7 +51,7 @@ later_begun h first mbs bits is =
     let sepb1 : next.0 ≡ 1 = only_is 1 next.0 _ next.3 in
     let one : at.1 ≡ spelled 1 1 ++ next.1 = next.4 ∙ ap (λ (v : ℕ). spelled 1 v ++ next.1) sepb1 in
     let both : is.opened.1 ≡ spelled 1 1 ++ (spelled 1 1 ++ next.1) = at.4 ∙ (λ i. spelled 1 (start i) ++ one i) in
-    (_, is.parts ∙ ap (λ (t : List Bool). t ++ is.behind) (is.opened.3 ∙ ap (λ (t : List Bool). t ++ is.opened.2) both))
+    (_, is.parts ∙ ap (λ (t : List Bool). t ++ is.after) (is.opened.3 ∙ ap (λ (t : List Bool). t ++ is.opened.2) both))
 
 -- ---- the bytes of a picture header, padded
 
@@ -107,15 +107,15 @@ part_bytes coded n text rest e len part =
     let there : q < length coded = omega (arith, fill coded text rest e, len) in
     let front : List Bool = bits_of (take q coded) in
     let many : length (take q coded) ≡ q = length-take-le q coded (omega arith) in
-    let behind : List Bool = spelled t (b % 2 ^ t) ++ bits_of (drop (suc q) coded) in
+    let after : List Bool = spelled t (b % 2 ^ t) ++ bits_of (drop (suc q) coded) in
     let cut : coded ≡ take q coded ++ (b ∷ drop (suc q) coded) = sym (take-append-drop q coded) ∙ ap (λ (l : List ℕ). take q coded ++ l) (drop-cons coded q 0 there) in
     let spelt : bits_of coded ≡ front ++ (spelled 8 b ++ bits_of (drop (suc q) coded)) = ap bits_of cut ∙ bits_of-append (take q coded) (b ∷ drop (suc q) coded) in
-    let parted : bits_of coded ≡ (front ++ spelled r (b / 2 ^ t)) ++ behind =
+    let parted : bits_of coded ≡ (front ++ spelled r (b / 2 ^ t)) ++ after =
     spelt ∙ ap (λ (x : List Bool). front ++ (x ++ bits_of (drop (suc q) coded))) (byte_parts b r t eight)
     ∙ regroup front (spelled r (b / 2 ^ t)) (spelled t (b % 2 ^ t)) (bits_of (drop (suc q) coded)) in
     let long : length (front ++ spelled r (b / 2 ^ t)) ≡ n = omega (arith, length-append front (spelled r (b / 2 ^ t)), length-bits_of (take q coded), many, length-spelled r (b / 2 ^ t)) in
     let text_is : front ++ spelled r (b / 2 ^ t) ≡ text =
-    sym (take_at (front ++ spelled r (b / 2 ^ t)) behind n long) ∙ ap (take n) (sym parted ∙ e) ∙ take_at text rest n len in
+    sym (take_at (front ++ spelled r (b / 2 ^ t)) after n long) ∙ ap (take n) (sym parted ∙ e) ∙ take_at text rest n len in
     let bytes : (padded_bytes n coded).bytes ≡ take q coded ++ (b / 2 ^ t * 2 ^ t ∷ []) = rw some refl in
     let filled : bits_of (padded_bytes n coded).bytes ≡ front ++ (spelled 8 (b / 2 ^ t * 2 ^ t) ++ []) = ap bits_of bytes ∙ bits_of-append (take q coded) (b / 2 ^ t * 2 ^ t ∷ []) in
     record {

@@ -20,18 +20,18 @@ passes true fault x e = absurd cc
 passes false fault x e = (refl, e)
 
 -- a bit that is 1 ends a row of zeros
-behind_one : (bits : List Bool) (from : ℕ) (b : Bool) → from < 16 → b ≡ true → zeros from (b ∷ bits) ≤ length bits
+after_one : (bits : List Bool) (from : ℕ) (b : Bool) → from < 16 → b ≡ true → zeros from (b ∷ bits) ≤ length bits
 unfolding zeros
-behind_one bits from b lt e = rw (e, lt-ltb from 16 lt) (omega (arith, zeros_add 0 bits))
+after_one bits from b lt e = rw (e, lt-ltb from 16 lt) (omega (arith, zeros_add 0 bits))
 
 -- the bits of a message: a 1, 12 bits, a 1, 10 bits
 first_bits : (n : ℕ) → is_set n 23 ≡ true → is_set n 10 ≡ true → zeros 0 (spelled 24 n) ≤ 10
 unfolding spelled
 first_bits n high marker =
     let len : length (take 12 (spelled 23 n)) ≡ 12 = refl in
-    zeros_then 0 0 10 (is_set n 23 ∷ []) (spelled 23 n) (behind_one [] 0 (is_set n 23) (omega arith) high)
+    zeros_then 0 0 10 (is_set n 23 ∷ []) (spelled 23 n) (after_one [] 0 (is_set n 23) (omega arith) high)
     (zeros_then 0 12 10 (take 12 (spelled 23 n)) (spelled 11 n) (omega (arith, zeros_add 0 (take 12 (spelled 23 n)), len))
-    (omega (arith, behind_one (spelled 10 n) 12 (is_set n 10) (omega arith) marker, length-spelled 10 n)))
+    (omega (arith, after_one (spelled 10 n) 12 (is_set n 10) (omega arith) marker, length-spelled 10 n)))
 
 -- those of its flags: a 1, 7 bits, a 1, 7 bits
 flag_bits : (n : ℕ) → is_set n 15 ≡ true → is_set n 7 ≡ true → zeros 10 (spelled 16 n) ≤ 7
@@ -39,8 +39,8 @@ unfolding spelled
 flag_bits n high low =
     let len : length (take 7 (spelled 15 n)) ≡ 7 = refl in
     zeros_then 10 7 7 (is_set n 15 ∷ take 7 (spelled 15 n)) (spelled 8 n)
-    (omega (arith, behind_one (take 7 (spelled 15 n)) 10 (is_set n 15) (omega arith) high, len))
-    (omega (arith, behind_one (spelled 7 n) 7 (is_set n 7) (omega arith) low, length-spelled 7 n))
+    (omega (arith, after_one (take 7 (spelled 15 n)) 10 (is_set n 15) (omega arith) high, len))
+    (omega (arith, after_one (spelled 7 n) 7 (is_set n 7) (omega arith) low, length-spelled 7 n))
 
 no_fault : (o : Option MessageFault) → is_fault o ≡ None → o ≡ None
 no_fault None e = refl

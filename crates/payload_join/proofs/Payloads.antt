@@ -58,8 +58,8 @@ unfolding spelled
 length-opening plen pebit = refl
 
 -- the bits after a text
-behind_text : (bytes : List ℕ) (front rest : List Bool) (at : ℕ) → bits_of bytes ≡ front ++ rest → length front ≡ at → bits_between bytes at (8 * length bytes) ≡ record { at = at; bits = rest }
-behind_text bytes front rest at e len =
+after_text : (bytes : List ℕ) (front rest : List Bool) (at : ℕ) → bits_of bytes ≡ front ++ rest → length front ≡ at → bits_between bytes at (8 * length bytes) ≡ record { at = at; bits = rest }
+after_text bytes front rest at e len =
     let room : length rest ≤ 8 * length bytes - at = omega (arith, length-bits_of bytes, ap length e, length-append front rest) in
     let there : drop at (bits_of bytes) ≡ rest = ap (drop at) e ∙ drop_at front rest at len in
     ap (λ (t : List Bool). record { at = at; bits = t }) (ap (take (8 * length bytes - at)) there ∙ take_all (8 * length bytes - at) rest room)
@@ -161,11 +161,11 @@ packet_length first e part =
     let text = fields (rtp_fields false first.sequence first.timestamp) ++ fields (opening_fields (length e.bytes) e.pebit) in
     omega (arith, length-append (front_of first e) part, length-append (bytes_in 14 text) e.bytes, length-bytes_in 14 text)
 
-pub is_packet : AreRead → (format : Format) (first : Packet) (e : Extra) (part : List ℕ) (s : Slice) (extra : Option Header) (begins : Bool) (front behind : List Bool) → Fits first e part
+pub is_packet : AreRead → (format : Format) (first : Packet) (e : Extra) (part : List ℕ) (s : Slice) (extra : Option Header) (begins : Bool) (front after : List Bool) → Fits first e part
     → IsExtra format (length e.bytes) e.pebit extra (bits_of e.bytes) → IsBegun begins (bits_of part) → begins ≡ is_none extra
-    → bits_of part ≡ front ++ behind → IsHeaded format extra s.header front → IsSliceText s.header begins s.first s.mbs behind
+    → bits_of part ≡ front ++ after → IsHeaded format extra s.header front → IsSliceText s.header begins s.first s.mbs after
     → IsPacket format s (outgoing first e part)
-is_packet below format first e part s extra begins front behind fits is begun alone parts headed text =
+is_packet below format first e part s extra begins front after fits is begun alone parts headed text =
     let bytes = outgoing first e part in
     let rtp = fields (rtp_fields false first.sequence first.timestamp) in
     let written = fields (opening_fields (length e.bytes) e.pebit) in
@@ -174,16 +174,16 @@ is_packet below format first e part s extra begins front behind fits is begun al
     let l2 : length written ≡ 16 = length-opening (length e.bytes) e.pebit in
     let l3 : length (bits_of e.bytes) ≡ 8 * length e.bytes = length-bits_of e.bytes in
     let short : length bytes ≤ 65535 = omega (arith, packet_length first e part, fits.few, fits.short) in
-    let there = behind_text bytes rtp (written ++ (bits_of e.bytes ++ bits_of part)) 96 whole l1 in
+    let there = after_text bytes rtp (written ++ (bits_of e.bytes ++ bits_of part)) 96 whole l1 in
     let before : bits_of bytes ≡ (rtp ++ (written ++ bits_of e.bytes)) ++ bits_of part = whole ∙ regroup rtp written (bits_of e.bytes) (bits_of part) in
     let len : length (rtp ++ (written ++ bits_of e.bytes)) ≡ 112 + 8 * length e.bytes = omega (arith, length-append rtp (written ++ bits_of e.bytes), length-append written (bits_of e.bytes), l1, l2, l3) in
-    let left = behind_text bytes (rtp ++ (written ++ bits_of e.bytes)) (bits_of part) (112 + 8 * length e.bytes) before len in
+    let left = after_text bytes (rtp ++ (written ++ bits_of e.bytes)) (bits_of part) (112 + 8 * length e.bytes) before len in
     let payload : Payload = record { extra = extra; begins = begins; from = 112 + 8 * length e.bytes } in
     record {
       rtp = rtp_of first.sequence first.timestamp (length bytes);
       payload = payload;
       front = front;
-      behind = behind;
+      after = after;
       is_rtp = is_rtp below first.sequence first.timestamp bytes (written ++ (bits_of e.bytes ++ bits_of part)) fits.sequence fits.timestamp whole short;
       is_payload = subst (IsPayload format payload) (sym there) (record {
         opening = opening_of (length e.bytes) e.pebit;

@@ -213,12 +213,12 @@ unfolding outgoing_of
 of_slices below format at x k bytes first slices parts read there coded short small (inl is) =
     let f = in_fields below bytes first read in
     let out : outgoing_of format at x k ≡ unit_out format first (joined parts) = ap (out_by format (unit_bytes at x (k + 1))) there ∙ ap (unit_out format first) coded in
-    let short_is : length (joined (is.part ∷ is.behind)) ≤ 65400 = subst (λ (p : List (List ℕ)). length (joined p) ≤ 65400) is.parts_are short in
+    let short_is : length (joined (is.part ∷ is.after)) ≤ 65400 = subst (λ (p : List (List ℕ)). length (joined p) ≤ 65400) is.parts_are short in
     let small_are = subst (λ (p : List (List ℕ)). All (λ part. All (λ byte. byte < 256) part) p) is.parts_are small in
     subst (EachIs (IsPacket format) slices) (sym out)
     (subst (λ (l : List Slice). EachIs (IsPacket format) l (unit_out format first (joined parts))) (sym is.slices_are)
     (subst (λ (p : List (List ℕ)). EachIs (IsPacket format) (is.first ∷ is.others) (unit_out format first (joined p))) (sym is.parts_are)
-    (beginning below format first is.first is.others is.part is.behind f short_is small_are is.none is.begun is.short is.each)))
+    (beginning below format first is.first is.others is.part is.after f short_is small_are is.none is.begun is.short is.each)))
 of_slices below format at x k bytes first slices parts read there coded short small (inr is) =
     let f = in_fields below bytes first read in
     let out : outgoing_of format at x k ≡ unit_out format first (joined parts) = ap (out_by format (unit_bytes at x (k + 1))) there ∙ ap (unit_out format first) coded in

@@ -6,7 +6,7 @@ use Rattle.h263_bits.specs.Syntax.{begins, found, is_cut, reading, word_at}
 use Rattle.back_messages.specs.Text.{flags, marks_in, message, message_fault, message_value}
 use Rattle.picture_header.specs.Text.{back, back_turn, bci, channel, extended, extra, extra_turn, header, multipoint, next_message, plus_type, reference}
 use Rattle.picture_header.specs.Text.{opening as picture_opening}
-use Rattle.rtp_header.specs.Text.{behind, extension, head}
+use Rattle.rtp_header.specs.Text.{after_fixed, extension, head}
 use Rattle.rtp_header.specs.Faults.{rtp_in}
 use Rattle.h263_payload.specs.Text.{opening}
 use Rattle.payload_join.specs.Packet.{packet_after, packet_in}
@@ -21,7 +21,7 @@ use Rattle.payload_join.specs.WorkedLogs.{copies_0, copies_1, copies_2, copies_3
 -- the definitions by which what becomes of a packet, and what goes out, are computed
 unfoldable pub whole_runs : ⊤
 unfolding answers join_run joined_by packet_in packet_after made_from each_below least_from is_unit unit_at
-    outgoing_of unit_out header_of coded_from split_of bytes_in packet_at rtp_in head behind extension opening
+    outgoing_of unit_out header_of coded_from split_of bytes_in packet_at rtp_in head after_fixed extension opening
     reading number_at bits_of spelled number word_at found is_cut begins picture_opening plus_type multipoint
     extended channel reference back back_turn next_message bci extra extra_turn header message message_fault
     message_value marks_in flags bytes_from hex

@@ -47,12 +47,12 @@ pub record BeginPicture (format : Format) (extra : Extra)
   pub first : Slice
   pub others : List Slice
   pub part : List ℕ
-  pub behind : List (List ℕ)
+  pub after : List (List ℕ)
   pub slices_are : slices ≡ first ∷ others
-  pub parts_are : parts ≡ part ∷ behind
+  pub parts_are : parts ≡ part ∷ after
   pub begun : IsFirstPart format first part
-  pub short : (behind ≡ []) ⊎ (length begun.text ≤ 8 * 63)
-  pub each : EachIs (IsLaterOf first.header) others behind
+  pub short : (after ≡ []) ⊎ (length begun.text ≤ 8 * 63)
+  pub each : EachIs (IsLaterOf first.header) others after
 
 -- it is the header of a picture, and the unit has later slices of it
 pub record GoOn (format : Format) (extra : Extra)

@@ -79,7 +79,7 @@ pub record MessageFaults (clock : Clock) : Type 0 where
   pub here : (messages : List Message) (text : List Bool) (kind : FaultKind) (place : ℕ)
       → HasFault (next_message clock (length messages)) text kind place
       → HasFault (repeat messages (back_turn clock)) text kind place
-  pub behind : (messages : List Message) (m : Message) (front text : List Bool) (kind : FaultKind) (place : ℕ)
+  pub after : (messages : List Message) (m : Message) (front text : List Bool) (kind : FaultKind) (place : ℕ)
       → Spells (next_message clock (length messages)) (Some m) front
       → HasFault (repeat (messages ++ m ∷ []) (back_turn clock)) text kind place
       → HasFault (repeat messages (back_turn clock)) (front ++ text) kind (length front + place)

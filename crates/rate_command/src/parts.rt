@@ -39,7 +39,7 @@ pub fn tell<D: Desk>(desk: &mut D, metered: Metered) -> Result<(), Status>
         (D.outside desk.new).faults.write) }
     ensures rest { OnlyWrites (D.outside desk.old) (D.outside desk.new) }
 {
-    desk_program_laws::of_turns();
+    desk_program_laws::turn_laws();
     match metered {
         Metered::Ended {
             number,
@@ -63,7 +63,7 @@ pub fn tell_last<D: Desk>(desk: &mut D, last: Option<(u32, u64, u64)>) -> Result
         (D.outside desk.new).faults.write) }
     ensures rest { OnlyWrites (D.outside desk.old) (D.outside desk.new) }
 {
-    desk_program_laws::of_turns();
+    desk_program_laws::turn_laws();
     match last {
         Some((number, size, level)) => put_text(desk, &picture_text(number, size, level)),
         None => Ok(()),

@@ -50,7 +50,7 @@ impl LogCommand for Metering {
     ghost ready = { RateReady };
 
     fn start<D: Desk>(_alloc: Global, setup: &Bucket, _desk: &mut D) -> Result<Metering, Status> {
-        desk_program_laws::of_turns();
+        desk_program_laws::turn_laws();
         Ok(Metering {
             meter: Meter::new(setup.target, setup.bucket),
             plays: 0,
@@ -72,7 +72,7 @@ impl LogCommand for Metering {
     }
 
     fn other<D: Desk>(&mut self, _desk: &mut D, _bytes: &[u8]) -> Result<(), Status> {
-        desk_program_laws::of_turns();
+        desk_program_laws::turn_laws();
         self.plays += 1;
         Ok(())
     }
@@ -80,7 +80,7 @@ impl LogCommand for Metering {
     // The line of the last picture, if there is one, and that of the whole log.
     fn close<D: Desk>(&self, desk: &mut D) -> Result<(), Status> {
         outside_laws::calls();
-        desk_program_laws::of_turns();
+        desk_program_laws::turn_laws();
         let totals = self.meter.close();
         tell_last(desk, totals.last)?;
         put_text(desk, &totals_text(&totals))

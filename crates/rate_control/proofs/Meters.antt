@@ -11,7 +11,7 @@ use Rattle.rate_control.specs.declared.meter.Metered.TheVariants.{Same, Ended}
 use Rattle.rate_control.specs.declared.meter.Totals.{Totals}
 use Rattle.rate_control.specs.Level.{level_of}
 use Rattle.rate_control.specs.Pictures.{accepted, alone, pictures_of, sizes_in, sizes_of, refused_in, greatest_level, over_in}
-use Rattle.rate_control.specs.Metering.{HasRoomAtEnd, HasRoomFor, IsGoing, MeterStands, answer_of, behind, behind_with, differs, ended, going_on, joined, last_of, last_time, metered, taking, telling, time_of, totals_of}
+use Rattle.rate_control.specs.Metering.{HasRoomAtEnd, HasRoomFor, IsGoing, MeterStands, answer_of, after_picture, after_picture_with, differs, ended, going_on, joined, last_of, last_time, metered, taking, telling, time_of, totals_of}
 use Rattle.rate_control.proofs.Levels.{level_none, level_push}
 use Rattle.rate_control.proofs.Ends.{going_push, greatest_level_none, greatest_level_push, last_push, level_short, over_few, over_none, over_push}
 use Rattle.rate_control.proofs.Runs.{ReadsShort, accepted_refused, bytes_past, bytes_short, pictures_few, pictures_first, pictures_next, pictures_refused, pictures_same, refused_more, refused_same, time_push}
@@ -29,14 +29,14 @@ cond_add : (b : Bool) (n : ℕ) → cond b (n + 1) n ≡ n + cond b 1 0
 cond_add true n = refl
 cond_add false n = omega arith
 
-level_behind : (m : Meter) (sizes : List ℕ) (size : ℕ) → Counts m sizes
+level_after : (m : Meter) (sizes : List ℕ) (size : ℕ) → Counts m sizes
     → m.level + size - m.target ≡ level_of m.target (sizes ++ size ∷ [])
-level_behind m sizes size s =
+level_after m sizes size s =
     ap (λ (n : ℕ). n + size - m.target) s.level ∙ sym (level_push m.target sizes size)
 
-counts_behind : (m : Meter) (sizes : List ℕ) (size : ℕ) → Counts m sizes → Counts (behind m size) (sizes ++ size ∷ [])
-counts_behind m sizes size s =
-    let level = level_behind m sizes size s in
+counts_after : (m : Meter) (sizes : List ℕ) (size : ℕ) → Counts m sizes → Counts (after_picture m size) (sizes ++ size ∷ [])
+counts_after m sizes size s =
+    let level = level_after m sizes size s in
     let n = length_push sizes size in
     let c = s.count in
     record {
@@ -123,10 +123,10 @@ same_stands m packets bytes x r ok e p is s same =
 next_stands : (m : Meter) (packets : List (List ℕ)) (bytes : List ℕ) (x : Picture) (r : Rtp)
     → rtp_in bytes ≡ Ok r → alone bytes ≡ x ∷ [] → (p : Picture) → m.picture ≡ Some p → MeterStands m packets
     → eqb p.timestamp x.timestamp ≡ false
-    → MeterStands (behind_with m p.size x) (packets ++ bytes ∷ [])
+    → MeterStands (after_picture_with m p.size x) (packets ++ bytes ∷ [])
 next_stands m packets bytes x r ok e p is s other =
-    let k = subst (λ (l : List ℕ). Counts (behind m p.size) l) (sym (sizes_push s.past p))
-    (counts_behind m (sizes_in s.past) p.size (counts_of m packets s))
+    let k = subst (λ (l : List ℕ). Counts (after_picture m p.size) l) (sym (sizes_push s.past p))
+    (counts_after m (sizes_in s.past) p.size (counts_of m packets s))
     in
     record {
       past = s.past ++ p ∷ [];
@@ -144,7 +144,7 @@ taken_by : (m : Meter) (packets : List (List ℕ)) (bytes : List ℕ) (x : Pictu
     → MeterStands (taking m o x) (packets ++ bytes ∷ [])
 taken_by m packets bytes x r ok e None is s = first_stands m packets bytes x r ok e is s
 taken_by m packets bytes x r ok e (Some p) is s =
-    cond_both (eqb p.timestamp x.timestamp) (record m { picture = Some (joined p x) }) (behind_with m p.size x)
+    cond_both (eqb p.timestamp x.timestamp) (record m { picture = Some (joined p x) }) (after_picture_with m p.size x)
     (λ (n : Meter). MeterStands n (packets ++ bytes ∷ []))
     (same_stands m packets bytes x r ok e p is s)
     (next_stands m packets bytes x r ok e p is s)
@@ -322,16 +322,16 @@ closed_empty m packets none s =
     ∙ sym (totals_by m.target m.bucket packets [] (no_sizes packets g.1))
 
 pub closed_with : (m : Meter) (packets : List (List ℕ)) (p : Picture) → m.picture ≡ Some p → MeterStands m packets
-    → (n : Meter) → n ≡ behind m p.size
+    → (n : Meter) → n ≡ after_picture m p.size
     → record { last = Some (m.pictures, p.size, n.level); pictures = n.pictures; greatest = n.greatest; over = n.over; refused = n.refused }
     ≡ totals_of m.target m.bucket packets
 closed_with m packets p is s n e =
     let sizes = sizes_in s.past ++ p.size ∷ [] in
-    let k = counts_behind m (sizes_in s.past) p.size (counts_of m packets s) in
+    let k = counts_after m (sizes_in s.past) p.size (counts_of m packets s) in
     let c = counts_of m packets s in
     ap (λ (w : Meter). record { last = Some (m.pictures, p.size, w.level); pictures = w.pictures; greatest = w.greatest; over = w.over; refused = w.refused }) e
     ∙ same_totals
-    (record { last = Some (m.pictures, p.size, m.level + p.size - m.target); pictures = m.pictures + 1; greatest = (behind m p.size).greatest; over = (behind m p.size).over; refused = m.refused })
+    (record { last = Some (m.pictures, p.size, m.level + p.size - m.target); pictures = m.pictures + 1; greatest = (after_picture m p.size).greatest; over = (after_picture m p.size).over; refused = m.refused })
     (record { last = going_on m.target sizes; pictures = length sizes; greatest = greatest_level m.target sizes; over = over_in m.target m.bucket sizes; refused = refused_in packets })
     (ap (λ (x : ℕ × ℕ × ℕ). Some x) (sym (last_at m packets p is s) ∙ ap (λ (l : List ℕ). last_of m.target l) (sizes_at packets s.past p (going_at m packets p is s)))
     ∙ sym (going_push m.target (sizes_in s.past) p.size))

@@ -96,8 +96,8 @@ pub record IsMeter (m : Meter) : Type 0 where
   pub few : length packets ≤ 16777216
 
 -- the meter after the end of a picture of this size
-abbrev pub behind : Meter → ℕ → Meter
-behind m size =
+abbrev pub after_picture : Meter → ℕ → Meter
+after_picture m size =
     let level = m.level + size - m.target in
     record m {
       pictures = m.pictures + 1;
@@ -107,9 +107,9 @@ behind m size =
     }
 
 -- the same, with the next picture going on
-abbrev pub behind_with : Meter → ℕ → Picture → Meter
-behind_with m size next =
-    let after = behind m size in
+abbrev pub after_picture_with : Meter → ℕ → Picture → Meter
+after_picture_with m size next =
+    let after = after_picture m size in
     record after { picture = Some next }
 
 -- one picture of both
@@ -122,7 +122,7 @@ taking m None x = record m { picture = Some x }
 taking m (Some p) x =
     if p.timestamp == x.timestamp
     then record m { picture = Some (joined p x) }
-    else behind_with m p.size x
+    else after_picture_with m p.size x
 
 abbrev pub telling : Meter → Option Picture → Picture → Metered
 telling m None x = Same

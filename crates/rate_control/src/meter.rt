@@ -2,7 +2,7 @@
 ghost use Rattle.std.specs.Prelude.{◌≡◌, ◌+◌, ◌-◌, ◌<◌, ◌≤◌, ◌^◌, ◌∷◌, [], ◌++◌, List, ℕ};
 ghost use Rattle.h263_bits.specs.declared.fault.Fault.{Fault};
 ghost use Rattle.rate_control.specs.Metering.{HasRoom, HasRoomAtEnd, HasRoomFor, IsMeter, MeterStands};
-ghost use Rattle.rate_control.specs.Metering.{behind, metered, taking, telling, totals_of};
+ghost use Rattle.rate_control.specs.Metering.{after_picture, metered, taking, telling, totals_of};
 
 use crate::level::filled;
 use h263_bits::Fault;
@@ -139,7 +139,7 @@ impl Meter {
     // Ends a picture of this size.
     fn end(&mut self, size: u64)
         requires { HasRoomAtEnd self.old size }
-        ensures { self.new ≡ behind self.old size }
+        ensures { self.new ≡ after_picture self.old size }
     {
         self.level = filled(self.level, size, self.target);
         self.greatest = self.greatest.max(self.level);

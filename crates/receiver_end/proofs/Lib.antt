@@ -11,7 +11,7 @@ pub mod Adding
 pub mod Held
 pub mod AfterSlice
 pub mod Completing
-pub mod Hearing
+pub mod AfterPacket
 pub mod Copies
 pub mod AfterPlay
 pub mod Greys

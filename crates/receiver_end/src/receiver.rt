@@ -83,7 +83,7 @@ impl Receiver {
         self.kept.restart(number);
     }
 
-    /// Hears a packet. Only where it is taken is anything changed.
+    /// Reads a packet. Only where it is taken is anything changed.
     pub fn packet(&mut self, bytes: &[u8]) -> Heard
         ensures params { self.new.params ≡ self.old.params }
         ensures played { self.new.played ≡ self.old.played }
@@ -96,7 +96,7 @@ impl Receiver {
         self.arrival(bytes).heard
     }
 
-    /// Hears a packet as `packet` does, and says of which picture it is.
+    /// Reads a packet as `packet` does, and says of which picture it is.
     pub fn arrival(&mut self, bytes: &[u8]) -> Arrival
         ensures params { self.new.params ≡ self.old.params }
         ensures played { self.new.played ≡ self.old.played }
@@ -119,7 +119,7 @@ impl Receiver {
             },
             Ok(piece) => Arrival {
                 number: self.kept.number_of(&piece),
-                heard: self.kept.hear(&piece, &self.mbs),
+                heard: self.kept.packet(&piece, &self.mbs),
             },
         }
     }

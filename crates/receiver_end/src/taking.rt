@@ -101,7 +101,7 @@ impl Kept {
 
     /// Takes a slice, if it may be taken. `mbs` are its picture's macroblocks, among which are its
     /// own.
-    pub fn hear(&mut self, piece: &Piece, mbs: &[Mb]) -> Heard
+    pub fn packet(&mut self, piece: &Piece, mbs: &[Mb]) -> Heard
         requires fits { Fits self.old }
         requires mbs { length mbs.now ≡ mbs_of self.old.params.format }
         requires piece { IsPieceIn self.old.params.format mbs.now piece.now }

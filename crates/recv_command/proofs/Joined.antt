@@ -9,24 +9,24 @@ use Rattle.payload_join.specs.Joining.{Joining, Stands}
 use Rattle.payload_join.specs.Packet as joins
 use Rattle.payload_join.specs.Places.{Shows}
 use Rattle.payload_join.specs.Run.{given_next, joined_by}
-use Rattle.recv_command.specs.Join.{Hearing, JoinState, given_to, hears_next, hears_one, joined_state, packets_in, through}
+use Rattle.recv_command.specs.Join.{Delivering, JoinState, given_to, delivers_next, delivers_one, joined_state, packets_in, through}
 
 reversed : (x : ReceiverEntry) (xs ys : List ReceiverEntry) → reverse xs ++ (x ∷ ys) ≡ reverse (x ∷ xs) ++ ys
 reversed x xs ys = sym (ap (λ (l : List ReceiverEntry). l ++ ys) (reverse-append (x ∷ []) xs) ∙ append_assoc (reverse xs) (x ∷ []) ys)
 
 -- the parameters stay
-pub params_stay : (packets : List (List ℕ)) (h : Hearing) → (hears_next h packets).state.params ≡ h.state.params
+pub params_stay : (packets : List (List ℕ)) (h : Delivering) → (delivers_next h packets).state.params ≡ h.state.params
 params_stay [] h = refl
-params_stay (bytes ∷ packets) h = params_stay packets (hears_one h bytes)
+params_stay (bytes ∷ packets) h = params_stay packets (delivers_one h bytes)
 
 -- each packet joins the entries so far
-pub entries_are : (packets : List (List ℕ)) (h : Hearing) → (hears_next h packets).state.past ≡ reverse (map Packet packets) ++ h.state.past
+pub entries_are : (packets : List (List ℕ)) (h : Delivering) → (delivers_next h packets).state.past ≡ reverse (map Packet packets) ++ h.state.past
 entries_are [] h = refl
 entries_are (bytes ∷ packets) h =
-    entries_are packets (hears_one h bytes) ∙ reversed (Packet bytes) (map Packet packets) h.state.past
+    entries_are packets (delivers_one h bytes) ∙ reversed (Packet bytes) (map Packet packets) h.state.past
 
 -- before anything is said
-abbrev begun : JoinState → Hearing
+abbrev begun : JoinState → Delivering
 begun s = record { state = s.receiver; texts = no_texts }
 
 params_are : (p : Params) (past : List ReceiverEntry) → (joined_state p past).receiver.params ≡ p

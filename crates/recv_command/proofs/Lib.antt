@@ -1,4 +1,4 @@
 mod Saying
 mod Showing
-mod SaidSoFar
+mod WrittenSoFar
 mod Joined

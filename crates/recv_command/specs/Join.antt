@@ -23,26 +23,26 @@ use Rattle.recv_command.specs.JoinTally.{join_text, nothing_taken, packets_of, w
 use Rattle.recv_command.specs.Recv.{RecvStands, RecvState, nothing_heard, recv_rules}
 use Rattle.recv_command.specs.Tally.{total_of}
 
--- ---- a receiver that hears several packets
+-- ---- a receiver that gets several packets
 
 -- what it keeps in mind, and what it has said
-pub record Hearing : Type 0 where
+pub record Delivering : Type 0 where
   pub state : RecvState
   pub texts : Role → List ℕ
 
-abbrev pub hears_one : Hearing → List ℕ → Hearing
-hears_one h bytes =
+abbrev pub delivers_one : Delivering → List ℕ → Delivering
+delivers_one h bytes =
     record {
       state = recv_rules.packet h.state bytes;
       texts = then_also h.texts (recv_rules.packet_text h.state bytes);
     }
 
-abbrev pub hears_next : Hearing → List (List ℕ) → Hearing
-hears_next h packets = fold hears_one h packets
+abbrev pub delivers_next : Delivering → List (List ℕ) → Delivering
+delivers_next h packets = fold delivers_one h packets
 
 -- one packet after the other, as if each were an entry of the log
-abbrev pub hears : RecvState → List (List ℕ) → Hearing
-hears s packets = hears_next (record { state = s; texts = no_texts }) packets
+abbrev pub delivers : RecvState → List (List ℕ) → Delivering
+delivers s packets = delivers_next (record { state = s; texts = no_texts }) packets
 
 -- ---- the command
 
@@ -60,7 +60,7 @@ nothing_joined p = record { packets = []; took = nothing_taken; receiver = nothi
 abbrev pub given_to : JoinState → List ℕ → List (List ℕ)
 given_to s bytes = given_next s.receiver.params.format s.packets bytes
 
--- the joiner takes each packet of the log, and the receiver hears what goes out with it; a play is
+-- the joiner takes each packet of the log, and the receiver gets what goes out with it; a play is
 -- the receiver's; at the end the joiner's counts are told, and then the receiver's
 abbrev pub join_rules : LogRules JoinState
 join_rules =
@@ -69,9 +69,9 @@ join_rules =
       packet = λ s bytes. record {
         packets = bytes ∷ s.packets;
         took = with_joined (length (given_to s bytes)) (with_took (took_next s.packets bytes) s.took);
-        receiver = (hears s.receiver (given_to s bytes)).state;
+        receiver = (delivers s.receiver (given_to s bytes)).state;
       };
-      packet_text = λ s bytes. (hears s.receiver (given_to s bytes)).texts;
+      packet_text = λ s bytes. (delivers s.receiver (given_to s bytes)).texts;
       other = λ s bytes. record s { receiver = recv_rules.other s.receiver bytes };
       other_text = λ s bytes. recv_rules.other_text s.receiver bytes;
       plays = λ s. recv_rules.plays s.receiver;
@@ -92,7 +92,7 @@ packets_in [] = []
 packets_in (PlayNext ∷ past) = packets_in past
 packets_in (Packet bytes ∷ past) = bytes ∷ packets_in past
 
--- what the receiver hears and plays after these entries of the log, the newest first: the join run
+-- what the receiver gets and plays after these entries of the log, the newest first: the join run
 -- of the log's packets, with the plays in their places
 unfoldable pub through : Format → List ReceiverEntry → List ReceiverEntry
 through format [] = []
@@ -130,24 +130,24 @@ pub record JoinReady (c : Joining) (entries : ℕ) (attached : Role → Bool) : 
   pub joined : c.took.joined ≤ 2 ^ 22 * entries
   pub counted : total_of c.receiving.tally ≤ 2 ^ 22 * entries
 
--- ---- while the packets that go out are heard
+-- ---- while the packets that go out are delivered
 
 -- it has only written, and it stopped where a write failed
-pub record HasSaid (said : Result (Unit {0}) Status) (old now : Outside) : Type 0 where
-  pub kind : IfErr said (λ status. status ≡ WriteFault)
-  pub cause : OnErr said (Rose old.faults.write now.faults.write)
+pub record HasWritten (outcome : Result (Unit {0}) Status) (old now : Outside) : Type 0 where
+  pub kind : IfErr outcome (λ status. status ≡ WriteFault)
+  pub cause : OnErr outcome (Rose old.faults.write now.faults.write)
   pub rest : OnlyWrites old now
 
 -- this was written, or a prefix of it
-pub record Said (texts : Role → List ℕ) (said : Result (Unit {0}) Status)
+pub record Wrote (texts : Role → List ℕ) (outcome : Result (Unit {0}) Status)
     (old now : Role → Option (List ℕ)) : Type 0 where
-  pub ok : OnOk said (Gains texts old now)
-  pub err : OnErr said (GainsFronts texts old now)
+  pub ok : OnOk outcome (Gains texts old now)
+  pub err : OnErr outcome (GainsFronts texts old now)
 
--- with the packets that are left the receiver has heard all, and has said what was to be said so far
-pub record IsHearing (receiving : Receiving) (left : List (List ℕ))
-    (said : Result (Unit {0}) Status) (all : Hearing) (old now : Role → Option (List ℕ)) : Type 0 where
-  pub so_far : Hearing
-  pub rest : hears_next so_far left ≡ all
+-- with the packets that are left the receiver has got all, and has said what was to be said so far
+pub record IsDelivering (receiving : Receiving) (left : List (List ℕ))
+    (outcome : Result (Unit {0}) Status) (all : Delivering) (old now : Role → Option (List ℕ)) : Type 0 where
+  pub so_far : Delivering
+  pub rest : delivers_next so_far left ≡ all
   pub stands : RecvStands receiving so_far.state
-  pub written : Said so_far.texts said old now
+  pub written : Wrote so_far.texts outcome old now

@@ -27,8 +27,8 @@ abbrev pub nothing_heard : Params → RecvState
 nothing_heard p = record { params = p; past = []; tally = no_counts }
 
 -- the state after an entry
-abbrev pub behind_entry : RecvState → ReceiverEntry → Tally → RecvState
-behind_entry s entry tally = record { params = s.params; past = entry ∷ s.past; tally = tally }
+abbrev pub after_entry : RecvState → ReceiverEntry → Tally → RecvState
+after_entry s entry tally = record { params = s.params; past = entry ∷ s.past; tally = tally }
 
 -- a packet is heard: what it completes is acknowledged
 abbrev pub heard_text : Params → List ReceiverEntry → List ℕ → Role → List ℕ
@@ -46,9 +46,9 @@ abbrev pub recv_rules : LogRules RecvState
 recv_rules =
     record {
       side = OfReceiver;
-      packet = λ s bytes. behind_entry s (Packet bytes) (with_answer (answer_after s.params s.past bytes) s.tally);
+      packet = λ s bytes. after_entry s (Packet bytes) (with_answer (answer_after s.params s.past bytes) s.tally);
       packet_text = λ s bytes. heard_text s.params s.past bytes;
-      other = λ s bytes. behind_entry s PlayNext (with_mark (mark_of (mark_after s.params s.past)) s.tally);
+      other = λ s bytes. after_entry s PlayNext (with_mark (mark_of (mark_after s.params s.past)) s.tally);
       other_text = λ s bytes. played_text s.params s.past;
       plays = λ s. (run_of s.params s.past).played;
       end_text = λ s. on Report (count_text (run_of s.params s.past).played s.tally);

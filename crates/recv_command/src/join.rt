@@ -1,6 +1,6 @@
 //! The receiver over packets that a joiner gives: packets that follow on others, or that carry
-//! several slices, become packets of one slice before the receiver hears them.
-use crate::hearing::hear_all;
+//! several slices, become packets of one slice before the receiver gets them.
+use crate::delivering::deliver_all;
 use crate::{JoinTally, Receiving};
 use call_report::Status;
 use desk_program::{laws as desk_program_laws, put_line};
@@ -73,7 +73,7 @@ impl LogCommand for Joining {
         payload_join_laws::few_given();
         let took = self.joiner.take(bytes, self.format);
         self.took.take(took);
-        hear_all(&mut self.joiner, &mut self.receiving, &mut self.took, desk)
+        deliver_all(&mut self.joiner, &mut self.receiving, &mut self.took, desk)
     }
 
     fn plays(&self) -> u32 {
@@ -85,7 +85,7 @@ impl LogCommand for Joining {
     }
 
     fn close<D: Desk>(&self, desk: &mut D) -> Result<(), Status> {
-        desk_program_laws::of_turns();
+        desk_program_laws::turn_laws();
         outside_laws::calls();
         put_line(desk, &self.took.line())?;
         self.receiving.tell(desk)

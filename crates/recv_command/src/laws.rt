@@ -38,7 +38,7 @@ pub fn no_joined_video_refused()
 
 /// With a joiner the receiver's run is that over the join run of the log's packets, with the plays
 /// in their places.
-pub fn hears_what_is_joined()
+pub fn delivers_what_is_joined()
     ensures { (p : Params) (past : List ReceiverEntry)
         → (joined_state p past).receiver.past ≡ through p.format past }
 {}

@@ -8,7 +8,7 @@
 //! ```
 #![tactic(auto)]
 
-mod hearing;
+mod delivering;
 mod join;
 mod join_tally;
 pub mod laws;

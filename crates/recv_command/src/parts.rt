@@ -41,7 +41,7 @@ pub fn say<D: Desk>(desk: &mut D, said: Option<MessageBytes>) -> Result<(), Stat
     ensures rest { OnlyWrites (D.outside desk.old) (D.outside desk.new) }
 {
     coded_call_laws::said_bytes();
-    desk_program_laws::of_turns();
+    desk_program_laws::turn_laws();
     match said {
         Some(said) => {
             let text = said.text();
@@ -70,7 +70,7 @@ pub fn show<D: Desk>(desk: &mut D, picture: PictureRef<'_>, played: Played) -> R
     ensures rest { OnlyWrites (D.outside desk.old) (D.outside desk.new) }
 {
     outside_laws::calls();
-    desk_program_laws::of_turns();
+    desk_program_laws::turn_laws();
     put_picture(desk, played.mark, picture)?;
     let row = PictureRow {
         party: None,

@@ -30,8 +30,8 @@ pub struct Receiving {
 }
 
 impl Receiving {
-    // Hears a packet. The message acknowledges what the packet completes.
-    pub(crate) fn hear(&mut self, bytes: &[u8]) -> Option<MessageBytes>
+    // Delivers a packet. The message acknowledges what the packet completes.
+    pub(crate) fn deliver(&mut self, bytes: &[u8]) -> Option<MessageBytes>
         requires { total_of self.old.tally < 2 ^ 47 }
         ensures stands { (s : RecvState) → RecvStands self.old s
             → RecvStands self.new (recv_rules.packet s bytes.now) }
@@ -41,7 +41,7 @@ impl Receiving {
     {
         receiver_end_laws::answers_say();
         let heard = self.receiver.packet(bytes);
-        self.tally.hear(&heard);
+        self.tally.count(&heard);
         heard.message()
     }
 
@@ -131,7 +131,7 @@ impl LogCommand for Receiving {
     }
 
     fn packet<D: Desk>(&mut self, desk: &mut D, bytes: &[u8]) -> Result<(), Status> {
-        let message = self.hear(bytes);
+        let message = self.deliver(bytes);
         say(desk, message)
     }
 

@@ -7,7 +7,7 @@ use h263_types::Mark;
 use receiver_end::Heard;
 
 /// How many pictures were shown with each mark, and how many packets had each answer. A receiver
-/// hears fewer than 2^47 packets: one packet of a log may be joined to 43,602.
+/// gets fewer than 2^47 packets: one packet of a log may be joined to 43,602.
 #[derive(Clone, Copy, Debug, PartialEq, Eq)]
 pub struct Tally {
     pub exact: u64,
@@ -53,7 +53,7 @@ impl Tally {
     }
 
     /// Counts the answer to a packet.
-    pub fn hear(&mut self, heard: &Heard)
+    pub fn count(&mut self, heard: &Heard)
         requires { total_of self.old < 2 ^ 47 }
         ensures counts { self.new ≡ with_heard heard.now self.old }
         ensures total { total_of self.new ≡ total_of self.old + 1 }

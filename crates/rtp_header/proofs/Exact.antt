@@ -10,17 +10,17 @@ use Rattle.h263_bits.specs.Reading.{Bits, ok, err}
 use Rattle.h263_bits.specs.Syntax.{reading, any, done, Spells, IsProductive}
 use Rattle.h263_bits.proofs.SyntaxLaws.{length-bits_of, bits_of-take, bits_of-append, sound, complete, spells_part, spells_done, spells_whole, either_productive, ok_is, err_not_ok, passed_if, passed_unless}
 use Rattle.rtp_header.specs.declared.rtp.Rtp.{Rtp}
-use Rattle.rtp_header.specs.Text.{Head, head, extension, behind, header, from_byte, IsPadding, IsRtp}
+use Rattle.rtp_header.specs.Text.{Head, head, extension, after_fixed, header, from_byte, IsPadding, IsRtp}
 use Rattle.rtp_header.specs.Faults.{rtp_in, with_head, with_end, with_payload, end_of, payload_end_of, accepted_of}
 use Rattle.rtp_header.specs.Written.{IsWithin}
-use Rattle.rtp_header.proofs.Heads.{head_length, behind_length, head_productive}
+use Rattle.rtp_header.proofs.Heads.{head_length, after_fixed_length, head_productive}
 
 -- ---- what is read spells the packet
 
 head_ok : (bytes : List ℕ) (r : Rtp) (read : Result (Head × Bits) Fault) → with_head bytes read ≡ Ok r
-    → (x : Head × Bits) × (read ≡ Ok x) × (x.0.version ≡ 2) × (with_end bytes x.0 (end_of (reading (behind x.0) x.1)) ≡ Ok r)
+    → (x : Head × Bits) × (read ≡ Ok x) × (x.0.version ≡ 2) × (with_end bytes x.0 (end_of (reading (after_fixed x.0) x.1)) ≡ Ok r)
 head_ok bytes r (Ok x) e =
-    let p = passed_unless (x.0.version == 2) _ (with_end bytes x.0 (end_of (reading (behind x.0) x.1))) r e in
+    let p = passed_unless (x.0.version == 2) _ (with_end bytes x.0 (end_of (reading (after_fixed x.0) x.1))) r e in
     (x, refl, eqb-true x.0.version 2 p.0, p.1)
 head_ok bytes r (Err f) e = absurd (err_not_ok _ r e)
 
@@ -104,20 +104,20 @@ pub record Front (h : Head) (bytes : List ℕ) (from : ℕ) : Type 0 where
   pub fits : from ≤ length bytes
   pub text : Spells header h (bits_of (take from bytes))
 
-pub front_is : (h : Head) (bytes : List ℕ) (b c : Bits) → reading head (from_byte 0 bytes) ≡ Ok (h, b) → reading (behind h) b ≡ Ok (tt, c) → Front h bytes (c.at / 8)
+pub front_is : (h : Head) (bytes : List ℕ) (b c : Bits) → reading head (from_byte 0 bytes) ≡ Ok (h, b) → reading (after_fixed h) b ≡ Ok (tt, c) → Front h bytes (c.at / 8)
 unfolding header
 front_is h bytes b c e f =
     let one = sound head (from_byte 0 bytes) b h e in
-    let two = sound (behind h) b c tt f in
-    let m = behind_length h two.0 two.2 in
+    let two = sound (after_fixed h) b c tt f in
+    let m = after_fixed_length h two.0 two.2 in
     let text = one.0 ++ two.0 in
     let k = c.at / 8 in
     let size : length text ≡ 8 * k = omega (arith, length-append one.0 two.0, head_length h one.0 one.2, m.1, one.1.at, two.1.at) in
     let whole : bits_of bytes ≡ text ++ c.bits = one.1.parts ∙ ap (λ (t : List Bool). one.0 ++ t) two.1.parts ∙ sym (append_assoc one.0 two.0 c.bits) in
     let fits : k ≤ length bytes = omega (arith, length-bits_of bytes, ap length whole, length-append text c.bits, size) in
     let front : bits_of (take k bytes) ≡ text = bits_of-take k bytes fits ∙ ap (take (8 * k)) whole ∙ take_at text c.bits (8 * k) size in
-    let end : Spells (behind h) tt two.0 = two.2 in
-    let spelt : Spells header h (one.0 ++ (two.0 ++ [])) = spells_part head any _ h h one.0 (two.0 ++ []) one.2 refl (spells_part (behind h) any _ h tt two.0 [] end refl (spells_done h)) in
+    let end : Spells (after_fixed h) tt two.0 = two.2 in
+    let spelt : Spells header h (one.0 ++ (two.0 ++ [])) = spells_part head any _ h h one.0 (two.0 ++ []) one.2 refl (spells_part (after_fixed h) any _ h tt two.0 [] end refl (spells_done h)) in
     record { fits = fits; text = spells_whole header h (one.0 ++ (two.0 ++ [])) (bits_of (take k bytes)) (ap (λ (t : List Bool). one.0 ++ t) (append-nil two.0) ∙ sym front) spelt }
 
 -- what is read as a header is one
@@ -127,7 +127,7 @@ read_text r bytes e =
     let short = passed_if (nat_lt 65535 (length bytes)) _ (with_head bytes (reading head (from_byte 0 bytes))) r e in
     let one = head_ok bytes r (reading head (from_byte 0 bytes)) short.1 in
     let h = one.0.0 in
-    let two = end_ok bytes h r (reading (behind h) one.0.1) one.3 in
+    let two = end_ok bytes h r (reading (after_fixed h) one.0.1) one.3 in
     let from = two.0.at / 8 in
     let front = front_is h bytes one.0.1 two.0 one.1 two.1 in
     let three = payload_ok bytes h from r (payload_end_of h bytes from) two.2 in
@@ -151,9 +151,9 @@ read_text r bytes e =
 
 -- ---- what spells a packet is read
 
-pub behind_productive : (h : Head) → IsProductive (behind h)
-unfolding behind extension IsProductive
-behind_productive h = λ v. either_productive (h.extension == 0) (done tt) extension nothing (λ a b w. tt)
+pub after_fixed_productive : (h : Head) → IsProductive (after_fixed h)
+unfolding after_fixed extension IsProductive
+after_fixed_productive h = λ v. either_productive (h.extension == 0) (done tt) extension nothing (λ a b w. tt)
   where
     nothing : IsProductive (done {A = Unit {0}} tt)
     nothing = tt
@@ -164,7 +164,7 @@ pub record Halves (h : Head) (bits : List Bool) : Type 0 where
   pub more : List Bool
   pub parts : bits ≡ fixed ++ more
   pub head : Spells head h fixed
-  pub behind : Spells (behind h) tt more
+  pub after_fixed : Spells (after_fixed h) tt more
 
 pub halves_of : (h : Head) (bits : List Bool) → Spells header h bits → Halves h bits
 unfolding header Spells
@@ -179,7 +179,7 @@ halves_of h bits s =
       more = t.1;
       parts = s.3 ∙ ap (λ (x : List Bool). s.1 ++ x) more;
       head = subst (λ (f : Head). Spells head f s.1) (sym same) s.4;
-      behind = subst (λ (f : Head). Spells (behind f) tt t.1) (sym same) t.4;
+      after_fixed = subst (λ (f : Head). Spells (after_fixed f) tt t.1) (sym same) t.4;
     }
 
 last_byte : (xs : List ℕ) (v : ℕ) → get_or (xs ++ v ∷ []) (length xs) 0 ≡ v
@@ -213,8 +213,8 @@ opened bytes front rest h few parts text two =
     let size : 0 + length halves.fixed + length halves.more ≡ 8 * length front = omega (arith, length-bits_of front, ap length halves.parts, length-append halves.fixed halves.more) in
     let one : reading head (from_byte 0 bytes) ≡ Ok (h, record { at = 0 + length halves.fixed; bits = halves.more ++ tail }) =
     ap (λ (t : List Bool). reading head (record { at = 0; bits = t })) whole ∙ complete head h halves.fixed (halves.more ++ tail) 0 head_productive halves.head in
-    let end : end_of (reading (behind h) (record { at = 0 + length halves.fixed; bits = halves.more ++ tail })) ≡ Some (length front) =
-    ap end_of (complete (behind h) tt halves.more tail (0 + length halves.fixed) (behind_productive h) halves.behind) ∙ ap (λ (n : ℕ). Some n) (ap (λ (n : ℕ). n / 8) size ∙ omega arith) in
+    let end : end_of (reading (after_fixed h) (record { at = 0 + length halves.fixed; bits = halves.more ++ tail })) ≡ Some (length front) =
+    ap end_of (complete (after_fixed h) tt halves.more tail (0 + length halves.fixed) (after_fixed_productive h) halves.after_fixed) ∙ ap (λ (n : ℕ). Some n) (ap (λ (n : ℕ). n / 8) size ∙ omega arith) in
     rw (le-ltb 65535 (length bytes) few, one, eq-eqb h.version 2 two, end) refl
 
 -- what is a header is read

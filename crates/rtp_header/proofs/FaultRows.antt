@@ -12,11 +12,11 @@ use Rattle.h263_bits.specs.Syntax.{any, either, done, field, Syntax, reading}
 use Rattle.h263_bits.specs.Elements.{Faults}
 use Rattle.h263_bits.proofs.SyntaxLaws.{stands, err_is, err_not_ok, sound, complete, length-spelled, length-bits_of, spelled-number, number-lt, fault_found, fault_again}
 use Rattle.rtp_header.specs.declared.rtp.Rtp.{Rtp}
-use Rattle.rtp_header.specs.Text.{Head, head, extension, behind, from_byte, IsRtp}
+use Rattle.rtp_header.specs.Text.{Head, head, extension, after_fixed, from_byte, IsRtp}
 use Rattle.rtp_header.specs.Faults.{rtp_in, with_head, with_end, with_payload, end_of, payload_end_of, accepted_of}
-use Rattle.rtp_header.specs.Rows.{Begins, EndsInExtension, EndsInside, Carries, IsWhole, IsRtpFault, long, short, version, short_behind, padding, type, source}
+use Rattle.rtp_header.specs.Rows.{Begins, EndsInExtension, EndsInside, Carries, IsWhole, IsRtpFault, long, short, version, short_after_fixed, padding, type, source}
 use Rattle.rtp_header.proofs.Heads.{head_length, head_productive}
-use Rattle.rtp_header.proofs.Exact.{padding_ok, front_is, behind_productive, payload_is, opened, text_read}
+use Rattle.rtp_header.proofs.Exact.{padding_ok, front_is, after_fixed_productive, payload_is, opened, text_read}
 
 -- ---- what a row has is found
 
@@ -49,7 +49,7 @@ begun bytes h left b =
 version_row : (bytes : List ℕ) (h : Head) (left : List Bool) → Begins bytes h left → (h.version ≡ 2 → ⊥) → rtp_in bytes ≡ Err (stands faults.Version 0)
 version_row bytes h left b other = few_is bytes b.few ∙ ap (with_head bytes) (begun bytes h left b) ∙ rw (ne_eqb h.version 2 other) refl
 
-versioned : (bytes : List ℕ) (h : Head) (left : List Bool) → Begins bytes h left → h.version ≡ 2 → rtp_in bytes ≡ with_end bytes h (end_of (reading (behind h) (after left)))
+versioned : (bytes : List ℕ) (h : Head) (left : List Bool) → Begins bytes h left → h.version ≡ 2 → rtp_in bytes ≡ with_end bytes h (end_of (reading (after_fixed h) (after left)))
 versioned bytes h left b two = few_is bytes b.few ∙ ap (with_head bytes) (begun bytes h left b) ∙ rw (eq-eqb h.version 2 two) refl
 
 -- the first bits as a field
@@ -80,10 +80,10 @@ cut_extension left (inl lt) =
 cut_extension left (inr e) =
     (fields ((16, e.0) ∷ (16, e.1) ∷ []), e.2, e.5, inr (e.0, fields ((16, e.1) ∷ []), e.3, refl, refl, inr (e.1, [], e.4, refl, refl, inl (refl, inl (omega (arith, e.6), refl)))))
 
-cut_behind : (h : Head) (left : List Bool) → EndsInside h left → IsCutIn (behind h) left
-unfolding behind Faults
-cut_behind h left (inl lt) = ([], left, refl, inl (refl, inl (omega (arith, lt), refl)))
-cut_behind h left (inr e) =
+cut_after : (h : Head) (left : List Bool) → EndsInside h left → IsCutIn (after_fixed h) left
+unfolding after_fixed Faults
+cut_after h left (inl lt) = ([], left, refl, inl (refl, inl (omega (arith, lt), refl)))
+cut_after h left (inr e) =
     let n = 8 * (4 * h.sources) in
     let c = cut_extension e.2 e.5 in
     let len : length e.1 ≡ n = omega (arith, e.3) in
@@ -94,11 +94,11 @@ cut_behind h left (inr e) =
     let parts : left ≡ (e.1 ++ c.0) ++ c.1 = e.4 ∙ ap (λ (t : List Bool). e.1 ++ t) c.2 ∙ sym (append_assoc e.1 c.0 c.1) in
     (e.1 ++ c.0, c.1, parts, inr (number e.1, c.0, small, refl, ap (λ (t : List Bool). t ++ c.0) (sym text), more))
 
-short_behind_row : (bytes : List ℕ) (h : Head) (left : List Bool) → Begins bytes h left → h.version ≡ 2 → EndsInside h left → rtp_in bytes ≡ Err (stands faults.Short (8 * length bytes))
-short_behind_row bytes h left b two cut =
-    let c = cut_behind h left cut in
-    versioned bytes h left b two ∙ ap (λ (t : List Bool). with_end bytes h (end_of (reading (behind h) (after t)))) c.2
-    ∙ ap (λ (r : Result (Unit {0} × Bits) Fault). with_end bytes h (end_of r)) (fault_again (behind h) 96 c.0 c.1 faults.Ended (behind_productive h) c.3)
+short_after_fixed_row : (bytes : List ℕ) (h : Head) (left : List Bool) → Begins bytes h left → h.version ≡ 2 → EndsInside h left → rtp_in bytes ≡ Err (stands faults.Short (8 * length bytes))
+short_after_fixed_row bytes h left b two cut =
+    let c = cut_after h left cut in
+    versioned bytes h left b two ∙ ap (λ (t : List Bool). with_end bytes h (end_of (reading (after_fixed h) (after t)))) c.2
+    ∙ ap (λ (r : Result (Unit {0} × Bits) Fault). with_end bytes h (end_of r)) (fault_again (after_fixed h) 96 c.0 c.1 faults.Ended (after_fixed_productive h) c.3)
 
 carried : (bytes : List ℕ) (h : Head) (rest : List ℕ) (c : Carries bytes h rest) → rtp_in bytes ≡ with_payload bytes h (length c.front) (payload_end_of h bytes (length c.front))
 carried bytes h rest c = opened bytes c.front rest h c.few c.parts c.text c.version
@@ -138,7 +138,7 @@ of_row : (bytes : List ℕ) (kind : FaultKind) (at : ℕ) → IsRtpFault bytes k
 of_row bytes kind at (long lt) = long_row bytes lt
 of_row bytes kind at (short lt) = short_row bytes lt
 of_row bytes kind at (version h left b other) = version_row bytes h left b other
-of_row bytes kind at (short_behind h left b two cut) = short_behind_row bytes h left b two cut
+of_row bytes kind at (short_after_fixed h left b two cut) = short_after_fixed_row bytes h left b two cut
 of_row bytes kind at (padding h rest c padded bad) = padding_row bytes h rest c padded bad
 of_row bytes kind at (type h w other) = type_row bytes h w other
 of_row bytes kind at (source h w is other) = source_row bytes h w is other
@@ -184,11 +184,11 @@ extension_found front left kind (inr (profile, rest, p, ok, parts, inr (words, r
 extension_found front left kind (inr (profile, rest, p, ok, parts, inr (words, rest2, w, ok2, parts2, inl (none, inr refused)))) = absurd (no_fault kind refused.4)
 extension_found front left kind (inr (profile, rest, p, ok, parts, inr (words, rest2, w, ok2, parts2, inr f))) = absurd f.5
 
-behind_found : (h : Head) (front left : List Bool) (kind : FaultKind) → Faults (behind h) front left kind → EndsInside h (front ++ left)
-unfolding behind Faults
-behind_found h front left kind (inl (none, inl cut)) = inl (omega (arith, length-append front left, ap length none, cut.0))
-behind_found h front left kind (inl (none, inr refused)) = absurd (no_fault kind refused.4)
-behind_found h front left kind (inr (v, rest, small, ok, parts, f)) = at_extension (h.extension == 0) refl f
+after_fixed_found : (h : Head) (front left : List Bool) (kind : FaultKind) → Faults (after_fixed h) front left kind → EndsInside h (front ++ left)
+unfolding after_fixed Faults
+after_fixed_found h front left kind (inl (none, inl cut)) = inl (omega (arith, length-append front left, ap length none, cut.0))
+after_fixed_found h front left kind (inl (none, inr refused)) = absurd (no_fault kind refused.4)
+after_fixed_found h front left kind (inr (v, rest, small, ok, parts, f)) = at_extension (h.extension == 0) refl f
   where
     n : ℕ
     n = 8 * (4 * h.sources)
@@ -257,14 +257,14 @@ at_end bytes h from fits c = by (payload_end_of h bytes from) refl
         let p = padding_ok h.padding bytes from to fits e in
         at_type bytes h (record { payload = p.payload; padding = p.padding; carries = subst (λ (t : List ℕ). Carries bytes h t) p.parts c; padded = p.text })
 
-at_behind : (bytes : List ℕ) (h : Head) (b : Bits) → length bytes ≤ 65535 → reading head (from_byte 0 bytes) ≡ Ok (h, b) → h.version ≡ 2 → Begins bytes h b.bits → Stands bytes
-at_behind bytes h b few is two begins = by (reading (behind h) b) refl
+at_after_fixed : (bytes : List ℕ) (h : Head) (b : Bits) → length bytes ≤ 65535 → reading head (from_byte 0 bytes) ≡ Ok (h, b) → h.version ≡ 2 → Begins bytes h b.bits → Stands bytes
+at_after_fixed bytes h b few is two begins = by (reading (after_fixed h) b) refl
   where
-    by : (r : Result (Unit {0} × Bits) Fault) → reading (behind h) b ≡ r → Stands bytes
+    by : (r : Result (Unit {0} × Bits) Fault) → reading (after_fixed h) b ≡ r → Stands bytes
     by (Err d) e =
-        let f = fault_found (behind h) b d (behind_productive h) e in
-        let cut : EndsInside h b.bits = subst (λ (t : List Bool). EndsInside h t) (sym f.2) (behind_found h f.0 f.1 d.kind f.4) in
-        row faults.Short (8 * length bytes) (short_behind h b.bits begins two cut)
+        let f = fault_found (after_fixed h) b d (after_fixed_productive h) e in
+        let cut : EndsInside h b.bits = subst (λ (t : List Bool). EndsInside h t) (sym f.2) (after_fixed_found h f.0 f.1 d.kind f.4) in
+        row faults.Short (8 * length bytes) (short_after_fixed h b.bits begins two cut)
     by (Ok x) e =
         let from = x.1.at / 8 in
         let front = front_is h bytes b x.1 is e in
@@ -283,7 +283,7 @@ at_head bytes few enough = by (reading head (from_byte 0 bytes)) refl
         versioned_or (x.0.version == 2) refl e begins
       where
         versioned_or : (t : Bool) → (x.0.version == 2) ≡ t → reading head (from_byte 0 bytes) ≡ Ok x → Begins bytes x.0 x.1.bits → Stands bytes
-        versioned_or true e is begins = at_behind bytes x.0 x.1 few is (eqb-true x.0.version 2 e) begins
+        versioned_or true e is begins = at_after_fixed bytes x.0 x.1 few is (eqb-true x.0.version 2 e) begins
         versioned_or false e is begins = row faults.Version 0 (version x.0 x.1.bits begins (eqb-false x.0.version 2 e))
 
 each_stands : (bytes : List ℕ) → Stands bytes

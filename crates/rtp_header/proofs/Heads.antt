@@ -9,7 +9,7 @@ use Rattle.h263_bits.specs.Bits.{bits_of, spelled, number, fields}
 use Rattle.h263_bits.specs.Reading.{Bits, number_at}
 use Rattle.h263_bits.specs.Syntax.{field, done, any, either, Spells, IsProductive, reading}
 use Rattle.h263_bits.proofs.SyntaxLaws.{spelled-append, length-bits_of, number-push, bits_of-take, bits_of-drop, spells_field, spells_done, complete, sound, ok_is, length-fields, field_length, done_length}
-use Rattle.rtp_header.specs.Text.{Head, head, extension, behind, from_byte}
+use Rattle.rtp_header.specs.Text.{Head, head, extension, after_fixed, from_byte}
 use Rattle.rtp_header.specs.Faults.{end_of}
 
 -- ---- the fixed header
@@ -158,9 +158,9 @@ bytes_of-take k m bytes h =
     let rest = drop k bytes in
     let len : length (bits_of rest) ≡ 8 * (length bytes - k) = omega (arith, length-bits_of rest, length-drop k bytes) in
     let front : take (8 * m) (bits_of rest) ≡ bits_of (take m rest) = sym (bits_of-take m rest (omega (arith, length-drop k bytes))) in
-    let behind : drop (8 * m) (bits_of rest) ≡ bits_of (drop (k + m) bytes) = sym (bits_of-drop m rest) ∙ ap bits_of (drop-drop m k bytes) in
+    let after_fixed : drop (8 * m) (bits_of rest) ≡ bits_of (drop (k + m) bytes) = sym (bits_of-drop m rest) ∙ ap bits_of (drop-drop m k bytes) in
     let place : 8 * k + 8 * m ≡ 8 * (k + m) = omega arith in
-    rw (le-ltb (length (bits_of rest)) (8 * m) (omega (arith, len)), front, behind, place) refl
+    rw (le-ltb (length (bits_of rest)) (8 * m) (omega (arith, len)), front, after_fixed, place) refl
 
 bytes_of-cut : (k m : ℕ) (bytes : List ℕ) → k ≤ length bytes → length bytes < k + m → number_at (8 * m) (from_byte k bytes) ≡ Err (record { kind = Ended; at = 8 * k })
 unfolding number_at
@@ -182,19 +182,19 @@ two_is (a ∷ b ∷ rest) h small = rw (number-push (a ∷ []) b (small 1), numb
 -- ---- what stands after the fixed header
 
 -- the sources are cut
-pub behind_cut : (h : Head) (bytes : List ℕ) → 12 ≤ length bytes → length bytes < 12 + 4 * h.sources → end_of (reading (behind h) (from_byte 12 bytes)) ≡ None
-unfolding reading behind
-behind_cut h bytes long cut = rw (bytes_of-cut 12 (4 * h.sources) bytes long cut) refl
+pub after_fixed_cut : (h : Head) (bytes : List ℕ) → 12 ≤ length bytes → length bytes < 12 + 4 * h.sources → end_of (reading (after_fixed h) (from_byte 12 bytes)) ≡ None
+unfolding reading after_fixed
+after_fixed_cut h bytes long cut = rw (bytes_of-cut 12 (4 * h.sources) bytes long cut) refl
 
 -- no extension
-pub behind_plain : (h : Head) (bytes : List ℕ) → 12 + 4 * h.sources ≤ length bytes → h.extension ≡ 0 → end_of (reading (behind h) (from_byte 12 bytes)) ≡ Some (12 + 4 * h.sources)
-unfolding reading behind
-behind_plain h bytes fits none =
+pub after_fixed_plain : (h : Head) (bytes : List ℕ) → 12 + 4 * h.sources ≤ length bytes → h.extension ≡ 0 → end_of (reading (after_fixed h) (from_byte 12 bytes)) ≡ Some (12 + 4 * h.sources)
+unfolding reading after_fixed
+after_fixed_plain h bytes fits none =
     let bytes_back : 8 * (12 + 4 * h.sources) / 8 ≡ 12 + 4 * h.sources = omega arith in
     rw (bytes_of-take 12 (4 * h.sources) bytes fits, none, bytes_back) refl
 
-extension_is : (h : Head) (bytes : List ℕ) → 12 + 4 * h.sources ≤ length bytes → (h.extension == 0) ≡ false → reading (behind h) (from_byte 12 bytes) ≡ reading extension (from_byte (12 + 4 * h.sources) bytes)
-unfolding reading behind
+extension_is : (h : Head) (bytes : List ℕ) → 12 + 4 * h.sources ≤ length bytes → (h.extension == 0) ≡ false → reading (after_fixed h) (from_byte 12 bytes) ≡ reading extension (from_byte (12 + 4 * h.sources) bytes)
+unfolding reading after_fixed
 extension_is h bytes fits some = rw (bytes_of-take 12 (4 * h.sources) bytes fits, some) refl
 
 -- the extension's first four bytes are cut
@@ -225,29 +225,29 @@ words_fit k m bytes fits =
     rw (bytes_of-take k m bytes fits, back) refl
 
 -- where the extension is cut in its first four bytes, in its words, and where it isn't
-pub behind_extended : (h : Head) (bytes : List ℕ) → 12 + 4 * h.sources ≤ length bytes → (h.extension == 0) ≡ false → length bytes < 12 + 4 * h.sources + 4 → end_of (reading (behind h) (from_byte 12 bytes)) ≡ None
-behind_extended h bytes fits some cut = ap end_of (extension_is h bytes fits some) ∙ extension_cut (12 + 4 * h.sources) bytes fits cut
+pub after_fixed_extended : (h : Head) (bytes : List ℕ) → 12 + 4 * h.sources ≤ length bytes → (h.extension == 0) ≡ false → length bytes < 12 + 4 * h.sources + 4 → end_of (reading (after_fixed h) (from_byte 12 bytes)) ≡ None
+after_fixed_extended h bytes fits some cut = ap end_of (extension_is h bytes fits some) ∙ extension_cut (12 + 4 * h.sources) bytes fits cut
 
 abbrev words_of : Head → List ℕ → ℕ
 words_of h bytes = big_number 2 (drop (12 + 4 * h.sources + 2) bytes)
 
-pub behind_words_cut : (h : Head) (bytes : List ℕ) → 12 + 4 * h.sources + 4 ≤ length bytes → (h.extension == 0) ≡ false → ((i : ℕ) → get_or bytes i 0 < 256)
-    → length bytes < 12 + 4 * h.sources + 4 + 4 * words_of h bytes → end_of (reading (behind h) (from_byte 12 bytes)) ≡ None
-behind_words_cut h bytes fits some small cut =
+pub after_fixed_words_cut : (h : Head) (bytes : List ℕ) → 12 + 4 * h.sources + 4 ≤ length bytes → (h.extension == 0) ≡ false → ((i : ℕ) → get_or bytes i 0 < 256)
+    → length bytes < 12 + 4 * h.sources + 4 + 4 * words_of h bytes → end_of (reading (after_fixed h) (from_byte 12 bytes)) ≡ None
+after_fixed_words_cut h bytes fits some small cut =
     let k = 12 + 4 * h.sources in
     ap end_of (extension_is h bytes (omega arith) some ∙ extension_words k bytes fits small) ∙ words_cut (k + 2 + 2) (4 * words_of h bytes) bytes (omega arith) (omega arith)
 
-pub behind_words : (h : Head) (bytes : List ℕ) → 12 + 4 * h.sources + 4 ≤ length bytes → (h.extension == 0) ≡ false → ((i : ℕ) → get_or bytes i 0 < 256)
-    → 12 + 4 * h.sources + 4 + 4 * words_of h bytes ≤ length bytes → end_of (reading (behind h) (from_byte 12 bytes)) ≡ Some (12 + 4 * h.sources + 4 + 4 * words_of h bytes)
-behind_words h bytes fits some small whole =
+pub after_fixed_words : (h : Head) (bytes : List ℕ) → 12 + 4 * h.sources + 4 ≤ length bytes → (h.extension == 0) ≡ false → ((i : ℕ) → get_or bytes i 0 < 256)
+    → 12 + 4 * h.sources + 4 + 4 * words_of h bytes ≤ length bytes → end_of (reading (after_fixed h) (from_byte 12 bytes)) ≡ Some (12 + 4 * h.sources + 4 + 4 * words_of h bytes)
+after_fixed_words h bytes fits some small whole =
     let k = 12 + 4 * h.sources in
     ap end_of (extension_is h bytes (omega arith) some ∙ extension_words k bytes fits small) ∙ words_fit (k + 2 + 2) (4 * words_of h bytes) bytes (omega arith) ∙ ap (λ (n : ℕ). Some n) (omega arith)
 
 -- ---- the length of what stands after the fixed header
 
-pub behind_length : (h : Head) (text : List Bool) → Spells (behind h) tt text → (m : ℕ) × (length text ≡ 8 * m)
-unfolding behind extension
-behind_length h text spelt =
+pub after_fixed_length : (h : Head) (text : List Bool) → Spells (after_fixed h) tt text → (m : ℕ) × (length text ≡ 8 * m)
+unfolding after_fixed extension
+after_fixed_length h text spelt =
     let a = field_length (8 * (4 * h.sources)) _ _ tt text spelt in
     let more = at_extension (h.extension == 0) a.1 a.2 in
     (4 * h.sources + more.0, omega (arith, a.3, more.1))

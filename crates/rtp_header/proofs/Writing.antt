@@ -6,7 +6,7 @@ use Rattle.byteorder.specs.Endian.{big_bytes}
 use Rattle.h263_bits.specs.Bits.{bits_of, spelled, fields}
 use Rattle.h263_bits.specs.Syntax.{any, Spells}
 use Rattle.h263_bits.proofs.SyntaxLaws.{length-bits_of, spells_field, spells_part, spells_done, spells_whole, length-fields}
-use Rattle.rtp_header.specs.Text.{Head, head, behind, header}
+use Rattle.rtp_header.specs.Text.{Head, head, after_fixed, header}
 use Rattle.rtp_header.specs.Faults.{rtp_in}
 use Rattle.rtp_header.specs.Written.{rtp_fields}
 use Rattle.rtp_header.proofs.Heads.{head_spelt, IsHead, first_byte, second_byte, two_bytes, four_bytes}
@@ -44,7 +44,7 @@ marker_back true = refl
 marker_back false = refl
 
 header_written : (marker : Bool) (sequence timestamp : ℕ) → sequence < 65536 → timestamp < 4294967296 → Spells header (head_written marker sequence timestamp) (fields (rtp_fields marker sequence timestamp))
-unfolding header behind spelled
+unfolding header after_fixed spelled
 header_written marker s t hs ht =
     let h = head_written marker s t in
     let text = fields (rtp_fields marker s t) in
@@ -59,8 +59,8 @@ header_written marker s t hs ht =
       timestamp = ht;
       source = omega arith;
     } in
-    let none : Spells (behind h) tt (spelled 0 0 ++ []) = spells_field 0 any _ tt 0 [] (omega arith) refl (spells_done tt) in
-    spells_whole header h (text ++ ((spelled 0 0 ++ []) ++ [])) text (append-nil text) (spells_part head any _ h h text ((spelled 0 0 ++ []) ++ []) (head_spelt h ok) refl (spells_part (behind h) any _ h tt (spelled 0 0 ++ []) [] none refl (spells_done h)))
+    let none : Spells (after_fixed h) tt (spelled 0 0 ++ []) = spells_field 0 any _ tt 0 [] (omega arith) refl (spells_done tt) in
+    spells_whole header h (text ++ ((spelled 0 0 ++ []) ++ [])) text (append-nil text) (spells_part head any _ h h text ((spelled 0 0 ++ []) ++ []) (head_spelt h ok) refl (spells_part (after_fixed h) any _ h tt (spelled 0 0 ++ []) [] none refl (spells_done h)))
 
 -- a written header is read again, whatever payload follows
 pub written_again : (front payload : List ℕ) (marker : Bool) (sequence timestamp : ℕ) → sequence < 65536 → timestamp < 4294967296 → bits_of front ≡ fields (rtp_fields marker sequence timestamp) → length payload ≤ 65523

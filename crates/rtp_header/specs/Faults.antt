@@ -6,7 +6,7 @@ use Rattle.h263_bits.specs.declared.fault.FaultKind.TheVariants as faults
 use Rattle.h263_bits.specs.Reading.{Bits, first_fault}
 use Rattle.h263_bits.specs.Syntax.{reading}
 use Rattle.rtp_header.specs.declared.rtp.Rtp.{Rtp}
-use Rattle.rtp_header.specs.Text.{Head, head, behind, from_byte}
+use Rattle.rtp_header.specs.Text.{Head, head, after_fixed, from_byte}
 
 abbrev pub fault_at : FaultKind → ℕ → Result Rtp Fault
 fault_at kind at = Err (record { kind = kind; at = at })
@@ -53,7 +53,7 @@ with_end bytes h (Some from) = with_payload bytes h from (payload_end_of h bytes
 abbrev pub with_head : List ℕ → Result (Head × Bits) Fault → Result Rtp Fault
 with_head bytes (Err e) = short_of bytes
 with_head bytes (Ok x) = if x.0.version == 2
-    then with_end bytes x.0 (end_of (reading (behind x.0) x.1)) else fault_at faults.Version 0
+    then with_end bytes x.0 (end_of (reading (after_fixed x.0) x.1)) else fault_at faults.Version 0
 
 -- the packet that bytes spell, or its first fault
 unfoldable pub rtp_in : List ℕ → Result Rtp Fault

@@ -25,8 +25,8 @@ EndsInExtension left =
 abbrev pub EndsInside : Head → List Bool → Type 0
 EndsInside h left =
     (length left < 32 * h.sources)
-    ⊎ ((h.extension ≡ 0 → ⊥) × (sources behind : List Bool)
-    × (length sources ≡ 32 * h.sources) × (left ≡ sources ++ behind) × EndsInExtension behind)
+    ⊎ ((h.extension ≡ 0 → ⊥) × (sources after_fixed : List Bool)
+    × (length sources ≡ 32 * h.sources) × (left ≡ sources ++ after_fixed) × EndsInExtension after_fixed)
 
 -- the packet is of version 2, its sources and its extension are whole, and these bytes come after them
 pub record Carries (bytes : List ℕ) (h : Head) (rest : List ℕ) : Type 0 where
@@ -51,7 +51,7 @@ pub data IsRtpFault (bytes : List ℕ) : FaultKind → ℕ → Type 0 where
   version : (h : Head) (left : List Bool)
       → Begins bytes h left → (h.version ≡ 2 → ⊥) → IsRtpFault bytes faults.Version 0
   -- sources or extension pass the end
-  short_behind : (h : Head) (left : List Bool) → Begins bytes h left → h.version ≡ 2 → EndsInside h left
+  short_after_fixed : (h : Head) (left : List Bool) → Begins bytes h left → h.version ≡ 2 → EndsInside h left
       → IsRtpFault bytes faults.Short (8 * length bytes)
   -- P is set, and the last byte counts nothing, or more than there is after the header
   padding : (h : Head) (rest : List ℕ) → Carries bytes h rest → (h.padding ≡ 0 → ⊥)

@@ -52,8 +52,8 @@ extension =
 
 -- what stands between the fixed header and the payload: the sources (CSRC), four bytes each, and
 -- where X is set the extension
-unfoldable pub behind : Head → Syntax (Unit {0})
-behind h =
+unfoldable pub after_fixed : Head → Syntax (Unit {0})
+after_fixed h =
     field (8 * (4 * h.sources)) any λ sources.
     either (h.extension == 0) (done tt) extension
 
@@ -61,7 +61,7 @@ behind h =
 unfoldable pub header : Syntax Head
 header =
     part head any λ h.
-    part (behind h) any λ end.
+    part (after_fixed h) any λ end.
     done h
 
 -- the bits of bytes from a byte on

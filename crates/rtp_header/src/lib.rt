@@ -15,7 +15,7 @@ ghost use Rattle.std.specs.Prelude.{◌≡◌, ℕ, ◌+◌, ◌≤◌, ◌++◌
 ghost use Rattle.h263_bits.specs.Bits.{bits_of, fields};
 ghost use Rattle.h263_bits.specs.Reading.{Bits, first_fault};
 ghost use Rattle.h263_bits.specs.Syntax.{reading};
-ghost use Rattle.rtp_header.specs.Text.{Head, from_byte, head, behind, IsRtp};
+ghost use Rattle.rtp_header.specs.Text.{Head, from_byte, head, after_fixed, IsRtp};
 ghost use Rattle.rtp_header.specs.Faults.{end_of, payload_end_of, accepted_of, rtp_in, rtp_fault};
 ghost use Rattle.rtp_header.specs.Written.{rtp_fields, written_rtp, IsWithin};
 
@@ -37,7 +37,7 @@ fn header_end(bytes: &[u8]) -> Option<u32>
     requires fixed { 12 ≤ length bytes.now }
     requires short { length bytes.now ≤ 65535 }
     ensures end { (h : Head) (b : Bits) → reading head (from_byte 0 bytes.now) ≡ Ok (h, b)
-        → result ≡ end_of (reading (behind h) b) }
+        → result ≡ end_of (reading (after_fixed h) b) }
     ensures within { IfSome result (λ end. end ≤ length bytes.now) }
 {
     let sources_end = 12 + 4 * (bytes[0] % 16) as usize;

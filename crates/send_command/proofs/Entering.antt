@@ -20,7 +20,7 @@ use Rattle.event_logs.specs.Reader.{EntryGives, Moves}
 use Rattle.call_report.specs.declared.status.Status.{Status}
 use Rattle.call_report.specs.declared.status.Status.TheVariants.{Ok as Fine, LogRefused}
 use Rattle.call_report.specs.Status.{phase, log_stop}
-use Rattle.desk_program.specs.Run.{End, Step, behind, refusal}
+use Rattle.desk_program.specs.Run.{End, Step, left_after, refusal}
 use Rattle.desk_program.specs.Run.Step.{Ends}
 use Rattle.desk_program.specs.Ends.{Tells, Gains, GainsFronts, IsPart, Ended, GivesUp, step_turns, step_texts}
 use Rattle.desk_program.specs.Texts.{no_bytes, no_texts, on, of, and_of}
@@ -47,8 +47,8 @@ part_of_entry s inputs (Some (log_entry.Back len)) k few = no_entry_held (record
 part_of_entry s inputs (Some (log_entry.Packet len)) k few = tt
 part_of_entry s inputs (Some log_entry.Play) k few = tt
 
-abbrev pub CutBehind : Type 0
-CutBehind = (side : Side) (entry : Entry) (text : List ℕ) (k : ℕ) → entry_in side text ≡ Some entry → 3 + bytes_of entry ≤ k → entry_in side (take k text) ≡ Some entry
+abbrev pub CutAfter : Type 0
+CutAfter = (side : Side) (entry : Entry) (text : List ℕ) (k : ℕ) → entry_in side text ≡ Some entry → 3 + bytes_of entry ≤ k → entry_in side (take k text) ≡ Some entry
 
 -- the step, where another entry may come or not
 abbrev chosen : Bool → SendState → (Role → List ℕ) → Option Entry → Step SendState
@@ -58,7 +58,7 @@ part_of_choice : (t : Bool) (s : SendState) (inputs : Role → List ℕ) (e : Op
 part_of_choice true s inputs e k few = part_of_entry s inputs e k few
 part_of_choice false s inputs e k few = tt
 
-part_of_log : CutBehind → (s : SendState) (inputs : Role → List ℕ) (log : List ℕ) (k : ℕ) → entry_in sides.Send (take k log) ≡ None → IsPart (step_turns (log_step s inputs log)) (of Events k)
+part_of_log : CutAfter → (s : SendState) (inputs : Role → List ℕ) (log : List ℕ) (k : ℕ) → entry_in sides.Send (take k log) ≡ None → IsPart (step_turns (log_step s inputs log)) (of Events k)
 part_of_log cut s inputs [] k none = tt
 part_of_log cut s inputs (b ∷ log) k none =
     part_of_choice (nat_lt s.read most_entries) s inputs (entry_in sides.Send (b ∷ log)) k
@@ -91,7 +91,7 @@ pub record IsReadAt (s : SendState) (reader : LogPlace) : Type 0 where
   pub at_is : s.at ≡ reader.at
   pub read_is : s.read ≡ reader.entries
 
-module _ (laws : TurnLaws) (cut : CutBehind) (s : SendState) (inputs : Role → List ℕ) (old mid : Outside) (told : Tells old inputs) (others : (r : Role) → r ≢ Events → mid.left r ≡ old.left r) (same : mid.written ≡ old.written) (reader after : LogPlace) (at : IsReadAt s reader) (bytes : List ℕ) where
+module _ (laws : TurnLaws) (cut : CutAfter) (s : SendState) (inputs : Role → List ℕ) (old mid : Outside) (told : Tells old inputs) (others : (r : Role) → r ≢ Events → mid.left r ≡ old.left r) (same : mid.written ≡ old.written) (reader after : LogPlace) (at : IsReadAt s reader) (bytes : List ℕ) where
   -- the reader of a sender's log
   sent_in : (text : List ℕ) (e : Option Entry) → entry_in reader.side text ≡ e → entry_in sides.Send text ≡ e
   sent_in text e is = ap (λ (side : Side). entry_in side text) (sym at.side_is) ∙ is
@@ -143,7 +143,7 @@ module _ (laws : TurnLaws) (cut : CutBehind) (s : SendState) (inputs : Role → 
         let is : entry_in sides.Send (inputs Events) ≡ Some found.1 = sent_in (inputs Events) (Some found.1) e.0 in
         entry_is s inputs (inputs Events) (Some found.1) (some_entry (inputs Events) found.1 is) (omega (arith, few, at.read_is)) is
 
-    pub found_told : Tells mid (behind inputs (of Events (3 + bytes_of found.1)))
+    pub found_told : Tells mid (left_after inputs (of Events (3 + bytes_of found.1)))
     found_told = laws.one_read Events (3 + bytes_of found.1) old mid inputs told e.2 others
 
 -- what the reader says, by what it answered

@@ -18,7 +18,7 @@ use Rattle.y4m.specs.Reader.{FrameGives, Moves}
 use Rattle.event_logs.specs.declared.fault.LogFault.TheVariants.{NoFrame}
 use Rattle.call_report.specs.declared.status.Status.TheVariants.{VideoRefused, LogRefused}
 use Rattle.call_report.specs.Status.{phase, video_stop}
-use Rattle.desk_program.specs.Run.{Step, behind, refusal}
+use Rattle.desk_program.specs.Run.{Step, left_after, refusal}
 use Rattle.desk_program.specs.Ends.{Tells, Gains, GainsFronts, holds, IsPart, Went, Ended, EndsBy, GivesUp, step_turns, step_texts}
 use Rattle.desk_program.specs.Texts.{no_texts, of, and_of}
 use Rattle.desk_program.specs.Laws.{TurnLaws}
@@ -66,8 +66,8 @@ pub record IsVideoAt (s : SendState) (reader : Y4mReader) : Type 0 where
   pub more_is : s.more ≡ reader.more
 
 module _ (laws : TurnLaws) (cut : CutFrames) (s : SendState) (inputs : Role → List ℕ) (before old mid : Outside) (taken : HasTaken 3 inputs before old) (others : (r : Role) → r ≢ Video → mid.left r ≡ old.left r) (same : mid.written ≡ old.written) (reader after : Y4mReader) (at : IsVideoAt s reader) (out : List ℕ) where
-  video_told : (k : ℕ) → mid.left Video ≡ Some (drop k (inputs Video)) → Tells mid (behind inputs (and_of (of Events 3) (of Video k)))
-  video_told k gone = laws.both_reads (of Events 3) (of Video k) mid inputs (laws.one_read Video k old mid (behind inputs (of Events 3)) taken.left gone others)
+  video_told : (k : ℕ) → mid.left Video ≡ Some (drop k (inputs Video)) → Tells mid (left_after inputs (and_of (of Events 3) (of Video k)))
+  video_told k gone = laws.both_reads (of Events 3) (of Video k) mid inputs (laws.one_read Video k old mid (left_after inputs (of Events 3)) taken.left gone others)
 
   -- the frame by the state's place
   next_at : (r : Result (List ℕ) Y4mFault) → next_frame reader.more reader.format reader.at (inputs Video) ≡ r → next_frame s.more s.params.format s.video_at (inputs Video) ≡ r
@@ -95,7 +95,7 @@ module _ (laws : TurnLaws) (cut : CutFrames) (s : SendState) (inputs : Role → 
     by =
         subst (λ (n : ℕ). EndsBy (no_frame s.at) (LogRefused (NoFrame n)) inputs before mid) (sym is)
         (laws.ends (LogRefused (NoFrame s.at)) (of Events 3) no_texts inputs before mid
-        (laws.none_read Video old mid (behind inputs (of Events 3)) taken.left e.0 e.1 others) (laws.no_text before.written mid.written (same ∙ taken.written)));
+        (laws.none_read Video old mid (left_after inputs (of Events 3)) taken.left e.0 e.1 others) (laws.no_text before.written mid.written (same ∙ taken.written)));
   }
 
   -- after a frame
@@ -121,7 +121,7 @@ module _ (laws : TurnLaws) (cut : CutFrames) (s : SendState) (inputs : Role → 
         (subst (λ (t : Role → List ℕ). GainsFronts t before.written new.written) text_is
         (subst (λ (w : Role → Option (List ℕ)). GainsFronts texts w new.written) (sym unchanged) g))
 
-    pub captures : (stands : SendState → (Role → List ℕ) → Type 0) → stands (after_capture s size (captured s.params.format out)) (behind inputs (and_of (of Events 3) (of Video size))) → new.left ≡ mid.left → Gains texts mid.written new.written → Went (capture_step s (inputs Video)) stands (λ _. true) true inputs before new
+    pub captures : (stands : SendState → (Role → List ℕ) → Type 0) → stands (after_capture s size (captured s.params.format out)) (left_after inputs (and_of (of Events 3) (of Video size))) → new.left ≡ mid.left → Gains texts mid.written new.written → Went (capture_step s (inputs Video)) stands (λ _. true) true inputs before new
     captures stands kept still g = record {
       next = after_capture s size (captured s.params.format out);
       turn = record { taken = and_of (of Events 3) (of Video size); whole = true; texts = capture_texts s.target s.params (captured s.params.format out) s.entries };

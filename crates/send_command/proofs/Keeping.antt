@@ -23,7 +23,7 @@ use Rattle.call_encoding.specs.Messages.{read_message}
 use Rattle.sender_end.specs.declared.answers.Coded.{Coded}
 use Rattle.sender_end.specs.State.{SenderState}
 use Rattle.sender_end.specs.Stands.{Stands, run_of, last_packets}
-use Rattle.desk_program.specs.Run.{behind}
+use Rattle.desk_program.specs.Run.{left_after}
 use Rattle.desk_program.specs.Ends.{Tells, Went}
 use Rattle.desk_program.specs.Texts.{no_texts, of}
 use Rattle.desk_program.specs.Laws.{TurnLaws}
@@ -33,7 +33,7 @@ use Rattle.send_command.specs.Tally.{with_picture, with_reply}
 use Rattle.rate_control.specs.Pace.{pace_of, target_of}
 use Rattle.send_command.specs.Send.{SendState, picture_texts, capture_texts, after_capture, after_feedback, entry_step, send_step}
 use Rattle.send_command.specs.Stands.{HasTaken, IsCaptured, IsFit, SendStands, StoodBefore}
-use Rattle.send_command.proofs.Entering.{CutBehind, IsReadAt, found_is, found_told}
+use Rattle.send_command.proofs.Entering.{CutAfter, IsReadAt, found_is, found_told}
 use Rattle.send_command.proofs.Framing.{IsVideoAt}
 
 -- ---- the parts of a state
@@ -169,7 +169,7 @@ module _ (m : Send) (s : SendState) (inputs : Role → List ℕ) (stands : SendS
       }
 
 -- what is known after an entry that was read
-pub record IsBehind (m : Send) (s : SendState) (inputs : Role → List ℕ) (old mid : Outside) (log : LogPlace) (bytes : Vec ℕ Global) (buf : List ℕ) (place : ℕ) (entry : Entry) : Type 0 where
+pub record IsAfter (m : Send) (s : SendState) (inputs : Role → List ℕ) (old mid : Outside) (log : LogPlace) (bytes : Vec ℕ Global) (buf : List ℕ) (place : ℕ) (entry : Entry) : Type 0 where
   pub step_is : send_step s inputs ≡ entry_step s inputs (Some entry)
   pub stood : StoodBefore (record m { log = log; bytes = bytes }) s (3 + bytes_of entry)
   pub taken : HasTaken (3 + bytes_of entry) inputs old mid
@@ -193,11 +193,11 @@ entry_whole side text entry is = at_test (nat_lt (length text) (reach side text)
         let far : reach side text ≡ 3 + bytes_of entry = ap reach_of began in
         enough (bytes_of entry) text (omega (arith, far, ltb-false (length text) (reach side text) same))
 
-pub is_behind : (laws : TurnLaws) (cut : CutBehind) (m : Send) (s : SendState) (inputs : Role → List ℕ) (stands : SendStands m s inputs) (old mid : Outside) (told : Tells old inputs) (others : (r : Role) → r ≢ Events → mid.left r ≡ old.left r) (same : mid.written ≡ old.written)
+pub is_after : (laws : TurnLaws) (cut : CutAfter) (m : Send) (s : SendState) (inputs : Role → List ℕ) (stands : SendStands m s inputs) (old mid : Outside) (told : Tells old inputs) (others : (r : Role) → r ≢ Events → mid.left r ≡ old.left r) (same : mid.written ≡ old.written)
     (side : m.log.side ≡ sides.Send) (log : LogPlace) (within : IsInLog log) (bytes : Vec ℕ Global) (buf : List ℕ) (place : ℕ) (entry : Entry)
     → EntryGives (Ok (Some (place, entry))) m.log (inputs Events) buf (mid.left Events) → Moves (Ok (Some (place, entry))) m.log log
-    → IsBehind m s inputs old mid log bytes buf place entry
-is_behind laws cut m s inputs stands old mid told others same side log within bytes buf place entry e moves =
+    → IsAfter m s inputs old mid log bytes buf place entry
+is_after laws cut m s inputs stands old mid told others same side log within bytes buf place entry e moves =
     let at = read_at m s inputs stands side in
     let few : m.log.entries < 16777216 = omega (arith, within.few, moves.2) in
     record {
@@ -210,8 +210,8 @@ is_behind laws cut m s inputs stands old mid told others same side log within by
     }
 
 -- the parts still fit
-pub fit_behind : (m : Send) (log : LogPlace) (bytes : Vec ℕ Global) (old now : Role → Bool) → IsFit m old → log.side ≡ m.log.side → length bytes.items ≡ 65535 → now ≡ old → IsFit (record m { log = log; bytes = bytes }) now
-fit_behind m log bytes old now fit side long attached = record {
+pub fit_after : (m : Send) (log : LogPlace) (bytes : Vec ℕ Global) (old now : Role → Bool) → IsFit m old → log.side ≡ m.log.side → length bytes.items ≡ 65535 → now ≡ old → IsFit (record m { log = log; bytes = bytes }) now
+fit_after m log bytes old now fit side long attached = record {
   video = ap (λ (f : Role → Bool). f Video) attached ∙ fit.video;
   events = ap (λ (f : Role → Bool). f Events) attached ∙ fit.events;
   wire = ap (λ (f : Role → Bool). f Wire) attached ∙ fit.wire;
@@ -228,8 +228,8 @@ pub few_bytes : (len : ℕ) (buf bytes : List ℕ) → take len buf ≡ bytes �
 few_bytes len buf bytes is whole long = omega (arith, whole, long, ap (λ (l : List ℕ). length l) is, length-take len buf)
 
 -- feedback is taken
-pub takes_feedback : (laws : TurnLaws) (s : SendState) (inputs : Role → List ℕ) (old mid : Outside) (len : ℕ) → send_step s inputs ≡ entry_step s inputs (Some (Back len)) → Tells mid (behind inputs (of Events (3 + len))) → mid.written ≡ old.written
-    → (stands : SendState → (Role → List ℕ) → Type 0) → stands (after_feedback s (take len (drop 3 (inputs Events)))) (behind inputs (of Events (3 + len)))
+pub takes_feedback : (laws : TurnLaws) (s : SendState) (inputs : Role → List ℕ) (old mid : Outside) (len : ℕ) → send_step s inputs ≡ entry_step s inputs (Some (Back len)) → Tells mid (left_after inputs (of Events (3 + len))) → mid.written ≡ old.written
+    → (stands : SendState → (Role → List ℕ) → Type 0) → stands (after_feedback s (take len (drop 3 (inputs Events)))) (left_after inputs (of Events (3 + len)))
     → Went (send_step s inputs) stands (λ _. true) true inputs old mid
 takes_feedback laws s inputs old mid len is left same stands kept = record {
   next = after_feedback s (take len (drop 3 (inputs Events)));

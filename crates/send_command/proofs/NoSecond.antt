@@ -11,7 +11,7 @@ use Rattle.event_logs.specs.declared.entry.Entry.{Entry}
 use Rattle.event_logs.specs.declared.entry.Entry.TheVariants as log_entry
 use Rattle.event_logs.specs.Entry.{entry_in}
 use Rattle.call_report.specs.declared.status.Status.TheVariants.{Video2Refused}
-use Rattle.desk_program.specs.Run.{Run, behind, follow, run_of, run_from, silence}
+use Rattle.desk_program.specs.Run.{Run, left_after, follow, run_of, run_from, silence}
 use Rattle.send_command.specs.declared.sending.Sending.{Sending}
 use Rattle.send_command.specs.Send.{SendState, send_begin, send_step, log_step, entry_step, capture_step, frame_step, head_step, most_entries}
 
@@ -46,12 +46,12 @@ module _ (fault : Y4mFault) where
   unfolding run_of
   run_refuses_none zero s inputs ends = at_log s inputs (λ next taken. silence) (λ next taken is. absurd (cc is)) (inputs Events) ends
   run_refuses_none (suc n) s inputs ends =
-      at_log s inputs (λ next taken. run_of send_step n next (behind inputs taken)) (λ next taken is. run_refuses_none n next (behind inputs taken) is) (inputs Events) ends
+      at_log s inputs (λ next taken. run_of send_step n next (left_after inputs taken)) (λ next taken is. run_refuses_none n next (left_after inputs taken) is) (inputs Events) ends
 
   pub none_refused : (setup : Sending) (inputs : Role → List ℕ) → (run_from (send_begin setup inputs) send_step 16777216 inputs).last.status ≡ Video2Refused fault → ⊥
   none_refused setup inputs ends = by_head (head_of (inputs Video)) ends
     where
       by_head : (r : Result Format Y4mFault)
-          → (follow (head_step setup (head_size (inputs Video)) r) (λ next taken. run_of send_step 16777216 next (behind inputs taken))).last.status ≡ Video2Refused fault → ⊥
+          → (follow (head_step setup (head_size (inputs Video)) r) (λ next taken. run_of send_step 16777216 next (left_after inputs taken))).last.status ≡ Video2Refused fault → ⊥
       by_head (Ok f) ends = run_refuses_none 16777216 _ _ ends
       by_head (Err broken) ends = absurd (cc ends)

@@ -7,13 +7,13 @@ use Rattle.y4m.specs.declared.fault.Y4mFault.{Y4mFault}
 use Rattle.y4m.specs.Frame.{next_frame, frame_size}
 use Rattle.y4m.specs.Head.{head_of, head_size}
 use Rattle.y4m.specs.Laws.{FrameLaws}
-use Rattle.y4m.specs.Video.{fault_of, fault_behind, video_fault}
+use Rattle.y4m.specs.Video.{fault_of, fault_after_head, video_fault}
 use Rattle.event_logs.specs.declared.entry.Side.TheVariants as sides
 use Rattle.event_logs.specs.declared.entry.Entry.{Entry}
 use Rattle.event_logs.specs.declared.entry.Entry.TheVariants as log_entry
 use Rattle.event_logs.specs.Entry.{entry_in}
 use Rattle.call_report.specs.declared.status.Status.TheVariants.{VideoRefused}
-use Rattle.desk_program.specs.Run.{Run, behind, follow, run_of, run_from, silence}
+use Rattle.desk_program.specs.Run.{Run, left_after, follow, run_of, run_from, silence}
 use Rattle.desk_program.specs.Texts.{of, and_of}
 use Rattle.send_command.specs.declared.sending.Sending.{Sending}
 use Rattle.send_command.specs.Send.{SendState, captured, send_begin, send_step, log_step, entry_step, capture_step, frame_step, head_step, after_capture, first_state, most_entries}
@@ -28,7 +28,7 @@ module _ (frame_laws : FrameLaws) (fault : Y4mFault) where
 
   module _ (s : SendState) (inputs : Role → List ℕ) (rest : SendState → (Role → ℕ) → Run)
       (more : (next : SendState) (taken : Role → ℕ) → (rest next taken).last.status ≡ VideoRefused fault
-      → fault_of next.params.format next.more next.video_at (behind inputs taken Video) ≡ Some fault) where
+      → fault_of next.params.format next.more next.video_at (left_after inputs taken Video) ≡ Some fault) where
     abbrev faulty : List ℕ → Type 0
     faulty video = fault_of s.params.format s.more s.video_at video ≡ Some fault
 
@@ -70,7 +70,7 @@ module _ (frame_laws : FrameLaws) (fault : Y4mFault) where
   unfolding run_of
   run_refused zero s inputs ends = at_log s inputs (λ next taken. silence) (λ next taken is. absurd (cc is)) (inputs Events) ends
   run_refused (suc n) s inputs ends =
-      at_log s inputs (λ next taken. run_of send_step n next (behind inputs taken)) (λ next taken is. run_refused n next (behind inputs taken) is) (inputs Events) ends
+      at_log s inputs (λ next taken. run_of send_step n next (left_after inputs taken)) (λ next taken is. run_refused n next (left_after inputs taken) is) (inputs Events) ends
 
   pub video_refused : (setup : Sending) (inputs : Role → List ℕ) → (run_from (send_begin setup inputs) send_step 16777216 inputs).last.status ≡ VideoRefused fault
       → video_fault (inputs Video) ≡ Some fault
@@ -78,7 +78,7 @@ module _ (frame_laws : FrameLaws) (fault : Y4mFault) where
   video_refused setup inputs ends = by_head (head_of (inputs Video)) refl ends
     where
       by_head : (r : Result Format Y4mFault) → head_of (inputs Video) ≡ r
-          → (follow (head_step setup (head_size (inputs Video)) r) (λ next taken. run_of send_step 16777216 next (behind inputs taken))).last.status ≡ VideoRefused fault
-          → fault_behind r (head_size (inputs Video)) (drop (head_size (inputs Video)) (inputs Video)) ≡ Some fault
-      by_head (Ok f) is ends = run_refused 16777216 (first_state setup f (head_size (inputs Video))) (behind inputs (of Video (head_size (inputs Video)))) ends
+          → (follow (head_step setup (head_size (inputs Video)) r) (λ next taken. run_of send_step 16777216 next (left_after inputs taken))).last.status ≡ VideoRefused fault
+          → fault_after_head r (head_size (inputs Video)) (drop (head_size (inputs Video)) (inputs Video)) ≡ Some fault
+      by_head (Ok f) is ends = run_refused 16777216 (first_state setup f (head_size (inputs Video))) (left_after inputs (of Video (head_size (inputs Video)))) ends
       by_head (Err broken) is ends = ap (λ (x : Y4mFault). Some x) (refused_is broken fault ends)

@@ -13,7 +13,7 @@ use Rattle.call_encoding.specs.Frames.{Frame}
 use Rattle.sender_end.specs.declared.answers.Coded.{Coded}
 use Rattle.sender_end.specs.State.{SenderState}
 use Rattle.sender_end.specs.Stands.{Stands, run_of, next_after, last_packets}
-use Rattle.desk_program.specs.Run.{behind}
+use Rattle.desk_program.specs.Run.{left_after}
 use Rattle.desk_program.specs.Ends.{Tells}
 use Rattle.desk_program.specs.Texts.{of}
 use Rattle.send_command.specs.declared.machine.Send.{Send}
@@ -84,7 +84,7 @@ pub record StoodBefore (m : Send) (s : SendState) (size : ℕ) : Type 0 where
 
 -- since then this many bytes of the log were taken, and nothing was written
 pub record HasTaken (size : ℕ) (inputs : Role → List ℕ) (old new : Outside) : Type 0 where
-  pub left : Tells new (behind inputs (of Events size))
+  pub left : Tells new (left_after inputs (of Events size))
   pub written : new.written ≡ old.written
 
 -- the sender has captured a frame after these entries: it stands for the longer list, its packets

@@ -35,7 +35,7 @@ pub fn capture(sender: &mut Sender<SendPace>, frame: PictureRef<'_>) -> Coded
         (record { picture = picture frame.entry; messages = [] })
         sender.old.params entries sender.new result }
 {
-    sender.code(frame, &[])
+    sender.capture(frame, &[])
 }
 
 // Writes the packets of the last picture, which are this many.
@@ -52,7 +52,7 @@ fn put_packets<D: Desk>(desk: &mut D, sender: &Sender<SendPace>, count: u32) -> 
     ensures rest { OnlyWrites (D.outside desk.old) (D.outside desk.new) }
 {
     outside_laws::calls();
-    desk_program_laws::of_turns();
+    desk_program_laws::turn_laws();
     for i in 0..count {
         put_entry(desk, b'K', sender.packet(i))?;
     }
@@ -80,7 +80,7 @@ pub fn put_picture<D: Desk>(
     ensures rest { OnlyWrites (D.outside desk.old) (D.outside desk.new) }
 {
     outside_laws::calls();
-    desk_program_laws::of_turns();
+    desk_program_laws::turn_laws();
     put_packets(desk, sender, coded.packets)?;
     let row = PictureRow {
         party: None,

@@ -61,9 +61,9 @@ impl Send {
             (D.outside desk.old).faults (D.outside desk.new).faults }
         ensures rest { KeepsRoles (D.outside desk.old) (D.outside desk.new) }
     {
-        desk_program_laws::of_turns();
+        desk_program_laws::turn_laws();
         outside_laws::calls();
-        y4m::laws::cut_behind();
+        y4m::laws::cut_after();
         if !self.video.frame(desk, &mut self.frame)? {
             return Err(Status::LogRefused {
                 fault: LogFault::NoFrame { at },
@@ -116,9 +116,9 @@ impl Turns for Send {
     ghost reading = { λ _. Some Events };
 
     fn turn<D: Desk>(&mut self, desk: &mut D) -> Result<bool, Status> {
-        desk_program_laws::of_turns();
+        desk_program_laws::turn_laws();
         outside_laws::calls();
-        event_logs::laws::cut_behind();
+        event_logs::laws::cut_after();
         let Some((at, entry)) = self.log.next(desk, &mut self.bytes)? else {
             put_line(desk, &self.tally.line())?;
             return Ok(false);
@@ -158,9 +158,9 @@ impl Begins for Send {
     ghost source = { λ _. Some Events };
 
     fn start<D: Desk>(alloc: Global, setup: &Sending, desk: &mut D) -> Result<Send, Status> {
-        desk_program_laws::of_turns();
-        desk_program_laws::of_runs::<Send>();
-        y4m::laws::cut_behind();
+        desk_program_laws::turn_laws();
+        desk_program_laws::run_laws::<Send>();
+        y4m::laws::cut_after();
         let video = Y4mReader::head(desk)?;
         let params = Params {
             format: video.format(),

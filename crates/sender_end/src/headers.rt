@@ -41,7 +41,7 @@ pub fn header_of(
         (style_in params.now.format (in_places back.now) (is_some reference) depth quant)) }
     ensures in_range { IsHeader result }
 {
-    call_encoding_laws::of_the_call();
+    call_encoding_laws::carried_as_they_are();
     call_encoding_laws::header_in_range();
     let period = params.clock.period();
     Header {

@@ -7,9 +7,9 @@
 //! quantiser.
 //!
 //! ```rust
-//! sender.code(frame, &[]);
+//! sender.capture(frame, &[]);
 //! sender.feedback(&[0xC0, 0x04, 0x00]); // an ACK of picture 0
-//! let coded = sender.code(frame, &[]);
+//! let coded = sender.capture(frame, &[]);
 //! assert_eq!(rt; coded.reference, Some(0));
 //! sender.finish();
 //! ```

@@ -118,9 +118,9 @@ impl<P: Pace> Sender<P> {
         self.store.clear();
     }
 
-    /// Codes the next picture, of this frame, with at most four messages about pictures of the
+    /// Captures the next picture, of this frame, with at most four messages about pictures of the
     /// other direction in its header. Fewer than 1,048,576 pictures were coded.
-    pub fn code(&mut self, frame: PictureRef<'_>, back: &[Message]) -> Coded
+    pub fn capture(&mut self, frame: PictureRef<'_>, back: &[Message]) -> Coded
         requires frame { (picture frame).format ≡ self.old.params.format }
         requires few { length back.now ≤ 4 }
         requires back { AreMessages self.old.params.clock back.now }
@@ -151,7 +151,7 @@ impl<P: Pace> Sender<P> {
         call_model_laws::searches();
         call_encoding_laws::is_encoding();
         call_encoding_laws::written_packets();
-        call_encoding_laws::of_the_call();
+        call_encoding_laws::carried_as_they_are();
         call_decoding_laws::are_pictures();
         call_decoding_laws::are_rules();
         let quant = self.pace.quant(self.sizes.as_slice());

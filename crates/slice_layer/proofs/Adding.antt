@@ -14,20 +14,20 @@ use Rattle.macroblock_layer.specs.Laws.{MbLaws}
 use Rattle.slice_layer.specs.Laws.{AreShort}
 use Rattle.slice_layer.proofs.Openings.{length-begins, length-later, opening_short}
 use Rattle.slice_layer.specs.Around.{Around, around, vector_of, vectors_of, next_predictor, quant_after}
-use Rattle.slice_layer.specs.Written.{opening_text, mbs_text, slice_text, bytes_of, quant_behind}
+use Rattle.slice_layer.specs.Written.{opening_text, mbs_text, slice_text, bytes_of, quant_after_all}
 use Rattle.slice_layer.specs.declared.writing.Added.TheVariants.{Fits, Full}
 use Rattle.slice_layer.specs.Writer.{answer}
 
-pub quant_behind-append : (quant : ℕ) (mbs : List Mb) (m : Mb) → quant_behind quant (mbs ++ m ∷ []) ≡ quant_after (quant_behind quant mbs) m
-quant_behind-append quant [] m = refl
-quant_behind-append quant (n ∷ mbs) m = quant_behind-append (quant_after quant n) mbs m
+pub quant_after_all-append : (quant : ℕ) (mbs : List Mb) (m : Mb) → quant_after_all quant (mbs ++ m ∷ []) ≡ quant_after (quant_after_all quant mbs) m
+quant_after_all-append quant [] m = refl
+quant_after_all-append quant (n ∷ mbs) m = quant_after_all-append (quant_after quant n) mbs m
 
 pub vectors_of-append : (first : ℕ) (mbs : List Mb) (m : Mb) → vectors_of first (mbs ++ m ∷ []) ≡ vectors_of first mbs ++ vector_of m ∷ []
 vectors_of-append first mbs m =
     ap (λ (t : List Vector). replicate first no_vector ++ t) (map-append vector_of mbs (m ∷ [])) ∙ sym (append_assoc (replicate first no_vector) (map vector_of mbs) (vector_of m ∷ []))
 
 pub mbs_text-append : (a : Around) (quant : ℕ) (before mbs : List Mb) (m : Mb)
-    → mbs_text a quant before (mbs ++ m ∷ []) ≡ mbs_text a quant before mbs ++ mb_text a.kind (quant_behind quant mbs) (a.predictor (before ++ mbs)) m
+    → mbs_text a quant before (mbs ++ m ∷ []) ≡ mbs_text a quant before mbs ++ mb_text a.kind (quant_after_all quant mbs) (a.predictor (before ++ mbs)) m
 unfolding mbs_text
 mbs_text-append a quant before [] m =
     let e : before ++ [] ≡ before = append-nil before in
@@ -36,13 +36,13 @@ mbs_text-append a quant before (n ∷ mbs) m =
     let front = mb_text a.kind quant (a.predictor before) n in
     let more = mbs_text-append a (quant_after quant n) (before ++ n ∷ []) mbs m in
     let e : (before ++ n ∷ []) ++ mbs ≡ before ++ n ∷ mbs = append_assoc before (n ∷ []) mbs in
-    let last = λ (l : List Mb). mb_text a.kind (quant_behind (quant_after quant n) mbs) (a.predictor l) m in
-    let behind = mbs_text a (quant_after quant n) (before ++ n ∷ []) mbs in
-    ap (λ (t : List Bool). front ++ t) (more ∙ ap (λ (l : List Mb). behind ++ last l) e) ∙ sym (append_assoc front behind (last (before ++ n ∷ mbs)))
+    let last = λ (l : List Mb). mb_text a.kind (quant_after_all (quant_after quant n) mbs) (a.predictor l) m in
+    let after = mbs_text a (quant_after quant n) (before ++ n ∷ []) mbs in
+    ap (λ (t : List Bool). front ++ t) (more ∙ ap (λ (l : List Mb). after ++ last l) e) ∙ sym (append_assoc front after (last (before ++ n ∷ mbs)))
 
 -- the text of the next macroblock
 abbrev pub next_text : Header → ℕ → List Mb → Mb → List Bool
-next_text h first mbs m = mb_text h.kind (quant_behind h.quant mbs) (next_predictor h.format first mbs) m
+next_text h first mbs m = mb_text h.kind (quant_after_all h.quant mbs) (next_predictor h.format first mbs) m
 
 pub slice_text-append : (h : Header) (begins : Bool) (first : ℕ) (mbs : List Mb) (m : Mb) → slice_text h begins first (mbs ++ m ∷ []) ≡ slice_text h begins first mbs ++ next_text h first mbs m
 slice_text-append h begins first mbs m =
@@ -80,7 +80,7 @@ one_short laws of_mbs h begins first m is whole =
       length-append (slice_text h begins first []) (next_text h first [] m),
       ap length (no_text h begins first),
       opening_short laws h begins first is,
-      of_mbs.short h.kind (quant_behind h.quant []) (next_predictor h.format first []) m whole,
+      of_mbs.short h.kind (quant_after_all h.quant []) (next_predictor h.format first []) m whole,
     ) in
     bytes_within 1095 (slice_text h begins first (m ∷ [])) (omega (arith, bits))
 

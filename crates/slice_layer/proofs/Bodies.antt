@@ -115,7 +115,7 @@ slice_sound h begins first mbs b e =
     let body = mbs_sound (around h n) (mbs_of h.format - n) quant [] mbs c r.1 in
     let whole : IsSliceText h begins n mbs b.bits = record {
       front = t.0;
-      behind = c.bits;
+      after = c.bits;
       quant = quant;
       parts = t.1.parts;
       opened = t.2;
@@ -135,11 +135,11 @@ slice_sound h begins first mbs b e =
 pub slice_complete : MbLaws → (h : Header) (begins : Bool) (first : ℕ) (mbs : List Mb) (b : Bits) → IsSliceText h begins first mbs b.bits → slice_at h begins b ≡ Ok (first, mbs)
 unfolding slice_at
 slice_complete laws h begins first mbs b is =
-    let one = complete (head h begins) (first, is.quant) is.front is.behind b.at (head_productive h begins) is.opened in
-    let opened : reading (head h begins) b ≡ Ok ((first, is.quant), record { at = b.at + length is.front; bits = is.behind }) = ap (λ (t : List Bool). reading (head h begins) (record { at = b.at; bits = t })) is.parts ∙ one in
+    let one = complete (head h begins) (first, is.quant) is.front is.after b.at (head_productive h begins) is.opened in
+    let opened : reading (head h begins) b ≡ Ok ((first, is.quant), record { at = b.at + length is.front; bits = is.after }) = ap (λ (t : List Bool). reading (head h begins) (record { at = b.at; bits = t })) is.parts ∙ one in
     let body = is.body in
     let all = mbs_complete laws (around h first) mbs (mbs_of h.format - first) is.quant (b.at + length is.front) [] body.text body.padding body.within body.some body.zeros body.each in
-    let found : mbs_at (around h first) (mbs_of h.format - first) is.quant [] (record { at = b.at + length is.front; bits = is.behind }) ≡ Ok mbs =
+    let found : mbs_at (around h first) (mbs_of h.format - first) is.quant [] (record { at = b.at + length is.front; bits = is.after }) ≡ Ok mbs =
     ap (λ (t : List Bool). mbs_at (around h first) (mbs_of h.format - first) is.quant [] (record { at = b.at + length is.front; bits = t })) body.whole ∙ all in
     rw (opened, found) refl
 

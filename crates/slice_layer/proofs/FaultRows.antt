@@ -13,14 +13,14 @@ use Rattle.h263_bits.specs.Bits.{spelled, fields}
 use Rattle.h263_bits.specs.Reading.{Bits, err, ◌>>=◌}
 use Rattle.h263_bits.specs.Syntax.{Syntax, Spells, reading, any, only, done, field, part}
 use Rattle.h263_bits.specs.Elements.{HasFault}
-use Rattle.h263_bits.proofs.SyntaxLaws.{stands, err_is, err_not_ok, bind_err, sound, complete, fault_found, first_fault_is, only_other, fault_here, fault_behind_field, fault_in_part, fault_behind_part, fault_of_text}
+use Rattle.h263_bits.proofs.SyntaxLaws.{stands, err_is, err_not_ok, bind_err, sound, complete, fault_found, first_fault_is, only_other, fault_here, fault_after_field, fault_in_part, fault_after_part, fault_of_text}
 use Rattle.picture_header.specs.declared.header.Header.{Header}
 use Rattle.picture_header.specs.Text.{allowed_quant}
 use Rattle.macroblock_layer.specs.Laws.{MbLaws}
 use Rattle.slice_layer.specs.Around.{Around, around, quant_after, next_mb}
 use Rattle.slice_layer.specs.Head.{address_bits, allowed_first, reference, first_head, place, tail, later_head, head}
 use Rattle.slice_layer.specs.Text.{is_padding, AreTexts, stops, mbs_at, numbered, body_at, slice_at}
-use Rattle.slice_layer.specs.Written.{quant_behind}
+use Rattle.slice_layer.specs.Written.{quant_after_all}
 use Rattle.slice_layer.specs.Faults.{TailFaults, HasSliceFault, StopsAt, IsBodyFault, IsSliceFault, SliceFaults}
 use Rattle.slice_layer.proofs.Heads.{reference_productive, place_productive, head_productive}
 use Rattle.slice_layer.proofs.Marked.{mb_marked}
@@ -41,14 +41,14 @@ first_marker h =
 first_address : (h : Header) (n : ℕ) → n < 2 ^ address_bits h.format → (n ≡ 0 → ⊥) → HasFault (first_head h) (fields ((1, 1) ∷ (address_bits h.format, n) ∷ [])) faults.Address 1
 unfolding first_head
 first_address h n lt other =
-    fault_behind_field 1 (only 1 faults.Marker) _ 1 (fields (((address_bits h.format), n) ∷ [])) faults.Address 0 (omega arith) refl
+    fault_after_field 1 (only 1 faults.Marker) _ 1 (fields (((address_bits h.format), n) ∷ [])) faults.Address 0 (omega arith) refl
     (fault_here (address_bits h.format) (only 0 faults.Address) _ n [] faults.Address lt (only_other 0 n faults.Address other))
 
 first_end : (h : Header) → HasFault (first_head h) (fields ((1, 1) ∷ (address_bits h.format, 0) ∷ (1, 0) ∷ [])) faults.Marker (1 + (address_bits h.format + 0))
 unfolding first_head
 first_end h =
-    fault_behind_field 1 (only 1 faults.Marker) _ 1 (fields (((address_bits h.format), 0) ∷ (1, 0) ∷ [])) faults.Marker ((address_bits h.format) + 0) (omega arith) refl
-    (fault_behind_field (address_bits h.format) (only 0 faults.Address) _ 0 (fields ((1, 0) ∷ [])) faults.Marker 0 (zero_fits h.format) refl
+    fault_after_field 1 (only 1 faults.Marker) _ 1 (fields (((address_bits h.format), 0) ∷ (1, 0) ∷ [])) faults.Marker ((address_bits h.format) + 0) (omega arith) refl
+    (fault_after_field (address_bits h.format) (only 0 faults.Address) _ 0 (fields ((1, 0) ∷ [])) faults.Marker 0 (zero_fits h.format) refl
     (fault_here 1 (only 1 faults.Marker) _ 0 [] faults.Marker (omega arith) refl))
 
 -- ---- a later slice
@@ -75,38 +75,38 @@ place_start f =
 place_marker : (f : Format) → HasFault (place f) (fields ((1, 1) ∷ (1, 0) ∷ [])) faults.Marker 1
 unfolding place
 place_marker f =
-    fault_behind_field 1 (only 1 faults.NoStart) _ 1 (fields ((1, 0) ∷ [])) faults.Marker 0 (omega arith) refl
+    fault_after_field 1 (only 1 faults.NoStart) _ 1 (fields ((1, 0) ∷ [])) faults.Marker 0 (omega arith) refl
     (fault_here 1 (only 1 faults.Marker) _ 0 [] faults.Marker (omega arith) refl)
 
 place_first : (f : Format) → HasFault (place f) (fields ((1, 1) ∷ (1, 1) ∷ (address_bits f, 0) ∷ [])) faults.Address 2
 unfolding place
 place_first f =
-    fault_behind_field 1 (only 1 faults.NoStart) _ 1 (fields ((1, 1) ∷ ((address_bits f), 0) ∷ [])) faults.Address 1 (omega arith) refl
-    (fault_behind_field 1 (only 1 faults.Marker) _ 1 (fields (((address_bits f), 0) ∷ [])) faults.Address 0 (omega arith) refl
+    fault_after_field 1 (only 1 faults.NoStart) _ 1 (fields ((1, 1) ∷ ((address_bits f), 0) ∷ [])) faults.Address 1 (omega arith) refl
+    (fault_after_field 1 (only 1 faults.Marker) _ 1 (fields (((address_bits f), 0) ∷ [])) faults.Address 0 (omega arith) refl
     (fault_here (address_bits f) (allowed_first f) _ 0 [] faults.Address (zero_fits f) refl))
 
 place_past : (f : Format) (n : ℕ) → mbs_of f ≤ n → n < 2 ^ address_bits f → HasFault (place f) (fields ((1, 1) ∷ (1, 1) ∷ (address_bits f, n) ∷ [])) faults.Address 2
 unfolding place
 place_past f n le lt =
-    fault_behind_field 1 (only 1 faults.NoStart) _ 1 (fields ((1, 1) ∷ ((address_bits f), n) ∷ [])) faults.Address 1 (omega arith) refl
-    (fault_behind_field 1 (only 1 faults.Marker) _ 1 (fields (((address_bits f), n) ∷ [])) faults.Address 0 (omega arith) refl
+    fault_after_field 1 (only 1 faults.NoStart) _ 1 (fields ((1, 1) ∷ ((address_bits f), n) ∷ [])) faults.Address 1 (omega arith) refl
+    (fault_after_field 1 (only 1 faults.Marker) _ 1 (fields (((address_bits f), n) ∷ [])) faults.Address 0 (omega arith) refl
     (fault_here (address_bits f) (allowed_first f) _ n [] faults.Address lt (past_later f n le (omega (arith, some_mbs f, le)))))
 
 place_quant : (f : Format) (n : ℕ) → 0 < n → n < mbs_of f → n < 2 ^ address_bits f → HasFault (place f) (fields ((1, 1) ∷ (1, 1) ∷ (address_bits f, n) ∷ (5, 0) ∷ [])) faults.Quant (1 + (1 + (address_bits f + 0)))
 unfolding place
 place_quant f n some lt fits =
-    fault_behind_field 1 (only 1 faults.NoStart) _ 1 (fields ((1, 1) ∷ ((address_bits f), n) ∷ (5, 0) ∷ [])) faults.Quant (1 + ((address_bits f) + 0)) (omega arith) refl
-    (fault_behind_field 1 (only 1 faults.Marker) _ 1 (fields (((address_bits f), n) ∷ (5, 0) ∷ [])) faults.Quant ((address_bits f) + 0) (omega arith) refl
-    (fault_behind_field (address_bits f) (allowed_first f) _ n (fields ((5, 0) ∷ [])) faults.Quant 0 fits (good_later f n some lt)
+    fault_after_field 1 (only 1 faults.NoStart) _ 1 (fields ((1, 1) ∷ ((address_bits f), n) ∷ (5, 0) ∷ [])) faults.Quant (1 + ((address_bits f) + 0)) (omega arith) refl
+    (fault_after_field 1 (only 1 faults.Marker) _ 1 (fields (((address_bits f), n) ∷ (5, 0) ∷ [])) faults.Quant ((address_bits f) + 0) (omega arith) refl
+    (fault_after_field (address_bits f) (allowed_first f) _ n (fields ((5, 0) ∷ [])) faults.Quant 0 fits (good_later f n some lt)
     (fault_here 5 allowed_quant _ 0 [] faults.Quant (omega arith) refl)))
 
 place_end : (f : Format) (n q : ℕ) → 0 < n → n < mbs_of f → n < 2 ^ address_bits f → 0 < q → q < 32 → HasFault (place f) (fields ((1, 1) ∷ (1, 1) ∷ (address_bits f, n) ∷ (5, q) ∷ (1, 0) ∷ [])) faults.Marker (1 + (1 + (address_bits f + 5)))
 unfolding place
 place_end f n q some lt fits more small =
-    fault_behind_field 1 (only 1 faults.NoStart) _ 1 (fields ((1, 1) ∷ ((address_bits f), n) ∷ (5, q) ∷ (1, 0) ∷ [])) faults.Marker (1 + ((address_bits f) + 5)) (omega arith) refl
-    (fault_behind_field 1 (only 1 faults.Marker) _ 1 (fields (((address_bits f), n) ∷ (5, q) ∷ (1, 0) ∷ [])) faults.Marker ((address_bits f) + 5) (omega arith) refl
-    (fault_behind_field (address_bits f) (allowed_first f) _ n (fields ((5, q) ∷ (1, 0) ∷ [])) faults.Marker 5 fits (good_later f n some lt)
-    (fault_behind_field 5 allowed_quant _ q (fields ((1, 0) ∷ [])) faults.Marker 0 small (good_quant q more)
+    fault_after_field 1 (only 1 faults.NoStart) _ 1 (fields ((1, 1) ∷ ((address_bits f), n) ∷ (5, q) ∷ (1, 0) ∷ [])) faults.Marker (1 + ((address_bits f) + 5)) (omega arith) refl
+    (fault_after_field 1 (only 1 faults.Marker) _ 1 (fields (((address_bits f), n) ∷ (5, q) ∷ (1, 0) ∷ [])) faults.Marker ((address_bits f) + 5) (omega arith) refl
+    (fault_after_field (address_bits f) (allowed_first f) _ n (fields ((5, q) ∷ (1, 0) ∷ [])) faults.Marker 5 fits (good_later f n some lt)
+    (fault_after_field 5 allowed_quant _ q (fields ((1, 0) ∷ [])) faults.Marker 0 small (good_quant q more)
     (fault_here 1 (only 1 faults.Marker) _ 0 [] faults.Marker (omega arith) refl))))
 
 -- ---- GFID, TRI, TRPI and TRP, BCI
@@ -114,7 +114,7 @@ place_end f n q some lt fits more small =
 tail_tri : (trp : Option ℕ) (gfid : ℕ) → gfid < 4 → HasFault (tail trp) (fields ((2, gfid) ∷ (1, 1) ∷ [])) faults.SliceReference 2
 unfolding tail
 tail_tri trp gfid lt =
-    fault_behind_field 2 any _ gfid (fields ((1, 1) ∷ [])) faults.SliceReference 0 lt refl
+    fault_after_field 2 any _ gfid (fields ((1, 1) ∷ [])) faults.SliceReference 0 lt refl
     (fault_here 1 (only 0 faults.SliceReference) _ 1 [] faults.SliceReference (omega arith) refl)
 
 refers_intra : HasFault (reference None) (fields ((1, 1) ∷ [])) faults.SliceReference 0
@@ -130,7 +130,7 @@ refers_inter trp =
 refers_other : (trp n : ℕ) → n < 1024 → (n ≡ trp → ⊥) → HasFault (reference (Some trp)) (fields ((1, 1) ∷ (10, n) ∷ [])) faults.SliceReference 1
 unfolding reference
 refers_other trp n lt other =
-    fault_behind_field 1 (only 1 faults.SliceReference) _ 1 (fields ((10, n) ∷ [])) faults.SliceReference 0 (omega arith) refl
+    fault_after_field 1 (only 1 faults.SliceReference) _ 1 (fields ((10, n) ∷ [])) faults.SliceReference 0 (omega arith) refl
     (fault_here 10 (only trp faults.SliceReference) _ n [] faults.SliceReference lt (only_other trp n faults.SliceReference other))
 
 -- one field as a text of its own
@@ -138,27 +138,27 @@ one_field : (n v : ℕ) (text : List Bool) → fields ((n, v) ∷ []) ++ text �
 one_field n v text = ap (λ (t : List Bool). t ++ text) (append-nil (spelled n v))
 
 -- what stands after GFID and TRI
-abbrev behind_gfid : Option ℕ → Syntax (Unit {0})
-behind_gfid trp = part (reference trp) any λ again. field 2 (only 1 faults.Bci) λ bci. done tt
+abbrev after_gfid : Option ℕ → Syntax (Unit {0})
+after_gfid trp = part (reference trp) any λ again. field 2 (only 1 faults.Bci) λ bci. done tt
 
-behind_tri : (trp : Option ℕ) (gfid : ℕ) (text : List Bool) (kind : FaultKind) (place : ℕ) → gfid < 4 → HasFault (behind_gfid trp) text kind place
+after_tri : (trp : Option ℕ) (gfid : ℕ) (text : List Bool) (kind : FaultKind) (place : ℕ) → gfid < 4 → HasFault (after_gfid trp) text kind place
     → HasFault (tail trp) (fields ((2, gfid) ∷ []) ++ (fields ((1, 0) ∷ []) ++ text)) kind (2 + (1 + place))
 unfolding tail
-behind_tri trp gfid text kind place lt h =
+after_tri trp gfid text kind place lt h =
     let same : spelled 2 gfid ++ (spelled 1 0 ++ text) ≡ fields ((2, gfid) ∷ []) ++ (fields ((1, 0) ∷ []) ++ text) =
     sym (one_field 2 gfid (fields ((1, 0) ∷ []) ++ text) ∙ ap (λ (t : List Bool). spelled 2 gfid ++ t) (one_field 1 0 text)) in
     fault_of_text (tail trp) (spelled 2 gfid ++ (spelled 1 0 ++ text)) (fields ((2, gfid) ∷ []) ++ (fields ((1, 0) ∷ []) ++ text)) kind (2 + (1 + place)) same
-    (fault_behind_field 2 any _ gfid (spelled 1 0 ++ text) kind (1 + place) lt refl (fault_behind_field 1 (only 0 faults.SliceReference) _ 0 text kind place (omega arith) refl h))
+    (fault_after_field 2 any _ gfid (spelled 1 0 ++ text) kind (1 + place) lt refl (fault_after_field 1 (only 0 faults.SliceReference) _ 0 text kind place (omega arith) refl h))
 
 tail_reference : (trp : Option ℕ) (gfid : ℕ) (text : List Bool) (kind : FaultKind) (place : ℕ) → gfid < 4 → HasFault (reference trp) text kind place
     → HasFault (tail trp) (fields ((2, gfid) ∷ []) ++ (fields ((1, 0) ∷ []) ++ text)) kind (2 + (1 + place))
-tail_reference trp gfid text kind place lt h = behind_tri trp gfid text kind place lt (fault_in_part (reference trp) any _ text kind place h)
+tail_reference trp gfid text kind place lt h = after_tri trp gfid text kind place lt (fault_in_part (reference trp) any _ text kind place h)
 
 tail_bci : (trp : Option ℕ) (gfid n : ℕ) (a : List Bool) → gfid < 4 → n < 4 → (n ≡ 1 → ⊥) → Spells (reference trp) tt a
     → HasFault (tail trp) (fields ((2, gfid) ∷ []) ++ (fields ((1, 0) ∷ []) ++ (a ++ fields ((2, n) ∷ [])))) faults.Bci (2 + (1 + (length a + 0)))
 tail_bci trp gfid n a lt small other spelt =
-    behind_tri trp gfid (a ++ fields ((2, n) ∷ [])) faults.Bci (length a + 0) lt
-    (fault_behind_part (reference trp) any _ tt a (fields ((2, n) ∷ [])) faults.Bci 0 (reference_productive trp) spelt refl
+    after_tri trp gfid (a ++ fields ((2, n) ∷ [])) faults.Bci (length a + 0) lt
+    (fault_after_part (reference trp) any _ tt a (fields ((2, n) ∷ [])) faults.Bci 0 (reference_productive trp) spelt refl
     (fault_here 2 (only 1 faults.Bci) _ n [] faults.Bci small (only_other 1 n faults.Bci other)))
 
 tail_faults : TailFaults
@@ -171,18 +171,18 @@ later_place h text kind at e = fault_in_part (place h.format) any _ text kind at
 later_tail : (h : Header) (first quant : ℕ) (a text : List Bool) (kind : FaultKind) (at : ℕ) → Spells (place h.format) (first, quant) a → HasFault (tail h.trp) text kind at → HasFault (later_head h) (a ++ text) kind (length a + at)
 unfolding later_head
 later_tail h first quant a text kind at spelt e =
-    fault_behind_part (place h.format) any _ (first, quant) a text kind at (place_productive h.format) spelt refl (fault_in_part (tail h.trp) any _ text kind at e)
+    fault_after_part (place h.format) any _ (first, quant) a text kind at (place_productive h.format) spelt refl (fault_in_part (tail h.trp) any _ text kind at e)
 
 -- ---- the macroblocks
 
 -- macroblocks that are spelled are read, and the reader goes on after them
-mbs_behind : MbLaws → (a : Around) (new : List Mb) (room quant at : ℕ) (before : List Mb) (text rest : List Bool) → AreTexts a quant before new text
-    → mbs_at a (length new + room) quant before (record { at = at; bits = text ++ rest }) ≡ mbs_at a room (quant_behind quant new) (before ++ new) (record { at = at + length text; bits = rest })
+mbs_after : MbLaws → (a : Around) (new : List Mb) (room quant at : ℕ) (before : List Mb) (text rest : List Bool) → AreTexts a quant before new text
+    → mbs_at a (length new + room) quant before (record { at = at; bits = text ++ rest }) ≡ mbs_at a room (quant_after_all quant new) (before ++ new) (record { at = at + length text; bits = rest })
 unfolding mbs_at AreTexts
-mbs_behind laws a [] room quant at before text rest h =
+mbs_after laws a [] room quant at before text rest h =
     let none : 0 + room ≡ room = omega arith in
     rw (h, none, append-nil before, add-zero at) refl
-mbs_behind laws a (m ∷ new) room quant at before text rest h =
+mbs_after laws a (m ∷ new) room quant at before text rest h =
     let front = h.0 in
     let tail = h.1 in
     let reach = a.reaches (a.first + length before) in
@@ -191,7 +191,7 @@ mbs_behind laws a (m ∷ new) room quant at before text rest h =
     let marked = mb_marked a.kind quant reach (a.predictor before) m front (tail ++ rest) h.3 in
     let one = complete (next_mb a quant before) m front (tail ++ rest) at (laws.productive a.kind quant reach (a.predictor before)) h.3 in
     let all : (before ++ m ∷ []) ++ new ≡ before ++ (m ∷ new) = append_assoc before (m ∷ []) new in
-    let more = mbs_behind laws a new room (quant_after quant m) (at + length front) (before ++ m ∷ []) tail rest h.4 in
+    let more = mbs_after laws a new room (quant_after quant m) (at + length front) (before ++ m ∷ []) tail rest h.4 in
     let rooms : length (m ∷ new) + room ≡ suc (length new + room) = omega arith in
     rw (rooms, e, marked, one, more, all, len, add_assoc at (length front) (length tail)) refl
 
@@ -226,42 +226,42 @@ unfolding slice_at
 head_row h begins text kind place e = λ at rest. rw (e at rest) refl
 
 -- after its header a slice has the fault of its macroblocks
-behind_head : (h : Header) (begins : Bool) (first quant at : ℕ) (front rest : List Bool) (kind : FaultKind) (place : ℕ) → Spells (head h begins) (first, quant) front
+after_head : (h : Header) (begins : Bool) (first quant at : ℕ) (front rest : List Bool) (kind : FaultKind) (place : ℕ) → Spells (head h begins) (first, quant) front
     → mbs_at (around h first) (mbs_of h.format - first) quant [] (record { at = at + length front; bits = rest }) ≡ Err (record { kind = kind; at = place })
     → slice_at h begins (record { at = at; bits = front ++ rest }) ≡ Err (record { kind = kind; at = place })
 unfolding slice_at
-behind_head h begins first quant at front rest kind place spelt e = rw (complete (head h begins) (first, quant) front rest at (head_productive h begins) spelt, e) refl
+after_head h begins first quant at front rest kind place spelt e = rw (complete (head h begins) (first, quant) front rest at (head_productive h begins) spelt, e) refl
 
 empty_row : (h : Header) (begins : Bool) (first quant at : ℕ) (front padding : List Bool) → Spells (head h begins) (first, quant) front → is_padding padding ≡ true
     → slice_at h begins (record { at = at; bits = front ++ padding }) ≡ Err (record { kind = faults.Empty; at = at + length front })
-empty_row h begins first quant at front padding spelt z = behind_head h begins first quant at front padding faults.Empty (at + length front) spelt (stops_empty (around h first) (mbs_of h.format - first) quant (at + length front) padding z)
+empty_row h begins first quant at front padding spelt z = after_head h begins first quant at front padding faults.Empty (at + length front) spelt (stops_empty (around h first) (mbs_of h.format - first) quant (at + length front) padding z)
 
 trailing_row : MbLaws → (h : Header) (begins : Bool) (first quant at : ℕ) (mbs : List Mb) (front texts rest : List Bool) → Spells (head h begins) (first, quant) front → AreTexts (around h first) quant [] mbs texts
     → length mbs ≡ mbs_of h.format - first → is_padding rest ≡ false
     → slice_at h begins (record { at = at; bits = front ++ (texts ++ rest) }) ≡ Err (record { kind = faults.Trailing; at = at + length front + length texts })
 trailing_row laws h begins first quant at mbs front texts rest spelt each full z =
     let a = around h first in
-    let on = mbs_behind laws a mbs 0 quant (at + length front) [] texts rest each in
+    let on = mbs_after laws a mbs 0 quant (at + length front) [] texts rest each in
     let room : mbs_of h.format - first ≡ length mbs + 0 = omega (arith, full) in
     let found : mbs_at a (mbs_of h.format - first) quant [] (record { at = at + length front; bits = texts ++ rest }) ≡ Err (record { kind = faults.Trailing; at = at + length front + length texts }) =
-    ap (λ (n : ℕ). mbs_at a n quant [] (record { at = at + length front; bits = texts ++ rest })) room ∙ on ∙ stops_full a (quant_behind quant mbs) (at + length front + length texts) mbs rest z in
-    behind_head h begins first quant at front (texts ++ rest) faults.Trailing (at + length front + length texts) spelt found
+    ap (λ (n : ℕ). mbs_at a n quant [] (record { at = at + length front; bits = texts ++ rest })) room ∙ on ∙ stops_full a (quant_after_all quant mbs) (at + length front + length texts) mbs rest z in
+    after_head h begins first quant at front (texts ++ rest) faults.Trailing (at + length front + length texts) spelt found
 
 mb_row : MbLaws → (h : Header) (begins : Bool) (first quant : ℕ) (mbs : List Mb) (front texts text : List Bool) (kind : FaultKind) (place : ℕ) → Spells (head h begins) (first, quant) front → AreTexts (around h first) quant [] mbs texts
-    → length mbs < mbs_of h.format - first → HasFault (next_mb (around h first) (quant_behind quant mbs) mbs) text kind place → ((rest : List Bool) → is_padding (text ++ rest) ≡ false)
+    → length mbs < mbs_of h.format - first → HasFault (next_mb (around h first) (quant_after_all quant mbs) mbs) text kind place → ((rest : List Bool) → is_padding (text ++ rest) ≡ false)
     → HasSliceFault h begins (front ++ (texts ++ text)) kind (length front + (length texts + place))
 mb_row laws h begins first quant mbs front texts text kind place spelt each lt e some = λ at rest.
     let a = around h first in
     let left = mbs_of h.format - first - length mbs - 1 in
-    let on = mbs_behind laws a mbs (suc left) quant (at + length front) [] texts (text ++ rest) each in
+    let on = mbs_after laws a mbs (suc left) quant (at + length front) [] texts (text ++ rest) each in
     let room : mbs_of h.format - first ≡ length mbs + suc left = omega (arith, lt) in
     let there : at + length front + length texts + place ≡ at + (length front + (length texts + place)) = omega arith in
     let found : mbs_at a (mbs_of h.format - first) quant [] (record { at = at + length front; bits = texts ++ (text ++ rest) }) ≡ Err (record { kind = kind; at = at + length front + length texts + place }) =
     ap (λ (n : ℕ). mbs_at a n quant [] (record { at = at + length front; bits = texts ++ (text ++ rest) })) room ∙ on
-    ∙ stops_in_mb a left (quant_behind quant mbs) (at + length front + length texts) (at + length front + length texts + place) mbs (text ++ rest) kind (some rest) (e (at + length front + length texts) rest) in
+    ∙ stops_in_mb a left (quant_after_all quant mbs) (at + length front + length texts) (at + length front + length texts + place) mbs (text ++ rest) kind (some rest) (e (at + length front + length texts) rest) in
     let parts : (front ++ (texts ++ text)) ++ rest ≡ front ++ (texts ++ (text ++ rest)) = append_assoc front (texts ++ text) rest ∙ ap (λ (t : List Bool). front ++ t) (append_assoc texts text rest) in
     ap (λ (t : List Bool). slice_at h begins (record { at = at; bits = t })) parts
-    ∙ behind_head h begins first quant at front (texts ++ (text ++ rest)) kind (at + length front + length texts + place) spelt found
+    ∙ after_head h begins first quant at front (texts ++ (text ++ rest)) kind (at + length front + length texts + place) spelt found
     ∙ ap (λ (k : ℕ). err (stands kind k)) there
 
 -- ---- the first fault of a slice, said of its elements
@@ -312,7 +312,7 @@ mbs_fault laws a (suc room) quant before b d e = at_end (is_padding b.bits) refl
               let r = more m c h.2 in
               let all : (before ++ m ∷ []) ++ r.mbs ≡ before ++ (m ∷ r.mbs) = append_assoc before (m ∷ []) r.mbs in
               let place : c.at + length r.texts ≡ b.at + length (t.0 ++ r.texts) = omega (arith, t.1.at, length-append t.0 r.texts) in
-              let q = quant_behind (quant_after quant m) r.mbs in
+              let q = quant_after_all (quant_after quant m) r.mbs in
               let on = stop_again a q (length r.mbs) room ((before ++ m ∷ []) ++ r.mbs) (record { at = c.at + length r.texts; bits = r.left }) d r.stops in
               let moved = subst (λ (l : List Mb). StopsAt a q (suc (length r.mbs)) (suc room) l (record { at = c.at + length r.texts; bits = r.left }) d) all on in
               record {
@@ -332,27 +332,27 @@ mbs_fault_again laws a room quant b d is = whole ∙ at_stop is.stops
     whole : mbs_at a room quant [] b ≡ mbs_at a room quant [] (record { at = b.at; bits = is.texts ++ is.left })
     whole = ap (λ (t : List Bool). mbs_at a room quant [] (record { at = b.at; bits = t })) is.parts
 
-    behind : (more : ℕ) → length is.mbs + more ≡ room → mbs_at a room quant [] (record { at = b.at; bits = is.texts ++ is.left }) ≡ mbs_at a more (quant_behind quant is.mbs) is.mbs (record { at = b.at + length is.texts; bits = is.left })
-    behind more e =
-        ap (λ (n : ℕ). mbs_at a n quant [] (record { at = b.at; bits = is.texts ++ is.left })) (sym e) ∙ mbs_behind laws a is.mbs more quant b.at [] is.texts is.left is.each
+    after : (more : ℕ) → length is.mbs + more ≡ room → mbs_at a room quant [] (record { at = b.at; bits = is.texts ++ is.left }) ≡ mbs_at a more (quant_after_all quant is.mbs) is.mbs (record { at = b.at + length is.texts; bits = is.left })
+    after more e =
+        ap (λ (n : ℕ). mbs_at a n quant [] (record { at = b.at; bits = is.texts ++ is.left })) (sym e) ∙ mbs_after laws a is.mbs more quant b.at [] is.texts is.left is.each
 
     none : is.mbs ≡ [] → is.texts ≡ []
     none e = no_texts a quant is.mbs is.texts e is.each
 
-    at_stop : StopsAt a (quant_behind quant is.mbs) (length is.mbs) room is.mbs (record { at = b.at + length is.texts; bits = is.left }) d → mbs_at a room quant [] (record { at = b.at; bits = is.texts ++ is.left }) ≡ Err d
+    at_stop : StopsAt a (quant_after_all quant is.mbs) (length is.mbs) room is.mbs (record { at = b.at + length is.texts; bits = is.left }) d → mbs_at a room quant [] (record { at = b.at; bits = is.texts ++ is.left }) ≡ Err d
     at_stop (inl h) =
         let texts = none h.0 in
         let bits : is.texts ++ is.left ≡ is.left = ap (λ (t : List Bool). t ++ is.left) texts in
         let place : b.at ≡ b.at + length is.texts = sym (add-zero b.at) ∙ ap (λ (t : List Bool). b.at + length t) (sym texts) in
         ap (λ (t : List Bool). mbs_at a room quant [] (record { at = b.at; bits = t })) bits ∙ stops_empty a room quant b.at is.left h.1
         ∙ ap (λ (k : ℕ). err (stands faults.Empty k)) place ∙ ap (λ (f : Fault). err f) (sym h.2)
-    at_stop (inr (inl h)) = behind 0 (omega (arith, h.0)) ∙ stops_full a (quant_behind quant is.mbs) (b.at + length is.texts) is.mbs is.left h.1 ∙ ap (λ (f : Fault). err f) (sym h.2)
+    at_stop (inr (inl h)) = after 0 (omega (arith, h.0)) ∙ stops_full a (quant_after_all quant is.mbs) (b.at + length is.texts) is.mbs is.left h.1 ∙ ap (λ (f : Fault). err f) (sym h.2)
     at_stop (inr (inr h)) =
-        let q = quant_behind quant is.mbs in
+        let q = quant_after_all quant is.mbs in
         let c : Bits = record { at = b.at + length is.texts; bits = is.left } in
         let read = (first_fault_is (next_mb a q is.mbs) c d (laws.productive a.kind q (a.reaches (a.first + length is.mbs)) (a.predictor is.mbs))).1 h.2 in
         let left = room - length is.mbs - 1 in
-        behind (suc left) (omega (arith, h.0)) ∙ stops_in_mb a left q (b.at + length is.texts) d.at is.mbs is.left d.kind h.1 read
+        after (suc left) (omega (arith, h.0)) ∙ stops_in_mb a left q (b.at + length is.texts) d.at is.mbs is.left d.kind h.1 read
 
 numbered_err : (first : ℕ) (r : Result (List Mb) Fault) (d : Fault) → numbered first r ≡ Err d → r ≡ Err d
 numbered_err first (Ok mbs) d e = absurd (err_not_ok d (first, mbs) (sym e))
@@ -378,7 +378,7 @@ slice_fault_again laws h begins b d (inr f) =
     let first = f.0 in
     let quant = f.1 in
     ap (λ (t : List Bool). slice_at h begins (record { at = b.at; bits = t })) f.5
-    ∙ behind_head h begins first quant b.at f.2 f.3 d.kind d.at f.4 (mbs_fault_again laws (around h first) (mbs_of h.format - first) quant (record { at = b.at + length f.2; bits = f.3 }) d f.6)
+    ∙ after_head h begins first quant b.at f.2 f.3 d.kind d.at f.4 (mbs_fault_again laws (around h first) (mbs_of h.format - first) quant (record { at = b.at + length f.2; bits = f.3 }) d f.6)
 
 pub slice_faults : MbLaws → SliceFaults
 slice_faults laws = record {

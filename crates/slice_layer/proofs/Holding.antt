@@ -11,12 +11,12 @@ use Rattle.picture_header.specs.declared.header.Header.{Header}
 use Rattle.macroblock_layer.specs.Prediction.{no_vector, predictor_of}
 use Rattle.macroblock_layer.specs.Written.{mb_text}
 use Rattle.slice_layer.specs.Around.{vector_of, vectors_of, next_predictor, quant_after}
-use Rattle.slice_layer.specs.Written.{opening_text, slice_text, quant_behind, IsFront}
+use Rattle.slice_layer.specs.Written.{opening_text, slice_text, quant_after_all, IsFront}
 use Rattle.slice_layer.specs.declared.writing.SliceWriter.{SliceWriter}
-use Rattle.slice_layer.proofs.Adding.{no_text, next_text, slice_text-append, quant_behind-append, vectors_of-append}
+use Rattle.slice_layer.proofs.Adding.{no_text, next_text, slice_text-append, quant_after_all-append, vectors_of-append}
 use Rattle.slice_layer.specs.Writer.{kind_of, format_of, first_of, next_of, quant_of, bytes_in, HoldsSlice}
 
-no_step : (quant : ℕ) → quant ≡ quant_behind quant []
+no_step : (quant : ℕ) → quant ≡ quant_after_all quant []
 no_step quant = refl
 
 pub begun : (w : SliceWriter) (h : Header) (begins : Bool) (first : ℕ) → IsFront (opening_text h begins first) (bytes_in w) → w.len ≡ length (opening_text h begins first)
@@ -61,7 +61,7 @@ next_is w h begins first mbs m v holds serves =
     let p : prediction w ≡ next_predictor h.format first mbs =
     ap (λ (l : List Vector). predictor_of l (first_of w) (next_of w) (columns_of (format_of w))) holds.vectors ∙ ap (λ (k : ℕ). predictor_of (vectors_of first mbs) k (next_of w) (columns_of (format_of w))) holds.from
     ∙ ap (λ (k : ℕ). predictor_of (vectors_of first mbs) first k (columns_of (format_of w))) holds.next ∙ ap (λ (f : Format). predictor_of (vectors_of first mbs) first (first + length mbs) (columns_of f)) holds.format in
-    serves ∙ ap (λ (k : Kind). mb_text k (quant_of w) (prediction w) m) holds.kind ∙ ap (λ (q : ℕ). mb_text h.kind q (prediction w) m) holds.quant ∙ ap (λ (u : Vector). mb_text h.kind (quant_behind h.quant mbs) u m) p
+    serves ∙ ap (λ (k : Kind). mb_text k (quant_of w) (prediction w) m) holds.kind ∙ ap (λ (q : ℕ). mb_text h.kind q (prediction w) m) holds.quant ∙ ap (λ (u : Vector). mb_text h.kind (quant_after_all h.quant mbs) u m) p
 
 pub next_length : (w : SliceWriter) (h : Header) (begins : Bool) (first : ℕ) (mbs : List Mb) (m : Mb) (v : Vector) → HoldsSlice w h begins first mbs → Serves w m v
     → length (slice_text h begins first (mbs ++ m ∷ [])) ≡ w.len + length (mb_text (kind_of w) (quant_of w) v m)
@@ -95,6 +95,6 @@ held old new h begins first mbs m holds text len keeps =
       format = keeps.format ∙ holds.format;
       from = keeps.from ∙ holds.from;
       next = omega (arith, keeps.next, holds.next, length-append mbs (m ∷ []));
-      quant = keeps.quant ∙ ap (λ (q : ℕ). quant_after q m) holds.quant ∙ sym (quant_behind-append h.quant mbs m);
+      quant = keeps.quant ∙ ap (λ (q : ℕ). quant_after q m) holds.quant ∙ sym (quant_after_all-append h.quant mbs m);
       vectors = keeps.vectors ∙ ap (λ (l : List Vector). l ++ vector_of m ∷ []) holds.vectors ∙ sym (vectors_of-append first mbs m);
     }

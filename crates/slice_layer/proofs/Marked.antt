@@ -59,10 +59,10 @@ class_marked : (kind : Kind) (t : Turn (Unit {0}) Lead) (text : List Bool) → S
 unfolding Spells class_turn
 class_marked kind t text h = whole_one h.1 h.2 text h.3 (word_marked kind h.0 h.1 h.4)
 
-one_behind : (front rest : List Bool) → HasOne rest → HasOne (front ++ rest)
-one_behind [] rest h = h
-one_behind (true ∷ front) rest h = refl
-one_behind (false ∷ front) rest h = one_behind front rest h
+one_after : (front rest : List Bool) → HasOne rest → HasOne (front ++ rest)
+one_after [] rest h = h
+one_after (true ∷ front) rest h = refl
+one_after (false ∷ front) rest h = one_after front rest h
 
 abbrev skipped : Turn (Unit {0}) Lead
 skipped = finally Skipped
@@ -77,7 +77,7 @@ cod_marked cod t rest text e = at (cod == 1) refl
   where
     at : (test : Bool) → (cod == 1) ≡ test → Spells (either test (done (skipped)) (class_turn kinds.P)) t rest → HasOne text
     at true is h = whole_one (spelled 1 cod) rest text e (subst (λ (v : ℕ). HasOne (spelled 1 v)) (sym (eqb-true cod 1 is)) set)
-    at false is h = subst (λ (b : List Bool). HasOne b) (sym e) (one_behind (spelled 1 cod) rest (class_marked kinds.P t rest h))
+    at false is h = subst (λ (b : List Bool). HasOne b) (sym e) (one_after (spelled 1 cod) rest (class_marked kinds.P t rest h))
 
 turn_marked : (kind : Kind) (u : Unit {0}) (t : Turn (Unit {0}) Lead) (text : List Bool) → Spells (lead_turn kind u) t text → HasOne text
 unfolding Spells lead_turn

@@ -18,7 +18,7 @@ use Rattle.h263_bits.proofs.SyntaxLaws.{and_both}
 use Rattle.picture_header.specs.declared.header.Header.{Header}
 use Rattle.macroblock_layer.specs.declared.reading.Lead.{Lead}
 use Rattle.macroblock_layer.specs.declared.reading.Lead.TheVariants.{Skipped, Coded}
-use Rattle.macroblock_layer.specs.Text.{is_within_across, is_within_along, is_within, moved, in_reach, is_intra, vector, intra_mb, inter_mb, coded_mb, behind, mb, IsMbText}
+use Rattle.macroblock_layer.specs.Text.{is_within_across, is_within_along, is_within, moved, in_reach, is_intra, vector, intra_mb, inter_mb, coded_mb, after_lead, mb, IsMbText}
 use Rattle.macroblock_layer.specs.Written.{IsReached}
 use Rattle.slice_layer.specs.Filled.{IsMbAt}
 
@@ -47,14 +47,14 @@ class_reached true reach predictor quant cbpy cbpc m text h = subst (λ (x : Mb)
 class_reached false reach predictor quant cbpy cbpc m text h =
     subst (λ (x : Mb). IsReached reach x) (sym h.6.6.0) (vector_reached reach predictor h.0 h.1 h.4)
 
-behind_reached : (quant : ℕ) (reach : Reach) (predictor : Vector) (l : Lead) (m : Mb) (text : List Bool) → Spells (behind quant reach predictor l) m text → IsReached reach m
-unfolding Spells behind coded_mb
-behind_reached quant reach predictor Skipped m text h = subst (λ (x : Mb). IsReached reach x) (sym h.0) tt
-behind_reached quant reach predictor (Coded class cbpc) m text h = class_reached (is_intra class) reach predictor h.6.0 h.0 cbpc m h.6.2 h.6.6
+after_reached : (quant : ℕ) (reach : Reach) (predictor : Vector) (l : Lead) (m : Mb) (text : List Bool) → Spells (after_lead quant reach predictor l) m text → IsReached reach m
+unfolding Spells after_lead coded_mb
+after_reached quant reach predictor Skipped m text h = subst (λ (x : Mb). IsReached reach x) (sym h.0) tt
+after_reached quant reach predictor (Coded class cbpc) m text h = class_reached (is_intra class) reach predictor h.6.0 h.0 cbpc m h.6.2 h.6.6
 
 mb_reached : (kind : Kind) (quant : ℕ) (reach : Reach) (predictor : Vector) (m : Mb) (text : List Bool) → Spells (mb kind quant reach predictor) m text → IsReached reach m
 unfolding Spells mb
-mb_reached kind quant reach predictor m text h = behind_reached quant reach predictor h.0 m h.2 h.6
+mb_reached kind quant reach predictor m text h = after_reached quant reach predictor h.0 m h.2 h.6
 
 inside : (h : Header) (k : ℕ) (reach : Reach) (m : Mb) → ((x y : ℤ) → InReach h.format k x y ↔ IsWithin reach x y) → IsReached reach m → ReachesInside h.format k m
 inside h k reach mbs.Skip same is = tt

@@ -192,5 +192,5 @@ module _ (h : Header) (first : ℕ) (old : List Mb) (whole : Result (List Mb) Fa
       let len : length (take first old ++ so.mbs) ≡ at = omega (arith, front-length, length-append (take first old) so.mbs, so.at-is) in
       record {
         before = ap (λ (l : List Mb). take first l) so.filled ∙ take_at (take first old) (so.mbs ++ drop at old) first front-length;
-        behind = ap (λ (n : ℕ). drop n out) place ∙ ap (λ (l : List Mb). drop at l) all ∙ drop_at (take first old ++ so.mbs) (drop at old) at len ∙ ap (λ (n : ℕ). drop n old) (sym place);
+        after = ap (λ (n : ℕ). drop n out) place ∙ ap (λ (l : List Mb). drop at l) all ∙ drop_at (take first old ++ so.mbs) (drop at old) at len ∙ ap (λ (n : ℕ). drop n old) (sym place);
       }

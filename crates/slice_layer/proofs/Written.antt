@@ -28,7 +28,7 @@ use Rattle.slice_layer.specs.Around.{Around, around, quant_after, reach_of}
 use Rattle.slice_layer.specs.Head.{address_bits, allowed_first, reference, first_head, place, tail, later_head, head}
 use Rattle.slice_layer.specs.Text.{is_padding, AreTexts, IsSliceText}
 use Rattle.slice_layer.specs.Laws.{AreSpelt, IsOneMore}
-use Rattle.slice_layer.specs.Written.{gfid, place_fields, tail_text, head_text, mbs_text, slice_text, padded, quant_behind, IsPlace, IsWritable, AreWritable}
+use Rattle.slice_layer.specs.Written.{gfid, place_fields, tail_text, head_text, mbs_text, slice_text, padded, quant_after_all, IsPlace, IsWritable, AreWritable}
 
 -- ---- the header
 
@@ -132,7 +132,7 @@ slice_spelt : MbLaws → (h : Header) (begins : Bool) (first : ℕ) (mbs : List 
     → IsSliceText h begins first mbs (head_text h begins first ++ (mbs_text (around h first) h.quant [] mbs ++ padding))
 slice_spelt laws h begins first mbs padding is at some within each zeros = record {
   front = head_text h begins first;
-  behind = mbs_text (around h first) h.quant [] mbs ++ padding;
+  after = mbs_text (around h first) h.quant [] mbs ++ padding;
   quant = h.quant;
   parts = refl;
   opened = head_spelt h begins first is at;
@@ -197,16 +197,16 @@ unfolding AreWritable
 none_writable h first = tt
 
 more_writable : (a : Around) (quant : ℕ) (before mbs : List Mb) (m : Mb) → AreWritable a quant before mbs
-    → IsWritable a.kind (quant_behind quant mbs) (a.reaches (a.first + length (before ++ mbs))) m → AreWritable a quant before (mbs ++ m ∷ [])
+    → IsWritable a.kind (quant_after_all quant mbs) (a.reaches (a.first + length (before ++ mbs))) m → AreWritable a quant before (mbs ++ m ∷ [])
 unfolding AreWritable
 more_writable a quant before [] m w one = (subst (λ (l : List Mb). IsWritable a.kind quant (a.reaches (a.first + length l)) m) (append-nil before) one, tt)
 more_writable a quant before (n ∷ mbs) m w one =
     let e : before ++ n ∷ mbs ≡ (before ++ n ∷ []) ++ mbs = sym (append_assoc before (n ∷ []) mbs) in
-    let next = subst (λ (l : List Mb). IsWritable a.kind (quant_behind (quant_after quant n) mbs) (a.reaches (a.first + length l)) m) e one in
+    let next = subst (λ (l : List Mb). IsWritable a.kind (quant_after_all (quant_after quant n) mbs) (a.reaches (a.first + length l)) m) e one in
     (w.0, more_writable a (quant_after quant n) (before ++ n ∷ []) mbs m w.1 next)
 
 one_more : (h : Header) (first : ℕ) (mbs : List Mb) (m : Mb) → AreWritable (around h first) h.quant [] mbs
-    → IsWritable h.kind (quant_behind h.quant mbs) (reach_of h.format (first + length mbs)) m → AreWritable (around h first) h.quant [] (mbs ++ m ∷ [])
+    → IsWritable h.kind (quant_after_all h.quant mbs) (reach_of h.format (first + length mbs)) m → AreWritable (around h first) h.quant [] (mbs ++ m ∷ [])
 one_more h first mbs m w one = more_writable (around h first) h.quant [] mbs m w one
 
 -- a text with one macroblock more

@@ -14,7 +14,7 @@ use Rattle.picture_header.specs.declared.header.Header.{Header}
 use Rattle.slice_layer.specs.Around.{Around, around, next_mb}
 use Rattle.slice_layer.specs.Head.{address_bits, reference, first_head, place, tail, later_head, head}
 use Rattle.slice_layer.specs.Text.{is_padding, AreTexts, slice_at}
-use Rattle.slice_layer.specs.Written.{quant_behind}
+use Rattle.slice_layer.specs.Written.{quant_after_all}
 
 -- after the picture header: SEPB1, MBA, SEPB3
 pub record FirstHeadFaults (h : Header) : Type 0 where
@@ -89,7 +89,7 @@ pub record BodyFaults (h : Header) (begins : Bool) : Type 0 where
       (mbs : List Mb) (front texts text : List Bool) (kind : FaultKind) (place : ℕ)
       → Spells (head h begins) (first, quant) front → AreTexts (around h first) quant [] mbs texts
       → length mbs < mbs_of h.format - first
-      → HasFault (next_mb (around h first) (quant_behind quant mbs) mbs) text kind place
+      → HasFault (next_mb (around h first) (quant_after_all quant mbs) mbs) text kind place
       → ((rest : List Bool) → is_padding (text ++ rest) ≡ false)
       → HasSliceFault h begins (front ++ (texts ++ text)) kind (length front + (length texts + place))
 
@@ -111,7 +111,7 @@ pub record IsBodyFault (a : Around) (quant room : ℕ) (before : List Mb) (b : B
   pub left : List Bool
   pub parts : b.bits ≡ texts ++ left
   pub each : AreTexts a quant before mbs texts
-  pub stops : StopsAt a (quant_behind quant mbs)
+  pub stops : StopsAt a (quant_after_all quant mbs)
       (length mbs) room (before ++ mbs) (record { at = b.at + length texts; bits = left }) fault
 
 -- a fault in the header, or after it

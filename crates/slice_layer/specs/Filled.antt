@@ -30,4 +30,4 @@ pub record IsSliceIn (h : Header) (out : List Mb) (slice : SliceHead) : Type 0 w
 -- all macroblocks of a picture but those of a slice
 pub record AreOthersSame (old new : List Mb) (slice : SliceHead) : Type 0 where
   pub before : take slice.first new ≡ take slice.first old
-  pub behind : drop (slice.first + slice.count) new ≡ drop (slice.first + slice.count) old
+  pub after : drop (slice.first + slice.count) new ≡ drop (slice.first + slice.count) old

@@ -14,7 +14,7 @@ use Rattle.picture_header.specs.Written.{written_header, written_bits, reference
 use Rattle.slice_layer.specs.Around.{around, reach_of}
 use Rattle.slice_layer.specs.Head.{address_bits}
 use Rattle.slice_layer.specs.Text.{is_padding, IsSliceText, slice_at}
-use Rattle.slice_layer.specs.Written.{head_text, opening_text, mbs_text, slice_text, padded, bytes_of, quant_behind, IsPlace, IsWritable, AreWritable}
+use Rattle.slice_layer.specs.Written.{head_text, opening_text, mbs_text, slice_text, padded, bytes_of, quant_after_all, IsPlace, IsWritable, AreWritable}
 
 -- bits are read as a slice exactly where they are its text
 abbrev pub AreRead : Type 0
@@ -59,7 +59,7 @@ pub record IsOneMore : Type 0 where
   pub none : (h : Header) (first : ℕ) → AreWritable (around h first) h.quant [] []
   pub more : (h : Header) (first : ℕ) (mbs : List Mb) (m : Mb)
       → AreWritable (around h first) h.quant [] mbs
-      → IsWritable h.kind (quant_behind h.quant mbs) (reach_of h.format (first + length mbs)) m
+      → IsWritable h.kind (quant_after_all h.quant mbs) (reach_of h.format (first + length mbs)) m
       → AreWritable (around h first) h.quant [] (mbs ++ m ∷ [])
 
 -- the closed form of a reach has the vectors whose block lies in the picture

@@ -40,11 +40,11 @@ pub record IsBody (a : Around) (quant room : ℕ) (mbs : List Mb) (bits : List B
 -- the picture with this header, which stands just before or doesn't
 pub record IsSliceText (h : Header) (begins : Bool) (first : ℕ) (mbs : List Mb) (bits : List Bool) : Type 0 where
   pub front : List Bool
-  pub behind : List Bool
+  pub after : List Bool
   pub quant : ℕ
-  pub parts : bits ≡ front ++ behind
+  pub parts : bits ≡ front ++ after
   pub opened : Spells (head h begins) (first, quant) front
-  pub body : IsBody (around h first) quant (mbs_of h.format - first) mbs behind
+  pub body : IsBody (around h first) quant (mbs_of h.format - first) mbs after
 
 -- ---- what a reader finds
 

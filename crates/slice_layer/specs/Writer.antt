@@ -9,7 +9,7 @@ use Rattle.slice_layer.specs.declared.writing.SliceWriter.{SliceWriter}
 use Rattle.slice_layer.specs.declared.writing.Added.{Added}
 use Rattle.slice_layer.specs.declared.writing.Added.TheVariants.{Fits, Full}
 use Rattle.slice_layer.specs.Around.{vectors_of}
-use Rattle.slice_layer.specs.Written.{slice_text, quant_behind, IsFront}
+use Rattle.slice_layer.specs.Written.{slice_text, quant_after_all, IsFront}
 
 -- the kind and the format of the picture
 abbrev pub kind_of : SliceWriter → Kind
@@ -51,7 +51,7 @@ pub record HoldsSlice (w : SliceWriter) (h : Header) (begins : Bool) (first : �
   pub format : format_of w ≡ h.format
   pub from : first_of w ≡ first
   pub next : next_of w ≡ first + length mbs
-  pub quant : quant_of w ≡ quant_behind h.quant mbs
+  pub quant : quant_of w ≡ quant_after_all h.quant mbs
   pub vectors : take (next_of w) w.vectors ≡ vectors_of first mbs
 
 -- whether a text of this many bytes fits

@@ -61,9 +61,9 @@ abbrev pub IsFront : List Bool → List ℕ → Type 0
 IsFront text bytes = bits_of (take (bytes_of text) bytes) ≡ padded text
 
 -- the quantiser after macroblocks
-abbrev pub quant_behind : ℕ → List Mb → ℕ
-quant_behind quant [] = quant
-quant_behind quant (m ∷ mbs) = quant_behind (quant_after quant m) mbs
+abbrev pub quant_after_all : ℕ → List Mb → ℕ
+quant_after_all quant [] = quant
+quant_after_all quant (m ∷ mbs) = quant_after_all (quant_after quant m) mbs
 
 -- where a slice may begin: with the picture's first macroblock after the picture header, and with
 -- a later one by itself

@@ -49,7 +49,7 @@ fn log_packets(sender: &Sender<FixedPace>, count: u32, log: &mut Vec<u8>) -> Res
 
 // Codes a frame with this message in its header, if there is one, and appends its packets to the
 // log.
-fn code(
+fn capture(
     sender: &mut Sender<FixedPace>,
     frame: &[u8],
     message: Option<Message>,
@@ -68,17 +68,17 @@ fn code(
     let picture = PictureRef::new(format, frame);
     match message {
         Some(message) => {
-            let coded = sender.code(picture, &[message]);
+            let coded = sender.capture(picture, &[message]);
             log_packets(sender, coded.packets, log)
         }
         None => {
-            let coded = sender.code(picture, &[]);
+            let coded = sender.capture(picture, &[]);
             log_packets(sender, coded.packets, log)
         }
     }
 }
 
-// What a's receiver hears and plays. The second picture carries the message.
+// What a's receiver gets and plays. The second picture carries the message.
 fn code_a(
     alloc: Global,
     sender: &mut Sender<FixedPace>,
@@ -89,16 +89,16 @@ fn code_a(
     requires message { IsMessage sender.old.params.clock message }
 {
     let mut log = Vec::new(alloc);
-    code(sender, &made_picture(alloc, SEED_A, 0)?, None, &mut log)?;
+    capture(sender, &made_picture(alloc, SEED_A, 0)?, None, &mut log)?;
     let _noted = sender.feedback(ACK_0);
     let frame = made_picture(alloc, SEED_A, 1)?;
-    code(sender, &frame, Some(message), &mut log)?;
+    capture(sender, &frame, Some(message), &mut log)?;
     log.extend_from_slice(PLAY)?;
     log.extend_from_slice(PLAY)?;
     Ok(log)
 }
 
-// What b's receiver hears and plays. Its picture carries the message.
+// What b's receiver gets and plays. Its picture carries the message.
 fn code_b(
     alloc: Global,
     sender: &mut Sender<FixedPace>,
@@ -110,7 +110,7 @@ fn code_b(
 {
     let mut log = Vec::new(alloc);
     let frame = made_picture(alloc, SEED_B, 0)?;
-    code(sender, &frame, Some(message), &mut log)?;
+    capture(sender, &frame, Some(message), &mut log)?;
     log.extend_from_slice(PLAY)?;
     Ok(log)
 }

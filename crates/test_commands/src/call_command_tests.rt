@@ -393,8 +393,12 @@ fn each_call_of_a_traced_call(rt: HostRuntime) -> Result<(), Fail> {
 
 // ---- with ends that are lent
 
-// The receiver hears the packets of another sender, which codes a picture flat 100.
-fn hear_another(alloc: Global, params: &Params, receiver: &mut Receiver) -> Result<(), OutOfMemory>
+// The receiver gets the packets of another sender, which codes a picture flat 100.
+fn deliver_another(
+    alloc: Global,
+    params: &Params,
+    receiver: &mut Receiver,
+) -> Result<(), OutOfMemory>
     requires { IsParams params.now }
     ensures params { receiver.new.params ≡ receiver.old.params }
     ensures played { receiver.new.played ≡ receiver.old.played }
@@ -404,7 +408,7 @@ fn hear_another(alloc: Global, params: &Params, receiver: &mut Receiver) -> Resu
         quant: params.quant,
     };
     let mut other = Sender::start(alloc, params, pace)?;
-    let coded = other.code(PictureRef::new(params.format, &frame), &[]);
+    let coded = other.capture(PictureRef::new(params.format, &frame), &[]);
     'packets: for place in 0..coded.packets {
         let _answer = receiver.packet(other.packet(place));
     }
@@ -456,7 +460,7 @@ fn conversed(alloc: Global) -> Result<(Status, bool, bool), OutOfMemory> {
         video,
         both,
     };
-    let status = match hear_another(alloc, &params, &mut call.both.receiver) {
+    let status = match deliver_another(alloc, &params, &mut call.both.receiver) {
         Ok(()) => converse(alloc, &mut desk, &mut call),
         Err(_) => Status::OutOfMemory,
     };

@@ -100,12 +100,12 @@ fn coded_by(
         second: Vec::new(alloc),
         predicted: Vec::new(alloc),
     };
-    if sender.code(frame, &[]).packets == 2 {
+    if sender.capture(frame, &[]).packets == 2 {
         packets.first = Vec::from_slice(alloc, sender.packet(0))?;
         packets.second = Vec::from_slice(alloc, sender.packet(1))?;
     }
     sender.feedback(&[0xC0, 0x04, 0x00]);
-    if sender.code(frame, &[]).packets == 1 {
+    if sender.capture(frame, &[]).packets == 1 {
         packets.predicted = Vec::from_slice(alloc, sender.packet(0))?;
     }
     Ok(packets)
@@ -169,7 +169,7 @@ fn turn_tr(bytes: &mut [u8], clock: Clock, tr: u16)
 }
 
 // No log here is long.
-fn hear(audit: &mut Audit, bytes: &[u8]) {
+fn give_packet(audit: &mut Audit, bytes: &[u8]) {
     if audit.pictures() < 2000 {
         audit.packet(bytes);
     }
@@ -215,7 +215,7 @@ impl Packets {
     ) -> Result<(), OutOfMemory> {
         let mut packet = Vec::from_slice(alloc, base)?;
         turn_tr(&mut packet, self.clock, tr);
-        hear(audit, packet.as_slice());
+        give_packet(audit, packet.as_slice());
         Ok(())
     }
 
@@ -223,7 +223,7 @@ impl Packets {
         let mut packet = Vec::from_slice(alloc, self.second.as_slice())?;
         turn_tr(&mut packet, self.clock, tr);
         turn(&mut packet, 175 + later(self.clock), 1, 1);
-        hear(audit, packet.as_slice());
+        give_packet(audit, packet.as_slice());
         Ok(())
     }
 
@@ -237,7 +237,7 @@ impl Packets {
         let mut packet = Vec::from_slice(alloc, self.predicted.as_slice())?;
         turn_tr(&mut packet, self.clock, tr ^ 1);
         turn(&mut packet, 171 + later(self.clock), 10, trp);
-        hear(audit, packet.as_slice());
+        give_packet(audit, packet.as_slice());
         Ok(())
     }
 
@@ -279,11 +279,11 @@ impl Source {
             Entry::Predicted(tr, trp) => own.predicted(alloc, audit, tr, trp),
             Entry::Follow(from, count) => own.follow(alloc, audit, from, count),
             Entry::OtherClock => {
-                hear(audit, self.other.first.as_slice());
+                give_packet(audit, self.other.first.as_slice());
                 Ok(())
             }
             Entry::Packet(bytes) => {
-                hear(audit, bytes);
+                give_packet(audit, bytes);
                 Ok(())
             }
             Entry::Ack(tr) => {

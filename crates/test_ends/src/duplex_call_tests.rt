@@ -1,6 +1,6 @@
 //! Lines with a party's letter, the messages that wait for a header, and the counts of two parties.
 use back_messages::Message;
-use duplex_call::{Carried, Carrier, Counts, Far, Party, party_line};
+use duplex_call::{Carried, Counts, Far, MessageQueue, Party, party_line};
 use h263_types::Clock;
 use loss_trace::{BadLine, Event};
 
@@ -69,18 +69,18 @@ fn said(number: u16) -> Carried {
 
 #[test]
 fn last_four_of_six(rt: HostRuntime) {
-    let mut carrier = Carrier::new();
-    assert_eq!(rt; carrier.load(), [None, None, None, None]);
-    carrier.say(said(7));
-    carrier.say(said(8));
+    let mut queue = MessageQueue::new();
+    assert_eq!(rt; queue.load(), [None, None, None, None]);
+    queue.say(said(7));
+    queue.say(said(8));
     // those that are there stand first, and a load empties
-    assert_eq!(rt; carrier.load(), [Some(said(7)), Some(said(8)), None, None]);
-    assert_eq!(rt; carrier.load(), [None, None, None, None]);
+    assert_eq!(rt; queue.load(), [Some(said(7)), Some(said(8)), None, None]);
+    assert_eq!(rt; queue.load(), [None, None, None, None]);
     for number in 0..6 {
-        carrier.say(said(number));
+        queue.say(said(number));
     }
     let last = [Some(said(2)), Some(said(3)), Some(said(4)), Some(said(5))];
-    assert_eq!(rt; carrier.load(), last);
+    assert_eq!(rt; queue.load(), last);
 }
 
 // What was sent stays below this, as `send` asks.

@@ -14,7 +14,7 @@ use duplex_ends::{
 };
 use h263_planes::PictureRef;
 use h263_types::{FixedPace, Format, Mark, OutOfMemory, Params};
-use one_way::Refusal;
+use one_way::EventRefusal;
 use sender_end::Sender;
 use std::alloc::Global;
 use std::process::Abort;
@@ -33,7 +33,7 @@ enum Step {
     // The next picture is played with this mark.
     Play(Mark),
     // No packet of a picture may be delivered.
-    Far { number: u32, refusal: Refusal },
+    Far { number: u32, refusal: EventRefusal },
     // The header of a picture carries acknowledgements of these pictures.
     Carries(u32, [Option<u32>; 4]),
     // The reference of a picture.
@@ -163,7 +163,7 @@ impl Two {
         requires { IsParams params.now }
         ensures { IfOk result (λ two. AreInCall two.a two.b) }
     {
-        laws::of_pairs();
+        laws::pair_laws();
         let a = PartyEnds::start(alloc, params)?;
         match PartyEnds::start(alloc, params) {
             Ok(b) => Ok(Two { a, b }),
@@ -178,7 +178,7 @@ impl Two {
         requires { AreInCall self.old.a self.old.b }
         ensures { AreInCall self.new.a self.new.b }
     {
-        laws::of_pairs();
+        laws::pair_laws();
         match party {
             Party::A => take(alloc, &mut self.a, &mut self.b, step),
             Party::B => take(alloc, &mut self.b, &mut self.a, step),
@@ -285,7 +285,7 @@ const FAR: [(Party, Step); 7] = [
         Party::B,
         Step::Far {
             number: 0,
-            refusal: Refusal::Far {
+            refusal: EventRefusal::Far {
                 given: 0,
                 other: 128,
             },
@@ -295,7 +295,7 @@ const FAR: [(Party, Step); 7] = [
         Party::B,
         Step::Far {
             number: 1,
-            refusal: Refusal::NotSent,
+            refusal: EventRefusal::NotSent,
         },
     ),
 ];
@@ -348,7 +348,7 @@ fn begins_so(
 {
     let format = Format::SubQcif;
     let frame = vec![in alloc; 100; format.size() as usize]?;
-    let coded = sender.code(PictureRef::new(format, frame.as_slice()), &[message]);
+    let coded = sender.capture(PictureRef::new(format, frame.as_slice()), &[message]);
     if coded.packets != 1 {
         return Ok(false);
     }

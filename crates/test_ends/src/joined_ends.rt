@@ -16,13 +16,13 @@ use test_fixtures::codec::SKIPPED_PACKET;
 #[derive(Clone, Copy)]
 enum Step {
     // A frame of one value is coded; the reference of its picture.
-    Code(u8, Option<u32>),
+    Capture(u8, Option<u32>),
     // A packet is delivered.
     Deliver(usize, Heard),
     // A packet is delivered, and its picture is complete: the message.
     Complete(usize, &'static [u8]),
     // These bytes are delivered.
-    Hear(&'static [u8], Heard),
+    Packet(&'static [u8], Heard),
     // A message goes back.
     Back(usize, Feedback),
     // The next picture is exact.
@@ -100,7 +100,7 @@ impl Ends {
     }
 
     // The next picture: its reference. No call here is long.
-    fn code(&mut self, alloc: Global, value: u8) -> Result<Option<u32>, OutOfMemory>
+    fn capture(&mut self, alloc: Global, value: u8) -> Result<Option<u32>, OutOfMemory>
         requires format { self.old.format ≡ self.old.sender.params.format }
         ensures format { self.new.format ≡ self.new.sender.params.format }
     {
@@ -109,7 +109,7 @@ impl Ends {
         }
         let frame = vec![in alloc; value; self.format.size() as usize]?;
         let frame = PictureRef::new(self.format, frame.as_slice());
-        let coded = self.sender.code(frame, &[]);
+        let coded = self.sender.capture(frame, &[]);
         self.send(alloc, coded.packets)?;
         Ok(coded.reference)
     }
@@ -232,7 +232,7 @@ impl Ends {
         requires format { self.old.format ≡ self.old.sender.params.format }
         ensures format { self.new.format ≡ self.new.sender.params.format }
     {
-        self.code(alloc, 100)?;
+        self.capture(alloc, 100)?;
         let Some(said) = self.asks(Mark::Held) else {
             return Ok(false);
         };
@@ -246,7 +246,7 @@ impl Ends {
         ensures format { self.new.format ≡ self.new.sender.params.format }
     {
         let sent = self.sender.sent();
-        if self.code(alloc, 100)? != sent.checked_sub(1) {
+        if self.capture(alloc, 100)? != sent.checked_sub(1) {
             return Ok(false);
         }
         let last = self.packets.len().saturating_sub(1);
@@ -282,7 +282,7 @@ impl Ends {
         Ok(true)
     }
 
-    fn hear(&mut self, bytes: &[u8], answer: Heard) -> bool
+    fn packet(&mut self, bytes: &[u8], answer: Heard) -> bool
         ensures sender { self.new.sender ≡ self.old.sender }
         ensures format { self.new.format ≡ self.old.format }
     {
@@ -295,9 +295,9 @@ impl Ends {
         ensures format { self.new.format ≡ self.new.sender.params.format }
     {
         match step {
-            Step::Code(value, reference) => Ok(self.code(alloc, value)? == reference),
+            Step::Capture(value, reference) => Ok(self.capture(alloc, value)? == reference),
             Step::Deliver(packet, answer) => Ok(self.deliver(packet) == Some(answer)),
-            Step::Hear(bytes, answer) => Ok(self.hear(bytes, answer)),
+            Step::Packet(bytes, answer) => Ok(self.packet(bytes, answer)),
             Step::Back(message, answer) => Ok(self.back(message) == Some(answer)),
             Step::Complete(packet, text) => self.complete(packet, text),
             Step::Exact => Ok(self.exact()),
@@ -389,7 +389,7 @@ fn two_packets_in_both_orders(rt: HostRuntime) -> Result<(), Fail> {
         ..Params::of(Format::Cif)
     };
     let steps = [
-        Step::Code(100, None),
+        Step::Capture(100, None),
         Step::Deliver(1, Heard::Taken),
         Step::Deliver(1, Heard::Repeat),
         Step::Complete(0, &ACK_0),
@@ -399,7 +399,7 @@ fn two_packets_in_both_orders(rt: HostRuntime) -> Result<(), Fail> {
     ];
     assert_steps(&rt, rt.alloc(), &params, &steps)?;
     let steps = [
-        Step::Code(100, None),
+        Step::Capture(100, None),
         Step::Deliver(0, Heard::Taken),
         Step::Deliver(0, Heard::Repeat),
         Step::Complete(1, &ACK_0),
@@ -415,7 +415,7 @@ fn two_packets_in_both_orders(rt: HostRuntime) -> Result<(), Fail> {
 #[test]
 fn second_packet_comes_late(rt: HostRuntime) -> Result<(), Fail> {
     let steps = [
-        Step::Code(100, None),
+        Step::Capture(100, None),
         Step::Deliver(0, Heard::Taken),
         Step::Lacks(Mark::Patched, &NACK_0),
         Step::Screen(100, 128),
@@ -430,30 +430,30 @@ fn second_packet_comes_late(rt: HostRuntime) -> Result<(), Fail> {
 #[test]
 fn same_call_again(rt: HostRuntime) -> Result<(), Fail> {
     let steps = [
-        Step::Code(100, None),
+        Step::Capture(100, None),
         Step::Complete(0, &ACK_0),
         Step::Exact,
         Step::Back(0, Feedback::Noted),
-        Step::Code(30, Some(0)),
+        Step::Capture(30, Some(0)),
         Step::Complete(1, &ACK_1),
         Step::Exact,
         Step::Back(1, Feedback::Noted),
-        Step::Code(100, Some(1)),
+        Step::Capture(100, Some(1)),
         Step::Complete(2, &ACK_2),
         Step::Restart,
         Step::Screen(128, 128),
-        Step::Code(100, None),
+        Step::Capture(100, None),
         Step::Same(3, 0),
         Step::Complete(3, &ACK_0),
         Step::Exact,
         Step::Screen(100, 100),
         Step::Back(3, Feedback::Noted),
-        Step::Code(30, Some(0)),
+        Step::Capture(30, Some(0)),
         Step::Same(4, 1),
         Step::Complete(4, &ACK_1),
         Step::Exact,
         Step::Back(4, Feedback::Noted),
-        Step::Code(100, Some(1)),
+        Step::Capture(100, Some(1)),
         Step::Same(5, 2),
         Step::Complete(5, &ACK_2),
         Step::Exact,
@@ -466,15 +466,15 @@ fn same_call_again(rt: HostRuntime) -> Result<(), Fail> {
 #[test]
 fn window_ends(rt: HostRuntime) -> Result<(), Fail> {
     let steps = [
-        Step::Code(100, None),
+        Step::Capture(100, None),
         Step::Complete(0, &ACK_0),
         Step::Exact,
         Step::Back(0, Feedback::Noted),
-        Step::Code(100, Some(0)),
+        Step::Capture(100, Some(0)),
         Step::Lacks(Mark::Held, &NACK_1),
-        Step::Code(100, Some(0)),
+        Step::Capture(100, Some(0)),
         Step::Lacks(Mark::Held, &NACK_2),
-        Step::Code(100, None),
+        Step::Capture(100, None),
         Step::Complete(3, &ACK_3),
         Step::Exact,
     ];
@@ -486,13 +486,13 @@ fn window_ends(rt: HostRuntime) -> Result<(), Fail> {
 #[test]
 fn nack_offers_first_picture(rt: HostRuntime) -> Result<(), Fail> {
     let steps = [
-        Step::Code(100, None),
+        Step::Capture(100, None),
         Step::Complete(0, &ACK_0),
         Step::Exact,
-        Step::Code(100, None),
+        Step::Capture(100, None),
         Step::Lacks(Mark::Held, &NACK_1),
         Step::Back(1, Feedback::Noted),
-        Step::Code(100, Some(0)),
+        Step::Capture(100, Some(0)),
         Step::Complete(2, &ACK_2),
         Step::Exact,
     ];
@@ -506,24 +506,24 @@ fn nack_offers_first_picture(rt: HostRuntime) -> Result<(), Fail> {
 fn late_packet_after_wrap(rt: HostRuntime) -> Result<(), Fail> {
     let params = Params { slots: 5, ..NARROW };
     let steps = [
-        Step::Code(100, None),
+        Step::Capture(100, None),
         Step::Complete(0, &ACK_0),
         Step::Exact,
-        Step::Code(100, None),
+        Step::Capture(100, None),
         Step::Complete(1, &ACK_1),
         Step::Exact,
-        Step::Code(100, None),
+        Step::Capture(100, None),
         Step::Complete(2, &ACK_2),
         Step::Exact,
-        Step::Code(50, None),
+        Step::Capture(50, None),
         Step::Complete(3, &ACK_3),
         Step::Exact,
         Step::Lose(255),
-        Step::Code(100, None),
+        Step::Capture(100, None),
         Step::Complete(259, &ACK_3),
         Step::Back(259, Feedback::Noted),
         Step::Exact,
-        Step::Code(100, Some(259)),
+        Step::Capture(100, Some(259)),
         Step::Complete(260, &ACK_4),
         Step::Exact,
         Step::Screen(100, 100),
@@ -540,12 +540,12 @@ fn chain_ends(rt: HostRuntime) -> Result<(), Fail> {
         ..Params::of(Format::SubQcif)
     };
     let steps = [
-        Step::Code(100, None),
+        Step::Capture(100, None),
         Step::Complete(0, &ACK_0),
         Step::Back(0, Feedback::Noted),
         Step::Exact,
         Step::Follow(131),
-        Step::Code(100, None),
+        Step::Capture(100, None),
         Step::Complete(132, &[0xC4, 0x24, 0x84]),
         Step::Back(132, Feedback::Noted),
         Step::Exact,
@@ -558,13 +558,13 @@ fn chain_ends(rt: HostRuntime) -> Result<(), Fail> {
 #[test]
 fn flags_tell_of_next_picture(rt: HostRuntime) -> Result<(), Fail> {
     let steps = [
-        Step::Code(100, None),
-        Step::Code(100, None),
-        Step::Code(100, None),
+        Step::Capture(100, None),
+        Step::Capture(100, None),
+        Step::Capture(100, None),
         Step::Complete(1, &[0xE0, 0x0C, 0x01, 0x80, 0x80]),
         Step::Complete(0, &[0xE0, 0x04, 0x00, 0xC0, 0x80]),
         Step::Back(1, Feedback::Noted),
-        Step::Code(100, Some(1)),
+        Step::Capture(100, Some(1)),
         Step::Exact,
         Step::Complete(3, &[0xE0, 0x1C, 0x03, 0x80, 0x80]),
         Step::Exact,
@@ -579,13 +579,13 @@ fn flags_tell_of_next_picture(rt: HostRuntime) -> Result<(), Fail> {
 #[test]
 fn without_flags_the_picture_is_unknown(rt: HostRuntime) -> Result<(), Fail> {
     let steps = [
-        Step::Code(100, None),
-        Step::Code(100, None),
-        Step::Code(100, None),
+        Step::Capture(100, None),
+        Step::Capture(100, None),
+        Step::Capture(100, None),
         Step::Complete(1, &ACK_1),
         Step::Complete(0, &ACK_0),
         Step::Back(1, Feedback::Noted),
-        Step::Code(100, Some(0)),
+        Step::Capture(100, Some(0)),
         Step::Exact,
         Step::Complete(3, &ACK_3),
     ];
@@ -603,7 +603,7 @@ fn late_by_the_custom_clock(rt: HostRuntime) -> Result<(), Fail> {
     };
     let other = Heard::Refused(PacketFault::OtherClock);
     let steps = [
-        Step::Hear(&SKIPPED_PACKET, other),
+        Step::Packet(&SKIPPED_PACKET, other),
         Step::Lose(511),
         Step::Deliver(0, Heard::Late),
     ];
@@ -617,13 +617,13 @@ fn late_by_the_custom_clock(rt: HostRuntime) -> Result<(), Fail> {
 fn early_packet_and_other_header(rt: HostRuntime) -> Result<(), Fail> {
     let differs = Heard::Refused(PacketFault::HeaderDiffers);
     let steps = [
-        Step::Code(100, None),
-        Step::Code(100, None),
-        Step::Code(100, None),
+        Step::Capture(100, None),
+        Step::Capture(100, None),
+        Step::Capture(100, None),
         Step::Deliver(2, Heard::Early),
         Step::Complete(0, &ACK_0),
         Step::Complete(1, &ACK_1),
-        Step::Hear(&SKIPPED_PACKET, differs),
+        Step::Packet(&SKIPPED_PACKET, differs),
         Step::Deliver(1, Heard::Repeat),
         Step::Exact,
         Step::Complete(2, &ACK_2),

@@ -21,8 +21,8 @@ const SIZE: usize = 18_432;
 // What is done to a sender, and what it answers: the reference of a picture, or the reply to bytes.
 #[derive(Clone, Copy)]
 enum Step {
-    Code(Option<u32>),
-    Hear(&'static [u8], Feedback),
+    Capture(Option<u32>),
+    Back(&'static [u8], Feedback),
 }
 
 fn sender_of(alloc: Global, params: &Params) -> Result<Sender<FixedPace>, OutOfMemory>
@@ -47,8 +47,8 @@ fn answers(sender: &mut Sender<FixedPace>, step: Step, frame: PictureRef<'_>) ->
     ensures sent { sender.new.sent ≤ sender.old.sent + 1 }
 {
     match step {
-        Step::Code(reference) => sender.code(frame, &[]).reference == reference,
-        Step::Hear(bytes, reply) => sender.feedback(bytes) == reply,
+        Step::Capture(reference) => sender.capture(frame, &[]).reference == reference,
+        Step::Back(bytes, reply) => sender.feedback(bytes) == reply,
     }
 }
 
@@ -90,11 +90,11 @@ fn assert_answers(
 #[test]
 fn window_ends(rt: HostRuntime) -> Result<(), Fail> {
     let steps = [
-        Step::Code(None),
-        Step::Hear(&[0xC0, 0x04, 0x00], Feedback::Noted),
-        Step::Code(Some(0)),
-        Step::Code(Some(0)),
-        Step::Code(None),
+        Step::Capture(None),
+        Step::Back(&[0xC0, 0x04, 0x00], Feedback::Noted),
+        Step::Capture(Some(0)),
+        Step::Capture(Some(0)),
+        Step::Capture(None),
     ];
     assert_answers(&rt, rt.alloc(), &NARROW, &steps)?;
     Ok(())
@@ -105,14 +105,14 @@ fn window_ends(rt: HostRuntime) -> Result<(), Fail> {
 #[test]
 fn offers_and_false_feedback(rt: HostRuntime) -> Result<(), Fail> {
     let steps = [
-        Step::Code(None),
-        Step::Hear(&[0xC0, 0x04], Feedback::Refused(MessageFault::Length)),
-        Step::Hear(&[0xC0, 0x04, 0x01], Feedback::Refused(MessageFault::Pair)),
-        Step::Hear(&[0xC0, 0x1C, 0x03], Feedback::Old),
-        Step::Hear(&[0x80, 0x04, 0x03], Feedback::Noted),
-        Step::Code(None),
-        Step::Hear(&[0x80, 0x0C, 0x00], Feedback::Noted),
-        Step::Code(Some(0)),
+        Step::Capture(None),
+        Step::Back(&[0xC0, 0x04], Feedback::Refused(MessageFault::Length)),
+        Step::Back(&[0xC0, 0x04, 0x01], Feedback::Refused(MessageFault::Pair)),
+        Step::Back(&[0xC0, 0x1C, 0x03], Feedback::Old),
+        Step::Back(&[0x80, 0x04, 0x03], Feedback::Noted),
+        Step::Capture(None),
+        Step::Back(&[0x80, 0x0C, 0x00], Feedback::Noted),
+        Step::Capture(Some(0)),
     ];
     assert_answers(&rt, rt.alloc(), &NARROW, &steps)?;
     Ok(())
@@ -123,13 +123,13 @@ fn offers_and_false_feedback(rt: HostRuntime) -> Result<(), Fail> {
 #[test]
 fn flags_tell_of_next_picture(rt: HostRuntime) -> Result<(), Fail> {
     let steps = [
-        Step::Code(None),
-        Step::Code(None),
-        Step::Code(None),
-        Step::Hear(&[0xE0, 0x04, 0x00, 0xC0, 0x80], Feedback::Noted),
-        Step::Code(Some(1)),
-        Step::Hear(&[0xA0, 0x14, 0x03, 0xC0, 0x80], Feedback::Noted),
-        Step::Code(Some(3)),
+        Step::Capture(None),
+        Step::Capture(None),
+        Step::Capture(None),
+        Step::Back(&[0xE0, 0x04, 0x00, 0xC0, 0x80], Feedback::Noted),
+        Step::Capture(Some(1)),
+        Step::Back(&[0xA0, 0x14, 0x03, 0xC0, 0x80], Feedback::Noted),
+        Step::Capture(Some(3)),
     ];
     assert_answers(&rt, rt.alloc(), &FLAGGED, &steps)?;
     Ok(())
@@ -145,7 +145,7 @@ fn chained(alloc: Global, params: &Params) -> Result<[Option<u32>; 2], OutOfMemo
     let mut sender = sender_of(alloc, params)?;
     let mut references = [None; 2];
     for number in 0..133u32 {
-        let coded = sender.code(frame, &[]);
+        let coded = sender.capture(frame, &[]);
         references[(number % 2) as usize] = coded.reference;
         let ack = Message::Ack {
             tr: number as u16,
@@ -190,9 +190,9 @@ fn two_flat<P: Pace>(
     let frame = PictureRef::new(Format::SubQcif, &frame);
     let mut sender = Sender::start(alloc, &params, pace)?;
     let before = sender.sent();
-    sender.code(frame, &[]);
+    sender.capture(frame, &[]);
     sender.feedback(&[0xC0, 0x04, 0x00]);
-    let coded = sender.code(frame, &[]);
+    let coded = sender.capture(frame, &[]);
     let same = has_only(&sender, coded.packets, packet);
     let sample = sender.recon().sample(Plane::Y, 127, 95);
     sender.finish();

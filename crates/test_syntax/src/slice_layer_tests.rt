@@ -279,7 +279,7 @@ const FIRST_FAULTS: [(&str, FaultKind, u32); 9] = [
 ];
 
 #[test]
-fn first_faults_behind_the_picture_header(rt: HostRuntime) {
+fn first_faults_after_the_picture_header(rt: HostRuntime) {
     let mut out = [Mb::Skip; 396];
     for (text, kind, at) in FIRST_FAULTS {
         let fault = Fault { kind, at };

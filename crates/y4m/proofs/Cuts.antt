@@ -114,8 +114,8 @@ frame_stays f at k rest planes is le =
     let whole : IsFrame f x = frame_is f at rest planes is in
     let more = drop (frame_size f rest) rest in
     let size : length (line ++ planes) ≡ frame_size f rest = length-append line planes ∙ ap (λ (n : ℕ). length line + n) whole.size in
-    let behind = take (k - length (line ++ planes)) more in
-    let text : take k rest ≡ (line ++ planes) ++ behind = ap (λ (l : List ℕ). take k l) (frame_text f at rest planes is) ∙ take_past (line ++ planes) more k (omega (arith, size, le)) in (
-      ap (λ (l : List ℕ). frame_of f at l) text ∙ frame_found f at x behind whole,
-      ap (λ (l : List ℕ). frame_size f l) text ∙ size_is f at ((line ++ planes) ++ behind) line (length line) (line_there f at x behind whole) refl,
+    let after = take (k - length (line ++ planes)) more in
+    let text : take k rest ≡ (line ++ planes) ++ after = ap (λ (l : List ℕ). take k l) (frame_text f at rest planes is) ∙ take_past (line ++ planes) more k (omega (arith, size, le)) in (
+      ap (λ (l : List ℕ). frame_of f at l) text ∙ frame_found f at x after whole,
+      ap (λ (l : List ℕ). frame_size f l) text ∙ size_is f at ((line ++ planes) ++ after) line (length line) (line_there f at x after whole) refl,
     )

@@ -5,7 +5,7 @@ use Rattle.h263_types.specs.declared.format.Format.{Format}
 use Rattle.h263_types.specs.Sizes.{size_of_picture}
 use Rattle.y4m.specs.declared.fault.Y4mFault.TheVariants.{ShortFrame, TooMany}
 use Rattle.y4m.specs.Line.{through_newline, line_within}
-use Rattle.y4m.specs.Frame.{frame_line, frame_size, line_stop, stop_fault, frame_behind, frame_of, next_frame}
+use Rattle.y4m.specs.Frame.{frame_line, frame_size, line_stop, stop_fault, frame_after_line, frame_of, next_frame}
 use Rattle.y4m.proofs.Inputs.{nil_of}
 
 length-through : (bytes : List ℕ) → length (through_newline bytes) ≤ length bytes
@@ -28,9 +28,9 @@ no_line rest none = nil_of rest (omega (arith, length-take 257 rest, ap (λ (l :
 
 -- l is what there is of the line, n bytes
 module _ (f : Format) (at : ℕ) (rest l : List ℕ) (n : ℕ) (is : l ≡ frame_line rest) (size : length l ≡ n) where
-  split : (stop : Option ℕ) → line_stop l ≡ stop → frame_of f at rest ≡ frame_behind stop f at n rest
+  split : (stop : Option ℕ) → line_stop l ≡ stop → frame_of f at rest ≡ frame_after_line stop f at n rest
   unfolding frame_of
-  split stop e = (λ j. frame_behind (line_stop (sym is j)) f at (length (sym is j)) rest) ∙ (λ j. frame_behind (e j) f at (size j) rest)
+  split stop e = (λ j. frame_after_line (line_stop (sym is j)) f at (length (sym is j)) rest) ∙ (λ j. frame_after_line (e j) f at (size j) rest)
 
   pub line_refused : (stop : ℕ) → line_stop l ≡ Some stop → frame_of f at rest ≡ Err (stop_fault at n stop)
   line_refused stop e = split (Some stop) e

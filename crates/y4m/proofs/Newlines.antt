@@ -116,13 +116,13 @@ module _ (left came : List ℕ) (k n : ℕ) (same : came ≡ take k left) (le : 
 
 -- the first k bytes of the buffer are the video's, and what followed was read after them
 module _ (buf left : List ℕ) (k n : ℕ) (same : take k buf ≡ take k left) (le : k ≤ n) (none : NoNewline (take k buf)) where
-  pub goes_on : (more behind : List ℕ) (least j m : ℕ) → k ≡ least → k ≤ length buf → j ≤ length more → m ≡ n - k → take j more ≡ line_within m (drop k left)
-      → take (least + j) (take least buf ++ (more ++ behind)) ≡ line_within n left
-  goes_on more behind least j m is there within size rest =
+  pub goes_on : (more after : List ℕ) (least j m : ℕ) → k ≡ least → k ≤ length buf → j ≤ length more → m ≡ n - k → take j more ≡ line_within m (drop k left)
+      → take (least + j) (take least buf ++ (more ++ after)) ≡ line_within n left
+  goes_on more after least j m is there within size rest =
       let long : least ≡ length (take least buf) = omega (arith, length-take least buf, is, there) in
-      ap (λ (i : ℕ). take (i + j) (take least buf ++ (more ++ behind))) long
-      ∙ take-append-add (take least buf) (more ++ behind) j
-      ∙ ap (λ (l : List ℕ). take least buf ++ l) (take-append-le j more behind within ∙ rest ∙ ap (λ (i : ℕ). line_within i (drop k left)) size)
+      ap (λ (i : ℕ). take (i + j) (take least buf ++ (more ++ after))) long
+      ∙ take-append-add (take least buf) (more ++ after) j
+      ∙ ap (λ (l : List ℕ). take least buf ++ l) (take-append-le j more after within ∙ rest ∙ ap (λ (i : ℕ). line_within i (drop k left)) size)
       ∙ ap (λ (i : ℕ). take i buf ++ line_within (n - k) (drop k left)) (sym is)
       ∙ goes_past left (take k buf) k n same le none
 

@@ -7,7 +7,7 @@ use Rattle.h263_types.specs.declared.format.Format.{Format}
 use Rattle.h263_types.specs.Sizes.{size_of_picture}
 use Rattle.y4m.specs.declared.fault.Y4mFault.TheVariants.{NotY4m, ShortFrame}
 use Rattle.y4m.specs.Line.{NoNewline, agreement, through_newline, is_whole}
-use Rattle.y4m.specs.Frame.{frame_line, line_stop, stop_fault, planes_of, frame_behind, frame_of}
+use Rattle.y4m.specs.Frame.{frame_line, line_stop, stop_fault, planes_of, frame_after_line, frame_of}
 use Rattle.y4m.proofs.Spelling.{last_cons, through_other, other_heads, same_heads_as}
 use Rattle.y4m.proofs.Videos.{free}
 
@@ -104,9 +104,9 @@ planes_place f at n place rest is = by (nat_lt (length rest) (n + size_of_pictur
     by true e = let m : at + length rest ≡ place = cc e in sym m
     by false e = absurd (cc e)
 
-behind_place : (stop : Option ℕ) (f : Format) (at place : ℕ) (rest : List ℕ) → line_stop (frame_line rest) ≡ stop → frame_behind stop f at (length (frame_line rest)) rest ≡ Err (ShortFrame place) → place ≡ at + length rest
-behind_place None f at place rest e is = planes_place f at (length (frame_line rest)) place rest is
-behind_place (Some stop) f at place rest e is =
+after_place : (stop : Option ℕ) (f : Format) (at place : ℕ) (rest : List ℕ) → line_stop (frame_line rest) ≡ stop → frame_after_line stop f at (length (frame_line rest)) rest ≡ Err (ShortFrame place) → place ≡ at + length rest
+after_place None f at place rest e is = planes_place f at (length (frame_line rest)) place rest is
+after_place (Some stop) f at place rest e is =
     let fault : stop_fault at (length (frame_line rest)) stop ≡ ShortFrame place = cc is in
     let parts = stop_place at (length (frame_line rest)) stop place fault in
     let open_end : line_stop (frame_line rest) ≡ Some (length (frame_line rest)) = e ∙ ap (λ (n : ℕ). Some n) parts.0 in
@@ -114,4 +114,4 @@ behind_place (Some stop) f at place rest e is =
 
 pub short_place : (f : Format) (at place : ℕ) (rest : List ℕ) → frame_of f at rest ≡ Err (ShortFrame place) → place ≡ at + length rest
 unfolding frame_of
-short_place f at place rest is = behind_place (line_stop (frame_line rest)) f at place rest refl is
+short_place f at place rest is = after_place (line_stop (frame_line rest)) f at place rest refl is

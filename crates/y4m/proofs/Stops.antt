@@ -13,7 +13,7 @@ use Rattle.y4m.specs.declared.fault.Y4mFault.{Y4mFault}
 use Rattle.y4m.specs.declared.fault.Y4mFault.TheVariants.{NotY4m, ShortFrame}
 use Rattle.y4m.specs.Line.{Tag, NoNewline, is_gap, agreement, line_within, is_whole, tags_of}
 use Rattle.y4m.specs.Head.{tag_fault, tags_fault, sized, format_in, format_of_line, head_line, head_of}
-use Rattle.y4m.specs.Frame.{frame_line, line_stop, stop_fault, planes_of, frame_behind, frame_of}
+use Rattle.y4m.specs.Frame.{frame_line, line_stop, stop_fault, planes_of, frame_after_line, frame_of}
 use Rattle.y4m.specs.Spelled.{StandsApart, IsLine, Frame, IsFrame, IsVideo}
 use Rattle.y4m.specs.Text.{head_text}
 use Rattle.y4m.specs.Begun.{BeginsVideo, BeginsFrame}
@@ -158,7 +158,7 @@ head_agrees line n e lt =
     let k = agreement head_word line in
     elim (cases_lt k 10) [
       | inl inside ↦ sym (not_y4m_is k n (err_fault (NotY4m k) (NotY4m n) (format_of_line line) (no_word k line refl (omega (arith, inside))) e))
-      | inr behind ↦ absurd (at (tags_fault (tags_of line)) (is_whole line) refl refl (omega (arith, behind)))
+      | inr after ↦ absurd (at (tags_fault (tags_of line)) (is_whole line) refl refl (omega (arith, after)))
     ]
   where
     at : (o : Option Y4mFault) (t : Bool) → tags_fault (tags_of line) ≡ o → is_whole line ≡ t → 9 < agreement head_word line → ⊥
@@ -195,7 +195,7 @@ stop_agrees : (k size n : ℕ) (whole : Bool) → k ≤ size → cond (nat_lt k 
 stop_agrees k size n whole le e lt =
     elim (cases_lt k 6) [
       | inl inside ↦ at_word (test k inside)
-      | inr behind ↦ absurd (by_whole whole (sym (ap (λ (b : Bool). cond b (Some k) (cond whole None (Some (min size 256)))) (above k behind)) ∙ e) behind)
+      | inr after ↦ absurd (by_whole whole (sym (ap (λ (b : Bool). cond b (Some k) (cond whole None (Some (min size 256)))) (above k after)) ∙ e) after)
     ]
   where
     test : (k : ℕ) → k < 6 → nat_lt k 6 ≡ true
@@ -229,7 +229,7 @@ frame_agrees : (f : Format) (at n : ℕ) (rest : List ℕ) → frame_of f at res
 unfolding frame_of
 frame_agrees f at n rest e lt = by (line_stop (frame_line rest)) refl e
   where
-    by : (o : Option ℕ) → line_stop (frame_line rest) ≡ o → frame_behind o f at (length (frame_line rest)) rest ≡ Err (NotY4m (at + n)) → n ≡ agreement frame_word (frame_line rest)
+    by : (o : Option ℕ) → line_stop (frame_line rest) ≡ o → frame_after_line o f at (length (frame_line rest)) rest ≡ Err (NotY4m (at + n)) → n ≡ agreement frame_word (frame_line rest)
     by None is e = absurd (planes_not f at (length (frame_line rest)) n rest e)
     by (Some stop) is e =
         let fault : stop_fault at (length (frame_line rest)) stop ≡ NotY4m (at + n) = cc e in
@@ -250,9 +250,9 @@ frame_place f at n rest e lt inside =
     (let there = all_there frame_word 257 rest (free frame_word refl) (omega arith) (omega (arith, is, inside)) (omega (arith, is, lt)) in omega (arith, is, there)) in
     let front : take n rest ≡ take n frame_word = word_front frame_word rest 257 n is (omega (arith, inside)) in
     let frame = blank_frame f in
-    let behind = 10 ∷ frame.planes in
-    let whole : take n rest ++ (drop n frame_word ++ behind) ≡ frame.line ++ frame.planes =
-    ap (λ (l : List ℕ). l ++ (drop n frame_word ++ behind)) front ∙ sym (append_assoc (take n frame_word) (drop n frame_word) behind) ∙ ap (λ (l : List ℕ). l ++ behind) (take-append-drop n frame_word) in (
-      (drop n frame_word ++ behind, frame, blank_is f, whole),
+    let after = 10 ∷ frame.planes in
+    let whole : take n rest ++ (drop n frame_word ++ after) ≡ frame.line ++ frame.planes =
+    ap (λ (l : List ℕ). l ++ (drop n frame_word ++ after)) front ∙ sym (append_assoc (take n frame_word) (drop n frame_word) after) ∙ ap (λ (l : List ℕ). l ++ after) (take-append-drop n frame_word) in (
+      (drop n frame_word ++ after, frame, blank_is f, whole),
       λ b. no_line frame_word rest b.0 b.1.line b.1.planes 257 n is less (omega (arith, inside)) b.2.spelled b.3,
     )

@@ -12,8 +12,8 @@ use Rattle.y4m.specs.declared.fault.Y4mFault.{Y4mFault}
 use Rattle.y4m.specs.declared.fault.Y4mFault.TheVariants.{NotY4m, ShortFrame}
 use Rattle.y4m.specs.Line.{NoNewline, Tag, agreement, is_whole, tags_of}
 use Rattle.y4m.specs.Head.{or_else, tag_fault, tags_fault, format_in, sized, unless, format_of_line, head_line, head_size, head_of}
-use Rattle.y4m.specs.Frame.{frame_line, frame_size, line_stop, planes_of, frame_behind, frame_of}
-use Rattle.y4m.specs.Video.{frames_from, fault_from, frames_of, fault_of, fault_behind, frames_behind, video_fault, video_frames}
+use Rattle.y4m.specs.Frame.{frame_line, frame_size, line_stop, planes_of, frame_after_line, frame_of}
+use Rattle.y4m.specs.Video.{frames_from, fault_from, frames_of, fault_of, fault_after_head, frames_after_head, video_fault, video_frames}
 use Rattle.y4m.specs.Spelled.{IsLine, IsHead, Frame, IsFrame, IsVideo}
 use Rattle.y4m.proofs.Frames.{planes_there, size_is}
 use Rattle.y4m.proofs.Heads.{whole_head}
@@ -168,13 +168,13 @@ planes_parts f at n rest planes is = elim (cases_lt (length rest) (n + size_of_p
     long : nat_lt (length rest) (n + size_of_picture f) ≡ false → planes ≡ take (size_of_picture f) (drop n rest)
     long e = let yes : Ok (take (size_of_picture f) (drop n rest)) ≡ Ok planes = by false e in cc yes
 
-behind_parts : (stop : Option ℕ) (f : Format) (at n : ℕ) (rest planes : List ℕ) → frame_behind stop f at n rest ≡ Ok planes → (stop ≡ None) × (planes_of f at n rest ≡ Ok planes)
-behind_parts None f at n rest planes is = (refl, is)
-behind_parts (Some stop) f at n rest planes is = absurd (cc is)
+after_parts : (stop : Option ℕ) (f : Format) (at n : ℕ) (rest planes : List ℕ) → frame_after_line stop f at n rest ≡ Ok planes → (stop ≡ None) × (planes_of f at n rest ≡ Ok planes)
+after_parts None f at n rest planes is = (refl, is)
+after_parts (Some stop) f at n rest planes is = absurd (cc is)
 
 pub frame_parts : (f : Format) (at : ℕ) (rest planes : List ℕ) → frame_of f at rest ≡ Ok planes → (line_stop (frame_line rest) ≡ None) × (planes_of f at (length (frame_line rest)) rest ≡ Ok planes)
 unfolding frame_of
-frame_parts f at rest planes is = behind_parts (line_stop (frame_line rest)) f at (length (frame_line rest)) rest planes is
+frame_parts f at rest planes is = after_parts (line_stop (frame_line rest)) f at (length (frame_line rest)) rest planes is
 
 pub frame_is : (f : Format) (at : ℕ) (rest planes : List ℕ) → frame_of f at rest ≡ Ok planes → IsFrame f (record { line = frame_line rest; planes = planes })
 frame_is f at rest planes is =
@@ -190,10 +190,10 @@ pub frame_text : (f : Format) (at : ℕ) (rest planes : List ℕ) → frame_of f
 frame_text f at rest planes is =
     let n = length (frame_line rest) in
     let there = planes_parts f at n rest planes (frame_parts f at rest planes is).1 in
-    let behind : drop n rest ≡ planes ++ drop (frame_size f rest) rest =
+    let after : drop n rest ≡ planes ++ drop (frame_size f rest) rest =
     sym (take-append-drop (size_of_picture f) (drop n rest))
     ∙ (λ j. sym there.1 j ++ drop-drop (size_of_picture f) n rest j) in
-    line_front 257 rest ∙ ap (λ (l : List ℕ). frame_line rest ++ l) behind ∙ sym (append_assoc (frame_line rest) planes (drop (frame_size f rest) rest))
+    line_front 257 rest ∙ ap (λ (l : List ℕ). frame_line rest ++ l) after ∙ sym (append_assoc (frame_line rest) planes (drop (frame_size f rest) rest))
 
 module _ (f : Format) (at : ℕ) (x : Frame) (more : List ℕ) (is : IsFrame f x) where
   abbrev rest : List ℕ
@@ -204,21 +204,21 @@ module _ (f : Format) (at : ℕ) (x : Frame) (more : List ℕ) (is : IsFrame f x
       let short : length x.line ≤ 257 = omega (arith, is.spelled.short) in
       sym (ap (λ (l : List ℕ). frame_line l) (append_assoc x.line x.planes more) ∙ line_found 257 (codes "FRAME") x.line (x.planes ++ more) word_frame is.spelled short)
 
-  behind_line : drop (length x.line) rest ≡ x.planes ++ more
-  behind_line = ap (λ (l : List ℕ). drop (length x.line) l) (append_assoc x.line x.planes more) ∙ drop-append_seam x.line (x.planes ++ more)
+  after_line : drop (length x.line) rest ≡ x.planes ++ more
+  after_line = ap (λ (l : List ℕ). drop (length x.line) l) (append_assoc x.line x.planes more) ∙ drop-append_seam x.line (x.planes ++ more)
 
   pub frame_found : frame_of f at rest ≡ Ok x.planes
   frame_found =
-      let long : size_of_picture f ≤ length (drop (length x.line) rest) = omega (arith, ap (λ (l : List ℕ). length l) behind_line, length-append x.planes more, is.size) in
+      let long : size_of_picture f ≤ length (drop (length x.line) rest) = omega (arith, ap (λ (l : List ℕ). length l) after_line, length-append x.planes more, is.size) in
       planes_there f at rest x.line (length x.line) line_there refl (line_goes_on x.line is.spelled) long
-      ∙ (λ j. Ok (take (sym is.size j) (behind_line j)))
+      ∙ (λ j. Ok (take (sym is.size j) (after_line j)))
       ∙ ap (λ (l : List ℕ). Ok l) (take-append_seam x.planes more)
 
-  behind_frame : drop (frame_size f rest) rest ≡ more
-  behind_frame =
+  after_frame : drop (frame_size f rest) rest ≡ more
+  after_frame =
       ap (λ (n : ℕ). drop n rest) (size_is f at rest x.line (length x.line) line_there refl)
       ∙ sym (drop-drop (size_of_picture f) (length x.line) rest)
-      ∙ (λ j. drop (sym is.size j) (behind_line j))
+      ∙ (λ j. drop (sym is.size j) (after_line j))
       ∙ drop-append_seam x.planes more
 
 frames_step : (f : Format) (n at : ℕ) (rest planes : List ℕ) → 0 < length rest → frame_of f at rest ≡ Ok planes → frames_of f (suc n) at rest ≡ planes ∷ frames_of f n (at + frame_size f rest) (drop (frame_size f rest) rest)
@@ -254,21 +254,21 @@ record AreWhole (f : Format) (n : ℕ) (rest : List ℕ) (planes : List (List �
 none_whole : (f : Format) (n : ℕ) → AreWhole f n [] []
 none_whole f n = record { frames = []; text = refl; of_frames = All-nil (IsFrame f); of_planes = refl; count = omega arith }
 
-no_fault_behind : (r : Result (List ℕ) Y4mFault) (more : Option Y4mFault) → fault_from r more ≡ None → more ≡ None
-no_fault_behind (Ok planes) more none = none
-no_fault_behind (Err fault) more none = absurd (cc)
+no_fault_after : (r : Result (List ℕ) Y4mFault) (more : Option Y4mFault) → fault_from r more ≡ None → more ≡ None
+no_fault_after (Ok planes) more none = none
+no_fault_after (Err fault) more none = absurd (cc)
 
 frames_split : (r : Result (List ℕ) Y4mFault) (f : Format) (n at : ℕ) (rest : List ℕ) (more : List (List ℕ)) (faults : Option Y4mFault) → frame_of f at rest ≡ r → fault_from r faults ≡ None → AreWhole f n (drop (frame_size f rest) rest) more → AreWhole f (suc n) rest (frames_from r more)
-frames_split (Ok planes) f n at rest more faults is none behind =
+frames_split (Ok planes) f n at rest more faults is none after =
     let frame : Frame = record { line = frame_line rest; planes = planes } in
     record {
-      frames = frame ∷ behind.frames;
-      text = frame_text f at rest planes is ∙ ap (λ (l : List ℕ). (frame_line rest ++ planes) ++ l) behind.text;
-      of_frames = All-cons (IsFrame f) frame behind.frames (frame_is f at rest planes is) behind.of_frames;
-      of_planes = ap (λ (l : List (List ℕ)). planes ∷ l) behind.of_planes;
-      count = omega (arith, behind.count);
+      frames = frame ∷ after.frames;
+      text = frame_text f at rest planes is ∙ ap (λ (l : List ℕ). (frame_line rest ++ planes) ++ l) after.text;
+      of_frames = All-cons (IsFrame f) frame after.frames (frame_is f at rest planes is) after.of_frames;
+      of_planes = ap (λ (l : List (List ℕ)). planes ∷ l) after.of_planes;
+      count = omega (arith, after.count);
     }
-frames_split (Err fault) f n at rest more faults is none behind = absurd (cc none)
+frames_split (Err fault) f n at rest more faults is none after = absurd (cc none)
 
 frames_whole : (f : Format) (n at : ℕ) (rest : List ℕ) → fault_of f n at rest ≡ None → AreWhole f n rest (frames_of f n at rest)
 unfolding frames_of fault_of
@@ -279,7 +279,7 @@ frames_whole f (suc n) at (b ∷ rest) none =
     let size = frame_size f (b ∷ rest) in
     let faults = fault_of f n (at + size) (drop size (b ∷ rest)) in
     frames_split (frame_of f at (b ∷ rest)) f n at (b ∷ rest) (frames_of f n (at + size) (drop size (b ∷ rest))) faults refl none
-    (frames_whole f n (at + size) (drop size (b ∷ rest)) (no_fault_behind (frame_of f at (b ∷ rest)) faults none))
+    (frames_whole f n (at + size) (drop size (b ∷ rest)) (no_fault_after (frame_of f at (b ∷ rest)) faults none))
 
 -- a frame, and what follows
 module _ (f : Format) (at : ℕ) (x : Frame) (more : List ℕ) (is : IsFrame f x) where
@@ -287,18 +287,18 @@ module _ (f : Format) (at : ℕ) (x : Frame) (more : List ℕ) (is : IsFrame f x
   there = omega (arith, ap (λ (l : List ℕ). length l) is.spelled.text, length-append (codes "FRAME" ++ is.spelled.tail) (10 ∷ []), length-append (x.line ++ x.planes) more, length-append x.line x.planes)
 
   one_frame : (n : ℕ) (planes : List (List ℕ)) → ((at : ℕ) → frames_of f n at more ≡ planes) → frames_of f (suc n) at ((x.line ++ x.planes) ++ more) ≡ x.planes ∷ planes
-  one_frame n planes behind =
+  one_frame n planes after =
       let rest = (x.line ++ x.planes) ++ more in
       frames_step f n at rest x.planes there (frame_found f at x more is)
-      ∙ ap (λ (l : List ℕ). x.planes ∷ frames_of f n (at + frame_size f rest) l) (behind_frame f at x more is)
-      ∙ ap (λ (l : List (List ℕ)). x.planes ∷ l) (behind (at + frame_size f rest))
+      ∙ ap (λ (l : List ℕ). x.planes ∷ frames_of f n (at + frame_size f rest) l) (after_frame f at x more is)
+      ∙ ap (λ (l : List (List ℕ)). x.planes ∷ l) (after (at + frame_size f rest))
 
   one_good : (n : ℕ) → ((at : ℕ) → fault_of f n at more ≡ None) → fault_of f (suc n) at ((x.line ++ x.planes) ++ more) ≡ None
-  one_good n behind =
+  one_good n after =
       let rest = (x.line ++ x.planes) ++ more in
       fault_step f n at rest x.planes there (frame_found f at x more is)
-      ∙ ap (λ (l : List ℕ). fault_of f n (at + frame_size f rest) l) (behind_frame f at x more is)
-      ∙ behind (at + frame_size f rest)
+      ∙ ap (λ (l : List ℕ). fault_of f n (at + frame_size f rest) l) (after_frame f at x more is)
+      ∙ after (at + frame_size f rest)
 
 frames_found : (f : Format) (n : ℕ) (frames : List Frame) → All (IsFrame f) frames → length frames ≤ n → (at : ℕ) → frames_of f n at (flat_map joined frames) ≡ map (λ frame. frame.planes) frames
 frames_found f n [] all count at = frames-nil f n at
@@ -313,13 +313,13 @@ fault_found f (suc n) (x ∷ frames) all count at =
     one_good f at x (flat_map joined frames) (All-head (IsFrame f) x frames all) n (fault_found f n frames (All-tail (IsFrame f) x frames all) (omega arith))
 
 -- a whole video
-by_head : (head : Result Format Y4mFault) (video : List ℕ) → head_of video ≡ head → video_fault video ≡ fault_behind head (head_size video) (drop (head_size video) video)
+by_head : (head : Result Format Y4mFault) (video : List ℕ) → head_of video ≡ head → video_fault video ≡ fault_after_head head (head_size video) (drop (head_size video) video)
 unfolding video_fault
-by_head head video is = ap (λ (h : Result Format Y4mFault). fault_behind h (head_size video) (drop (head_size video) video)) is
+by_head head video is = ap (λ (h : Result Format Y4mFault). fault_after_head h (head_size video) (drop (head_size video) video)) is
 
-frames_by_head : (head : Result Format Y4mFault) (video : List ℕ) → head_of video ≡ head → video_frames video ≡ frames_behind head (head_size video) (drop (head_size video) video)
+frames_by_head : (head : Result Format Y4mFault) (video : List ℕ) → head_of video ≡ head → video_frames video ≡ frames_after_head head (head_size video) (drop (head_size video) video)
 unfolding video_frames
-frames_by_head head video is = ap (λ (h : Result Format Y4mFault). frames_behind h (head_size video) (drop (head_size video) video)) is
+frames_by_head head video is = ap (λ (h : Result Format Y4mFault). frames_after_head h (head_size video) (drop (head_size video) video)) is
 
 accepted_with : (head : Result Format Y4mFault) (video : List ℕ) → head_of video ≡ head → video_fault video ≡ None → (f : Format) × IsVideo video f (video_frames video)
 accepted_with (Err fault) video is none = absurd (cc (sym (by_head (Err fault) video is) ∙ none))

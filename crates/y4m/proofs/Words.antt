@@ -3,7 +3,7 @@ use Rattle.std.proofs.Common.{◌≡◌, ◌≢◌, ℕ, zero, suc, ◌+◌, ◌
 use Rattle.std.proofs.lemmas.Bool.Decides.{nat_tests}
 use Rattle.std.proofs.lemmas.List.Elements.{All-head, All-tail}
 use Rattle.std.proofs.Math.Seq.{take-append_seam}
-use Rattle.y4m.specs.Line.{Tag, is_gap, before_gap, tag_behind, with_tag, tags_from, tags_of}
+use Rattle.y4m.specs.Line.{Tag, is_gap, before_gap, tag_after, with_tag, tags_from, tags_of}
 use Rattle.y4m.specs.Spelled.{Word, IsWord, spaces, spaced}
 use Rattle.y4m.proofs.Tags.{tag_found}
 
@@ -14,11 +14,11 @@ abbrev Gapless : ℕ → Type 0
 Gapless b = is_gap b ≡ false
 
 -- no tag begins at a gap, or after another byte than a space
-at_gap : (before b : ℕ) (bytes : List ℕ) → is_gap b ≡ true → tag_behind before (b ∷ bytes) ≡ None
+at_gap : (before b : ℕ) (bytes : List ℕ) → is_gap b ≡ true → tag_after before (b ∷ bytes) ≡ None
 at_gap before b bytes gap = grind (arith, nat_tests)
 
-behind_other : (before : ℕ) (bytes : List ℕ) → before ≢ 32 → tag_behind before bytes ≡ None
-behind_other before bytes other = grind (arith, nat_tests)
+after_other : (before : ℕ) (bytes : List ℕ) → before ≢ 32 → tag_after before bytes ≡ None
+after_other before bytes other = grind (arith, nat_tests)
 
 pass_gap : (at before b : ℕ) (bytes : List ℕ) → is_gap b ≡ true → tags_from at before (b ∷ bytes) ≡ tags_from (at + 1) b bytes
 pass_gap at before b bytes gap = ap (λ (o : Option (List ℕ)). with_tag at o (tags_from (at + 1) b bytes)) (at_gap before b bytes gap)
@@ -30,7 +30,7 @@ gapless_other b gap = λ is. meets b is gap
     meets b is gap = let yes : is_gap b ≡ true = grind (arith, nat_tests) in cc (sym yes ∙ gap)
 
 pass_other : (at before b : ℕ) (bytes : List ℕ) → before ≢ 32 → tags_from at before (b ∷ bytes) ≡ tags_from (at + 1) b bytes
-pass_other at before b bytes other = ap (λ (o : Option (List ℕ)). with_tag at o (tags_from (at + 1) b bytes)) (behind_other before (b ∷ bytes) other)
+pass_other at before b bytes other = ap (λ (o : Option (List ℕ)). with_tag at o (tags_from (at + 1) b bytes)) (after_other before (b ∷ bytes) other)
 
 -- what follows a word: a gap
 abbrev StartsWithGap : List ℕ → Type 0
@@ -50,7 +50,7 @@ gap_starts [] (suc n) = refl
 gap_starts (w ∷ words) n = refl
 
 -- a word after a space is a tag
-word_here : (at : ℕ) (word rest : List ℕ) → IsWord word → StartsWithGap rest → tag_behind 32 (word ++ rest) ≡ Some word
+word_here : (at : ℕ) (word rest : List ℕ) → IsWord word → StartsWithGap rest → tag_after 32 (word ++ rest) ≡ Some word
 word_here at word rest is gap =
     let size : length word ≡ length (before_gap (word ++ rest)) = ap (λ (l : List ℕ). length l) (sym (before_gap-append word rest is.gapless gap)) in
     tag_found 32 (length word) (word ++ rest) refl size is.some (omega (arith, length-append word rest, longer rest gap))
@@ -62,20 +62,20 @@ word_here at word rest is gap =
 
 -- no tag begins within a word
 passed : (bytes rest : List ℕ) (found : List (List ℕ)) → All Gapless bytes → ((at before : ℕ) → texts (tags_from at before rest) ≡ found) → (at before : ℕ) → before ≢ 32 → texts (tags_from at before (bytes ++ rest)) ≡ found
-passed [] rest found all behind at before other = behind at before
-passed (b ∷ bytes) rest found all behind at before other =
+passed [] rest found all after at before other = after at before
+passed (b ∷ bytes) rest found all after at before other =
     ap texts (pass_other at before b (bytes ++ rest) other)
-    ∙ passed bytes rest found (All-tail Gapless b bytes all) behind (at + 1) b (gapless_other b (All-head Gapless b bytes all))
+    ∙ passed bytes rest found (All-tail Gapless b bytes all) after (at + 1) b (gapless_other b (All-head Gapless b bytes all))
 
 word_found : (word rest : List ℕ) (found : List (List ℕ)) → IsWord word → StartsWithGap rest → ((at before : ℕ) → texts (tags_from at before rest) ≡ found) → (at : ℕ) → texts (tags_from at 32 (word ++ rest)) ≡ word ∷ found
-word_found [] rest found is gap behind at = absurd (omega (arith, is.some))
-word_found (b ∷ word) rest found is gap behind at =
+word_found [] rest found is gap after at = absurd (omega (arith, is.some))
+word_found (b ∷ word) rest found is gap after at =
     ap (λ (o : Option (List ℕ)). texts (with_tag at o (tags_from (at + 1) b (word ++ rest)))) (word_here at (b ∷ word) rest is gap)
-    ∙ ap (λ (l : List (List ℕ)). (b ∷ word) ∷ l) (passed word rest found (All-tail Gapless b word is.gapless) behind (at + 1) b (gapless_other b (All-head Gapless b word is.gapless)))
+    ∙ ap (λ (l : List (List ℕ)). (b ∷ word) ∷ l) (passed word rest found (All-tail Gapless b word is.gapless) after (at + 1) b (gapless_other b (All-head Gapless b word is.gapless)))
 
 spaces_passed : (n : ℕ) (rest : List ℕ) (found : List (List ℕ)) → ((at : ℕ) → texts (tags_from at 32 rest) ≡ found) → (at : ℕ) → texts (tags_from at 32 (spaces n ++ rest)) ≡ found
-spaces_passed zero rest found behind at = behind at
-spaces_passed (suc n) rest found behind at = ap texts (pass_gap at 32 32 (spaces n ++ rest) refl) ∙ spaces_passed n rest found behind (at + 1)
+spaces_passed zero rest found after at = after at
+spaces_passed (suc n) rest found after at = ap texts (pass_gap at 32 32 (spaces n ++ rest) refl) ∙ spaces_passed n rest found after (at + 1)
 
 end_passed : (n at before : ℕ) → texts (tags_from at before (spaces n ++ 10 ∷ [])) ≡ []
 end_passed zero at before = ap texts (pass_gap at before 10 [] refl)

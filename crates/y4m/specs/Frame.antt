@@ -30,13 +30,13 @@ planes_of f at line rest =
     if nat_lt (length rest) (line + size_of_picture f) then Err (ShortFrame (at + length rest))
     else Ok (take (size_of_picture f) (drop line rest))
 
-abbrev pub frame_behind : Option ℕ → Format → ℕ → ℕ → List ℕ → Result (List ℕ) Y4mFault
-frame_behind (Some stop) f at line rest = Err (stop_fault at line stop)
-frame_behind None f at line rest = planes_of f at line rest
+abbrev pub frame_after_line : Option ℕ → Format → ℕ → ℕ → List ℕ → Result (List ℕ) Y4mFault
+frame_after_line (Some stop) f at line rest = Err (stop_fault at line stop)
+frame_after_line None f at line rest = planes_of f at line rest
 
 -- the planes of the frame at a place, or its fault; rest is what stands there, and isn't empty
 unfoldable pub frame_of : Format → ℕ → List ℕ → Result (List ℕ) Y4mFault
-frame_of f at rest = frame_behind (line_stop (frame_line rest)) f at (length (frame_line rest)) rest
+frame_of f at rest = frame_after_line (line_stop (frame_line rest)) f at (length (frame_line rest)) rest
 
 -- the same where this many frames may still come
 abbrev pub next_frame : ℕ → Format → ℕ → List ℕ → Result (List ℕ) Y4mFault

@@ -3,15 +3,15 @@ use Rattle.std.specs.Prelude.{◌≡◌, ℕ, ◌+◌, ◌<◌, List, [], ◌∷
 use Rattle.h263_types.specs.declared.format.Format.{Format}
 use Rattle.y4m.specs.declared.fault.Y4mFault.{Y4mFault}
 use Rattle.y4m.specs.Frame.{frame_of, frame_size, next_frame}
-use Rattle.y4m.specs.Video.{behind_frame, frames_of, fault_of}
+use Rattle.y4m.specs.Video.{after_frame, frames_of, fault_of}
 
 -- a frame that stands first is followed by those after it, of which one less may come
 pub record IsFollowed (f : Format) (n m at : ℕ) (rest frame : List ℕ) : Type 0 where
-  pub frames : frames_of f n at rest ≡ frame ∷ frames_of f m (at + frame_size f rest) (behind_frame f rest)
-  pub fault : fault_of f n at rest ≡ fault_of f m (at + frame_size f rest) (behind_frame f rest)
+  pub frames : frames_of f n at rest ≡ frame ∷ frames_of f m (at + frame_size f rest) (after_frame f rest)
+  pub fault : fault_of f n at rest ≡ fault_of f m (at + frame_size f rest) (after_frame f rest)
   -- also where only k bytes after it are looked at
   pub cut : (k : ℕ) → frames_of f n at (take (frame_size f rest + k) rest)
-      ≡ frame ∷ frames_of f m (at + frame_size f rest) (take k (behind_frame f rest))
+      ≡ frame ∷ frames_of f m (at + frame_size f rest) (take k (after_frame f rest))
 
 pub record FrameLaws : Type 0 where
   pub next : (f : Format) (n m at : ℕ) (rest frame : List ℕ)

@@ -39,8 +39,8 @@ before_gap (b ∷ bytes) = if is_gap b then [] else b ∷ before_gap bytes
 
 -- the tag that begins where these bytes of a line stand after a byte: that one is a space, the tag
 -- has one byte at least, and a gap is after it
-abbrev pub tag_behind : ℕ → List ℕ → Option (List ℕ)
-tag_behind before bytes =
+abbrev pub tag_after : ℕ → List ℕ → Option (List ℕ)
+tag_after before bytes =
     if before == 32 && nat_lt 0 (length (before_gap bytes))
     && nat_lt (length (before_gap bytes)) (length bytes) then Some (before_gap bytes) else None
 
@@ -51,7 +51,7 @@ with_tag at (Some text) tags = record { at = at; text = text } ∷ tags
 -- the tags that begin in these bytes, which stand at a place after a byte
 abbrev pub tags_from : ℕ → ℕ → List ℕ → List Tag
 tags_from at before [] = []
-tags_from at before (b ∷ bytes) = with_tag at (tag_behind before (b ∷ bytes)) (tags_from (at + 1) b bytes)
+tags_from at before (b ∷ bytes) = with_tag at (tag_after before (b ∷ bytes)) (tags_from (at + 1) b bytes)
 
 -- the tags of a line in their order
 abbrev pub tags_of : List ℕ → List Tag

@@ -11,8 +11,8 @@ abbrev pub most_frames : ℕ
 most_frames = 1048576
 
 -- the bytes after the frame that stands first
-abbrev pub behind_frame : Format → List ℕ → List ℕ
-behind_frame f rest = drop (frame_size f rest) rest
+abbrev pub after_frame : Format → List ℕ → List ℕ
+after_frame f rest = drop (frame_size f rest) rest
 
 -- a frame, and those after it
 abbrev pub frames_from : Result (List ℕ) Y4mFault → List (List ℕ) → List (List ℕ)
@@ -40,17 +40,17 @@ fault_of f (suc n) at (b ∷ rest) =
     (fault_of f n (at + frame_size f (b ∷ rest)) (drop (frame_size f (b ∷ rest)) (b ∷ rest)))
 
 -- after a head
-abbrev pub fault_behind : Result Format Y4mFault → ℕ → List ℕ → Option Y4mFault
-fault_behind (Err fault) at body = Some fault
-fault_behind (Ok f) at body = fault_of f most_frames at body
+abbrev pub fault_after_head : Result Format Y4mFault → ℕ → List ℕ → Option Y4mFault
+fault_after_head (Err fault) at body = Some fault
+fault_after_head (Ok f) at body = fault_of f most_frames at body
 
-abbrev pub frames_behind : Result Format Y4mFault → ℕ → List ℕ → List (List ℕ)
-frames_behind (Err fault) at body = []
-frames_behind (Ok f) at body = frames_of f most_frames at body
+abbrev pub frames_after_head : Result Format Y4mFault → ℕ → List ℕ → List (List ℕ)
+frames_after_head (Err fault) at body = []
+frames_after_head (Ok f) at body = frames_of f most_frames at body
 
 -- the first fault of a video, and its frames up to there
 unfoldable pub video_fault : List ℕ → Option Y4mFault
-video_fault video = fault_behind (head_of video) (head_size video) (drop (head_size video) video)
+video_fault video = fault_after_head (head_of video) (head_size video) (drop (head_size video) video)
 
 unfoldable pub video_frames : List ℕ → List (List ℕ)
-video_frames video = frames_behind (head_of video) (head_size video) (drop (head_size video) video)
+video_frames video = frames_after_head (head_of video) (head_size video) (drop (head_size video) video)

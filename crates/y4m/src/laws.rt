@@ -69,7 +69,7 @@ pub fn place_of_not_y4m()
 {}
 
 /// A whole head or frame stays what it is where the text after it is cut.
-pub fn cut_behind()
+pub fn cut_after()
     ensures head { (video : List ℕ) (f : Format) (k : ℕ) → head_of video ≡ Ok f → head_size video
         ≤ k → (head_of (take k video) ≡ Ok f) × (head_size (take k video) ≡ head_size video) }
     ensures frame { (f : Format) (at k : ℕ) (rest planes : List ℕ) → frame_of f at rest ≡ Ok planes

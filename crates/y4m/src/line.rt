@@ -1,6 +1,6 @@
 //! Lines: the words that they begin with, their tags and their newline.
 ghost use Rattle.std.specs.Prelude.{◌≡◌, ◌<◌, ◌≤◌, ◌+◌, ◌-◌, ◌==◌, length, drop, take, slice_index, MatchOption, None, Some};
-ghost use Rattle.y4m.specs.Line.{is_gap, agreement, is_whole, before_gap, tag_behind};
+ghost use Rattle.y4m.specs.Line.{is_gap, agreement, is_whole, before_gap, tag_after};
 
 /// The most bytes of a line with its newline.
 pub const LONGEST_LINE: usize = 256;
@@ -55,8 +55,8 @@ pub fn tag_at(line: &[u8], at: usize) -> Option<&[u8]>
     requires some { 0 < at }
     requires within { at < length line.now }
     ensures { MatchOption result
-        (tag_behind (slice_index line.now (at - 1)) (drop at line.now) ≡ None) (λ tag.
-        tag_behind (slice_index line.now (at - 1)) (drop at line.now) ≡ Some tag.now) }
+        (tag_after (slice_index line.now (at - 1)) (drop at line.now) ≡ None) (λ tag.
+        tag_after (slice_index line.now (at - 1)) (drop at line.now) ≡ Some tag.now) }
 {
     if line[at - 1] != b' ' {
         return None;

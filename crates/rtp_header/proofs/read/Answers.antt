@@ -5,7 +5,7 @@ use Rattle.h263_bits.specs.declared.fault.Fault.{Fault}
 use Rattle.h263_bits.specs.Reading.{Bits, first_fault}
 use Rattle.h263_bits.specs.Syntax.{reading}
 use Rattle.rtp_header.specs.declared.rtp.Rtp.{Rtp}
-use Rattle.rtp_header.specs.Text.{Head, head, behind, from_byte, IsRtp}
+use Rattle.rtp_header.specs.Text.{Head, head, after_fixed, from_byte, IsRtp}
 use Rattle.rtp_header.specs.Faults.{rtp_in, rtp_fault, with_head, short_of, with_payload, end_of, payload_end_of}
 use Rattle.rtp_header.specs.Written.{IsWithin}
 use Rattle.rtp_header.proofs.Exact.{read_text, text_read, text_within}
@@ -52,7 +52,7 @@ unfolding rtp_in
 returns-in_default c =
     let bytes = c.args.bytes.now in
     let e = head_is bytes (omega arith) (λ i. omega (arith, c.type_inv.bytes i)) in
-    let cut : end_of (reading (behind (head_of bytes)) (from_byte 12 bytes)) ≡ None = sym (c.header_end.ensures.end (head_of bytes) (from_byte 12 bytes) e) ∙ c.in_default.is in
+    let cut : end_of (reading (after_fixed (head_of bytes)) (from_byte 12 bytes)) ≡ None = sym (c.header_end.ensures.end (head_of bytes) (from_byte 12 bytes) e) ∙ c.in_default.is in
     every bytes _ (rw (c.at-short.ensures, le-ltb 65535 (length bytes) (omega arith), e, eq-eqb (get_or bytes 0 0 / 64) 2 (omega arith), cut) refl)
 
 pub payload_end-requires-clause-within : goal.payload_end-requires-clause-within
@@ -63,7 +63,7 @@ unfolding rtp_in
 returns-in_default-payload_end c =
     let bytes = c.args.bytes.now in
     let e = head_is bytes (omega arith) (λ i. omega (arith, c.type_inv.bytes i)) in
-    let from : end_of (reading (behind (head_of bytes)) (from_byte 12 bytes)) ≡ Some c.in-Some.from = sym (c.header_end.ensures.end (head_of bytes) (from_byte 12 bytes) e) ∙ c.in-Some.is in
+    let from : end_of (reading (after_fixed (head_of bytes)) (from_byte 12 bytes)) ≡ Some c.in-Some.from = sym (c.header_end.ensures.end (head_of bytes) (from_byte 12 bytes) e) ∙ c.in-Some.is in
     let none : payload_end_of (head_of bytes) bytes c.in-Some.from ≡ None = sym (c.payload_end.ensures (head_of bytes) (from_byte 12 bytes) e) ∙ c.in_default-payload_end.is in
     every bytes _ (rw (c.at-in_default-payload_end.ensures, le-ltb 65535 (length bytes) (omega arith), e, eq-eqb (get_or bytes 0 0 / 64) 2 (omega arith), from) (sym (ap (with_payload bytes (head_of bytes) c.in-Some.from) none)))
 
@@ -72,6 +72,6 @@ unfolding rtp_in
 returns c =
     let bytes = c.args.bytes.now in
     let e = head_is bytes (omega arith) (λ i. omega (arith, c.type_inv.bytes i)) in
-    let from : end_of (reading (behind (head_of bytes)) (from_byte 12 bytes)) ≡ Some c.in-Some.from = sym (c.header_end.ensures.end (head_of bytes) (from_byte 12 bytes) e) ∙ c.in-Some.is in
+    let from : end_of (reading (after_fixed (head_of bytes)) (from_byte 12 bytes)) ≡ Some c.in-Some.from = sym (c.header_end.ensures.end (head_of bytes) (from_byte 12 bytes) e) ∙ c.in-Some.is in
     let to : payload_end_of (head_of bytes) bytes c.in-Some.from ≡ Some c.in-Some-payload_end.to = sym (c.payload_end.ensures (head_of bytes) (from_byte 12 bytes) e) ∙ c.in-Some-payload_end.is in
     every bytes _ (rw (le-ltb 65535 (length bytes) (omega arith), e, eq-eqb (get_or bytes 0 0 / 64) 2 (omega arith), from) (c.accepted.ensures (head_of bytes) (from_byte 12 bytes) e ∙ sym (ap (with_payload bytes (head_of bytes) c.in-Some.from) to)))

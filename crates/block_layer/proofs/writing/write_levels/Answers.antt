@@ -5,7 +5,7 @@ use Rattle.code_tables.specs.Tables.{IsEvent}
 use Rattle.block_layer.specs.Step.{level_at}
 use Rattle.block_layer.proofs.Steps.{left_text, none_text, ended, text_is}
 use Rattle.block_layer.proofs.Written.{some_size}
-use Rattle.block_layer.proofs.Marks.{behind, next, goes, none_next}
+use Rattle.block_layer.proofs.Marks.{marks_after, next, goes, none_next}
 use Rattle.block_layer.proofs.writing.write_levels.Goals as goal
 
 pub events-init : goal.events-init
@@ -14,7 +14,7 @@ events-init c = record {
   room = refl;
   text = ap (λ (l : List Bool). written c.args.writer.now ++ l) (text_is c.args.from c.args.block.now.levels);
   len = ap (λ (l : List Bool). c.args.writer.now.len + length l) (text_is c.args.from c.args.block.now.levels);
-  marked = ap (λ n. n / 2 ^ c.args.from) c.requires.marks ∙ behind c.args.from c.args.block.now.levels;
+  marked = ap (λ n. n / 2 ^ c.args.from) c.requires.marks ∙ marks_after c.args.from c.args.block.now.levels;
   since = omega arith;
   within = omega arith;
 }

@@ -22,7 +22,7 @@ returns-in_err-video-clause-gives g c = λ inputs told.
     let outside = g.D.Desk.outside in
     let t = c.args.setup.now in
     start_gives c.from_residual.result (video_stop c.in_err-video.field-0.0) (call_begin t inputs) begun_first may_read inputs (outside c.args.desk.now) (outside c.head.new.desk) c.from_residual.ensures.1
-    (head_stops c.of_turns.ensures c.of_the_video.ensures inputs (outside c.args.desk.now) (outside c.head.new.desk) told c.head.ensures.others c.head.ensures.rest.written t c.in_err-video.field-0.0
+    (head_stops c.turn_laws.ensures c.video_laws.ensures inputs (outside c.args.desk.now) (outside c.head.new.desk) told c.head.ensures.others c.head.ensures.rest.written t c.in_err-video.field-0.0
     (c.in_err-video.ensures.gives (inputs Video) (told Video refl)))
 
 pub returns-in-Err-clause-gives : goal.returns-in-Err-clause-gives
@@ -32,7 +32,7 @@ returns-in-Err-clause-gives g c = λ inputs told.
     let video = c.in_ok-video.video in
     let e = c.in_ok-video.ensures.gives (inputs Video) (told Video refl) in
     cut_gives c.in-Err.status (call_begin t inputs) true inputs (outside c.args.desk.now) (outside c.put_head.new.desk) c.in-Err.ensures.kind
-    (head_cut c.of_turns.ensures c.of_the_video.ensures inputs (outside c.args.desk.now) (outside c.head.new.desk) told c.head.ensures.others c.head.ensures.rest.written
+    (head_cut c.turn_laws.ensures c.video_laws.ensures inputs (outside c.args.desk.now) (outside c.head.new.desk) told c.head.ensures.others c.head.ensures.rest.written
     (outside c.put_head.new.desk) c.put_head.ensures.rest.left t video.format e.0 e.2
     (subst (λ (f : Format). GainsFronts (on Pictures (head_text f)) (outside c.head.new.desk).written (outside c.put_head.new.desk).written) c.format.ensures c.in-Err.ensures.err))
 
@@ -43,7 +43,7 @@ returns-clause-gives g c = λ inputs told.
     let video = c.in_ok-video.video in
     let begun : Begun = record { terms = record t { params = record t.params { format = c.format.result } }; video = video; both = c.in_ok-both.both } in
     let e = c.in_ok-video.ensures.gives (inputs Video) (told Video refl) in
-    head_goes c.of_turns.ensures c.of_the_video.ensures inputs (outside c.args.desk.now) (outside c.head.new.desk) told c.head.ensures.others c.head.ensures.rest.written
+    head_goes c.turn_laws.ensures c.video_laws.ensures inputs (outside c.args.desk.now) (outside c.head.new.desk) told c.head.ensures.others c.head.ensures.rest.written
     (outside c.put_head.new.desk) c.put_head.ensures.rest.left t video.format e.0 e.2 (begun_first begun)
     (λ i. first_state (with_format t (sym c.format.ensures i)) [] (sym e.1 i))
     (subst (λ (f : Format). Gains (on Pictures (head_text f)) (outside c.head.new.desk).written (outside c.put_head.new.desk).written) c.format.ensures c.in_default.ensures.ok)

@@ -12,7 +12,7 @@ use Rattle.call_command.proofs.show.play_next.Goals as goal
 pub returns-clause-ok : goal.returns-clause-ok
 returns-clause-ok g c = λ p sender before frames past begun h may.
     let outside = g.D.Desk.outside in
-    let laws = c.of_the_way.ensures p in
+    let laws = c.way_laws.ensures p in
     let was = c.args.receiver.now in
     let played = laws.played sender was before frames past h.way_holds.joined in
     let sent = laws.sent sender was before frames past h.way_holds.joined in
@@ -28,7 +28,7 @@ returns-clause-ok g c = λ p sender before frames past begun h may.
 pub returns-clause-err : goal.returns-clause-err
 returns-clause-err g c = λ p sender before frames past begun h may.
     let outside = g.D.Desk.outside in
-    let laws = c.of_the_way.ensures p in
+    let laws = c.way_laws.ensures p in
     let was = c.args.receiver.now in
     let played = laws.played sender was before frames past h.way_holds.joined in
     let sent = laws.sent sender was before frames past h.way_holds.joined in

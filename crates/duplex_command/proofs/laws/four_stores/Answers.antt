@@ -11,6 +11,6 @@ steady_is : (p : Params) → IsParams p → IsPace (steady p)
 steady_is p is sizes few = (omega (arith, is.quant_low), omega (arith, is.quant_high))
 
 pub returns : goal.returns
-returns c = λ p shots past in_range near x.
-    c.four_stores.ensures (sides p) shots past
+returns c = λ p captures past in_range near x.
+    c.four_stores.ensures (sides p) captures past
     (λ y. record { coding = c.is_coding.ensures (p y) (in_range y); rules = c.are_rules.ensures (p y) (in_range y); pace = steady_is (p y) (in_range y) }) near x

@@ -6,7 +6,7 @@ pub returns : goal.returns
 returns c = λ p x far ways h.
     let own = c.args.ends.now in
     let word = c.args.word.now in
-    let laws = c.of_pairs.ensures p in
+    let laws = c.pair_laws.ensures p in
     let sent = c.sent.ensures ∙ laws.sent x own far ways h in
     let played = c.played.ensures ∙ laws.played x own far ways h in
     let tally = c.tally.ensures p x far ways h in

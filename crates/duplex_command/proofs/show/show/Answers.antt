@@ -10,7 +10,7 @@ pub returns-in_err-put_picture-clause-err : goal.returns-in_err-put_picture-clau
 returns-in_err-put_picture-clause-err g c =
     let outside = g.D.Desk.outside in
     on_err c.from_residual.result
-    (first_front c.of_turns.ensures c.args.row.now (picture c.args.picture)
+    (first_front c.turn_laws.ensures c.args.row.now (picture c.args.picture)
     (outside c.args.desk.now).written (outside c.put_picture.new.desk).written c.in_err-put_picture.ensures.err)
 
 pub returns-clause-ok : goal.returns-clause-ok
@@ -18,7 +18,7 @@ returns-clause-ok g c =
     let outside = g.D.Desk.outside in
     let row = c.args.row.now in
     on_ok_weaker c.put_line.result
-    (both_gain c.of_turns.ensures row (picture c.args.picture)
+    (both_gain c.turn_laws.ensures row (picture c.args.picture)
     (outside c.args.desk.now).written (outside c.put_picture.new.desk).written (outside c.put_line.new.desk).written (text_of c.picture_line-line.result)
     (c.picture_line-line.ensures ∙ ap (λ (l : ℕ). picture_text row.number (Some row.mark) (Some row.reference) (Some l)) c.letter-letter.ensures.value) c.in_ok-put_picture.ensures.ok)
     c.put_line.ensures.ok
@@ -28,7 +28,7 @@ returns-clause-err g c =
     let outside = g.D.Desk.outside in
     let row = c.args.row.now in
     on_err_weaker c.put_line.result
-    (second_front c.of_turns.ensures row (picture c.args.picture)
+    (second_front c.turn_laws.ensures row (picture c.args.picture)
     (outside c.args.desk.now).written (outside c.put_picture.new.desk).written (outside c.put_line.new.desk).written (text_of c.picture_line-line.result)
     (c.picture_line-line.ensures ∙ ap (λ (l : ℕ). picture_text row.number (Some row.mark) (Some row.reference) (Some l)) c.letter-letter.ensures.value) c.in_ok-put_picture.ensures.ok)
     c.put_line.ensures.err

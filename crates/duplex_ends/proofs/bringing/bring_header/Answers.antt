@@ -2,7 +2,7 @@ use Rattle.std.proofs.Common.{◌≡◌, ◌+◌, [], ◌∷◌, List, None, Som
 use Rattle.std.proofs.lemmas.List.{drop_more, drop_all}
 use Rattle.h263_types.specs.declared.pace.FixedPace.{FixedPace}
 use Rattle.h263_types.specs.declared.clock.Clock.{Clock}
-use Rattle.duplex_call.specs.declared.carrier.Carried.{Carried}
+use Rattle.duplex_call.specs.declared.queue.Carried.{Carried}
 use Rattle.duplex_ends.specs.Bringing.{AreOfClock, IsReturning, carried_in}
 use Rattle.duplex_call.specs.Duplex.{brought}
 use Rattle.duplex_ends.proofs.Returning.{all_back}
@@ -55,6 +55,6 @@ header-preserved c =
 pub returns-clause-holds : goal.returns-clause-holds
 returns-clause-holds c = λ p way receiver frames past ks paced h may.
     let none : drop c.header.place-index c.args.header.now ≡ [] = drop_all c.header.place-index c.args.header.now (omega (arith, c.header-test.false)) in
-    all_back p (c.of_events.ensures p) way receiver frames c.header.sender (brought ks past)
+    all_back p (c.event_laws.ensures p) way receiver frames c.header.sender (brought ks past)
     (subst (λ (l : List (Option Carried)). IsReturning p way c.header.sender receiver frames (brought ks past) (carried_in l)) none
     (c.header.invariant.holds p way receiver frames past ks paced h may))

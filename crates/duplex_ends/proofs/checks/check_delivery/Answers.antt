@@ -7,10 +7,10 @@ use Rattle.call_model.specs.IdealCall.{Deliver}
 use Rattle.call_model.specs.Refusals as call
 use Rattle.call_model.specs.Refusals.{first_refusal}
 use Rattle.call_decoding.specs.Rules.{rules_of}
-use Rattle.duplex_call.specs.declared.carrier.Carried.{Carried}
+use Rattle.duplex_call.specs.declared.queue.Carried.{Carried}
 use Rattle.duplex_call.specs.Duplex.{other, way}
 use Rattle.duplex_call.specs.Refused.{heard_refusal, own_refusal, refusal_of}
-use Rattle.one_way.specs.declared.refusals.Refusal.{Refusal}
+use Rattle.one_way.specs.declared.refusals.EventRefusal.{EventRefusal}
 use Rattle.one_way.specs.Refused.{IsAllowed, refusal_after}
 use Rattle.one_way.specs.Seen.{Seen, in_call}
 use Rattle.duplex_ends.specs.Bringing.{carried_in, first_far}
@@ -29,7 +29,7 @@ returns-in-Ok-clause-refusal c = λ p x ways left place h.
     let v = way (other x) ways in
     let one = h.own_holds in
     let n = c.args.number in
-    let nears = c.of_near_events.ensures P (h.in_range x) in
+    let nears = c.near_event_laws.ensures P (h.in_range x) in
     let seen = in_call (call_in p x ways) in
     let same = c.ends_agree.ensures P w.frames w.past (h.in_range x) one.done.near in
     let half : c.half-half.result ≡ half_of P.clock = c.half-half.ensures ∙ ap (λ (q : Params). half_of q.clock) one.params in
@@ -40,21 +40,21 @@ returns-in-Ok-clause-refusal c = λ p x ways left place h.
     ∙ sym (ap (λ (seen : Seen). first_refusal (rules_of P) (length seen.coded + 1) (length seen.coded) seen.played seen.abouts (Deliver n place)) same) ∙ before
     in
     let there = header_now P Q nears c.args.own.now w v one n place (nears.deliver [] w.frames w.past n place before)
-    ((c.of_the_way.ensures P).sent c.args.own.now.sender c.args.own.now.receiver [] w.frames w.past one.done.joined)
+    ((c.way_laws.ensures P).sent c.args.own.now.sender c.args.own.now.far_end [] w.frames w.past one.done.joined)
     in
     let messages = slice_index_or one.carries.headers n [] in
     let is : carried_in c.get.result ≡ messages =
     ap (λ (l : List (Option Carried)). carried_in l) (c.get.ensures one.carries.headers one.carries.holds there.0 there.1) ∙ carried_placed messages (one.carries.few n)
     in
     let ks = slice_index_or w.carried n [] in
-    let laws = c.of_pairs.ensures p in
+    let laws = c.pair_laws.ensures p in
     let sent : c.sent.result ≡ length (call_by Q v).coded = c.sent.ensures.value ∙ laws.sent (other x) c.args.far.now c.args.own.now ways (laws.exchanged x c.args.own.now c.args.far.now ways h) in
     let heard : IsAllowed (first_far (half_of Q.clock) (length (call_by Q v).coded) messages) (Deliver n place) (heard_refusal (sides p) (other x) v ks) = heard_is p (other x) v n place ks messages (one.carries.each n) in
     let result : c.check_header.result ≡ first_far (half_of Q.clock) (length (call_by Q v).coded) messages =
     c.check_header.ensures ∙ (λ i. first_far (far_half i) (sent i) (is i))
     in
     first_allowed c.check_header.result (Deliver n place) (own_refusal (sides p) left x w (Deliver n place)) (heard_refusal (sides p) (other x) v ks) none
-    (subst (λ (r : Result Unit Refusal). IsAllowed r (Deliver n place) (heard_refusal (sides p) (other x) v ks)) (sym result) heard)
+    (subst (λ (r : Result Unit EventRefusal). IsAllowed r (Deliver n place) (heard_refusal (sides p) (other x) v ks)) (sym result) heard)
 
 pub returns-in-Ok-clause-may : goal.returns-in-Ok-clause-may
 returns-in-Ok-clause-may c = λ place.
@@ -68,7 +68,7 @@ returns-in-Ok-clause-may c = λ place.
       ways = e.ways;
       left = 0;
       holds = e.holds;
-      may = (c.of_refusals.ensures e.params 0 e.party (Deliver c.args.number place) e.ways).0 none;
+      may = (c.refused_exactly.ensures e.params 0 e.party (Deliver c.args.number place) e.ways).0 none;
     })
 
 pub returns-in-Err-clause-refusal : goal.returns-in-Err-clause-refusal

@@ -33,5 +33,5 @@ returns-clause-may c = λ far e.
       ways = e.ways;
       left = 0;
       holds = e.holds;
-      may = (c.of_refusals.ensures e.params 0 e.party Play e.ways).0 none;
+      may = (c.refused_exactly.ensures e.params 0 e.party Play e.ways).0 none;
     })

@@ -33,5 +33,5 @@ returns-clause-may c = λ far e.
       ways = e.ways;
       left = left;
       holds = e.holds;
-      may = (c.of_refusals.ensures e.params left e.party Send e.ways).0 none;
+      may = (c.refused_exactly.ensures e.params left e.party Send e.ways).0 none;
     })

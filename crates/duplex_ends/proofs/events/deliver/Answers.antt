@@ -4,7 +4,7 @@ use Rattle.std.proofs.lemmas.List.{append-nil}
 use Rattle.h263_types.specs.declared.params.Params.{Params}
 use Rattle.call_encoding.specs.Frames.{Frame}
 use Rattle.call_model.specs.IdealCall.{Deliver}
-use Rattle.duplex_call.specs.declared.carrier.Carried.{Carried}
+use Rattle.duplex_call.specs.declared.queue.Carried.{Carried}
 use Rattle.duplex_call.specs.Duplex.{WayRun, brings, brought, other, way, with_delivery}
 use Rattle.duplex_call.specs.Waiting.{Waits}
 use Rattle.duplex_ends.specs.declared.party.PartyEnds.{PartyEnds}
@@ -30,8 +30,8 @@ returns-clause-holds c = λ p x ways left h may.
     let far = c.args.far.now in
     let one = h.own_holds in
     let two = h.far_holds in
-    let calls = c.of_the_ends.ensures P (h.in_range x) in
-    let nears = c.of_near_events.ensures P (h.in_range x) in
+    let calls = c.call_laws.ensures P (h.in_range x) in
+    let nears = c.near_event_laws.ensures P (h.in_range x) in
     let near = near_now P Q (h.in_range x) calls nears own w v one left n j may.0 in
     let last = among P Q (h.in_range x) calls nears own w v one left n j may.0 in
     let next : WayRun Frame = record w { past = Deliver n j ∷ w.past } in
@@ -42,9 +42,9 @@ returns-clause-holds c = λ p x ways left h may.
     let says = told.ensures.says P own.sender [] w.frames w.past one.done last in
     let before = agrees P Q (h.in_range x) calls nears own w v one left n j may.0 in
     let now = agree P (h.in_range x) calls nears own.way own.sender told.new.receiver next done in
-    let more : told_by P next ≡ told_by P w ++ said_as P.clock n told.result = told_more P (c.of_said.ensures P (h.in_range x)) w (Deliver n j) n told.result _ refl says before now in
+    let more : told_by P next ≡ told_by P w ++ said_as P.clock n told.result = told_more P (c.said_laws.ensures P (h.in_range x)) w (Deliver n j) n told.result _ refl says before now in
     let same : told_by Q back ≡ told_by Q v ++ [] = told_still Q v ks ∙ sym (append-nil (told_by Q v)) in
-    let new_own : PartyEnds = record own { receiver = told.new.receiver } in
+    let new_own : PartyEnds = record own { far_end = told.new.receiver } in
     let new_far : PartyEnds = record far { sender = c.bring_carried.new.sender; waiting = c.put_by.new.waiting } in
     let waits : Waits own.waiting (drop w.loaded (told_by Q v) ++ []) = subst (λ (l : List Carried). Waits own.waiting l) (sym (append-nil (drop w.loaded (told_by Q v)))) one.waits in
     let said : Waits c.put_by.new.waiting (drop v.loaded (told_by P w) ++ said_as P.clock n told.result) =

@@ -62,8 +62,8 @@ returns-clause-holds c = λ p x ways left h may.
     let w = way x ways in
     let one = h.own_holds in
     let has = one.done.packets in
-    let many = count_so (p x) (p (other x)) (h.in_range x) (c.of_the_ends.ensures (p x) (h.in_range x)) (c.of_near_events.ensures (p x) (h.in_range x)) c.args.own.now w (way (other x) ways) one left n 0 may.0
-    (c.of_messages.ensures (p x)).count
+    let many = count_so (p x) (p (other x)) (h.in_range x) (c.call_laws.ensures (p x) (h.in_range x)) (c.near_event_laws.ensures (p x) (h.in_range x)) c.args.own.now w (way (other x) ways) one left n 0 may.0
+    (c.message_laws.ensures (p x)).count
     in
     let all : c.packets.place ≡ length (slices_at (call_in p x ways).coded n) =
     omega (arith, c.packets-test.false, c.packets.auto.place-end, c.count-count.ensures.packets has.pictures has.keeps, many)

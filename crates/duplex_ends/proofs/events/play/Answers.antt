@@ -10,7 +10,7 @@ use Rattle.call_rings.specs.Keeping.{period_of}
 use Rattle.receiver_end.specs.Answers.{mark_of}
 use Rattle.one_way.specs.declared.way.Way.{Way}
 use Rattle.one_way.specs.Way.{CanSend}
-use Rattle.duplex_call.specs.declared.carrier.Carried.{Carried}
+use Rattle.duplex_call.specs.declared.queue.Carried.{Carried}
 use Rattle.duplex_call.specs.Duplex.{WayRun, other, way, with_play}
 use Rattle.duplex_call.specs.Waiting.{Waits}
 use Rattle.duplex_ends.specs.declared.party.PartyEnds.{PartyEnds}
@@ -24,7 +24,7 @@ use Rattle.duplex_ends.proofs.events.play.Goals as goal
 pub play-played-requires-clause-played : goal.play-played-requires-clause-played
 play-played-requires-clause-played c =
     let e = c.requires in
-    let laws = c.of_pairs.ensures e.params in
+    let laws = c.pair_laws.ensures e.params in
     let sent = laws.sent e.party c.args.own.now c.args.far.now e.ways e.holds in
     let played = laws.played e.party c.args.own.now c.args.far.now e.ways e.holds in
     omega (arith, e.may, sent, played, e.holds.own_holds.few)
@@ -32,7 +32,7 @@ play-played-requires-clause-played c =
 pub play-played-requires-clause-counted : goal.play-played-requires-clause-counted
 play-played-requires-clause-counted c =
     let e = c.requires in
-    let laws = c.of_pairs.ensures e.params in
+    let laws = c.pair_laws.ensures e.params in
     let sent = laws.sent e.party c.args.own.now c.args.far.now e.ways e.holds in
     let played = laws.played e.party c.args.own.now c.args.far.now e.ways e.holds in
     omega (arith, e.may, sent, played, e.holds.own_holds.few, e.holds.own_holds.counted)
@@ -42,9 +42,9 @@ returns-clause-mark c = λ p x ways left h may.
     let P = p x in
     let w = way x ways in
     let own = c.args.own.now in
-    let calls = c.of_the_ends.ensures P (h.in_range x) in
-    let nears = c.of_near_events.ensures P (h.in_range x) in
-    let near = plays P (h.in_range x) calls nears own.way own.sender own.receiver w h.own_holds.done left may in
+    let calls = c.call_laws.ensures P (h.in_range x) in
+    let nears = c.near_event_laws.ensures P (h.in_range x) in
+    let near = plays P (h.in_range x) calls nears own.way own.sender own.far_end w h.own_holds.done left may in
     let next : WayRun Frame = record w { past = Play ∷ w.past } in
     let done = c.play-played.ensures.holds P own.sender [] w.frames w.past h.own_holds.done near in
     let now = agree P (h.in_range x) calls nears c.play-played.new.self own.sender c.play-played.new.receiver next done in
@@ -63,18 +63,18 @@ returns-clause-holds c = λ p x ways left h may.
     let far = c.args.far.now in
     let one = h.own_holds in
     let two = h.far_holds in
-    let calls = c.of_the_ends.ensures P (h.in_range x) in
-    let nears = c.of_near_events.ensures P (h.in_range x) in
-    let near = plays P (h.in_range x) calls nears own.way own.sender own.receiver w one.done left may in
+    let calls = c.call_laws.ensures P (h.in_range x) in
+    let nears = c.near_event_laws.ensures P (h.in_range x) in
+    let near = plays P (h.in_range x) calls nears own.way own.sender own.far_end w one.done left may in
     let next : WayRun Frame = record w { past = Play ∷ w.past } in
     let told = c.play-played in
     let done = told.ensures.holds P own.sender [] w.frames w.past one.done near in
     let says = told.ensures.says P own.sender [] w.frames w.past one.done in
-    let before = agree P (h.in_range x) calls nears own.way own.sender own.receiver w one.done in
+    let before = agree P (h.in_range x) calls nears own.way own.sender own.far_end w one.done in
     let now = agree P (h.in_range x) calls nears told.new.self own.sender told.new.receiver next done in
-    let n = own.receiver.played in
-    let more : told_by P next ≡ told_by P w ++ said_as P.clock n told.result.message = told_more P (c.of_said.ensures P (h.in_range x)) w Play n told.result.message _ refl says before now in
-    let new_own : PartyEnds = record own { way = told.new.self; receiver = told.new.receiver } in
+    let n = own.far_end.played in
+    let more : told_by P next ≡ told_by P w ++ said_as P.clock n told.result.message = told_more P (c.said_laws.ensures P (h.in_range x)) w Play n told.result.message _ refl says before now in
+    let new_own : PartyEnds = record own { way = told.new.self; far_end = told.new.receiver } in
     let new_far : PartyEnds = record far { waiting = c.put_by.new.waiting } in
     let waits : Waits own.waiting (drop w.loaded (told_by Q v) ++ []) = subst (λ (l : List Carried). Waits own.waiting l) (sym (append-nil (drop w.loaded (told_by Q v)))) one.waits in
     let said : Waits c.put_by.new.waiting (drop v.loaded (told_by P w) ++ said_as P.clock n told.result.message) =
@@ -82,7 +82,7 @@ returns-clause-holds c = λ p x ways left h may.
     (subst (λ (q : Params). Waits c.put_by.new.waiting (drop v.loaded (told_by P w) ++ said_as q.clock c.play-played.result.number told.result.message)) one.params
     (c.put_by.ensures (drop v.loaded (told_by P w)) two.waits))
     in
-    let laws = c.of_pairs.ensures p in
+    let laws = c.pair_laws.ensures p in
     let sent = laws.sent x own far ways h in
     let played = laws.played x own far ways h in
     let can : CanSend told.new.self own.sender = subst (λ (way : Way). CanSend way own.sender) (sym told.ensures.others) (record {

@@ -13,4 +13,4 @@ returns-in-Ok-clause-untaken c = λ status two.
 
 pub returns-in-Ok-clause-stands : goal.returns-in-Ok-clause-stands
 returns-in-Ok-clause-stands c = λ p past before.
-    c.hear.ensures.stands p past (subst (λ (o : Option End). HoldsReceiver p past o) c.end_mut.ensures.value before)
+    c.arrival.ensures.stands p past (subst (λ (o : Option End). HoldsReceiver p past o) c.end_mut.ensures.value before)

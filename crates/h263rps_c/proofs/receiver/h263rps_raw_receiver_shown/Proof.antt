@@ -29,15 +29,15 @@ use Rattle.core.specs.contracts.result.Result as results
 use Rattle.core.proofs.result.Result.TheLaws as result_laws
 use Rattle.std.proofs.raw_atomic.Walks.{proved, leaves}
 use Rattle.h263rps_c.specs.declared.receiver.Lent.{Lent}
-use Rattle.h263rps_c.specs.declared.refusals.Refusal.{Refusal}
+use Rattle.h263rps_c.specs.declared.refusals.EndRefusal.{EndRefusal}
 use Rattle.h263rps_c.specs.Refusals.{refusal_in, status_of}
 use Rattle.h263rps_c.specs.Slots.{for_receiver, never}
 use Rattle.h263rps_c.specs.Ends.{ShowsPicture}
 use Rattle.h263rps_c.specs.Returned.{KeepsEnd}
 use Rattle.h263rps_c.specs.contracts.handles.Slot as slots
 use Rattle.h263rps_c.specs.contracts.receiver.Lent as lents
-use Rattle.h263rps_c.specs.contracts.refusals.Refusal as refusals
-use Rattle.h263rps_c.proofs.refusals.Refusal.TheLaws as refusal_laws
+use Rattle.h263rps_c.specs.contracts.refusals.EndRefusal as refusals
+use Rattle.h263rps_c.proofs.refusals.EndRefusal.TheLaws as refusal_laws
 use Rattle.h263rps_c.specs.contracts.receiver.samples_in as f
 use Rattle.h263rps_c.proofs.receiver.samples_in.Met as f-met
 use Rattle.h263rps_c.specs.contracts.receiver.note as g
@@ -58,7 +58,7 @@ stayed = (stay_dropped (mut_ref_to (0 ∷ []) tt slot_row) no, (gave_ref (1 ∷ 
 
 -- what `samples_in` answers
 abbrev Samples : Type 0
-Samples = Result (Bor (List ℕ)) Refusal
+Samples = Result (Bor (List ℕ)) EndRefusal
 
 abbrev samples_field : Lft → Field
 samples_field κ = shr_slice_field (named_lft 1 0 tt (κ, tt)) u8 tt

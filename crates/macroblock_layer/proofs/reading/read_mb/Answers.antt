@@ -43,4 +43,4 @@ pub returns : goal.returns
 unfolding mb reading
 returns c =
     let a = c.args in
-    every c.in_a_syntax.ensures a.kind a.quant a.reach a.predictor c.read_behind.result c.read_behind.new.out a.reader.now c.read_behind.new.reader (c.in_a_syntax-2.ensures.productive a.kind a.quant a.reach a.predictor) (search rules)
+    every c.in_a_syntax.ensures a.kind a.quant a.reach a.predictor c.read_after_lead.result c.read_after_lead.new.out a.reader.now c.read_after_lead.new.reader (c.in_a_syntax-2.ensures.productive a.kind a.quant a.reach a.predictor) (search rules)

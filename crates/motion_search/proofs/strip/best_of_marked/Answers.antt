@@ -5,7 +5,7 @@ use Rattle.std.proofs.lemmas.Int.{ints}
 use Rattle.h263_planes.specs.Lent.{picture}
 use Rattle.motion_search.specs.Cost.{candidate_of}
 use Rattle.motion_search.specs.Vectors.{whole_at}
-use Rattle.motion_search.specs.SoFar.{IsBehind}
+use Rattle.motion_search.specs.SoFar.{IsNoBetter}
 use Rattle.motion_search.proofs.Strips.{marked_or_kept}
 use Rattle.motion_search.proofs.strip.best_of_marked.Goals as goal
 
@@ -20,7 +20,7 @@ loop-left-preserved c =
     let w = c.args.window in
     let next = c.better_in_row-first in
     let seen = c.lowest-i.result in
-    let of = λ (i : ℕ). i < 16 → c.args.column + i < 2 * w.radius + 1 → IsBehind w (c.args.column + i) c.args.row next.result in
+    let of = λ (i : ℕ). i < 16 → c.args.column + i < 2 * w.radius + 1 → IsNoBetter w (c.args.column + i) c.args.row next.result in
     record {
       so_far = next.ensures.so_far;
       kept = λ d h. next.ensures.kept d (c.loop-left.invariant.kept d h);

@@ -2,7 +2,7 @@ use Rattle.std.proofs.Common.{arith, below_more, ◌<◌, ◌+◌, ◌*◌}
 use Rattle.h263_planes.specs.Lent.{picture}
 use Rattle.motion_search.specs.Cost.{candidate_of}
 use Rattle.motion_search.specs.Vectors.{whole_at}
-use Rattle.motion_search.specs.SoFar.{IsBehind}
+use Rattle.motion_search.specs.SoFar.{IsNoBetter}
 use Rattle.motion_search.proofs.Reaches.{between_rows, after_first_row, before_end_row, end_is, first_is, row_inside, row_ends, column_starts, column_ends, reached_column_ends}
 use Rattle.motion_search.proofs.Strips.{next_place, row_near, unmarked_not_before}
 use Rattle.motion_search.proofs.strip.best_of_strip.Goals as goal
@@ -80,7 +80,7 @@ loop-row-preserved c =
       so_far = next.ensures.so_far;
       kept = λ d h. next.ensures.kept d (inv.kept d h);
       none = λ m i hm.
-          below_more (λ m. i < 16 → c.args.column + i < 2 * w.radius + 1 → IsBehind w (c.args.column + i) m next.result) c.loop-row.row
+          below_more (λ m. i < 16 → c.args.column + i < 2 * w.radius + 1 → IsNoBetter w (c.args.column + i) m next.result) c.loop-row.row
           (λ m hm hi hc reached. next.ensures.kept (candidate_of w.block.now p w.mb 0 (whole_at w.radius (c.args.column + i) m)) (inv.none m i hm hi hc reached))
           (λ hi hc. next.ensures.none i hi hc) m hm;
     }

@@ -4,7 +4,7 @@ use Rattle.h263_planes.specs.Lent.{picture}
 use Rattle.motion_search.specs.Cost.{candidate_of}
 use Rattle.motion_search.specs.Order.{before}
 use Rattle.motion_search.specs.Vectors.{whole_at}
-use Rattle.motion_search.specs.SoFar.{IsBehind}
+use Rattle.motion_search.specs.SoFar.{IsNoBetter}
 use Rattle.motion_search.proofs.Reaches.{from_first, before_end, end_is, first_is}
 use Rattle.motion_search.proofs.Strips.{seen_or_next}
 use Rattle.motion_search.proofs.whole.best_of_strips.Goals as goal
@@ -40,7 +40,7 @@ loop-column-preserved c =
           (λ before_it _. next.ensures.kept (candidate_of w.block.now (picture w.reference) w.mb 0 (whole_at w.radius n m)) (inv.none m n hm hn before_it reached))
           (λ from to.
           let place : column + (n - column) ≡ n = omega (arith, from) in
-          subst (λ (k : ℕ). k < 2 * w.radius + 1 → IsBehind w k m next.result) place (λ hc. next.ensures.none m (n - column) hm (omega (arith, from, to)) hc) hn reached) to;
+          subst (λ (k : ℕ). k < 2 * w.radius + 1 → IsNoBetter w k m next.result) place (λ hc. next.ensures.none m (n - column) hm (omega (arith, from, to)) hc) hn reached) to;
     }
 
 pub loop-column-smaller : goal.loop-column-smaller

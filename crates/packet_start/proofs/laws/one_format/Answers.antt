@@ -5,4 +5,4 @@ pub returns-clause-one : goal.returns-clause-one
 returns-clause-one c = one_format
 
 pub returns-clause-found : goal.returns-clause-found
-returns-clause-found c = found c.of_format.ensures
+returns-clause-found c = found c.start_is_of_format.ensures

@@ -12,7 +12,7 @@ returns-in_err-put_packets-clause-err g c =
     let outside = g.D.Desk.outside in
     let coded = c.args.coded.now in
     on_err _ c.from_residual.result
-    (c.of_turns.ensures.front_of_first (on Wire (packets_text c.args.sender.now.packets)) (on Report (picture_text coded.number None (Some coded.reference) None))
+    (c.turn_laws.ensures.front_of_first (on Wire (packets_text c.args.sender.now.packets)) (on Report (picture_text coded.number None (Some coded.reference) None))
     (outside c.args.desk.now).written (outside c.put_packets.new.desk).written c.in_err-put_packets.ensures.err)
 
 pub returns-clause-err : goal.returns-clause-err
@@ -23,6 +23,6 @@ returns-clause-err g c =
     let new = (outside c.put_line.new.desk).written in
     let line = picture_text coded.number None (Some coded.reference) None in
     on_err_so _ _ c.put_line.result c.put_line.ensures.err
-    (λ fronts. c.of_turns.ensures.front_of_second (on Wire (packets_text c.args.sender.now.packets)) (on Report line)
+    (λ fronts. c.turn_laws.ensures.front_of_second (on Wire (packets_text c.args.sender.now.packets)) (on Report line)
     (outside c.args.desk.now).written mid new c.in_ok-put_packets.ensures.ok
     (subst (λ (l : List ℕ). GainsFronts (on Report l) mid new) c.picture_line.ensures fronts))

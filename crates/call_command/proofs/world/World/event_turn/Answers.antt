@@ -5,23 +5,23 @@ use Rattle.loss_trace.specs.declared.event.Event.TheVariants as says
 use Rattle.call_rings.specs.Keeping.{period_of}
 use Rattle.call_model.specs.IdealCall.{Deliver, Back, Play, Send, slices_at}
 use Rattle.call_encoding.specs.Frames.{Frame}
-use Rattle.one_way.specs.declared.refusals.Refusal.{Refusal}
+use Rattle.one_way.specs.declared.refusals.EventRefusal.{EventRefusal}
 use Rattle.one_way.specs.declared.way.Way.{Way}
 use Rattle.one_way.specs.Refused.{refusal_after}
 use Rattle.one_way.specs.Trace.{delivered}
 use Rattle.one_way.specs.Way.{CanSend, HoldsNetwork}
-use Rattle.call_command.specs.declared.carrier.Carrier.{Carrier}
+use Rattle.call_command.specs.declared.link.Link.{Link}
 use Rattle.call_command.specs.Call.{by_ends}
 use Rattle.call_command.specs.Standing.{HasDone, PartsStand, parts_of}
 use Rattle.call_command.specs.Refused.{IsNotRefused}
 use Rattle.call_command.specs.Turning.{Names, names_of}
-use Rattle.call_command.proofs.Behind.{asks_frame, count_same, done_here, event_goes, line_goes_on, line_stops, line_was_cut, none_so, message_is, packet_is, packets_is, play_cut, play_goes, refusal_here, stands_event}
+use Rattle.call_command.proofs.AfterTurn.{asks_frame, count_same, done_here, event_goes, line_goes_on, line_stops, line_was_cut, none_so, message_is, packet_is, packets_is, play_cut, play_goes, refusal_here, stands_event}
 use Rattle.call_command.proofs.Delivering.{delivered_goes_on}
 use Rattle.call_command.proofs.Readying.{can_still, few_mbs, ready_so}
 use Rattle.call_command.proofs.world.World.event_turn.Goals as goal
 
 -- a play that is not refused is behind what was sent
-ahead_so : (r : Result Unit Refusal) (played sent : ℕ) → IsNotRefused r → OnOk r (played < sent) → played < sent
+ahead_so : (r : Result Unit EventRefusal) (played sent : ℕ) → IsNotRefused r → OnOk r (played < sent) → played < sent
 ahead_so (Ok u) played sent free ahead = ahead
 ahead_so (Err told) played sent free ahead = absurd free
 
@@ -31,8 +31,8 @@ returns-in-Nothing g c =
     let m = c.args.self.now in
     let x = parts_of m in
     let r = c.requires.ready in
-    line_goes_on m _ c.args.line c.args.event says.Nothing old old c.in-Nothing.is refl refl r (c.of_steps.ensures.none old)
-    (λ o s inputs b. event_goes x s inputs b.stood x.sender x.receiver x.carrier refl refl c.of_turns.ensures o old b.taken says.Nothing s.past refl b.stood.holds)
+    line_goes_on m _ c.args.line c.args.event says.Nothing old old c.in-Nothing.is refl refl r (c.step_laws.ensures.none old)
+    (λ o s inputs b. event_goes x s inputs b.stood x.sender x.receiver x.link refl refl c.turn_laws.ensures o old b.taken says.Nothing s.past refl b.stood.holds)
 
 -- ---- a frame
 
@@ -42,7 +42,7 @@ returns-in_err-allow-in-Send g c =
     let m = c.args.self.now in
     let p = m.terms.params in
     line_stops m c.args.line c.args.event says.Send _ c.in_err-allow-in-Send.field-0.0 c.check_capture.result old c.in-Send.is c.from_residual.ensures.1 c.in_err-allow-in-Send.ensures.err
-    c.requires.recorded c.of_turns.ensures c.of_steps.ensures
+    c.requires.recorded c.turn_laws.ensures c.step_laws.ensures
     (λ o s inputs b. c.check_capture.ensures p s.before s.frames s.past c.half-half.ensures (done_here (parts_of m) s inputs b.stood).way_holds.joined)
 
 pub returns-in_ok-allow-in-Send : goal.returns-in_ok-allow-in-Send
@@ -63,7 +63,7 @@ returns-in_err-allow-in-Packet g c =
     let m = c.args.self.now in
     let p = m.terms.params in
     line_stops m c.args.line c.args.event (says.Packet c.in-Packet.number c.in-Packet.place) _ c.in_err-allow-in-Packet.field-0.0 c.check_packet.result old c.in-Packet.is c.from_residual-in_err-allow-in-Packet.ensures.1 c.in_err-allow-in-Packet.ensures.err
-    c.requires.recorded c.of_turns.ensures c.of_steps.ensures
+    c.requires.recorded c.turn_laws.ensures c.step_laws.ensures
     (λ o s inputs b. c.check_packet.ensures p s.before s.frames s.past c.in-Packet.place c.half-half.ensures (done_here (parts_of m) s inputs b.stood).way_holds.joined)
 
 pub returns-in_err-allow-in-All : goal.returns-in_err-allow-in-All
@@ -72,7 +72,7 @@ returns-in_err-allow-in-All g c =
     let m = c.args.self.now in
     let p = m.terms.params in
     line_stops m c.args.line c.args.event (says.All c.in-All.number) _ c.in_err-allow-in-All.field-0.0 c.check_packet-in-All.result old c.in-All.is c.from_residual-in_err-allow-in-All.ensures.1 c.in_err-allow-in-All.ensures.err
-    c.requires.recorded c.of_turns.ensures c.of_steps.ensures
+    c.requires.recorded c.turn_laws.ensures c.step_laws.ensures
     (λ o s inputs b. c.check_packet-in-All.ensures p s.before s.frames s.past 0 c.half-half.ensures (done_here (parts_of m) s inputs b.stood).way_holds.joined)
 
 pub returns-in_ok-allow-in-Packet : goal.returns-in_ok-allow-in-Packet
@@ -84,7 +84,7 @@ returns-in_ok-allow-in-Packet g c =
     let j = c.in-Packet.place in
     let done = c.deliver in
     delivered_goes_on m _ c.args.line c.args.event (says.Packet n j) n j (g.D.Desk.outside c.args.desk.now) done.new.self done.new.receiver (λ s. Deliver n j ∷ s.past) c.in-Packet.is refl refl
-    r c.requires.recorded done.ensures.way done.ensures.played (omega (arith, done.ensures.few, c.requires.room)) (c.of_near_events.ensures p r.opens.params) c.of_turns.ensures c.of_steps.ensures
+    r c.requires.recorded done.ensures.way done.ensures.played (omega (arith, done.ensures.few, c.requires.room)) (c.near_event_laws.ensures p r.opens.params) c.turn_laws.ensures c.step_laws.ensures
     (λ s inputs k. packet_is (parts_of m) s inputs k n j)
     (λ s frames begun h. none_so c.check_packet.result (Deliver n j) _ c.in_ok-allow-in-Packet.ensures.ok (c.check_packet.ensures p s.before frames s.past j c.half-half.ensures h.way_holds.joined))
     (λ s inputs k later may. done.ensures.holds p m.sender.now s.before (s.frames ++ later) s.past (k.holds later) may.0 may.1)
@@ -98,7 +98,7 @@ returns-in_ok-allow-in-All g c =
     let n = c.in-All.number in
     let done = c.deliver_all in
     delivered_goes_on m _ c.args.line c.args.event (says.All n) n 0 (g.D.Desk.outside c.args.desk.now) done.new.self done.new.receiver (λ s. delivered n (length (slices_at (by_ends s).coded n)) ++ s.past) c.in-All.is refl refl
-    r c.requires.recorded done.ensures.way done.ensures.played (omega (arith, done.ensures.few, c.requires.room, r.can.most, few_mbs x.sender.params.format)) (c.of_near_events.ensures p r.opens.params) c.of_turns.ensures c.of_steps.ensures
+    r c.requires.recorded done.ensures.way done.ensures.played (omega (arith, done.ensures.few, c.requires.room, r.can.most, few_mbs x.sender.params.format)) (c.near_event_laws.ensures p r.opens.params) c.turn_laws.ensures c.step_laws.ensures
     (λ s inputs k. packets_is x s inputs k n)
     (λ s frames begun h. none_so c.check_packet-in-All.result (Deliver n 0) _ c.in_ok-allow-in-All.ensures.ok (c.check_packet-in-All.ensures p s.before frames s.past 0 c.half-half.ensures h.way_holds.joined))
     (λ s inputs k later may.
@@ -113,7 +113,7 @@ returns-in_err-allow-in-Back g c =
     let m = c.args.self.now in
     let p = m.terms.params in
     line_stops m c.args.line c.args.event (says.Back c.in-Back.message) _ c.in_err-allow-in-Back.field-0.0 c.check_back.result old c.in-Back.is c.from_residual-in_err-allow-in-Back.ensures.1 c.in_err-allow-in-Back.ensures.err
-    c.requires.recorded c.of_turns.ensures c.of_steps.ensures
+    c.requires.recorded c.turn_laws.ensures c.step_laws.ensures
     (λ o s inputs b. c.check_back.ensures p m.receiver.now s.before s.frames s.past c.requires.ready.opens.params c.half-half.ensures b.stood.begun (done_here (parts_of m) s inputs b.stood))
 
 pub returns-in_ok-allow-in-Back : goal.returns-in_ok-allow-in-Back
@@ -128,17 +128,17 @@ returns-in_ok-allow-in-Back g c =
     let sender = done.new.sender in
     line_goes_on m _ c.args.line c.args.event (says.Back k) old old c.in-Back.is
     (ap (λ (q : FixedPace). let names : Names = record (names_of m) { pace = q } in names) done.ensures.same.pace) refl
-    (ready_so x old.attached old.attached r refl x.video sender x.receiver x.carrier refl done.ensures.same.params (done.ensures.ready r.can) refl
+    (ready_so x old.attached old.attached r refl x.video sender x.receiver x.link refl done.ensures.same.params (done.ensures.ready r.can) refl
     (omega (arith, r.sent, done.ensures.sent)) (omega (arith, r.played, done.ensures.sent)) (λ plain. absurd (cc (plain, c.requires.recorded))) r.frame (λ plain. absurd (cc (plain, c.requires.recorded)))
     r.counted (omega (arith, c.requires.room, done.ensures.sent)))
-    (c.of_steps.ensures.none old)
+    (c.step_laws.ensures.none old)
     (λ o s inputs b.
     let stood = b.stood in
-    let near_laws = c.of_near_events.ensures p r.opens.params in
+    let near_laws = c.near_event_laws.ensures p r.opens.params in
     let none : (frames : List Frame) → HasDone x s.before frames s.past → refusal_after p s.before frames s.past (Back k) ≡ None =
     λ frames h. none_so c.check_back.result (Back k) _ c.in_ok-allow-in-Back.ensures.ok (c.check_back.ensures p m.receiver.now s.before frames s.past r.opens.params c.half-half.ensures stood.begun h)
     in
-    event_goes x s inputs stood sender x.receiver x.carrier refl done.ensures.sent c.of_turns.ensures o old b.taken (says.Back k) (Back k ∷ s.past)
+    event_goes x s inputs stood sender x.receiver x.link refl done.ensures.sent c.turn_laws.ensures o old b.taken (says.Back k) (Back k ∷ s.past)
     (message_is x s inputs stood k (none s.frames (done_here x s inputs stood)))
     (λ later.
     let frames = s.frames ++ later in
@@ -154,7 +154,7 @@ returns-in_err-allow-in-Play g c =
     let m = c.args.self.now in
     let p = m.terms.params in
     line_stops m c.args.line c.args.event says.Play _ c.in_err-allow-in-Play.field-0.0 c.check_play.result old c.in-Play.is c.from_residual-in_err-allow-in-Play.ensures.1 c.in_err-allow-in-Play.ensures.err
-    c.requires.recorded c.of_turns.ensures c.of_steps.ensures
+    c.requires.recorded c.turn_laws.ensures c.step_laws.ensures
     (λ o s inputs b. c.check_play.ensures.refusal p s.before s.frames s.past (done_here (parts_of m) s inputs b.stood).way_holds.joined)
 
 pub returns-in_err-play_next-in-Play : goal.returns-in_err-play_next-in-Play
@@ -168,15 +168,15 @@ returns-in_err-play_next-in-Play g c =
     let r = c.requires.ready in
     line_was_cut m _ c.args.line c.args.event says.Play c.from_residual-in_err-play_next-in-Play.result c.in_err-play_next-in-Play.field-0.0 old new c.in-Play.is c.from_residual-in_err-play_next-in-Play.ensures.1 refl
     c.in_err-play_next-in-Play.ensures.kind c.in_err-play_next-in-Play.ensures.cause
-    (c.of_steps.ensures.writes old new c.play_next.ensures.rest)
+    (c.step_laws.ensures.writes old new c.play_next.ensures.rest)
     (λ o s inputs b.
     let k = b.stood in
     let h = done_here x s inputs k in
-    let near_laws = c.of_near_events.ensures p r.opens.params in
+    let near_laws = c.near_event_laws.ensures p r.opens.params in
     let none : refusal_after p s.before s.frames s.past Play ≡ None =
     none_so c.check_play.result Play _ c.in_ok-allow-in-Play.ensures.ok (c.check_play.ensures.refusal p s.before s.frames s.past h.way_holds.joined)
     in
-    play_cut x s inputs k (c.of_the_way.ensures p) o old new b.taken c.play_next.ensures.rest.left none
+    play_cut x s inputs k (c.way_laws.ensures p) o old new b.taken c.play_next.ensures.rest.left none
     (c.in_err-play_next-in-Play.ensures.err p x.sender s.before s.frames s.past k.begun h (near_laws.play s.before s.frames s.past none)))
 
 pub returns-in_ok-play_next-in-Play : goal.returns-in_ok-play_next-in-Play
@@ -190,23 +190,23 @@ returns-in_ok-play_next-in-Play g c =
     let r = c.requires.ready in
     let played = c.play_next.ensures in
     let ahead : x.receiver.played < x.sender.sent = ahead_so c.check_play.result x.receiver.played x.sender.sent c.in_ok-allow-in-Play.ensures.ok c.check_play.ensures.ahead in
-    let carrier : Carrier = record x.carrier { network = c.play_next.new.network } in
+    let link : Link = record x.link { network = c.play_next.new.network } in
     line_goes_on m _ c.args.line c.args.event says.Play old new c.in-Play.is refl refl
-    (ready_so x old.attached new.attached r played.rest.attached x.video x.sender c.play_next.new.receiver carrier refl refl
-    (subst (λ (w : Way). CanSend w x.sender) (sym played.way) (can_still x.carrier.network.way c.play_next.new.network.way.tally x.sender r.can))
+    (ready_so x old.attached new.attached r played.rest.attached x.video x.sender c.play_next.new.receiver link refl refl
+    (subst (λ (w : Way). CanSend w x.sender) (sym played.way) (can_still x.link.network.way c.play_next.new.network.way.tally x.sender r.can))
     (ap (λ (w : Way). period_of w.packets) played.way)
     r.sent (omega (arith, played.played, ahead)) (λ plain. absurd (cc (plain, c.requires.recorded))) r.frame (λ plain. absurd (cc (plain, c.requires.recorded)))
     played.counted (omega (arith, played.few, c.requires.room)))
-    (c.of_steps.ensures.writes old new played.rest)
+    (c.step_laws.ensures.writes old new played.rest)
     (λ o s inputs b.
     let k = b.stood in
-    let near_laws = c.of_near_events.ensures p r.opens.params in
+    let near_laws = c.near_event_laws.ensures p r.opens.params in
     let none : (frames : List Frame) → HasDone x s.before frames s.past → refusal_after p s.before frames s.past Play ≡ None =
     λ frames h. none_so c.check_play.result Play _ c.in_ok-allow-in-Play.ensures.ok (c.check_play.ensures.refusal p s.before frames s.past h.way_holds.joined)
     in
     let here = done_here x s inputs k in
-    play_goes x s inputs k (c.of_the_way.ensures p) o old new b.taken played.rest.left (none s.frames here) (PartsStand (record x { receiver = c.play_next.new.receiver; carrier = carrier }))
-    (stands_event x s inputs k x.sender c.play_next.new.receiver carrier refl refl (Play ∷ s.past)
+    play_goes x s inputs k (c.way_laws.ensures p) o old new b.taken played.rest.left (none s.frames here) (PartsStand (record x { receiver = c.play_next.new.receiver; link = link }))
+    (stands_event x s inputs k x.sender c.play_next.new.receiver link refl refl (Play ∷ s.past)
     (λ later. played.holds p x.sender s.before (s.frames ++ later) s.past (k.holds later) (near_laws.play s.before (s.frames ++ later) s.past (none (s.frames ++ later) (k.holds later)))))
     (c.in_ok-play_next-in-Play.ensures.ok p x.sender s.before s.frames s.past k.begun here (near_laws.play s.before s.frames s.past (none s.frames here))))
 

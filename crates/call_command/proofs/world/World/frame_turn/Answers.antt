@@ -13,7 +13,7 @@ use Rattle.y4m.specs.Reader.{Moves}
 use Rattle.y4m.specs.Frame.{frame_size}
 use Rattle.call_report.specs.declared.status.Status.TheVariants.{Ok as Fine}
 use Rattle.call_report.specs.Status.{phase, video_stop}
-use Rattle.desk_program.specs.Run.{Step, behind}
+use Rattle.desk_program.specs.Run.{Step, left_after}
 use Rattle.desk_program.specs.Ends.{Ended, GainsFronts, GivesUp, Went, step_texts}
 use Rattle.desk_program.specs.Texts.{of}
 use Rattle.call_rings.specs.Keeping.{period_of}
@@ -25,7 +25,7 @@ use Rattle.one_way.specs.Trace.{delivered, passed_on}
 use Rattle.one_way.specs.Way.{CanSend, HoldsNetwork}
 use Rattle.call_encoding.specs.Frames.{Frame}
 use Rattle.call_model.specs.IdealCall.{Send}
-use Rattle.call_command.specs.declared.carrier.Carrier.{Carrier}
+use Rattle.call_command.specs.declared.link.Link.{Link}
 use Rattle.call_command.specs.Call.{CallState, may_read}
 use Rattle.call_command.specs.Standing.{PartsStand, parts_of, state_of}
 use Rattle.call_command.specs.Turning.{Names, names_of}
@@ -43,13 +43,13 @@ returns-in_err-frame g c =
     let m = c.args.self.now in
     let x = parts_of m in
     let stop = c.in_err-frame.field-0.0 in
-    turn_gave_up m _ old mid c.from_residual.result (video_stop stop) c.from_residual.ensures.1 refl (video_answers m.terms.plain stop) (c.of_steps.ensures.video_stops stop)
-    (c.of_steps.ensures.video_cause stop old.faults mid.faults (λ is. c.in_err-frame.ensures.cause (ap (λ e. Err e) is))) (c.of_steps.ensures.reads old mid c.frame.ensures.rest)
+    turn_gave_up m _ old mid c.from_residual.result (video_stop stop) c.from_residual.ensures.1 refl (video_answers m.terms.plain stop) (c.step_laws.ensures.video_stops stop)
+    (c.step_laws.ensures.video_cause stop old.faults mid.faults (λ is. c.in_err-frame.ensures.cause (ap (λ e. Err e) is))) (c.step_laws.ensures.reads old mid c.frame.ensures.rest)
     (λ s inputs k told.
     let here = state_of x s.before s.frames s.past in
     let e = gives_so (Err stop) here x.video c.frame.new.self (inputs Video) c.frame.new.out _ refl refl c.requires.ready.format (c.in_err-frame.ensures.gives (inputs Video) (told Video refl)) in
     plainly x s inputs k.is c.requires.plain (λ (step : Step CallState) (now : Bool). GivesUp (phase (video_stop stop)) (video_stop stop) step now inputs old mid)
-    (frame_stops c.of_turns.ensures c.of_the_video.ensures inputs old mid told c.frame.ensures.others c.frame.ensures.rest.written here (c.requires.ready.unread c.requires.plain) stop c.frame.new.out c.frame.new.self e))
+    (frame_stops c.turn_laws.ensures c.video_laws.ensures inputs old mid told c.frame.ensures.others c.frame.ensures.rest.written here (c.requires.ready.unread c.requires.plain) stop c.frame.new.out c.frame.new.self e))
     (λ s stand. stand)
 
 pub returns-in_err-tell_counts : goal.returns-in_err-tell_counts
@@ -60,16 +60,16 @@ returns-in_err-tell_counts g c =
     let new = outside c.tell_counts.new.desk in
     let m = c.args.self.now in
     let x = parts_of m in
-    let counts = counts_of x.carrier.network.way.tally x.receiver.played x.sender.sent in
+    let counts = counts_of x.link.network.way.tally x.receiver.played x.sender.sent in
     turn_was_cut m _ old new c.from_residual-in_err-tell_counts.result c.in_err-tell_counts.field-0.0 c.from_residual-in_err-tell_counts.ensures.1 refl c.in_err-tell_counts.ensures.kind
     (c.calls.ensures.rose_since old.faults.write mid.faults.write new.faults.write c.frame.ensures.rest.faults.write c.in_err-tell_counts.ensures.cause)
-    (c.of_steps.ensures.both old mid new (c.of_steps.ensures.reads old mid c.frame.ensures.rest) (c.of_steps.ensures.writes mid new c.tell_counts.ensures.rest))
+    (c.step_laws.ensures.both old mid new (c.step_laws.ensures.reads old mid c.frame.ensures.rest) (c.step_laws.ensures.writes mid new c.tell_counts.ensures.rest))
     (λ s inputs k told.
     let here = state_of x s.before s.frames s.past in
     let e = given_so (Ok c.in_ok-frame.field-0) (Ok false) here x.video c.frame.new.self (inputs Video) c.frame.new.out _ (ap (λ (b : Bool). Ok b) c.if-not-branch.true) refl refl c.requires.ready.format (c.in_ok-frame.ensures.gives (inputs Video) (told Video refl)) in
     plainly x s inputs k.is c.requires.plain (λ (step : Step CallState) (now : Bool). GainsFronts (step_texts step) old.written new.written)
-    (end_cut c.of_turns.ensures c.of_the_video.ensures inputs old mid told c.frame.ensures.others c.frame.ensures.rest.written new c.tell_counts.ensures.rest.left here c.frame.new.out c.frame.new.self e
-    counts (counts_are x (c.of_the_way.ensures x.terms.params) s inputs k) c.in_err-tell_counts.ensures.err))
+    (end_cut c.turn_laws.ensures c.video_laws.ensures inputs old mid told c.frame.ensures.others c.frame.ensures.rest.written new c.tell_counts.ensures.rest.left here c.frame.new.out c.frame.new.self e
+    counts (counts_are x (c.way_laws.ensures x.terms.params) s inputs k) c.in_err-tell_counts.ensures.err))
 
 pub returns-then-not-branch : goal.returns-then-not-branch
 returns-then-not-branch g c =
@@ -79,14 +79,14 @@ returns-then-not-branch g c =
     let new = outside c.tell_counts.new.desk in
     let m = c.args.self.now in
     let x = parts_of m in
-    let counts = counts_of x.carrier.network.way.tally x.receiver.played x.sender.sent in
-    turn_is_over m _ old new refl (c.of_steps.ensures.both old mid new (c.of_steps.ensures.reads old mid c.frame.ensures.rest) (c.of_steps.ensures.writes mid new c.tell_counts.ensures.rest))
+    let counts = counts_of x.link.network.way.tally x.receiver.played x.sender.sent in
+    turn_is_over m _ old new refl (c.step_laws.ensures.both old mid new (c.step_laws.ensures.reads old mid c.frame.ensures.rest) (c.step_laws.ensures.writes mid new c.tell_counts.ensures.rest))
     (λ s inputs k told.
     let here = state_of x s.before s.frames s.past in
     let e = given_so (Ok c.in_ok-frame.field-0) (Ok false) here x.video c.frame.new.self (inputs Video) c.frame.new.out _ (ap (λ (b : Bool). Ok b) c.if-not-branch.true) refl refl c.requires.ready.format (c.in_ok-frame.ensures.gives (inputs Video) (told Video refl)) in
     plainly x s inputs k.is c.requires.plain (λ (step : Step CallState) (now : Bool). Ended step Fine inputs old new)
-    (video_ends c.of_turns.ensures c.of_the_video.ensures inputs old mid told c.frame.ensures.others c.frame.ensures.rest.written new c.tell_counts.ensures.rest.left here c.frame.new.out c.frame.new.self e
-    counts (counts_are x (c.of_the_way.ensures x.terms.params) s inputs k) c.in_ok-tell_counts.ensures.ok))
+    (video_ends c.turn_laws.ensures c.video_laws.ensures inputs old mid told c.frame.ensures.others c.frame.ensures.rest.written new c.tell_counts.ensures.rest.left here c.frame.new.out c.frame.new.self e
+    counts (counts_are x (c.way_laws.ensures x.terms.params) s inputs k) c.in_ok-tell_counts.ensures.ok))
     (λ s inputs k told.
     let here = state_of x s.before s.frames s.past in
     let e = given_so (Ok c.in_ok-frame.field-0) (Ok false) here x.video c.frame.new.self (inputs Video) c.frame.new.out _ (ap (λ (b : Bool). Ok b) c.if-not-branch.true) refl refl c.requires.ready.format (c.in_ok-frame.ensures.gives (inputs Video) (told Video refl)) in
@@ -109,15 +109,15 @@ returns-in_err-play_next g c =
     turn_was_cut m _ old new c.from_residual-in_err-play_next.result c.in_err-play_next.field-0.0 c.from_residual-in_err-play_next.ensures.1
     (ap (λ (q : FixedPace). let names : Names = record (names_of m) { pace = q } in names) c.send-sent.ensures.same.pace) c.in_err-play_next.ensures.kind
     (c.calls.ensures.rose_since old.faults.write mid.faults.write new.faults.write c.frame.ensures.rest.faults.write c.in_err-play_next.ensures.cause)
-    (c.of_steps.ensures.both old mid new (c.of_steps.ensures.reads old mid c.frame.ensures.rest) (c.of_steps.ensures.writes mid new c.play_next.ensures.rest))
+    (c.step_laws.ensures.both old mid new (c.step_laws.ensures.reads old mid c.frame.ensures.rest) (c.step_laws.ensures.writes mid new c.play_next.ensures.rest))
     (λ s inputs k told.
     let here = state_of x s.before s.frames s.past in
     let level = r.level c.requires.plain in
-    let laws = c.of_the_way.ensures p in
-    let events = c.of_events.ensures p in
+    let laws = c.way_laws.ensures p in
+    let events = c.event_laws.ensures p in
     let later_law = c.later_frames.ensures p in
     let e = given_so (Ok c.in_ok-frame.field-0) (Ok true) here x.video c.frame.new.self (inputs Video) out _ (ap (λ (b : Bool). Ok b) c.if-not-branch.false) refl refl r.format (c.in_ok-frame.ensures.gives (inputs Video) (told Video refl)) in
-    let out_is : c.deref.result.now ≡ out = lent x.carrier.frame out c.deref.result.now _ c.deref.ensures.value c.frame.auto.out c.deref_mut.ensures.len in
+    let out_is : c.deref.result.now ≡ out = lent x.link.frame out c.deref.result.now _ c.deref.ensures.value c.frame.auto.out c.deref_mut.ensures.len in
     let picture_is : picture c.new-frame.result ≡ picture_of p.format out = c.new-frame.ensures.picture ∙ ap (λ (l : List ℕ). picture_of p.format l) out_is in
     let all = s.frames ++ bare (picture_of p.format out) ∷ [] in
     let h = k.holds (bare (picture_of p.format out) ∷ []) in
@@ -131,7 +131,7 @@ returns-in_err-play_next g c =
     in
     let texts = texts_are x laws events later_law s inputs k level out n c.deliver_all.new.receiver.played number c.deliver_all.ensures.played in
     plainly x s inputs k.is c.requires.plain (λ (step : Step CallState) (now : Bool). GainsFronts (step_texts step) old.written new.written)
-    (frame_cut c.of_turns.ensures c.of_the_video.ensures inputs old mid told c.frame.ensures.others c.frame.ensures.rest.written new c.play_next.ensures.rest.left here (r.unread c.requires.plain) out c.frame.new.self e _ texts
+    (frame_cut c.turn_laws.ensures c.video_laws.ensures inputs old mid told c.frame.ensures.others c.frame.ensures.rest.written new c.play_next.ensures.rest.left here (r.unread c.requires.plain) out c.frame.new.self e _ texts
     (c.in_err-play_next.ensures.err p c.send-sent.new.sender s.before all _ k.begun delivered
     (may_play x laws events later_law s inputs k level out [] n (count_of x laws events later_law s inputs k level out [] n)))))
 
@@ -150,31 +150,31 @@ returns g c =
     let sender = c.send-sent.new.sender in
     let receiver = c.play_next.new.receiver in
     let network = c.play_next.new.network in
-    let carrier : Carrier = record x.carrier { frame = with_items x.carrier.frame out; network = network } in
+    let link : Link = record x.link { frame = with_items x.link.frame out; network = network } in
     let moves = subst (λ (b : Bool). Moves (Ok b) x.video c.frame.new.self) c.if-not-branch.false c.in_ok-frame.ensures.moves in
     let way = c.play_next.ensures.way ∙ ap (λ (w : Way). let counted : Way = record w { tally = network.way.tally } in counted) c.deliver_all.ensures.way in
-    let long : length carrier.frame.items ≡ size_of_picture p.format =
-    ap (λ (l : List ℕ). length l) (with_items_is x.carrier.frame out (omega (arith, c.frame.auto.out, c.deref_mut.ensures.len, x.carrier.frame.ok.0)))
-    ∙ omega (arith, c.frame.auto.out, c.deref_mut.ensures.len, x.carrier.frame.ok.0, r.frame)
+    let long : length link.frame.items ≡ size_of_picture p.format =
+    ap (λ (l : List ℕ). length l) (with_items_is x.link.frame out (omega (arith, c.frame.auto.out, c.deref_mut.ensures.len, x.link.frame.ok.0)))
+    ∙ omega (arith, c.frame.auto.out, c.deref_mut.ensures.len, x.link.frame.ok.0, r.frame)
     in
     let level = r.level c.requires.plain in
     turn_goes_on m _ old new (ap (λ (q : FixedPace). let names : Names = record (names_of m) { pace = q } in names) c.send-sent.ensures.same.pace)
-    (subst (λ (b : Bool). (if b then c.frame.new.self.more else 16777216 - x.carrier.trace.lines) + 1 ≡ (if b then x.video.more else 16777216 - x.carrier.trace.lines)) (sym c.requires.plain) moves.1)
-    (ready_so x old.attached new.attached r (c.play_next.ensures.rest.attached ∙ c.frame.ensures.rest.attached) c.frame.new.self sender receiver carrier moves.0 c.send-sent.ensures.same.params
+    (subst (λ (b : Bool). (if b then c.frame.new.self.more else 16777216 - x.link.trace.lines) + 1 ≡ (if b then x.video.more else 16777216 - x.link.trace.lines)) (sym c.requires.plain) moves.1)
+    (ready_so x old.attached new.attached r (c.play_next.ensures.rest.attached ∙ c.frame.ensures.rest.attached) c.frame.new.self sender receiver link moves.0 c.send-sent.ensures.same.params
     (subst (λ (w : Way). CanSend w sender) (sym way) (can_still c.send-sent.new.self.way network.way.tally sender c.send-sent.ensures.ready))
     (ap (λ (w : Way). period_of w.packets) way ∙ c.send-sent.ensures.kept)
     (omega (arith, r.sent, c.send-sent.ensures.sent, moves.1)) (omega (arith, r.played, c.send-sent.ensures.sent, c.play_next.ensures.played, c.deliver_all.ensures.played))
     (λ plain. omega (arith, level, c.send-sent.ensures.sent, c.play_next.ensures.played, c.deliver_all.ensures.played))
     long (λ plain. r.unread plain) c.play_next.ensures.counted
     (omega (arith, r.said, c.play_next.ensures.few, c.deliver_all.ensures.few, ap said_of c.send-sent.ensures.messages, c.send-sent.ensures.ready.most, few_mbs sender.params.format, c.send-sent.ensures.sent)))
-    (c.of_steps.ensures.both old mid new (c.of_steps.ensures.reads old mid c.frame.ensures.rest) (c.of_steps.ensures.writes mid new c.play_next.ensures.rest))
+    (c.step_laws.ensures.both old mid new (c.step_laws.ensures.reads old mid c.frame.ensures.rest) (c.step_laws.ensures.writes mid new c.play_next.ensures.rest))
     (λ s inputs k told.
     let here = state_of x s.before s.frames s.past in
-    let laws = c.of_the_way.ensures p in
-    let events = c.of_events.ensures p in
+    let laws = c.way_laws.ensures p in
+    let events = c.event_laws.ensures p in
     let later_law = c.later_frames.ensures p in
     let e = given_so (Ok c.in_ok-frame.field-0) (Ok true) here x.video c.frame.new.self (inputs Video) out _ (ap (λ (b : Bool). Ok b) c.if-not-branch.false) refl refl r.format (c.in_ok-frame.ensures.gives (inputs Video) (told Video refl)) in
-    let out_is : c.deref.result.now ≡ out = lent x.carrier.frame out c.deref.result.now _ c.deref.ensures.value c.frame.auto.out c.deref_mut.ensures.len in
+    let out_is : c.deref.result.now ≡ out = lent x.link.frame out c.deref.result.now _ c.deref.ensures.value c.frame.auto.out c.deref_mut.ensures.len in
     let picture_is : picture c.new-frame.result ≡ picture_of p.format out = c.new-frame.ensures.picture ∙ ap (λ (l : List ℕ). picture_of p.format l) out_is in
     let f : Frame = bare (picture_of p.format out) in
     let number = c.send-sent.ensures.number in
@@ -194,11 +194,11 @@ returns g c =
     (may_play x laws events later_law s inputs k level out later n (count_of x laws events later_law s inputs k level out later n))
     in
     let texts = texts_are x laws events later_law s inputs k level out n c.deliver_all.new.receiver.played number c.deliver_all.ensures.played in
-    let stands = PartsStand (record { terms = x.terms; video = c.frame.new.self; sender = sender; receiver = receiver; carrier = carrier }) in
+    let stands = PartsStand (record { terms = x.terms; video = c.frame.new.self; sender = sender; receiver = receiver; link = link }) in
     let size = frame_size p.format (inputs Video) in
     plainly x s inputs k.is c.requires.plain (λ (step : Step CallState) (now : Bool). Went step stands may_read now inputs old new)
-    (frame_goes c.of_turns.ensures c.of_the_video.ensures inputs old mid told c.frame.ensures.others c.frame.ensures.rest.written new c.play_next.ensures.rest.left here (r.unread c.requires.plain) out c.frame.new.self e _ texts
+    (frame_goes c.turn_laws.ensures c.video_laws.ensures inputs old mid told c.frame.ensures.others c.frame.ensures.rest.written new c.play_next.ensures.rest.left here (r.unread c.requires.plain) out c.frame.new.self e _ texts
     stands
-    (stands_after x laws events later_law s inputs k level out c.frame.new.self sender receiver carrier n size (behind inputs (of Video size)) number played refl c.send-sent.ensures.sent e.2 moves.1 refl)
+    (stands_after x laws events later_law s inputs k level out c.frame.new.self sender receiver link n size (left_after inputs (of Video size)) number played refl c.send-sent.ensures.sent e.2 moves.1 refl)
     (c.in_ok-play_next.ensures.ok p sender s.before (s.frames ++ f ∷ []) _ k.begun (delivered [])
     (may_play x laws events later_law s inputs k level out [] n (count_of x laws events later_law s inputs k level out [] n)))))

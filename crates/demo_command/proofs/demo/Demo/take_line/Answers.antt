@@ -41,7 +41,7 @@ returns-in-Packet-clause-done c = λ past h.
     let r = c.requires.ready in
     as_line m.terms past (says.Packet n j) c.args.event (HasDone (record m { both = record m.both { receiver = c.deliver.new.receiver }; network = c.deliver.new.self })) c.in-Packet.is
     (λ near.
-    let may = may_deliver m r (c.of_near_events.ensures p r.params) past h n j near in
+    let may = may_deliver m r (c.near_event_laws.ensures p r.params) past h n j near in
     c.deliver.ensures.holds p m.both.sender [] (made_video m.terms) past h may.0 may.1)
 
 pub returns-in-All-clause-ready : goal.returns-in-All-clause-ready
@@ -60,15 +60,15 @@ returns-in-All-clause-done c = λ past h.
     let p = t.params in
     let n = c.in-All.number in
     let r = c.requires.ready in
-    let made = c.of_made_input.ensures t r.params in
+    let made = c.made_laws.ensures t r.params in
     let same = c.ends_agree.ensures p (made_video t) past r.params h.way_holds.near in
     let after : Demo = record m { both = record m.both { receiver = c.deliver_all.new.receiver }; network = c.deliver_all.new.self } in
     let placed : n < m.both.sender.sent = (subst (λ (l : Line). AreInPlace 10000 m.both.sender.sent (l ∷ [])) c.in-All.is c.requires.in_place).0 in
-    let coded = (c.of_the_way.ensures p).sent m.both.sender m.both.receiver [] (made_video t) past h.way_holds.joined in
+    let coded = (c.way_laws.ensures p).sent m.both.sender m.both.receiver [] (made_video t) past h.way_holds.joined in
     let sent : n < length (both_after p (steady p) (made_video t) [] past).sender.coded = omega (arith, placed, coded) in
     as_line t past (says.All n) c.args.event (HasDone after) c.in-All.is
     (λ near.
-    let may = may_deliver m r (c.of_near_events.ensures p r.params) past h n 0 (near_first t made past same n sent near) in
+    let may = may_deliver m r (c.near_event_laws.ensures p r.params) past h n 0 (near_first t made past same n sent near) in
     subst (λ (l : List Happens). HasDone after l) (all_are t made past same n)
     (c.deliver_all.ensures.holds p m.both.sender [] (made_video t) past h may.0 may.1))
 
@@ -96,7 +96,7 @@ returns-in-Back-clause-done c = λ past h.
     as_line t past (says.Back k) c.args.event (HasDone (record m { both = record m.both { sender = c.bring_back.new.sender } })) c.in-Back.is
     (λ near.
     c.bring_back.ensures.holds p m.both.receiver [] (made_video t) past r.params (r.can.quant_is ∙ ap (λ (q : Params). q.quant) r.sender_params) refl h
-    (may_now t (c.of_near_events.ensures p r.params) (steady_is p r.params) past (Back k) near))
+    (may_now t (c.near_event_laws.ensures p r.params) (steady_is p r.params) past (Back k) near))
 
 pub returns-in-Play-clause-ready : goal.returns-in-Play-clause-ready
 returns-in-Play-clause-ready c =
@@ -121,4 +121,4 @@ returns-in-Play-clause-done c = λ past h.
     let p = t.params in
     let r = c.requires.ready in
     as_line t past says.Play c.args.event (HasDone (record m { both = record m.both { receiver = c.play.new.receiver }; network = c.play.new.self })) c.in-Play.is
-    (λ near. c.play.ensures.holds p m.both.sender [] (made_video t) past h (may_now t (c.of_near_events.ensures p r.params) (steady_is p r.params) past Play near))
+    (λ near. c.play.ensures.holds p m.both.sender [] (made_video t) past h (may_now t (c.near_event_laws.ensures p r.params) (steady_is p r.params) past Play near))

@@ -16,7 +16,7 @@ returns-clause-goes g c = λ inputs told.
     let both = c.in_ok-both.both in
     let ends = c.in_ok-both.ensures in
     let m : Demo = record { terms = t; lines = c.new.result; both = both; network = c.in_ok-network.network; frame = c.in_ok-frame.frame } in
-    c.of_runs.ensures.begins m (demo_begin t inputs) demo_step (λ _. true) (most_turns t) inputs now now
+    c.run_laws.ensures.begins m (demo_begin t inputs) demo_step (λ _. true) (most_turns t) inputs now now
     (ap (λ (l : List Line). length l) c.new.ensures)
     (record {
       next = first_state t;
@@ -27,11 +27,11 @@ returns-clause-goes g c = λ inputs told.
         terms = refl;
         lines = sym c.new.ensures;
         ahead = refl;
-        done = (c.of_the_way.ensures t.params).first c.period.result m.network both.sender both.receiver [] (made_video t) c.in_ok-network.ensures ends.sender_params ends.sends ends.receiver_params ends.receives;
+        done = (c.way_laws.ensures t.params).first c.period.result m.network both.sender both.receiver [] (made_video t) c.in_ok-network.ensures ends.sender_params ends.sends ends.receiver_params ends.receives;
       };
       whole = refl;
-      left = c.of_turns.ensures.no_byte now now inputs refl told;
-      written = c.of_turns.ensures.no_text now.written now.written refl;
+      left = c.turn_laws.ensures.no_byte now now inputs refl told;
+      written = c.turn_laws.ensures.no_text now.written now.written refl;
     })
 
 pub returns-clause-ready : goal.returns-clause-ready
@@ -56,4 +56,4 @@ returns-in_err-both-clause-ends g c = λ inputs told.
     let t = c.args.setup.now in
     let run = run_from (demo_begin t inputs) demo_step (most_turns t) inputs in
     ends_starved c.from_residual-in_err-both.result OutOfMemory run inputs now.written now c.from_residual-in_err-both.ensures.1
-    (c.of_runs.ensures.gives_up (demo_begin t inputs) demo_step (most_turns t) inputs now now OutOfMemory refl)
+    (c.run_laws.ensures.gives_up (demo_begin t inputs) demo_step (most_turns t) inputs now now OutOfMemory refl)

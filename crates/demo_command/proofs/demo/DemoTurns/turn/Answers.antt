@@ -16,7 +16,7 @@ returns-in_err-tell_counts-clause-gives g c = λ s inputs k told.
     let p = m.terms.params in
     let status = c.in_err-tell_counts.field-0.0 in
     let text = counts_of m.network.way.tally m.both.receiver.played m.both.sender.sent in
-    let is = counts_are m (c.of_the_way.ensures p) s.past k.done (c.ends_agree.ensures p (made_video m.terms) s.past c.requires.opens.params k.done.way_holds.near) in
+    let is = counts_are m (c.way_laws.ensures p) s.past k.done (c.ends_agree.ensures p (made_video m.terms) s.past c.requires.opens.params k.done.way_holds.near) in
     turn_gives c.from_residual.result status (demo_step s inputs) _ _ _ inputs (outside c.args.desk.now) (outside c.tell_counts.new.desk) c.from_residual.ensures.1
     (cut_gives status (demo_step s inputs) _ inputs (outside c.args.desk.now) (outside c.tell_counts.new.desk) c.in_err-tell_counts.ensures.kind
     (end_cut m s inputs k text is c.in_default.ensures.0 (outside c.args.desk.now) (outside c.tell_counts.new.desk) c.in_err-tell_counts.ensures.err))
@@ -27,8 +27,8 @@ returns-in_default-clause-gives g c = λ s inputs k told.
     let m = c.args.self.now in
     let p = m.terms.params in
     let text = counts_of m.network.way.tally m.both.receiver.played m.both.sender.sent in
-    let is = counts_are m (c.of_the_way.ensures p) s.past k.done (c.ends_agree.ensures p (made_video m.terms) s.past c.requires.opens.params k.done.way_holds.near) in
-    end_told m s inputs k text is c.in_default.ensures.0 (outside c.args.desk.now) (outside c.tell_counts.new.desk) c.of_turns.ensures told c.tell_counts.ensures.rest.left c.in_ok-tell_counts.ensures.ok
+    let is = counts_are m (c.way_laws.ensures p) s.past k.done (c.ends_agree.ensures p (made_video m.terms) s.past c.requires.opens.params k.done.way_holds.near) in
+    end_told m s inputs k text is c.in_default.ensures.0 (outside c.args.desk.now) (outside c.tell_counts.new.desk) c.turn_laws.ensures told c.tell_counts.ensures.rest.left c.in_ok-tell_counts.ensures.ok
 
 pub take_line-requires-clause-in_place : goal.take_line-requires-clause-in_place
 take_line-requires-clause-in_place g c =
@@ -47,9 +47,9 @@ returns-clause-gives g c = λ s inputs k told.
     let event = c.in-Some.event in
     let lines = lines_left c.next.new.self in
     let after = c.take_line.new.self in
-    let near = near_now m s inputs k event lines c.in-Some.ensures (c.of_made_input.ensures m.terms c.requires.opens.params) in
+    let near = near_now m s inputs k event lines c.in-Some.ensures (c.made_laws.ensures m.terms c.requires.opens.params) in
     went m s inputs k event lines c.in-Some.ensures after c.take_line.ensures.terms (ap lines_left c.take_line.ensures.lines) (c.take_line.ensures.done s.past k.done near)
-    c.of_turns.ensures (g.D.Desk.outside c.args.desk.now) told
+    c.turn_laws.ensures (g.D.Desk.outside c.args.desk.now) told
 
 pub returns-clause-ready : goal.returns-clause-ready
 returns-clause-ready g c =

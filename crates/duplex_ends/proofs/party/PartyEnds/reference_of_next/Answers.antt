@@ -10,10 +10,10 @@ returns c = λ p x far ways left h may.
     let one = h.own_holds in
     let own = c.args.self.now in
     let same = c.ends_agree.ensures (p x) w.frames w.past (h.in_range x) one.done.near in
-    let sent = (c.of_pairs.ensures p).sent x own far ways h in
-    let played = (c.of_pairs.ensures p).played x own far ways h in
+    let sent = (c.pair_laws.ensures p).sent x own far ways h in
+    let played = (c.pair_laws.ensures p).played x own far ways h in
     let number : c.played.result ≡ (call_in p x ways).played = c.played.ensures.count ∙ played in
-    let ahead : own.receiver.played < own.sender.sent = omega (arith, sent, played, may) in
-    c.reference_of.ensures (p x) own.sender own.receiver [] w.frames w.past refl one.done c.played.ensures.count ahead
+    let ahead : own.far_end.played < own.sender.sent = omega (arith, sent, played, may) in
+    c.reference_of.ensures (p x) own.sender own.far_end [] w.frames w.past refl one.done c.played.ensures.count ahead
     ∙ ap (λ (seen : Seen). reference_in seen.coded c.played.result) same
     ∙ ap (λ (n : ℕ). reference_in (call_in p x ways).coded n) number

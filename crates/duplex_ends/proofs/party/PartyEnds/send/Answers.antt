@@ -7,8 +7,8 @@ use Rattle.picture_header.specs.Ranges.{AreMessages}
 use Rattle.back_messages.specs.declared.message.Message.{Message}
 use Rattle.call_encoding.specs.Frames.{Frame}
 use Rattle.call_encoding.specs.Messages.{marked}
-use Rattle.duplex_call.specs.declared.carrier.Carried.{Carried}
-use Rattle.duplex_call.specs.Duplex.{messages_at, other, way, with_shot}
+use Rattle.duplex_call.specs.declared.queue.Carried.{Carried}
+use Rattle.duplex_call.specs.Duplex.{messages_at, other, way, with_capture}
 use Rattle.duplex_call.specs.Waiting.{last_four, placed}
 use Rattle.one_way.specs.Both.{carrying}
 use Rattle.one_way.specs.Counts.{total_of}
@@ -16,7 +16,7 @@ use Rattle.duplex_ends.specs.declared.party.PartyEnds.{PartyEnds}
 use Rattle.duplex_ends.specs.Bringing.{carried_in, message_in}
 use Rattle.duplex_ends.specs.Ways.{sides, told_by}
 use Rattle.duplex_ends.proofs.Agreeing.{agree, ideally}
-use Rattle.duplex_ends.proofs.Captures.{frame, near_send, numbers, party_sent, said, same_messages, shot, waiting, waiting_fit}
+use Rattle.duplex_ends.proofs.Captures.{frame, near_send, numbers, party_sent, said, same_messages, captured, waiting, waiting_fit}
 use Rattle.duplex_ends.proofs.Deliveries.{with_one}
 use Rattle.duplex_ends.proofs.Later.{holds_later}
 use Rattle.duplex_ends.proofs.Lists.{carried_placed, get_last, last_few}
@@ -33,7 +33,7 @@ send-number-requires-clause-back c =
     let one = e.holds.own_holds in
     let told = told_by (p (other x)) v in
     let fit : AreMessages (p (other x)).clock (map message_in (last_four (drop w.loaded told))) =
-    waiting_fit (p (other x)).clock told w.loaded ((c.of_said.ensures (p (other x)) (e.holds.in_range (other x))).fit v)
+    waiting_fit (p (other x)).clock told w.loaded ((c.said_laws.ensures (p (other x)) (e.holds.in_range (other x))).fit v)
     in
     let is : take c.put_messages-count.result c.put_messages-count.new.messages ≡ map message_in (last_four (drop w.loaded told)) =
     c.put_messages-count.ensures.messages
@@ -63,7 +63,7 @@ returns-clause-holds c = λ p x far ways left h may.
     let own = c.args.self.now in
     let picture = lent c.args.frame in
     let told = told_by Q v in
-    let next = shot P Q own w v one picture in
+    let next = captured P Q own w v one picture in
     let new_frame = frame P Q own w v one picture in
     let messages = waiting P Q own w v one picture in
     let loaded : c.load-header.result ≡ placed messages = c.load-header.ensures.places (drop w.loaded told) one.waits in
@@ -77,13 +77,13 @@ returns-clause-holds c = λ p x far ways left h may.
     ap (λ (k : ℕ). slice_get next.frames k) one.sent ∙ get_last w.frames new_frame
     ∙ ap (λ (l : List Message). let f : Option Frame = Some (carrying picture l) in f) (sym back)
     in
-    let calls = c.of_the_ends.ensures P (h.in_range x) in
-    let nears = c.of_near_events.ensures P (h.in_range x) in
+    let calls = c.call_laws.ensures P (h.in_range x) in
+    let nears = c.near_event_laws.ensures P (h.in_range x) in
     let later = c.later_frames.ensures P in
-    let coded = (c.of_the_way.ensures P).sent own.sender own.receiver [] w.frames w.past one.done.joined in
-    let near = near_send P Q own w v one picture later (agree P (h.in_range x) calls nears own.way own.sender own.receiver w one.done) coded left may in
-    let held = holds_later P later own.way own.sender own.receiver w.frames w.past (new_frame ∷ []) one.done in
-    let done = c.send-number.ensures.holds P own.receiver [] next.frames w.past held at near in
+    let coded = (c.way_laws.ensures P).sent own.sender own.far_end [] w.frames w.past one.done.joined in
+    let near = near_send P Q own w v one picture later (agree P (h.in_range x) calls nears own.way own.sender own.far_end w one.done) coded left may in
+    let held = holds_later P later own.way own.sender own.far_end w.frames w.past (new_frame ∷ []) one.done in
+    let done = c.send-number.ensures.holds P own.far_end [] next.frames w.past held at near in
     let number : c.send-number.result ≡ length one.carries.headers =
     c.send-number.ensures.number ∙ one.sent ∙ sym one.headers ∙ sym one.carries.count
     in
@@ -92,12 +92,12 @@ returns-clause-holds c = λ p x far ways left h may.
     (party_sent P Q own w v one picture new refl done (c.send-number.ensures.ready) c.send-number.ensures.kept c.send-number.ensures.sent c.requires.left refl
     (ap total_of c.send-number.ensures.tally) c.note.ensures.kept (c.note.ensures.holds one.carries.headers messages one.carries.holds number loaded) c.load-header.ensures.none)
     (party_same Q P far v w two next
-    (told_sent P (c.later_calls.ensures P) w (new_frame ∷ []) next.carried next.loaded (ideally P (h.in_range x) calls nears own.way own.sender own.receiver w one.done)))
+    (told_sent P (c.later_calls.ensures P) w (new_frame ∷ []) next.carried next.loaded (ideally P (h.in_range x) calls nears own.way own.sender own.far_end w one.done)))
 
 pub returns-clause-ready : goal.returns-clause-ready
 returns-clause-ready c = λ far e. record {
   params = e.params;
   party = e.party;
-  ways = with_shot (sides e.params) e.party (lent c.args.frame) e.ways;
+  ways = with_capture (sides e.params) e.party (lent c.args.frame) e.ways;
   holds = returns-clause-holds c e.params e.party far e.ways e.left e.holds e.may;
 }

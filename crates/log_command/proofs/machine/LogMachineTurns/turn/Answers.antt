@@ -7,8 +7,8 @@ use Rattle.event_logs.specs.declared.fault.LogFault.TheVariants.{TooMany}
 use Rattle.event_logs.specs.Entry.{bytes_of}
 use Rattle.call_report.specs.Status.{log_stop}
 use Rattle.call_report.specs.declared.status.Status.TheVariants.{LogRefused}
-use Rattle.log_command.specs.Log.{LogStands, behind_entry, log_step, refused_log}
-use Rattle.log_command.proofs.Answering.{entered, front_is, gave, moved, ready_behind, still_long, turn_cut, turn_stops}
+use Rattle.log_command.specs.Log.{LogStands, after_entry, log_step, refused_log}
+use Rattle.log_command.proofs.Answering.{entered, front_is, gave, moved, ready_after, still_long, turn_cut, turn_stops}
 use Rattle.log_command.proofs.Entries.{all_played, other_is, packet_is}
 use Rattle.log_command.proofs.Handling.{cut, end_cut, ends, goes, refuses, stops}
 use Rattle.log_command.proofs.machine.LogMachineTurns.turn.Goals as goal
@@ -20,8 +20,8 @@ returns-in_err-at-clause-gives g c = λ s inputs stands told.
     let m = c.args.self.now in
     let stop = c.in_err-at.field-0.0 in
     turn_stops c.from_residual.result (log_step does s inputs) _ _ true inputs (outside c.args.desk.now) (outside c.next.new.desk) (log_stop stop) c.from_residual.ensures.1
-    (stops does c.of_turns.ensures s inputs (outside c.args.desk.now) (outside c.next.new.desk) told c.next.ensures.others c.next.ensures.rest.written
-    c.cut_behind.ensures m.reader c.next.new.self c.next.new.buf stop c.requires.side stands.at stands.entries
+    (stops does c.turn_laws.ensures s inputs (outside c.args.desk.now) (outside c.next.new.desk) told c.next.ensures.others c.next.ensures.rest.written
+    c.cut_after.ensures m.reader c.next.new.self c.next.new.buf stop c.requires.side stands.at stands.entries
     (c.in_err-at.ensures.gives (inputs Events) (told Events refl)) c.in_err-at.ensures.moves)
 
 pub returns-in_err-close-clause-gives : goal.returns-in_err-close-clause-gives
@@ -32,7 +32,7 @@ returns-in_err-close-clause-gives g c = λ s inputs stands told.
     let e = gave c.in_ok-at.field-0 None m.reader (inputs Events) c.next.new.buf _ c.in_default.is (c.in_ok-at.ensures.gives (inputs Events) (told Events refl)) in
     turn_cut c.from_residual-in_err-close.result (log_step does s inputs) _ _ true inputs (outside c.args.desk.now) (outside c.close.new.desk) c.in_err-close.field-0.0
     c.from_residual-in_err-close.ensures.1 c.in_err-close.ensures.kind
-    (end_cut does c.of_turns.ensures s inputs (outside c.args.desk.now) (outside c.next.new.desk) told c.next.ensures.others c.next.ensures.rest.written
+    (end_cut does c.turn_laws.ensures s inputs (outside c.args.desk.now) (outside c.next.new.desk) told c.next.ensures.others c.next.ensures.rest.written
     (outside c.close.new.desk) e.0 (c.in_err-close.ensures.err s.mind stands.mind))
 
 pub returns-in_default-clause-gives : goal.returns-in_default-clause-gives
@@ -41,7 +41,7 @@ returns-in_default-clause-gives g c = λ s inputs stands told.
     let does = g.C.LogCommand.rules in
     let m = c.args.self.now in
     let e = gave c.in_ok-at.field-0 None m.reader (inputs Events) c.next.new.buf _ c.in_default.is (c.in_ok-at.ensures.gives (inputs Events) (told Events refl)) in
-    ends does c.of_turns.ensures s inputs (outside c.args.desk.now) (outside c.next.new.desk) told c.next.ensures.others c.next.ensures.rest.written
+    ends does c.turn_laws.ensures s inputs (outside c.args.desk.now) (outside c.next.new.desk) told c.next.ensures.others c.next.ensures.rest.written
     (outside c.close.new.desk) e.0 e.1 c.close.ensures.rest.left (c.in_ok-close.ensures.ok s.mind stands.mind)
 
 pub returns-in_default-clause-whole : goal.returns-in_default-clause-whole
@@ -66,8 +66,8 @@ returns-in_err-packet-in-Packet-clause-gives g c = λ s inputs stands told.
     in
     turn_cut c.from_residual-in_err-packet-in-Packet.result (log_step does s inputs) _ _ true inputs (outside c.args.desk.now) (outside c.packet.new.desk) c.in_err-packet-in-Packet.field-0.0
     c.from_residual-in_err-packet-in-Packet.ensures.1 c.in_err-packet-in-Packet.ensures.kind
-    (cut does c.of_turns.ensures s inputs (outside c.args.desk.now) (outside c.next.new.desk) told c.next.ensures.others c.next.ensures.rest.written
-    (behind_entry s (does.packet s.mind bytes) (3 + len)) (3 + len) (does.packet_text s.mind bytes)
+    (cut does c.turn_laws.ensures s inputs (outside c.args.desk.now) (outside c.next.new.desk) told c.next.ensures.others c.next.ensures.rest.written
+    (after_entry s (does.packet s.mind bytes) (3 + len)) (3 + len) (does.packet_text s.mind bytes)
     (packet_is does s inputs e.few len bytes e.is bytes_are) (outside c.packet.new.desk) (c.in_err-packet-in-Packet.ensures.err s.mind stands.mind))
 
 pub returns-in_ok-packet-in-Packet-clause-gives : goal.returns-in_ok-packet-in-Packet-clause-gives
@@ -84,8 +84,8 @@ returns-in_ok-packet-in-Packet-clause-gives g c = λ s inputs stands told.
     let bytes_are : bytes ≡ take len (drop 3 (inputs Events)) =
     front_is m.buffer c.deref.result.now c.next.new.buf _ len _ c.deref.ensures.value (c.next.auto.buf ∙ c.deref_mut.ensures.len) (c.min-len.ensures ∙ (λ i. min (size i) (c.len.ensures i))) e.bytes
     in
-    goes does c.of_turns.ensures s inputs (outside c.args.desk.now) (outside c.next.new.desk) told c.next.ensures.others c.next.ensures.rest.written
-    (behind_entry s (does.packet s.mind bytes) (3 + len)) (3 + len) (does.packet_text s.mind bytes)
+    goes does c.turn_laws.ensures s inputs (outside c.args.desk.now) (outside c.next.new.desk) told c.next.ensures.others c.next.ensures.rest.written
+    (after_entry s (does.packet s.mind bytes) (3 + len)) (3 + len) (does.packet_text s.mind bytes)
     (packet_is does s inputs e.few len bytes e.is bytes_are) (outside c.packet.new.desk)
     (LogStands g.C.LogCommand.stands (record { command = c.packet.new.self; reader = c.next.new.self; buffer = with_items m.buffer c.next.new.buf }))
     (record {
@@ -104,7 +104,7 @@ returns-then-plays-ge-MAX_PLAYS-clause-gives g c = λ s inputs stands told.
     (c.in_ok-at.ensures.gives (inputs Events) (told Events refl)) c.in_ok-at.ensures.moves
     in
     let all : 1048576 ≤ does.plays s.mind = subst (λ (n : ℕ). 1048576 ≤ n) (c.plays.ensures.is s.mind stands.mind) c.if-plays-ge-MAX_PLAYS.true in
-    refuses does c.of_turns.ensures s inputs (outside c.args.desk.now) (outside c.next.new.desk) told c.next.ensures.others c.next.ensures.rest.written
+    refuses does c.turn_laws.ensures s inputs (outside c.args.desk.now) (outside c.next.new.desk) told c.next.ensures.others c.next.ensures.rest.written
     (LogRefused (TooMany c.in-Some.at))
     (all_played does s inputs e.few c.in-Some.entry c.in_default-entry.not-Packet e.is all ∙ ap (λ (n : ℕ). refused_log (TooMany n)) e.place)
 
@@ -124,8 +124,8 @@ returns-in_err-other-in_default-entry-clause-gives g c = λ s inputs stands told
     let more : does.plays s.mind < 1048576 = subst (λ (n : ℕ). n < 1048576) (c.plays.ensures.is s.mind stands.mind) c.if-plays-ge-MAX_PLAYS.false in
     turn_cut c.from_residual-in_err-other-in_default-entry.result (log_step does s inputs) _ _ true inputs (outside c.args.desk.now) (outside c.other.new.desk) c.in_err-other-in_default-entry.field-0.0
     c.from_residual-in_err-other-in_default-entry.ensures.1 c.in_err-other-in_default-entry.ensures.kind
-    (cut does c.of_turns.ensures s inputs (outside c.args.desk.now) (outside c.next.new.desk) told c.next.ensures.others c.next.ensures.rest.written
-    (behind_entry s (does.other s.mind bytes) (3 + bytes_of entry)) (3 + bytes_of entry) (does.other_text s.mind bytes)
+    (cut does c.turn_laws.ensures s inputs (outside c.args.desk.now) (outside c.next.new.desk) told c.next.ensures.others c.next.ensures.rest.written
+    (after_entry s (does.other s.mind bytes) (3 + bytes_of entry)) (3 + bytes_of entry) (does.other_text s.mind bytes)
     (other_is does s inputs e.few entry c.in_default-entry.not-Packet e.is bytes bytes_are more) (outside c.other.new.desk) (c.in_err-other-in_default-entry.ensures.err s.mind stands.mind))
 
 pub returns-in_ok-other-in_default-entry-clause-gives : goal.returns-in_ok-other-in_default-entry-clause-gives
@@ -142,8 +142,8 @@ returns-in_ok-other-in_default-entry-clause-gives g c = λ s inputs stands told.
     front_is m.buffer c.deref.result.now c.next.new.buf _ (bytes_of entry) _ c.deref.ensures.value (c.next.auto.buf ∙ c.deref_mut.ensures.len) (c.min-len.ensures ∙ (λ i. min (c.len_of.ensures i) (c.len.ensures i))) e.bytes
     in
     let more : does.plays s.mind < 1048576 = subst (λ (n : ℕ). n < 1048576) (c.plays.ensures.is s.mind stands.mind) c.if-plays-ge-MAX_PLAYS.false in
-    goes does c.of_turns.ensures s inputs (outside c.args.desk.now) (outside c.next.new.desk) told c.next.ensures.others c.next.ensures.rest.written
-    (behind_entry s (does.other s.mind bytes) (3 + bytes_of entry)) (3 + bytes_of entry) (does.other_text s.mind bytes)
+    goes does c.turn_laws.ensures s inputs (outside c.args.desk.now) (outside c.next.new.desk) told c.next.ensures.others c.next.ensures.rest.written
+    (after_entry s (does.other s.mind bytes) (3 + bytes_of entry)) (3 + bytes_of entry) (does.other_text s.mind bytes)
     (other_is does s inputs e.few entry c.in_default-entry.not-Packet e.is bytes bytes_are more) (outside c.other.new.desk)
     (LogStands g.C.LogCommand.stands (record { command = c.other.new.self; reader = c.next.new.self; buffer = with_items m.buffer c.next.new.buf }))
     (record {
@@ -156,7 +156,7 @@ returns-in_ok-other-in_default-entry-clause-gives g c = λ s inputs stands told.
 pub close-requires : goal.close-requires
 close-requires g c =
     let m = c.args.self.now in
-    ready_behind (g.C.LogCommand.ready m.command) 16777216 m.reader.entries _ _ c.next.ensures.was_in.few c.next.ensures.rest.attached c.requires.command
+    ready_after (g.C.LogCommand.ready m.command) 16777216 m.reader.entries _ _ c.next.ensures.was_in.few c.next.ensures.rest.attached c.requires.command
 
 pub packet-requires : goal.packet-requires
 packet-requires g c =
@@ -164,7 +164,7 @@ packet-requires g c =
     let v = moved c.in_ok-at.field-0 (Some (c.in-Some.at, c.in-Some.entry)) m.reader c.next.new.self c.in-Some.is c.in_ok-at.ensures.moves in
     let n = v.2 in
     let few = c.next.ensures.is_in.few in
-    ready_behind (g.C.LogCommand.ready m.command) 16777215 m.reader.entries _ _ (omega (arith, n, few)) c.next.ensures.rest.attached c.requires.command
+    ready_after (g.C.LogCommand.ready m.command) 16777215 m.reader.entries _ _ (omega (arith, n, few)) c.next.ensures.rest.attached c.requires.command
 
 pub other-requires-clause-ready : goal.other-requires-clause-ready
 other-requires-clause-ready g c =
@@ -172,7 +172,7 @@ other-requires-clause-ready g c =
     let v = moved c.in_ok-at.field-0 (Some (c.in-Some.at, c.in-Some.entry)) m.reader c.next.new.self c.in-Some.is c.in_ok-at.ensures.moves in
     let n = v.2 in
     let few = c.next.ensures.is_in.few in
-    ready_behind (g.C.LogCommand.ready m.command) 16777215 m.reader.entries _ _ (omega (arith, n, few)) c.next.ensures.rest.attached c.requires.command
+    ready_after (g.C.LogCommand.ready m.command) 16777215 m.reader.entries _ _ (omega (arith, n, few)) c.next.ensures.rest.attached c.requires.command
 
 pub returns-in_ok-packet-in-Packet-clause-ready : goal.returns-in_ok-packet-in-Packet-clause-ready
 returns-in_ok-packet-in-Packet-clause-ready g c =

@@ -48,7 +48,7 @@ returns-clause-holds c = λ p sender before frames past h among near.
     let n = c.args.number in
     let coded = (both_after p (steady p) frames before past).sender.coded in
     let has = h.way_holds.packets in
-    let many = ap (λ (l : List (List ℕ)). length l) (kept_is p c.args.self.now.way.packets coded n has among) ∙ count_is p coded n (c.of_messages.ensures p).count in
+    let many = ap (λ (l : List (List ℕ)). length l) (kept_is p c.args.self.now.way.packets coded n has among) ∙ count_is p coded n (c.message_laws.ensures p).count in
     let all : c.packets.place ≡ length (slices_at coded n) =
     omega (arith, c.packets-test.false, c.packets.auto.place-end, c.count-count.ensures.packets has.pictures has.keeps, many)
     in

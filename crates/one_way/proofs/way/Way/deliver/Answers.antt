@@ -76,7 +76,7 @@ returns-clause-says c = λ p sender before frames past h among.
     subst (λ (o : Option MessageBytes). IfSome o (λ said. AreBytes (text_of said))) c.as_said.ensures.same c.as_said.ensures.bytes
     in
     let told : told_by n c.as_said.result ≡ told_of n (said_by answer) =
-    ap (told_by n) c.as_said.ensures.same ∙ told_is (c.of_messages.ensures p).said p.clock n c.message.result (said_by answer) says fit
+    ap (told_by n) c.as_said.ensures.same ∙ told_is (c.message_laws.ensures p).said p.clock n c.message.result (said_by answer) says fit
     in
     ap (λ (o : Option (List ℕ)). (option_map_or (after_bytes (coding p) (rules_of p) w n) o w).said) there
     ∙ ap (λ (l : List SaidMessage). w.said ++ l) (heard_told n answer ∙ sym told)

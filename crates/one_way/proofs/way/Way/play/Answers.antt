@@ -40,7 +40,7 @@ returns-clause-says c = λ p sender before frames past h.
     in
     ap (λ (n : ℕ). w.said ++ told_of n message) (sym number)
     ∙ ap (λ (l : List SaidMessage). w.said ++ l)
-    (sym (told_is (c.of_messages.ensures p).said p.clock c.args.receiver.now.played c.play-played.result.message message told.message_is fit))
+    (sym (told_is (c.message_laws.ensures p).said p.clock c.args.receiver.now.played c.play-played.result.message message told.message_is fit))
 
 pub returns-clause-bytes : goal.returns-clause-bytes
 returns-clause-bytes c =

@@ -33,9 +33,9 @@ returns-in-Ok-clause-answer c = λ past stands.
     let out : c.deref.result.now ≡ c.read_packet.new.out = c.deref.ensures.value ∙ with_items_is c.self.inside.mbs c.read_packet.new.out long in
     let read : (decoding k.params.format).read bytes ≡ Ok (piece_in c.in-Ok.piece c.deref.result.now) =
     ap with_piece c.in-Ok.ensures.exact ∙ ap (λ (l : List Mb). Ok (piece_in c.in-Ok.piece l)) (sym out) in
-    subst (λ (x : Kept). IsHeard x.params.clock c.hear.result (heard (decoding x.params.format) (rules_of x.params) (run_of x.params past) ((decoding x.params.format).read bytes))) c.self.view_is
+    subst (λ (x : Kept). IsHeard x.params.clock c.packet.result (heard (decoding x.params.format) (rules_of x.params) (run_of x.params past) ((decoding x.params.format).read bytes))) c.self.view_is
     (heard_ok k past mine (c.receiver_stands.ensures.answer (decoding k.params.format) (rules_of k.params) (c.is_decoding.ensures k.params) (c.are_rules.ensures k.params c.self.invariant.0.params))
-    bytes (piece_in c.in-Ok.piece c.deref.result.now) read c.hear.result c.hear.ensures.answer)
+    bytes (piece_in c.in-Ok.piece c.deref.result.now) read c.packet.result c.packet.ensures.answer)
 
 pub returns-in-Ok-clause-stands : goal.returns-in-Ok-clause-stands
 returns-in-Ok-clause-stands c = λ past stands.
@@ -45,7 +45,7 @@ returns-in-Ok-clause-stands c = λ past stands.
     let out : c.deref.result.now ≡ c.read_packet.new.out = c.deref.ensures.value ∙ with_items_is c.self.inside.mbs c.read_packet.new.out long in
     let read : (decoding k.params.format).read bytes ≡ Ok (piece_in c.in-Ok.piece c.deref.result.now) =
     ap with_piece c.in-Ok.ensures.exact ∙ ap (λ (l : List Mb). Ok (piece_in c.in-Ok.piece l)) (sym out) in
-    c.hear.ensures.stands past bytes mine read
+    c.packet.ensures.stands past bytes mine read
 
 pub returns-in-Err-clause-number : goal.returns-in-Err-clause-number
 returns-in-Err-clause-number c = λ past stands.

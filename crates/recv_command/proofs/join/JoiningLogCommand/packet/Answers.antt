@@ -6,7 +6,7 @@ use Rattle.h263_types.specs.declared.params.Params.{Params}
 use Rattle.desk_program.specs.Texts.{no_texts}
 use Rattle.payload_join.specs.Run.{given_next}
 use Rattle.recv_command.specs.declared.join_tally.JoinTally.{JoinTally}
-use Rattle.recv_command.specs.Join.{given_to, hears}
+use Rattle.recv_command.specs.Join.{given_to, delivers}
 use Rattle.recv_command.specs.JoinTally.{packets_of, with_joined, with_took}
 use Rattle.recv_command.specs.Recv.{RecvStands}
 use Rattle.recv_command.proofs.Joined.{params_stay, stands_after}
@@ -23,11 +23,11 @@ returns-clause-stands g c = λ s stands.
     record {
       format = ap (λ (p : Params). p.format) (params_stay all (record { state = s.receiver; texts = no_texts })) ∙ stands.format;
       took = (λ i. with_joined (length (sym left i)) (with_took (sym answer i) (stands.took i)))
-          ∙ (ap (with_joined (length mid.left)) (sym c.take.ensures.counts) ∙ sym c.hear_all.ensures.took);
-      joiner = stands_after c.hear_all.new.joiner mid (bytes ∷ s.packets) c.hear_all.ensures.top c.hear_all.ensures.packets
+          ∙ (ap (with_joined (length mid.left)) (sym c.take.ensures.counts) ∙ sym c.deliver_all.ensures.took);
+      joiner = stands_after c.deliver_all.new.joiner mid (bytes ∷ s.packets) c.deliver_all.ensures.top c.deliver_all.ensures.packets
           (c.take-took.ensures.stands s.packets stands.joiner);
-      receiver = subst (λ (l : List (List ℕ)). RecvStands c.hear_all.new.receiving (hears s.receiver l).state) left
-          (c.hear_all.ensures.stands s.receiver stands.receiver);
+      receiver = subst (λ (l : List (List ℕ)). RecvStands c.deliver_all.new.receiving (delivers s.receiver l).state) left
+          (c.deliver_all.ensures.stands s.receiver stands.receiver);
     }
 
 pub returns-clause-ready : goal.returns-clause-ready
@@ -37,18 +37,18 @@ returns-clause-ready g c = λ n ready.
     let left = c.take-took.ensures.left ready.past ready.stands in
     let few : length mid.left ≤ 2 ^ 22 =
     subst (λ (l : List (List ℕ)). length l ≤ 2 ^ 22) (sym left) (c.few_given.ensures c.args.self.now.format ready.past bytes) in
-    let same = c.hear_all.ensures.has_said.rest.attached in
+    let same = c.deliver_all.ensures.has_written.rest.attached in
     let packets : packets_of c.take.new.self ≤ n + 1 = omega (arith, ready.packets, c.take.ensures.packets) in
     let joined : c.take.new.self.joined + length mid.left ≤ 2 ^ 22 * (n + 1) = omega (arith, ready.joined, c.take.ensures.joined, few) in
     record {
       pictures = ap (λ (f : Role → Bool). f Pictures) same ∙ ready.pictures;
       wire = ap (λ (f : Role → Bool). f Wire) same ∙ ready.wire;
       report = ap (λ (f : Role → Bool). f Report) same ∙ ready.report;
-      none_left = c.hear_all.ensures.left;
+      none_left = c.deliver_all.ensures.left;
       past = bytes ∷ ready.past;
-      stands = stands_after c.hear_all.new.joiner mid (bytes ∷ ready.past) c.hear_all.ensures.top c.hear_all.ensures.packets
+      stands = stands_after c.deliver_all.new.joiner mid (bytes ∷ ready.past) c.deliver_all.ensures.top c.deliver_all.ensures.packets
           (c.take-took.ensures.stands ready.past ready.stands);
-      packets = subst (λ (t : JoinTally). packets_of t ≤ n + 1) (sym c.hear_all.ensures.took) packets;
-      joined = subst (λ (t : JoinTally). t.joined ≤ 2 ^ 22 * (n + 1)) (sym c.hear_all.ensures.took) joined;
-      counted = omega (arith, ready.counted, c.hear_all.ensures.total, few);
+      packets = subst (λ (t : JoinTally). packets_of t ≤ n + 1) (sym c.deliver_all.ensures.took) packets;
+      joined = subst (λ (t : JoinTally). t.joined ≤ 2 ^ 22 * (n + 1)) (sym c.deliver_all.ensures.took) joined;
+      counted = omega (arith, ready.counted, c.deliver_all.ensures.total, few);
     }

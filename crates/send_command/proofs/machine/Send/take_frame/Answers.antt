@@ -7,7 +7,7 @@ use Rattle.h263_planes.specs.Lent.{picture}
 use Rattle.y4m.specs.Frame.{frame_size}
 use Rattle.call_report.specs.Status.{phase, video_stop}
 use Rattle.call_encoding.specs.Frames.{Frame}
-use Rattle.desk_program.specs.Run.{behind}
+use Rattle.desk_program.specs.Run.{left_after}
 use Rattle.desk_program.specs.Ends.{GivesUp}
 use Rattle.desk_program.specs.Texts.{of, and_of}
 use Rattle.send_command.specs.declared.machine.Send.{Send}
@@ -26,14 +26,14 @@ returns-in_err-frame-clause-err g c = λ before s inputs stood place taken.
     let m = c.args.self.now in
     let stop = c.in_err-frame.field-0.0 in
     if_err _ c.from_residual.result (video_stop stop) c.from_residual.ensures.1
-    (frame_stops c.of_turns.ensures c.cut_behind.ensures.frame s inputs before (outside c.args.desk.now) (outside c.frame.new.desk) taken c.frame.ensures.others c.frame.ensures.rest.written
+    (frame_stops c.turn_laws.ensures c.cut_after.ensures.frame s inputs before (outside c.args.desk.now) (outside c.frame.new.desk) taken c.frame.ensures.others c.frame.ensures.rest.written
     m.video c.frame.new.self (video_at m s 3 stood c.requires.fit.format) c.frame.new.out stop (c.in_err-frame.ensures.gives (inputs Video) (taken.left Video refl)))
 
 pub returns-then-not-branch-clause-err : goal.returns-then-not-branch-clause-err
 returns-then-not-branch-clause-err g c = λ before s inputs stood place taken.
     let outside = g.D.Desk.outside in
     let m = c.args.self.now in
-    frame_missing c.of_turns.ensures c.cut_behind.ensures.frame s inputs before (outside c.args.desk.now) (outside c.frame.new.desk) taken c.frame.ensures.others c.frame.ensures.rest.written
+    frame_missing c.turn_laws.ensures c.cut_after.ensures.frame s inputs before (outside c.args.desk.now) (outside c.frame.new.desk) taken c.frame.ensures.others c.frame.ensures.rest.written
     m.video c.frame.new.self (video_at m s 3 stood c.requires.fit.format) c.frame.new.out c.args.at place
     (gave c.in_ok-frame.field-0 false m.video c.frame.new.self (inputs Video) c.frame.new.out _ c.if-not-branch.true (c.in_ok-frame.ensures.gives (inputs Video) (taken.left Video refl)))
 
@@ -57,13 +57,13 @@ returns-clause-ok g c = λ before s inputs stood taken.
     in
     let texts = picture_texts coded.new.sender.packets coded.result.number coded.result.reference in
     let text_is = texts_are m s 3 stood frame (captured s.params.format out) coded.new.sender coded.result same cap in
-    let place = place_is c.of_turns.ensures c.cut_behind.ensures.frame s inputs before (outside c.args.desk.now) (outside c.frame.new.desk) taken c.frame.ensures.others c.frame.ensures.rest.written m.video c.frame.new.self at out e (outside c.put_picture.new.desk) texts text_is in
+    let place = place_is c.turn_laws.ensures c.cut_after.ensures.frame s inputs before (outside c.args.desk.now) (outside c.frame.new.desk) taken c.frame.ensures.others c.frame.ensures.rest.written m.video c.frame.new.self at out e (outside c.put_picture.new.desk) texts text_is in
     let size = frame_size s.params.format (inputs Video) in
-    let kept : SendStands new _ (behind inputs (and_of (of Events 3) (of Video size))) =
-    keeps_capture m s 3 stood new frame (captured s.params.format out) coded.result size (behind inputs (and_of (of Events 3) (of Video size))) refl same cap coded.ensures.count coded.ensures.params coded.ensures.pace refl c.picture.ensures place moves.1
+    let kept : SendStands new _ (left_after inputs (and_of (of Events 3) (of Video size))) =
+    keeps_capture m s 3 stood new frame (captured s.params.format out) coded.result size (left_after inputs (and_of (of Events 3) (of Video size))) refl same cap coded.ensures.count coded.ensures.params coded.ensures.pace refl c.picture.ensures place moves.1
     in
     on_ok_so _ _ c.put_picture.result c.put_picture.ensures.ok
-    (captures c.of_turns.ensures c.cut_behind.ensures.frame s inputs before (outside c.args.desk.now) (outside c.frame.new.desk) taken c.frame.ensures.others c.frame.ensures.rest.written m.video c.frame.new.self at out e (outside c.put_picture.new.desk) texts text_is
+    (captures c.turn_laws.ensures c.cut_after.ensures.frame s inputs before (outside c.args.desk.now) (outside c.frame.new.desk) taken c.frame.ensures.others c.frame.ensures.rest.written m.video c.frame.new.self at out e (outside c.put_picture.new.desk) texts text_is
     (SendStands new) kept c.put_picture.ensures.rest.left)
 
 pub returns-clause-err : goal.returns-clause-err
@@ -85,7 +85,7 @@ returns-clause-err g c = λ before s inputs stood place taken.
     let texts = picture_texts coded.new.sender.packets coded.result.number coded.result.reference in
     let text_is = texts_are m s 3 stood frame (captured s.params.format out) coded.new.sender coded.result same cap in
     if_cut _ (λ status. GivesUp (phase status) status (capture_step s (inputs Video)) true inputs before (outside c.put_picture.new.desk)) c.put_picture.result c.put_picture.ensures.kind c.put_picture.ensures.err
-    (capture_cut c.of_turns.ensures c.cut_behind.ensures.frame s inputs before (outside c.args.desk.now) (outside c.frame.new.desk) taken c.frame.ensures.others c.frame.ensures.rest.written m.video c.frame.new.self at out e (outside c.put_picture.new.desk) texts text_is)
+    (capture_cut c.turn_laws.ensures c.cut_after.ensures.frame s inputs before (outside c.args.desk.now) (outside c.frame.new.desk) taken c.frame.ensures.others c.frame.ensures.rest.written m.video c.frame.new.self at out e (outside c.put_picture.new.desk) texts text_is)
 
 pub returns-clause-ready : goal.returns-clause-ready
 returns-clause-ready g c =

@@ -25,8 +25,8 @@ returns-in_err-video-clause-ends g c = λ inputs told.
     let stop = c.in_err-video.field-0.0 in
     let first = send_begin setup inputs in
     if_err (λ (s : Status). HasEnded (run_from first send_step most_entries inputs) silent s inputs old.written new) c.from_residual.result (video_stop stop) c.from_residual.ensures.1
-    (c.of_runs.ensures.gives_up first send_step most_entries inputs old new (video_stop stop)
-    (head_stops c.of_turns.ensures setup inputs old new told c.head.ensures.others c.head.ensures.rest.written c.cut_behind.ensures.head stop (c.in_err-video.ensures.gives (inputs Video) (told Video refl))))
+    (c.run_laws.ensures.gives_up first send_step most_entries inputs old new (video_stop stop)
+    (head_stops c.turn_laws.ensures setup inputs old new told c.head.ensures.others c.head.ensures.rest.written c.cut_after.ensures.head stop (c.in_err-video.ensures.gives (inputs Video) (told Video refl))))
 
 pub returns-clause-goes : goal.returns-clause-goes
 returns-clause-goes g c = λ inputs told.
@@ -48,8 +48,8 @@ returns-clause-goes g c = λ inputs told.
     subst (λ (t : Option ℕ). Stands (quant_after_sizes t p.quant) state []) target_is
     (subst (λ (q : ℕ). Stands (quant_after_sizes (target_of pace) q) state []) first_is started.stands)
     in
-    c.of_runs.ensures.begins new (send_begin setup inputs) send_step (λ _. true) most_entries inputs (outside c.args.desk.now) (outside c.head.new.desk) (ap (λ (n : ℕ). most_entries - n) c.new.ensures.entries)
-    (head_goes c.of_turns.ensures setup inputs (outside c.args.desk.now) (outside c.head.new.desk) told c.head.ensures.others c.head.ensures.rest.written reader (SendStands new) e
+    c.run_laws.ensures.begins new (send_begin setup inputs) send_step (λ _. true) most_entries inputs (outside c.args.desk.now) (outside c.head.new.desk) (ap (λ (n : ℕ). most_entries - n) c.new.ensures.entries)
+    (head_goes c.turn_laws.ensures setup inputs (outside c.args.desk.now) (outside c.head.new.desk) told c.head.ensures.others c.head.ensures.rest.written reader (SendStands new) e
     (record {
       is = λ i. record {
         params = params_is i;

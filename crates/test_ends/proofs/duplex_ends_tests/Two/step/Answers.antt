@@ -8,7 +8,7 @@ take-requires-in-B c =
       params = e.params;
       party = other e.party;
       ways = e.ways;
-      holds = (c.of_pairs.ensures e.params).exchanged e.party c.args.self.now.a c.args.self.now.b e.ways e.holds;
+      holds = (c.pair_laws.ensures e.params).exchanged e.party c.args.self.now.a c.args.self.now.b e.ways e.holds;
     }
 
 pub returns-in-B : goal.returns-in-B
@@ -18,5 +18,5 @@ returns-in-B c =
       params = e.params;
       party = other e.party;
       ways = e.ways;
-      holds = (c.of_pairs.ensures e.params).exchanged e.party c.take-in-B.new.own c.take-in-B.new.far e.ways e.holds;
+      holds = (c.pair_laws.ensures e.params).exchanged e.party c.take-in-B.new.own c.take-in-B.new.far e.ways e.holds;
     }

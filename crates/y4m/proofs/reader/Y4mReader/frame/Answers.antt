@@ -71,14 +71,14 @@ returns-clause-gives g c = λ rest told.
     let most : max len 6 ≡ len = omega (arith, frame_least rest whole, line_size) in
     let planes = c.in_ok-read_planes.ensures.gives (drop len rest) (h.1 ∙ ap (λ (n : ℕ). Some (drop n rest)) most) in
     let all : length c.read_planes.new.out + len ≡ frame_size self.format rest = omega (arith, size_is self.format self.at rest line len h.0 size, out) in
-    let behind : len + length c.read_planes.new.out ≡ frame_size self.format rest = omega (arith, all) in
+    let after : len + length c.read_planes.new.out ≡ frame_size self.format rest = omega (arith, all) in
     let there : next_frame self.more self.format self.at rest ≡ Ok (take (size_of_picture self.format) (drop len rest)) =
     next_is self.more self.format self.at rest c.if-self-eq0.false
     ∙ planes_there self.format self.at rest line len h.0 size c.in_ok-check_line.ensures (omega (arith, planes.0, out)) in (
       omega (arith, within self.format self.at rest line len h.0 size, c.if-len-eq0.false),
       there ∙ ap (λ (n : ℕ). Ok (take n (drop len rest))) (sym out) ∙ ap (λ (l : List ℕ). Ok l) (sym planes.1),
       omega (arith, all),
-      planes.2 ∙ ap (λ (l : List ℕ). Some l) (drop-drop (length c.read_planes.new.out) len rest) ∙ ap (λ (n : ℕ). Some (drop n rest)) behind,
+      planes.2 ∙ ap (λ (l : List ℕ). Some l) (drop-drop (length c.read_planes.new.out) len rest) ∙ ap (λ (n : ℕ). Some (drop n rest)) after,
     )
 
 pub returns-in_err-len-clause-gives : goal.returns-in_err-len-clause-gives

@@ -1,5 +1,0 @@
-use Rattle.event_logs.proofs.Entries.{stays}
-use Rattle.event_logs.proofs.laws.cut_behind.Goals as goal
-
-pub returns : goal.returns
-returns c = stays

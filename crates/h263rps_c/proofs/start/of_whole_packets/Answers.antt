@@ -1,5 +1,0 @@
-use Rattle.h263rps_c.proofs.Starts.{whole}
-use Rattle.h263rps_c.proofs.start.of_whole_packets.Goals as goal
-
-pub returns : goal.returns
-returns c = whole c.starts_as_read.ensures c.of_format.ensures c.one_format.ensures.found
