@@ -120,6 +120,7 @@ with Sender(Params.of("qcif")) as sender, Receiver(Params.of("qcif")) as receive
     wanted("Refused: packets: no packet: picture 0 isn't the last one", lambda: sender.packets(first))
     wanted("(0, 0, 0)", lambda: (sender.sent(), receiver.played(), receiver.statistics().packets))
     wanted("True", lambda: sender.packets(sender.code(bytes(38016))) == before)
+    wanted("Refused: packets: no packet: picture 0 isn't the last one", lambda: sender.packets(first))
     receiver.reset(700)
     wanted("700", receiver.played)
 
