@@ -75,6 +75,7 @@ pub record SendReady (m : Send) (attached : Role → Bool) : Type 0 where
 pub record IsAtEntry (m : Send) (attached : Role → Bool) : Type 0 where
   pub fit : IsFit m attached
   pub some : 0 < m.log.entries
+  pub few : m.log.entries ≤ 16777216
   pub tally : IsOf (m.log.entries - 1) m.tally
 
 -- this was the state before the entry of this many bytes that was read last
