@@ -107,7 +107,7 @@ impl Ends {
         ensures played { IfOk result (λ _. self.new.receiver.played
             ≡ self.old.receiver.played + 1) }
     {
-        let coded = self.sender.code(frame, &[]);
+        let coded = self.sender.capture(frame, &[]);
         let passed = deliver(alloc, &self.sender, &mut self.receiver, coded.packets)?;
         self.receiver.play();
         if let Some(said) = passed.said {

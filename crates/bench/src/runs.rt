@@ -31,7 +31,7 @@ fn send_frame(
     ensures sent { IfOk result (λ _. sender.new.sent ≡ sender.old.sent + 1) }
 {
     let begin = Instant::now(rt)?;
-    sender.code(frame, &[]);
+    sender.capture(frame, &[]);
     add_since(rt, &begin, sum)?;
     if let Some(said) = said {
         sender.feedback(said.text());
