@@ -2,6 +2,7 @@
 
 import contextlib
 import csv
+import functools
 import io
 import os
 import random
@@ -143,7 +144,9 @@ class CampaignTest(Room):
     def killed(self, name: str, how: int) -> subprocess.Popen:
         """A run that is ended by a signal when some of its rows are there."""
         quiet = {"stdout": subprocess.PIPE, "stderr": subprocess.PIPE, "text": True}
-        run = subprocess.Popen(self.words(name, "--processes", 2), start_new_session=True, **quiet)
+        # A test that runs in the background ignores SIGINT, and so would what it starts.
+        usual = functools.partial(signal.signal, signal.SIGINT, signal.SIG_DFL)
+        run = subprocess.Popen(self.words(name, "--processes", 2), start_new_session=True, preexec_fn=usual, **quiet)
         self.wait_for_rows(name, 3)
         os.killpg(run.pid, how)
         run.communicate(timeout=60)

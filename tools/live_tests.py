@@ -1,5 +1,6 @@
 """Tests of the live call: its parts by themselves, and calls of a few seconds over loopback."""
 
+import functools
 import json
 import os
 import random
@@ -198,7 +199,9 @@ class PartsTest(unittest.TestCase):
 
     def test_an_interrupted_tool_ends_without_a_word(self) -> None:
         code = "import signal, sys; from calltools import errors; errors.run(lambda _: signal.raise_signal(signal.SIGINT))"
-        run = subprocess.run([sys.executable, "-c", code], cwd=TOOLS, capture_output=True)
+        # A test that runs in the background ignores SIGINT, and so would what it starts.
+        usual = functools.partial(signal.signal, signal.SIGINT, signal.SIG_DFL)
+        run = subprocess.run([sys.executable, "-c", code], cwd=TOOLS, capture_output=True, preexec_fn=usual)
         self.assertEqual((run.returncode, run.stdout, run.stderr), (130, b"", b""))
 
     def test_lead_and_slots_hold_the_wait(self) -> None:
