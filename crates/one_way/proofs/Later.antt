@@ -24,6 +24,7 @@ use Rattle.one_way.specs.Counts.{AreCounted}
 use Rattle.one_way.specs.Network.{HasPackets, HasReferences}
 use Rattle.one_way.specs.Way.{HoldsWay}
 
+-- what stands at a place of the first list stands there in both together
 get_before : {X : Type 0} (xs ys : List X) (k : ℕ) → k < length xs → slice_get (xs ++ ys) k ≡ slice_get xs k
 get_before [] ys k few = absurd (omega (arith, few))
 get_before (a ∷ xs) ys zero few = refl
