@@ -4,7 +4,7 @@ use Rattle.h263_outside.specs.declared.desk.Role.{Role}
 use Rattle.h263_types.specs.Sizes.{mbs_of, size_of_picture}
 use Rattle.h263_types.specs.declared.format.Format.{Format}
 use Rattle.h263_types.specs.declared.format.Format.TheVariants.{SubQcif, Qcif, Cif}
-use Rattle.y4m.specs.declared.reader.Y4mReader.{Y4mReader}
+use Rattle.y4m.specs.Place.{Y4mPlace}
 use Rattle.call_rings.specs.Keeping.{period_of}
 use Rattle.call_rings.specs.Messages.{said_of}
 use Rattle.one_way.specs.Both.{State}
@@ -44,15 +44,16 @@ can_still way tally sender can = record {
 }
 
 module _ (x : Parts) (old new : Role → Bool) (r : PartsReady x old) (attached : new ≡ old) where
-  pub ready_so : (video : Y4mReader) (sender : State) (receiver : Kept) (link : Link)
+  pub ready_so : (video : Y4mPlace) (sender : State) (receiver : Kept) (link : Link)
       → video.format ≡ x.video.format → sender.params ≡ x.sender.params → CanSend link.network.way sender
       → period_of link.network.way.packets ≡ period_of x.link.network.way.packets
       → sender.sent + video.more ≡ 1048576 → receiver.played ≤ sender.sent → (x.terms.plain ≡ true → receiver.played ≡ sender.sent)
       → length link.frame.items ≡ size_of_picture x.terms.params.format → (x.terms.plain ≡ true → link.trace.ended ≡ false)
+      → link.trace.lines ≤ 16777216
       → total_of link.network.way.tally ≡ receiver.played
       → said_of link.network.messages ≤ 400 * (link.trace.lines + sender.sent)
       → PartsReady (record { terms = x.terms; video = video; sender = sender; receiver = receiver; link = link }) new
-  ready_so video sender receiver link format params can period sent played level frame unread counted said = record {
+  ready_so video sender receiver link format params can period sent played level frame unread few counted said = record {
     opens = subst (CallOpens x.terms) (sym attached) r.opens;
     format = format ∙ r.format;
     frame = frame;
@@ -63,6 +64,7 @@ module _ (x : Parts) (old new : Role → Bool) (r : PartsReady x old) (attached 
     played = played;
     level = level;
     unread = unread;
+    few = few;
     counted = counted;
     said = said;
   }

@@ -130,7 +130,7 @@ returns-in_ok-allow-in-Back g c =
     (ap (λ (q : FixedPace). let names : Names = record (names_of m) { pace = q } in names) done.ensures.same.pace) refl
     (ready_so x old.attached old.attached r refl x.video sender x.receiver x.link refl done.ensures.same.params (done.ensures.ready r.can) refl
     (omega (arith, r.sent, done.ensures.sent)) (omega (arith, r.played, done.ensures.sent)) (λ plain. absurd (cc (plain, c.requires.recorded))) r.frame (λ plain. absurd (cc (plain, c.requires.recorded)))
-    r.counted (omega (arith, c.requires.room, done.ensures.sent)))
+    r.few r.counted (omega (arith, c.requires.room, done.ensures.sent)))
     (c.step_laws.ensures.none old)
     (λ o s inputs b.
     let stood = b.stood in
@@ -196,7 +196,7 @@ returns-in_ok-play_next-in-Play g c =
     (subst (λ (w : Way). CanSend w x.sender) (sym played.way) (can_still x.link.network.way c.play_next.new.network.way.tally x.sender r.can))
     (ap (λ (w : Way). period_of w.packets) played.way)
     r.sent (omega (arith, played.played, ahead)) (λ plain. absurd (cc (plain, c.requires.recorded))) r.frame (λ plain. absurd (cc (plain, c.requires.recorded)))
-    played.counted (omega (arith, played.few, c.requires.room)))
+    r.few played.counted (omega (arith, played.few, c.requires.room)))
     (c.step_laws.ensures.writes old new played.rest)
     (λ o s inputs b.
     let k = b.stood in
