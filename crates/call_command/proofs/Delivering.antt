@@ -39,7 +39,7 @@ module _ (x : Parts) (attached : Role → Bool) (r : PartsReady x attached) (rec
       ready_so x attached attached r refl x.video x.sender receiver (record x.link { network = network }) refl refl
       (subst (λ (w : Way). CanSend w x.sender) (sym way) r.can) (ap kept_in way)
       r.sent (omega (arith, r.played, played)) (λ plain. absurd (cc (plain, recorded))) r.frame (λ plain. absurd (cc (plain, recorded)))
-      (ap (λ (w : Way). total_of (tally_of w)) way ∙ r.counted ∙ sym played) said
+      r.few (ap (λ (w : Way). total_of (tally_of w)) way ∙ r.counted ∙ sym played) said
 
   -- a packet that is not refused is among those that are kept, and near
   pub may_deliver : NearLaws x.terms.params → (s : CallState) (inputs : Role → List ℕ) → StoodBefore x s inputs → (later : List Frame) (n j : ℕ)

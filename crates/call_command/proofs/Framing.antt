@@ -8,8 +8,8 @@ use Rattle.h263_planes.specs.Layout.{picture_of}
 use Rattle.h263_planes.specs.Picture.{Picture}
 use Rattle.h263_outside.specs.declared.desk.Role.{Role}
 use Rattle.h263_outside.specs.declared.desk.Role.TheVariants.{Events}
-use Rattle.y4m.specs.declared.reader.Y4mReader.{Y4mReader}
-use Rattle.loss_trace.specs.declared.reader.TraceReader.{TraceReader}
+use Rattle.y4m.specs.Place.{Y4mPlace}
+use Rattle.loss_trace.specs.Place.{TracePlace}
 use Rattle.call_model.specs.CodedPictures.{Coded}
 use Rattle.call_model.specs.IdealCall.{Event, Send, Deliver, Play, slices_at}
 use Rattle.call_model.specs.JoinedRun.{Joined}
@@ -100,7 +100,7 @@ module _ (x : Parts) (laws : WayLaws x.terms.params) (events : EventLaws x.terms
       let shown : played ≡ length s.frames = same ∙ level ∙ k.sent in
       λ i. play_texts (in_both (both [] (passed_on (number i) (count_of [] (number i)) s.past))) (shown i)
 
-  pub stands_after : (video : Y4mReader) (sender : State) (receiver : Kept) (link : Link) (n size : ℕ) (rest : Role → List ℕ) → n ≡ x.sender.sent
+  pub stands_after : (video : Y4mPlace) (sender : State) (receiver : Kept) (link : Link) (n size : ℕ) (rest : Role → List ℕ) → n ≡ x.sender.sent
       → ((later : List Frame) → HoldsNetwork p link.network sender receiver s.before (all later) (passed_on n (count_of later n) s.past))
       → link.trace ≡ x.link.trace → sender.sent ≡ x.sender.sent + 1 → video.at ≡ x.video.at + size → video.more + 1 ≡ x.video.more → rest Events ≡ inputs Events
       → PartsStand (record { terms = x.terms; video = video; sender = sender; receiver = receiver; link = link }) (record then { at = x.video.at + size; more = x.video.more - 1 }) rest
@@ -119,7 +119,7 @@ module _ (x : Parts) (laws : WayLaws x.terms.params) (events : EventLaws x.terms
         };
     begun = k.begun;
     sent = sent ∙ ap (λ (i : ℕ). i + 1) k.sent ∙ sym (longer s.frames f);
-    over = λ ended. still ∙ k.over (ap (λ (r : TraceReader). r.ended) (sym same) ∙ ended);
+    over = λ ended. still ∙ k.over (ap (λ (r : TracePlace). r.ended) (sym same) ∙ ended);
     holds = λ later.
         subst (λ (l : List Frame). HoldsNetwork p link.network sender receiver s.before l then.past) (sym (push_then s.frames later f))
         (subst (λ (i : ℕ). HoldsNetwork p link.network sender receiver s.before (all later) (passed_on (length s.frames) i s.past)) (count_same later (length s.frames))

@@ -4,7 +4,7 @@ use Rattle.h263_outside.specs.declared.desk.Role.{Role}
 use Rattle.h263_types.specs.Sizes.{mbs_of, size_of_picture}
 use Rattle.h263_types.specs.declared.format.Format.{Format}
 use Rattle.h263_types.specs.declared.format.Format.TheVariants.{SubQcif, Qcif, Cif}
-use Rattle.y4m.specs.declared.reader.Y4mReader.{Y4mReader}
+use Rattle.y4m.specs.Place.{Y4mPlace}
 use Rattle.one_way.specs.Both.{State}
 use Rattle.receiver_end.specs.declared.kept.Kept.{Kept}
 use Rattle.one_way.specs.Counts.{total_of}
@@ -28,15 +28,16 @@ pub plain_keeps : (t : Terms) (n : ℕ) → n ≡ pictures_kept t → t.plain �
 plain_keeps t n is plain = is ∙ ap (λ (b : Bool). if b then 1 else clocks.period_of t.params.clock) plain
 
 module _ (x : Parts) (old new : Role → Bool) (r : PartsReady x old) (attached : new ≡ old) where
-  pub ready_so : (video : Y4mReader) (sender : State) (receiver : Kept) (link : Link)
+  pub ready_so : (video : Y4mPlace) (sender : State) (receiver : Kept) (link : Link)
       → video.format ≡ x.video.format → sender.params ≡ x.sender.params → CanSend (way_of link.network) sender
       → kept_in (way_of link.network) ≡ kept_in (way_of x.link.network)
       → sender.sent + video.more ≡ 1048576 → receiver.played ≤ sender.sent → (x.terms.plain ≡ true → receiver.played ≡ sender.sent)
       → length link.frame.items ≡ size_of_picture x.terms.params.format → (x.terms.plain ≡ true → link.trace.ended ≡ false)
+      → link.trace.lines ≤ 16777216
       → total_of (tally_of (way_of link.network)) ≡ receiver.played
       → said_in link.network ≤ 400 * (link.trace.lines + sender.sent)
       → PartsReady (record { terms = x.terms; video = video; sender = sender; receiver = receiver; link = link }) new
-  ready_so video sender receiver link format params can period sent played level frame unread counted said = record {
+  ready_so video sender receiver link format params can period sent played level frame unread few counted said = record {
     opens = subst (CallOpens x.terms) (sym attached) r.opens;
     format = format ∙ r.format;
     frame = frame;
@@ -47,6 +48,7 @@ module _ (x : Parts) (old new : Role → Bool) (r : PartsReady x old) (attached 
     played = played;
     level = level;
     unread = unread;
+    few = few;
     counted = counted;
     said = said;
   }

@@ -8,7 +8,7 @@ use Rattle.h263_outside.specs.declared.desk.Role.{Role}
 use Rattle.h263_outside.specs.declared.desk.Role.TheVariants.{Video, Events, Pictures, Report}
 use Rattle.h263_types.specs.declared.Mark.{Mark}
 use Rattle.h263_planes.specs.Picture.{Picture}
-use Rattle.y4m.specs.declared.reader.Y4mReader.{Y4mReader}
+use Rattle.y4m.specs.Place.{Y4mPlace}
 use Rattle.y4m.specs.Text.{frame_text}
 use Rattle.call_report.specs.Text.{picture_text}
 use Rattle.desk_program.specs.Run.{left_after}
@@ -37,7 +37,7 @@ row_texts n mark reference picture =
 -- the parts of a call at a turn
 pub record Parts : Type 0 where
   pub terms : Terms
-  pub video : Y4mReader
+  pub video : Y4mPlace
   pub sender : State
   pub receiver : Kept
   pub link : Link
@@ -118,6 +118,7 @@ pub record PartsReady (x : Parts) (attached : Role → Bool) : Type 0 where
   pub played : x.receiver.played ≤ x.sender.sent
   pub level : x.terms.plain ≡ true → x.receiver.played ≡ x.sender.sent
   pub unread : x.terms.plain ≡ true → x.link.trace.ended ≡ false
+  pub few : x.link.trace.lines ≤ 16777216
   pub counted : total_of (tally_of (way_of x.link.network)) ≡ x.receiver.played
   -- a line or a frame makes 400 messages at most
   pub said : said_in x.link.network ≤ 400 * (x.link.trace.lines + x.sender.sent)

@@ -128,7 +128,7 @@ returns-in_ok-allow-in-Back g c =
     (ap (λ (q : FixedPace). let names : Names = record (names_of m) { pace = q } in names) done.ensures.same.pace) refl
     (ready_so x old.attached old.attached r refl x.video sender x.receiver x.link refl done.ensures.same.params (done.ensures.ready r.can) refl
     (omega (arith, r.sent, done.ensures.sent)) (omega (arith, r.played, done.ensures.sent)) (λ plain. absurd (cc (plain, c.requires.recorded))) r.frame (λ plain. absurd (cc (plain, c.requires.recorded)))
-    r.counted (omega (arith, c.requires.room, done.ensures.sent)))
+    r.few r.counted (omega (arith, c.requires.room, done.ensures.sent)))
     (c.step_laws.ensures.none old)
     (λ o s inputs b.
     let stood = b.stood in
@@ -192,7 +192,7 @@ returns-in_ok-play_next-in-Play g c =
     line_goes_on m _ c.args.line c.args.event says.Play old new c.in-Play.is refl refl
     (ready_so x old.attached new.attached r played.rest.attached x.video x.sender c.play_next.new.receiver link refl refl
     (played.way.can x.sender r.can) played.way.kept r.sent (omega (arith, played.played, ahead)) (λ plain. absurd (cc (plain, c.requires.recorded))) r.frame (λ plain. absurd (cc (plain, c.requires.recorded)))
-    played.counted (omega (arith, played.few, c.requires.room)))
+    r.few played.counted (omega (arith, played.few, c.requires.room)))
     (c.step_laws.ensures.writes old new played.rest)
     (λ o s inputs b.
     let k = b.stood in

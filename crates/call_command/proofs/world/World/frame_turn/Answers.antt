@@ -162,7 +162,7 @@ returns g c =
     (c.play_next.ensures.way.kept ∙ ap kept_in c.deliver_all.ensures.way ∙ c.send-sent.ensures.kept)
     (omega (arith, r.sent, c.send-sent.ensures.sent, moves.1)) (omega (arith, r.played, c.send-sent.ensures.sent, c.play_next.ensures.played, c.deliver_all.ensures.played))
     (λ plain. omega (arith, level, c.send-sent.ensures.sent, c.play_next.ensures.played, c.deliver_all.ensures.played))
-    long (λ plain. r.unread plain) c.play_next.ensures.counted
+    long (λ plain. r.unread plain) r.few c.play_next.ensures.counted
     (omega (arith, r.said, c.play_next.ensures.few, c.deliver_all.ensures.few, c.send-sent.ensures.messages.said, c.send-sent.ensures.ready.most, few_mbs sender.params.format, c.send-sent.ensures.sent)))
     (c.step_laws.ensures.both old mid new (c.step_laws.ensures.reads old mid c.frame.ensures.rest) (c.step_laws.ensures.writes mid new c.play_next.ensures.rest))
     (λ s inputs k told.

@@ -3,7 +3,7 @@ use Rattle.std.specs.Prelude.{if◌then◌else◌}
 use Rattle.h263_outside.specs.declared.desk.Role.TheVariants.{Video, Events}
 use Rattle.loss_trace.specs.declared.event.Event.{Event as Line}
 use Rattle.loss_trace.specs.declared.fault.TraceStop.{TraceStop}
-use Rattle.loss_trace.specs.declared.reader.TraceReader.{TraceReader}
+use Rattle.loss_trace.specs.Place.{TracePlace}
 use Rattle.loss_trace.specs.Reader.{EventGives}
 use Rattle.call_report.specs.declared.status.Status.TheVariants.{Ok as Fine}
 use Rattle.call_report.specs.Status.{phase, trace_stop}
@@ -19,7 +19,7 @@ use Rattle.call_command.proofs.LineRead.{line_read, line_taken, ready_read, room
 use Rattle.call_command.proofs.world.World.line_turn.Goals as goal
 
 -- what the reader says, where its answer is known
-answered : (r known : Result (Option (ℕ × Line)) TraceStop) (old new : TraceReader) (rest : List ℕ) (left : Option (List ℕ)) → r ≡ known → EventGives r old rest new left → EventGives known old rest new left
+answered : (r known : Result (Option (ℕ × Line)) TraceStop) (old new : TracePlace) (rest : List ℕ) (left : Option (List ℕ)) → r ≡ known → EventGives r old rest new left → EventGives known old rest new left
 answered r known old new rest left is gives = subst (λ (q : Result (Option (ℕ × Line)) TraceStop). EventGives q old rest new left) is gives
 
 pub returns-in_err-line : goal.returns-in_err-line
