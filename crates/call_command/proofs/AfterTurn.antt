@@ -5,13 +5,13 @@ use Rattle.h263_planes.specs.Layout.{picture_of}
 use Rattle.h263_outside.specs.Desk.{Outside, Rose}
 use Rattle.h263_outside.specs.declared.desk.Role.{Role}
 use Rattle.h263_outside.specs.declared.desk.Role.TheVariants.{Video, Events}
-use Rattle.y4m.specs.declared.reader.Y4mReader.{Y4mReader}
+use Rattle.y4m.specs.Place.{Y4mPlace}
 use Rattle.loss_trace.specs.declared.event.Event.{Event as Line}
 use Rattle.loss_trace.specs.declared.event.Event.TheVariants as says
 use Rattle.loss_trace.specs.declared.fault.TraceFault.{TraceFault}
 use Rattle.loss_trace.specs.Lines.{is_closed}
 use Rattle.loss_trace.specs.Reader.{Passes}
-use Rattle.loss_trace.specs.declared.reader.TraceReader.{TraceReader}
+use Rattle.loss_trace.specs.Place.{TracePlace}
 use Rattle.call_report.specs.declared.status.Status.{Status}
 use Rattle.call_report.specs.declared.status.Status.TheVariants.{TraceRefused, WriteFault}
 use Rattle.desk_program.specs.Run.{Step, left_after}
@@ -51,7 +51,7 @@ use Rattle.call_command.proofs.Lines.{nothing_after}
 
 -- the parts stood at the state before it
 pub stood_after : (x : Parts) (s : CallState) (inputs : Role → List ℕ) → PartsStand x s inputs → x.terms.plain ≡ false
-    → (trace : TraceReader) (left : Option (List ℕ)) → trace.lines ≡ x.link.trace.lines + 1 → Passes (inputs Events) trace left
+    → (trace : TracePlace) (left : Option (List ℕ)) → trace.lines ≡ x.link.trace.lines + 1 → Passes (inputs Events) trace left
     → StoodBefore (record x { link = record x.link { trace = trace } }) (state_of x s.before s.frames s.past) inputs
 stood_after x s inputs k recorded trace left lines passes = record {
   is = λ i. record (state_of x s.before s.frames s.past) { lines = sym lines i; ended = sym passes.ends i };
@@ -163,14 +163,14 @@ module _ (x : Parts) (s : CallState) (inputs : Role → List ℕ) (k : StoodBefo
       is = ap (λ (st : CallState). with_events st events) k.is ∙ (λ i. read_to (sym trace_same i) events);
       begun = k.begun;
       sent = sent_same ∙ k.sent;
-      over = λ ended. k.over (ap (λ (r : TraceReader). r.ended) (sym trace_same) ∙ ended);
+      over = λ ended. k.over (ap (λ (r : TracePlace). r.ended) (sym trace_same) ∙ ended);
       holds = holds;
     }
       where
         with_events : CallState → List Event → CallState
         with_events st events = record st { past = events }
 
-        read_to : TraceReader → List Event → CallState
+        read_to : TracePlace → List Event → CallState
         read_to reader events = record (state_of x s.before s.frames events) { lines = reader.lines; ended = reader.ended }
 
     pub event_goes : TurnLaws → (before mid : Outside) → HasTaken inputs before mid → (event : Line) (events : List Event)
@@ -194,7 +194,7 @@ module _ (x : Parts) (s : CallState) (inputs : Role → List ℕ) (k : StoodBefo
 
   -- ---- the frame that the line asks for was sent
 
-  module _ (out : List ℕ) (video : Y4mReader) (sender : State) (link : Link) (trace_same : link.trace ≡ x.link.trace) where
+  module _ (out : List ℕ) (video : Y4mPlace) (sender : State) (link : Link) (trace_same : link.trace ≡ x.link.trace) where
     abbrev f : Frame
     f = bare (picture_of s.params.format out)
 
@@ -210,7 +210,7 @@ module _ (x : Parts) (s : CallState) (inputs : Role → List ℕ) (k : StoodBefo
           ∙ (λ i. read_to (sym trace_same i) (sym place i) (less i));
       begun = k.begun;
       sent = sent ∙ ap (λ (n : ℕ). n + 1) k.sent ∙ sym (longer s.frames f);
-      over = λ ended. ap (λ (n : ℕ). drop n trace) (nothing_more (line_size trace)) ∙ k.over (ap (λ (r : TraceReader). r.ended) (sym trace_same) ∙ ended);
+      over = λ ended. ap (λ (n : ℕ). drop n trace) (nothing_more (line_size trace)) ∙ k.over (ap (λ (r : TracePlace). r.ended) (sym trace_same) ∙ ended);
       holds = λ later. subst (λ (l : List Frame). HasDone sent_parts s.before l (Send ∷ s.past)) (sym (push_then s.frames later f)) (holds later);
     }
       where
@@ -220,7 +220,7 @@ module _ (x : Parts) (s : CallState) (inputs : Role → List ℕ) (k : StoodBefo
         sent_from : CallState → ℕ → ℕ → CallState
         sent_from st at more = record st { frames = s.frames ++ f ∷ []; past = Send ∷ s.past; at = at; more = more }
 
-        read_to : TraceReader → ℕ → ℕ → CallState
+        read_to : TracePlace → ℕ → ℕ → CallState
         read_to reader at more = record (state_of x s.before (s.frames ++ f ∷ []) (Send ∷ s.past)) { at = at; more = more; lines = reader.lines; ended = reader.ended }
 
   -- ---- the next picture was played

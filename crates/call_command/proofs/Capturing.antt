@@ -7,7 +7,7 @@ use Rattle.h263_planes.specs.Layout.{picture_of}
 use Rattle.y4m.specs.declared.fault.Y4mFault.{Y4mFault}
 use Rattle.y4m.specs.declared.fault.VideoStop.{VideoStop}
 use Rattle.y4m.specs.declared.fault.VideoStop.TheVariants.{Read, Refused}
-use Rattle.y4m.specs.declared.reader.Y4mReader.{Y4mReader}
+use Rattle.y4m.specs.Place.{Y4mPlace}
 use Rattle.y4m.specs.Frame.{frame_of, next_frame, frame_size}
 use Rattle.loss_trace.specs.declared.fault.TraceFault.TheVariants.{NoFrame}
 use Rattle.loss_trace.specs.Lines.{is_closed}
@@ -47,7 +47,7 @@ video_next s trace (b ∷ rest) r some is = ap (captured_step s trace (frame_siz
 
 -- ---- the capture: `old` is the desk after the line, `mid` after the read of the frame
 
-module _ (turns : TurnLaws) (laws : VideoLaws) (s : CallState) (inputs : Role → List ℕ) (before old mid : Outside) (taken : HasTaken inputs before old) (others : (r : Role) → r ≢ Video → mid.left r ≡ old.left r) (same : mid.written ≡ old.written) (reader : Y4mReader) (out : List ℕ) where
+module _ (turns : TurnLaws) (laws : VideoLaws) (s : CallState) (inputs : Role → List ℕ) (before old mid : Outside) (taken : HasTaken inputs before old) (others : (r : Role) → r ≢ Video → mid.left r ≡ old.left r) (same : mid.written ≡ old.written) (reader : Y4mPlace) (out : List ℕ) where
   abbrev trace : List ℕ
   trace = inputs Events
 

@@ -18,6 +18,7 @@ use Rattle.desk_program.specs.Ends.{Ended, GainsFronts, GivesUp, HasCause, IsSto
 use Rattle.call_encoding.specs.Frames.{Frame}
 use Rattle.call_command.specs.Counts.{call_text, counts_of, counts_text}
 use Rattle.one_way.specs.Laws.{WayLaws}
+use Rattle.one_way.specs.Way.{tally_of, way_of}
 use Rattle.call_command.specs.declared.world.World.{World}
 use Rattle.call_command.specs.Call.{CallState, by_ends, may_read, talk_step, trace_step, video_step}
 use Rattle.call_command.specs.Standing.{EndsStand, HasDone, Parts, PartsReady, PartsStand, more_of, parts_of, source_of, state_of}
@@ -56,7 +57,7 @@ done_now x s holds = subst (λ (l : List Frame). HasDone x s.before l s.past) (a
 
 -- the line of the counts is that of the state
 pub counts_are : (x : Parts) → WayLaws x.terms.params → (s : CallState) (inputs : Role → List ℕ) → PartsStand x s inputs
-    → counts_of x.link.network.way.tally x.receiver.played x.sender.sent ≡ call_text (by_ends (state_of x s.before s.frames s.past))
+    → counts_of (tally_of (way_of x.link.network)) x.receiver.played x.sender.sent ≡ call_text (by_ends (state_of x s.before s.frames s.past))
 counts_are x laws s inputs k =
     let h = (done_now x s k.holds).way_holds in
     let played = laws.played x.sender x.receiver s.before s.frames s.past h.joined in

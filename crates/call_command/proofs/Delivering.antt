@@ -8,8 +8,6 @@ use Rattle.desk_program.specs.Run.Step.{Goes}
 use Rattle.desk_program.specs.Ends.{Went}
 use Rattle.desk_program.specs.Laws.{StepLaws, TurnLaws}
 use Rattle.desk_program.specs.Texts.{no_texts}
-use Rattle.call_rings.specs.Keeping.{period_of}
-use Rattle.call_rings.specs.Messages.{said_of}
 use Rattle.call_model.specs.IdealCall.{Event, Deliver}
 use Rattle.call_encoding.specs.Frames.{Frame}
 use Rattle.receiver_end.specs.declared.kept.Kept.{Kept}
@@ -18,10 +16,9 @@ use Rattle.one_way.specs.declared.network.Network.{Network}
 use Rattle.one_way.specs.declared.way.Way.{Way}
 use Rattle.one_way.specs.Both.{both_after, steady}
 use Rattle.one_way.specs.Counts.{total_of}
-use Rattle.one_way.specs.Network.{IsAmongLast}
 use Rattle.one_way.specs.Laws.{NearLaws}
 use Rattle.one_way.specs.Refused.{refusal_after}
-use Rattle.one_way.specs.Way.{CanSend, MayHappenNow}
+use Rattle.one_way.specs.Way.{CanSend, IsAmongLast, MayHappenNow, kept_in, said_in, tally_of, way_of}
 use Rattle.call_command.specs.declared.world.World.{World}
 use Rattle.call_command.specs.Call.{CallState, after_line, by_ends, event_step, line_turn, may_read}
 use Rattle.call_command.specs.Standing.{HasDone, Parts, PartsReady, PartsStand, StoodBefore, more_of, parts_of}
@@ -35,19 +32,19 @@ with_network x network receiver = record x { receiver = receiver; link = record 
 
 module _ (x : Parts) (attached : Role → Bool) (r : PartsReady x attached) (recorded : x.terms.plain ≡ false) where
   -- the parts are as ready after it
-  pub ready_delivered : (network : Network) (receiver : Kept) → network.way ≡ x.link.network.way → receiver.played ≡ x.receiver.played
-      → said_of network.messages ≤ 400 * (x.link.trace.lines + x.sender.sent)
+  pub ready_delivered : (network : Network) (receiver : Kept) → way_of network ≡ way_of x.link.network → receiver.played ≡ x.receiver.played
+      → said_in network ≤ 400 * (x.link.trace.lines + x.sender.sent)
       → PartsReady (with_network x network receiver) attached
   ready_delivered network receiver way played said =
       ready_so x attached attached r refl x.video x.sender receiver (record x.link { network = network }) refl refl
-      (subst (λ (w : Way). CanSend w x.sender) (sym way) r.can) (ap (λ (w : Way). period_of w.packets) way)
+      (subst (λ (w : Way). CanSend w x.sender) (sym way) r.can) (ap kept_in way)
       r.sent (omega (arith, r.played, played)) (λ plain. absurd (cc (plain, recorded))) r.frame (λ plain. absurd (cc (plain, recorded)))
-      (ap (λ (w : Way). total_of w.tally) way ∙ r.counted ∙ sym played) said
+      r.few (ap (λ (w : Way). total_of (tally_of w)) way ∙ r.counted ∙ sym played) said
 
   -- a packet that is not refused is among those that are kept, and near
   pub may_deliver : NearLaws x.terms.params → (s : CallState) (inputs : Role → List ℕ) → StoodBefore x s inputs → (later : List Frame) (n j : ℕ)
       → refusal_after x.terms.params s.before (s.frames ++ later) s.past (Deliver n j) ≡ None
-      → IsAmongLast x.link.network.way.packets (length (both_after x.terms.params (steady x.terms.params) (s.frames ++ later) s.before s.past).sender.coded) n
+      → IsAmongLast (way_of x.link.network) (length (both_after x.terms.params (steady x.terms.params) (s.frames ++ later) s.before s.past).sender.coded) n
       × MayHappenNow x.terms.params s.before (s.frames ++ later) s.past (Deliver n j)
   may_deliver near s inputs k later n j none =
       let p = x.terms.params in
@@ -58,14 +55,14 @@ module _ (x : Parts) (attached : Role → Bool) (r : PartsReady x attached) (rec
 -- the packets of a line are delivered, of which one tells whether they may be
 pub delivered_goes_on : (m y : World) (line : ℕ) (event said : Line) (n j : ℕ) (mid : Outside) (network : Network) (receiver : Kept) (events : CallState → List Event)
     → event ≡ said → names_of y ≡ names_of m → parts_of y ≡ with_network (parts_of m) network receiver
-    → PartsReady (parts_of m) mid.attached → m.terms.plain ≡ false → network.way ≡ m.network.way → receiver.played ≡ m.receiver.now.played
-    → said_of network.messages ≤ 400 * (m.trace.lines + m.sender.now.sent) → NearLaws m.terms.params → TurnLaws → StepLaws
+    → PartsReady (parts_of m) mid.attached → m.terms.plain ≡ false → way_of network ≡ way_of m.network → receiver.played ≡ m.receiver.now.played
+    → said_in network ≤ 400 * (m.trace.lines + m.sender.now.sent) → NearLaws m.terms.params → TurnLaws → StepLaws
     → ((s : CallState) (inputs : Role → List ℕ) → StoodBefore (parts_of m) s inputs → refusal_after m.terms.params s.before s.frames s.past (Deliver n j) ≡ None
     → event_step by_ends s inputs (inputs Events) said ≡ Goes (after_line (record s { past = events s }) (inputs Events)) (line_turn (inputs Events) no_texts))
     → ((s : CallState) (frames : List Frame) → (receiver_end.run_of m.terms.params s.before).played ≡ 0 → HasDone (parts_of m) s.before frames s.past
     → refusal_after m.terms.params s.before frames s.past (Deliver n j) ≡ None)
     → ((s : CallState) (inputs : Role → List ℕ) (k : StoodBefore (parts_of m) s inputs) (later : List Frame)
-    → IsAmongLast m.network.way.packets (length (both_after m.terms.params (steady m.terms.params) (s.frames ++ later) s.before s.past).sender.coded) n
+    → IsAmongLast (way_of m.network) (length (both_after m.terms.params (steady m.terms.params) (s.frames ++ later) s.before s.past).sender.coded) n
     × MayHappenNow m.terms.params s.before (s.frames ++ later) s.past (Deliver n j)
     → HasDone (with_network (parts_of m) network receiver) s.before (s.frames ++ later) (events s))
     → TakesLine m y line event (Ok true) mid mid

@@ -11,7 +11,7 @@ use Rattle.h263_types.specs.declared.format.Format.{Format}
 use Rattle.y4m.specs.declared.fault.Y4mFault.{Y4mFault}
 use Rattle.y4m.specs.declared.fault.VideoStop.{VideoStop}
 use Rattle.y4m.specs.declared.fault.VideoStop.TheVariants.{Read, Refused}
-use Rattle.y4m.specs.declared.reader.Y4mReader.{Y4mReader}
+use Rattle.y4m.specs.Place.{Y4mPlace}
 use Rattle.y4m.specs.Head.{head_of, head_size}
 use Rattle.y4m.specs.Frame.{frame_of, next_frame, frame_size}
 use Rattle.y4m.specs.Reader.{HeadGives, FrameGives}
@@ -68,14 +68,14 @@ pub lent : (v : Vec ℕ Global) (l got : List ℕ) (n : ℕ) → got ≡ (with_i
 lent v l got n is long whole = is ∙ with_items_is v l (omega (arith, long, whole, v.ok.0))
 
 -- what the reader of a frame says, for a state that has its format, place and count
-abbrev pub Gives : Result Bool VideoStop → CallState → List ℕ → List ℕ → Y4mReader → Option (List ℕ) → Type 0
+abbrev pub Gives : Result Bool VideoStop → CallState → List ℕ → List ℕ → Y4mPlace → Option (List ℕ) → Type 0
 Gives (Ok true) s rest out new left =
     (0 < length rest) × (next_frame s.more s.params.format s.at rest ≡ Ok out) × (new.at ≡ s.at + frame_size s.params.format rest) × (left ≡ Some (drop (frame_size s.params.format rest) rest))
 Gives (Ok false) s rest out new left = (rest ≡ []) × (left ≡ Some [])
 Gives (Err (Refused fault)) s rest out new left = (0 < length rest) × (next_frame s.more s.params.format s.at rest ≡ Err fault)
 Gives (Err Read) s rest out new left = (k : ℕ) × (left ≡ Some (drop k rest)) × IsErr (frame_of s.params.format s.at (take k rest))
 
-pub gives_so : (r : Result Bool VideoStop) (s : CallState) (reader new : Y4mReader) (rest out : List ℕ) (left : Option (List ℕ))
+pub gives_so : (r : Result Bool VideoStop) (s : CallState) (reader new : Y4mPlace) (rest out : List ℕ) (left : Option (List ℕ))
     → s.more ≡ reader.more → s.at ≡ reader.at → reader.format ≡ s.params.format → FrameGives r reader rest out new left → Gives r s rest out new left
 gives_so (Ok true) s reader new rest out left more at format (some, is, place, gone) = (
   some,
@@ -88,7 +88,7 @@ gives_so (Err (Refused fault)) s reader new rest out left more at format (some, 
 gives_so (Err Read) s reader new rest out left more at format (k, gone, lost) = (k, gone, subst (λ (f : Format). IsErr (frame_of f s.at (take k rest))) format (subst (λ (a : ℕ). IsErr (frame_of reader.format a (take k rest))) (sym at) lost))
 
 -- the same where its answer is known
-pub given_so : (r known : Result Bool VideoStop) (s : CallState) (reader new : Y4mReader) (rest out : List ℕ) (left : Option (List ℕ)) → r ≡ known
+pub given_so : (r known : Result Bool VideoStop) (s : CallState) (reader new : Y4mPlace) (rest out : List ℕ) (left : Option (List ℕ)) → r ≡ known
     → s.more ≡ reader.more → s.at ≡ reader.at → reader.format ≡ s.params.format → FrameGives r reader rest out new left → Gives known s rest out new left
 given_so r known s reader new rest out left is more at format gives =
     gives_so known s reader new rest out left more at format (subst (λ (x : Result Bool VideoStop). FrameGives x reader rest out new left) is gives)
@@ -125,7 +125,7 @@ module _ (turns : TurnLaws) (laws : VideoLaws) (inputs : Role → List ℕ) (old
   head_stops t (Refused fault) e =
       record { last = refusal (VideoRefused fault); is = ap (head_step t (inputs Video)) e; by = turns.refuses (VideoRefused fault) inputs old mid same }
 
-  pub frame_stops : (s : CallState) → s.ended ≡ false → (stop : VideoStop) (out : List ℕ) (reader : Y4mReader) → Gives (Err stop) s (inputs Video) out reader (mid.left Video)
+  pub frame_stops : (s : CallState) → s.ended ≡ false → (stop : VideoStop) (out : List ℕ) (reader : Y4mPlace) → Gives (Err stop) s (inputs Video) out reader (mid.left Video)
       → GivesUp (phase (video_stop stop)) (video_stop stop) (video_step by_ends s (inputs Video)) (may_read s) inputs old mid
   frame_stops s going Read out reader e = record {
     part = of Video e.0;
@@ -140,7 +140,7 @@ module _ (turns : TurnLaws) (laws : VideoLaws) (inputs : Role → List ℕ) (old
   module _ (new : Outside) (still : new.left ≡ mid.left) where
     -- ---- the end of the video
 
-    module _ (s : CallState) (out : List ℕ) (reader : Y4mReader) (e : Gives (Ok false) s (inputs Video) out reader (mid.left Video)) where
+    module _ (s : CallState) (out : List ℕ) (reader : Y4mPlace) (e : Gives (Ok false) s (inputs Video) out reader (mid.left Video)) where
       end_is : video_step by_ends s (inputs Video) ≡ Ends (all_played (by_ends s))
       end_is = ap (video_step by_ends s) e.0
 
@@ -162,7 +162,7 @@ module _ (turns : TurnLaws) (laws : VideoLaws) (inputs : Role → List ℕ) (old
 
     -- ---- a frame
 
-    module _ (s : CallState) (going : s.ended ≡ false) (out : List ℕ) (reader : Y4mReader) (e : Gives (Ok true) s (inputs Video) out reader (mid.left Video)) (texts : Role → List ℕ) (texts_are : texts ≡ play_texts (by_ends (with_picture by_ends s out)) (length s.frames)) where
+    module _ (s : CallState) (going : s.ended ≡ false) (out : List ℕ) (reader : Y4mPlace) (e : Gives (Ok true) s (inputs Video) out reader (mid.left Video)) (texts : Role → List ℕ) (texts_are : texts ≡ play_texts (by_ends (with_picture by_ends s out)) (length s.frames)) where
       abbrev size : ℕ
       size = frame_size s.params.format (inputs Video)
 

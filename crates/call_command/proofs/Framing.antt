@@ -8,10 +8,8 @@ use Rattle.h263_planes.specs.Layout.{picture_of}
 use Rattle.h263_planes.specs.Picture.{Picture}
 use Rattle.h263_outside.specs.declared.desk.Role.{Role}
 use Rattle.h263_outside.specs.declared.desk.Role.TheVariants.{Events}
-use Rattle.y4m.specs.declared.reader.Y4mReader.{Y4mReader}
-use Rattle.loss_trace.specs.declared.reader.TraceReader.{TraceReader}
-use Rattle.call_rings.specs.declared.sent_packets.SentPackets.{SentPackets}
-use Rattle.call_rings.specs.Keeping.{period_of}
+use Rattle.y4m.specs.Place.{Y4mPlace}
+use Rattle.loss_trace.specs.Place.{TracePlace}
 use Rattle.call_model.specs.CodedPictures.{Coded}
 use Rattle.call_model.specs.IdealCall.{Event, Send, Deliver, Play, slices_at}
 use Rattle.call_model.specs.JoinedRun.{Joined}
@@ -23,12 +21,12 @@ use Rattle.call_encoding.specs.Frames.{Frame}
 use Rattle.coded_call.specs.Coding.{coding}
 use Rattle.receiver_end.specs.declared.kept.Kept.{Kept}
 use Rattle.receiver_end.specs.State as receiver_end
+use Rattle.one_way.specs.declared.way.Way.{Way}
 use Rattle.one_way.specs.Both.{State, bare, both_after, next_of, steady}
 use Rattle.one_way.specs.Laws.{EventLaws, WayLaws}
-use Rattle.one_way.specs.Network.{IsAmongLast}
 use Rattle.one_way.specs.Seen.{in_both}
 use Rattle.one_way.specs.Trace.{delivered, passed_on}
-use Rattle.one_way.specs.Way.{HoldsNetwork, MayHappenNow}
+use Rattle.one_way.specs.Way.{HoldsNetwork, IsAmongLast, MayHappenNow, kept_in}
 use Rattle.call_command.specs.declared.link.Link.{Link}
 use Rattle.call_command.specs.Call.{CallState, by_ends, play_texts, with_picture}
 use Rattle.call_command.specs.Standing.{Parts, PartsStand, state_of}
@@ -71,9 +69,9 @@ module _ (x : Parts) (laws : WayLaws x.terms.params) (events : EventLaws x.terms
   pub may_deliver : (later : List Frame) (n : ℕ) → n ≡ x.sender.sent → MayHappenNow p s.before (all later) (Send ∷ s.past) (Deliver n 0)
   may_deliver later n is = (omega (arith, is, coded_now later), omega (arith, is, played_was later, level, half_some p.clock))
 
-  pub among_last : (later : List Frame) (ring : SentPackets) (n : ℕ) → n ≡ x.sender.sent → period_of ring ≡ 1
-      → IsAmongLast ring (length (both later (Send ∷ s.past)).sender.coded) n
-  among_last later ring n is one = (omega (arith, is, coded_now later), omega (arith, is, coded_now later, one))
+  pub among_last : (later : List Frame) (way : Way) (n : ℕ) → n ≡ x.sender.sent → kept_in way ≡ 1
+      → IsAmongLast way (length (both later (Send ∷ s.past)).sender.coded) n
+  among_last later way n is one = (omega (arith, is, coded_now later), omega (arith, is, coded_now later, one))
 
   -- how many slices the picture has, whatever frames come after
   abbrev pub count_of : List Frame → ℕ → ℕ
@@ -102,7 +100,7 @@ module _ (x : Parts) (laws : WayLaws x.terms.params) (events : EventLaws x.terms
       let shown : played ≡ length s.frames = same ∙ level ∙ k.sent in
       λ i. play_texts (in_both (both [] (passed_on (number i) (count_of [] (number i)) s.past))) (shown i)
 
-  pub stands_after : (video : Y4mReader) (sender : State) (receiver : Kept) (link : Link) (n size : ℕ) (rest : Role → List ℕ) → n ≡ x.sender.sent
+  pub stands_after : (video : Y4mPlace) (sender : State) (receiver : Kept) (link : Link) (n size : ℕ) (rest : Role → List ℕ) → n ≡ x.sender.sent
       → ((later : List Frame) → HoldsNetwork p link.network sender receiver s.before (all later) (passed_on n (count_of later n) s.past))
       → link.trace ≡ x.link.trace → sender.sent ≡ x.sender.sent + 1 → video.at ≡ x.video.at + size → video.more + 1 ≡ x.video.more → rest Events ≡ inputs Events
       → PartsStand (record { terms = x.terms; video = video; sender = sender; receiver = receiver; link = link }) (record then { at = x.video.at + size; more = x.video.more - 1 }) rest
@@ -121,7 +119,7 @@ module _ (x : Parts) (laws : WayLaws x.terms.params) (events : EventLaws x.terms
         };
     begun = k.begun;
     sent = sent ∙ ap (λ (i : ℕ). i + 1) k.sent ∙ sym (longer s.frames f);
-    over = λ ended. still ∙ k.over (ap (λ (r : TraceReader). r.ended) (sym same) ∙ ended);
+    over = λ ended. still ∙ k.over (ap (λ (r : TracePlace). r.ended) (sym same) ∙ ended);
     holds = λ later.
         subst (λ (l : List Frame). HoldsNetwork p link.network sender receiver s.before l then.past) (sym (push_then s.frames later f))
         (subst (λ (i : ℕ). HoldsNetwork p link.network sender receiver s.before (all later) (passed_on (length s.frames) i s.past)) (count_same later (length s.frames))

@@ -6,7 +6,7 @@ use Rattle.h263_outside.specs.declared.desk.Role.{Role}
 use Rattle.h263_outside.specs.declared.desk.Role.TheVariants.{Events}
 use Rattle.loss_trace.specs.declared.event.Event.{Event as Line}
 use Rattle.loss_trace.specs.declared.fault.TraceStop.{TraceStop}
-use Rattle.loss_trace.specs.declared.reader.TraceReader.{TraceReader}
+use Rattle.loss_trace.specs.Place.{TracePlace}
 use Rattle.loss_trace.specs.Reader.{EventGives, Moves}
 use Rattle.call_report.specs.declared.status.Status.{Status}
 use Rattle.desk_program.specs.Run.{Step}
@@ -22,11 +22,11 @@ use Rattle.call_command.proofs.LineTurning.{found_could, found_is, found_number,
 use Rattle.call_command.proofs.Readying.{ready_so}
 
 -- the world with its trace read on
-abbrev pub read_on : World → TraceReader → World
+abbrev pub read_on : World → TracePlace → World
 read_on m after = record m { trace = after }
 
 -- this line of the trace was read, and nothing else was done
-pub record IsLineRead (m : World) (after : TraceReader) (line : ℕ) (event : Line) (old mid : Outside) : Type 0 where
+pub record IsLineRead (m : World) (after : TracePlace) (line : ℕ) (event : Line) (old mid : Outside) : Type 0 where
   pub laws : TurnLaws
   pub steps : StepLaws
   pub recorded : m.terms.plain ≡ false
@@ -36,7 +36,7 @@ pub record IsLineRead (m : World) (after : TraceReader) (line : ℕ) (event : Li
   pub rest : OnlyReads old mid
 
 -- by what the reader of the trace answers
-pub line_read : (m : World) (after : TraceReader) (line : ℕ) (event : Line) (old mid : Outside) (answer : Result (Option (ℕ × Line)) TraceStop) → answer ≡ Ok (Some (line, event))
+pub line_read : (m : World) (after : TracePlace) (line : ℕ) (event : Line) (old mid : Outside) (answer : Result (Option (ℕ × Line)) TraceStop) → answer ≡ Ok (Some (line, event))
     → TurnLaws → StepLaws → m.terms.plain ≡ false
     → ((text : List ℕ) → old.left Events ≡ Some text → EventGives answer m.trace text after (mid.left Events)) → Moves answer m.trace after
     → ((r : Role) → r ≢ Events → mid.left r ≡ old.left r) → OnlyReads old mid → IsLineRead m after line event old mid
@@ -50,17 +50,17 @@ line_read m after line event old mid answer is laws steps recorded gives moves o
   rest = rest;
 }
 
-module _ {m : World} {after : TraceReader} {line : ℕ} {event : Line} {old mid : Outside} (w : IsLineRead m after line event old mid) where
+module _ {m : World} {after : TracePlace} {line : ℕ} {event : Line} {old mid : Outside} (w : IsLineRead m after line event old mid) where
   abbrev x : Parts
   x = parts_of m
 
   pub room_read : PartsReady x old.attached → HasRoom (parts_of (read_on m after))
-  room_read ready = omega (arith, w.moves.2, ready.said)
+  room_read ready = omega (arith, w.moves.3, ready.said)
 
   pub ready_read : PartsReady x old.attached → PartsReady (parts_of (read_on m after)) mid.attached
   ready_read ready =
       ready_so x old.attached mid.attached ready w.rest.attached x.video x.sender x.receiver (record x.link { trace = after })
-      refl refl ready.can refl ready.sent ready.played ready.level ready.frame (λ plain. absurd (cc (plain, w.recorded))) ready.counted (omega (arith, ready.said, w.moves.2))
+      refl refl ready.can refl ready.sent ready.played ready.level ready.frame (λ plain. absurd (cc (plain, w.recorded))) (omega (arith, w.moves.1, w.moves.3)) ready.counted (omega (arith, ready.said, w.moves.3))
 
   only : {inputs : Role → List ℕ} → Tells old inputs → ReadsTrace inputs old mid
   only told = record { told = told; others = w.others; written = w.rest.written }
@@ -71,9 +71,9 @@ module _ {m : World} {after : TraceReader} {line : ℕ} {event : Line} {old mid 
       let here = state_of x s.before s.frames s.past in
       let e = w.gives (inputs Events) (told Events refl) in
       record {
-        stood = stood_after x s inputs k w.recorded after _ w.moves.2 e.0;
-        number = found_number w.laws here inputs old mid (only told) m.trace after (record { lines_are = refl; ended_is = refl }) (line, event) e w.moves after.few;
-        taken = found_taken w.laws here inputs old mid (only told) m.trace after (record { lines_are = refl; ended_is = refl }) (line, event) e w.moves after.few;
+        stood = stood_after x s inputs k w.recorded after _ w.moves.3 e.0;
+        number = found_number w.laws here inputs old mid (only told) m.trace after (record { lines_are = refl; ended_is = refl }) (line, event) e w.moves;
+        taken = found_taken w.laws here inputs old mid (only told) m.trace after (record { lines_are = refl; ended_is = refl }) (line, event) e w.moves;
       }
 
   -- what the line makes of the world and the desk, the turn makes of them
@@ -84,8 +84,8 @@ module _ {m : World} {after : TraceReader} {line : ℕ} {event : Line} {old mid 
         let here = state_of x s.before s.frames s.past in
         let stands = PartsStand (parts_of y) in
         let e = w.gives (inputs Events) (b.told Events refl) in
-        let step_is = found_is w.laws here inputs old mid (only b.told) m.trace after (record { lines_are = refl; ended_is = refl }) (line, event) e w.moves after.few in
-        let could = found_could w.laws here inputs old mid (only b.told) m.trace after (record { lines_are = refl; ended_is = refl }) (line, event) e w.moves after.few in
+        let step_is = found_is w.laws here inputs old mid (only b.told) m.trace after (record { lines_are = refl; ended_is = refl }) (line, event) e w.moves in
+        let could = found_could w.laws here inputs old mid (only b.told) m.trace after (record { lines_are = refl; ended_is = refl }) (line, event) e w.moves in
         subst (λ (q : Outside). TurnGives result (talk_step s inputs) stands may_read (may_read s) inputs q new) (sym b.same)
         (line_by_line x s inputs b.stands.is w.recorded (λ (step : Step CallState) (now : Bool). TurnGives result step stands may_read now inputs old new)
         (subst (λ (step : Step CallState). TurnGives result step stands may_read (may_read here) inputs old new) (sym step_is)
@@ -97,7 +97,7 @@ module _ {m : World} {after : TraceReader} {line : ℕ} {event : Line} {old mid 
     falls =
         subst (λ (n : ℕ). Falls result n (more_of (parts_of y)))
         (subst (λ (b : Bool). (if b then x.video.more else 16777216 - after.lines) + 1 ≡ (if b then x.video.more else 16777216 - m.trace.lines)) (sym w.recorded)
-        (omega (arith, w.moves.2, after.few))) t.falls;
+        (omega (arith, w.moves.1, w.moves.3))) t.falls;
     ready = t.ready;
     answers = t.answers;
     stop = t.stop;

@@ -11,7 +11,7 @@ use Rattle.loss_trace.specs.declared.fault.TraceFault.{TraceFault}
 use Rattle.loss_trace.specs.declared.fault.TraceFault.TheVariants.{BadLine, TooMany}
 use Rattle.loss_trace.specs.declared.fault.TraceStop.{TraceStop}
 use Rattle.loss_trace.specs.declared.fault.TraceStop.TheVariants as stops
-use Rattle.loss_trace.specs.declared.reader.TraceReader.{TraceReader}
+use Rattle.loss_trace.specs.Place.{TracePlace}
 use Rattle.loss_trace.specs.Lines.{first_line, is_closed}
 use Rattle.loss_trace.specs.Reader.{EventGives, Moves}
 use Rattle.loss_trace.specs.Reading.{event_in}
@@ -84,11 +84,11 @@ module _ (s : CallState) (inputs : Role → List ℕ) (before mid : Outside) (ta
 -- ---- the reader of the trace
 
 -- the reader is where the state says
-pub record IsReadAt (s : CallState) (reader : TraceReader) : Type 0 where
+pub record IsReadAt (s : CallState) (reader : TracePlace) : Type 0 where
   pub lines_are : s.lines ≡ reader.lines
   pub ended_is : s.ended ≡ reader.ended
 
-module _ (laws : TurnLaws) (s : CallState) (inputs : Role → List ℕ) (old mid : Outside) (read : ReadsTrace inputs old mid) (reader after : TraceReader) (at : IsReadAt s reader) where
+module _ (laws : TurnLaws) (s : CallState) (inputs : Role → List ℕ) (old mid : Outside) (read : ReadsTrace inputs old mid) (reader after : TracePlace) (at : IsReadAt s reader) where
   going : reader.ended ≡ false → may_read s ≡ true
   going is = ap not (at.ended_is ∙ is)
 
@@ -119,12 +119,12 @@ module _ (laws : TurnLaws) (s : CallState) (inputs : Role → List ℕ) (old mid
       ∙ ap (λ (n : ℕ). step_of (bad_line (TooMany n))) (omega (arith, at.lines_are, moves.1, moves.2)))
 
   -- after a line
-  module _ (found : ℕ × Line) (e : EventGives (Ok (Some found)) reader (inputs Events) after (mid.left Events)) (moves : Moves (Ok (Some found)) reader after) (few : after.lines ≤ 16777216) where
+  module _ (found : ℕ × Line) (e : EventGives (Ok (Some found)) reader (inputs Events) after (mid.left Events)) (moves : Moves (Ok (Some found)) reader after) where
     pub found_is : trace_step by_ends s inputs (inputs Events) ≡ event_step by_ends s inputs (inputs Events) found.1
-    found_is = line_is s inputs (inputs Events) (Some found.1) e.0.some (omega (arith, moves.2, few, at.lines_are)) e.1
+    found_is = line_is s inputs (inputs Events) (Some found.1) e.0.some (omega (arith, moves.1, at.lines_are)) e.1
 
     pub found_number : found.0 ≡ s.lines + 1
-    found_number = moves.1 ∙ ap (λ (n : ℕ). n + 1) (sym at.lines_are)
+    found_number = moves.2 ∙ ap (λ (n : ℕ). n + 1) (sym at.lines_are)
 
     pub found_taken : HasTaken inputs old mid
     found_taken = has_taken laws inputs old mid read e.0.gone

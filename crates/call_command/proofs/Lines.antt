@@ -9,7 +9,7 @@ use Rattle.h263_outside.specs.Desk.{Outside, IsInput}
 use Rattle.h263_outside.specs.declared.desk.Role.{Role}
 use Rattle.h263_outside.specs.declared.desk.Role.TheVariants.{Video, Events, Pictures, Wire, Report, Video2, Pictures2}
 use Rattle.loss_trace.specs.declared.fault.TraceFault.{TraceFault}
-use Rattle.loss_trace.specs.declared.reader.TraceReader.{TraceReader}
+use Rattle.loss_trace.specs.Place.{TracePlace}
 use Rattle.loss_trace.specs.Lines.{NoNewline, first_line, is_closed, later_lines}
 use Rattle.loss_trace.specs.Reader.{IsOver}
 use Rattle.call_report.specs.declared.status.Status.TheVariants.{Ok as Fine, TraceRefused}
@@ -152,7 +152,7 @@ module _ (laws : TurnLaws) (inputs : Role → List ℕ) (old mid : Outside) (rea
       left_at Pictures2 input k said = absurd (cc input)
 
   -- no line is left
-  pub over_by : (reader : TraceReader) (new : Outside) → IsOver reader (inputs Events) (mid.left Events) → (reader.ended ≡ true → inputs Events ≡ []) → new.left ≡ mid.left
+  pub over_by : (reader : TracePlace) (new : Outside) → IsOver reader (inputs Events) (mid.left Events) → (reader.ended ≡ true → inputs Events ≡ []) → new.left ≡ mid.left
       → IsPlayedOut inputs old mid new
   over_by reader new is over still = record {
     nothing = nothing;

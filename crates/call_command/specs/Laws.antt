@@ -9,7 +9,7 @@ use Rattle.y4m.specs.Frame.{frame_of, frame_size}
 use Rattle.loss_trace.specs.Lines.{NoNewline, later_lines, is_closed}
 use Rattle.loss_trace.specs.Reader.{IsOver}
 use Rattle.loss_trace.specs.declared.fault.TraceFault.{TraceFault}
-use Rattle.loss_trace.specs.declared.reader.TraceReader.{TraceReader}
+use Rattle.loss_trace.specs.Place.{TracePlace}
 use Rattle.call_report.specs.declared.status.Status.TheVariants.{Ok as Fine, TraceRefused}
 use Rattle.call_model.specs.Coding.{Rules}
 use Rattle.call_model.specs.IdealCall.{Send, Deliver, Play}
@@ -92,6 +92,6 @@ pub record LineLaws : Type 0 where
   pub bad : (fault : TraceFault) (inputs : Role → List ℕ) (old mid : Outside) → ReadsTrace inputs old mid
       → EndsBy (bad_line fault) (TraceRefused fault) inputs old mid
   -- no line is left: the trace was read out before, or is now
-  pub over : (reader : TraceReader) (inputs : Role → List ℕ) (old mid new : Outside) → ReadsTrace inputs old mid
+  pub over : (reader : TracePlace) (inputs : Role → List ℕ) (old mid new : Outside) → ReadsTrace inputs old mid
       → IsOver reader (inputs Events) (mid.left Events) → (reader.ended ≡ true → inputs Events ≡ [])
       → new.left ≡ mid.left → IsPlayedOut inputs old mid new

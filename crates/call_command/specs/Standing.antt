@@ -8,14 +8,12 @@ use Rattle.h263_outside.specs.declared.desk.Role.{Role}
 use Rattle.h263_outside.specs.declared.desk.Role.TheVariants.{Video, Events, Pictures, Report}
 use Rattle.h263_types.specs.declared.Mark.{Mark}
 use Rattle.h263_planes.specs.Picture.{Picture}
-use Rattle.y4m.specs.declared.reader.Y4mReader.{Y4mReader}
+use Rattle.y4m.specs.Place.{Y4mPlace}
 use Rattle.y4m.specs.Text.{frame_text}
 use Rattle.call_report.specs.Text.{picture_text}
 use Rattle.desk_program.specs.Run.{left_after}
 use Rattle.desk_program.specs.Ends.{Tells}
 use Rattle.desk_program.specs.Texts.{on, then_also, of}
-use Rattle.call_rings.specs.Keeping as ring
-use Rattle.call_rings.specs.Messages.{said_of}
 use Rattle.call_model.specs.IdealCall.{Event}
 use Rattle.call_model.specs.Receiving.{ReceiverEntry}
 use Rattle.call_encoding.specs.Frames.{Frame}
@@ -23,7 +21,7 @@ use Rattle.receiver_end.specs.declared.kept.Kept.{Kept}
 use Rattle.receiver_end.specs.State as receiver_end
 use Rattle.one_way.specs.Both.{AreJoined, State, steady}
 use Rattle.one_way.specs.Counts.{total_of}
-use Rattle.one_way.specs.Way.{CanSend, HoldsNetwork, IsNewNetwork}
+use Rattle.one_way.specs.Way.{CanSend, HoldsNetwork, IsNewNetwork, kept_in, said_in, tally_of, way_of}
 use Rattle.call_command.specs.declared.terms.Terms.{Terms}
 use Rattle.call_command.specs.declared.link.Link.{Link}
 use Rattle.call_command.specs.declared.world.World.{World}
@@ -39,7 +37,7 @@ row_texts n mark reference picture =
 -- the parts of a call at a turn
 pub record Parts : Type 0 where
   pub terms : Terms
-  pub video : Y4mReader
+  pub video : Y4mPlace
   pub sender : State
   pub receiver : Kept
   pub link : Link
@@ -114,19 +112,20 @@ pub record PartsReady (x : Parts) (attached : Role → Bool) : Type 0 where
   pub format : x.video.format ≡ x.terms.params.format
   pub frame : length x.link.frame.items ≡ size_of_picture x.terms.params.format
   pub sender_params : x.sender.params ≡ x.terms.params
-  pub can : CanSend x.link.network.way x.sender
-  pub period : ring.period_of x.link.network.way.packets ≡ pictures_kept x.terms
+  pub can : CanSend (way_of x.link.network) x.sender
+  pub period : kept_in (way_of x.link.network) ≡ pictures_kept x.terms
   pub sent : x.sender.sent + x.video.more ≡ 1048576
   pub played : x.receiver.played ≤ x.sender.sent
   pub level : x.terms.plain ≡ true → x.receiver.played ≡ x.sender.sent
   pub unread : x.terms.plain ≡ true → x.link.trace.ended ≡ false
-  pub counted : total_of x.link.network.way.tally ≡ x.receiver.played
+  pub few : x.link.trace.lines ≤ 16777216
+  pub counted : total_of (tally_of (way_of x.link.network)) ≡ x.receiver.played
   -- a line or a frame makes 400 messages at most
-  pub said : said_of x.link.network.messages ≤ 400 * (x.link.trace.lines + x.sender.sent)
+  pub said : said_in x.link.network ≤ 400 * (x.link.trace.lines + x.sender.sent)
 
 -- there is room for the messages of one more
 abbrev pub HasRoom : Parts → Type 0
-HasRoom x = said_of x.link.network.messages + 400 ≤ 400 * (x.link.trace.lines + x.sender.sent)
+HasRoom x = said_in x.link.network + 400 ≤ 400 * (x.link.trace.lines + x.sender.sent)
 
 -- before the first event
 pub record IsFresh (t : Terms) (link : Link) : Type 0 where

@@ -8,14 +8,14 @@ ghost use Rattle.h263_types.specs.declared.params.Params.{Params};
 ghost use Rattle.call_model.specs.IdealCall.{Event, Play};
 ghost use Rattle.call_model.specs.Receiving.{ReceiverEntry};
 ghost use Rattle.call_encoding.specs.Frames.{Frame};
-ghost use Rattle.call_rings.specs.Messages.{said_of};
 ghost use Rattle.receiver_end.specs.State as receiver_end;
 ghost use Rattle.desk_program.specs.Ends.{Gains, GainsFronts};
 ghost use Rattle.desk_program.specs.Texts.{on};
 ghost use Rattle.one_way.specs.Both.{State, both_after, steady};
 ghost use Rattle.one_way.specs.Counts.{total_of};
 ghost use Rattle.one_way.specs.Seen.{in_both};
-ghost use Rattle.one_way.specs.Way.{HoldsNetwork, MayHappenNow};
+ghost use Rattle.one_way.specs.Way.{HoldsNetwork, MayHappenNow, OnlyCounts};
+ghost use Rattle.one_way.specs.Way.{said_in, tally_of, way_of};
 ghost use Rattle.call_command.specs.Call.{play_texts};
 ghost use Rattle.call_command.specs.Counts.{counts_of};
 ghost use Rattle.call_command.specs.Standing.{row_texts};
@@ -72,13 +72,13 @@ pub fn play_next<D: Desk>(
     requires pictures { (D.outside desk.old).attached Pictures ≡ true }
     requires report { (D.outside desk.old).attached Report ≡ true }
     requires played { receiver.old.played < 2 ^ 20 }
-    requires counted { total_of network.old.way.tally ≡ receiver.old.played }
-    requires said { said_of network.old.messages + 1 < 2 ^ 64 }
+    requires counted { total_of (tally_of (way_of network.old)) ≡ receiver.old.played }
+    requires said { said_in network.old + 1 < 2 ^ 64 }
     ensures params { receiver.new.params ≡ receiver.old.params }
     ensures played { receiver.new.played ≡ receiver.old.played + 1 }
-    ensures counted { total_of network.new.way.tally ≡ receiver.new.played }
-    ensures few { said_of network.new.messages ≤ said_of network.old.messages + 1 }
-    ensures way { network.new.way ≡ record network.old.way { tally = network.new.way.tally } }
+    ensures counted { total_of (tally_of (way_of network.new)) ≡ receiver.new.played }
+    ensures few { said_in network.new ≤ said_in network.old + 1 }
+    ensures way { OnlyCounts (way_of network.old) (way_of network.new) }
     ensures holds { (p : Params) (sender : State) (before : List ReceiverEntry)
         (frames : List Frame) (past : List Event)
         → HoldsNetwork p network.old sender receiver.old before frames past
@@ -125,10 +125,10 @@ pub fn tell_counts<D: Desk>(
     receiver: &Receiver,
 ) -> Result<(), Status>
     requires { (D.outside desk.old).attached Report ≡ true }
-    ensures ok { OnOk result (Gains (on Report (counts_of network.now.way.tally
+    ensures ok { OnOk result (Gains (on Report (counts_of (tally_of (way_of network.now))
         receiver.now.played sender.now.sent))
         (D.outside desk.old).written (D.outside desk.new).written) }
-    ensures err { OnErr result (GainsFronts (on Report (counts_of network.now.way.tally
+    ensures err { OnErr result (GainsFronts (on Report (counts_of (tally_of (way_of network.now))
         receiver.now.played sender.now.sent))
         (D.outside desk.old).written (D.outside desk.new).written) }
     ensures kind { IfErr result (λ status. status ≡ Status.WriteFault) }

@@ -7,39 +7,30 @@ use Rattle.call_report.specs.declared.status.Status.{Status}
 use Rattle.desk_program.specs.Ends.{HasEnded, silent}
 use Rattle.desk_program.specs.Run.{Run}
 use Rattle.loss_trace.specs.declared.event.Event.{Event as Line}
-use Rattle.h263_types.specs.declared.params.Params.{Params}
 use Rattle.h263_types.specs.Clocks as clocks
 use Rattle.h263_types.specs.Params.{IsParams}
-use Rattle.h263_types.specs.Sizes.{mbs_of, size_of_picture}
+use Rattle.h263_types.specs.Sizes.{size_of_picture}
 use Rattle.make_input.specs.Trace.{made_trace}
 use Rattle.sender_end.specs.Stands as sender_end
-use Rattle.one_way.specs.Both.{IsStanding, steady}
-use Rattle.one_way.specs.Way.{IsNewNetwork}
+use Rattle.one_way.specs.Both.{steady}
+use Rattle.one_way.specs.Laws.{WayLaws}
+use Rattle.one_way.specs.Way.{IsNewNetwork, way_of}
 use Rattle.demo_command.specs.declared.demo.Demo.{Demo}
 use Rattle.demo_command.specs.declared.terms.DemoTerms.{DemoTerms}
 use Rattle.demo_command.specs.Machine.{AreInPlace, LineReady}
 use Rattle.demo_command.proofs.Lines.{made_in_place, made_lines_few}
 
-pub ready_first : (m : Demo) → IsParams m.terms.params → IsNewNetwork m.terms.params (clocks.period_of m.terms.params.clock) m.network
+pub ready_first : (m : Demo) → WayLaws m.terms.params → IsParams m.terms.params → IsNewNetwork m.terms.params (clocks.period_of m.terms.params.clock) m.network
     → length m.frame.items ≡ size_of_picture m.terms.params.format → m.both.sender.params ≡ m.terms.params
     → sender_end.Stands (steady m.terms.params) m.both.sender [] → m.both.sender.pace.quant ≡ m.terms.params.quant
     → m.both.sender.sent ≡ 0 → m.both.receiver.played ≡ 0 → LineReady m
-ready_first m in_range new frame sender_params sends quant sent played =
+ready_first m laws in_range new frame sender_params sends quant sent played =
     let way = new.way_is in
-    let params = sym sender_params in
     record {
       params = in_range;
       frame = frame;
       sender_params = sender_params;
-      can = record {
-        in_range = subst IsParams params in_range;
-        standing = subst (λ (p : Params). IsStanding (steady p) m.both.sender) params (record { entries = []; stands = sends });
-        quant_is = quant ∙ ap (λ (p : Params). p.quant) params;
-        room = way.room ∙ ap (λ (p : Params). 1200 * mbs_of p.format) params;
-        most = way.most ∙ ap (λ (p : Params). mbs_of p.format) params;
-        keeping = record { pictures = way.packets.pictures; keeps = way.packets.keeps };
-        begun = way.begun ∙ sym sent;
-      };
+      can = laws.can (clocks.period_of m.terms.params.clock) (way_of m.network) m.both.sender in_range way sender_params sends quant sent;
       period = way.period;
       few = omega (arith, sent);
       counted = way.total ∙ sym played;

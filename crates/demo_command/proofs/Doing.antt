@@ -6,7 +6,6 @@ use Rattle.h263_types.specs.declared.params.Params.{Params}
 use Rattle.h263_planes.specs.Picture.{Picture}
 use Rattle.loss_trace.specs.declared.event.Event.{Event as Line}
 use Rattle.make_input.specs.Expanded.{onto}
-use Rattle.call_rings.specs.Keeping.{period_of}
 use Rattle.call_model.specs.Coding.{pictures_of}
 use Rattle.call_model.specs.IdealCall.{Event, Deliver, encoded, slices_at}
 use Rattle.call_model.specs.JoinedRun.{Joined}
@@ -21,11 +20,10 @@ use Rattle.one_way.specs.declared.way.Way.{Way}
 use Rattle.one_way.specs.Both.{both_after, steady}
 use Rattle.one_way.specs.Counts.{total_of}
 use Rattle.call_command.specs.Counts.{call_text, counts_of, counts_text}
-use Rattle.one_way.specs.Network.{IsAmongLast}
 use Rattle.one_way.specs.Laws.{NearLaws, ShowTheSame, WayLaws}
 use Rattle.one_way.specs.Seen.{Seen, in_call}
 use Rattle.one_way.specs.Trace.{delivered}
-use Rattle.one_way.specs.Way.{CanSend, MayHappenNow}
+use Rattle.one_way.specs.Way.{CanSend, IsAmongLast, MayHappenNow, kept_in, tally_of, way_of}
 use Rattle.demo_command.specs.declared.demo.Demo.{Demo}
 use Rattle.demo_command.specs.declared.terms.DemoTerms.{DemoTerms}
 use Rattle.demo_command.specs.Demo.{made_call, made_video, with_line}
@@ -56,21 +54,21 @@ pub may_now : (t : DemoTerms) → NearLaws t.params → IsPace (steady t.params)
 may_now t near_laws paced past e near = ((near_laws.near (steady t.params) (made_video t) (e ∷ past) paced).0 near).0
 
 -- a machine is as ready after packets that were delivered
-pub ready_delivered : (m : Demo) → LineReady m → (network : Network) (receiver : Kept) → network.way ≡ m.network.way → receiver.played ≡ m.both.receiver.played
+pub ready_delivered : (m : Demo) → LineReady m → (network : Network) (receiver : Kept) → way_of network ≡ way_of m.network → receiver.played ≡ m.both.receiver.played
     → LineReady (record m { both = record m.both { receiver = receiver }; network = network })
 ready_delivered m r network receiver way played = record {
   params = r.params;
   frame = r.frame;
   sender_params = r.sender_params;
   can = subst (λ (w : Way). CanSend w m.both.sender) (sym way) r.can;
-  period = ap (λ (w : Way). period_of w.packets) way ∙ r.period;
+  period = ap kept_in way ∙ r.period;
   few = r.few;
-  counted = ap (λ (w : Way). total_of w.tally) way ∙ r.counted ∙ sym played;
+  counted = ap (λ (w : Way). total_of (tally_of w)) way ∙ r.counted ∙ sym played;
 }
 
 -- a packet that is near by both ends is among those that are kept
 pub may_deliver : (m : Demo) → LineReady m → NearLaws m.terms.params → (past : List Event) → HasDone m past → (n j : ℕ) → IsNearNow m.terms (Deliver n j ∷ past)
-    → IsAmongLast m.network.way.packets (length (both_after m.terms.params (steady m.terms.params) (made_video m.terms) [] past).sender.coded) n × MayHappenNow m.terms.params [] (made_video m.terms) past (Deliver n j)
+    → IsAmongLast (way_of m.network) (length (both_after m.terms.params (steady m.terms.params) (made_video m.terms) [] past).sender.coded) n × MayHappenNow m.terms.params [] (made_video m.terms) past (Deliver n j)
 may_deliver m r laws past h n j near =
     let p = m.terms.params in
     let may = may_now m.terms laws (steady_is p r.params) past (Deliver n j) near in
@@ -79,7 +77,7 @@ may_deliver m r laws past h n j near =
 
 -- the line of the counts
 pub counts_are : (m : Demo) → WayLaws m.terms.params → (past : List Event) → HasDone m past → ShowTheSame m.terms.params (made_video m.terms) past
-    → counts_of m.network.way.tally m.both.receiver.played m.both.sender.sent ≡ call_text (in_call (made_call m.terms past))
+    → counts_of (tally_of (way_of m.network)) m.both.receiver.played m.both.sender.sent ≡ call_text (in_call (made_call m.terms past))
 counts_are m laws past h same =
     let way = h.way_holds in
     let played = laws.played m.both.sender m.both.receiver [] (made_video m.terms) past way.joined in

@@ -12,11 +12,9 @@ use Rattle.make_input.specs.Trace.{made_trace}
 use Rattle.call_model.specs.IdealCall.{AllMayHappen, Event}
 use Rattle.call_decoding.specs.Rules.{rules_of}
 use Rattle.coded_call.specs.Coding.{coding}
-use Rattle.call_rings.specs.Keeping.{period_of}
-use Rattle.call_rings.specs.Messages.{said_of}
 use Rattle.one_way.specs.Both.{steady}
 use Rattle.one_way.specs.Counts.{total_of}
-use Rattle.one_way.specs.Way.{CanSend, HoldsNetwork}
+use Rattle.one_way.specs.Way.{CanSend, HoldsNetwork, SaysNothing, kept_in, said_in, tally_of, way_of}
 use Rattle.demo_command.specs.declared.demo.Demo.{Demo}
 use Rattle.demo_command.specs.declared.terms.DemoTerms.{DemoTerms}
 use Rattle.demo_command.specs.Demo.{DemoState, made_events, made_video}
@@ -51,17 +49,17 @@ pub record LineReady (m : Demo) : Type 0 where
   pub params : IsParams m.terms.params
   pub frame : length m.frame.items ≡ size_of_picture m.terms.params.format
   pub sender_params : m.both.sender.params ≡ m.terms.params
-  pub can : CanSend m.network.way m.both.sender
-  pub period : period_of m.network.way.packets ≡ clocks.period_of m.terms.params.clock
+  pub can : CanSend (way_of m.network) m.both.sender
+  pub period : kept_in (way_of m.network) ≡ clocks.period_of m.terms.params.clock
   pub few : m.both.sender.sent ≤ 10000
-  pub counted : total_of m.network.way.tally ≡ m.both.receiver.played
+  pub counted : total_of (tally_of (way_of m.network)) ≡ m.both.receiver.played
 
 -- one picture more was sent, and all else that counts stays as it was
 pub record SendsOne (old new : Demo) : Type 0 where
   pub terms : new.terms ≡ old.terms
   pub lines : new.lines ≡ old.lines
   pub sent : new.both.sender.sent ≡ old.both.sender.sent + 1
-  pub messages : new.network.messages ≡ old.network.messages
+  pub messages : SaysNothing old.network new.network
   pub played : new.both.receiver.played ≡ old.both.receiver.played
 
 -- ---- the machine
@@ -83,5 +81,5 @@ pub record DemoReady (m : Demo) (attached : Role → Bool) : Type 0 where
   pub ends : LineReady m
   pub in_place : AreInPlace 10000 m.both.sender.sent (lines_left m.lines)
   -- a line makes 400 messages at most, and plays one picture
-  pub said : said_of m.network.messages + 400 * length (lines_left m.lines) < 2 ^ 64
+  pub said : said_in m.network + 400 * length (lines_left m.lines) < 2 ^ 64
   pub plays : m.both.receiver.played + length (lines_left m.lines) ≤ 2 ^ 20

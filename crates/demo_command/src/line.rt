@@ -24,7 +24,7 @@ fn make_frame(format: Format, seed: u32, number: u32, bytes: &mut [u8])
 
 impl Demo {
     ghost use Rattle.call_model.specs.IdealCall.{Event as Happens, Send};
-    ghost use Rattle.call_rings.specs.Messages.{said_of};
+    ghost use Rattle.one_way.specs.Way.{said_in};
     ghost use Rattle.demo_command.specs.Demo.{with_line};
     ghost use Rattle.demo_command.specs.Machine.{AreInPlace, HasDone, IsNearNow, LineReady};
     ghost use Rattle.demo_command.specs.Machine.{SendsOne, sent_after};
@@ -55,15 +55,14 @@ impl Demo {
     pub fn take_line(&mut self, event: Event)
         requires ready { LineReady self.old }
         requires in_place { AreInPlace 10000 self.old.both.sender.sent (event ∷ []) }
-        requires said { said_of self.old.network.messages + 400 < 2 ^ 64 }
+        requires said { said_in self.old.network + 400 < 2 ^ 64 }
         requires few { self.old.both.receiver.played < 2 ^ 20 }
         ensures ready { LineReady self.new }
         ensures terms { self.new.terms ≡ self.old.terms }
         ensures lines { self.new.lines ≡ self.old.lines }
         ensures sent { self.new.both.sender.sent
             ≡ sent_after event self.old.both.sender.sent }
-        ensures said { said_of self.new.network.messages
-            ≤ said_of self.old.network.messages + 400 }
+        ensures said { said_in self.new.network ≤ said_in self.old.network + 400 }
         ensures played { self.new.both.receiver.played ≤ self.old.both.receiver.played + 1 }
         ensures done { (past : List Happens) → HasDone self.old past
             → IsNearNow self.old.terms (with_line self.old.terms past event)

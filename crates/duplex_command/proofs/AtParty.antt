@@ -3,7 +3,7 @@ use Rattle.std.proofs.Common.{◌≡◌, ℕ, Bool, true, false, List, Option, R
 use Rattle.h263_outside.specs.Desk.{Outside, exchanged_outside}
 use Rattle.h263_outside.specs.declared.desk.Role.{Role}
 use Rattle.h263_outside.specs.declared.desk.Role.TheVariants.{Video, Events, Pictures, Video2, Pictures2}
-use Rattle.loss_trace.specs.declared.reader.TraceReader.{TraceReader}
+use Rattle.loss_trace.specs.Place.{TracePlace}
 use Rattle.call_report.specs.declared.status.Status.{Status}
 use Rattle.call_report.specs.declared.status.Status.TheVariants.{VideoRefused, Video2Refused}
 use Rattle.desk_program.specs.Run.{Step, left_after}
@@ -35,7 +35,7 @@ module _ (own far own_new far_new : Station) (said : TraceLine) (room : ℕ) (na
   abbrev x : Party
   x = said.party
 
-  read_too : (trace : TraceReader) (old : Outside) (s : DuplexState) (inputs : Role → List ℕ) → IsRead x own far said.line trace mid old s inputs
+  read_too : (trace : TracePlace) (old : Outside) (s : DuplexState) (inputs : Role → List ℕ) → IsRead x own far said.line trace mid old s inputs
       → IsRead x own far said.line trace (exchanged_outside na mid) (exchanged_outside na old) s (for_second inputs)
   read_too trace old s inputs b = record {
     stood = b.stood;
@@ -90,7 +90,7 @@ in_call_too : Laws → (own far : PartyEnds) → AreInCall own far → AreInCall
 in_call_too laws own far k = record { params = k.params; party = other k.party; ways = k.ways; holds = (laws k.params).exchanged k.party own far k.ways k.holds }
 
 module _ (laws : Laws) where
-  to_b : (a b : Station) (trace : TraceReader) (s : DuplexState) (rest : List ℕ) → StationsStand A a b trace s rest → StationsStand B b a trace s rest
+  to_b : (a b : Station) (trace : TracePlace) (s : DuplexState) (rest : List ℕ) → StationsStand A a b trace s rest → StationsStand B b a trace s rest
   to_b a b trace s rest k = record {
     own_place = k.far_place;
     far_place = k.own_place;
@@ -100,7 +100,7 @@ module _ (laws : Laws) where
     holds = (laws s.params).exchanged A a.ends b.ends s.ways k.holds;
   }
 
-  to_a : (a b : Station) (trace : TraceReader) (s : DuplexState) (rest : List ℕ) → StationsStand B b a trace s rest → StationsStand A a b trace s rest
+  to_a : (a b : Station) (trace : TracePlace) (s : DuplexState) (rest : List ℕ) → StationsStand B b a trace s rest → StationsStand A a b trace s rest
   to_a a b trace s rest k = record {
     own_place = k.far_place;
     far_place = k.own_place;

@@ -7,7 +7,7 @@ use Rattle.h263_outside.specs.declared.desk.Role.TheVariants.{Video, Events, Pic
 use Rattle.y4m.specs.declared.fault.Y4mFault.{Y4mFault}
 use Rattle.y4m.specs.declared.fault.VideoStop.{VideoStop}
 use Rattle.y4m.specs.declared.fault.VideoStop.TheVariants.{Read, Refused}
-use Rattle.y4m.specs.declared.reader.Y4mReader.{Y4mReader}
+use Rattle.y4m.specs.Place.{Y4mPlace}
 use Rattle.y4m.specs.Frame.{frame_of, next_frame, frame_size}
 use Rattle.y4m.specs.Reader.{FrameGives}
 use Rattle.loss_trace.specs.declared.fault.TraceFault.TheVariants.{NoFrame}
@@ -74,14 +74,14 @@ module _ (x : Party) (s : DuplexState) where
 
   -- ---- what the reader of a frame says, for a state that has its format, place and count
 
-  abbrev pub Gives : Result Bool VideoStop → List ℕ → List ℕ → Y4mReader → Option (List ℕ) → Type 0
+  abbrev pub Gives : Result Bool VideoStop → List ℕ → List ℕ → Y4mPlace → Option (List ℕ) → Type 0
   Gives (Ok true) rest out new left =
       (0 < length rest) × (next_frame place.more format place.at rest ≡ Ok out) × (new.at ≡ place.at + frame_size format rest) × (left ≡ Some (drop (frame_size format rest) rest))
   Gives (Ok false) rest out new left = (rest ≡ []) × (left ≡ Some [])
   Gives (Err (Refused fault)) rest out new left = (0 < length rest) × (next_frame place.more format place.at rest ≡ Err fault)
   Gives (Err Read) rest out new left = (k : ℕ) × (left ≡ Some (drop k rest)) × IsErr (frame_of format place.at (take k rest))
 
-  pub gives_so : (r : Result Bool VideoStop) (reader new : Y4mReader) (rest out : List ℕ) (left : Option (List ℕ))
+  pub gives_so : (r : Result Bool VideoStop) (reader new : Y4mPlace) (rest out : List ℕ) (left : Option (List ℕ))
       → place ≡ place_in reader → reader.format ≡ format → FrameGives r reader rest out new left → Gives r rest out new left
   gives_so (Ok true) reader new rest out left is form (some, next, at, gone) = (
     some,
@@ -95,7 +95,7 @@ module _ (x : Party) (s : DuplexState) where
 
   -- ---- the capture: `old` is the desk after the line, `mid` after the read of the frame
 
-  module _ (turns : TurnLaws) (lines : LineLaws) (laws : VideoLaws) (inputs : Role → List ℕ) (before old mid : Outside) (taken : HasTaken inputs before old) (others : (r : Role) → r ≢ Video → mid.left r ≡ old.left r) (same : mid.written ≡ old.written) (reader : Y4mReader) (out : List ℕ) where
+  module _ (turns : TurnLaws) (lines : LineLaws) (laws : VideoLaws) (inputs : Role → List ℕ) (before old mid : Outside) (taken : HasTaken inputs before old) (others : (r : Role) → r ≢ Video → mid.left r ≡ old.left r) (same : mid.written ≡ old.written) (reader : Y4mPlace) (out : List ℕ) where
     abbrev trace : List ℕ
     trace = inputs Events
 
@@ -155,5 +155,5 @@ module _ (x : Party) (s : DuplexState) where
         written = turns.no_text before.written mid.written (same ∙ taken.written);
       }
 
-pub given : (r known : Result Bool VideoStop) (reader new : Y4mReader) (rest out : List ℕ) (left : Option (List ℕ)) → r ≡ known → FrameGives r reader rest out new left → FrameGives known reader rest out new left
+pub given : (r known : Result Bool VideoStop) (reader new : Y4mPlace) (rest out : List ℕ) (left : Option (List ℕ)) → r ≡ known → FrameGives r reader rest out new left → FrameGives known reader rest out new left
 given r known reader new rest out left is gives = subst (λ (x : Result Bool VideoStop). FrameGives x reader rest out new left) is gives

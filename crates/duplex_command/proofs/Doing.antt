@@ -8,7 +8,7 @@ use Rattle.h263_outside.specs.declared.desk.Role.TheVariants.{Video, Events, Pic
 use Rattle.loss_trace.specs.declared.event.Event.{Event as Line}
 use Rattle.loss_trace.specs.declared.event.Event.TheVariants as says
 use Rattle.loss_trace.specs.declared.fault.TraceFault.{TraceFault}
-use Rattle.loss_trace.specs.declared.reader.TraceReader.{TraceReader}
+use Rattle.loss_trace.specs.Place.{TracePlace}
 use Rattle.call_report.specs.declared.status.Status.{Status}
 use Rattle.call_report.specs.declared.status.Status.TheVariants.{TraceRefused, VideoRefused, WriteFault}
 use Rattle.desk_program.specs.Run.{Step, left_after}
@@ -89,7 +89,7 @@ may_so (Err told) free may = absurd free
 
 -- ---- the line of a party
 
-module _ (x : Party) (own far : Station) (line : ℕ) (trace_new : TraceReader) (before mid : Outside) (s : DuplexState) (inputs : Role → List ℕ) (b : IsRead x own far line trace_new mid before s inputs) where
+module _ (x : Party) (own far : Station) (line : ℕ) (trace_new : TracePlace) (before mid : Outside) (s : DuplexState) (inputs : Role → List ℕ) (b : IsRead x own far line trace_new mid before s inputs) where
   abbrev trace : List ℕ
   trace = inputs Events
 
@@ -202,14 +202,14 @@ module _ (x : Party) (own far own_new far_new : Station) (line room : ℕ) (even
 
   -- one whose event is done
   pub event_done : event ≡ said → StationsReady own_new far_new room → KeepsRoles mid new
-      → ((trace : TraceReader) (old : Outside) (s : DuplexState) (inputs : Role → List ℕ) → IsRead x own far line trace mid old s inputs
+      → ((trace : TracePlace) (old : Outside) (s : DuplexState) (inputs : Role → List ℕ) → IsRead x own far line trace mid old s inputs
       → Went (event_step Video Pictures VideoRefused x s (inputs Events) inputs said) (λ next rest. StationsStand x own_new far_new trace next (rest Events)) may_read true inputs old new)
       → LineTurn event (Ok true)
   event_done is ready rest gives = subst (λ (e : Line). LineTurn e (Ok true)) (sym is) (went_on x own_new far_new mid new room _ _ ready rest gives)
 
   -- one that can't write
   pub event_cut : event ≡ said → (r : Result Bool Status) (status : Status) → IsErrAnd r (λ z. z ≡ status) → status ≡ WriteFault → Rose mid.faults.write new.faults.write → KeepsRoles mid new
-      → ((trace : TraceReader) (old : Outside) (s : DuplexState) (inputs : Role → List ℕ) → IsRead x own far line trace mid old s inputs
+      → ((trace : TracePlace) (old : Outside) (s : DuplexState) (inputs : Role → List ℕ) → IsRead x own far line trace mid old s inputs
       → GainsFronts (step_texts (event_step Video Pictures VideoRefused x s (inputs Events) inputs said)) old.written new.written)
       → LineTurn event r
   event_cut is r status answer kind rose rest gives = subst (λ (e : Line). LineTurn e r) (sym is) (was_cut x own_new far_new mid new room _ _ r status answer kind rose rest gives)
@@ -217,7 +217,7 @@ module _ (x : Party) (own far own_new far_new : Station) (line room : ℕ) (even
 -- one whose event is refused
 pub line_stops : (x : Party) (own far : Station) (line room : ℕ) (event said : Line) (r : Result Bool Status) (status : Status) (checked : Result Unit Told) (now : Outside) → event ≡ said
     → IsErrAnd r (λ z. z ≡ status) → IsRefusedWith line checked status → LineLaws → StepLaws
-    → ((trace : TraceReader) (old : Outside) (s : DuplexState) (inputs : Role → List ℕ) → IsRead x own far line trace now old s inputs → IsChecked checked said (λ e. refusal_at x s e))
+    → ((trace : TracePlace) (old : Outside) (s : DuplexState) (inputs : Role → List ℕ) → IsRead x own far line trace now old s inputs → IsChecked checked said (λ e. refusal_at x s e))
     → LineTurn x own far own far line room event said now now event r
 line_stops x own far line room event said r status (Ok u) now is answer refused lines steps checks = absurd refused
 line_stops x own far line room event said r status (Err told) now is answer refused lines steps checks =
@@ -248,7 +248,7 @@ delivery_done x own far own_ends far_ends line room event said n j mid turns ste
 -- one that asks for a frame
 pub frame_asked : (x : Party) (own far own_new : Station) (line room : ℕ) (event : Line) (r : Result Bool Status) (mid new : Outside) → event ≡ says.Send
     → TakesFrame x own far own_new line r mid new room
-    → ((trace : TraceReader) (old : Outside) (s : DuplexState) (inputs : Role → List ℕ) → IsRead x own far line trace mid old s inputs → refusal_at x s Send ≡ None)
+    → ((trace : TracePlace) (old : Outside) (s : DuplexState) (inputs : Role → List ℕ) → IsRead x own far line trace mid old s inputs → refusal_at x s Send ≡ None)
     → LineTurn x own far own_new far line room event says.Send mid new event r
 frame_asked x own far own_new line room event r mid new is t none = subst (λ (e : Line). LineTurn x own far own_new far line room event says.Send mid new e r) (sym is) (record {
   gives = λ trace old s inputs b.

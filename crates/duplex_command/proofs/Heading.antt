@@ -10,7 +10,7 @@ use Rattle.h263_types.specs.declared.params.Params.{Params}
 use Rattle.y4m.specs.declared.fault.Y4mFault.{Y4mFault}
 use Rattle.y4m.specs.declared.fault.VideoStop.{VideoStop}
 use Rattle.y4m.specs.declared.fault.VideoStop.TheVariants.{Read, Refused}
-use Rattle.y4m.specs.declared.reader.Y4mReader.{Y4mReader}
+use Rattle.y4m.specs.Place.{Y4mPlace}
 use Rattle.y4m.specs.Head.{head_of, head_size}
 use Rattle.y4m.specs.Reader.{HeadGives}
 use Rattle.y4m.specs.Text.{head_text}
@@ -108,7 +108,7 @@ module _ (turns : TurnLaws) (law : HeadLaw) (inputs : Role → List ℕ) (old mi
   pub still_there : mid.left Video2 ≡ Some (inputs Video2)
   still_there = others Video2 no_first ∙ told Video2 refl
 
-  module _ (a : Y4mReader) (first : HeadGives (Ok a) (inputs Video) (mid.left Video)) (new : Outside) (others2 : (r : Role) → r ≢ Video2 → new.left r ≡ mid.left r) (same2 : new.written ≡ mid.written) where
+  module _ (a : Y4mPlace) (first : HeadGives (Ok a) (inputs Video) (mid.left Video)) (new : Outside) (others2 : (r : Role) → r ≢ Video2 → new.left r ≡ mid.left r) (same2 : new.written ≡ mid.written) where
     read_both : (k : ℕ) → new.left Video2 ≡ Some (drop k (inputs Video2)) → Tells new (left_after inputs (and_of (of Video (head_size (inputs Video))) (of Video2 k)))
     read_both k gone =
         let size = head_size (inputs Video) in
@@ -141,9 +141,9 @@ module _ (turns : TurnLaws) (law : HeadLaw) (inputs : Role → List ℕ) (old mi
 
     pub both_read : (heads : Heads) → heads.a ≡ a → HeadGives (Ok heads.b) (inputs Video2) (new.left Video2) → HaveHeads heads inputs new
     both_read heads is e = record {
-      head_a = first.0 ∙ ap (λ (x : Y4mReader). Ok x.format) (sym is);
+      head_a = first.0 ∙ ap (λ (x : Y4mPlace). Ok x.format) (sym is);
       head_b = e.0;
-      at_a = ap (λ (x : Y4mReader). x.at) is ∙ first.1;
+      at_a = ap (λ (x : Y4mPlace). x.at) is ∙ first.1;
       at_b = e.1;
       left = read_both (head_size (inputs Video2)) e.2;
     }

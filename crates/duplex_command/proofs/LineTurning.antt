@@ -12,7 +12,7 @@ use Rattle.loss_trace.specs.declared.fault.TraceFault.{TraceFault}
 use Rattle.loss_trace.specs.declared.fault.TraceFault.TheVariants.{BadLine, TooMany}
 use Rattle.loss_trace.specs.declared.fault.TraceStop.{TraceStop}
 use Rattle.loss_trace.specs.declared.fault.TraceStop.TheVariants as stops
-use Rattle.loss_trace.specs.declared.reader.TraceReader.{TraceReader}
+use Rattle.loss_trace.specs.Place.{TracePlace}
 use Rattle.loss_trace.specs.Line.{IsLine, IsPart, Number, Part, Spell, Word, parts_of}
 use Rattle.loss_trace.specs.Lines.{first_line, is_closed}
 use Rattle.loss_trace.specs.Reader.{BytesGive, Moves, Passes}
@@ -152,7 +152,7 @@ place_same A s t a b = a
 place_same B s t a b = b
 
 -- after a line the stations stand where it was passed
-pub passed : LineLaws → (x : Party) (own far : Station) (s : DuplexState) (rest : List ℕ) (old after : TraceReader) (left : Option (List ℕ))
+pub passed : LineLaws → (x : Party) (own far : Station) (s : DuplexState) (rest : List ℕ) (old after : TracePlace) (left : Option (List ℕ))
     → StationsStand x own far old s rest → after.lines ≡ old.lines + 1 → Passes rest after left
     → StationsStand x own far after (after_line s rest) (drop (line_size rest) rest)
 passed laws x own far s rest old after left k lines passes = record {
@@ -165,11 +165,11 @@ passed laws x own far s rest old after left k lines passes = record {
 }
 
 -- the reader is where the state says
-pub record IsReadAt (s : DuplexState) (reader : TraceReader) : Type 0 where
+pub record IsReadAt (s : DuplexState) (reader : TracePlace) : Type 0 where
   pub lines_are : s.lines ≡ reader.lines
   pub ended_is : s.ended ≡ reader.ended
 
-module _ (laws : LineLaws) (s : DuplexState) (inputs : Role → List ℕ) (old mid : Outside) (read : ReadsTrace inputs old mid) (reader after : TraceReader) (at : IsReadAt s reader) where
+module _ (laws : LineLaws) (s : DuplexState) (inputs : Role → List ℕ) (old mid : Outside) (read : ReadsTrace inputs old mid) (reader after : TracePlace) (at : IsReadAt s reader) where
   going : reader.ended ≡ false → may_read s ≡ true
   going is = ap not (at.ended_is ∙ is)
 
@@ -199,12 +199,12 @@ module _ (laws : LineLaws) (s : DuplexState) (inputs : Role → List ℕ) (old m
       ∙ ap (λ (n : ℕ). step_of (bad_line (TooMany n))) (omega (arith, at.lines_are, moves.1, moves.2)))
 
   -- after a line
-  module _ (buf : List ℕ) (found : ℕ × ℕ) (e : BytesGive (Ok (Some found)) reader (inputs Events) buf after (mid.left Events)) (moves : Moves (Ok (Some found)) reader after) (few : after.lines ≤ 16777216) where
+  module _ (buf : List ℕ) (found : ℕ × ℕ) (e : BytesGive (Ok (Some found)) reader (inputs Events) buf after (mid.left Events)) (moves : Moves (Ok (Some found)) reader after) where
     pub found_is : (o : Option (Option (Party × Line))) → party_event (take found.1 buf) ≡ o → duplex_step s inputs ≡ line_step s inputs o
-    found_is o said = line_is s inputs (inputs Events) o e.0.some (omega (arith, moves.2, few, at.lines_are)) (ap party_event (sym e.2) ∙ said)
+    found_is o said = line_is s inputs (inputs Events) o e.0.some (omega (arith, moves.1, at.lines_are)) (ap party_event (sym e.2) ∙ said)
 
     pub found_number : found.0 ≡ s.lines + 1
-    found_number = moves.1 ∙ ap (λ (n : ℕ). n + 1) (sym at.lines_are)
+    found_number = moves.2 ∙ ap (λ (n : ℕ). n + 1) (sym at.lines_are)
 
     pub found_taken : HasTaken inputs old mid
     found_taken = laws.line inputs old mid read e.0.gone

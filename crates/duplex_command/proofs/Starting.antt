@@ -8,7 +8,7 @@ use Rattle.h263_types.specs.Sizes.{size_of_picture}
 use Rattle.h263_outside.specs.Desk.{Faults, Outside}
 use Rattle.h263_outside.specs.declared.desk.Role.{Role}
 use Rattle.h263_outside.specs.declared.desk.Role.TheVariants.{Video, Events, Video2}
-use Rattle.y4m.specs.declared.reader.Y4mReader.{Y4mReader}
+use Rattle.y4m.specs.Place.{Y4mPlace}
 use Rattle.y4m.specs.Head.{head_size}
 use Rattle.y4m.specs.Video.{most_frames}
 use Rattle.call_report.specs.declared.status.Status.{Status}
@@ -49,7 +49,7 @@ pub in_range : (p : Params) (f g : Format) → IsParams p → (y : Party) → Is
 in_range p f g is A = in_format p f is
 in_range p f g is B = in_format p g is
 
-place_first : (v w : Y4mReader) (n : ℕ) → v ≡ w → w.at ≡ n → w.more ≡ most_frames → record { at = n; more = 1048576 } ≡ place_in v
+place_first : (v w : Y4mPlace) (n : ℕ) → v ≡ w → w.at ≡ n → w.more ≡ most_frames → record { at = n; more = 1048576 } ≡ place_in v
 place_first v w n is at more = (λ i. record { at = sym at i; more = sym more i }) ∙ ap place_in (sym is)
 
 pub fits : (f g : Format) (long room : ℕ) → f ≡ g → long ≡ room → size_of_picture f ≤ room → size_of_picture g ≤ long
@@ -58,12 +58,12 @@ fits f g long room same is le = subst (λ (h : Format). size_of_picture h ≤ lo
 not_ended : (ended : Bool) (l : List ℕ) → ended ≡ false → ended ≡ true → l ≡ []
 not_ended ended l none over = absurd (cc (none, over))
 
-ready_first : (station : Station) (heads_video : Y4mReader) (q : Params) (room : ℕ) → station.video ≡ heads_video → station.ends.params ≡ q → q.format ≡ heads_video.format
+ready_first : (station : Station) (heads_video : Y4mPlace) (q : Params) (room : ℕ) → station.video ≡ heads_video → station.ends.params ≡ q → q.format ≡ heads_video.format
     → station.ends.sender.sent ≡ 0 → heads_video.more ≡ most_frames → size_of_picture heads_video.format ≤ room → StationReady station room
 ready_first station video q room is params format sent more fits =
     let same : station.ends.params.format ≡ video.format = ap (λ (x : Params). x.format) params ∙ format in
     record {
-      format = ap (λ (v : Y4mReader). v.format) is ∙ sym same;
+      format = ap (λ (v : Y4mPlace). v.format) is ∙ sym same;
       frame = subst (λ (f : Format). size_of_picture f ≤ room) (sym same) fits;
       sent = (λ i. sent i + (is i).more) ∙ omega (arith, more);
     }

@@ -6,7 +6,7 @@ use Rattle.h263_outside.specs.declared.desk.Role.TheVariants.{Events}
 use Rattle.loss_trace.specs.declared.event.Event.{Event as Line}
 use Rattle.loss_trace.specs.declared.fault.TraceFault.TheVariants.{BadLine}
 use Rattle.loss_trace.specs.declared.fault.TraceStop.{TraceStop}
-use Rattle.loss_trace.specs.declared.reader.TraceReader.{TraceReader}
+use Rattle.loss_trace.specs.Place.{TracePlace}
 use Rattle.loss_trace.specs.Reader.{BytesGive, Moves}
 use Rattle.call_report.specs.declared.status.Status.{Status}
 use Rattle.call_report.specs.declared.status.Status.TheVariants.{Ok as Fine, TraceRefused, WriteFault}
@@ -31,10 +31,10 @@ use Rattle.duplex_command.proofs.AtParty.{ready_so}
 use Rattle.duplex_command.proofs.LineTurning.{IsReadAt, found_bad, found_could, found_empty, found_is, found_number, found_taken, passed}
 
 -- what the reader says, where its answer is known
-pub says : (r known : Result (Option (ℕ × ℕ)) TraceStop) (old new : TraceReader) (rest buf : List ℕ) (left : Option (List ℕ)) → r ≡ known → BytesGive r old rest buf new left → BytesGive known old rest buf new left
+pub says : (r known : Result (Option (ℕ × ℕ)) TraceStop) (old new : TracePlace) (rest buf : List ℕ) (left : Option (List ℕ)) → r ≡ known → BytesGive r old rest buf new left → BytesGive known old rest buf new left
 says r known old new rest buf left is gives = subst (λ (q : Result (Option (ℕ × ℕ)) TraceStop). BytesGive q old rest buf new left) is gives
 
-pub moved : (r known : Result (Option (ℕ × ℕ)) TraceStop) (old new : TraceReader) → r ≡ known → Moves r old new → Moves known old new
+pub moved : (r known : Result (Option (ℕ × ℕ)) TraceStop) (old new : TracePlace) → r ≡ known → Moves r old new → Moves known old new
 moved r known old new is moves = subst (λ (q : Result (Option (ℕ × ℕ)) TraceStop). Moves q old new) is moves
 
 -- what holds in any case holds where it is asked
@@ -119,14 +119,13 @@ falls_so (Ok false) old new is = tt
 falls_so (Err status) old new is = tt
 
 -- what the reader of the trace has done
-pub record WasRead (m : Talk) (after : TraceReader) (buf : List ℕ) (found : ℕ × ℕ) (old mid : Outside) : Type 0 where
+pub record WasRead (m : Talk) (after : TracePlace) (buf : List ℕ) (found : ℕ × ℕ) (old mid : Outside) : Type 0 where
   pub gives : (rest : List ℕ) → old.left Events ≡ Some rest → BytesGive (Ok (Some found)) m.trace rest buf after (mid.left Events)
   pub moves : Moves (Ok (Some found)) m.trace after
   pub others : (r : Role) → r ≢ Events → mid.left r ≡ old.left r
   pub rest : OnlyReads old mid
-  pub few : after.lines ≤ 16777216
 
-module _ (lines : LineLaws) (steps : StepLaws) (m : Talk) (after : TraceReader) (buf : List ℕ) (found : ℕ × ℕ) (old mid : Outside) (w : WasRead m after buf found old mid) where
+module _ (lines : LineLaws) (steps : StepLaws) (m : Talk) (after : TracePlace) (buf : List ℕ) (found : ℕ × ℕ) (old mid : Outside) (w : WasRead m after buf found old mid) where
   module _ (s : DuplexState) (inputs : Role → List ℕ) (k : TalkStands m s inputs) (told : Tells old inputs) where
     abbrev e : BytesGive (Ok (Some found)) m.trace (inputs Events) buf after (mid.left Events)
     e = w.gives (inputs Events) (told Events refl)
@@ -141,29 +140,29 @@ module _ (lines : LineLaws) (steps : StepLaws) (m : Talk) (after : TraceReader) 
     fits = take_within found.1 buf (ap (λ (l : List ℕ). length l) e.2 ∙ e.1)
 
     step_is : (o : Option (Option (Party × Line))) → party_event (take found.1 buf) ≡ o → duplex_step s inputs ≡ line_step s inputs o
-    step_is o said = found_is lines s inputs old mid only m.trace after at buf found e w.moves w.few o said
+    step_is o said = found_is lines s inputs old mid only m.trace after at buf found e w.moves o said
 
     could : may_read s ≡ true
-    could = found_could lines s inputs old mid only m.trace after at buf found e w.moves w.few
+    could = found_could lines s inputs old mid only m.trace after at buf found e w.moves
 
     stood : StationsStand A m.a m.b after (after_line s (inputs Events)) (drop (line_size (inputs Events)) (inputs Events))
-    stood = passed lines A m.a m.b s (inputs Events) m.trace after (mid.left Events) k w.moves.2 e.0
+    stood = passed lines A m.a m.b s (inputs Events) m.trace after (mid.left Events) k w.moves.3 e.0
 
     line_read : IsRead A m.a m.b found.0 after mid old s inputs
     line_read = record {
       stood = stood;
-      number = found_number lines s inputs old mid only m.trace after at buf found e w.moves w.few;
-      taken = found_taken lines s inputs old mid only m.trace after at buf found e w.moves w.few;
+      number = found_number lines s inputs old mid only m.trace after at buf found e w.moves;
+      taken = found_taken lines s inputs old mid only m.trace after at buf found e w.moves;
     }
 
   -- a line that says nothing
   pub line_bad : (found.1 ≤ length buf → party_event (take found.1 buf) ≡ None) → (s : DuplexState) (inputs : Role → List ℕ) → TalkStands m s inputs → Tells old inputs
       → Ended (duplex_step s inputs) (TraceRefused (BadLine found.0)) inputs old mid
   line_bad said s inputs k told =
-      found_bad lines s inputs old mid (only s inputs k told) m.trace after (at s inputs k told) buf found (e s inputs k told) w.moves w.few (said (fits s inputs k told))
+      found_bad lines s inputs old mid (only s inputs k told) m.trace after (at s inputs k told) buf found (e s inputs k told) w.moves (said (fits s inputs k told))
 
   fewer : 16777216 - after.lines + 1 ≡ 16777216 - m.trace.lines
-  fewer = omega (arith, w.moves.2, w.few)
+  fewer = omega (arith, w.moves.1, w.moves.3)
 
   opens_still : (new : Outside) → TalkReady m old.attached → KeepsRoles mid new → DuplexOpens new.attached
   opens_still new r rest = subst DuplexOpens (sym (rest.attached ∙ w.rest.attached)) r.opens
@@ -174,7 +173,7 @@ module _ (lines : LineLaws) (steps : StepLaws) (m : Talk) (after : TraceReader) 
   line_empty said r silent =
       turn_goes_on m (record m { trace = after }) old mid fewer (record { opens = opens_still mid r (steps.none mid); stations = r.stations }) (steps.reads old mid w.rest)
       (λ s inputs k told.
-      found_empty lines s inputs old mid (only s inputs k told) m.trace after (at s inputs k told) buf found (e s inputs k told) w.moves w.few (said (fits s inputs k told))
+      found_empty lines s inputs old mid (only s inputs k told) m.trace after (at s inputs k told) buf found (e s inputs k told) w.moves (said (fits s inputs k told))
       (TalkStands (record m { trace = after })) (stood s inputs k told) silent)
 
   -- a line that says an event of a party
@@ -185,12 +184,12 @@ module _ (lines : LineLaws) (steps : StepLaws) (m : Talk) (after : TraceReader) 
   line_done said number said_so ready y r new room trace_is frame_is t = record {
     gives = λ s inputs k told.
         let stands : DuplexState → (Role → List ℕ) → Type 0 = λ next rest. StationsStand A y.a y.b after next (rest Events) in
-        subst (λ (reader : TraceReader). TurnGives r (duplex_step s inputs) (λ next rest. StationsStand A y.a y.b reader next (rest Events)) may_read (may_read s) inputs old new) (sym trace_is)
+        subst (λ (reader : TracePlace). TurnGives r (duplex_step s inputs) (λ next rest. StationsStand A y.a y.b reader next (rest Events)) may_read (may_read s) inputs old new) (sym trace_is)
         (subst (λ (step : Step DuplexState). TurnGives r step stands may_read (may_read s) inputs old new) (sym (step_is s inputs k told (Some (Some (said.party, said.event))) (said_so (fits s inputs k told))))
         (subst (λ (b : Bool). TurnGives r (party_step said.party s inputs said.event) stands may_read b inputs old new) (sym (could s inputs k told))
         (t.gives after old s inputs (subst (λ (n : ℕ). IsRead A m.a m.b n after mid old s inputs) (sym number) (line_read s inputs k told)))));
     whole = λ s inputs k told. never r (new.left Events ≡ Some []) t.goes_on;
-    falls = falls_so r (more_of m) (more_of y) (ap (λ (reader : TraceReader). 16777216 - reader.lines + 1) trace_is ∙ fewer);
+    falls = falls_so r (more_of m) (more_of y) (ap (λ (reader : TracePlace). 16777216 - reader.lines + 1) trace_is ∙ fewer);
     ready = ready_so r (StationsReady y.a y.b room) (TalkReady y new.attached)
         (λ stations. record { opens = opens_still new ready t.rest; stations = subst (λ (n : ℕ). StationsReady y.a y.b n) (sym frame_is) stations }) t.ready;
     stop = t.stop;

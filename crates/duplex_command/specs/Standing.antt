@@ -3,25 +3,25 @@ use Rattle.std.specs.Prelude.{◌≡◌, ℕ, ◌+◌, ◌-◌, ◌≤◌, Bool,
 use Rattle.h263_types.specs.Sizes.{size_of_picture}
 use Rattle.h263_outside.specs.declared.desk.Role.{Role}
 use Rattle.h263_outside.specs.declared.desk.Role.TheVariants.{Video, Events, Pictures, Report, Video2, Pictures2}
-use Rattle.loss_trace.specs.declared.reader.TraceReader.{TraceReader}
+use Rattle.loss_trace.specs.Place.{TracePlace}
 use Rattle.duplex_call.specs.declared.line.Party.{Party}
 use Rattle.duplex_call.specs.declared.line.Party.TheVariants.{A}
 use Rattle.duplex_call.specs.Duplex.{other}
 use Rattle.duplex_ends.specs.Pair.{AreInCall, HoldsPair}
-use Rattle.y4m.specs.declared.reader.Y4mReader.{Y4mReader}
+use Rattle.y4m.specs.Place.{Y4mPlace}
 use Rattle.duplex_command.specs.declared.station.Station.{Station}
 use Rattle.duplex_command.specs.declared.talk.Talk.{Talk}
 use Rattle.duplex_command.specs.Duplex.{DuplexState, VideoPlace, place_of}
 
 -- ---- the state
 
-abbrev pub place_in : Y4mReader → VideoPlace
+abbrev pub place_in : Y4mPlace → VideoPlace
 place_in video = record { at = video.at; more = video.more }
 
 -- A party, the other one and the trace stand at a state, where this much of the trace is left: the
 -- places of both videos are those of the state, and the ends have done what its ways have met.
 -- After a last line without a newline the trace is at its end.
-pub record StationsStand (x : Party) (own far : Station) (trace : TraceReader) (s : DuplexState)
+pub record StationsStand (x : Party) (own far : Station) (trace : TracePlace) (s : DuplexState)
     (rest : List ℕ) : Type 0 where
   pub own_place : place_of x s ≡ place_in own.video
   pub far_place : place_of (other x) s ≡ place_in far.video

@@ -6,7 +6,7 @@ use Rattle.h263_outside.specs.declared.desk.Role.{Role}
 use Rattle.h263_outside.specs.declared.desk.Role.TheVariants.{Video, Events, Pictures, Report}
 use Rattle.y4m.specs.Text.{frame_text}
 use Rattle.y4m.specs.declared.fault.Y4mFault.{Y4mFault}
-use Rattle.loss_trace.specs.declared.reader.TraceReader.{TraceReader}
+use Rattle.loss_trace.specs.Place.{TracePlace}
 use Rattle.call_report.specs.declared.status.Status.{Status}
 use Rattle.call_report.specs.declared.status.Status.TheVariants.{VideoRefused}
 use Rattle.call_report.specs.Text.{picture_text}
@@ -32,7 +32,7 @@ after_first inputs = left_after inputs (of Events (line_size (inputs Events))) E
 
 -- A line was read, which has this number: the stations stood at the state before it, the reader of
 -- the trace has passed it, and nothing else was done since the desk was the old one.
-pub record IsRead (x : Party) (own far : Station) (line : ℕ) (trace : TraceReader)
+pub record IsRead (x : Party) (own far : Station) (line : ℕ) (trace : TracePlace)
     (now old : Outside) (s : DuplexState) (inputs : Role → List ℕ) : Type 0 where
   pub stood : StationsStand x own far trace (after_line s (inputs Events)) (after_first inputs)
   pub number : line ≡ s.lines + 1
@@ -43,9 +43,9 @@ pub record IsRead (x : Party) (own far : Station) (line : ℕ) (trace : TraceRea
 -- step begins. It never ends the call.
 pub record IsPartyTurn (x : Party) (own far : Station) (result : Result Bool Status)
     (mid new : Outside) (room : ℕ)
-    (Begins : TraceReader → Outside → DuplexState → (Role → List ℕ) → Type 0)
+    (Begins : TracePlace → Outside → DuplexState → (Role → List ℕ) → Type 0)
     (step : DuplexState → (Role → List ℕ) → Step DuplexState) : Type 0 where
-  pub gives : (trace : TraceReader) (old : Outside) (s : DuplexState) (inputs : Role → List ℕ)
+  pub gives : (trace : TracePlace) (old : Outside) (s : DuplexState) (inputs : Role → List ℕ)
       → Begins trace old s inputs
       → TurnGives result (step s inputs)
       (λ next rest. StationsStand x own far trace next (rest Events))
@@ -76,7 +76,7 @@ TakesLine a b a_new b_new said result mid new room =
 -- ---- a frame
 
 -- the frame is asked for that may be captured
-pub record IsAsked (x : Party) (own far : Station) (line : ℕ) (trace : TraceReader)
+pub record IsAsked (x : Party) (own far : Station) (line : ℕ) (trace : TracePlace)
     (now old : Outside) (s : DuplexState) (inputs : Role → List ℕ) : Type 0 where
   pub read : IsRead x own far line trace now old s inputs
   pub none : refusal_at x s Send ≡ None

@@ -18,7 +18,6 @@ use Rattle.call_decoding.specs.Rules.{rules_of}
 use Rattle.call_decoding.specs.Styles.{Style}
 use Rattle.call_encoding.specs.Frames.{Frame}
 use Rattle.call_encoding.specs.Messages.{marked}
-use Rattle.call_rings.specs.Keeping.{period_of}
 use Rattle.coded_call.specs.Coding.{coding}
 use Rattle.receiver_end.specs.State as receiver_end
 use Rattle.duplex_call.specs.declared.queue.Carried.{Carried}
@@ -26,7 +25,7 @@ use Rattle.duplex_call.specs.Duplex.{WayRun, messages_at, numbers_carried}
 use Rattle.duplex_call.specs.Waiting.{Waits, last_four}
 use Rattle.one_way.specs.Both.{both_after, carrying, steady}
 use Rattle.one_way.specs.Counts.{total_of}
-use Rattle.one_way.specs.Way.{CanSend, HoldsWay, MayHappenNow}
+use Rattle.one_way.specs.Way.{CanSend, HoldsWay, MayHappenNow, kept_in, tally_of}
 use Rattle.duplex_ends.specs.declared.party.PartyEnds.{PartyEnds}
 use Rattle.duplex_ends.specs.Bringing.{AreOfClock, message_in}
 use Rattle.duplex_ends.specs.Headers.{AreNumbered, HoldsHeaders, kept_by}
@@ -126,8 +125,8 @@ module _ (p q : Params) (own : PartyEnds) (w v : WayRun Frame) (h : HoldsParty p
 
   -- the ends after it
   pub party_sent : (new : PartyEnds) → new.params ≡ own.params → HoldsWay p new.way new.sender new.far_end [] captured.frames captured.past → CanSend new.way new.sender
-      → period_of new.way.packets ≡ period_of own.way.packets → new.sender.sent ≡ own.sender.sent + 1 → own.sender.sent < 1048576
-      → new.far_end.played ≡ own.far_end.played → total_of new.way.tally ≡ total_of own.way.tally → kept_by new.carried ≡ kept_by own.carried
+      → kept_in new.way ≡ kept_in own.way → new.sender.sent ≡ own.sender.sent + 1 → own.sender.sent < 1048576
+      → new.far_end.played ≡ own.far_end.played → total_of (tally_of new.way) ≡ total_of (tally_of own.way) → kept_by new.carried ≡ kept_by own.carried
       → HoldsHeaders new.carried (h.carries.headers ++ waiting ∷ []) → Waits new.waiting [] → HoldsParty p q new captured v
   party_sent new params done can period sent left played tally kept holds none = record {
     params = params ∙ h.params;

@@ -1,26 +1,20 @@
 -- A packet that is delivered, and the messages of its picture's header.
-use Rattle.std.proofs.Common.{◌≡◌, ℕ, zero, suc, ◌+◌, ◌<◌, ◌≤◌, Bool, List, [], ◌∷◌, length, take, Option, Some, None, refl, sym, ap, ◌∙◌, arith}
-use Rattle.std.specs.Prelude.{nat_le, nat_lt, slice_get, slice_index_or, if◌then◌else◌}
-use Rattle.std.specs.Option.{option_map_or}
-use Rattle.std.proofs.lemmas.Bool.{and_from, le-leb, le-ltb, lt-ltb}
+use Rattle.std.proofs.Common.{◌≡◌, ℕ, zero, suc, ◌+◌, ◌<◌, ◌≤◌, Bool, List, [], ◌∷◌, length, Some, refl, sym, ap, ◌∙◌, arith}
+use Rattle.std.specs.Prelude.{slice_get, slice_index_or, if◌then◌else◌}
+use Rattle.std.proofs.lemmas.Bool.{le-ltb, lt-ltb}
 use Rattle.h263_types.specs.Clocks as clocks
 use Rattle.h263_types.specs.declared.blocks.Mb.{Mb}
 use Rattle.h263_types.specs.declared.params.Params.{Params}
 use Rattle.h263_types.specs.Params.{IsParams}
 use Rattle.h263_planes.specs.Picture.{Picture}
-use Rattle.call_model.specs.Coding.{Header, Slice}
 use Rattle.call_model.specs.CodedPictures.{Coded}
 use Rattle.call_model.specs.IdealCall.{Deliver, MayHappen, NumberedMessage, slices_at}
 use Rattle.call_model.specs.JoinedRun.{Joined}
-use Rattle.call_model.specs.Sending as call
 use Rattle.call_model.specs.TwoStores.{Agree, told_of}
 use Rattle.call_decoding.specs.Rules.{rules_of}
 use Rattle.call_decoding.specs.Styles.{Style}
-use Rattle.call_encoding.specs.Encoding.{encoding}
 use Rattle.call_encoding.specs.Frames.{Frame}
 use Rattle.call_encoding.specs.Messages.{write_message, written}
-use Rattle.call_rings.specs.declared.sent_packets.SentPackets.{SentPackets}
-use Rattle.call_rings.specs.Keeping.{kept_of, period_of}
 use Rattle.coded_call.specs.Coding.{coding}
 use Rattle.receiver_end.specs.State as receiver_end
 use Rattle.duplex_call.specs.declared.queue.Carried.{Carried}
@@ -29,8 +23,7 @@ use Rattle.duplex_call.specs.declared.line.Party.TheVariants.{A, B}
 use Rattle.duplex_call.specs.Duplex.{MayBeBrought, MayHappenOf, WayRun, WayRuns, brings, brought, other, way, with_delivery, with_way}
 use Rattle.one_way.specs.Both.{both_after, steady}
 use Rattle.one_way.specs.Laws.{CallLaws, NearLaws}
-use Rattle.one_way.specs.Network.{HasPackets, IsAmongLast}
-use Rattle.one_way.specs.Way.{HoldsWay, MayHappenNow}
+use Rattle.one_way.specs.Way.{HoldsWay, IsAmongLast, MayHappenNow}
 use Rattle.duplex_ends.specs.declared.party.PartyEnds.{PartyEnds}
 use Rattle.duplex_ends.specs.Bringing.{MayReturnAll}
 use Rattle.duplex_ends.specs.Headers.{AreNumbered, kept_by}
@@ -54,30 +47,6 @@ pub with_both : (p : Party → Params) (x : Party) (own far : PartyEnds) (ways :
     → HoldsPair p x own far (with_way x w (with_way (other x) v ways))
 with_both p A own far ways w v in_range clock one two = record { in_range = in_range; clock = clock; own_holds = one; far_holds = two }
 with_both p B own far ways w v in_range clock one two = record { in_range = in_range; clock = clock; own_holds = one; far_holds = two }
-
--- ---- packets
-
--- the packets that the ring has of one of the last pictures
-kept_is : (p : Params) (packets : SentPackets) (coded : List (Coded Style Mb Picture)) (n : ℕ) (has : HasPackets p packets coded) → IsAmongLast packets (length coded) n
-    → kept_of (period_of packets) has.pictures n ≡ call.packets_of (encoding p) (rules_of p) coded n
-kept_is p packets coded n has among =
-    ap (λ (b : Bool). if b then slice_index_or has.pictures n [] else [])
-    (and_from (nat_lt n (length has.pictures)) (nat_le (length has.pictures) (n + period_of packets)) (lt-ltb n (length has.pictures) (omega (arith, among.0, has.count)))
-    (le-leb (length has.pictures) (n + period_of packets) (omega (arith, among.1, has.count))))
-    ∙ has.each n
-
--- a picture has as many packets as slices
-count_is : (p : Params) (coded : List (Coded Style Mb Picture)) (n : ℕ)
-    → ((number sequence : ℕ) (h : Header Style) (slices : List (Slice Mb)) → length ((encoding p).packets number sequence h slices) ≡ length slices)
-    → length (call.packets_of (encoding p) (rules_of p) coded n) ≡ length (slices_at coded n)
-unfolding call.packets_of slices_at
-count_is p coded n count = by_slot (slice_get coded n)
-  where
-    by_slot : (o : Option (Coded Style Mb Picture))
-        → length (option_map_or (λ (x : Coded Style Mb Picture). (encoding p).packets n (call.packets_before (take n coded)) (call.header_of (rules_of p) n x) x.slices) o [])
-        ≡ length (option_map_or (λ (x : Coded Style Mb Picture). x.slices) o [])
-    by_slot None = refl
-    by_slot (Some x) = count n (call.packets_before (take n coded)) (call.header_of (rules_of p) n x) x.slices
 
 -- ---- a picture that was sent and is near
 
@@ -105,16 +74,12 @@ module _ (p q : Params) (in_range : IsParams p) (calls : CallLaws p) (near_laws 
   short : length both.sender.coded < n + clocks.period_of p.clock
   short = near_laws.packets (receiver_end.run_of p []) (steady p) w.frames w.past n j refl (near_now, h.done.near)
 
-  pub among : IsAmongLast own.way.packets (length both.sender.coded) n
+  pub among : IsAmongLast own.way (length both.sender.coded) n
   among = (near_now.0, omega (arith, short, h.period))
 
   -- how many packets the picture has
-  pub count_so : ((number sequence : ℕ) (s : Header Style) (slices : List (Slice Mb)) → length ((encoding p).packets number sequence s slices) ≡ length slices)
-      → length (kept_of (period_of own.way.packets) h.done.packets.pictures n) ≡ length (slices_at (call_by p w).coded n)
-  count_so law =
-      ap (λ (l : List (List ℕ)). length l) (kept_is p own.way.packets both.sender.coded n h.done.packets among)
-      ∙ count_is p both.sender.coded n law
-      ∙ ap (λ (coded : List (Coded Style Mb Picture)). length (slices_at coded n)) agrees.pictures
+  pub count_so : (count : ℕ) → (IsAmongLast own.way (length both.sender.coded) n → count ≡ length (slices_at both.sender.coded n)) → count ≡ length (slices_at (call_by p w).coded n)
+  count_so count is = is among ∙ ap (λ (coded : List (Coded Style Mb Picture)). length (slices_at coded n)) agrees.pictures
 
   -- the picture's header is still there
   pub header_there : own.sender.sent ≡ length both.sender.coded → (n < length h.carries.headers) × (length h.carries.headers ≤ n + kept_by own.carried)

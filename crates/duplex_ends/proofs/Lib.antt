@@ -1,7 +1,6 @@
 mod Lists
 mod Said
 mod Agreeing
-mod Later
 mod Runs
 mod Pairs
 mod Returning

@@ -20,12 +20,6 @@ get_left [] ys k x is = absurd (cc is)
 get_left (a ∷ xs) ys zero x is = is
 get_left (a ∷ xs) ys (suc k) x is = get_left xs ys k x is
 
--- and what stands there in both, where the first list has the place
-pub get_before : {X : Type 0} (xs ys : List X) (k : ℕ) → k < length xs → slice_get (xs ++ ys) k ≡ slice_get xs k
-get_before [] ys k few = absurd (omega (arith, few))
-get_before (a ∷ xs) ys zero few = refl
-get_before (a ∷ xs) ys (suc k) few = get_before xs ys k (omega (arith, few))
-
 pub get_map : {X Y : Type 0} (f : X → Y) (xs : List X) (k : ℕ) (x : X) → slice_get xs k ≡ Some x → slice_get (map f xs) k ≡ Some (f x)
 get_map f [] k x is = absurd (cc is)
 get_map f (a ∷ xs) zero x is = ap (option_map f) is

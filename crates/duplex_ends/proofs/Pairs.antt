@@ -1,6 +1,6 @@
 -- The ends of both parties before the first event, and their counts.
-use Rattle.std.proofs.Common.{◌≡◌, ◌*◌, List, [], length, refl, sym, ap, subst, ◌∙◌, arith}
-use Rattle.h263_types.specs.Sizes.{mbs_of}
+use Rattle.std.proofs.Common.{◌≡◌, List, [], length, refl, sym, ap, ◌∙◌, arith}
+use Rattle.h263_types.specs.Clocks as clocks
 use Rattle.h263_types.specs.declared.params.Params.{Params}
 use Rattle.h263_types.specs.Params.{IsParams}
 use Rattle.call_model.specs.IdealCall.{Event}
@@ -12,7 +12,7 @@ use Rattle.receiver_end.specs.State as receiver_end
 use Rattle.duplex_call.specs.declared.line.Party.{Party}
 use Rattle.duplex_call.specs.declared.line.Party.TheVariants.{A, B}
 use Rattle.duplex_call.specs.Duplex.{WayRun, WayRuns, no_runs, other, way}
-use Rattle.one_way.specs.Both.{IsStanding, steady}
+use Rattle.one_way.specs.Both.{steady}
 use Rattle.one_way.specs.Laws.{ShowTheSame, WayLaws}
 use Rattle.one_way.specs.Seen.{Seen}
 use Rattle.duplex_ends.specs.declared.party.PartyEnds.{PartyEnds}
@@ -24,9 +24,8 @@ use Rattle.duplex_ends.specs.Ways.{call_in}
 abbrev no_run : WayRun Frame
 no_run = record { frames = []; past = []; carried = []; loaded = 0 }
 
-first_party : (p q : Params) (own : PartyEnds) → IsParams p → IsNewParty p own → HoldsParty p q own no_run no_run
-first_party p q own in_range new =
-    let params = sym new.sender_params in
+first_party : (p q : Params) (own : PartyEnds) → WayLaws p → IsParams p → IsNewParty p own → HoldsParty p q own no_run no_run
+first_party p q own laws in_range new =
     record {
       params = new.params;
       done = record {
@@ -36,15 +35,7 @@ first_party p q own in_range new =
         packets = new.way_is.packets;
         references = new.way_is.references;
       };
-      can = record {
-        in_range = subst IsParams params in_range;
-        standing = subst (λ (p : Params). IsStanding (steady p) own.sender) params (record { entries = []; stands = new.sends });
-        quant_is = new.quant ∙ ap (λ (p : Params). p.quant) params;
-        room = new.way_is.room ∙ ap (λ (p : Params). 1200 * mbs_of p.format) params;
-        most = new.way_is.most ∙ ap (λ (p : Params). mbs_of p.format) params;
-        keeping = record { pictures = new.way_is.packets.pictures; keeps = new.way_is.packets.keeps };
-        begun = new.way_is.begun ∙ sym new.sent;
-      };
+      can = laws.can (clocks.period_of p.clock) own.way own.sender in_range new.way_is new.sender_params new.sends new.quant new.sent;
       period = new.way_is.period;
       sent = new.sent;
       few = omega (arith, new.sent);
@@ -57,19 +48,19 @@ first_party p q own in_range new =
       waits = new.waits;
     }
 
-pub first_pair : (p : Party → Params) (x : Party) (own far : PartyEnds) → ((y : Party) → IsParams (p y)) → (p x).clock ≡ (p (other x)).clock
+pub first_pair : (p : Party → Params) (x : Party) (own far : PartyEnds) → ((y : Party) → WayLaws (p y)) → ((y : Party) → IsParams (p y)) → (p x).clock ≡ (p (other x)).clock
     → IsNewParty (p x) own → IsNewParty (p (other x)) far → HoldsPair p x own far no_runs
-first_pair p A own far in_range clock one two = record {
+first_pair p A own far laws in_range clock one two = record {
   in_range = in_range;
   clock = clock;
-  own_holds = first_party (p A) (p B) own (in_range A) one;
-  far_holds = first_party (p B) (p A) far (in_range B) two;
+  own_holds = first_party (p A) (p B) own (laws A) (in_range A) one;
+  far_holds = first_party (p B) (p A) far (laws B) (in_range B) two;
 }
-first_pair p B own far in_range clock one two = record {
+first_pair p B own far laws in_range clock one two = record {
   in_range = in_range;
   clock = clock;
-  own_holds = first_party (p B) (p A) own (in_range B) one;
-  far_holds = first_party (p A) (p B) far (in_range A) two;
+  own_holds = first_party (p B) (p A) own (laws B) (in_range B) one;
+  far_holds = first_party (p A) (p B) far (laws A) (in_range A) two;
 }
 
 -- ---- said from either party

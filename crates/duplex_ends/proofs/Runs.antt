@@ -17,7 +17,6 @@ use Rattle.call_decoding.specs.Styles.{Style}
 use Rattle.call_encoding.specs.Frames.{Frame}
 use Rattle.call_encoding.specs.Messages.{marked, write_message}
 use Rattle.coded_call.specs.Coding.{coding}
-use Rattle.call_rings.specs.Keeping.{period_of}
 use Rattle.duplex_call.specs.declared.queue.Carried.{Carried}
 use Rattle.duplex_call.specs.declared.queue.MessageQueue.{MessageQueue}
 use Rattle.duplex_call.specs.Duplex.{WayRun, brought}
@@ -25,7 +24,7 @@ use Rattle.duplex_call.specs.Waiting.{Waits}
 use Rattle.one_way.specs.Both.{both_after, steady}
 use Rattle.one_way.specs.Counts.{total_of}
 use Rattle.one_way.specs.Network as network
-use Rattle.one_way.specs.Way.{CanSend, HoldsWay}
+use Rattle.one_way.specs.Way.{CanSend, HoldsWay, kept_in, tally_of}
 use Rattle.duplex_ends.specs.declared.headers.CarriedRing.{CarriedRing}
 use Rattle.duplex_ends.specs.declared.party.PartyEnds.{PartyEnds}
 use Rattle.duplex_ends.specs.Bringing.{read_as, said_as}
@@ -120,8 +119,8 @@ module _ (p q : Params) (own : PartyEnds) (w far : WayRun Frame) (h : HoldsParty
       })
 
   pub party_more : (new : PartyEnds) (past : List Event) (now : WayRun Frame) (more : List Carried)
-      → new.params ≡ own.params → new.carried ≡ own.carried → period_of new.way.packets ≡ period_of own.way.packets
-      → new.sender.sent ≡ own.sender.sent → new.far_end.played ≤ own.sender.sent → total_of new.way.tally ≡ new.far_end.played
+      → new.params ≡ own.params → new.carried ≡ own.carried → kept_in new.way ≡ kept_in own.way
+      → new.sender.sent ≡ own.sender.sent → new.far_end.played ≤ own.sender.sent → total_of (tally_of new.way) ≡ new.far_end.played
       → HoldsWay p new.way new.sender new.far_end [] w.frames past → CanSend new.way new.sender
       → told_by q now ≡ told_by q far ++ more → Waits new.waiting (drop w.loaded (told_by q far) ++ more)
       → HoldsParty p q new (record w { past = past }) now

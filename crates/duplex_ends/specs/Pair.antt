@@ -5,7 +5,6 @@ use Rattle.h263_types.specs.Clocks as clocks
 use Rattle.h263_types.specs.Params.{IsParams}
 use Rattle.call_encoding.specs.Frames.{Frame}
 use Rattle.call_model.specs.IdealCall.{Event}
-use Rattle.call_rings.specs.Keeping.{period_of}
 use Rattle.receiver_end.specs.State as receiver_end
 use Rattle.sender_end.specs.Stands as sender_end
 use Rattle.duplex_call.specs.declared.line.Party.{Party}
@@ -13,7 +12,7 @@ use Rattle.duplex_call.specs.Duplex.{MayHappenOf, WayRun, WayRuns, other, way}
 use Rattle.duplex_call.specs.Waiting.{Waits}
 use Rattle.one_way.specs.Both.{steady}
 use Rattle.one_way.specs.Counts.{total_of}
-use Rattle.one_way.specs.Way.{CanSend, HoldsWay, IsNewWay}
+use Rattle.one_way.specs.Way.{CanSend, HoldsWay, IsNewWay, kept_in, tally_of}
 use Rattle.duplex_ends.specs.declared.party.PartyEnds.{PartyEnds}
 use Rattle.duplex_ends.specs.Headers.{HasHeaders, HoldsHeaders, kept_by}
 use Rattle.duplex_ends.specs.Ways.{sides, told_by}
@@ -25,11 +24,11 @@ pub record HoldsParty (p q : Params) (own : PartyEnds) (w far : WayRun Frame) : 
   pub params : own.params ≡ p
   pub done : HoldsWay p own.way own.sender own.far_end [] w.frames w.past
   pub can : CanSend own.way own.sender
-  pub period : period_of own.way.packets ≡ clocks.period_of p.clock
+  pub period : kept_in own.way ≡ clocks.period_of p.clock
   pub sent : own.sender.sent ≡ length w.frames
   pub few : own.sender.sent ≤ 1048576
   pub behind : own.far_end.played ≤ own.sender.sent
-  pub counted : total_of own.way.tally ≡ own.far_end.played
+  pub counted : total_of (tally_of own.way) ≡ own.far_end.played
   pub kept : kept_by own.carried ≡ clocks.period_of p.clock
   pub carries : HasHeaders own.carried (told_by q far) w.carried
   pub headers : length w.carried ≡ length w.frames

@@ -41,7 +41,6 @@ fn bring_carried(own: &PartyEnds, sender: &mut Sender<FixedPace>, number: u32, p
     one_way_laws::call_laws();
     one_way_laws::near_event_laws();
     one_way_laws::way_laws();
-    one_way_laws::message_laws();
     laws::said_laws();
     if place >= own.way.count(number) {
         return;
@@ -81,7 +80,6 @@ pub fn deliver_all(own: &mut PartyEnds, far: &mut PartyEnds, number: u32)
 {
     one_way_laws::call_laws();
     one_way_laws::near_event_laws();
-    one_way_laws::message_laws();
     let count = own.way.count(number);
     'packets: for place in 0..count {
         deliver(own, far, number, place);

@@ -1,10 +1,12 @@
 -- Where a slot has what is inside, and what a call of it answers.
-use Rattle.std.specs.Prelude.{ℕ, Bool, true, false, Option, Some, None, Result, Ok, Err}
+use Rattle.std.specs.Prelude.{ℕ, Option, Some, None, Result, Ok, Err}
 use Rattle.h263_types.specs.declared.params.Params.{Params}
 use Rattle.sender_end.specs.State.{SenderState}
 use Rattle.receiver_end.specs.declared.kept.Kept.{Kept}
 use Rattle.h263rps_c.specs.declared.ends.End.{End}
 use Rattle.h263rps_c.specs.declared.ends.End.TheVariants.{Receiving, Sending}
+use Rattle.h263rps_c.specs.declared.ends.EndKind.{EndKind}
+use Rattle.h263rps_c.specs.declared.ends.EndKind.TheVariants.{Sender, Receiver}
 use Rattle.rate_control.specs.declared.send_pace.SendPace.{SendPace}
 use Rattle.h263rps_c.specs.declared.refusals.EndRefusal.{EndRefusal}
 use Rattle.h263rps_c.specs.declared.refusals.EndRefusal.TheVariants.{NotStarted, Started, OtherEnd, BadParams}
@@ -37,7 +39,7 @@ fault_after None (Ok p) before = before
 abbrev pub never : {S : Type 0} → S → Option EndRefusal
 never s = None
 
--- a call that an end of the right kind never refuses: a receiver, or else a sender
-abbrev pub for_kind : Bool → Option End → Option EndRefusal
-for_kind true inside = for_receiver never inside
-for_kind false inside = for_sender never inside
+-- a call for an end of this kind, which such an end never refuses
+abbrev pub for_kind : EndKind → Option End → Option EndRefusal
+for_kind Sender inside = for_sender never inside
+for_kind Receiver inside = for_receiver never inside

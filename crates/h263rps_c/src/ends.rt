@@ -43,6 +43,13 @@ pub enum End {
     Receiving(Receiver),
 }
 
+/// Which end of a call it is.
+#[derive(Clone, Copy, Debug)]
+pub enum EndKind {
+    Sender,
+    Receiver,
+}
+
 impl Drop for End {
     fn drop(self) {
         match self {
@@ -172,15 +179,14 @@ impl End {
         }
     }
 
-    /// Whether it is of one kind: a receiver, or else a sender.
-    pub fn is_of(&self, receiver: bool) -> bool
-        ensures of { result ≡ true → for_kind receiver (Some self.now) ≡ None }
-        ensures other { result ≡ false
-            → for_kind receiver (Some self.now) ≡ Some refusals.OtherEnd }
+    /// Whether it is of this kind.
+    pub fn is_of(&self, kind: EndKind) -> bool
+        ensures of { result ≡ true → for_kind kind (Some self.now) ≡ None }
+        ensures other { result ≡ false → for_kind kind (Some self.now) ≡ Some refusals.OtherEnd }
     {
         match self {
-            End::Sending(_) => !receiver,
-            End::Receiving(_) => receiver,
+            End::Sending(_) => matches!(kind, EndKind::Sender),
+            End::Receiving(_) => matches!(kind, EndKind::Receiver),
         }
     }
 

@@ -17,7 +17,7 @@ ghost use Rattle.h263rps_c.specs.declared.refusals.EndRefusal.TheVariants as ref
 
 use crate::answers::Answer;
 use crate::asked::Asked;
-use crate::ends::End;
+use crate::ends::{End, EndKind};
 use crate::handles::{Slot, put, taken};
 use crate::refusals::{EndRefusal, OK};
 use std::alloc::Global;
@@ -235,7 +235,7 @@ pub extern "C" fn h263rps_raw_receiver_finish(alloc: Global, slot: &mut Slot) ->
     if !slot.is_started() {
         return EndRefusal::NotStarted.number();
     }
-    if !slot.handle.end_mut().is_of(true) {
+    if !slot.handle.end_mut().is_of(EndKind::Receiver) {
         return EndRefusal::OtherEnd.number();
     }
     let _end = taken(alloc, slot);

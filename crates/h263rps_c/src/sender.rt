@@ -23,7 +23,7 @@ ghost use Rattle.h263rps_c.specs.declared.refusals.EndRefusal.TheVariants as ref
 
 use crate::answers::{Made, Reply, Said};
 use crate::asked::Asked;
-use crate::ends::End;
+use crate::ends::{End, EndKind};
 use crate::handles::{Slot, put, taken};
 use crate::refusals::{EndRefusal, OK};
 use std::alloc::Global;
@@ -218,7 +218,7 @@ pub extern "C" fn h263rps_raw_sender_finish(alloc: Global, slot: &mut Slot) -> u
     if !slot.is_started() {
         return EndRefusal::NotStarted.number();
     }
-    if !slot.handle.end_mut().is_of(false) {
+    if !slot.handle.end_mut().is_of(EndKind::Sender) {
         return EndRefusal::OtherEnd.number();
     }
     let _end = taken(alloc, slot);

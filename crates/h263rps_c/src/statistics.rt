@@ -5,12 +5,13 @@ ghost use Rattle.h263rps_c.specs.Slots.{for_kind, for_receiver, for_sender, neve
 ghost use Rattle.h263rps_c.specs.Stays.{Stays};
 
 use crate::counting::Statistics;
+use crate::ends::EndKind;
 use crate::handles::Slot;
 use crate::refusals::{EndRefusal, OK};
 
-// What an end has counted: a receiver, or else a sender.
-fn counted_by(slot: &mut Slot, receiver: bool, statistics: &mut Statistics) -> u32
-    ensures result { result ≡ status_of (for_kind receiver slot.old.handle.inside) }
+// What an end of this kind has counted.
+fn counted_by(slot: &mut Slot, kind: EndKind, statistics: &mut Statistics) -> u32
+    ensures result { result ≡ status_of (for_kind kind slot.old.handle.inside) }
     ensures same { Stays slot.old slot.new }
     ensures untold { result ≢ 0 → statistics.new ≡ statistics.old }
     ensures told { result ≡ 0 → statistics.new ≡ slot.old.counted }
@@ -18,7 +19,7 @@ fn counted_by(slot: &mut Slot, receiver: bool, statistics: &mut Statistics) -> u
     if !slot.is_started() {
         return EndRefusal::NotStarted.number();
     }
-    if !slot.handle.end_mut().is_of(receiver) {
+    if !slot.handle.end_mut().is_of(kind) {
         return EndRefusal::OtherEnd.number();
     }
     *statistics = slot.counted;
@@ -36,7 +37,7 @@ pub extern "C" fn h263rps_raw_receiver_statistics(
     ensures untold { result ≢ 0 → statistics.new ≡ statistics.old }
     ensures told { result ≡ 0 → statistics.new ≡ slot.old.counted }
 {
-    counted_by(slot, true, statistics)
+    counted_by(slot, EndKind::Receiver, statistics)
 }
 
 /// What a sender has counted.
@@ -47,5 +48,5 @@ pub extern "C" fn h263rps_raw_sender_statistics(slot: &mut Slot, statistics: &mu
     ensures untold { result ≢ 0 → statistics.new ≡ statistics.old }
     ensures told { result ≡ 0 → statistics.new ≡ slot.old.counted }
 {
-    counted_by(slot, false, statistics)
+    counted_by(slot, EndKind::Sender, statistics)
 }

@@ -1,9 +1,8 @@
 //! The reader of a trace.
-ghost use Rattle.std.specs.Prelude.{◌≤◌};
-
 use crate::input::{Came, LONGEST_LINE, read_byte, read_line};
 use crate::{Event, TraceStop, line};
 use h263_outside::Desk;
+use std::marker::Model;
 
 /// The most lines of a trace.
 pub const MAX_LINES: u32 = 16_777_216;
@@ -14,7 +13,19 @@ pub const MAX_LINES: u32 = 16_777_216;
 pub struct TraceReader {
     lines: u32,
     ended: bool,
-    ghost few: { lines ≤ 16777216 },
+}
+
+impl Model for TraceReader {
+    ghost use Rattle.std.specs.Prelude.{◌≤◌};
+    ghost use Rattle.loss_trace.specs.Place.{TracePlace};
+
+    ghost Value = { TracePlace };
+
+    ghost view = { λ r. record { lines = r.lines; ended = r.ended } };
+
+    ghost invariant = { λ r. r.lines ≤ 16777216 };
+
+    ghost inverse = { λ p. record { lines = p.lines; ended = p.ended } };
 }
 
 // A line that came to the start of a buffer: its length, and whether it had a newline.

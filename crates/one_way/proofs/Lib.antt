@@ -2,6 +2,7 @@ mod Joining
 mod BothAfter
 mod OneMore
 mod Passing
+mod Later
 mod Agreeing
 mod Refusing
 mod Sent

@@ -15,17 +15,18 @@ use Rattle.call_model.specs.Sending as call
 use Rattle.call_decoding.specs.Rules.{rules_of}
 use Rattle.call_decoding.specs.Styles.{Style}
 use Rattle.call_encoding.specs.Encoding.{encoding}
-use Rattle.call_rings.specs.declared.sent_packets.SentPackets.{SentPackets}
-use Rattle.call_rings.specs.Keeping.{kept_of, period_of}
-use Rattle.one_way.specs.Network.{HasPackets, IsAmongLast, about_of, told_in}
+use Rattle.call_rings.specs.Keeping.{kept_of}
+use Rattle.one_way.specs.declared.way.Way.{Way}
+use Rattle.one_way.specs.Network.{HasPackets, about_of, told_in}
+use Rattle.one_way.specs.Way.{IsAmongLast, kept_in}
 
 -- the packets that the ring has of one of the last pictures
-pub kept_is : (p : Params) (packets : SentPackets) (coded : List (Coded Style Mb Picture)) (n : ℕ) (has : HasPackets p packets coded) → IsAmongLast packets (length coded) n
-    → kept_of (period_of packets) has.pictures n ≡ call.packets_of (encoding p) (rules_of p) coded n
-kept_is p packets coded n has among =
+pub kept_is : (p : Params) (way : Way) (coded : List (Coded Style Mb Picture)) (n : ℕ) (has : HasPackets p way.packets coded) → IsAmongLast way (length coded) n
+    → kept_of (kept_in way) has.pictures n ≡ call.packets_of (encoding p) (rules_of p) coded n
+kept_is p way coded n has among =
     ap (λ (b : Bool). if b then slice_index_or has.pictures n [] else [])
-    (and_from (nat_lt n (length has.pictures)) (nat_le (length has.pictures) (n + period_of packets)) (lt-ltb n (length has.pictures) (omega (arith, among.0, has.count)))
-    (le-leb (length has.pictures) (n + period_of packets) (omega (arith, among.1, has.count))))
+    (and_from (nat_lt n (length has.pictures)) (nat_le (length has.pictures) (n + kept_in way)) (lt-ltb n (length has.pictures) (omega (arith, among.0, has.count)))
+    (le-leb (length has.pictures) (n + kept_in way) (omega (arith, among.1, has.count))))
     ∙ has.each n
 
 -- a picture has as many packets as slices

@@ -1,10 +1,11 @@
 -- What the laws of the crates below say of a call's two ends.
 use Rattle.std.specs.Prelude.{◌≡◌, ℕ, ◌*◌, ◌≤◌, ◌<◌, List, [], ◌∷◌, ◌++◌, length, slice_get, Some, None}
 use Rattle.one_way.specs.declared.network.Network.{Network}
+use Rattle.one_way.specs.declared.way.Way.{Way}
 use Rattle.one_way.specs.Both.{AreJoined, State, both_after, next_of, steady}
 use Rattle.one_way.specs.Refused.{refusal_after}
 use Rattle.one_way.specs.Trace.{delivered}
-use Rattle.one_way.specs.Way.{HoldsNetwork, IsNewNetwork, MayHappenNow}
+use Rattle.one_way.specs.Way.{CanSend, HoldsNetwork, HoldsWay, IsNewNetwork, IsNewWay, MayHappenNow}
 use Rattle.one_way.specs.Seen.{in_both, in_call}
 use Rattle.h263_types.specs.Sizes.{mbs_of}
 use Rattle.call_model.specs.Sending.{SenderEntry, packets_of}
@@ -16,6 +17,7 @@ use Rattle.h263_planes.specs.Picture.{Picture}
 use Rattle.h263_types.specs.declared.blocks.Mb.{Mb}
 use Rattle.h263_types.specs.declared.clock.Clock.{Clock}
 use Rattle.h263_types.specs.declared.params.Params.{Params}
+use Rattle.h263_types.specs.Params.{IsParams}
 use Rattle.back_messages.specs.MessageBytes.{text_of}
 use Rattle.back_messages.specs.declared.writing.MessageBytes.{MessageBytes}
 use Rattle.call_model.specs.Coding.{Header, Message, Slice}
@@ -93,6 +95,15 @@ pub record WayLaws (p : Params) : Type 0 where
       → IsNewNetwork p pictures network → sender.params ≡ p → sender_end.Stands (steady p) sender []
       → receiver.params ≡ p → receiver_end.Stands receiver before
       → HoldsNetwork p network sender receiver before frames []
+  -- and a new sender can send over a new way
+  pub can : (pictures : ℕ) (way : Way) (sender : State) → IsParams p → IsNewWay p pictures way
+      → sender.params ≡ p → sender_end.Stands (steady p) sender [] → sender.pace.quant ≡ p.quant → sender.sent ≡ 0
+      → CanSend way sender
+  -- frames after those that were sent change nothing of a way
+  pub later : (way : Way) (sender : State) (receiver : Kept) (before : List ReceiverEntry)
+      (frames more : List Frame) (past : List Event)
+      → HoldsWay p way sender receiver before frames past
+      → HoldsWay p way sender receiver before (frames ++ more) past
   pub sent : (sender : State) (receiver : Kept) (before : List ReceiverEntry) (frames : List Frame) (past : List Event)
       → AreJoined p (steady p) sender receiver frames before past
       → sender.sent ≡ length (both_after p (steady p) frames before past).sender.coded

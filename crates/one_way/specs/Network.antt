@@ -1,5 +1,5 @@
 -- What the rings of a network keep of what both ends have done.
-use Rattle.std.specs.Prelude.{◌≡◌, ℕ, ◌+◌, ◌<◌, ◌≤◌, List, [], ◌∷◌, length, map, slice_index_or, Option, Some, None}
+use Rattle.std.specs.Prelude.{◌≡◌, ℕ, ◌≤◌, List, [], ◌∷◌, length, map, slice_index_or, Option, Some, None}
 use Rattle.h263_types.specs.declared.blocks.Mb.{Mb}
 use Rattle.h263_types.specs.declared.params.Params.{Params}
 use Rattle.h263_planes.specs.Picture.{Picture}
@@ -38,10 +38,6 @@ pub record HasPackets (p : Params) (packets : SentPackets) (coded : List (Coded 
   pub keeps : HoldsPackets packets pictures
   pub count : length pictures ≡ length coded
   pub each : (n : ℕ) → slice_index_or pictures n [] ≡ call.packets_of (encoding p) (rules_of p) coded n
-
--- of this many pictures this one is among the last that the ring keeps
-abbrev pub IsAmongLast : SentPackets → ℕ → ℕ → Type 0
-IsAmongLast packets count n = (n < count) × (count ≤ n + ring.period_of packets)
 
 -- ---- messages
 

@@ -98,6 +98,7 @@ pub fn way_laws()
     ensures { (p : Params) → WayLaws p }
 {
     ends_run();
+    later_frames();
 }
 
 /// What single events leave of both ends as it was.

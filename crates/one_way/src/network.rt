@@ -7,7 +7,6 @@ ghost use Rattle.h263_types.specs.declared.params.Params.{Params};
 ghost use Rattle.h263_types.specs.Params.{IsParams};
 ghost use Rattle.h263_planes.specs.Lent.{picture as lent};
 ghost use Rattle.picture_header.specs.Ranges.{AreMessages};
-ghost use Rattle.call_rings.specs.Keeping.{most_of, period_of};
 ghost use Rattle.call_rings.specs.Messages.{said_of};
 ghost use Rattle.call_model.specs.IdealCall.{Back, Event, Deliver, Play, Send, slices_at};
 ghost use Rattle.call_model.specs.JoinedRun.{SaidMessage};
@@ -20,10 +19,12 @@ ghost use Rattle.receiver_end.specs.Decoding.{decoding};
 ghost use Rattle.receiver_end.specs.State as receiver_end;
 ghost use Rattle.one_way.specs.Both.{IsSameSender, State, both_after, carrying, steady};
 ghost use Rattle.one_way.specs.Counts.{total_of};
-ghost use Rattle.one_way.specs.Network.{HasMessages, IsAmongLast, told_by};
+ghost use Rattle.one_way.specs.Network.{HasMessages, told_by};
 ghost use Rattle.one_way.specs.Seen.{reference_in};
 ghost use Rattle.one_way.specs.Trace.{delivered};
-ghost use Rattle.one_way.specs.Way.{CanSend, HoldsNetwork, IsNewNetwork, MayHappenNow};
+ghost use Rattle.one_way.specs.Way.{CanSend, HoldsNetwork, IsAmongLast, IsNewNetwork};
+ghost use Rattle.one_way.specs.Way.{MayHappenNow, OnlyCounts, SaysNothing, kept_in, most_in};
+ghost use Rattle.one_way.specs.Way.{said_in, tally_of, way_of};
 
 use crate::{Tally, Way, bring_back, laws};
 use back_messages::{Message, MessageBytes};
@@ -78,13 +79,13 @@ impl Network {
         requires back { AreMessages sender.old.params.clock back.now }
         requires frame { (lent frame).format ≡ sender.old.params.format }
         requires left { sender.old.sent < 1048576 }
-        requires ready { CanSend self.old.way sender.old }
-        ensures ready { CanSend self.new.way sender.new }
+        requires ready { CanSend (way_of self.old) sender.old }
+        ensures ready { CanSend (way_of self.new) sender.new }
         ensures same { IsSameSender sender.old sender.new }
         ensures sent { sender.new.sent ≡ sender.old.sent + 1 }
-        ensures kept { period_of self.new.way.packets ≡ period_of self.old.way.packets }
-        ensures tally { self.new.way.tally ≡ self.old.way.tally }
-        ensures messages { self.new.messages ≡ self.old.messages }
+        ensures kept { kept_in (way_of self.new) ≡ kept_in (way_of self.old) }
+        ensures tally { tally_of (way_of self.new) ≡ tally_of (way_of self.old) }
+        ensures messages { SaysNothing self.old self.new }
         ensures number { result ≡ sender.old.sent }
         ensures holds { (p : Params) (receiver : Kept) (before : List ReceiverEntry)
             (frames : List Frame) (past : List Event)
@@ -99,15 +100,15 @@ impl Network {
 
     /// Delivers the packet at a place of a picture, if there is one, and keeps what is said of it.
     pub fn deliver(&mut self, receiver: &mut Receiver, number: u32, place: u32)
-        requires { said_of self.old.messages + 1 < 2 ^ 64 }
+        requires { said_in self.old + 1 < 2 ^ 64 }
         ensures params { receiver.new.params ≡ receiver.old.params }
         ensures played { receiver.new.played ≡ receiver.old.played }
-        ensures few { said_of self.new.messages ≤ said_of self.old.messages + 1 }
-        ensures way { self.new.way ≡ self.old.way }
+        ensures few { said_in self.new ≤ said_in self.old + 1 }
+        ensures way { way_of self.new ≡ way_of self.old }
         ensures holds { (p : Params) (sender : State) (before : List ReceiverEntry)
             (frames : List Frame) (past : List Event)
             → HoldsNetwork p self.old sender receiver.old before frames past
-            → IsAmongLast self.old.way.packets
+            → IsAmongLast (way_of self.old)
             (length (both_after p (steady p) frames before past).sender.coded) number
             → MayHappenNow p before frames past (Deliver number place)
             → HoldsNetwork p self.new sender receiver.new before frames
@@ -119,23 +120,21 @@ impl Network {
 
     /// Delivers all packets of a picture in their order.
     pub fn deliver_all(&mut self, receiver: &mut Receiver, number: u32)
-        requires { said_of self.old.messages + most_of self.old.way.packets < 2 ^ 64 }
+        requires { said_in self.old + most_in (way_of self.old) < 2 ^ 64 }
         ensures params { receiver.new.params ≡ receiver.old.params }
         ensures played { receiver.new.played ≡ receiver.old.played }
-        ensures few { said_of self.new.messages
-            ≤ said_of self.old.messages + most_of self.old.way.packets }
-        ensures way { self.new.way ≡ self.old.way }
+        ensures few { said_in self.new ≤ said_in self.old + most_in (way_of self.old) }
+        ensures way { way_of self.new ≡ way_of self.old }
         ensures holds { (p : Params) (sender : State) (before : List ReceiverEntry)
             (frames : List Frame) (past : List Event)
             → HoldsNetwork p self.old sender receiver.old before frames past
-            → IsAmongLast self.old.way.packets
+            → IsAmongLast (way_of self.old)
             (length (both_after p (steady p) frames before past).sender.coded) number
             → MayHappenNow p before frames past (Deliver number 0)
             → HoldsNetwork p self.new sender receiver.new before frames (delivered number
             (length (slices_at (both_after p (steady p) frames before past).sender.coded number))
             ++ past) }
     {
-        laws::message_laws();
         let count = self.way.count(number);
         'packets: for place in 0..count {
             self.deliver(receiver, number, place);
@@ -145,14 +144,15 @@ impl Network {
     /// Plays the next picture, keeps what is said of it, and answers it with its mark.
     pub fn play(&mut self, receiver: &mut Receiver) -> Played
         requires played { receiver.old.played < 2 ^ 20 }
-        requires counted { total_of self.old.way.tally < 1048576 }
-        requires said { said_of self.old.messages + 1 < 2 ^ 64 }
+        requires counted { total_of (tally_of (way_of self.old)) < 1048576 }
+        requires said { said_in self.old + 1 < 2 ^ 64 }
         ensures params { receiver.new.params ≡ receiver.old.params }
         ensures played { receiver.new.played ≡ receiver.old.played + 1 }
         ensures number { result.number ≡ receiver.old.played }
-        ensures few { said_of self.new.messages ≤ said_of self.old.messages + 1 }
-        ensures counted { total_of self.new.way.tally ≡ total_of self.old.way.tally + 1 }
-        ensures way { self.new.way ≡ record self.old.way { tally = self.new.way.tally } }
+        ensures few { said_in self.new ≤ said_in self.old + 1 }
+        ensures counted { total_of (tally_of (way_of self.new))
+            ≡ total_of (tally_of (way_of self.old)) + 1 }
+        ensures way { OnlyCounts (way_of self.old) (way_of self.new) }
         ensures holds { (p : Params) (sender : State) (before : List ReceiverEntry)
             (frames : List Frame) (past : List Event)
             → HoldsNetwork p self.old sender receiver.old before frames past
@@ -185,7 +185,7 @@ impl Network {
 
     /// How many pictures were shown with each mark.
     pub fn tally(&self) -> Tally
-        ensures { result ≡ self.now.way.tally }
+        ensures { result ≡ tally_of (way_of self.now) }
     {
         self.way.tally()
     }
@@ -195,8 +195,8 @@ impl Network {
     pub fn bring_back(&self, sender: &mut Sender<FixedPace>, k: u32)
         ensures same { IsSameSender sender.old sender.new }
         ensures sent { sender.new.sent ≡ sender.old.sent }
-        ensures ready { CanSend self.now.way sender.old
-            → CanSend self.now.way sender.new }
+        ensures ready { CanSend (way_of self.now) sender.old
+            → CanSend (way_of self.now) sender.new }
         ensures holds { (p : Params) (receiver : Kept) (before : List ReceiverEntry)
             (frames : List Frame) (past : List Event)
             → IsParams p → sender.old.pace.quant ≡ p.quant

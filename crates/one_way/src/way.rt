@@ -10,7 +10,7 @@ ghost use Rattle.h263_planes.specs.Lent.{picture as lent};
 ghost use Rattle.picture_header.specs.Ranges.{AreMessages};
 ghost use Rattle.call_rings.specs.Keeping.{HoldsPackets, HasSizes, Pictures, begun_of, kept_of};
 ghost use Rattle.call_rings.specs.Keeping.{most_of, period_of, room_of};
-ghost use Rattle.call_model.specs.IdealCall.{Back, Event, Deliver, Play, Send};
+ghost use Rattle.call_model.specs.IdealCall.{Back, Event, Deliver, Play, Send, slices_at};
 ghost use Rattle.call_model.specs.JoinedRun.{SaidMessage};
 ghost use Rattle.call_model.specs.Receiving.{ReceiverEntry, played_mark};
 ghost use Rattle.call_decoding.specs.Rules.{rules_of};
@@ -21,9 +21,10 @@ ghost use Rattle.receiver_end.specs.Decoding.{decoding};
 ghost use Rattle.receiver_end.specs.State as receiver_end;
 ghost use Rattle.one_way.specs.Both.{IsSameSender, State, both_after, carrying, steady};
 ghost use Rattle.one_way.specs.Counts.{total_of};
-ghost use Rattle.one_way.specs.Network.{AreRoomy, IsAmongLast, IsKeeping, told_by};
+ghost use Rattle.one_way.specs.Network.{AreRoomy, IsKeeping, told_by};
 ghost use Rattle.one_way.specs.Seen.{reference_in};
-ghost use Rattle.one_way.specs.Way.{CanSend, HoldsWay, IsNewWay, MayHappenNow};
+ghost use Rattle.one_way.specs.Way.{CanSend, HoldsWay, IsAmongLast, IsNewWay, MayHappenNow};
+ghost use Rattle.one_way.specs.Way.{OnlyCounts, kept_in, most_in, tally_of};
 ghost use Rattle.one_way.specs.declared.way.Way.{Way};
 
 use crate::{References, Tally, laws};
@@ -111,8 +112,8 @@ impl Way {
         ensures ready { CanSend self.new sender.new }
         ensures same { IsSameSender sender.old sender.new }
         ensures sent { sender.new.sent ≡ sender.old.sent + 1 }
-        ensures kept { period_of self.new.packets ≡ period_of self.old.packets }
-        ensures tally { self.new.tally ≡ self.old.tally }
+        ensures kept { kept_in self.new ≡ kept_in self.old }
+        ensures tally { tally_of self.new ≡ tally_of self.old }
         ensures number { result ≡ sender.old.sent }
         ensures holds { (p : Params) (receiver : Kept) (before : List ReceiverEntry)
             (frames : List Frame) (past : List Event)
@@ -131,12 +132,20 @@ impl Way {
         number
     }
 
-    /// How many packets are kept of a picture.
+    /// How many packets are kept of a picture: one for each of its slices.
     pub fn count(&self, number: u32) -> u32
         ensures packets { (pictures : Pictures) → HoldsPackets self.now.packets pictures
-            → result ≡ length (kept_of (period_of self.now.packets) pictures number) }
-        ensures few { result ≤ most_of self.now.packets }
+            → result ≡ length (kept_of (kept_in self.now) pictures number) }
+        ensures slices { (p : Params) (sender : State) (receiver : Kept)
+            (before : List ReceiverEntry) (frames : List Frame) (past : List Event)
+            → HoldsWay p self.now sender receiver before frames past
+            → IsAmongLast self.now
+            (length (both_after p (steady p) frames before past).sender.coded) number
+            → result ≡ length (slices_at
+            (both_after p (steady p) frames before past).sender.coded number) }
+        ensures few { result ≤ most_in self.now }
     {
+        laws::message_laws();
         self.packets.count(number)
     }
 
@@ -149,7 +158,7 @@ impl Way {
         ensures holds { (p : Params) (sender : State) (before : List ReceiverEntry)
             (frames : List Frame) (past : List Event)
             → HoldsWay p self.now sender receiver.old before frames past
-            → IsAmongLast self.now.packets
+            → IsAmongLast self.now
             (length (both_after p (steady p) frames before past).sender.coded) number
             → MayHappenNow p before frames past (Deliver number place)
             → HoldsWay p self.now sender receiver.new before frames
@@ -157,7 +166,7 @@ impl Way {
         ensures says { (p : Params) (sender : State) (before : List ReceiverEntry)
             (frames : List Frame) (past : List Event)
             → HoldsWay p self.now sender receiver.old before frames past
-            → IsAmongLast self.now.packets
+            → IsAmongLast self.now
             (length (both_after p (steady p) frames before past).sender.coded) number
             → (both_after p (steady p) frames before (Deliver number place ∷ past)).said
             ≡ (both_after p (steady p) frames before past).said ++ told_by number result }
@@ -175,13 +184,13 @@ impl Way {
     /// Plays the next picture, counts its mark, and answers it with what the receiver says.
     pub fn play(&mut self, receiver: &mut Receiver) -> Played
         requires played { receiver.old.played < 2 ^ 20 }
-        requires counted { total_of self.old.tally < 1048576 }
+        requires counted { total_of (tally_of self.old) < 1048576 }
         ensures params { receiver.new.params ≡ receiver.old.params }
         ensures played { receiver.new.played ≡ receiver.old.played + 1 }
         ensures number { result.number ≡ receiver.old.played }
         ensures bytes { IfSome result.message (λ said. AreBytes (text_of said)) }
-        ensures counted { total_of self.new.tally ≡ total_of self.old.tally + 1 }
-        ensures others { self.new ≡ record self.old { tally = self.new.tally } }
+        ensures counted { total_of (tally_of self.new) ≡ total_of (tally_of self.old) + 1 }
+        ensures way { OnlyCounts self.old self.new }
         ensures holds { (p : Params) (sender : State) (before : List ReceiverEntry)
             (frames : List Frame) (past : List Event)
             → HoldsWay p self.old sender receiver.old before frames past
@@ -224,7 +233,7 @@ impl Way {
 
     /// How many pictures were shown with each mark.
     pub fn tally(&self) -> Tally
-        ensures { result ≡ self.now.tally }
+        ensures { result ≡ tally_of self.now }
     {
         self.tally
     }

@@ -11,7 +11,7 @@ use Rattle.h263_types.specs.Sizes.{size_of_picture}
 use Rattle.y4m.specs.declared.fault.Y4mFault.{Y4mFault}
 use Rattle.y4m.specs.declared.fault.VideoStop.{VideoStop}
 use Rattle.y4m.specs.declared.fault.VideoStop.TheVariants.{Read, Refused}
-use Rattle.y4m.specs.declared.reader.Y4mReader.{Y4mReader}
+use Rattle.y4m.specs.Place.{Y4mPlace}
 use Rattle.y4m.specs.Frame.{frame_of, next_frame, frame_size}
 use Rattle.y4m.specs.Video.{most_frames}
 use Rattle.y4m.specs.Reader.{FrameGives, Moves}
@@ -60,12 +60,12 @@ video_next s (b ∷ rest) r some is = ap (frame_step s (frame_size s.params.form
 -- ---- the capture
 
 -- the reader is where the state says
-pub record IsVideoAt (s : SendState) (reader : Y4mReader) : Type 0 where
+pub record IsVideoAt (s : SendState) (reader : Y4mPlace) : Type 0 where
   pub format : s.params.format ≡ reader.format
   pub at_is : s.video_at ≡ reader.at
   pub more_is : s.more ≡ reader.more
 
-module _ (laws : TurnLaws) (cut : CutFrames) (s : SendState) (inputs : Role → List ℕ) (before old mid : Outside) (taken : HasTaken 3 inputs before old) (others : (r : Role) → r ≢ Video → mid.left r ≡ old.left r) (same : mid.written ≡ old.written) (reader after : Y4mReader) (at : IsVideoAt s reader) (out : List ℕ) where
+module _ (laws : TurnLaws) (cut : CutFrames) (s : SendState) (inputs : Role → List ℕ) (before old mid : Outside) (taken : HasTaken 3 inputs before old) (others : (r : Role) → r ≢ Video → mid.left r ≡ old.left r) (same : mid.written ≡ old.written) (reader after : Y4mPlace) (at : IsVideoAt s reader) (out : List ℕ) where
   video_told : (k : ℕ) → mid.left Video ≡ Some (drop k (inputs Video)) → Tells mid (left_after inputs (and_of (of Events 3) (of Video k)))
   video_told k gone = laws.both_reads (of Events 3) (of Video k) mid inputs (laws.one_read Video k old mid (left_after inputs (of Events 3)) taken.left gone others)
 
@@ -136,10 +136,10 @@ module _ (laws : TurnLaws) (cut : CutFrames) (s : SendState) (inputs : Role → 
     }
 
 -- what the reader says, by what it answered
-pub gave : (b known : Bool) (reader after : Y4mReader) (rest out : List ℕ) (left : Option (List ℕ)) → b ≡ known → FrameGives (Ok b) reader rest out after left → FrameGives (Ok known) reader rest out after left
+pub gave : (b known : Bool) (reader after : Y4mPlace) (rest out : List ℕ) (left : Option (List ℕ)) → b ≡ known → FrameGives (Ok b) reader rest out after left → FrameGives (Ok known) reader rest out after left
 gave b known reader after rest out left is gives = subst (λ (x : Bool). FrameGives (Ok x) reader rest out after left) is gives
 
-pub moved : (b known : Bool) (reader after : Y4mReader) → b ≡ known → Moves (Ok b) reader after → Moves (Ok known) reader after
+pub moved : (b known : Bool) (reader after : Y4mPlace) → b ≡ known → Moves (Ok b) reader after → Moves (Ok known) reader after
 moved b known reader after is moves = subst (λ (x : Bool). Moves (Ok x) reader after) is moves
 
 -- a buffer that was lent whole holds what was put there

@@ -15,7 +15,7 @@ use Rattle.event_logs.specs.declared.entry.Entry.TheVariants.{Back}
 use Rattle.event_logs.specs.Entry.{begun, bytes_of, entry_in, reach, reach_of}
 use Rattle.event_logs.specs.Place.{LogPlace, IsInLog}
 use Rattle.event_logs.specs.Reader.{EntryGives, Moves}
-use Rattle.y4m.specs.declared.reader.Y4mReader.{Y4mReader}
+use Rattle.y4m.specs.Place.{Y4mPlace}
 use Rattle.call_model.specs.Sending.{Capture, Feedback, Reply, feedback_answer}
 use Rattle.call_decoding.specs.Rules.{rules_of}
 use Rattle.call_encoding.specs.Frames.{Frame}
@@ -123,8 +123,8 @@ keeps_feedback m s len bytes stood new reply inputs long stands answer params pa
     in
     let at_is : s.at + (3 + length bytes) ≡ new.log.at = ap (λ (k : ℕ). s.at + (3 + k)) long ∙ ap (λ (x : SendState). x.at) stood.is ∙ ap (λ (l : LogPlace). l.at) (sym log) in
     let read_is : s.read + 1 ≡ new.log.entries = ap (λ (x : SendState). x.read) stood.is ∙ ap (λ (l : LogPlace). l.entries) (sym log) in
-    let place_is : s.video_at ≡ new.video.at = ap (λ (x : SendState). x.video_at) stood.is ∙ ap (λ (v : Y4mReader). v.at) (sym video) in
-    let more_is : s.more ≡ new.video.more = ap (λ (x : SendState). x.more) stood.is ∙ ap (λ (v : Y4mReader). v.more) (sym video) in
+    let place_is : s.video_at ≡ new.video.at = ap (λ (x : SendState). x.video_at) stood.is ∙ ap (λ (v : Y4mPlace). v.at) (sym video) in
+    let more_is : s.more ≡ new.video.more = ap (λ (x : SendState). x.more) stood.is ∙ ap (λ (v : Y4mPlace). v.more) (sym video) in
     record {
       is = λ i. record {
         params = params_is i;

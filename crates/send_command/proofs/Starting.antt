@@ -7,7 +7,7 @@ use Rattle.h263_types.specs.declared.format.Format.{Format}
 use Rattle.y4m.specs.declared.fault.Y4mFault.{Y4mFault}
 use Rattle.y4m.specs.declared.fault.VideoStop.{VideoStop}
 use Rattle.y4m.specs.declared.fault.VideoStop.TheVariants.{Read, Refused}
-use Rattle.y4m.specs.declared.reader.Y4mReader.{Y4mReader}
+use Rattle.y4m.specs.Place.{Y4mPlace}
 use Rattle.y4m.specs.Head.{head_of, head_size}
 use Rattle.y4m.specs.Reader.{HeadGives}
 use Rattle.call_report.specs.declared.status.Status.TheVariants.{VideoRefused}
@@ -42,7 +42,7 @@ module _ (laws : TurnLaws) (setup : Sending) (inputs : Role → List ℕ) (old m
     by = laws.refuses (VideoRefused fault) inputs old mid same;
   }
 
-  pub head_goes : (reader : Y4mReader) (stands : SendState → (Role → List ℕ) → Type 0) → HeadGives (Ok reader) (inputs Video) (mid.left Video) → stands (first_state setup reader.format (head_size (inputs Video))) (left_after inputs (of Video (head_size (inputs Video)))) → Went (send_begin setup inputs) stands (λ _. true) true inputs old mid
+  pub head_goes : (reader : Y4mPlace) (stands : SendState → (Role → List ℕ) → Type 0) → HeadGives (Ok reader) (inputs Video) (mid.left Video) → stands (first_state setup reader.format (head_size (inputs Video))) (left_after inputs (of Video (head_size (inputs Video)))) → Went (send_begin setup inputs) stands (λ _. true) true inputs old mid
   head_goes reader stands e kept = record {
     next = first_state setup reader.format (head_size (inputs Video));
     turn = record { taken = of Video (head_size (inputs Video)); whole = true; texts = no_texts };

@@ -4,6 +4,7 @@ pub mod Frame
 pub mod Planes
 pub mod Spelled
 pub mod Video
+pub mod Place
 pub mod Reader
 pub mod Text
 pub mod Laws

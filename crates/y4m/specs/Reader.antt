@@ -2,13 +2,13 @@
 use Rattle.std.specs.Prelude.{ℕ, ◌≡◌, ◌+◌, ◌<◌, Bool, true, false, List, [], length, take, drop, Option, Some, Result, Ok, Err, IsErr}
 use Rattle.y4m.specs.declared.fault.VideoStop.{VideoStop}
 use Rattle.y4m.specs.declared.fault.VideoStop.TheVariants.{Read, Refused}
-use Rattle.y4m.specs.declared.reader.Y4mReader.{Y4mReader}
+use Rattle.y4m.specs.Place.{Y4mPlace}
 use Rattle.y4m.specs.Head.{head_of, head_size}
 use Rattle.y4m.specs.Frame.{frame_of, next_frame, frame_size}
 
 -- what the reader of the head says of a video, and of what is left of it; where a read failed, no
 -- whole head is in what was taken
-abbrev pub HeadGives : Result Y4mReader VideoStop → List ℕ → Option (List ℕ) → Type 0
+abbrev pub HeadGives : Result Y4mPlace VideoStop → List ℕ → Option (List ℕ) → Type 0
 HeadGives (Ok reader) video left = (head_of video ≡ Ok reader.format)
     × (reader.at ≡ head_size video) × (left ≡ Some (drop (head_size video) video))
 HeadGives (Err (Refused fault)) video left = head_of video ≡ Err fault
@@ -16,7 +16,7 @@ HeadGives (Err Read) video left = (k : ℕ) × (left ≡ Some (drop k video)) ×
 
 -- what a reader says of what stands where it is, with the planes in the buffer, of where it is
 -- then, and of what is left; where a read failed, no whole frame is in what was taken
-abbrev pub FrameGives : Result Bool VideoStop → Y4mReader → List ℕ → List ℕ → Y4mReader → Option (List ℕ) → Type 0
+abbrev pub FrameGives : Result Bool VideoStop → Y4mPlace → List ℕ → List ℕ → Y4mPlace → Option (List ℕ) → Type 0
 FrameGives (Ok true) old rest out new left =
     (0 < length rest) × (next_frame old.more old.format old.at rest ≡ Ok out)
     × (new.at ≡ old.at + frame_size old.format rest)
@@ -28,7 +28,7 @@ FrameGives (Err Read) old rest out new left =
     (k : ℕ) × (left ≡ Some (drop k rest)) × IsErr (frame_of old.format old.at (take k rest))
 
 -- how a call moves the reader: one frame less may come after a frame, and nothing changes without one
-abbrev pub Moves : Result Bool VideoStop → Y4mReader → Y4mReader → Type 0
+abbrev pub Moves : Result Bool VideoStop → Y4mPlace → Y4mPlace → Type 0
 Moves (Ok true) old new = (new.format ≡ old.format) × (new.more + 1 ≡ old.more)
 Moves (Ok false) old new = new ≡ old
 Moves (Err stop) old new = new ≡ old

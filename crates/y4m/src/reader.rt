@@ -1,12 +1,11 @@
 //! The reader of a video.
-ghost use Rattle.std.specs.Prelude.{◌≤◌, ◌+◌, ◌*◌, ◌^◌};
-
 use crate::frame::{LEAST_LINE, check_line};
 use crate::head::{LEAST_HEAD, read_format};
 use crate::input::{read_line, read_planes};
 use crate::{VideoStop, Y4mFault};
 use h263_outside::Desk;
 use h263_types::Format;
+use std::marker::Model;
 
 /// The most frames of a video.
 pub const MAX_FRAMES: u32 = 1_048_576;
@@ -19,7 +18,19 @@ pub struct Y4mReader {
     format: Format,
     at: u64,
     more: u32,
-    ghost near: { at + 152321 * more ≤ 2 ^ 38 },
+}
+
+impl Model for Y4mReader {
+    ghost use Rattle.y4m.specs.Place.{Y4mPlace, IsInVideo};
+
+    ghost Value = { Y4mPlace };
+
+    ghost view = { λ r. record { format = r.format; at = r.at; more = r.more } };
+
+    ghost invariant = { λ r.
+        IsInVideo (record { format = r.format; at = r.at; more = r.more }) };
+
+    ghost inverse = { λ p. record { format = p.format; at = p.at; more = p.more } };
 }
 
 impl Y4mReader {
@@ -77,6 +88,7 @@ impl Y4mReader {
             → r ≢ Video → (D.outside desk.new).left r ≡ (D.outside desk.old).left r }
         ensures rest { OnlyReads (D.outside desk.old) (D.outside desk.new) }
     {
+        let from = self.at;
         // One byte more than a line may have, to tell a line that is too long from an end of the
         // input.
         let mut line = [0; 257];
@@ -85,10 +97,10 @@ impl Y4mReader {
             return Ok(false);
         }
         if self.more == 0 {
-            return Err(VideoStop::Refused(Y4mFault::TooMany { at: self.at }));
+            return Err(VideoStop::Refused(Y4mFault::TooMany { at: from }));
         }
-        check_line(self.at, &line[..len])?;
-        let at = self.at + len as u64;
+        check_line(from, &line[..len])?;
+        let at = from + len as u64;
         read_planes(desk, at, out)?;
         self.at = at + out.len() as u64;
         self.more -= 1;

@@ -19,11 +19,11 @@ returns-then-place-count-clause-holds c = λ p x ways left far h same may.
     let v = way (other x) ways in
     let one = h.own_holds in
     let n = c.args.number in
-    let has = one.done.packets in
-    let many = count_so (p x) (p (other x)) (h.in_range x) (c.call_laws.ensures (p x) (h.in_range x)) (c.near_event_laws.ensures (p x) (h.in_range x)) c.args.own.now w v one left n c.args.place may.0
-    (c.message_laws.ensures (p x)).count
+    let own = c.args.own.now in
+    let many = count_so (p x) (p (other x)) (h.in_range x) (c.call_laws.ensures (p x) (h.in_range x)) (c.near_event_laws.ensures (p x) (h.in_range x)) own w v one left n c.args.place may.0
+    c.count.result (c.count.ensures.slices (p x) own.sender own.far_end [] w.frames w.past one.done)
     in
-    let none = brings_none p x w n c.args.place c.count.result (c.count.ensures.packets has.pictures has.keeps ∙ many) (omega (arith, c.if-place-count.true)) in
+    let none = brings_none p x w n c.args.place c.count.result many (omega (arith, c.if-place-count.true)) in
     subst (λ (ks : List ℕ). HoldsWay (p (other x)) far.way c.args.sender.now far.far_end [] v.frames (brought ks v.past)) (sym none)
     (subst (λ (s : State). HoldsWay (p (other x)) far.way s far.far_end [] v.frames v.past) same h.far_holds.done)
 
@@ -62,9 +62,11 @@ returns-clause-holds c = λ p x ways left far h same may.
     let n = c.args.number in
     let calls = c.call_laws.ensures P (h.in_range x) in
     let nears = c.near_event_laws.ensures P (h.in_range x) in
-    let has = one.done.packets in
-    let many = count_so P Q (h.in_range x) calls nears c.args.own.now w v one left n c.args.place may.0 (c.message_laws.ensures P).count in
-    let all = brings_all p x w n c.args.place c.count.result (c.count.ensures.packets has.pictures has.keeps ∙ many) (omega (arith, c.if-place-count.false)) in
+    let own = c.args.own.now in
+    let many = count_so P Q (h.in_range x) calls nears own w v one left n c.args.place may.0
+    c.count.result (c.count.ensures.slices P own.sender own.far_end [] w.frames w.past one.done)
+    in
+    let all = brings_all p x w n c.args.place c.count.result many (omega (arith, c.if-place-count.false)) in
     let there = header_there P Q (h.in_range x) calls nears c.args.own.now w v one left n c.args.place may.0
     ((c.way_laws.ensures P).sent c.args.own.now.sender c.args.own.now.far_end [] w.frames w.past one.done.joined)
     in

@@ -1,4 +1,4 @@
-use Rattle.std.proofs.Common.{◌≡◌, ◌+◌, ℕ, suc, length, refl, subst, ◌∙◌, arith}
+use Rattle.std.proofs.Common.{◌≡◌, ◌+◌, ℕ, suc, [], length, refl, subst, ◌∙◌, arith}
 use Rattle.call_model.specs.IdealCall.{slices_at}
 use Rattle.duplex_call.specs.Duplex.{other, way}
 use Rattle.duplex_ends.specs.Pair.{HoldsPair}
@@ -61,11 +61,11 @@ returns-clause-holds c = λ p x ways left h may.
     let n = c.args.number in
     let w = way x ways in
     let one = h.own_holds in
-    let has = one.done.packets in
-    let many = count_so (p x) (p (other x)) (h.in_range x) (c.call_laws.ensures (p x) (h.in_range x)) (c.near_event_laws.ensures (p x) (h.in_range x)) c.args.own.now w (way (other x) ways) one left n 0 may.0
-    (c.message_laws.ensures (p x)).count
+    let own = c.args.own.now in
+    let many = count_so (p x) (p (other x)) (h.in_range x) (c.call_laws.ensures (p x) (h.in_range x)) (c.near_event_laws.ensures (p x) (h.in_range x)) own w (way (other x) ways) one left n 0 may.0
+    c.count-count.result (c.count-count.ensures.slices (p x) own.sender own.far_end [] w.frames w.past one.done)
     in
     let all : c.packets.place ≡ length (slices_at (call_in p x ways).coded n) =
-    omega (arith, c.packets-test.false, c.packets.auto.place-end, c.count-count.ensures.packets has.pictures has.keeps, many)
+    omega (arith, c.packets-test.false, c.packets.auto.place-end, many)
     in
     subst (λ (k : ℕ). HoldsPair p x c.packets.own c.packets.far (with_places p x n k ways)) all (c.packets.invariant.holds p x ways left h may)

@@ -6,10 +6,7 @@ use Rattle.h263_planes.specs.Picture.{Picture}
 use Rattle.call_encoding.specs.Frames.{Frame}
 use Rattle.call_model.specs.Coding.{Shown}
 use Rattle.call_model.specs.IdealCall.{Play}
-use Rattle.call_rings.specs.Keeping.{period_of}
 use Rattle.receiver_end.specs.Answers.{mark_of}
-use Rattle.one_way.specs.declared.way.Way.{Way}
-use Rattle.one_way.specs.Way.{CanSend}
 use Rattle.duplex_call.specs.declared.queue.Carried.{Carried}
 use Rattle.duplex_call.specs.Duplex.{WayRun, other, way, with_play}
 use Rattle.duplex_call.specs.Waiting.{Waits}
@@ -85,18 +82,9 @@ returns-clause-holds c = λ p x ways left h may.
     let laws = c.pair_laws.ensures p in
     let sent = laws.sent x own far ways h in
     let played = laws.played x own far ways h in
-    let can : CanSend told.new.self own.sender = subst (λ (way : Way). CanSend way own.sender) (sym told.ensures.others) (record {
-      in_range = one.can.in_range;
-      standing = one.can.standing;
-      quant_is = one.can.quant_is;
-      room = one.can.room;
-      most = one.can.most;
-      keeping = record { pictures = one.can.keeping.pictures; keeps = one.can.keeping.keeps };
-      begun = one.can.begun;
-    }) in
     with_one p x new_own new_far ways next h.in_range h.clock
-    (party_more P Q own w v one new_own (Play ∷ w.past) v [] refl refl (ap (λ (way : Way). period_of way.packets) told.ensures.others) refl
-    (omega (arith, may, sent, played, told.ensures.played)) (omega (arith, told.ensures.counted, told.ensures.played, one.counted)) done can (sym (append-nil (told_by Q v))) waits)
+    (party_more P Q own w v one new_own (Play ∷ w.past) v [] refl refl told.ensures.way.kept refl
+    (omega (arith, may, sent, played, told.ensures.played)) (omega (arith, told.ensures.counted, told.ensures.played, one.counted)) done (told.ensures.way.can own.sender one.can) (sym (append-nil (told_by Q v))) waits)
     (party_waits Q P far v w two c.put_by.new.waiting next (said_as P.clock n told.result.message) more said)
 
 pub returns-clause-ready : goal.returns-clause-ready

@@ -1,15 +1,13 @@
-use Rattle.std.proofs.Common.{◌≡◌, ℕ, ◌<◌, List, ◌∷◌, ◌++◌, length, None, Result, Ok, Err, OnOk, refl, sym, ap, subst, ◌∙◌, arith}
+use Rattle.std.proofs.Common.{◌≡◌, ℕ, ◌<◌, List, ◌∷◌, ◌++◌, length, None, Result, Ok, Err, OnOk, refl, ap, subst, ◌∙◌, arith}
 use Rattle.h263_types.specs.declared.params.Params.{Params}
 use Rattle.h263_types.specs.declared.pace.FixedPace.{FixedPace}
 use Rattle.loss_trace.specs.declared.event.Event.TheVariants as says
-use Rattle.call_rings.specs.Keeping.{period_of}
 use Rattle.call_model.specs.IdealCall.{Deliver, Back, Play, Send, slices_at}
 use Rattle.call_encoding.specs.Frames.{Frame}
 use Rattle.one_way.specs.declared.refusals.EventRefusal.{EventRefusal}
-use Rattle.one_way.specs.declared.way.Way.{Way}
 use Rattle.one_way.specs.Refused.{refusal_after}
 use Rattle.one_way.specs.Trace.{delivered}
-use Rattle.one_way.specs.Way.{CanSend, HoldsNetwork}
+use Rattle.one_way.specs.Way.{HoldsNetwork}
 use Rattle.call_command.specs.declared.link.Link.{Link}
 use Rattle.call_command.specs.Call.{by_ends}
 use Rattle.call_command.specs.Standing.{HasDone, PartsStand, parts_of}
@@ -17,7 +15,7 @@ use Rattle.call_command.specs.Refused.{IsNotRefused}
 use Rattle.call_command.specs.Turning.{Names, names_of}
 use Rattle.call_command.proofs.AfterTurn.{asks_frame, count_same, done_here, event_goes, line_goes_on, line_stops, line_was_cut, none_so, message_is, packet_is, packets_is, play_cut, play_goes, refusal_here, stands_event}
 use Rattle.call_command.proofs.Delivering.{delivered_goes_on}
-use Rattle.call_command.proofs.Readying.{can_still, few_mbs, ready_so}
+use Rattle.call_command.proofs.Readying.{few_mbs, ready_so}
 use Rattle.call_command.proofs.world.World.event_turn.Goals as goal
 
 -- a play that is not refused is behind what was sent
@@ -130,7 +128,7 @@ returns-in_ok-allow-in-Back g c =
     (ap (λ (q : FixedPace). let names : Names = record (names_of m) { pace = q } in names) done.ensures.same.pace) refl
     (ready_so x old.attached old.attached r refl x.video sender x.receiver x.link refl done.ensures.same.params (done.ensures.ready r.can) refl
     (omega (arith, r.sent, done.ensures.sent)) (omega (arith, r.played, done.ensures.sent)) (λ plain. absurd (cc (plain, c.requires.recorded))) r.frame (λ plain. absurd (cc (plain, c.requires.recorded)))
-    r.counted (omega (arith, c.requires.room, done.ensures.sent)))
+    r.few r.counted (omega (arith, c.requires.room, done.ensures.sent)))
     (c.step_laws.ensures.none old)
     (λ o s inputs b.
     let stood = b.stood in
@@ -193,10 +191,8 @@ returns-in_ok-play_next-in-Play g c =
     let link : Link = record x.link { network = c.play_next.new.network } in
     line_goes_on m _ c.args.line c.args.event says.Play old new c.in-Play.is refl refl
     (ready_so x old.attached new.attached r played.rest.attached x.video x.sender c.play_next.new.receiver link refl refl
-    (subst (λ (w : Way). CanSend w x.sender) (sym played.way) (can_still x.link.network.way c.play_next.new.network.way.tally x.sender r.can))
-    (ap (λ (w : Way). period_of w.packets) played.way)
-    r.sent (omega (arith, played.played, ahead)) (λ plain. absurd (cc (plain, c.requires.recorded))) r.frame (λ plain. absurd (cc (plain, c.requires.recorded)))
-    played.counted (omega (arith, played.few, c.requires.room)))
+    (played.way.can x.sender r.can) played.way.kept r.sent (omega (arith, played.played, ahead)) (λ plain. absurd (cc (plain, c.requires.recorded))) r.frame (λ plain. absurd (cc (plain, c.requires.recorded)))
+    r.few played.counted (omega (arith, played.few, c.requires.room)))
     (c.step_laws.ensures.writes old new played.rest)
     (λ o s inputs b.
     let k = b.stood in

@@ -16,13 +16,11 @@ use Rattle.call_report.specs.Status.{phase, video_stop}
 use Rattle.desk_program.specs.Run.{Step, left_after}
 use Rattle.desk_program.specs.Ends.{Ended, GainsFronts, GivesUp, Went, step_texts}
 use Rattle.desk_program.specs.Texts.{of}
-use Rattle.call_rings.specs.Keeping.{period_of}
-use Rattle.call_rings.specs.Messages.{said_of}
 use Rattle.one_way.specs.declared.way.Way.{Way}
 use Rattle.one_way.specs.Both.{bare}
 use Rattle.call_command.specs.Counts.{counts_of}
 use Rattle.one_way.specs.Trace.{delivered, passed_on}
-use Rattle.one_way.specs.Way.{CanSend, HoldsNetwork}
+use Rattle.one_way.specs.Way.{CanSend, HoldsNetwork, kept_in, tally_of, way_of}
 use Rattle.call_encoding.specs.Frames.{Frame}
 use Rattle.call_model.specs.IdealCall.{Send}
 use Rattle.call_command.specs.declared.link.Link.{Link}
@@ -32,7 +30,7 @@ use Rattle.call_command.specs.Turning.{Names, names_of}
 use Rattle.call_command.proofs.Counting.{counts_are, plainly, turn_gave_up, turn_goes_on, turn_is_over, turn_was_cut, video_answers}
 use Rattle.call_command.proofs.Framing.{among_last, at, count_of, may_deliver, may_play, may_send, stands_after, texts_are}
 use Rattle.call_command.proofs.FrameTurning.{end_cut, frame_cut, frame_goes, frame_stops, given_so, gives_so, lent, video_ends}
-use Rattle.call_command.proofs.Readying.{can_still, few_mbs, plain_keeps, ready_so}
+use Rattle.call_command.proofs.Readying.{few_mbs, plain_keeps, ready_so}
 use Rattle.call_command.proofs.world.World.frame_turn.Goals as goal
 
 pub returns-in_err-frame : goal.returns-in_err-frame
@@ -60,7 +58,7 @@ returns-in_err-tell_counts g c =
     let new = outside c.tell_counts.new.desk in
     let m = c.args.self.now in
     let x = parts_of m in
-    let counts = counts_of x.link.network.way.tally x.receiver.played x.sender.sent in
+    let counts = counts_of (tally_of (way_of x.link.network)) x.receiver.played x.sender.sent in
     turn_was_cut m _ old new c.from_residual-in_err-tell_counts.result c.in_err-tell_counts.field-0.0 c.from_residual-in_err-tell_counts.ensures.1 refl c.in_err-tell_counts.ensures.kind
     (c.calls.ensures.rose_since old.faults.write mid.faults.write new.faults.write c.frame.ensures.rest.faults.write c.in_err-tell_counts.ensures.cause)
     (c.step_laws.ensures.both old mid new (c.step_laws.ensures.reads old mid c.frame.ensures.rest) (c.step_laws.ensures.writes mid new c.tell_counts.ensures.rest))
@@ -79,7 +77,7 @@ returns-then-not-branch g c =
     let new = outside c.tell_counts.new.desk in
     let m = c.args.self.now in
     let x = parts_of m in
-    let counts = counts_of x.link.network.way.tally x.receiver.played x.sender.sent in
+    let counts = counts_of (tally_of (way_of x.link.network)) x.receiver.played x.sender.sent in
     turn_is_over m _ old new refl (c.step_laws.ensures.both old mid new (c.step_laws.ensures.reads old mid c.frame.ensures.rest) (c.step_laws.ensures.writes mid new c.tell_counts.ensures.rest))
     (λ s inputs k told.
     let here = state_of x s.before s.frames s.past in
@@ -126,7 +124,7 @@ returns-in_err-play_next g c =
     (at x laws events later_law s inputs k level out [] ∙ ap (λ (o : Picture). Some (bare o)) (sym picture_is)) (may_send x laws events later_law s inputs k level out [])
     in
     let delivered = c.deliver_all.ensures.holds p c.send-sent.new.sender s.before all (Send ∷ s.past) sent
-    (among_last x laws events later_law s inputs k level out [] c.send-sent.new.self.way.packets n number (plain_keeps x.terms _ (c.send-sent.ensures.kept ∙ r.period) c.requires.plain))
+    (among_last x laws events later_law s inputs k level out [] (way_of c.send-sent.new.self) n number (plain_keeps x.terms _ (c.send-sent.ensures.kept ∙ r.period) c.requires.plain))
     (may_deliver x laws events later_law s inputs k level out [] n number)
     in
     let texts = texts_are x laws events later_law s inputs k level out n c.deliver_all.new.receiver.played number c.deliver_all.ensures.played in
@@ -152,7 +150,6 @@ returns g c =
     let network = c.play_next.new.network in
     let link : Link = record x.link { frame = with_items x.link.frame out; network = network } in
     let moves = subst (λ (b : Bool). Moves (Ok b) x.video c.frame.new.self) c.if-not-branch.false c.in_ok-frame.ensures.moves in
-    let way = c.play_next.ensures.way ∙ ap (λ (w : Way). let counted : Way = record w { tally = network.way.tally } in counted) c.deliver_all.ensures.way in
     let long : length link.frame.items ≡ size_of_picture p.format =
     ap (λ (l : List ℕ). length l) (with_items_is x.link.frame out (omega (arith, c.frame.auto.out, c.deref_mut.ensures.len, x.link.frame.ok.0)))
     ∙ omega (arith, c.frame.auto.out, c.deref_mut.ensures.len, x.link.frame.ok.0, r.frame)
@@ -161,12 +158,12 @@ returns g c =
     turn_goes_on m _ old new (ap (λ (q : FixedPace). let names : Names = record (names_of m) { pace = q } in names) c.send-sent.ensures.same.pace)
     (subst (λ (b : Bool). (if b then c.frame.new.self.more else 16777216 - x.link.trace.lines) + 1 ≡ (if b then x.video.more else 16777216 - x.link.trace.lines)) (sym c.requires.plain) moves.1)
     (ready_so x old.attached new.attached r (c.play_next.ensures.rest.attached ∙ c.frame.ensures.rest.attached) c.frame.new.self sender receiver link moves.0 c.send-sent.ensures.same.params
-    (subst (λ (w : Way). CanSend w sender) (sym way) (can_still c.send-sent.new.self.way network.way.tally sender c.send-sent.ensures.ready))
-    (ap (λ (w : Way). period_of w.packets) way ∙ c.send-sent.ensures.kept)
+    (c.play_next.ensures.way.can sender (subst (λ (w : Way). CanSend w sender) (sym c.deliver_all.ensures.way) c.send-sent.ensures.ready))
+    (c.play_next.ensures.way.kept ∙ ap kept_in c.deliver_all.ensures.way ∙ c.send-sent.ensures.kept)
     (omega (arith, r.sent, c.send-sent.ensures.sent, moves.1)) (omega (arith, r.played, c.send-sent.ensures.sent, c.play_next.ensures.played, c.deliver_all.ensures.played))
     (λ plain. omega (arith, level, c.send-sent.ensures.sent, c.play_next.ensures.played, c.deliver_all.ensures.played))
-    long (λ plain. r.unread plain) c.play_next.ensures.counted
-    (omega (arith, r.said, c.play_next.ensures.few, c.deliver_all.ensures.few, ap said_of c.send-sent.ensures.messages, c.send-sent.ensures.ready.most, few_mbs sender.params.format, c.send-sent.ensures.sent)))
+    long (λ plain. r.unread plain) r.few c.play_next.ensures.counted
+    (omega (arith, r.said, c.play_next.ensures.few, c.deliver_all.ensures.few, c.send-sent.ensures.messages.said, c.send-sent.ensures.ready.most, few_mbs sender.params.format, c.send-sent.ensures.sent)))
     (c.step_laws.ensures.both old mid new (c.step_laws.ensures.reads old mid c.frame.ensures.rest) (c.step_laws.ensures.writes mid new c.play_next.ensures.rest))
     (λ s inputs k told.
     let here = state_of x s.before s.frames s.past in
@@ -186,7 +183,7 @@ returns g c =
     (at x laws events later_law s inputs k level out later ∙ ap (λ (o : Picture). Some (bare o)) (sym picture_is)) (may_send x laws events later_law s inputs k level out later)
     in
     c.deliver_all.ensures.holds p sender s.before all (Send ∷ s.past) sent
-    (among_last x laws events later_law s inputs k level out later c.send-sent.new.self.way.packets n number (plain_keeps x.terms _ (c.send-sent.ensures.kept ∙ r.period) c.requires.plain))
+    (among_last x laws events later_law s inputs k level out later (way_of c.send-sent.new.self) n number (plain_keeps x.terms _ (c.send-sent.ensures.kept ∙ r.period) c.requires.plain))
     (may_deliver x laws events later_law s inputs k level out later n number)
     in
     let played : (later : List Frame) → HoldsNetwork p network sender receiver s.before (s.frames ++ f ∷ later) (passed_on n (count_of x laws events later_law s inputs k level out later n) s.past) =

@@ -3,12 +3,13 @@ use Rattle.std.specs.Prelude.{if◌then◌else◌}
 use Rattle.h263_outside.specs.declared.desk.Role.TheVariants.{Video, Events}
 use Rattle.loss_trace.specs.declared.event.Event.{Event as Line}
 use Rattle.loss_trace.specs.declared.fault.TraceStop.{TraceStop}
-use Rattle.loss_trace.specs.declared.reader.TraceReader.{TraceReader}
+use Rattle.loss_trace.specs.Place.{TracePlace}
 use Rattle.loss_trace.specs.Reader.{EventGives}
 use Rattle.call_report.specs.declared.status.Status.TheVariants.{Ok as Fine}
 use Rattle.call_report.specs.Status.{phase, trace_stop}
 use Rattle.desk_program.specs.Run.{Step}
 use Rattle.desk_program.specs.Ends.{Ended, GainsFronts, GivesUp, step_texts}
+use Rattle.one_way.specs.Way.{tally_of, way_of}
 use Rattle.call_command.specs.Counts.{counts_of}
 use Rattle.call_command.specs.Call.{CallState}
 use Rattle.call_command.specs.Standing.{parts_of, state_of}
@@ -18,7 +19,7 @@ use Rattle.call_command.proofs.LineRead.{line_read, line_taken, ready_read, room
 use Rattle.call_command.proofs.world.World.line_turn.Goals as goal
 
 -- what the reader says, where its answer is known
-answered : (r known : Result (Option (ℕ × Line)) TraceStop) (old new : TraceReader) (rest : List ℕ) (left : Option (List ℕ)) → r ≡ known → EventGives r old rest new left → EventGives known old rest new left
+answered : (r known : Result (Option (ℕ × Line)) TraceStop) (old new : TracePlace) (rest : List ℕ) (left : Option (List ℕ)) → r ≡ known → EventGives r old rest new left → EventGives known old rest new left
 answered r known old new rest left is gives = subst (λ (q : Result (Option (ℕ × Line)) TraceStop). EventGives q old rest new left) is gives
 
 pub returns-in_err-line : goal.returns-in_err-line
@@ -54,7 +55,7 @@ returns-in_err-tell_counts g c =
     let e = answered (Ok c.in_ok-line.field-0) (Ok None) x.link.trace c.next.new.self (inputs Events) _ (ap (λ (o : Option (ℕ × Line)). Ok o) c.in_default.is) (c.in_ok-line.ensures.gives (inputs Events) (told Events refl)) in
     line_by_line x s inputs k.is c.requires.recorded (λ (step : Step CallState) (now : Bool). GainsFronts (step_texts step) old.written new.written)
     (trace_cut c.turn_laws.ensures here inputs old mid (record { told = told; others = c.next.ensures.others; written = c.next.ensures.rest.written }) x.link.trace c.next.new.self (record { lines_are = refl; ended_is = refl }) e k.over
-    new c.tell_counts.ensures.rest.left (counts_of x.link.network.way.tally x.receiver.played x.sender.sent) (counts_are x (c.way_laws.ensures x.terms.params) s inputs k) c.in_err-tell_counts.ensures.err))
+    new c.tell_counts.ensures.rest.left (counts_of (tally_of (way_of x.link.network)) x.receiver.played x.sender.sent) (counts_are x (c.way_laws.ensures x.terms.params) s inputs k) c.in_err-tell_counts.ensures.err))
 
 pub returns-in_default : goal.returns-in_default
 returns-in_default g c =
@@ -70,7 +71,7 @@ returns-in_default g c =
     let e = answered (Ok c.in_ok-line.field-0) (Ok None) x.link.trace c.next.new.self (inputs Events) _ (ap (λ (o : Option (ℕ × Line)). Ok o) c.in_default.is) (c.in_ok-line.ensures.gives (inputs Events) (told Events refl)) in
     line_by_line x s inputs k.is c.requires.recorded (λ (step : Step CallState) (now : Bool). Ended step Fine inputs old new)
     (trace_ends c.turn_laws.ensures here inputs old mid (record { told = told; others = c.next.ensures.others; written = c.next.ensures.rest.written }) x.link.trace c.next.new.self (record { lines_are = refl; ended_is = refl }) e k.over
-    new c.tell_counts.ensures.rest.left (counts_of x.link.network.way.tally x.receiver.played x.sender.sent) (counts_are x (c.way_laws.ensures x.terms.params) s inputs k) c.in_ok-tell_counts.ensures.ok))
+    new c.tell_counts.ensures.rest.left (counts_of (tally_of (way_of x.link.network)) x.receiver.played x.sender.sent) (counts_are x (c.way_laws.ensures x.terms.params) s inputs k) c.in_ok-tell_counts.ensures.ok))
     (λ s inputs k told.
     let here = state_of x s.before s.frames s.past in
     let e = answered (Ok c.in_ok-line.field-0) (Ok None) x.link.trace c.next.new.self (inputs Events) _ (ap (λ (o : Option (ℕ × Line)). Ok o) c.in_default.is) (c.in_ok-line.ensures.gives (inputs Events) (told Events refl)) in

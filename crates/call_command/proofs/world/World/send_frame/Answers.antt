@@ -13,7 +13,6 @@ use Rattle.y4m.specs.Frame.{frame_size}
 use Rattle.loss_trace.specs.declared.fault.TraceFault.TheVariants.{NoFrame}
 use Rattle.call_report.specs.declared.status.Status.TheVariants.{TraceRefused}
 use Rattle.call_report.specs.Status.{video_stop}
-use Rattle.call_rings.specs.Messages.{said_of}
 use Rattle.call_model.specs.IdealCall.{Send}
 use Rattle.call_encoding.specs.Frames.{Frame}
 use Rattle.one_way.specs.Both.{bare}
@@ -90,7 +89,7 @@ returns g c =
     (subst (λ (b : Bool). (if b then c.frame.new.self.more else 16777216 - x.link.trace.lines) + 1 ≡ (if b then x.video.more else 16777216 - x.link.trace.lines) + 1) (sym c.requires.recorded) refl)
     (ready_so x old.attached mid.attached r c.frame.ensures.rest.attached c.frame.new.self sender x.receiver link moves.0 send.ensures.same.params send.ensures.ready send.ensures.kept
     (omega (arith, r.sent, send.ensures.sent, moves.1)) (omega (arith, r.played, send.ensures.sent)) (λ plain. absurd (cc (plain, c.requires.recorded))) long
-    (λ plain. absurd (cc (plain, c.requires.recorded))) (ap total_of send.ensures.tally ∙ r.counted) (omega (arith, r.said, ap said_of send.ensures.messages, send.ensures.sent)))
+    (λ plain. absurd (cc (plain, c.requires.recorded))) r.few (ap total_of send.ensures.tally ∙ r.counted) (omega (arith, r.said, send.ensures.messages.said, send.ensures.sent)))
     (c.step_laws.ensures.reads old mid c.frame.ensures.rest)
     (λ o s inputs b.
     let k = b.read.stood in

@@ -1,15 +1,12 @@
-use Rattle.std.proofs.Common.{◌<◌, ◌≤◌, List, [], ◌∷◌, length, refl, sym, ap, subst, ◌∙◌, arith}
+use Rattle.std.proofs.Common.{◌<◌, ◌≤◌, List, [], ◌∷◌, length, refl, ap, subst, ◌∙◌, arith}
 use Rattle.h263_types.specs.Sizes.{mbs_of}
 use Rattle.h263_types.specs.declared.params.Params.{Params}
 use Rattle.h263_types.specs.declared.format.Format.{Format}
 use Rattle.h263_types.specs.declared.format.Format.TheVariants.{SubQcif, Qcif, Cif}
 use Rattle.loss_trace.specs.declared.event.Event.{Event as Line}
 use Rattle.loss_trace.specs.declared.event.Event.TheVariants as says
-use Rattle.call_rings.specs.Keeping.{period_of}
 use Rattle.call_model.specs.IdealCall.{Event as Happens, Play, Back}
-use Rattle.one_way.specs.declared.way.Way.{Way}
 use Rattle.one_way.specs.Both.{both_after, steady}
-use Rattle.one_way.specs.Way.{CanSend}
 use Rattle.demo_command.specs.declared.demo.Demo.{Demo}
 use Rattle.demo_command.specs.Demo.{made_video}
 use Rattle.demo_command.specs.Machine.{AreInPlace, HasDone}
@@ -107,9 +104,8 @@ returns-in-Play-clause-ready c =
       params = r.params;
       frame = r.frame;
       sender_params = r.sender_params;
-      can = subst (λ (w : Way). CanSend w m.both.sender) (sym way)
-          (record { in_range = r.can.in_range; standing = r.can.standing; quant_is = r.can.quant_is; room = r.can.room; most = r.can.most; keeping = r.can.keeping; begun = r.can.begun });
-      period = ap (λ (w : Way). period_of w.packets) way ∙ r.period;
+      can = way.can m.both.sender r.can;
+      period = way.kept ∙ r.period;
       few = r.few;
       counted = omega (arith, c.play.ensures.counted, r.counted, c.play.ensures.played);
     }

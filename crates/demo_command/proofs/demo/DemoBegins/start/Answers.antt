@@ -44,7 +44,7 @@ returns-clause-ready g c =
     let long : length m.frame.items ≡ size_of_picture t.params.format = search rules in
     record {
       opens = c.requires;
-      ends = ready_first m c.requires.params new long ends.sender_params ends.sends ends.quant ends.sent ends.played;
+      ends = ready_first m (c.way_laws.ensures t.params) c.requires.params new long ends.sender_params ends.sends ends.quant ends.sent ends.played;
       in_place = first_in_place t both.sender.sent _ c.requires.frames ends.sent c.new.ensures;
       said = first_said t _ _ c.requires.frames new.said c.new.ensures;
       plays = first_plays t _ _ c.requires.frames ends.played c.new.ensures;

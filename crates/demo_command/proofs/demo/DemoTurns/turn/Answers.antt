@@ -1,6 +1,7 @@
 use Rattle.std.proofs.Common.{◌≡◌, ◌+◌, List, length, ap, subst, sym, ◌∙◌, arith}
 use Rattle.loss_trace.specs.declared.event.Event.{Event as Line}
 use Rattle.make_input.specs.Left.{lines_left}
+use Rattle.one_way.specs.Way.{tally_of, way_of}
 use Rattle.call_command.specs.Counts.{counts_of}
 use Rattle.demo_command.specs.declared.terms.DemoTerms.{DemoTerms}
 use Rattle.demo_command.specs.Demo.{demo_step, made_video}
@@ -15,7 +16,7 @@ returns-in_err-tell_counts-clause-gives g c = λ s inputs k told.
     let m = c.args.self.now in
     let p = m.terms.params in
     let status = c.in_err-tell_counts.field-0.0 in
-    let text = counts_of m.network.way.tally m.both.receiver.played m.both.sender.sent in
+    let text = counts_of (tally_of (way_of m.network)) m.both.receiver.played m.both.sender.sent in
     let is = counts_are m (c.way_laws.ensures p) s.past k.done (c.ends_agree.ensures p (made_video m.terms) s.past c.requires.opens.params k.done.way_holds.near) in
     turn_gives c.from_residual.result status (demo_step s inputs) _ _ _ inputs (outside c.args.desk.now) (outside c.tell_counts.new.desk) c.from_residual.ensures.1
     (cut_gives status (demo_step s inputs) _ inputs (outside c.args.desk.now) (outside c.tell_counts.new.desk) c.in_err-tell_counts.ensures.kind
@@ -26,7 +27,7 @@ returns-in_default-clause-gives g c = λ s inputs k told.
     let outside = g.D.Desk.outside in
     let m = c.args.self.now in
     let p = m.terms.params in
-    let text = counts_of m.network.way.tally m.both.receiver.played m.both.sender.sent in
+    let text = counts_of (tally_of (way_of m.network)) m.both.receiver.played m.both.sender.sent in
     let is = counts_are m (c.way_laws.ensures p) s.past k.done (c.ends_agree.ensures p (made_video m.terms) s.past c.requires.opens.params k.done.way_holds.near) in
     end_told m s inputs k text is c.in_default.ensures.0 (outside c.args.desk.now) (outside c.tell_counts.new.desk) c.turn_laws.ensures told c.tell_counts.ensures.rest.left c.in_ok-tell_counts.ensures.ok
 

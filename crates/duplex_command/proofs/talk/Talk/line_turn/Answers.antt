@@ -84,7 +84,6 @@ returns-in-Ok-Some g c =
       moves = moved (Ok c.in_ok-line.field-0) (Ok (Some found)) m.trace c.raw.new.self is c.in_ok-line.ensures.moves;
       others = c.raw.ensures.others;
       rest = c.raw.ensures.rest;
-      few = c.raw.new.self.few;
     })
     said refl (λ le. c.in-Ok-Some.ensures le ∙ ap (λ o. Some o) c.in-Ok-Some.field-0-is) c.requires y c.event_turn.result new _ refl
     (ap (λ (l : List ℕ). length l) (with_items_is m.frame out (omega (arith, c.event_turn.auto.frame, c.deref_mut.ensures.len, m.frame.ok.0))) ∙ c.event_turn.auto.frame)
@@ -104,7 +103,6 @@ returns-in-Ok-None g c =
       moves = moved (Ok c.in_ok-line.field-0) (Ok (Some found)) m.trace c.raw.new.self is c.in_ok-line.ensures.moves;
       others = c.raw.ensures.others;
       rest = c.raw.ensures.rest;
-      few = c.raw.new.self.few;
     })
     (λ le. c.in-Ok-None.ensures le ∙ ap (λ o. Some o) c.in-Ok-None.field-0-is) c.requires (c.turn_laws.ensures.no_text mid.written mid.written refl)
 
@@ -124,6 +122,5 @@ returns-in-Err g c =
       moves = moved (Ok c.in_ok-line.field-0) (Ok (Some found)) m.trace c.raw.new.self is c.in_ok-line.ensures.moves;
       others = c.raw.ensures.others;
       rest = c.raw.ensures.rest;
-      few = c.raw.new.self.few;
     })
     c.in-Err.ensures)

@@ -18,7 +18,6 @@ use Rattle.duplex_ends.specs.Ways.{sides, told_by}
 use Rattle.duplex_ends.proofs.Agreeing.{agree, ideally}
 use Rattle.duplex_ends.proofs.Captures.{frame, near_send, numbers, party_sent, said, same_messages, captured, waiting, waiting_fit}
 use Rattle.duplex_ends.proofs.Deliveries.{with_one}
-use Rattle.duplex_ends.proofs.Later.{holds_later}
 use Rattle.duplex_ends.proofs.Lists.{carried_placed, get_last, last_few}
 use Rattle.duplex_ends.proofs.Runs.{party_same, told_sent}
 use Rattle.duplex_ends.proofs.party.PartyEnds.send.Goals as goal
@@ -79,10 +78,10 @@ returns-clause-holds c = λ p x far ways left h may.
     in
     let calls = c.call_laws.ensures P (h.in_range x) in
     let nears = c.near_event_laws.ensures P (h.in_range x) in
-    let later = c.later_frames.ensures P in
-    let coded = (c.way_laws.ensures P).sent own.sender own.far_end [] w.frames w.past one.done.joined in
-    let near = near_send P Q own w v one picture later (agree P (h.in_range x) calls nears own.way own.sender own.far_end w one.done) coded left may in
-    let held = holds_later P later own.way own.sender own.far_end w.frames w.past (new_frame ∷ []) one.done in
+    let laws = c.way_laws.ensures P in
+    let coded = laws.sent own.sender own.far_end [] w.frames w.past one.done.joined in
+    let near = near_send P Q own w v one picture (c.later_frames.ensures P) (agree P (h.in_range x) calls nears own.way own.sender own.far_end w one.done) coded left may in
+    let held = laws.later own.way own.sender own.far_end [] w.frames (new_frame ∷ []) w.past one.done in
     let done = c.send-number.ensures.holds P own.far_end [] next.frames w.past held at near in
     let number : c.send-number.result ≡ length one.carries.headers =
     c.send-number.ensures.number ∙ one.sent ∙ sym one.headers ∙ sym one.carries.count

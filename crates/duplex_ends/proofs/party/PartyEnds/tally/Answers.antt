@@ -3,6 +3,7 @@ use Rattle.duplex_call.specs.Duplex.{way}
 use Rattle.one_way.specs.declared.tally.Tally.{Tally}
 use Rattle.one_way.specs.Counts.{AreCounted}
 use Rattle.one_way.specs.Seen.{Seen}
+use Rattle.one_way.specs.Way.{tally_of}
 use Rattle.duplex_ends.specs.Ways.{call_in}
 use Rattle.duplex_ends.proofs.party.PartyEnds.tally.Goals as goal
 
@@ -12,4 +13,4 @@ returns c = λ p x far ways h.
     let one = h.own_holds in
     let same = c.ends_agree.ensures (p x) w.frames w.past (h.in_range x) one.done.near in
     subst (λ (t : Tally). AreCounted t (call_in p x ways).plays) (sym c.tally.ensures)
-    (subst (λ (seen : Seen). AreCounted c.args.self.now.way.tally seen.plays) same one.done.tally)
+    (subst (λ (seen : Seen). AreCounted (tally_of c.args.self.now.way) seen.plays) same one.done.tally)

@@ -1,4 +1,4 @@
-use Rattle.std.proofs.Common.{◌≡◌, ℕ, suc, ◌+◌, ◌<◌, List, ◌++◌, length, sym, ap, subst, ◌∙◌, arith}
+use Rattle.std.proofs.Common.{◌≡◌, ℕ, suc, ◌+◌, ◌<◌, ◌++◌, length, sym, ap, subst, ◌∙◌, arith}
 use Rattle.h263_types.specs.declared.blocks.Mb.{Mb}
 use Rattle.h263_planes.specs.Picture.{Picture}
 use Rattle.call_model.specs.Coding.{Rules}
@@ -10,11 +10,9 @@ use Rattle.coded_call.specs.Coding.{coding}
 use Rattle.receiver_end.specs.State as receiver_end
 use Rattle.one_way.specs.declared.way.Way.{Way}
 use Rattle.one_way.specs.Both.{both_after, steady}
-use Rattle.one_way.specs.Network.{IsAmongLast}
 use Rattle.one_way.specs.Trace.{delivered}
-use Rattle.one_way.specs.Way.{HoldsNetwork, MayHappenNow}
+use Rattle.one_way.specs.Way.{HoldsNetwork, IsAmongLast, MayHappenNow, way_of}
 use Rattle.one_way.proofs.BothAfter.{played_delivered, sender_delivered}
-use Rattle.one_way.proofs.Ring.{count_is, kept_is}
 use Rattle.one_way.proofs.network.Network.deliver_all.Goals as goal
 
 pub packets-preserved : goal.packets-preserved
@@ -34,9 +32,9 @@ packets-preserved c = record {
       in
       let played = played_delivered (coding p) (rules_of p) begun (steady p) frames n i past in
       let here : MayHappenNow p before frames (delivered n i ++ past) (Deliver n i) = (omega (arith, near.0, coded), omega (arith, near.1, played)) in
-      let there : IsAmongLast c.packets.self.way.packets (length (both_after p (steady p) frames before (delivered n i ++ past)).sender.coded) n =
-      subst (λ (way : Way). IsAmongLast way.packets (length (both_after p (steady p) frames before (delivered n i ++ past)).sender.coded) n) (sym c.packets.invariant.way)
-      (subst (λ (run : SenderRun Style Mb Picture). IsAmongLast c.args.self.now.way.packets (length run.coded) n) (sym same) among)
+      let there : IsAmongLast (way_of c.packets.self) (length (both_after p (steady p) frames before (delivered n i ++ past)).sender.coded) n =
+      subst (λ (way : Way). IsAmongLast way (length (both_after p (steady p) frames before (delivered n i ++ past)).sender.coded) n) (sym c.packets.invariant.way)
+      (subst (λ (run : SenderRun Style Mb Picture). IsAmongLast (way_of c.args.self.now) (length run.coded) n) (sym same) among)
       in
       let next : suc i ≡ i + 1 = omega arith in
       subst (λ (k : ℕ). HoldsNetwork p c.deliver.new.self sender c.deliver.new.receiver before frames (delivered n k ++ past)) next
@@ -46,11 +44,8 @@ packets-preserved c = record {
 pub returns-clause-holds : goal.returns-clause-holds
 returns-clause-holds c = λ p sender before frames past h among near.
     let n = c.args.number in
-    let coded = (both_after p (steady p) frames before past).sender.coded in
-    let has = h.way_holds.packets in
-    let many = ap (λ (l : List (List ℕ)). length l) (kept_is p c.args.self.now.way.packets coded n has among) ∙ count_is p coded n (c.message_laws.ensures p).count in
-    let all : c.packets.place ≡ length (slices_at coded n) =
-    omega (arith, c.packets-test.false, c.packets.auto.place-end, c.count-count.ensures.packets has.pictures has.keeps, many)
+    let all : c.packets.place ≡ length (slices_at (both_after p (steady p) frames before past).sender.coded n) =
+    omega (arith, c.packets-test.false, c.packets.auto.place-end, c.count-count.ensures.slices p sender c.args.receiver.now before frames past h.way_holds among)
     in
     subst (λ (k : ℕ). HoldsNetwork p c.packets.self sender c.packets.receiver before frames (delivered n k ++ past)) all
     (c.packets.invariant.holds p sender before frames past h among near)

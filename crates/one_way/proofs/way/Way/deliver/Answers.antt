@@ -27,7 +27,7 @@ returns-in_default-clause-holds c = λ p sender before frames past h among near.
     let coded = (both_after p (steady p) frames before past).sender.coded in
     let n = c.args.number in
     let none : slice_get (call.packets_of (encoding p) (rules_of p) coded n) c.args.place ≡ None =
-    ap (λ (l : List (List ℕ)). slice_get l c.args.place) (sym (kept_is p c.args.self.now.packets coded n h.packets among))
+    ap (λ (l : List (List ℕ)). slice_get l c.args.place) (sym (kept_is p c.args.self.now coded n h.packets among))
     ∙ sym (c.packet.ensures h.packets.pictures h.packets.keeps) ∙ ap (λ o. option_map (λ packet. packet.now) o) c.in_default.is
     in
     holds_packet p c.args.self.now sender c.args.receiver.now before frames past h c.args.receiver.now n c.args.place near
@@ -38,7 +38,7 @@ returns-in_default-clause-says c = λ p sender before frames past h among.
     let w = both_after p (steady p) frames before past in
     let n = c.args.number in
     let none : slice_get (call.packets_of (encoding p) (rules_of p) w.sender.coded n) c.args.place ≡ None =
-    ap (λ (l : List (List ℕ)). slice_get l c.args.place) (sym (kept_is p c.args.self.now.packets w.sender.coded n h.packets among))
+    ap (λ (l : List (List ℕ)). slice_get l c.args.place) (sym (kept_is p c.args.self.now w.sender.coded n h.packets among))
     ∙ sym (c.packet.ensures h.packets.pictures h.packets.keeps) ∙ ap (λ o. option_map (λ packet. packet.now) o) c.in_default.is
     in
     ap (λ (o : Option (List ℕ)). (option_map_or (after_bytes (coding p) (rules_of p) w n) o w).said) none ∙ sym (append-nil w.said)
@@ -49,7 +49,7 @@ returns-clause-holds c = λ p sender before frames past h among near.
     let coded = (both_after p (steady p) frames before past).sender.coded in
     let n = c.args.number in
     let there : slice_get (call.packets_of (encoding p) (rules_of p) coded n) c.args.place ≡ Some c.in-Some.bytes.now =
-    ap (λ (l : List (List ℕ)). slice_get l c.args.place) (sym (kept_is p c.args.self.now.packets coded n h.packets among))
+    ap (λ (l : List (List ℕ)). slice_get l c.args.place) (sym (kept_is p c.args.self.now coded n h.packets among))
     ∙ sym (c.packet.ensures h.packets.pictures h.packets.keeps) ∙ ap (λ o. option_map (λ packet. packet.now) o) c.in-Some.is
     in
     holds_packet p c.args.self.now sender c.args.receiver.now before frames past h c.packet-heard.new.self n c.args.place near
@@ -62,7 +62,7 @@ returns-clause-says c = λ p sender before frames past h among.
     let n = c.args.number in
     let bytes = c.in-Some.bytes.now in
     let there : slice_get (call.packets_of (encoding p) (rules_of p) w.sender.coded n) c.args.place ≡ Some bytes =
-    ap (λ (l : List (List ℕ)). slice_get l c.args.place) (sym (kept_is p c.args.self.now.packets w.sender.coded n h.packets among))
+    ap (λ (l : List (List ℕ)). slice_get l c.args.place) (sym (kept_is p c.args.self.now w.sender.coded n h.packets among))
     ∙ sym (c.packet.ensures h.packets.pictures h.packets.keeps) ∙ ap (λ o. option_map (λ packet. packet.now) o) c.in-Some.is
     in
     let answer = heard (decoding p.format) (rules_of p) w.receiver ((decoding p.format).read bytes) in

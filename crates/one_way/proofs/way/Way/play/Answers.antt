@@ -1,4 +1,4 @@
-use Rattle.std.proofs.Common.{◌≡◌, ℕ, List, ◌∷◌, ◌++◌, Option, IfSome, sym, ap, subst, ◌∙◌}
+use Rattle.std.proofs.Common.{◌≡◌, ℕ, List, ◌∷◌, ◌++◌, Option, IfSome, refl, sym, ap, subst, ◌∙◌}
 use Rattle.back_messages.specs.MessageBytes.{text_of}
 use Rattle.back_messages.specs.declared.writing.MessageBytes.{MessageBytes}
 use Rattle.coded_call.specs.Bytes.{AreBytes}
@@ -16,6 +16,21 @@ pub returns-clause-mark : goal.returns-clause-mark
 returns-clause-mark c = λ p sender before frames past h.
     (play_told p (c.ends_run.ensures p) (steady p) sender c.args.receiver.now frames before past h.joined c.play-played.result
     (c.play-played.ensures.told (heard_in p (steady p) frames before past) h.joined.receives)).mark_is
+
+pub returns-clause-way : goal.returns-clause-way
+returns-clause-way c = record {
+  others = refl;
+  kept = refl;
+  can = λ sender can. record {
+    in_range = can.in_range;
+    standing = can.standing;
+    quant_is = can.quant_is;
+    room = can.room;
+    most = can.most;
+    keeping = can.keeping;
+    begun = can.begun;
+  };
+}
 
 pub returns-clause-holds : goal.returns-clause-holds
 returns-clause-holds c = λ p sender before frames past h near.

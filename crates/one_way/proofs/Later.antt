@@ -1,5 +1,6 @@
 -- Frames after those that were sent change nothing of a way.
-use Rattle.std.proofs.Common.{◌≡◌, ℕ, List, [], ◌∷◌, ◌++◌, length, Option, refl, sym, ap, subst, ◌∙◌}
+use Rattle.std.proofs.Common.{◌≡◌, ℕ, zero, suc, ◌<◌, List, [], ◌∷◌, ◌++◌, length, Option, refl, sym, ap, subst, ◌∙◌, arith}
+use Rattle.std.specs.Prelude.{slice_get}
 use Rattle.std.specs.Option.{option_map_or}
 use Rattle.h263_types.specs.declared.blocks.Mb.{Mb}
 use Rattle.h263_types.specs.declared.params.Params.{Params}
@@ -22,7 +23,12 @@ use Rattle.one_way.specs.Both.{State, steady}
 use Rattle.one_way.specs.Counts.{AreCounted}
 use Rattle.one_way.specs.Network.{HasPackets, HasReferences}
 use Rattle.one_way.specs.Way.{HoldsWay}
-use Rattle.duplex_ends.proofs.Lists.{get_before}
+
+-- what stands at a place of the first list stands there in both together
+get_before : {X : Type 0} (xs ys : List X) (k : ℕ) → k < length xs → slice_get (xs ++ ys) k ≡ slice_get xs k
+get_before [] ys k few = absurd (omega (arith, few))
+get_before (a ∷ xs) ys zero few = refl
+get_before (a ∷ xs) ys (suc k) few = get_before xs ys k (omega (arith, few))
 
 module _ {Frame Style Mb Picture Fault MessageFault : Type 0} (coding : Coding Frame Style Mb Picture Fault MessageFault) (rules : Rules)
     (law : LaterFramesBoth coding rules) (begun : ReceiverRun Style Mb Picture) (pace : List ℕ → ℕ) (frames later : List Frame) where
@@ -50,10 +56,10 @@ module _ {Frame Style Mb Picture Fault MessageFault : Type 0} (coding : Coding F
       ∙ ap (λ (l : List ReceiverEntry). to_receiver coding rules w e ++ l) (heard_same past near.1)
 
 -- a way holds for more frames
-module _ (p : Params) (law : LaterFramesBoth (coded.coding p) (rules_of p)) (way : Way) (sender : State) (receiver : Kept) (frames : List videos.Frame) (past : List Event) where
-  pub holds_later : (later : List videos.Frame) → HoldsWay p way sender receiver [] frames past → HoldsWay p way sender receiver [] (frames ++ later) past
+module _ (p : Params) (law : LaterFramesBoth (coded.coding p) (rules_of p)) (way : Way) (sender : State) (receiver : Kept) (before : List ReceiverEntry) (frames : List videos.Frame) (past : List Event) where
+  pub holds_later : (later : List videos.Frame) → HoldsWay p way sender receiver before frames past → HoldsWay p way sender receiver before (frames ++ later) past
   holds_later later h =
-      let begun = receiver_end.run_of p [] in
+      let begun = receiver_end.run_of p before in
       let both = law begun (steady p) frames later past h.near in
       record {
         joined = record {
@@ -61,7 +67,7 @@ module _ (p : Params) (law : LaterFramesBoth (coded.coding p) (rules_of p)) (way
           receiver_params = h.joined.receiver_params;
           sends = subst (λ (l : List (SenderEntry videos.Frame)). sender_end.Stands (steady p) sender l)
               (sym (sent_same (coded.coding p) (rules_of p) law begun (steady p) frames later past h.near)) h.joined.sends;
-          receives = subst (λ (l : List ReceiverEntry). receiver_end.Stands receiver (l ++ []))
+          receives = subst (λ (l : List ReceiverEntry). receiver_end.Stands receiver (l ++ before))
               (sym (heard_same (coded.coding p) (rules_of p) law begun (steady p) frames later past h.near)) h.joined.receives;
         };
         near = both.1;
