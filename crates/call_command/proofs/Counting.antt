@@ -14,7 +14,7 @@ use Rattle.call_report.specs.declared.status.Status.TheVariants.{Ok as Fine, Wri
 use Rattle.call_report.specs.Status.{Phase, phase, trace_stop, video_stop}
 use Rattle.call_report.specs.Status.Phase.{finished, refused, unread, unwritten, starved, unasked, unopened}
 use Rattle.desk_program.specs.Run.{Step}
-use Rattle.desk_program.specs.Ends.{Ended, GainsFronts, GivesUp, HasCause, IsStop, KeepsRoles, OnceSettled, Tells, Went, step_texts}
+use Rattle.desk_program.specs.Ends.{Ended, GainsFronts, GivesUp, HasCause, IsStop, KeepsRoles, OnceSettled, Tells, TurnGives, Went, step_texts}
 use Rattle.call_encoding.specs.Frames.{Frame}
 use Rattle.call_command.specs.Counts.{call_text, counts_of, counts_text}
 use Rattle.one_way.specs.Laws.{WayLaws}
@@ -88,6 +88,19 @@ pub trace_answers : (plain : Bool) → plain ≡ false → (stop : TraceStop) �
 trace_answers plain recorded trace.Read = tt
 trace_answers plain recorded (trace.Bad line) = recorded
 trace_answers plain recorded (trace.TooMany line) = recorded
+
+-- ---- what a turn gives that stops
+
+module _ (step : Step CallState) (stands : CallState → (Role → List ℕ) → Type 0) (now : Bool) (inputs : Role → List ℕ) (old new : Outside) where
+  pub given_up : (r : Result Bool Status) (status : Status) → IsErrAnd r (λ z. z ≡ status)
+      → GivesUp (phase status) status step now inputs old new → TurnGives r step stands may_read now inputs old new
+  given_up (Ok b) status is gives = absurd is
+  given_up (Err z) status is gives = subst (λ (w : Status). GivesUp (phase w) w step now inputs old new) (sym is) gives
+
+  pub written_in_part : (r : Result Bool Status) (status : Status) → IsErrAnd r (λ z. z ≡ status) → status ≡ WriteFault
+      → GainsFronts (step_texts step) old.written new.written → TurnGives r step stands may_read now inputs old new
+  written_in_part r status is kind gains =
+      given_up r status is (subst (λ (w : Status). GivesUp (phase w) w step now inputs old new) (sym kind) gains)
 
 -- ---- turns
 
@@ -205,10 +218,3 @@ module _ (x y : World) (old new : Outside) where
       (begun (parts_of x) old (λ o s inputs. Ended (talk_step s inputs) Fine inputs o new) gives)
       (λ o s inputs b. whole s inputs b.stands b.told)
       keeps
-
-  pub turn_goes_on : names_of y ≡ names_of x → more_of (parts_of y) + 1 ≡ more_of (parts_of x) → PartsReady (parts_of y) new.attached → KeepsRoles old new
-      → ((s : CallState) (inputs : Role → List ℕ) → PartsStand (parts_of x) s inputs → Tells old inputs → Went (talk_step s inputs) (PartsStand (parts_of y)) may_read (may_read s) inputs old new)
-      → TakesTurn x y (Ok true) old new
-  turn_goes_on names falls ready rest gives =
-      goes_on x y old new _ _ _ _ names falls ready rest
-      (begun (parts_of x) old (λ o s inputs. Went (talk_step s inputs) (PartsStand (parts_of y)) may_read (may_read s) inputs o new) gives)

@@ -18,46 +18,10 @@ use crate::link::Link;
 use crate::world::World;
 use crate::{Begun, laws};
 use call_report::Status;
-use desk_program::{Turns, laws as desk_program_laws, take_turns};
+use desk_program::{laws as desk_program_laws, take_turns};
 use h263_outside::Desk;
 use one_way::laws as one_way_laws;
 use std::alloc::Global;
-
-impl<'a> Turns for World<'a> {
-    ghost use Rattle.std.specs.Prelude.{Some};
-    ghost use Rattle.call_command.specs.Call.{CallState, may_read, talk_step};
-    ghost use Rattle.call_command.specs.Converse.{WorldAnswers, WorldReady, WorldStands, WorldStays};
-    ghost use Rattle.call_command.specs.Standing.{more_of, parts_of, source_of};
-    ghost use Rattle.call_command.specs.Turning.{LeavesEnds};
-
-    ghost State = { CallState };
-
-    ghost step = { talk_step };
-
-    ghost reads = { may_read };
-
-    ghost stands = { WorldStands };
-
-    ghost more = { λ m. more_of (parts_of m) };
-
-    ghost ready = { WorldReady };
-
-    ghost reading = { λ m. Some (source_of m.terms) };
-
-    ghost stays = { WorldStays };
-
-    ghost leaves = { LeavesEnds };
-
-    ghost answers = { WorldAnswers };
-
-    fn turn<D: Desk>(&mut self, desk: &mut D) -> Result<bool, Status> {
-        if self.terms.plain {
-            self.frame_turn(desk)
-        } else {
-            self.line_turn(desk)
-        }
-    }
-}
 
 /// Takes the events of the trace, or of the plain trace, one after the other, writes the pictures
 /// that are shown and their lines, and at the end the counts. The sender was just started, and the

@@ -4,7 +4,7 @@ ghost use Rattle.std.specs.Prelude.{◌≡◌, ◌+◌, ◌*◌, ◌≤◌, List
 use crate::show::{play_next, tell_counts};
 use crate::{Terms, allow, laws};
 use call_report::Status;
-use desk_program::laws as desk_program_laws;
+use desk_program::{Turns, laws as desk_program_laws};
 use h263_outside::{Desk, laws as outside_laws};
 use h263_planes::PictureRef;
 use h263_types::FixedPace;
@@ -32,33 +32,8 @@ impl<'a> World<'a> {
     ghost use Rattle.call_command.specs.Standing.{HasRoom, PartsReady, parts_of};
     ghost use Rattle.call_command.specs.Turning.{TakesFrame, TakesLine, TakesTurn};
 
-    /// Over the plain trace: the next frame is sent, its packets are delivered, and the next
-    /// picture is played. False at the end of the video.
-    pub fn frame_turn<D: Desk>(&mut self, desk: &mut D) -> Result<bool, Status>
-        requires ready { PartsReady (parts_of self.old) (D.outside desk.old).attached }
-        requires plain { self.old.terms.plain ≡ true }
-        ensures { TakesTurn self.old self.new result (D.outside desk.old) (D.outside desk.new) }
-    {
-        desk_program_laws::turn_laws();
-        desk_program_laws::step_laws();
-        outside_laws::calls();
-        laws::video_laws();
-        one_way_laws::way_laws();
-        one_way_laws::event_laws();
-        one_way_laws::later_frames();
-        if !self.video.frame(desk, &mut self.frame)? {
-            tell_counts(desk, &self.network, self.sender, self.receiver)?;
-            return Ok(false);
-        }
-        let frame = PictureRef::new(self.terms.params.format, &self.frame);
-        let sent = self.network.send(self.sender, frame, &[]);
-        self.network.deliver_all(self.receiver, sent);
-        play_next(desk, &mut self.network, self.receiver)?;
-        Ok(true)
-    }
-
-    /// Over a recorded trace: its next line is done, or refused. False at the end of the trace.
-    pub fn line_turn<D: Desk>(&mut self, desk: &mut D) -> Result<bool, Status>
+    // Over a recorded trace: its next line is done, or refused. False at the end of the trace.
+    fn line_turn<D: Desk>(&mut self, desk: &mut D) -> Result<bool, Status>
         requires ready { PartsReady (parts_of self.old) (D.outside desk.old).attached }
         requires recorded { self.old.terms.plain ≡ false }
         ensures { TakesTurn self.old self.new result (D.outside desk.old) (D.outside desk.new) }
@@ -138,6 +113,58 @@ impl<'a> World<'a> {
         }
         let frame = PictureRef::new(self.terms.params.format, &self.frame);
         self.network.send(self.sender, frame, &[]);
+        Ok(true)
+    }
+}
+
+impl<'a> Turns for World<'a> {
+    ghost use Rattle.std.specs.Prelude.{Some};
+    ghost use Rattle.call_command.specs.Call.{CallState, may_read, talk_step};
+    ghost use Rattle.call_command.specs.Converse.{WorldAnswers, WorldReady, WorldStands, WorldStays};
+    ghost use Rattle.call_command.specs.Standing.{more_of, parts_of, source_of};
+    ghost use Rattle.call_command.specs.Turning.{LeavesEnds};
+
+    ghost State = { CallState };
+
+    ghost step = { talk_step };
+
+    ghost reads = { may_read };
+
+    ghost stands = { WorldStands };
+
+    ghost more = { λ m. more_of (parts_of m) };
+
+    ghost ready = { WorldReady };
+
+    ghost reading = { λ m. Some (source_of m.terms) };
+
+    ghost stays = { WorldStays };
+
+    ghost leaves = { LeavesEnds };
+
+    ghost answers = { WorldAnswers };
+
+    // Over the plain trace the next frame is sent, its packets are delivered, and the next picture
+    // is played.
+    fn turn<D: Desk>(&mut self, desk: &mut D) -> Result<bool, Status> {
+        if !self.terms.plain {
+            return self.line_turn(desk);
+        }
+        desk_program_laws::turn_laws();
+        desk_program_laws::step_laws();
+        outside_laws::calls();
+        laws::video_laws();
+        one_way_laws::way_laws();
+        one_way_laws::event_laws();
+        one_way_laws::later_frames();
+        if !self.video.frame(desk, &mut self.frame)? {
+            tell_counts(desk, &self.network, self.sender, self.receiver)?;
+            return Ok(false);
+        }
+        let frame = PictureRef::new(self.terms.params.format, &self.frame);
+        let sent = self.network.send(self.sender, frame, &[]);
+        self.network.deliver_all(self.receiver, sent);
+        play_next(desk, &mut self.network, self.receiver)?;
         Ok(true)
     }
 }

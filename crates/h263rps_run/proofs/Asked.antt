@@ -1,14 +1,16 @@
 -- A run by what its words ask for.
-use Rattle.std.proofs.Common.{◌≡◌, ◌⊎◌, inl, inr, ℕ, Bool, true, false, List, [], ◌∷◌, ◌||◌, Option, Some, None, IfSome, if◌then◌else◌, option_and_then, refl, sym, ap, ◌∙◌, subst}
+use Rattle.std.proofs.Common.{◌≡◌, ◌⊎◌, inl, inr, ℕ, Bool, true, false, not, List, [], ◌∷◌, ◌||◌, Option, Some, None, IfSome, if◌then◌else◌, option_and_then, refl, sym, ap, ◌∙◌, subst}
 use Rattle.std.specs.List.{AllByRecursion}
 use Rattle.h263_outside.specs.Desk.{Outside, NoneAttached, OnlyAttaches, OnlyWrites, SomeRose, Rose, with_role, is_role}
 use Rattle.h263_outside.specs.declared.desk.Role.{Role}
-use Rattle.h263_outside.specs.declared.desk.Role.TheVariants.{Video, Video2, Report}
+use Rattle.h263_outside.specs.declared.desk.Role.TheVariants.{Video, Video2, Events, Report}
 use Rattle.y4m.specs.declared.fault.Y4mFault.{Y4mFault}
 use Rattle.y4m.specs.Video.{video_fault}
 use Rattle.call_report.specs.declared.status.Status.{Status}
 use Rattle.call_report.specs.declared.status.Status.TheVariants.{OutOfMemory, Usage, VideoRefused, Video2Refused, OpenFault}
+use Rattle.h263_types.specs.declared.params.Params.{Params}
 use Rattle.command_words.specs.declared.command.Command.{Command}
+use Rattle.command_words.specs.declared.command.Command.TheVariants.{Call}
 use Rattle.command_words.specs.declared.simple.WordStop.{WordStop}
 use Rattle.command_words.specs.declared.simple.WordStop.TheVariants as stops
 use Rattle.command_words.specs.Simple.{Text}
@@ -18,27 +20,10 @@ use Rattle.desk_program.specs.Attached.{AreAttached, AttachedAt}
 use Rattle.desk_program.specs.Lines.{Finishes, end_text}
 use Rattle.desk_program.specs.Promises.{HasPrefixes, HasStatus, HasTexts, IsNotUsage, IsSettled, IsStopped, IsUnopened, TakesInput}
 use Rattle.h263rps_run.specs.Output.{the_word, word_stop, command_of, roles_of, source_of, run_of, output_of, order_from, source_from}
-use Rattle.h263rps_run.specs.Promises.{IsRunOf, IsRun}
+use Rattle.h263rps_run.specs.Promises.{IsRefusedRightly, IsRunOf, IsRun}
 use Rattle.h263rps_run.proofs.Promised.{performed, some_since, nothing_done, report_unopened, words_unread, usage_told, since_attached}
 
 -- ---- a command
-
--- where its run refuses a video, the video has that fault
-pub record IsRefusedRightly (c : Command) : Type 0 where
-  pub first : (inputs : Role → List ℕ) (fault : Y4mFault) → (run_of c inputs).last.status ≡ VideoRefused fault → video_fault (inputs Video) ≡ Some fault
-  pub second : (inputs : Role → List ℕ) (fault : Y4mFault) → (run_of c inputs).last.status ≡ Video2Refused fault → video_fault (inputs Video2) ≡ Some fault
-
--- the word by which a role is attached, where the command is this one
-pub word_is : (a : Asked) (c : Command) (role : Role) → a.command ≡ c → the_word (word_for a role) ≡ the_word (option_and_then a.given (name_in (roles c) role))
-word_is a c role is = ap (λ (k : Command). the_word (option_and_then a.given (name_in (roles k) role))) is
-
--- the words of the roles are given, where the command is this one
-pub words_given : (a : Asked) (c : Command) → a.command ≡ c → HasNames a → AllByRecursion (λ (r : Role × Text). IsGiven (a.given r.1)) (roles c)
-words_given a c is names = subst (λ (k : Command). AllByRecursion (λ (r : Role × Text). IsGiven (a.given r.1)) (roles k)) is names
-
--- so is the word of a role, if it is among them
-pub word_given : (a : Asked) (c : Command) (role : Role) → a.command ≡ c → IsGiven (option_and_then a.given (name_in (roles c) role)) → IsGiven (word_for a role)
-word_given a c role is given = subst (λ (k : Command). IsGiven (option_and_then a.given (name_in (roles k) role))) (sym is) given
 
 -- there is no second video
 pub one_video : (c : Command)
@@ -54,6 +39,11 @@ no_video c none none2 = record {
   first = λ inputs fault ends. absurd (none inputs fault ends);
   second = λ inputs fault ends. absurd (none2 inputs fault ends);
 }
+
+-- the end of a call is the end of its video, or of its trace
+pub call_source : (p : Params) (traced : Bool) → Some (if not traced then Video else Events) ≡ source_of (Call p traced)
+call_source p true = refl
+call_source p false = refl
 
 -- its run is that of the words
 as_run : (a : Asked) (c : Command) → a.command ≡ c → IsRefusedRightly c → (result : Status) (old new : Outside)

@@ -9,22 +9,14 @@ use Rattle.y4m.specs.Video.{video_fault}
 use Rattle.call_report.specs.declared.status.Status.{Status}
 use Rattle.call_report.specs.declared.status.Status.TheVariants.{OutOfMemory, Usage, VideoRefused, Video2Refused}
 use Rattle.call_report.specs.Status.{code_of, phase, before_reading}
-use Rattle.command_words.specs.Asked.{Asked, HasNames, IsCommand}
+use Rattle.command_words.specs.Asked.{Asked}
 use Rattle.command_words.specs.declared.command.Command.{Command}
 use Rattle.desk_program.specs.Run.{Run, text_of}
 use Rattle.desk_program.specs.Ends.{Tells, Gains, HasCause, IsReadOut}
-use Rattle.desk_program.specs.Attached.{AreAttached, AttachedAt}
+use Rattle.desk_program.specs.Attached.{AttachedAt}
 use Rattle.desk_program.specs.Lines.{end_text}
-use Rattle.h263rps_run.specs.Output.{output_of, order_from, source_from}
+use Rattle.h263rps_run.specs.Output.{output_of, order_from, run_of, source_from}
 use Rattle.desk_program.specs.Promises.{IsSettled, IsStopped, HasStatus, HasTexts, ReportIn, TakesInput}
-
--- What these words ask for is this command, whose parameters are in their ranges and whose roles have
--- their words, and of the desk the report alone is attached: so the command may be run.
-pub record IsReady (asked : Asked) (c : Command) (now : Outside) : Type 0 where
-  pub is : asked.command ≡ c
-  pub command : IsCommand c
-  pub names : HasNames asked
-  pub report : AreAttached ((Report, []) ∷ []) now
 
 -- a prefix of each text was written; where the report is attached, it has whole lines and that of the
 -- status, or was cut in a line
@@ -69,6 +61,13 @@ pub record IsRun (asked : Option Asked) (result : Status) (old new : Outside) : 
       → video_fault (inputs Video) ≡ Some fault
   -- and so has the second video
   pub second_refused : (inputs : Role → List ℕ) → Tells old inputs → (fault : Y4mFault) → result ≡ Video2Refused fault
+      → video_fault (inputs Video2) ≡ Some fault
+
+-- where a command's run refuses a video, the video has that fault
+pub record IsRefusedRightly (c : Command) : Type 0 where
+  pub first : (inputs : Role → List ℕ) (fault : Y4mFault) → (run_of c inputs).last.status ≡ VideoRefused fault
+      → video_fault (inputs Video) ≡ Some fault
+  pub second : (inputs : Role → List ℕ) (fault : Y4mFault) → (run_of c inputs).last.status ≡ Video2Refused fault
       → video_fault (inputs Video2) ≡ Some fault
 
 -- the exit status is that of a run with these words

@@ -8,9 +8,10 @@
 //! `specs/Promises` what is promised of a run.
 #![tactic(auto)]
 
-mod commands;
+mod laws;
 mod process;
 mod program;
+mod roles;
 
 pub use call_report::Status;
 pub use process::code_for;

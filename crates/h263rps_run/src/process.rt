@@ -45,21 +45,6 @@ fn unread(kind: io::ErrorKind) -> Status
     }
 }
 
-// Runs the command of these arguments.
-fn run_args<D: Desk>(alloc: Global, args: Args, desk: &mut D) -> Status
-    requires { NoneAttached (D.outside desk.old).attached }
-    ensures { IsRun (command_of (words_in (into_iter_items args))) result
-        (D.outside desk.old) (D.outside desk.new) }
-{
-    let Ok(words) = words_of(alloc, args) else {
-        return Status::OutOfMemory;
-    };
-    match texts_of(alloc, &words) {
-        Ok(texts) => run(alloc, &texts, desk),
-        Err(_) => Status::OutOfMemory,
-    }
-}
-
 /// How the process ends to which the host gave these arguments: the status of a run whose words are
 /// all of them but the first, the program's name. Where the host could not give them the desk is
 /// left alone.
@@ -71,8 +56,16 @@ pub fn code_for<D: Desk>(alloc: Global, args: io::Result<Args>, desk: &mut D) ->
         (λ fault. exit_status result ≡ code_of (unread_words (error_kind fault))) }
     ensures untouched { OnErr args (desk.new ≡ desk.old) }
 {
-    match args {
-        Ok(args) => ExitCode::from(run_args(alloc, args, desk).code()),
-        Err(fault) => ExitCode::from(unread(fault.kind()).code()),
-    }
+    let args = match args {
+        Ok(args) => args,
+        Err(fault) => return ExitCode::from(unread(fault.kind()).code()),
+    };
+    let Ok(words) = words_of(alloc, args) else {
+        return ExitCode::from(Status::OutOfMemory.code());
+    };
+    let status = match texts_of(alloc, &words) {
+        Ok(texts) => run(alloc, &texts, desk),
+        Err(_) => Status::OutOfMemory,
+    };
+    ExitCode::from(status.code())
 }

@@ -1,17 +1,22 @@
 //! The top call.
-ghost use Rattle.std.specs.Prelude.{◌≡◌, Some};
+ghost use Rattle.std.specs.Prelude.{◌≡◌};
 ghost use Rattle.h263_outside.specs.Desk.{NoneAttached};
 ghost use Rattle.command_words.specs.Clap.{texts};
-ghost use Rattle.command_words.specs.View.{asked_of};
 ghost use Rattle.h263rps_run.specs.Output.{command_of, word_stop};
-ghost use Rattle.h263rps_run.specs.Promises.{IsReady, IsRun};
+ghost use Rattle.h263rps_run.specs.Promises.{IsRun};
 
-use crate::Status;
-use crate::commands::{audit, call, demo, duplex, rate, recv, send};
+use crate::roles::put_roles;
+use crate::{Status, laws};
+use audit_command::Audit;
+use call_command::{Call, Terms};
 use command_words::{Command, WordStop, Words, laws as command_words_laws};
-use demo_command::DemoTerms;
-use desk_program::{attach_role, finish};
+use demo_command::{Demo, DemoTerms};
+use desk_program::{attach_role, finish, perform};
+use duplex_command::Duplex;
 use h263_outside::{Desk, Role};
+use rate_command::{Bucket, Rate};
+use recv_command::{Join, Recv};
+use send_command::{Send, Sending};
 use std::alloc::Global;
 
 // How a run ends whose words are no command.
@@ -24,15 +29,37 @@ fn unasked(stop: WordStop) -> Status
     }
 }
 
-// Runs the command of these words, on a desk on which the report alone is attached.
-fn carry_out<D: Desk>(alloc: Global, words: &Words<'_>, desk: &mut D) -> Status
-    requires { IsReady (asked_of words.now) words.now.command (D.outside desk.old) }
-    ensures { IsRun (Some (asked_of words.now)) result (D.outside desk.old) (D.outside desk.new) }
+/// Runs the command that the words are, on a desk with nothing attached.
+pub fn run<D: Desk>(alloc: Global, words: &[&str], desk: &mut D) -> Status
+    requires { NoneAttached (D.outside desk.old).attached }
+    ensures { IsRun
+        (command_of (texts words.now)) result (D.outside desk.old) (D.outside desk.new) }
 {
+    command_words_laws::names_are_given();
+    laws::refused_videos();
+    if let Err(status) = attach_role(desk, Role::Report, "") {
+        return status;
+    }
+    let words = match Words::read(alloc, words) {
+        Ok(words) => words,
+        Err(stop) => return finish(desk, unasked(stop)),
+    };
+    let mut places = [(Role::Report, ""); 6];
+    let count = put_roles(&words, &mut places);
+    let roles = &places[..count];
     match words.command() {
-        Command::Call { params, traced } => call(alloc, words, params, traced, desk),
-        Command::Send { params, target } => send(alloc, words, params, target, desk),
-        Command::Recv { params, join } => recv(alloc, words, params, join, desk),
+        Command::Call { params, traced } => {
+            let plain = !traced;
+            perform::<D, Call>(alloc, &Terms { params, plain }, roles, desk)
+        }
+        Command::Send { params, target } => {
+            perform::<D, Send>(alloc, &Sending { params, target }, roles, desk)
+        }
+        Command::Recv {
+            params,
+            join: false,
+        } => perform::<D, Recv>(alloc, &params, roles, desk),
+        Command::Recv { params, join: true } => perform::<D, Join>(alloc, &params, roles, desk),
         Command::Demo {
             params,
             seed,
@@ -43,27 +70,12 @@ fn carry_out<D: Desk>(alloc: Global, words: &Words<'_>, desk: &mut D) -> Status
                 seed,
                 frames,
             };
-            demo(alloc, words, &terms, desk)
+            perform::<D, Demo>(alloc, &terms, roles, desk)
         }
-        Command::Rate { target, bucket } => rate(alloc, words, target, bucket, desk),
-        Command::Audit { params } => audit(alloc, words, params, desk),
-        Command::Duplex { params } => duplex(alloc, words, params, desk),
+        Command::Rate { target, bucket } => {
+            perform::<D, Rate>(alloc, &Bucket { target, bucket }, roles, desk)
+        }
+        Command::Audit { params } => perform::<D, Audit>(alloc, &params, roles, desk),
+        Command::Duplex { params } => perform::<D, Duplex>(alloc, &params, roles, desk),
     }
-}
-
-/// Runs the command that the words are, on a desk with nothing attached.
-pub fn run<D: Desk>(alloc: Global, words: &[&str], desk: &mut D) -> Status
-    requires { NoneAttached (D.outside desk.old).attached }
-    ensures { IsRun
-        (command_of (texts words.now)) result (D.outside desk.old) (D.outside desk.new) }
-{
-    command_words_laws::names_are_given();
-    if let Err(status) = attach_role(desk, Role::Report, "") {
-        return status;
-    }
-    let words = match Words::read(alloc, words) {
-        Ok(words) => words,
-        Err(stop) => return finish(desk, unasked(stop)),
-    };
-    carry_out(alloc, &words, desk)
 }

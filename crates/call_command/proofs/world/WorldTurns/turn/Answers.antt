@@ -24,93 +24,89 @@ use Rattle.one_way.specs.Way.{CanSend, HoldsNetwork, kept_in, tally_of, way_of}
 use Rattle.call_encoding.specs.Frames.{Frame}
 use Rattle.call_model.specs.IdealCall.{Send}
 use Rattle.call_command.specs.declared.link.Link.{Link}
-use Rattle.call_command.specs.Call.{CallState, may_read}
+use Rattle.call_command.specs.Call.{CallState, may_read, talk_step}
 use Rattle.call_command.specs.Standing.{PartsStand, parts_of, state_of}
 use Rattle.call_command.specs.Turning.{Names, names_of}
-use Rattle.call_command.proofs.Counting.{counts_are, plainly, turn_gave_up, turn_goes_on, turn_is_over, turn_was_cut, video_answers}
+use Rattle.call_command.proofs.Counting.{counts_are, given_up, plainly, written_in_part}
 use Rattle.call_command.proofs.Framing.{among_last, at, count_of, may_deliver, may_play, may_send, stands_after, texts_are}
 use Rattle.call_command.proofs.FrameTurning.{end_cut, frame_cut, frame_goes, frame_stops, given_so, gives_so, lent, video_ends}
 use Rattle.call_command.proofs.Readying.{few_mbs, plain_keeps, ready_so}
-use Rattle.call_command.proofs.world.World.frame_turn.Goals as goal
+use Rattle.call_command.proofs.world.WorldTurns.turn.Goals as goal
 
-pub returns-in_err-frame : goal.returns-in_err-frame
-returns-in_err-frame g c =
+pub returns-then-not-self-clause-gives : goal.returns-then-not-self-clause-gives
+returns-then-not-self-clause-gives g c = λ s inputs k told.
+    c.line_turn.ensures.gives (g.D.Desk.outside c.args.desk.now) s inputs (record { stands = k; told = told; same = refl })
+
+pub returns-then-not-self-clause-whole : goal.returns-then-not-self-clause-whole
+returns-then-not-self-clause-whole g c = λ s inputs k told.
+    c.line_turn.ensures.whole (g.D.Desk.outside c.args.desk.now) s inputs (record { stands = k; told = told; same = refl })
+
+pub returns-in_err-frame-clause-gives : goal.returns-in_err-frame-clause-gives
+returns-in_err-frame-clause-gives g c = λ s inputs k told.
     let outside = g.D.Desk.outside in
     let old = outside c.args.desk.now in
     let mid = outside c.frame.new.desk in
-    let m = c.args.self.now in
-    let x = parts_of m in
+    let x = parts_of c.args.self.now in
     let stop = c.in_err-frame.field-0.0 in
-    turn_gave_up m _ old mid c.from_residual.result (video_stop stop) c.from_residual.ensures.1 refl (video_answers m.terms.plain stop) (c.step_laws.ensures.video_stops stop)
-    (c.step_laws.ensures.video_cause stop old.faults mid.faults (λ is. c.in_err-frame.ensures.cause (ap (λ e. Err e) is))) (c.step_laws.ensures.reads old mid c.frame.ensures.rest)
-    (λ s inputs k told.
     let here = state_of x s.before s.frames s.past in
-    let e = gives_so (Err stop) here x.video c.frame.new.self (inputs Video) c.frame.new.out _ refl refl c.requires.ready.format (c.in_err-frame.ensures.gives (inputs Video) (told Video refl)) in
-    plainly x s inputs k.is c.requires.plain (λ (step : Step CallState) (now : Bool). GivesUp (phase (video_stop stop)) (video_stop stop) step now inputs old mid)
-    (frame_stops c.turn_laws.ensures c.video_laws.ensures inputs old mid told c.frame.ensures.others c.frame.ensures.rest.written here (c.requires.ready.unread c.requires.plain) stop c.frame.new.out c.frame.new.self e))
-    (λ s stand. stand)
+    let plain : x.terms.plain ≡ true = c.if-not-self.false in
+    let e = gives_so (Err stop) here x.video c.frame.new.self (inputs Video) c.frame.new.out _ refl refl c.requires.format (c.in_err-frame.ensures.gives (inputs Video) (told Video refl)) in
+    given_up (talk_step s inputs) _ (may_read s) inputs old mid c.from_residual.result (video_stop stop) c.from_residual.ensures.1
+    (plainly x s inputs k.is plain (λ (step : Step CallState) (now : Bool). GivesUp (phase (video_stop stop)) (video_stop stop) step now inputs old mid)
+    (frame_stops c.turn_laws.ensures c.video_laws.ensures inputs old mid told c.frame.ensures.others c.frame.ensures.rest.written here (c.requires.unread plain) stop c.frame.new.out c.frame.new.self e))
 
-pub returns-in_err-tell_counts : goal.returns-in_err-tell_counts
-returns-in_err-tell_counts g c =
+pub returns-in_err-tell_counts-clause-gives : goal.returns-in_err-tell_counts-clause-gives
+returns-in_err-tell_counts-clause-gives g c = λ s inputs k told.
     let outside = g.D.Desk.outside in
     let old = outside c.args.desk.now in
     let mid = outside c.frame.new.desk in
     let new = outside c.tell_counts.new.desk in
-    let m = c.args.self.now in
-    let x = parts_of m in
+    let x = parts_of c.args.self.now in
     let counts = counts_of (tally_of (way_of x.link.network)) x.receiver.played x.sender.sent in
-    turn_was_cut m _ old new c.from_residual-in_err-tell_counts.result c.in_err-tell_counts.field-0.0 c.from_residual-in_err-tell_counts.ensures.1 refl c.in_err-tell_counts.ensures.kind
-    (c.calls.ensures.rose_since old.faults.write mid.faults.write new.faults.write c.frame.ensures.rest.faults.write c.in_err-tell_counts.ensures.cause)
-    (c.step_laws.ensures.both old mid new (c.step_laws.ensures.reads old mid c.frame.ensures.rest) (c.step_laws.ensures.writes mid new c.tell_counts.ensures.rest))
-    (λ s inputs k told.
     let here = state_of x s.before s.frames s.past in
-    let e = given_so (Ok c.in_ok-frame.field-0) (Ok false) here x.video c.frame.new.self (inputs Video) c.frame.new.out _ (ap (λ (b : Bool). Ok b) c.if-not-branch.true) refl refl c.requires.ready.format (c.in_ok-frame.ensures.gives (inputs Video) (told Video refl)) in
-    plainly x s inputs k.is c.requires.plain (λ (step : Step CallState) (now : Bool). GainsFronts (step_texts step) old.written new.written)
+    let e = given_so (Ok c.in_ok-frame.field-0) (Ok false) here x.video c.frame.new.self (inputs Video) c.frame.new.out _ (ap (λ (b : Bool). Ok b) c.if-not-branch.true) refl refl c.requires.format (c.in_ok-frame.ensures.gives (inputs Video) (told Video refl)) in
+    written_in_part (talk_step s inputs) _ (may_read s) inputs old new c.from_residual-in_err-tell_counts.result c.in_err-tell_counts.field-0.0 c.from_residual-in_err-tell_counts.ensures.1 c.in_err-tell_counts.ensures.kind
+    (plainly x s inputs k.is c.if-not-self.false (λ (step : Step CallState) (now : Bool). GainsFronts (step_texts step) old.written new.written)
     (end_cut c.turn_laws.ensures c.video_laws.ensures inputs old mid told c.frame.ensures.others c.frame.ensures.rest.written new c.tell_counts.ensures.rest.left here c.frame.new.out c.frame.new.self e
     counts (counts_are x (c.way_laws.ensures x.terms.params) s inputs k) c.in_err-tell_counts.ensures.err))
 
-pub returns-then-not-branch : goal.returns-then-not-branch
-returns-then-not-branch g c =
+pub returns-then-not-branch-clause-gives : goal.returns-then-not-branch-clause-gives
+returns-then-not-branch-clause-gives g c = λ s inputs k told.
     let outside = g.D.Desk.outside in
     let old = outside c.args.desk.now in
     let mid = outside c.frame.new.desk in
     let new = outside c.tell_counts.new.desk in
-    let m = c.args.self.now in
-    let x = parts_of m in
+    let x = parts_of c.args.self.now in
     let counts = counts_of (tally_of (way_of x.link.network)) x.receiver.played x.sender.sent in
-    turn_is_over m _ old new refl (c.step_laws.ensures.both old mid new (c.step_laws.ensures.reads old mid c.frame.ensures.rest) (c.step_laws.ensures.writes mid new c.tell_counts.ensures.rest))
-    (λ s inputs k told.
     let here = state_of x s.before s.frames s.past in
-    let e = given_so (Ok c.in_ok-frame.field-0) (Ok false) here x.video c.frame.new.self (inputs Video) c.frame.new.out _ (ap (λ (b : Bool). Ok b) c.if-not-branch.true) refl refl c.requires.ready.format (c.in_ok-frame.ensures.gives (inputs Video) (told Video refl)) in
-    plainly x s inputs k.is c.requires.plain (λ (step : Step CallState) (now : Bool). Ended step Fine inputs old new)
+    let e = given_so (Ok c.in_ok-frame.field-0) (Ok false) here x.video c.frame.new.self (inputs Video) c.frame.new.out _ (ap (λ (b : Bool). Ok b) c.if-not-branch.true) refl refl c.requires.format (c.in_ok-frame.ensures.gives (inputs Video) (told Video refl)) in
+    plainly x s inputs k.is c.if-not-self.false (λ (step : Step CallState) (now : Bool). Ended step Fine inputs old new)
     (video_ends c.turn_laws.ensures c.video_laws.ensures inputs old mid told c.frame.ensures.others c.frame.ensures.rest.written new c.tell_counts.ensures.rest.left here c.frame.new.out c.frame.new.self e
-    counts (counts_are x (c.way_laws.ensures x.terms.params) s inputs k) c.in_ok-tell_counts.ensures.ok))
-    (λ s inputs k told.
-    let here = state_of x s.before s.frames s.past in
-    let e = given_so (Ok c.in_ok-frame.field-0) (Ok false) here x.video c.frame.new.self (inputs Video) c.frame.new.out _ (ap (λ (b : Bool). Ok b) c.if-not-branch.true) refl refl c.requires.ready.format (c.in_ok-frame.ensures.gives (inputs Video) (told Video refl)) in
-    let out = ap (λ (l : Role → Option (List ℕ)). l Video) c.tell_counts.ensures.rest.left ∙ e.1 in
-    subst (λ (b : Bool). new.left (if b then Video else Events) ≡ Some []) (sym c.requires.plain) out)
-    (λ s stand. stand)
+    counts (counts_are x (c.way_laws.ensures x.terms.params) s inputs k) c.in_ok-tell_counts.ensures.ok)
 
-pub returns-in_err-play_next : goal.returns-in_err-play_next
-returns-in_err-play_next g c =
+pub returns-then-not-branch-clause-whole : goal.returns-then-not-branch-clause-whole
+returns-then-not-branch-clause-whole g c = λ s inputs k told.
+    let new = g.D.Desk.outside c.tell_counts.new.desk in
+    let x = parts_of c.args.self.now in
+    let here = state_of x s.before s.frames s.past in
+    let e = given_so (Ok c.in_ok-frame.field-0) (Ok false) here x.video c.frame.new.self (inputs Video) c.frame.new.out _ (ap (λ (b : Bool). Ok b) c.if-not-branch.true) refl refl c.requires.format (c.in_ok-frame.ensures.gives (inputs Video) (told Video refl)) in
+    let out = ap (λ (l : Role → Option (List ℕ)). l Video) c.tell_counts.ensures.rest.left ∙ e.1 in
+    subst (λ (b : Bool). new.left (if b then Video else Events) ≡ Some []) (sym c.if-not-self.false) out
+
+pub returns-in_err-play_next-clause-gives : goal.returns-in_err-play_next-clause-gives
+returns-in_err-play_next-clause-gives g c = λ s inputs k told.
     let outside = g.D.Desk.outside in
     let old = outside c.args.desk.now in
     let mid = outside c.frame.new.desk in
     let new = outside c.play_next.new.desk in
-    let m = c.args.self.now in
-    let x = parts_of m in
+    let x = parts_of c.args.self.now in
     let p = x.terms.params in
-    let r = c.requires.ready in
+    let r = c.requires in
+    let plain : x.terms.plain ≡ true = c.if-not-self.false in
     let out = c.frame.new.out in
     let n = c.send-sent.result in
-    turn_was_cut m _ old new c.from_residual-in_err-play_next.result c.in_err-play_next.field-0.0 c.from_residual-in_err-play_next.ensures.1
-    (ap (λ (q : FixedPace). let names : Names = record (names_of m) { pace = q } in names) c.send-sent.ensures.same.pace) c.in_err-play_next.ensures.kind
-    (c.calls.ensures.rose_since old.faults.write mid.faults.write new.faults.write c.frame.ensures.rest.faults.write c.in_err-play_next.ensures.cause)
-    (c.step_laws.ensures.both old mid new (c.step_laws.ensures.reads old mid c.frame.ensures.rest) (c.step_laws.ensures.writes mid new c.play_next.ensures.rest))
-    (λ s inputs k told.
     let here = state_of x s.before s.frames s.past in
-    let level = r.level c.requires.plain in
+    let level = r.level plain in
     let laws = c.way_laws.ensures p in
     let events = c.event_laws.ensures p in
     let later_law = c.later_frames.ensures p in
@@ -124,25 +120,26 @@ returns-in_err-play_next g c =
     (at x laws events later_law s inputs k level out [] ∙ ap (λ (o : Picture). Some (bare o)) (sym picture_is)) (may_send x laws events later_law s inputs k level out [])
     in
     let delivered = c.deliver_all.ensures.holds p c.send-sent.new.sender s.before all (Send ∷ s.past) sent
-    (among_last x laws events later_law s inputs k level out [] (way_of c.send-sent.new.self) n number (plain_keeps x.terms _ (c.send-sent.ensures.kept ∙ r.period) c.requires.plain))
+    (among_last x laws events later_law s inputs k level out [] (way_of c.send-sent.new.self) n number (plain_keeps x.terms _ (c.send-sent.ensures.kept ∙ r.period) plain))
     (may_deliver x laws events later_law s inputs k level out [] n number)
     in
     let texts = texts_are x laws events later_law s inputs k level out n c.deliver_all.new.receiver.played number c.deliver_all.ensures.played in
-    plainly x s inputs k.is c.requires.plain (λ (step : Step CallState) (now : Bool). GainsFronts (step_texts step) old.written new.written)
-    (frame_cut c.turn_laws.ensures c.video_laws.ensures inputs old mid told c.frame.ensures.others c.frame.ensures.rest.written new c.play_next.ensures.rest.left here (r.unread c.requires.plain) out c.frame.new.self e _ texts
+    written_in_part (talk_step s inputs) _ (may_read s) inputs old new c.from_residual-in_err-play_next.result c.in_err-play_next.field-0.0 c.from_residual-in_err-play_next.ensures.1 c.in_err-play_next.ensures.kind
+    (plainly x s inputs k.is plain (λ (step : Step CallState) (now : Bool). GainsFronts (step_texts step) old.written new.written)
+    (frame_cut c.turn_laws.ensures c.video_laws.ensures inputs old mid told c.frame.ensures.others c.frame.ensures.rest.written new c.play_next.ensures.rest.left here (r.unread plain) out c.frame.new.self e _ texts
     (c.in_err-play_next.ensures.err p c.send-sent.new.sender s.before all _ k.begun delivered
     (may_play x laws events later_law s inputs k level out [] n (count_of x laws events later_law s inputs k level out [] n)))))
 
-pub returns : goal.returns
-returns g c =
+pub returns-clause-gives : goal.returns-clause-gives
+returns-clause-gives g c = λ s inputs k told.
     let outside = g.D.Desk.outside in
     let old = outside c.args.desk.now in
     let mid = outside c.frame.new.desk in
     let new = outside c.play_next.new.desk in
-    let m = c.args.self.now in
-    let x = parts_of m in
+    let x = parts_of c.args.self.now in
     let p = x.terms.params in
-    let r = c.requires.ready in
+    let r = c.requires in
+    let plain : x.terms.plain ≡ true = c.if-not-self.false in
     let out = c.frame.new.out in
     let n = c.send-sent.result in
     let sender = c.send-sent.new.sender in
@@ -150,22 +147,7 @@ returns g c =
     let network = c.play_next.new.network in
     let link : Link = record x.link { frame = with_items x.link.frame out; network = network } in
     let moves = subst (λ (b : Bool). Moves (Ok b) x.video c.frame.new.self) c.if-not-branch.false c.in_ok-frame.ensures.moves in
-    let long : length link.frame.items ≡ size_of_picture p.format =
-    ap (λ (l : List ℕ). length l) (with_items_is x.link.frame out (omega (arith, c.frame.auto.out, c.deref_mut.ensures.len, x.link.frame.ok.0)))
-    ∙ omega (arith, c.frame.auto.out, c.deref_mut.ensures.len, x.link.frame.ok.0, r.frame)
-    in
-    let level = r.level c.requires.plain in
-    turn_goes_on m _ old new (ap (λ (q : FixedPace). let names : Names = record (names_of m) { pace = q } in names) c.send-sent.ensures.same.pace)
-    (subst (λ (b : Bool). (if b then c.frame.new.self.more else 16777216 - x.link.trace.lines) + 1 ≡ (if b then x.video.more else 16777216 - x.link.trace.lines)) (sym c.requires.plain) moves.1)
-    (ready_so x old.attached new.attached r (c.play_next.ensures.rest.attached ∙ c.frame.ensures.rest.attached) c.frame.new.self sender receiver link moves.0 c.send-sent.ensures.same.params
-    (c.play_next.ensures.way.can sender (subst (λ (w : Way). CanSend w sender) (sym c.deliver_all.ensures.way) c.send-sent.ensures.ready))
-    (c.play_next.ensures.way.kept ∙ ap kept_in c.deliver_all.ensures.way ∙ c.send-sent.ensures.kept)
-    (omega (arith, r.sent, c.send-sent.ensures.sent, moves.1)) (omega (arith, r.played, c.send-sent.ensures.sent, c.play_next.ensures.played, c.deliver_all.ensures.played))
-    (λ plain. omega (arith, level, c.send-sent.ensures.sent, c.play_next.ensures.played, c.deliver_all.ensures.played))
-    long (λ plain. r.unread plain) r.few c.play_next.ensures.counted
-    (omega (arith, r.said, c.play_next.ensures.few, c.deliver_all.ensures.few, c.send-sent.ensures.messages.said, c.send-sent.ensures.ready.most, few_mbs sender.params.format, c.send-sent.ensures.sent)))
-    (c.step_laws.ensures.both old mid new (c.step_laws.ensures.reads old mid c.frame.ensures.rest) (c.step_laws.ensures.writes mid new c.play_next.ensures.rest))
-    (λ s inputs k told.
+    let level = r.level plain in
     let here = state_of x s.before s.frames s.past in
     let laws = c.way_laws.ensures p in
     let events = c.event_laws.ensures p in
@@ -183,7 +165,7 @@ returns g c =
     (at x laws events later_law s inputs k level out later ∙ ap (λ (o : Picture). Some (bare o)) (sym picture_is)) (may_send x laws events later_law s inputs k level out later)
     in
     c.deliver_all.ensures.holds p sender s.before all (Send ∷ s.past) sent
-    (among_last x laws events later_law s inputs k level out later (way_of c.send-sent.new.self) n number (plain_keeps x.terms _ (c.send-sent.ensures.kept ∙ r.period) c.requires.plain))
+    (among_last x laws events later_law s inputs k level out later (way_of c.send-sent.new.self) n number (plain_keeps x.terms _ (c.send-sent.ensures.kept ∙ r.period) plain))
     (may_deliver x laws events later_law s inputs k level out later n number)
     in
     let played : (later : List Frame) → HoldsNetwork p network sender receiver s.before (s.frames ++ f ∷ later) (passed_on n (count_of x laws events later_law s inputs k level out later n) s.past) =
@@ -193,9 +175,9 @@ returns g c =
     let texts = texts_are x laws events later_law s inputs k level out n c.deliver_all.new.receiver.played number c.deliver_all.ensures.played in
     let stands = PartsStand (record { terms = x.terms; video = c.frame.new.self; sender = sender; receiver = receiver; link = link }) in
     let size = frame_size p.format (inputs Video) in
-    plainly x s inputs k.is c.requires.plain (λ (step : Step CallState) (now : Bool). Went step stands may_read now inputs old new)
-    (frame_goes c.turn_laws.ensures c.video_laws.ensures inputs old mid told c.frame.ensures.others c.frame.ensures.rest.written new c.play_next.ensures.rest.left here (r.unread c.requires.plain) out c.frame.new.self e _ texts
+    plainly x s inputs k.is plain (λ (step : Step CallState) (now : Bool). Went step stands may_read now inputs old new)
+    (frame_goes c.turn_laws.ensures c.video_laws.ensures inputs old mid told c.frame.ensures.others c.frame.ensures.rest.written new c.play_next.ensures.rest.left here (r.unread plain) out c.frame.new.self e _ texts
     stands
     (stands_after x laws events later_law s inputs k level out c.frame.new.self sender receiver link n size (left_after inputs (of Video size)) number played refl c.send-sent.ensures.sent e.2 moves.1 refl)
     (c.in_ok-play_next.ensures.ok p sender s.before (s.frames ++ f ∷ []) _ k.begun (delivered [])
-    (may_play x laws events later_law s inputs k level out [] n (count_of x laws events later_law s inputs k level out [] n)))))
+    (may_play x laws events later_law s inputs k level out [] n (count_of x laws events later_law s inputs k level out [] n))))
