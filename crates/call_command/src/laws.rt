@@ -1,9 +1,10 @@
 //! What a call comes to, and what its machine rests on. Each law is the contract of a function that
 //! does nothing else.
-ghost use Rattle.std.specs.Prelude.{◌≡◌, ℕ, List, [], false, true, Ok, Err, Some};
+ghost use Rattle.std.specs.Prelude.{◌≡◌, ◌≤◌, ℕ, List, [], false, true, Ok, Err, Some};
 ghost use Rattle.h263_types.specs.declared.format.Format.{Format};
 ghost use Rattle.h263_types.specs.declared.params.Params.{Params};
 ghost use Rattle.h263_types.specs.Params.{IsParams};
+ghost use Rattle.h263_outside.specs.Desk.{Rose};
 ghost use Rattle.h263_outside.specs.declared.desk.Role.{Role};
 ghost use Rattle.h263_outside.specs.declared.desk.Role.TheVariants.{Video};
 ghost use Rattle.y4m.specs.declared.fault.Y4mFault.{Y4mFault};
@@ -15,6 +16,9 @@ ghost use Rattle.call_encoding.specs.Frames.{Frame};
 ghost use Rattle.call_model.specs.IdealCall.{AllMayHappen, Event};
 ghost use Rattle.coded_call.specs.Coding.{coding};
 ghost use Rattle.one_way.specs.Both.{steady};
+ghost use Rattle.one_way.specs.Laws.{EventLaws, NearLaws, WayLaws};
+ghost use Rattle.call_model.specs.LaterFrames.{LaterFramesBoth};
+ghost use Rattle.desk_program.specs.Laws.{StepLaws, TurnLaws};
 ghost use Rattle.desk_program.specs.Run.{refusal, run_from};
 ghost use Rattle.call_command.specs.declared.terms.Terms.{Terms};
 ghost use Rattle.call_command.specs.Call.{call_begin, call_step, most_turns};
@@ -26,8 +30,9 @@ use back_messages::MessageFault;
 use call_decoding::{Pictured, Styled};
 use call_encoding::Framed;
 use call_model::laws::{frames_by_events, later_frames, refusals, searches};
-use desk_program::laws::turn_laws;
+use desk_program::laws::{step_laws, turn_laws};
 use h263_bits::Fault;
+use h263_outside::laws::calls;
 use h263_types::Mb;
 use one_way::laws as one_way_laws;
 use y4m::laws::{cut_after, frame_by_frame};
@@ -117,6 +122,30 @@ pub fn video_laws()
     ensures { VideoLaws }
 {
     cut_after();
+}
+
+/// What a turn rests on: how its reads and writes add up (`turns`, `steps`), a fault that rose
+/// stays (`rose`), what is left of the video (`video`), what both ends have done (`way`), what an
+/// event leaves of them (`events`) and when it may happen (`near`), and that it doesn't matter to
+/// them which frames are still to come (`later`).
+pub fn turning()
+    ensures turns { TurnLaws }
+    ensures steps { StepLaws }
+    ensures rose { (a b c : ℕ) → a ≤ b → Rose b c → Rose a c }
+    ensures video { VideoLaws }
+    ensures way { (p : Params) → WayLaws p }
+    ensures events { (p : Params) → EventLaws p }
+    ensures near { (p : Params) → IsParams p → NearLaws p }
+    ensures later { (p : Params) → LaterFramesBoth (coding p) (rules_of p) }
+{
+    turn_laws();
+    step_laws();
+    calls();
+    video_laws();
+    one_way_laws::way_laws();
+    one_way_laws::event_laws();
+    one_way_laws::near_event_laws();
+    one_way_laws::later_frames();
 }
 
 /// What the turns of lines take and leave of a trace, whatever a machine keeps in mind.

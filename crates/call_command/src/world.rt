@@ -4,15 +4,12 @@ ghost use Rattle.std.specs.Prelude.{◌≡◌, ◌+◌, ◌*◌, ◌≤◌, List
 use crate::show::{play_next, tell_counts};
 use crate::{Terms, allow, laws};
 use call_report::Status;
-use desk_program::{Turns, laws as desk_program_laws};
-use h263_outside::{Desk, laws as outside_laws};
+use desk_program::Turns;
+use h263_outside::Desk;
 use h263_planes::PictureRef;
 use h263_types::FixedPace;
 use loss_trace::{Event, TraceFault, TraceReader};
-use one_way::{
-    EventRefusal, Network, check_back, check_capture, check_packet, check_play,
-    laws as one_way_laws,
-};
+use one_way::{EventRefusal, Network, check_back, check_capture, check_packet, check_play};
 use receiver_end::Receiver;
 use sender_end::Sender;
 use y4m::Y4mReader;
@@ -38,10 +35,7 @@ impl<'a> World<'a> {
         requires recorded { self.old.terms.plain ≡ false }
         ensures { TakesTurn self.old self.new result (D.outside desk.old) (D.outside desk.new) }
     {
-        desk_program_laws::turn_laws();
-        desk_program_laws::step_laws();
-        outside_laws::calls();
-        one_way_laws::way_laws();
+        laws::turning();
         let Some((line, event)) = self.trace.next(desk)? else {
             tell_counts(desk, &self.network, self.sender, self.receiver)?;
             return Ok(false);
@@ -57,11 +51,7 @@ impl<'a> World<'a> {
         ensures { TakesLine self.old self.new line event result
             (D.outside desk.old) (D.outside desk.new) }
     {
-        desk_program_laws::turn_laws();
-        desk_program_laws::step_laws();
-        one_way_laws::later_frames();
-        one_way_laws::way_laws();
-        one_way_laws::near_event_laws();
+        laws::turning();
         let half = self.terms.params.clock.half();
         match event {
             Event::Nothing => Ok(true),
@@ -99,13 +89,7 @@ impl<'a> World<'a> {
         ensures { TakesFrame self.old self.new line result
             (D.outside desk.old) (D.outside desk.new) }
     {
-        desk_program_laws::turn_laws();
-        desk_program_laws::step_laws();
-        outside_laws::calls();
-        laws::video_laws();
-        one_way_laws::later_frames();
-        one_way_laws::way_laws();
-        one_way_laws::near_event_laws();
+        laws::turning();
         if !self.video.frame(desk, &mut self.frame)? {
             return Err(Status::TraceRefused {
                 fault: TraceFault::NoFrame { line },
@@ -150,13 +134,7 @@ impl<'a> Turns for World<'a> {
         if !self.terms.plain {
             return self.line_turn(desk);
         }
-        desk_program_laws::turn_laws();
-        desk_program_laws::step_laws();
-        outside_laws::calls();
-        laws::video_laws();
-        one_way_laws::way_laws();
-        one_way_laws::event_laws();
-        one_way_laws::later_frames();
+        laws::turning();
         if !self.video.frame(desk, &mut self.frame)? {
             tell_counts(desk, &self.network, self.sender, self.receiver)?;
             return Ok(false);

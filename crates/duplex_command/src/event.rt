@@ -9,14 +9,13 @@ ghost use Rattle.duplex_command.specs.Turning.{MayCapture, TakesEvent, TakesFram
 
 use crate::show::play_next;
 use crate::{Station, laws, second_result};
-use call_command::{allow, laws as call_command_laws};
+use call_command::allow;
 use call_report::Status;
-use desk_program::laws as desk_program_laws;
 use duplex_call::Party;
 use duplex_ends::{
     check_delivery, check_play, check_send, deliver, deliver_all, laws as duplex_ends_laws,
 };
-use h263_outside::{Desk, Second, laws as outside_laws};
+use h263_outside::{Desk, Second};
 use h263_planes::PictureRef;
 use loss_trace::{Event, TraceFault};
 
@@ -44,12 +43,7 @@ fn send_frame<D: Desk>(
         → TakesFrame said.party own.old far own.new said.line result
         (D.outside desk.old) (D.outside desk.new) room }
 {
-    desk_program_laws::turn_laws();
-    outside_laws::calls();
-    call_command_laws::video_laws();
-    call_command_laws::line_laws();
-    desk_program_laws::step_laws();
-    laws::refused_exactly();
+    laws::turning();
     if !own.video.frame(desk, planes)? {
         return Err(Status::TraceRefused {
             fault: TraceFault::NoFrame { line: said.line },
@@ -74,10 +68,7 @@ fn party_turn<D: Desk>(
     ensures { TakesEvent Video Pictures Status.VideoRefused own.old far.old own.new far.new said
         result (D.outside desk.old) (D.outside desk.new) (length frame.old) }
 {
-    desk_program_laws::turn_laws();
-    call_command_laws::line_laws();
-    desk_program_laws::step_laws();
-    laws::refused_exactly();
+    laws::turning();
     match said.event {
         Event::Nothing => Ok(true),
         Event::Send => {

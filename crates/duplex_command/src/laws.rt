@@ -1,12 +1,18 @@
 //! What a call of two parties rests on. Each law is the contract of a function that does nothing
 //! else.
-ghost use Rattle.std.specs.Prelude.{◌≡◌, ℕ, List, Some, Ok, Err};
+ghost use Rattle.std.specs.Prelude.{◌≡◌, ◌≤◌, ℕ, List, Some, Ok, Err};
+ghost use Rattle.h263_outside.specs.Desk.{Rose};
 ghost use Rattle.h263_outside.specs.declared.desk.Role.{Role};
 ghost use Rattle.h263_outside.specs.declared.desk.Role.TheVariants.{Video, Video2};
 ghost use Rattle.y4m.specs.declared.fault.Y4mFault.{Y4mFault};
 ghost use Rattle.y4m.specs.Head.{head_of, head_size};
 ghost use Rattle.y4m.specs.Video.{video_fault};
 ghost use Rattle.call_report.specs.declared.status.Status.TheVariants.{VideoRefused, Video2Refused};
+ghost use Rattle.loss_trace.specs.declared.event.Event.{Event};
+ghost use Rattle.loss_trace.specs.Line.{IsLine};
+ghost use Rattle.loss_trace.specs.Reading.{event_in};
+ghost use Rattle.desk_program.specs.Laws.{StepLaws, TurnLaws};
+ghost use Rattle.call_command.specs.Laws.{LineLaws, VideoLaws};
 ghost use Rattle.duplex_call.specs.declared.line.Party.{Party};
 ghost use Rattle.duplex_call.specs.Duplex.{AllMayHappenOf, Lettered, way, ways_after};
 ghost use Rattle.duplex_call.specs.FourStores.{Follows};
@@ -20,15 +26,18 @@ ghost use Rattle.h263_types.specs.declared.params.Params.{Params};
 ghost use Rattle.h263_types.specs.Params.{IsParams};
 
 use back_messages::MessageFault;
-use call_command::laws::{frames_left, line_laws, what_arrived_is_shown};
+use call_command::laws::{frames_left, line_laws, video_laws, what_arrived_is_shown};
 use call_decoding::laws::are_rules;
 use call_decoding::{Pictured, Styled};
 use call_encoding::Framed;
 use call_model::laws::{frames_by_events, later_frames};
 use coded_call::laws::is_coding;
+use desk_program::laws::{step_laws, turn_laws};
 use duplex_call::laws::{each_way_is_near, four_stores as four_stores_of, two_way_refusals};
 use h263_bits::Fault;
+use h263_outside::laws::calls;
 use h263_types::Mb;
+use loss_trace::laws::exact_lines;
 use y4m::laws::frame_by_frame;
 
 /// Over a recorded trace, whatever bytes the trace and both videos are made of, a call of two
@@ -68,6 +77,28 @@ pub fn refused_exactly()
     ensures { (p : Party → Params) → NoneWhereItMayHappenOf (sides p) }
 {
     two_way_refusals::<Pictured, Framed, Styled, Mb, Pictured, Fault, MessageFault>();
+}
+
+/// What a turn rests on: how its reads and writes add up (`turns`, `steps`), a fault that rose
+/// stays (`rose`), what is left of the video (`video`) and of the trace (`lines`), what a line says
+/// (`read`), and which events are refused (`refused`).
+pub fn turning()
+    ensures turns { TurnLaws }
+    ensures steps { StepLaws }
+    ensures rose { (a b c : ℕ) → a ≤ b → Rose b c → Rose a c }
+    ensures video { VideoLaws }
+    ensures lines { LineLaws }
+    ensures read { (line : List ℕ) (event : Event) → event_in line ≡ Some event
+        → IsLine event line }
+    ensures refused { (p : Party → Params) → NoneWhereItMayHappenOf (sides p) }
+{
+    turn_laws();
+    step_laws();
+    calls();
+    video_laws();
+    line_laws();
+    exact_lines();
+    refused_exactly();
 }
 
 /// A video that is refused has that fault, and no earlier one: that of the first party (`first`),

@@ -2,15 +2,14 @@
 ghost use Rattle.std.specs.Prelude.{◌≡◌, ◌≤◌, MatchResult, None, Some, length, take};
 ghost use Rattle.duplex_call.specs.Lines.{party_event};
 
-use crate::Station;
 use crate::event::{TraceLine, event_turn};
 use crate::show::tell_counts;
-use call_command::laws as call_command_laws;
+use crate::{Station, laws};
 use call_report::Status;
-use desk_program::{Turns, laws as desk_program_laws};
+use desk_program::Turns;
 use duplex_call::{Party, party_line};
-use h263_outside::{Desk, laws as outside_laws};
-use loss_trace::{BadLine, Event, TraceFault, TraceReader, laws as loss_trace_laws};
+use h263_outside::Desk;
+use loss_trace::{BadLine, Event, TraceFault, TraceReader};
 
 /// The machine of a call of two parties: both of them, the reader of its trace, and room for a
 /// frame of either video. It must be finished.
@@ -52,11 +51,7 @@ impl Talk {
         requires { TalkReady self.old (D.outside desk.old).attached }
         ensures { TakesTurn self.old self.new result (D.outside desk.old) (D.outside desk.new) }
     {
-        desk_program_laws::turn_laws();
-        outside_laws::calls();
-        call_command_laws::line_laws();
-        desk_program_laws::step_laws();
-        loss_trace_laws::exact_lines();
+        laws::turning();
         let mut bytes = [0; 64];
         let Some((line, length)) = self.trace.raw(desk, &mut bytes)? else {
             tell_counts(desk, &self.a.ends, &self.b.ends)?;

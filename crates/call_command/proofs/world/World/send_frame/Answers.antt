@@ -39,13 +39,13 @@ returns-in_err-frame g c =
     let stop = c.in_err-frame.field-0.0 in
     let out = c.frame.new.out in
     gave_up m _ old mid (IsAsked x c.args.line old) (λ s inputs. capture_step s (inputs Events) (inputs Video)) (λ _. true) (more_of x + 1)
-    c.from_residual.result (video_stop stop) c.from_residual.ensures.1 refl (video_answers m.terms.plain stop) (c.step_laws.ensures.video_stops stop)
-    (c.step_laws.ensures.video_cause stop old.faults mid.faults (λ is. c.in_err-frame.ensures.cause (ap (λ e. Err e) is))) (c.step_laws.ensures.reads old mid c.frame.ensures.rest)
+    c.from_residual.result (video_stop stop) c.from_residual.ensures.1 refl (video_answers m.terms.plain stop) (c.turning.ensures.steps.video_stops stop)
+    (c.turning.ensures.steps.video_cause stop old.faults mid.faults (λ is. c.in_err-frame.ensures.cause (ap (λ e. Err e) is))) (c.turning.ensures.steps.reads old mid c.frame.ensures.rest)
     (λ o s inputs b.
     let k = b.read.stood in
     let taken = b.read.taken in
     let e = gives_so (Err stop) s x.video c.frame.new.self (inputs Video) out _ (video_more x s inputs k) (video_place x s inputs k) (video_format x s inputs k c.requires.ready.format) (c.in_err-frame.ensures.gives (inputs Video) (taken.left Video refl)) in
-    frame_stops c.turn_laws.ensures c.video_laws.ensures s inputs o old mid taken c.frame.ensures.others c.frame.ensures.rest.written c.frame.new.self out stop e)
+    frame_stops c.turning.ensures.turns c.turning.ensures.video s inputs o old mid taken c.frame.ensures.others c.frame.ensures.rest.written c.frame.new.self out stop e)
     (λ s stand. stand)
 
 pub returns-then-not-branch : goal.returns-then-not-branch
@@ -58,12 +58,12 @@ returns-then-not-branch g c =
     let out = c.frame.new.out in
     let status = TraceRefused (NoFrame c.args.line) in
     gave_up m _ old mid (IsAsked x c.args.line old) (λ s inputs. capture_step s (inputs Events) (inputs Video)) (λ _. true) (more_of x + 1)
-    (Err status) status refl refl c.requires.recorded tt tt (c.step_laws.ensures.reads old mid c.frame.ensures.rest)
+    (Err status) status refl refl c.requires.recorded tt tt (c.turning.ensures.steps.reads old mid c.frame.ensures.rest)
     (λ o s inputs b.
     let k = b.read.stood in
     let taken = b.read.taken in
     let e = given_so (Ok c.in_ok-frame.field-0) (Ok false) s x.video c.frame.new.self (inputs Video) out _ (ap (λ (b : Bool). Ok b) c.if-not-branch.true) (video_more x s inputs k) (video_place x s inputs k) (video_format x s inputs k c.requires.ready.format) (c.in_ok-frame.ensures.gives (inputs Video) (taken.left Video refl)) in
-    frame_missing c.turn_laws.ensures c.video_laws.ensures s inputs o old mid taken c.frame.ensures.others c.frame.ensures.rest.written c.frame.new.self out c.args.line b.read.number e)
+    frame_missing c.turning.ensures.turns c.turning.ensures.video s inputs o old mid taken c.frame.ensures.others c.frame.ensures.rest.written c.frame.new.self out c.args.line b.read.number e)
     (λ s stand. stand)
 
 pub returns : goal.returns
@@ -90,7 +90,7 @@ returns g c =
     (ready_so x old.attached mid.attached r c.frame.ensures.rest.attached c.frame.new.self sender x.receiver link moves.0 send.ensures.same.params send.ensures.ready send.ensures.kept
     (omega (arith, r.sent, send.ensures.sent, moves.1)) (omega (arith, r.played, send.ensures.sent)) (λ plain. absurd (cc (plain, c.requires.recorded))) long
     (λ plain. absurd (cc (plain, c.requires.recorded))) r.few (ap total_of send.ensures.tally ∙ r.counted) (omega (arith, r.said, send.ensures.messages.said, send.ensures.sent)))
-    (c.step_laws.ensures.reads old mid c.frame.ensures.rest)
+    (c.turning.ensures.steps.reads old mid c.frame.ensures.rest)
     (λ o s inputs b.
     let k = b.read.stood in
     let taken = b.read.taken in
@@ -102,11 +102,11 @@ returns g c =
     let sends : (later : List Frame) → HasDone sent_parts s.before (s.frames ++ f ∷ later) (Send ∷ s.past) = λ later.
     let all = s.frames ++ f ∷ later in
     let h = k.holds (f ∷ later) in
-    let coded = (c.way_laws.ensures p).sent x.sender x.receiver s.before all s.past h.way_holds.joined in
-    let none = refusal_later x s inputs k (c.later_frames.ensures p) Send (f ∷ later) ∙ sym (refusal_here x s inputs k Send) ∙ b.none in
+    let coded = (c.turning.ensures.way p).sent x.sender x.receiver s.before all s.past h.way_holds.joined in
+    let none = refusal_later x s inputs k (c.turning.ensures.later p) Send (f ∷ later) ∙ sym (refusal_here x s inputs k Send) ∙ b.none in
     send.ensures.holds p x.receiver s.before all s.past h
     (ap (λ (i : ℕ). slice_get all i) k.sent ∙ at_end s.frames later f ∙ ap (λ (o : Picture). Some (bare o)) (sym picture_is))
-    ((c.near_event_laws.ensures p r.opens.params).capture s.before all s.past none (omega (arith, coded, k.sent, below_end s.frames later f)))
+    ((c.turning.ensures.near p r.opens.params).capture s.before all s.past none (omega (arith, coded, k.sent, below_end s.frames later f)))
     in
-    frame_sent c.turn_laws.ensures c.video_laws.ensures s inputs o old mid taken c.frame.ensures.others c.frame.ensures.rest.written c.frame.new.self out e (PartsStand sent_parts)
+    frame_sent c.turning.ensures.turns c.turning.ensures.video s inputs o old mid taken c.frame.ensures.others c.frame.ensures.rest.written c.frame.new.self out e (PartsStand sent_parts)
     (stands_sent x s inputs k out c.frame.new.self sender link refl (frame_size s.params.format (inputs Video)) e.2 (moves.1 ∙ sym (video_more x s inputs k)) send.ensures.sent sends))

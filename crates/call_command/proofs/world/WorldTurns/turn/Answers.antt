@@ -53,7 +53,7 @@ returns-in_err-frame-clause-gives g c = λ s inputs k told.
     let e = gives_so (Err stop) here x.video c.frame.new.self (inputs Video) c.frame.new.out _ refl refl c.requires.format (c.in_err-frame.ensures.gives (inputs Video) (told Video refl)) in
     given_up (talk_step s inputs) _ (may_read s) inputs old mid c.from_residual.result (video_stop stop) c.from_residual.ensures.1
     (plainly x s inputs k.is plain (λ (step : Step CallState) (now : Bool). GivesUp (phase (video_stop stop)) (video_stop stop) step now inputs old mid)
-    (frame_stops c.turn_laws.ensures c.video_laws.ensures inputs old mid told c.frame.ensures.others c.frame.ensures.rest.written here (c.requires.unread plain) stop c.frame.new.out c.frame.new.self e))
+    (frame_stops c.turning.ensures.turns c.turning.ensures.video inputs old mid told c.frame.ensures.others c.frame.ensures.rest.written here (c.requires.unread plain) stop c.frame.new.out c.frame.new.self e))
 
 pub returns-in_err-tell_counts-clause-gives : goal.returns-in_err-tell_counts-clause-gives
 returns-in_err-tell_counts-clause-gives g c = λ s inputs k told.
@@ -67,8 +67,8 @@ returns-in_err-tell_counts-clause-gives g c = λ s inputs k told.
     let e = given_so (Ok c.in_ok-frame.field-0) (Ok false) here x.video c.frame.new.self (inputs Video) c.frame.new.out _ (ap (λ (b : Bool). Ok b) c.if-not-branch.true) refl refl c.requires.format (c.in_ok-frame.ensures.gives (inputs Video) (told Video refl)) in
     written_in_part (talk_step s inputs) _ (may_read s) inputs old new c.from_residual-in_err-tell_counts.result c.in_err-tell_counts.field-0.0 c.from_residual-in_err-tell_counts.ensures.1 c.in_err-tell_counts.ensures.kind
     (plainly x s inputs k.is c.if-not-self.false (λ (step : Step CallState) (now : Bool). GainsFronts (step_texts step) old.written new.written)
-    (end_cut c.turn_laws.ensures c.video_laws.ensures inputs old mid told c.frame.ensures.others c.frame.ensures.rest.written new c.tell_counts.ensures.rest.left here c.frame.new.out c.frame.new.self e
-    counts (counts_are x (c.way_laws.ensures x.terms.params) s inputs k) c.in_err-tell_counts.ensures.err))
+    (end_cut c.turning.ensures.turns c.turning.ensures.video inputs old mid told c.frame.ensures.others c.frame.ensures.rest.written new c.tell_counts.ensures.rest.left here c.frame.new.out c.frame.new.self e
+    counts (counts_are x (c.turning.ensures.way x.terms.params) s inputs k) c.in_err-tell_counts.ensures.err))
 
 pub returns-then-not-branch-clause-gives : goal.returns-then-not-branch-clause-gives
 returns-then-not-branch-clause-gives g c = λ s inputs k told.
@@ -81,8 +81,8 @@ returns-then-not-branch-clause-gives g c = λ s inputs k told.
     let here = state_of x s.before s.frames s.past in
     let e = given_so (Ok c.in_ok-frame.field-0) (Ok false) here x.video c.frame.new.self (inputs Video) c.frame.new.out _ (ap (λ (b : Bool). Ok b) c.if-not-branch.true) refl refl c.requires.format (c.in_ok-frame.ensures.gives (inputs Video) (told Video refl)) in
     plainly x s inputs k.is c.if-not-self.false (λ (step : Step CallState) (now : Bool). Ended step Fine inputs old new)
-    (video_ends c.turn_laws.ensures c.video_laws.ensures inputs old mid told c.frame.ensures.others c.frame.ensures.rest.written new c.tell_counts.ensures.rest.left here c.frame.new.out c.frame.new.self e
-    counts (counts_are x (c.way_laws.ensures x.terms.params) s inputs k) c.in_ok-tell_counts.ensures.ok)
+    (video_ends c.turning.ensures.turns c.turning.ensures.video inputs old mid told c.frame.ensures.others c.frame.ensures.rest.written new c.tell_counts.ensures.rest.left here c.frame.new.out c.frame.new.self e
+    counts (counts_are x (c.turning.ensures.way x.terms.params) s inputs k) c.in_ok-tell_counts.ensures.ok)
 
 pub returns-then-not-branch-clause-whole : goal.returns-then-not-branch-clause-whole
 returns-then-not-branch-clause-whole g c = λ s inputs k told.
@@ -107,9 +107,9 @@ returns-in_err-play_next-clause-gives g c = λ s inputs k told.
     let n = c.send-sent.result in
     let here = state_of x s.before s.frames s.past in
     let level = r.level plain in
-    let laws = c.way_laws.ensures p in
-    let events = c.event_laws.ensures p in
-    let later_law = c.later_frames.ensures p in
+    let laws = c.turning.ensures.way p in
+    let events = c.turning.ensures.events p in
+    let later_law = c.turning.ensures.later p in
     let e = given_so (Ok c.in_ok-frame.field-0) (Ok true) here x.video c.frame.new.self (inputs Video) out _ (ap (λ (b : Bool). Ok b) c.if-not-branch.false) refl refl r.format (c.in_ok-frame.ensures.gives (inputs Video) (told Video refl)) in
     let out_is : c.deref.result.now ≡ out = lent x.link.frame out c.deref.result.now _ c.deref.ensures.value c.frame.auto.out c.deref_mut.ensures.len in
     let picture_is : picture c.new-frame.result ≡ picture_of p.format out = c.new-frame.ensures.picture ∙ ap (λ (l : List ℕ). picture_of p.format l) out_is in
@@ -126,7 +126,7 @@ returns-in_err-play_next-clause-gives g c = λ s inputs k told.
     let texts = texts_are x laws events later_law s inputs k level out n c.deliver_all.new.receiver.played number c.deliver_all.ensures.played in
     written_in_part (talk_step s inputs) _ (may_read s) inputs old new c.from_residual-in_err-play_next.result c.in_err-play_next.field-0.0 c.from_residual-in_err-play_next.ensures.1 c.in_err-play_next.ensures.kind
     (plainly x s inputs k.is plain (λ (step : Step CallState) (now : Bool). GainsFronts (step_texts step) old.written new.written)
-    (frame_cut c.turn_laws.ensures c.video_laws.ensures inputs old mid told c.frame.ensures.others c.frame.ensures.rest.written new c.play_next.ensures.rest.left here (r.unread plain) out c.frame.new.self e _ texts
+    (frame_cut c.turning.ensures.turns c.turning.ensures.video inputs old mid told c.frame.ensures.others c.frame.ensures.rest.written new c.play_next.ensures.rest.left here (r.unread plain) out c.frame.new.self e _ texts
     (c.in_err-play_next.ensures.err p c.send-sent.new.sender s.before all _ k.begun delivered
     (may_play x laws events later_law s inputs k level out [] n (count_of x laws events later_law s inputs k level out [] n)))))
 
@@ -149,9 +149,9 @@ returns-clause-gives g c = λ s inputs k told.
     let moves = subst (λ (b : Bool). Moves (Ok b) x.video c.frame.new.self) c.if-not-branch.false c.in_ok-frame.ensures.moves in
     let level = r.level plain in
     let here = state_of x s.before s.frames s.past in
-    let laws = c.way_laws.ensures p in
-    let events = c.event_laws.ensures p in
-    let later_law = c.later_frames.ensures p in
+    let laws = c.turning.ensures.way p in
+    let events = c.turning.ensures.events p in
+    let later_law = c.turning.ensures.later p in
     let e = given_so (Ok c.in_ok-frame.field-0) (Ok true) here x.video c.frame.new.self (inputs Video) out _ (ap (λ (b : Bool). Ok b) c.if-not-branch.false) refl refl r.format (c.in_ok-frame.ensures.gives (inputs Video) (told Video refl)) in
     let out_is : c.deref.result.now ≡ out = lent x.link.frame out c.deref.result.now _ c.deref.ensures.value c.frame.auto.out c.deref_mut.ensures.len in
     let picture_is : picture c.new-frame.result ≡ picture_of p.format out = c.new-frame.ensures.picture ∙ ap (λ (l : List ℕ). picture_of p.format l) out_is in
@@ -176,7 +176,7 @@ returns-clause-gives g c = λ s inputs k told.
     let stands = PartsStand (record { terms = x.terms; video = c.frame.new.self; sender = sender; receiver = receiver; link = link }) in
     let size = frame_size p.format (inputs Video) in
     plainly x s inputs k.is plain (λ (step : Step CallState) (now : Bool). Went step stands may_read now inputs old new)
-    (frame_goes c.turn_laws.ensures c.video_laws.ensures inputs old mid told c.frame.ensures.others c.frame.ensures.rest.written new c.play_next.ensures.rest.left here (r.unread plain) out c.frame.new.self e _ texts
+    (frame_goes c.turning.ensures.turns c.turning.ensures.video inputs old mid told c.frame.ensures.others c.frame.ensures.rest.written new c.play_next.ensures.rest.left here (r.unread plain) out c.frame.new.self e _ texts
     stands
     (stands_after x laws events later_law s inputs k level out c.frame.new.self sender receiver link n size (left_after inputs (of Video size)) number played refl c.send-sent.ensures.sent e.2 moves.1 refl)
     (c.in_ok-play_next.ensures.ok p sender s.before (s.frames ++ f ∷ []) _ k.begun (delivered [])

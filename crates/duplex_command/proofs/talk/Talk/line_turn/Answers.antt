@@ -19,10 +19,10 @@ returns-in_err-line g c =
     let mid = outside c.raw.new.desk in
     let m = c.args.self.now in
     let stop = c.in_err-line.field-0.0 in
-    turn_gave_up m _ old mid c.from_residual.result (trace_stop stop) c.from_residual.ensures.1 (c.step_laws.ensures.trace_stops stop)
-    (c.step_laws.ensures.trace_cause stop old.faults mid.faults (λ is. c.in_err-line.ensures.cause (ap (λ e. Err e) is))) (c.step_laws.ensures.reads old mid c.raw.ensures.rest)
+    turn_gave_up m _ old mid c.from_residual.result (trace_stop stop) c.from_residual.ensures.1 (c.turning.ensures.steps.trace_stops stop)
+    (c.turning.ensures.steps.trace_cause stop old.faults mid.faults (λ is. c.in_err-line.ensures.cause (ap (λ e. Err e) is))) (c.turning.ensures.steps.reads old mid c.raw.ensures.rest)
     (λ s inputs k told.
-    trace_stops c.line_laws.ensures s inputs old mid (record { told = told; others = c.raw.ensures.others; written = c.raw.ensures.rest.written }) m.trace c.raw.new.self (record { lines_are = k.lines; ended_is = k.ended }) c.exact_lines.ensures.read c.raw.new.buf stop
+    trace_stops c.turning.ensures.lines s inputs old mid (record { told = told; others = c.raw.ensures.others; written = c.raw.ensures.rest.written }) m.trace c.raw.new.self (record { lines_are = k.lines; ended_is = k.ended }) c.turning.ensures.read c.raw.new.buf stop
     (c.in_err-line.ensures.gives (inputs Events) (told Events refl)) c.in_err-line.ensures.moves)
 
 pub returns-in_err-tell_counts : goal.returns-in_err-tell_counts
@@ -33,11 +33,11 @@ returns-in_err-tell_counts g c =
     let new = outside c.tell_counts.new.desk in
     let m = c.args.self.now in
     turn_was_cut m _ old new c.from_residual-in_err-tell_counts.result c.in_err-tell_counts.field-0.0 c.from_residual-in_err-tell_counts.ensures.1 c.in_err-tell_counts.ensures.kind
-    (c.calls.ensures.rose_since old.faults.write mid.faults.write new.faults.write c.raw.ensures.rest.faults.write c.in_err-tell_counts.ensures.cause)
-    (c.step_laws.ensures.both old mid new (c.step_laws.ensures.reads old mid c.raw.ensures.rest) (c.step_laws.ensures.writes mid new c.tell_counts.ensures.rest))
+    (c.turning.ensures.rose old.faults.write mid.faults.write new.faults.write c.raw.ensures.rest.faults.write c.in_err-tell_counts.ensures.cause)
+    (c.turning.ensures.steps.both old mid new (c.turning.ensures.steps.reads old mid c.raw.ensures.rest) (c.turning.ensures.steps.writes mid new c.tell_counts.ensures.rest))
     (λ s inputs k told.
     let e = says (Ok c.in_ok-line.field-0) (Ok None) m.trace c.raw.new.self (inputs Events) c.raw.new.buf _ (ap (λ (o : Option (ℕ × ℕ)). Ok o) c.in_default.is) (c.in_ok-line.ensures.gives (inputs Events) (told Events refl)) in
-    trace_cut c.line_laws.ensures s inputs old mid (record { told = told; others = c.raw.ensures.others; written = c.raw.ensures.rest.written }) m.trace c.raw.new.self (record { lines_are = k.lines; ended_is = k.ended }) c.raw.new.buf e k.over
+    trace_cut c.turning.ensures.lines s inputs old mid (record { told = told; others = c.raw.ensures.others; written = c.raw.ensures.rest.written }) m.trace c.raw.new.self (record { lines_are = k.lines; ended_is = k.ended }) c.raw.new.buf e k.over
     new c.tell_counts.ensures.rest.left (c.in_err-tell_counts.ensures.err s.params s.ways k.holds))
 
 pub returns-in_default : goal.returns-in_default
@@ -47,14 +47,14 @@ returns-in_default g c =
     let mid = outside c.raw.new.desk in
     let new = outside c.tell_counts.new.desk in
     let m = c.args.self.now in
-    turn_is_over m _ old new (c.step_laws.ensures.both old mid new (c.step_laws.ensures.reads old mid c.raw.ensures.rest) (c.step_laws.ensures.writes mid new c.tell_counts.ensures.rest))
+    turn_is_over m _ old new (c.turning.ensures.steps.both old mid new (c.turning.ensures.steps.reads old mid c.raw.ensures.rest) (c.turning.ensures.steps.writes mid new c.tell_counts.ensures.rest))
     (λ s inputs k told.
     let e = says (Ok c.in_ok-line.field-0) (Ok None) m.trace c.raw.new.self (inputs Events) c.raw.new.buf _ (ap (λ (o : Option (ℕ × ℕ)). Ok o) c.in_default.is) (c.in_ok-line.ensures.gives (inputs Events) (told Events refl)) in
-    trace_ends c.line_laws.ensures s inputs old mid (record { told = told; others = c.raw.ensures.others; written = c.raw.ensures.rest.written }) m.trace c.raw.new.self (record { lines_are = k.lines; ended_is = k.ended }) c.raw.new.buf e k.over
+    trace_ends c.turning.ensures.lines s inputs old mid (record { told = told; others = c.raw.ensures.others; written = c.raw.ensures.rest.written }) m.trace c.raw.new.self (record { lines_are = k.lines; ended_is = k.ended }) c.raw.new.buf e k.over
     new c.tell_counts.ensures.rest.left (c.in_ok-tell_counts.ensures.ok s.params s.ways k.holds))
     (λ s inputs k told.
     let e = says (Ok c.in_ok-line.field-0) (Ok None) m.trace c.raw.new.self (inputs Events) c.raw.new.buf _ (ap (λ (o : Option (ℕ × ℕ)). Ok o) c.in_default.is) (c.in_ok-line.ensures.gives (inputs Events) (told Events refl)) in
-    read_out c.line_laws.ensures s inputs old mid (record { told = told; others = c.raw.ensures.others; written = c.raw.ensures.rest.written }) m.trace c.raw.new.self (record { lines_are = k.lines; ended_is = k.ended }) c.raw.new.buf e k.over new c.tell_counts.ensures.rest.left)
+    read_out c.turning.ensures.lines s inputs old mid (record { told = told; others = c.raw.ensures.others; written = c.raw.ensures.rest.written }) m.trace c.raw.new.self (record { lines_are = k.lines; ended_is = k.ended }) c.raw.new.buf e k.over new c.tell_counts.ensures.rest.left)
 
 -- ---- after a line
 
@@ -78,7 +78,7 @@ returns-in-Ok-Some g c =
     let said : TraceLine = record { line = c.in-Some.line; party = c.in-Ok-Some.party; event = c.in-Ok-Some.event } in
     let out = c.event_turn.new.frame in
     let y : Talk = record { a = c.event_turn.new.a; b = c.event_turn.new.b; trace = c.raw.new.self; frame = with_items m.frame out } in
-    line_done c.line_laws.ensures c.step_laws.ensures m c.raw.new.self c.raw.new.buf found old mid
+    line_done c.turning.ensures.lines c.turning.ensures.steps m c.raw.new.self c.raw.new.buf found old mid
     (record {
       gives = λ rest left. says (Ok c.in_ok-line.field-0) (Ok (Some found)) m.trace c.raw.new.self rest c.raw.new.buf _ is (c.in_ok-line.ensures.gives rest left);
       moves = moved (Ok c.in_ok-line.field-0) (Ok (Some found)) m.trace c.raw.new.self is c.in_ok-line.ensures.moves;
@@ -97,14 +97,14 @@ returns-in-Ok-None g c =
     let m = c.args.self.now in
     let found : ℕ × ℕ = (c.in-Some.line, c.in-Some.length) in
     let is = ap (λ (o : Option (ℕ × ℕ)). Ok o) c.in-Some.is in
-    line_empty c.line_laws.ensures c.step_laws.ensures m c.raw.new.self c.raw.new.buf found old mid
+    line_empty c.turning.ensures.lines c.turning.ensures.steps m c.raw.new.self c.raw.new.buf found old mid
     (record {
       gives = λ rest left. says (Ok c.in_ok-line.field-0) (Ok (Some found)) m.trace c.raw.new.self rest c.raw.new.buf _ is (c.in_ok-line.ensures.gives rest left);
       moves = moved (Ok c.in_ok-line.field-0) (Ok (Some found)) m.trace c.raw.new.self is c.in_ok-line.ensures.moves;
       others = c.raw.ensures.others;
       rest = c.raw.ensures.rest;
     })
-    (λ le. c.in-Ok-None.ensures le ∙ ap (λ o. Some o) c.in-Ok-None.field-0-is) c.requires (c.turn_laws.ensures.no_text mid.written mid.written refl)
+    (λ le. c.in-Ok-None.ensures le ∙ ap (λ o. Some o) c.in-Ok-None.field-0-is) c.requires (c.turning.ensures.turns.no_text mid.written mid.written refl)
 
 pub returns-in-Err : goal.returns-in-Err
 returns-in-Err g c =
@@ -115,8 +115,8 @@ returns-in-Err g c =
     let found : ℕ × ℕ = (c.in-Some.line, c.in-Some.length) in
     let is = ap (λ (o : Option (ℕ × ℕ)). Ok o) c.in-Some.is in
     let status = TraceRefused (BadLine c.in-Some.line) in
-    turn_gave_up m _ old mid (Err status) status refl tt tt (c.step_laws.ensures.reads old mid c.raw.ensures.rest)
-    (line_bad c.line_laws.ensures c.step_laws.ensures m c.raw.new.self c.raw.new.buf found old mid
+    turn_gave_up m _ old mid (Err status) status refl tt tt (c.turning.ensures.steps.reads old mid c.raw.ensures.rest)
+    (line_bad c.turning.ensures.lines c.turning.ensures.steps m c.raw.new.self c.raw.new.buf found old mid
     (record {
       gives = λ rest left. says (Ok c.in_ok-line.field-0) (Ok (Some found)) m.trace c.raw.new.self rest c.raw.new.buf _ is (c.in_ok-line.ensures.gives rest left);
       moves = moved (Ok c.in_ok-line.field-0) (Ok (Some found)) m.trace c.raw.new.self is c.in_ok-line.ensures.moves;
