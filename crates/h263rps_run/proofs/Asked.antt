@@ -1,9 +1,8 @@
 -- A run by what its words ask for.
-use Rattle.std.proofs.Common.{◌≡◌, ◌⊎◌, inl, inr, ℕ, Bool, true, false, not, List, [], ◌∷◌, ◌||◌, Option, Some, None, IfSome, if◌then◌else◌, option_and_then, refl, sym, ap, ◌∙◌, subst}
-use Rattle.std.specs.List.{AllByRecursion}
+use Rattle.std.proofs.Common.{◌≡◌, ◌⊎◌, inl, inr, ℕ, Bool, true, false, not, List, [], ◌∷◌, ◌||◌, Option, Some, None, IfSome, if◌then◌else◌, refl, sym, ap, ◌∙◌, subst}
 use Rattle.h263_outside.specs.Desk.{Outside, NoneAttached, OnlyAttaches, OnlyWrites, SomeRose, Rose, with_role, is_role}
 use Rattle.h263_outside.specs.declared.desk.Role.{Role}
-use Rattle.h263_outside.specs.declared.desk.Role.TheVariants.{Video, Video2, Events, Report}
+use Rattle.h263_outside.specs.declared.desk.Role.TheVariants.{Video, Events, Report}
 use Rattle.y4m.specs.declared.fault.Y4mFault.{Y4mFault}
 use Rattle.y4m.specs.Video.{video_fault}
 use Rattle.call_report.specs.declared.status.Status.{Status}
@@ -14,12 +13,12 @@ use Rattle.command_words.specs.declared.command.Command.TheVariants.{Call}
 use Rattle.command_words.specs.declared.simple.WordStop.{WordStop}
 use Rattle.command_words.specs.declared.simple.WordStop.TheVariants as stops
 use Rattle.command_words.specs.Simple.{Text}
-use Rattle.command_words.specs.Asked.{Asked, HasNames, IsGiven, asked, name_in, roles, word_for}
+use Rattle.command_words.specs.Asked.{Asked, asked}
 use Rattle.desk_program.specs.Ends.{Gains, HasCause, IsReadOut, Tells}
 use Rattle.desk_program.specs.Attached.{AreAttached, AttachedAt}
 use Rattle.desk_program.specs.Lines.{Finishes, end_text}
 use Rattle.desk_program.specs.Promises.{HasPrefixes, HasStatus, HasTexts, IsNotUsage, IsSettled, IsStopped, IsUnopened, TakesInput}
-use Rattle.h263rps_run.specs.Output.{the_word, word_stop, command_of, roles_of, source_of, run_of, output_of, order_from, source_from}
+use Rattle.h263rps_run.specs.Output.{word_stop, command_of, roles_of, source_of, run_of, output_of, order_from, source_from}
 use Rattle.h263rps_run.specs.Promises.{IsRefusedRightly, IsRunOf, IsRun}
 use Rattle.h263rps_run.proofs.Promised.{performed, some_since, nothing_done, report_unopened, words_unread, usage_told, since_attached}
 

@@ -1,18 +1,17 @@
 -- The roles of a command, found among all roles by their words.
-use Rattle.std.proofs.Common.{◌≡◌, ℕ, ◌+◌, ◌<◌, ◌++◌, Bool, true, false, List, [], ◌∷◌, length, take, drop, set, get_or, map, Option, Some, None, refl, sym, ap, ◌∙◌}
+use Rattle.std.proofs.Common.{◌≡◌, ℕ, ◌+◌, ◌<◌, ◌++◌, true, false, List, [], ◌∷◌, length, take, drop, set, get_or, Option, Some, None, refl, sym, ap, ◌∙◌}
 use Rattle.std.proofs.lemmas.List.{append_assoc, at_drop_more, map-append}
 use Rattle.std.proofs.lemmas.Grind.{take-set_at}
 use Rattle.std.specs.Borrow.{Bor}
-use Rattle.std.specs.Prelude.{IsTrue, codes}
+use Rattle.std.specs.Prelude.{codes}
 use Rattle.std.specs.List.{AllByRecursion}
-use Rattle.h263_outside.specs.Desk.{with_role}
 use Rattle.h263_outside.specs.declared.desk.Role.{Role}
-use Rattle.h263_outside.specs.declared.desk.Role.TheVariants.{Video, Video2, Events, Pictures, Pictures2, Wire, Report}
+use Rattle.h263_outside.specs.declared.desk.Role.TheVariants.{Video, Video2, Events, Pictures, Pictures2, Wire}
 use Rattle.command_words.specs.Simple.{Text}
 use Rattle.command_words.specs.declared.command.Command.{Command}
 use Rattle.command_words.specs.declared.command.Command.TheVariants.{Call, Send, Recv, Demo, Rate, Audit, Duplex}
 use Rattle.command_words.specs.Asked.{Asked, HasNames, IsGiven, Lookup, asking, roles, word_for}
-use Rattle.desk_program.specs.Attached.{are_free, names}
+use Rattle.desk_program.specs.Attached.{names}
 use Rattle.h263rps_run.specs.Output.{roles_of, the_word}
 
 -- a role with its word, if it has one
@@ -77,14 +76,3 @@ passed a done all at more none so_far = ap (λ (l : List (Role × Text)). done +
 
 pub all_named : (a : Asked) → HasNames a → named a order ≡ roles_of a.command a
 all_named a names = roles_named a.command a.given names
-
--- none stands twice, and none is the report
-pub roles_free : (c : Command) (a : Asked) → IsTrue (are_free (with_role (λ r. false) Report true) (roles_of c a))
-roles_free (Call params false) a = refl
-roles_free (Call params true) a = refl
-roles_free (Send params target) a = refl
-roles_free (Recv params join) a = refl
-roles_free (Demo params seed frames) a = refl
-roles_free (Rate target bucket) a = refl
-roles_free (Audit params) a = refl
-roles_free (Duplex params) a = refl

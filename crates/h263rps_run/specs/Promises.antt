@@ -1,5 +1,5 @@
 -- What is promised of a run of the program, clause by clause.
-use Rattle.std.specs.Prelude.{ℕ, ◌≡◌, ◌⊎◌, true, false, List, [], ◌∷◌, Option, Some, None}
+use Rattle.std.specs.Prelude.{ℕ, ◌≡◌, ◌⊎◌, true, false, List, Option, Some, None}
 use Rattle.h263_outside.specs.Desk.{Outside, SomeRose, is_role}
 use Rattle.h263_outside.specs.Gains.{Front}
 use Rattle.h263_outside.specs.declared.desk.Role.{Role}

@@ -1,4 +1,4 @@
-use Rattle.std.proofs.Common.{rules, ◌≡◌, ◌∙◌, Result, IfOk, refl, sym, ap, subst}
+use Rattle.std.proofs.Common.{rules, ◌≡◌, ◌∙◌, IfOk, refl, sym, subst}
 use Rattle.std.specs.Process.{exit_status}
 use Rattle.std.specs.Vec.Iter.{into_iter_items}
 use Rattle.call_report.specs.declared.status.Status.{Status}

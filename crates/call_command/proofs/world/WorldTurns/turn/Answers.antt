@@ -1,14 +1,11 @@
-use Rattle.std.proofs.Common.{◌≡◌, ℕ, ◌+◌, ◌-◌, Bool, true, false, List, [], ◌∷◌, ◌++◌, length, Option, Some, Ok, Err, refl, sym, ap, subst, ◌∙◌, arith}
+use Rattle.std.proofs.Common.{◌≡◌, ℕ, Bool, true, false, List, [], ◌∷◌, ◌++◌, Option, Some, Ok, Err, refl, sym, ap, subst, ◌∙◌}
 use Rattle.std.specs.Prelude.{if◌then◌else◌}
 use Rattle.std.specs.Vec.{with_items}
-use Rattle.std.proofs.lemmas.List.{with_items_is}
 use Rattle.h263_outside.specs.declared.desk.Role.{Role}
 use Rattle.h263_outside.specs.declared.desk.Role.TheVariants.{Video, Events}
 use Rattle.h263_planes.specs.Layout.{picture_of}
 use Rattle.h263_planes.specs.Lent.{picture}
 use Rattle.h263_planes.specs.Picture.{Picture}
-use Rattle.h263_types.specs.Sizes.{size_of_picture}
-use Rattle.h263_types.specs.declared.pace.FixedPace.{FixedPace}
 use Rattle.y4m.specs.Reader.{Moves}
 use Rattle.y4m.specs.Frame.{frame_size}
 use Rattle.call_report.specs.declared.status.Status.TheVariants.{Ok as Fine}
@@ -16,21 +13,19 @@ use Rattle.call_report.specs.Status.{phase, video_stop}
 use Rattle.desk_program.specs.Run.{Step, left_after}
 use Rattle.desk_program.specs.Ends.{Ended, GainsFronts, GivesUp, Went, step_texts}
 use Rattle.desk_program.specs.Texts.{of}
-use Rattle.one_way.specs.declared.way.Way.{Way}
 use Rattle.one_way.specs.Both.{bare}
 use Rattle.call_command.specs.Counts.{counts_of}
 use Rattle.one_way.specs.Trace.{delivered, passed_on}
-use Rattle.one_way.specs.Way.{CanSend, HoldsNetwork, kept_in, tally_of, way_of}
+use Rattle.one_way.specs.Way.{HoldsNetwork, tally_of, way_of}
 use Rattle.call_encoding.specs.Frames.{Frame}
 use Rattle.call_model.specs.IdealCall.{Send}
 use Rattle.call_command.specs.declared.link.Link.{Link}
 use Rattle.call_command.specs.Call.{CallState, may_read, talk_step}
 use Rattle.call_command.specs.Standing.{PartsStand, parts_of, state_of}
-use Rattle.call_command.specs.Turning.{Names, names_of}
 use Rattle.call_command.proofs.Counting.{counts_are, given_up, plainly, written_in_part}
 use Rattle.call_command.proofs.Framing.{among_last, at, count_of, may_deliver, may_play, may_send, stands_after, texts_are}
 use Rattle.call_command.proofs.FrameTurning.{end_cut, frame_cut, frame_goes, frame_stops, given_so, gives_so, lent, video_ends}
-use Rattle.call_command.proofs.Readying.{few_mbs, plain_keeps, ready_so}
+use Rattle.call_command.proofs.Readying.{plain_keeps}
 use Rattle.call_command.proofs.world.WorldTurns.turn.Goals as goal
 
 pub returns-then-not-self-clause-gives : goal.returns-then-not-self-clause-gives
