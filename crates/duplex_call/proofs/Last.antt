@@ -1,5 +1,5 @@
 -- The last four of a list with one more.
-use Rattle.std.proofs.Common.{◌≡◌, ℕ, ◌+◌, ◌-◌, ◌<◌, ◌≤◌, refl, ap, sym, ◌∙◌, subst, arith, List, [], ◌∷◌, ◌++◌, length, length-append, Option, Some, None}
+use Rattle.std.proofs.Common.{◌≡◌, ℕ, ◌+◌, ◌-◌, refl, ap, ◌∙◌, arith, List, [], ◌∷◌, ◌++◌, length, length-append, Option, Some, None}
 use Rattle.std.specs.Prelude.{drop, zero, suc, is_some, true, false, slice_index_or}
 use Rattle.duplex_call.specs.Waiting.{last_four, placed}
 

@@ -1,12 +1,12 @@
 -- The messages of the last four numbers are the last four messages that were said since the load.
-use Rattle.std.proofs.Common.{◌≡◌, ◌⊎◌, inl, inr, ℕ, zero, suc, ◌+◌, ◌-◌, ◌<◌, ◌≤◌, refl, sym, ap, ◌∙◌, arith, Option, Some, None, List, [], ◌∷◌, ◌++◌, length}
-use Rattle.std.specs.Prelude.{drop, max, slice_get, get_or}
+use Rattle.std.proofs.Common.{◌≡◌, ℕ, zero, suc, ◌+◌, ◌-◌, ◌<◌, sym, ap, ◌∙◌, arith, Option, List, [], ◌∷◌, ◌++◌, length}
+use Rattle.std.specs.Prelude.{drop, max, get_or}
 use Rattle.std.specs.Option.{option_map_or}
 use Rattle.std.specs.List.{range_with_len}
 use Rattle.std.proofs.lemmas.List.{drop-drop, drop_more, drop_all}
 use Rattle.std.proofs.lemmas.Option.{slice_get-get_or}
 use Rattle.call_model.specs.Coding.{Message, Ack}
-use Rattle.duplex_call.specs.Duplex.{numbers_carried, messages_at}
+use Rattle.duplex_call.specs.Duplex.{messages_at}
 use Rattle.duplex_call.specs.FourStores.{LastFourAre}
 
 -- so many numbers up to the last

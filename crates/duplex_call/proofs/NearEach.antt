@@ -1,16 +1,15 @@
 -- In a near call of two parties the events of each party, with the messages that are brought to it, are
 -- near by its own ideal call.
-use Rattle.std.proofs.Common.{◌≡◌, ℕ, zero, suc, ◌+◌, ◌-◌, ◌<◌, ◌≤◌, refl, sym, ap, ◌∙◌, subst, arith, inl, inr, ◌⊎◌, Option, Some, None, List, [], ◌∷◌, ◌++◌, length, length-append}
-use Rattle.std.specs.Prelude.{slice_get, slice_index_or, get_or, nat_lt, if◌then◌else◌, true, false, Bool}
+use Rattle.std.proofs.Common.{ℕ, ◌+◌, ◌<◌, ◌≤◌, sym, subst, arith, Option, Some, None, List, [], ◌∷◌, ◌++◌, length, length-append}
+use Rattle.std.specs.Prelude.{slice_get, if◌then◌else◌, true, false, Bool}
 use Rattle.std.specs.Option.{option_map_or}
-use Rattle.std.proofs.lemmas.Option.{slice_get_cases}
-use Rattle.call_model.specs.Coding.{Rules, Message, Coding, pictures_of}
+use Rattle.call_model.specs.Coding.{Rules, Coding}
 use Rattle.call_model.specs.CodedPictures.{Coded}
-use Rattle.call_model.specs.IdealCall.{Event, Send, Deliver, Play, Back, Call, MayHappen, about, encoded, ideal, AllMayHappen}
+use Rattle.call_model.specs.IdealCall.{Event, Send, Deliver, Play, Back, Call, MayHappen, encoded, ideal, AllMayHappen}
 use Rattle.call_model.specs.LaterFrames.{LaterFrames}
 use Rattle.duplex_call.specs.declared.line.Party.{Party}
 use Rattle.duplex_call.specs.declared.line.Party.TheVariants.{A, B}
-use Rattle.duplex_call.specs.Duplex.{other, Lettered, WayRun, WayRuns, way, with_way, WayCoding, call_of, brought, brings, with_capture, event_after, ways_after, MayBeBrought, MayHappenOf, AllMayHappenOf}
+use Rattle.duplex_call.specs.Duplex.{Lettered, WayRun, WayRuns, way, WayCoding, call_of, brought, with_capture, event_after, ways_after, MayBeBrought, MayHappenOf, AllMayHappenOf}
 
 module _ {Frame Style Mb Picture Fault MessageFault : Type 0}
     (later : (coding : Coding Frame Style Mb Picture Fault MessageFault) (rules : Rules) → LaterFrames coding rules) where

@@ -1,11 +1,11 @@
 -- An event of a call of two parties is refused exactly where it is not near.
-use Rattle.std.proofs.Common.{◌≡◌, ℕ, refl, sym, ap, ◌∙◌, subst, Option, Some, None, List, [], ◌∷◌, length}
+use Rattle.std.proofs.Common.{◌≡◌, ℕ, refl, Option, Some, None, List, [], ◌∷◌}
 use Rattle.std.specs.Prelude.{slice_index_or}
 use Rattle.call_model.specs.Coding.{Rules}
-use Rattle.call_model.specs.IdealCall.{Event, Send, Deliver, Play, Back}
-use Rattle.call_model.specs.Refusals.{Refusal, NoneWhereItMayHappen, refusal_in}
+use Rattle.call_model.specs.IdealCall.{Send, Deliver, Play, Back}
+use Rattle.call_model.specs.Refusals.{Refusal, NoneWhereItMayHappen}
 use Rattle.duplex_call.specs.declared.line.Party.{Party}
-use Rattle.duplex_call.specs.Duplex.{other, WayRun, WayRuns, way, WayCoding, call_of, MayBeBrought}
+use Rattle.duplex_call.specs.Duplex.{other, WayRun, way, WayCoding, call_of, MayBeBrought}
 use Rattle.duplex_call.specs.Refused.{first_of, own_refusal, heard_refusal, NoneWhereItMayHappenOf}
 
 neither : (a b : Option Refusal) → first_of a b ≡ None → (a ≡ None) × (b ≡ None)

@@ -1,6 +1,6 @@
 -- A call of two parties, each of which sends a video and receives the other's. Messages travel in the
 -- picture headers of the other way.
-use Rattle.std.specs.Prelude.{ℕ, ◌+◌, ◌-◌, ⊤, Bool, nat_lt, max, List, [], ◌∷◌, ◌++◌, length, map, slice_get, slice_index_or, Option, Some, None, if◌then◌else◌}
+use Rattle.std.specs.Prelude.{ℕ, ◌-◌, ⊤, nat_lt, max, List, [], ◌∷◌, ◌++◌, length, map, slice_get, slice_index_or, if◌then◌else◌}
 use Rattle.std.specs.Option.{option_map_or}
 use Rattle.std.specs.List.{range_with_len}
 use Rattle.call_model.specs.Coding.{Rules, Message, Coding}
@@ -134,7 +134,8 @@ module _ {Captured Frame Style Mb Picture Fault MessageFault : Type 0}
     -- the next picture is sent, if one is left
     abbrev pub with_send : Party → WayRuns Frame → WayRuns Frame
     with_send x ways =
-        option_map_or (λ captured. with_capture x captured ways) (slice_get (captures x) (length (way x ways).frames)) ways
+        option_map_or (λ captured. with_capture x captured ways)
+        (slice_get (captures x) (length (way x ways).frames)) ways
 
     abbrev pub event_after : Party → Event → WayRuns Frame → WayRuns Frame
     event_after x Send ways = with_send x ways

@@ -3,7 +3,7 @@ use Rattle.std.specs.Prelude.{◌≡◌, ◌↔◌, ℕ, Bool, true, ◌&&◌, n
 use Rattle.call_model.specs.IdealCall.{Event, Send, Deliver, Play, Back}
 use Rattle.call_model.specs.Refusals.{Refusal, NotSaid, refusal_in}
 use Rattle.duplex_call.specs.declared.line.Party.{Party}
-use Rattle.duplex_call.specs.Duplex.{other, Lettered, WayRun, WayRuns, way, no_runs, WayCoding, call_of, event_after, ways_after, MayHappenOf, AllMayHappenOf}
+use Rattle.duplex_call.specs.Duplex.{other, Lettered, WayRun, WayRuns, way, WayCoding, call_of, ways_after, MayHappenOf}
 
 -- the first refusal, if there is one
 abbrev pub first_of : Option Refusal → Option Refusal → Option Refusal

@@ -1,13 +1,13 @@
 -- A call of two parties over pictures of two samples.
-use Rattle.std.specs.Prelude.{ℕ, Bool, List, [], ◌∷◌, ◌++◌, map, replicate, reverse, Option}
-use Rattle.call_model.specs.Coding.{Mark, Message}
-use Rattle.call_model.specs.IdealCall.{Event, Send, Deliver, Play, Back}
+use Rattle.std.specs.Prelude.{ℕ, Bool, List, [], ◌∷◌, ◌++◌, replicate, reverse, Option}
+use Rattle.call_model.specs.Coding.{Mark}
+use Rattle.call_model.specs.IdealCall.{Event, Send, Deliver, Play}
 use Rattle.call_model.specs.Refusals.{Refusal}
 use Rattle.call_model.specs.SmallCoding.{Two, SmallStyle, SmallMb, SmallFault, small}
 use Rattle.call_model.specs.Worked.{flat, marks, references, rules_of, steady}
 use Rattle.duplex_call.specs.declared.line.Party.{Party}
 use Rattle.duplex_call.specs.declared.line.Party.TheVariants.{A, B}
-use Rattle.duplex_call.specs.Duplex.{Lettered, WayCoding, WayRun, WayRuns, way, call_of, said_of, ways_after}
+use Rattle.duplex_call.specs.Duplex.{Lettered, WayCoding, WayRuns, way, call_of, ways_after}
 use Rattle.duplex_call.specs.FourStores.{ends_of}
 use Rattle.duplex_call.specs.Refused.{passed, refusal_of}
 

@@ -59,7 +59,8 @@ bad_from (Some said) line more = more
 unfoldable pub line_events : ℕ → List ℕ → List LineEvent
 line_events zero text = []
 line_events (suc n) [] = []
-line_events (suc n) (b ∷ text) = and_event (party_event (first_line (b ∷ text))) (line_events n (later_lines (b ∷ text)))
+line_events (suc n) (b ∷ text) =
+    and_event (party_event (first_line (b ∷ text))) (line_events n (later_lines (b ∷ text)))
 
 -- the first fault, where the lines are numbered from this one on
 unfoldable pub fault_in : ℕ → ℕ → List ℕ → Option TraceFault

@@ -1,8 +1,7 @@
 -- What a write of one byte does to the picture that the bytes hold.
-use Rattle.std.proofs.Common.{◌≡◌, ℕ, ◌+◌, ◌*◌, ◌-◌, ◌/◌, ◌<◌, ◌≤◌, List, length, refl, ap, ◌∙◌, arith, slice_set, subst, suc, [], ◌∷◌, ◌++◌, add_assoc, append_assoc, sym, take, drop, cond, get_or, length-drop, length-take, Bool, true, false, ◌&&◌, nat_eq, nat_le, nat_lt}
+use Rattle.std.proofs.Common.{◌≡◌, ℕ, ◌+◌, ◌*◌, ◌-◌, ◌/◌, ◌<◌, ◌≤◌, List, length, refl, ap, ◌∙◌, arith, slice_set, subst, suc, [], ◌∷◌, ◌++◌, add_assoc, append_assoc, sym, take, drop, cond, get_or, length-drop, length-take}
 use Rattle.h263_planes.proofs.Runs.{run_at}
 use Rattle.std.proofs.Math.Seq.{drop-drop}
-use Rattle.std.proofs.lemmas.Bool.Decides.{nat_tests}
 use Rattle.std.proofs.lemmas.List.Edits.{sets-eq}
 use Rattle.std.proofs.Math.Nat.{mul-le-mul_left}
 use Rattle.h263_types.specs.Sizes.{size_of_picture}
@@ -15,7 +14,7 @@ use Rattle.h263_planes.specs.declared.Plane.{Plane}
 use Rattle.h263_planes.specs.declared.Plane.TheVariants.{Y, Cb, Cr}
 use Rattle.h263_planes.specs.Picture.{Picture}
 use Rattle.h263_planes.specs.Layout.{picture_of, offset_of, width_in, height_in}
-use Rattle.h263_planes.specs.Samples.{with_plane, plane_of, with_samples, sample_at, in_run, same_plane}
+use Rattle.h263_planes.specs.Samples.{with_plane, plane_of, with_samples, sample_at, in_run}
 use Rattle.h263_planes.proofs.Ranges.{range_set_before, range_set_within, range_set_after}
 
 -- pictures with the same planes are the same

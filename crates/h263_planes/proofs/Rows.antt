@@ -39,13 +39,6 @@ pub as_long : (width n : ℕ) (samples : List ℕ) (at k : ℕ) (before now : Li
     now ≡ sets before (at + width * k) (slice_range samples (n * k) (n * k + n)) → length now ≡ length before
 as_long width n samples at k before now put = ap length put ∙ length-sets before (at + width * k) (slice_range samples (n * k) (n * k + n))
 
--- the place of row k ends before that of the last row does
-pub row_inside : (at width n k : ℕ) → k < n → at + width * k + n ≤ at + width * (n - 1) + n
-row_inside at width n k h =
-    let last : k ≤ n - 1 = omega arith in
-    let below : width * k ≤ width * (n - 1) = mul-le-mul_left width last in
-    omega (arith, below)
-
 row_long : (samples : List ℕ) (n k : ℕ) → n * k + n ≤ length samples → length (slice_range samples (n * k) (n * k + n)) ≡ n
 row_long samples n k h = simp (length-take, length-drop) (omega arith)
 

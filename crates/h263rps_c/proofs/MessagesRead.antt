@@ -1,6 +1,6 @@
 -- Places that are read one after the other.
-use Rattle.std.proofs.Common.{arith, ◌≡◌, ℕ, ◌+◌, ◌<◌, List, [], ◌∷◌, ◌++◌, Option, Some, None, refl, sym, ap, ◌∙◌, subst, append_assoc, length, take, drop, get_or, set}
-use Rattle.std.proofs.lemmas.List.{append-nil, drop_all, drop_more, take_more_set}
+use Rattle.std.proofs.Common.{◌≡◌, ℕ, ◌+◌, ◌<◌, List, [], ◌∷◌, ◌++◌, Option, Some, None, refl, sym, ap, ◌∙◌, subst, append_assoc, length, take, drop, get_or, set}
+use Rattle.std.proofs.lemmas.List.{drop_more, take_more_set}
 use Rattle.h263_types.specs.declared.clock.Clock.{Clock}
 use Rattle.back_messages.specs.declared.message.Message.{Message}
 use Rattle.back_messages.specs.Text.{IsMessage}
@@ -14,10 +14,6 @@ use Rattle.h263rps_c.specs.Messages.{messages_of, place_in, with_place}
 abbrev pub after : List Message → Option (List Message) → Option (List Message)
 after ms None = None
 after ms (Some others) = Some (ms ++ others)
-
-pub none_yet : (others : Option (List Message)) → others ≡ after [] others
-none_yet None = refl
-none_yet (Some others) = refl
 
 one_more : (ms : List Message) (m : Message) (others : Option (List Message)) → after ms (with_place (Says m) others) ≡ after (ms ++ m ∷ []) others
 one_more ms m None = refl
@@ -53,13 +49,6 @@ pub no_message : (clock : Clock) (back : List Said) (before : List Message) (i :
     → v ≡ after before (messages_of clock (drop i back)) → None ≡ v
 no_message clock back ms i d v lt is before =
     sym (before ∙ ap (after ms) (from_place clock back i d Wrong lt is))
-
-pub all_read : (clock : Clock) (back : List Said) (before : List Message) (i : ℕ) (v : Option (List Message))
-    → i ≡ length back → v ≡ after before (messages_of clock (drop i back)) → Some before ≡ v
-all_read clock back ms i v here before =
-    sym (before ∙ ap (λ (k : ℕ). after ms (messages_of clock (drop k back))) here
-    ∙ ap (λ (l : List Said). after ms (messages_of clock l)) (drop_all (length back) back (omega arith))
-    ∙ ap Some (append-nil ms))
 
 are_more : (clock : Clock) (ms : List Message) (m : Message) → AreMessages clock ms → IsMessage clock m → AreMessages clock (ms ++ m ∷ [])
 are_more clock [] m each is = (is, tt)

@@ -116,21 +116,6 @@ near_is s v u hv hu =
     let both = all_bits (exact_sum s v u +ℤ pos 16777216) in
     bracket (exact_sum s v u) (near_at s v u) (forward_at s v u) (off_by s v u hu) both.0 both.1
 
--- ---- sizes
-
-pub down_small : (s : List ℤ) (v x : ℕ) → v < 8 → x < 8 → ((y : ℕ) → y < 8 → Within 255 (entry s y x)) → Within 16320 (down_at s v x)
-down_small s v x hv hx h =
-    let sum : Within (255 * 16384) (down_sum s v x) = row_bound 255 v (λ y. entry s y x) hv h in
-    let off : Within 128 (pos 256 *ℤ down_at s v x -ℤ down_sum s v x) = first_off (down_sum s v x) in
-    omega (arith, ints, sum, off)
-
-pub near_small : (s : List ℤ) (v u : ℕ) → v < 8 → u < 8 → ((y x : ℕ) → y < 8 → x < 8 → Within 255 (entry s y x)) → Within 32640 (near_at s v u)
-near_small s v u hv hu h =
-    let q = sum_below 8 (λ x. basis u x *ℤ down_at s v x) in
-    let sum : Within (16320 * 16384) q = row_bound 16320 u (down_at s v) hu (λ x hx. down_small s v x hv hx (λ y hy. h y x hy hx)) in
-    let off : Within 4096 (pos 8192 *ℤ near_at s v u -ℤ q) = second_off q in
-    omega (arith, ints, sum, off)
-
 -- ---- the first coefficient
 
 ones : (x : ℕ) → x < 8 → basis 0 x ≡ pos 2048

@@ -14,10 +14,6 @@ use Rattle.macroblock_layer.specs.declared.reading.Lead.TheVariants.{Skipped}
 use Rattle.macroblock_layer.specs.Text.{is_skipped, lead_turn, lead, after_lead, mb}
 
 -- the first bit, by its number
-pub none_skipped : (bits : List Bool) → length bits ≡ 0 → is_skipped kinds.P bits ≡ false
-none_skipped [] e = refl
-none_skipped (b ∷ bits) e = absurd (omega (arith, e))
-
 pub first_skipped : (bits : List Bool) → 0 < length bits → eqb (number (take 1 bits)) 1 ≡ is_skipped kinds.P bits
 unfolding number
 first_skipped [] some = absurd (omega arith)

@@ -1,11 +1,9 @@
 -- The samples of a macroblock by its six blocks, and by its square of luma.
-use Rattle.std.proofs.Common.{◌≡◌, ℕ, zero, suc, ◌+◌, ◌*◌, ◌/◌, ◌%◌, ◌<◌, List, get_or, length, lit<, Bool, true, false, cond, nat_lt, refl, arith, ap, sym, subst, map, ◌∙◌, ℤ, pos, ◌-ℤ◌}
+use Rattle.std.proofs.Common.{◌≡◌, ℕ, zero, suc, ◌+◌, ◌*◌, ◌/◌, ◌%◌, ◌<◌, List, get_or, length, lit<, arith, ap, sym, subst, map, ◌∙◌, ℤ, pos, ◌-ℤ◌}
 use Rattle.std.specs.List.{range_with_len}
-use Rattle.std.proofs.lemmas.Bool.Decides.{nat_tests}
 use Rattle.std.proofs.lemmas.Int.{ints}
 use Rattle.std.proofs.lemmas.List.FromFn.{fill_by_all}
 use Rattle.h263_types.specs.declared.vector.Vector.{Vector}
-use Rattle.h263_types.specs.declared.format.Format.{Format}
 use Rattle.h263_types.specs.Sizes.{columns_of}
 use Rattle.h263_planes.specs.declared.Plane.{Plane}
 use Rattle.h263_planes.specs.declared.Plane.TheVariants.{Y, Cb, Cr}
@@ -18,7 +16,7 @@ use Rattle.half_sample.specs.Macroblock.{IsPredicted}
 use Rattle.half_sample.specs.Prediction.{ArePredicted, predicted_sample, moved, whole_part}
 use Rattle.motion_search.specs.Cost as luma
 use Rattle.mode_choice.specs.Choice.{predicted_in_block, residuals_of, sample_in_block, samples_of}
-use Rattle.mode_choice.specs.Residuals.{luma_at, predicted_at}
+use Rattle.mode_choice.specs.Residuals.{predicted_at}
 
 -- the predicted samples of a block of luma, where they stand in those of the macroblock
 sample_of_luma : (p : Picture) (mb r : ℕ) (v : Vector) (luma : List ℕ) (b : ℕ) → b < 4 → ArePredicted 16 p Y mb v r luma → (k : ℕ) → k < 64 →
@@ -57,44 +55,6 @@ square_is_block p mb b corner plane samples e same long each =
     (λ k h. each k h ∙ ap (λ (plane : Plane). pos (sample_at p plane (corner.x + k % 8) (corner.y + k / 8))) (sym same)))
 
 -- ---- what is left of a block
-
-first_of : {X : Type 0} (t : Bool) (a b : X) → t ≡ true → cond t a b ≡ a
-first_of true a b h = refl
-first_of false a b h = cc
-
-below : (b n : ℕ) → b < n → nat_lt b n ≡ true
-below b n h = grind (arith, nat_tests)
-
--- the plane in which a block stands
-pub luma_plane : (f : Format) (mb b : ℕ) → b < 4 → (corner_of f mb b).plane ≡ Y
-luma_plane f mb b h = ap (λ (corner : Corner). corner.plane) (first_of (nat_lt b 4) _ _ (below b 4 h))
-
-pub first_colour_plane : (f : Format) (mb b : ℕ) → b ≡ 4 → (corner_of f mb b).plane ≡ Cb
-first_colour_plane f mb b e = ap (λ (b : ℕ). (corner_of f mb b).plane) e
-
-pub second_colour_plane : (f : Format) (mb b : ℕ) → b ≡ 5 → (corner_of f mb b).plane ≡ Cr
-second_colour_plane f mb b e = ap (λ (b : ℕ). (corner_of f mb b).plane) e
-
--- and its predicted samples
-pub luma_predicted : (samples : Predicted) (b k : ℕ) → b < 4 → luma_at samples.y b k ≡ predicted_at samples b k
-luma_predicted samples b k h = sym (first_of (nat_lt b 4) (luma_at samples.y b k) _ (below b 4 h))
-
-pub first_colour_predicted : (samples : Predicted) (b k : ℕ) → b ≡ 4 → get_or samples.cb k 0 ≡ predicted_at samples b k
-first_colour_predicted samples b k e = ap (λ (b : ℕ). predicted_at samples b k) (sym e)
-
-pub second_colour_predicted : (samples : Predicted) (b k : ℕ) → b ≡ 5 → get_or samples.cr k 0 ≡ predicted_at samples b k
-second_colour_predicted samples b k e = ap (λ (b : ℕ). predicted_at samples b k) (sym e)
-
--- the samples of a plane from the corner of a block on, less predicted ones at some places, are what is left of the block
-pub left_of : (p : Picture) (samples : Predicted) (mb b : ℕ) (corner : Corner) (plane : Plane) (residuals : List ℤ) (place : ℕ → ℕ) → corner ≡ corner_of p.format mb b → corner.plane ≡ plane →
-    ((k : ℕ) → k < 64 → get_or residuals k (pos 0) ≡ (pos (sample_at p plane (corner.x + k % 8) (corner.y + k / 8)) -ℤ pos (place k))) →
-    ((k : ℕ) → k < 64 → place k ≡ predicted_at samples b k) →
-    (k : ℕ) → k < 64 → get_or residuals k (pos 0) ≡ (pos (sample_in_block p mb b k) -ℤ pos (predicted_at samples b k))
-left_of p samples mb b corner plane residuals place e same each from k h =
-    each k h
-    ∙ ap (λ (n : ℕ). pos (sample_at p plane (corner.x + k % 8) (corner.y + k / 8)) -ℤ pos n) (from k h)
-    ∙ ap (λ (plane : Plane). pos (sample_at p plane (corner.x + k % 8) (corner.y + k / 8)) -ℤ pos (predicted_at samples b k)) (sym same)
-    ∙ ap (λ (corner : Corner). pos (sample_at p corner.plane (corner.x + k % 8) (corner.y + k / 8)) -ℤ pos (predicted_at samples b k)) e
 
 -- what is left of a block at each place is the list of its residuals
 pub residuals_are : (p q : Picture) (r mb : ℕ) (v : Vector) (b : ℕ) (residuals : List ℤ) (predicted : ℕ → ℕ) → length residuals ≡ 64 →

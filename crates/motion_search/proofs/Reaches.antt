@@ -74,18 +74,6 @@ module _ (f : Format) (mb radius : ℕ) (reach : Reach) (is : Reaches f mb reach
   reached_column_ends left x i e h ex =
       omega (arith, ints, h.0.2.1, subst (λ (k : ℕ). pos x ≡ whole_place k (whole_component radius i)) e ex)
 
-  pub first_row_small : (first : ℕ) → mb < mbs_of f → IsFirst radius reach.up first → first ≤ radius
-  first_row_small first h at_first =
-      let zero = ((is (pos 0) (pos 0)).0 (zero_reaches f mb h)).1 in
-      (at_first radius).1 (omega (arith, ints, zero.0))
-
-  -- the first row of the square leads no further up or down than the reach, since the zero vector's doesn't
-  pub first_in_rows : (first : ℕ) → mb < mbs_of f → IsFirst radius reach.up first → IsInRows radius reach first
-  first_in_rows first h at_first =
-      let zero = ((is (pos 0) (pos 0)).0 (zero_reaches f mb h)).1 in
-      let above = first_row_small first h at_first in
-      ((at_first first).0 (omega arith), omega (arith, ints, zero.1, above))
-
   -- the rows between the two ends lead no further up or down than the reach
   pub between_rows : (first end : ℕ) → IsFirst radius reach.up first → IsEnd radius reach.down end → first ≤ row → row < end → IsInRows radius reach row
   between_rows first end at_first at_end from to = ((at_first row).0 from, ((at_end row).0 to).1)

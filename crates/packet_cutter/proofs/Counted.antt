@@ -4,9 +4,9 @@ use Rattle.std.specs.Prelude.{All}
 use Rattle.std.proofs.lemmas.List.{length-append}
 use Rattle.std.proofs.lemmas.List.Elements.{All-nil, All-cons}
 use Rattle.h263_types.specs.declared.blocks.Mb.{Mb}
-use Rattle.h263_bits.specs.Bits.{bits_of, spelled, fields}
+use Rattle.h263_bits.specs.Bits.{spelled, fields}
 use Rattle.h263_bits.specs.Written.{to_byte}
-use Rattle.h263_bits.proofs.SyntaxLaws.{length-spelled, length-bits_of, length-fields}
+use Rattle.h263_bits.proofs.SyntaxLaws.{length-spelled, length-fields}
 use Rattle.picture_header.specs.declared.header.Header.{Header}
 use Rattle.rtp_header.specs.Written.{rtp_fields}
 use Rattle.h263_payload.specs.Written.{written_payload, payload_bits}

@@ -1,5 +1,5 @@
 -- The cut and the packets as functions, against the relations that they meet.
-use Rattle.std.proofs.Common.{◌≡◌, ℕ, zero, suc, ◌+◌, ◌-◌, ◌*◌, ◌%◌, ◌^◌, ◌<◌, ◌≤◌, Bool, Option, Some, None, List, [], ◌∷◌, ◌++◌, length, take, drop, get_or, refl, sym, ap, subst, ◌∙◌, arith}
+use Rattle.std.proofs.Common.{◌≡◌, ℕ, zero, suc, ◌+◌, ◌%◌, ◌^◌, ◌≤◌, Bool, Option, Some, None, List, [], ◌∷◌, ◌++◌, length, take, drop, refl, sym, ap, subst, ◌∙◌, arith}
 use Rattle.std.specs.Prelude.{slice_get, ◌==◌}
 use Rattle.std.proofs.lemmas.Bool.Decides.{nat_tests}
 use Rattle.std.proofs.lemmas.List.{length-append, take_at, drop_at}
@@ -11,7 +11,7 @@ use Rattle.picture_header.specs.declared.header.Header.{Header}
 use Rattle.rtp_header.specs.Written.{rtp_fields}
 use Rattle.h263_payload.specs.Written.{written_payload}
 use Rattle.slice_layer.specs.Written.{slice_text, padded}
-use Rattle.packet_cutter.specs.Cut.{begins_at, extra_of, packet_bytes, IsLongest, IsCut, Fit}
+use Rattle.packet_cutter.specs.Cut.{begins_at, extra_of, packet_bytes, IsCut, Fit}
 use Rattle.packet_cutter.specs.Slices.{longest_of, slices_from, cut_of, slices_at}
 use Rattle.packet_cutter.specs.Packets.{timestamp_of, packet_text, bytes_in, packet_of, is_last, packets_of, ArePackets, ArePacketsOf}
 use Rattle.packet_cutter.proofs.Bytes.{bits_of_bytes}

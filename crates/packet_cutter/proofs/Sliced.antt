@@ -1,16 +1,15 @@
 -- The slices of a picture as a function.
 use Rattle.std.proofs.Common.{◌≡◌, ℕ, zero, suc, ◌+◌, ◌-◌, ◌<◌, ◌≤◌, Bool, true, false, Option, Some, None, List, [], ◌∷◌, ◌++◌, length, take, drop, get_or, refl, sym, ap, subst, ◌∙◌, arith, inl, inr}
-use Rattle.std.specs.Prelude.{◌⊎◌, ◌==◌, ◌&&◌, nat_le, nat_lt, slice_get, if◌then◌else◌}
+use Rattle.std.specs.Prelude.{◌==◌, ◌&&◌, nat_le, nat_lt, slice_get, if◌then◌else◌}
 use Rattle.std.specs.Option.{option_map_or}
-use Rattle.std.proofs.Math.Seq.{drop-append_seam}
-use Rattle.std.proofs.lemmas.Bool.{cases_lt, leb-true, leb-false, lt-ltb, ltb-true, eq-eqb, ne_eqb}
+use Rattle.std.proofs.lemmas.Bool.{cases_lt, leb-true, lt-ltb, ltb-true}
 use Rattle.std.proofs.lemmas.Bool.Decides.{nat_tests}
-use Rattle.std.proofs.lemmas.List.{length-append, length-take-le, length-drop, take-append-drop, take_at, drop_at, get_or-take, get_or-drop}
+use Rattle.std.proofs.lemmas.List.{length-append, length-take-le, length-drop, take-append-drop, take_at, get_or-take, get_or-drop}
 use Rattle.call_model.specs.Coding.{Slice, has_mb, mb_at}
 use Rattle.call_model.specs.Lawful.{Covers, Divides}
 use Rattle.call_model.specs.Numbers.{greatest, GreatestIs}
 use Rattle.h263_types.specs.declared.blocks.Mb.{Mb}
-use Rattle.packet_cutter.specs.Slices.{longest_of, slices_from, slices_at}
+use Rattle.packet_cutter.specs.Slices.{longest_of, slices_from}
 
 -- ---- how many macroblocks the longest slice has
 

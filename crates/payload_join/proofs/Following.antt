@@ -17,18 +17,6 @@ pub record IsOpen (at : At) (x k : ℕ) : Type 0 where
   pub follow : (j : ℕ) → j < k → follows_at at (x + (j + 1)) ≡ true
   pub unmarked : (j : ℕ) → j < k → marked_at at (x + j) ≡ false
 
-pub is_open : (at : At) (x : ℕ) → begins_at at x ≡ true → IsOpen at x 0
-is_open at x b = record { begins = b; follow = λ j lt. absurd (omega arith); unmarked = λ j lt. absurd (omega arith) }
-
--- it goes on
-pub goes_on : (at : At) (x k : ℕ) → IsOpen at x k → marked_at at (x + k) ≡ false → follows_at at (x + (k + 1)) ≡ true → IsOpen at x (k + 1)
-goes_on at x k open_at m f =
-    record {
-      begins = open_at.begins;
-      follow = λ j lt. elim (cases_lt j k) [ inl less ↦ open_at.follow j less | inr same ↦ let e : k ≡ j = omega arith in subst (λ (i : ℕ). follows_at at (x + (i + 1)) ≡ true) e f ];
-      unmarked = λ j lt. elim (cases_lt j k) [ inl less ↦ open_at.unmarked j less | inr same ↦ let e : k ≡ j = omega arith in subst (λ (i : ℕ). marked_at at (x + i) ≡ false) e m ];
-    }
-
 -- it ends with a marker
 pub ends_marked : (at : At) (x k : ℕ) → IsOpen at x k → k < 64 → marked_at at (x + k) ≡ true → unit_at at x ≡ Some k
 ends_marked at x k o few m = unit_there at x k few (record { begins = o.begins; follow = o.follow; unmarked = o.unmarked; ends = inl m })
@@ -189,9 +177,6 @@ too_long format at x k long = of (at x)
 made_in : (packets : List (Option Packet)) (number first last k : ℕ) → first + k ≤ last
     → is_made (window packets last) number first k ≡ (nat_le number (first + k) || (nat_eq number (first + k + 1) && not (is_marked (place_at packets (first + k)))))
 made_in packets number first last k le = λ i. nat_le number (first + k) || (nat_eq number (first + k + 1) && not (is_marked (inside packets last (first + k) le i)))
-
-pub out_none : (format : Format) (packets : List (Option Packet)) (number first last : ℕ) → None ≡ unit_at (window packets last) first → [] ≡ out_made format (window packets last) number first (unit_at (window packets last) first)
-out_none format packets number first last e = ap (out_made format (window packets last) number first) e
 
 out_some : (format : Format) (packets : List (Option Packet)) (number first last k : ℕ) → first + k ≤ last → (t : Bool) → (nat_le number (first + k) || (nat_eq number (first + k + 1) && not (is_marked (place_at packets (first + k))))) ≡ t → Some k ≡ unit_at (window packets last) first
     → out_made format (window packets last) number first (unit_at (window packets last) first) ≡ cond t (outgoing_of format (window packets last) first k) []

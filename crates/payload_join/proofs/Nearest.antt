@@ -1,5 +1,5 @@
 -- The number of a packet is the nearest one with its sequence number.
-use Rattle.std.proofs.Common.{◌≡◌, ℕ, ◌-◌, ◌<◌, ◌≤◌, Some, arith}
+use Rattle.std.proofs.Common.{◌≡◌, ℕ, ◌<◌, ◌≤◌, Some, arith}
 use Rattle.payload_join.specs.Run.{number_of}
 use Rattle.payload_join.specs.Laws.{IsNearest, NumberLaws}
 use Rattle.payload_join.proofs.Windows.{is_window}

@@ -1,11 +1,11 @@
 -- Slots of a region that a ring holds: one is given back, and one is written.
-use Rattle.std.proofs.Common.{◌≡◌, ℕ, ◌+◌, ◌-◌, ◌<◌, ◌≤◌, List, false, true≢false, [], ◌∷◌, ◌++◌, length, take, drop, get_or, set, refl, sym, ap, ◌∙◌, subst, arith, inl, inr, length-append, get_or-set_other}
+use Rattle.std.proofs.Common.{◌≡◌, ℕ, ◌+◌, ◌-◌, ◌<◌, ◌≤◌, List, false, true≢false, [], ◌∷◌, ◌++◌, length, take, drop, get_or, set, sym, ap, ◌∙◌, subst, arith, inl, inr, length-append, get_or-set_other}
 use Rattle.std.specs.Prelude.{replicate}
 use Rattle.std.proofs.Math.ListN.{get_or-eq_default}
-use Rattle.std.proofs.lemmas.Bool.{cases_lt, eq-eqb}
+use Rattle.std.proofs.lemmas.Bool.{cases_lt}
 use Rattle.std.proofs.lemmas.List.{get_or_append_left, length-take-le, length-drop, get_or-replicate, length-replicate, take-append-drop}
 use Rattle.std.proofs.Math.Seq.{get_or-append_seam}
-use Rattle.h263_region.specs.Slots.{Slots, bytes_in, with_bytes, with_out, out_of, IsOut, zeros}
+use Rattle.h263_region.specs.Slots.{Slots, bytes_in, with_out, out_of, IsOut, zeros}
 use Rattle.payload_join.specs.Places.{put_at}
 use Rattle.payload_join.specs.Ring.{IsHeld}
 
@@ -27,9 +27,6 @@ released {region} {new} {slots} {rest} slot held is back counted =
 -- the region with other bytes in a slot
 abbrev pub with_slot : Slots → ℕ → List ℕ → Slots
 with_slot region slot ws = record region { bytes = set region.bytes slot ws }
-
-pub with_slot_is : (region : Slots) (slot : ℕ) (ws : List ℕ) → length ws ≡ region.size → with_bytes region slot ws ≡ with_slot region slot ws
-with_slot_is region slot ws e = rw (eq-eqb (length ws) region.size e) refl
 
 pub out_inside : (region : Slots) (slot : ℕ) → IsOut region slot → slot < length region.outs
 out_inside region slot h = elim (cases_lt slot (length region.outs)) [ inl l ↦ l | inr l ↦ absurd (true≢false (sym h ∙ get_or-eq_default region.outs false l)) ]

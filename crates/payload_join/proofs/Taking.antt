@@ -28,15 +28,9 @@ shows_nothing top packets e f =
 
 -- ---- a packet that can't be read
 
-pub refused_answer : (past : List (List ℕ)) (bytes : List ℕ) (fault : Fault) → Err fault ≡ packet_in bytes → tooks.Refused fault ≡ took_next past bytes
-refused_answer past bytes fault e = ap (took (joined_by past)) e
-
 pub refused_stands : (top : Option ℕ) (packets : List (Option Packet)) (past : List (List ℕ)) (bytes : List ℕ) (fault : Fault) → Err fault ≡ packet_in bytes → Shows top packets (joined_by past) → Shows top packets (joined_by (bytes ∷ past))
 unfolding joined_by
 refused_stands top packets past bytes fault e shows = subst (Shows top packets) (ap (held_after (joined_by past)) e) shows
-
-pub refused_left : (format : Format) (past : List (List ℕ)) (bytes : List ℕ) (fault : Fault) → Err fault ≡ packet_in bytes → [] ≡ given_next format past bytes
-refused_left format past bytes fault e = ap (given format (joined_by past)) e
 
 -- ---- one that can
 

@@ -1,5 +1,5 @@
 -- Where a block has no values, by places of the zigzag order that have no mark.
-use Rattle.std.proofs.Common.{◌≡◌, ◌≢◌, ℕ, zero, suc, ◌+◌, ◌*◌, ◌%◌, ◌<◌, ◌≤◌, min, ℤ, pos, List, length, get_or, slice_set, Bool, true, false, ◌||◌, nat_eq, nat_lt, refl, ap, sym, subst, ◌∙◌, arith, zero-add, bit_and, get_or-set_other}
+use Rattle.std.proofs.Common.{◌≡◌, ◌≢◌, ℕ, ◌+◌, ◌*◌, ◌%◌, ◌<◌, ◌≤◌, min, ℤ, pos, List, length, get_or, slice_set, Bool, true, false, ◌||◌, nat_eq, nat_lt, refl, ap, sym, subst, ◌∙◌, arith, zero-add, bit_and, get_or-set_other}
 use Rattle.std.specs.Int.{bit_at}
 use Rattle.std.specs.List.{list_all, range_with_len}
 use Rattle.std.proofs.lemmas.List.Folds.{list_all_at}

@@ -1,7 +1,7 @@
 -- The levels at the ends of pictures, one picture after another.
-use Rattle.std.proofs.Common.{◌≡◌, ℕ, ◌+◌, ◌-◌, ◌*◌, ◌<◌, ◌≤◌, max, Bool, true, false, cond, ltb, List, [], ◌∷◌, ◌++◌, length, map, sum, get_or, Some, arith, refl, sym, ap, subst, ◌∙◌}
-use Rattle.std.specs.Prelude.{count_by, slice_index}
-use Rattle.std.proofs.lemmas.List.{get_or_push, length_push, length-map, map-append, map_push}
+use Rattle.std.proofs.Common.{◌≡◌, ℕ, ◌+◌, ◌-◌, ◌≤◌, max, cond, ltb, List, [], ◌∷◌, ◌++◌, length, map, sum, get_or, Some, arith, refl, ap, ◌∙◌}
+use Rattle.std.specs.Prelude.{count_by}
+use Rattle.std.proofs.lemmas.List.{get_or_push, length_push, length-map, map_push}
 use Rattle.std.proofs.lemmas.List.Sums.{count_by-le-length, sum_by-append, sum_by_push}
 use Rattle.rate_control.specs.Level.{greatest, level_of}
 use Rattle.rate_control.specs.Pictures.{greatest_level, levels, over_in, prefixes}

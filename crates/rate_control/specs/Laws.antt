@@ -1,5 +1,5 @@
 -- What holds of the level and of the quantiser that follows it.
-use Rattle.std.specs.Prelude.{◌≡◌, ℕ, ◌+◌, ◌*◌, ◌≤◌, ◌⊎◌, ◌↔◌, List, ◌++◌, length, sum}
+use Rattle.std.specs.Prelude.{◌≡◌, ℕ, ◌+◌, ◌*◌, ◌≤◌, ◌↔◌, List, ◌++◌, length, sum}
 use Rattle.rate_control.specs.Level.{level_of, quant_after, NoneShrinks}
 
 -- no suffix has more bytes than its target and the level together

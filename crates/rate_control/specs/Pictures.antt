@@ -1,5 +1,5 @@
 -- The pictures of a log of packets, and the levels at their ends.
-use Rattle.std.specs.Prelude.{ℕ, ◌+◌, ◌-◌, ◌*◌, ◌==◌, Bool, List, [], ◌∷◌, ◌++◌, map, length, Option, Some, None, Result, Ok, Err, if◌then◌else◌, count_by, flat_map, is_err, nat_lt, slice_index}
+use Rattle.std.specs.Prelude.{ℕ, ◌+◌, ◌==◌, List, [], ◌∷◌, map, length, Result, Ok, Err, if◌then◌else◌, count_by, flat_map, is_err, nat_lt}
 use Rattle.h263_bits.specs.declared.fault.Fault.{Fault}
 use Rattle.rtp_header.specs.declared.rtp.Rtp.{Rtp}
 use Rattle.rtp_header.specs.Faults.{rtp_in}

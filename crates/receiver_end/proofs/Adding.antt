@@ -1,6 +1,5 @@
 -- What a slice leaves in the collector.
 use Rattle.std.proofs.Common.{◌≡◌, ℕ, ◌<◌, Bool, ◌||◌, List, ◌∷◌, Some, ap, sym, ◌∙◌, subst, arith}
-use Rattle.h263_types.specs.declared.Kind.TheVariants as kinds
 use Rattle.h263_types.specs.declared.format.Format.{Format}
 use Rattle.h263_types.specs.Sizes.{mbs_of}
 use Rattle.packet_collector.specs.declared.collector.Collector.{Collector}

@@ -1,5 +1,5 @@
 -- What an answer says.
-use Rattle.std.proofs.Common.{◌≡◌, ap}
+use Rattle.std.proofs.Common.{ap}
 use Rattle.h263_bits.specs.declared.fault.Fault.{Fault}
 use Rattle.h263_types.specs.declared.clock.Clock.{Clock}
 use Rattle.call_model.specs.Receiving as runs

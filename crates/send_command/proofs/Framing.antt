@@ -3,9 +3,9 @@ use Rattle.std.proofs.Common.{Global, ◌≡◌, ◌≢◌, ℕ, zero, suc, ◌+
 use Rattle.std.specs.Vec.{with_items}
 use Rattle.std.specs.declared.vec.Vec.{Vec}
 use Rattle.std.proofs.lemmas.List.{with_items_is}
-use Rattle.h263_outside.specs.Desk.{Outside, IsInput}
+use Rattle.h263_outside.specs.Desk.{Outside}
 use Rattle.h263_outside.specs.declared.desk.Role.{Role}
-use Rattle.h263_outside.specs.declared.desk.Role.TheVariants.{Video, Events, Pictures, Wire, Report, Video2, Pictures2}
+use Rattle.h263_outside.specs.declared.desk.Role.TheVariants.{Video, Events}
 use Rattle.h263_types.specs.declared.format.Format.{Format}
 use Rattle.h263_types.specs.Sizes.{size_of_picture}
 use Rattle.y4m.specs.declared.fault.Y4mFault.{Y4mFault}

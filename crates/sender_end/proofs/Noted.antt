@@ -1,5 +1,5 @@
 -- Feedback that the selector notes.
-use Rattle.std.proofs.Common.{◌≡◌, ℕ, ◌+◌, ◌%◌, ◌<◌, ◌≤◌, Bool, false, ◌||◌, List, ◌∷◌, Some, Ok, refl, sym, ap, ◌∙◌, subst, get_or}
+use Rattle.std.proofs.Common.{◌≡◌, ℕ, ◌+◌, ◌%◌, ◌<◌, ◌≤◌, Bool, false, ◌||◌, List, Some, Ok, refl, sym, ap, ◌∙◌, subst, get_or}
 use Rattle.std.specs.Result.{result_ok}
 use Rattle.h263_planes.specs.Picture.{Picture}
 use Rattle.reference_selector.specs.declared.Selector.{Selector}

@@ -2,7 +2,6 @@
 use Rattle.std.proofs.Common.{Ok, Err, Result, ◌≡◌, ℕ, ◌<◌, ◌*◌, Bool, ◌↔◌, refl, sym, ap, ◌∙◌, subst, arith, inl, inr, Option, Some, None, List, leb}
 use Rattle.std.proofs.lemmas.Bool.{leb-false, cases_Bool}
 use Rattle.h263_bits.specs.declared.fault.Fault.{Fault}
-use Rattle.h263_bits.specs.declared.fault.FaultKind.{FaultKind}
 use Rattle.h263_bits.specs.declared.fault.FaultKind.TheVariants as faults
 use Rattle.h263_bits.specs.Syntax.{Spells}
 use Rattle.h263_types.specs.declared.format.Format.{Format}

@@ -1,5 +1,5 @@
 -- What an audit stands for after one entry more.
-use Rattle.std.proofs.Common.{◌∙◌, ap, None, ◌≡◌, ℕ, ◌-◌, sym, subst, Some, Option, List, ◌∷◌, Ok, Result}
+use Rattle.std.proofs.Common.{◌∙◌, ap, None, ◌≡◌, ℕ, sym, subst, Some, Option, List, ◌∷◌, Ok, Result}
 use Rattle.h263_bits.specs.declared.fault.Fault.{Fault}
 use Rattle.h263_types.specs.declared.blocks.Mb.{Mb}
 use Rattle.h263_types.specs.declared.params.Params.{Params}
@@ -8,7 +8,6 @@ use Rattle.call_decoding.specs.Styles.{Style}
 use Rattle.receiver_end.specs.Decoding.{decoding}
 use Rattle.stream_audit.specs.declared.kept.Kept.{Kept}
 use Rattle.stream_audit.specs.declared.verdict.Broken.{Broken}
-use Rattle.stream_audit.specs.declared.verdict.Rule.TheVariants as rule
 use Rattle.stream_audit.specs.Logs.{broken_by_on, broken_in_on, first_broken_on, stream_on}
 use Rattle.stream_audit.specs.State.{IsJudged, Keeps, Stands}
 use Rattle.stream_audit.specs.Stream.{Feedback, Fed, LogEntry, Sent, with_bytes}

@@ -2,9 +2,10 @@
 //! program made and by worked calls over traces.
 //!
 //! Each command is run by its words over a desk in memory, whose calls move a byte at most or 4,096,
-//! and all that it writes is compared byte for byte; the stored reports end with a line for the number that the process ends with. Where
-//! anything differs the program says where, and ends with status 1. One comparison is with a file
-//! of which one byte was turned, `turned.wire`, and must find that byte.
+//! and all that it writes is compared byte for byte; the stored reports end with a line for the
+//! number that the process ends with. Where anything differs the program says where, and ends with
+//! status 1. One comparison is with a file of which one byte was turned, `turned.wire`, and must
+//! find that byte.
 #![tactic(auto)]
 
 mod audited;

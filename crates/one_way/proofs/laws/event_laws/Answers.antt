@@ -1,4 +1,3 @@
-use Rattle.std.proofs.Common.{[]}
 use Rattle.std.specs.Prelude.{slice_get}
 use Rattle.call_model.specs.Sending.{packets_of}
 use Rattle.call_decoding.specs.Rules.{rules_of}

@@ -1,4 +1,4 @@
-use Rattle.std.proofs.Common.{◌≡◌, ℕ, ◌+◌, ◌<◌, ◌≤◌, length, map, Option, Ok, Err, refl, sym, subst, ◌∙◌, arith, None}
+use Rattle.std.proofs.Common.{◌≡◌, ℕ, ◌+◌, ◌<◌, ◌≤◌, length, map, Option, Err, refl, sym, subst, ◌∙◌, arith, None}
 use Rattle.back_messages.specs.declared.writing.MessageBytes.{MessageBytes}
 use Rattle.call_model.specs.IdealCall.{Back}
 use Rattle.call_model.specs.Refusals.{Far, NotSaid, Refusal, first_refusal}

@@ -1,6 +1,5 @@
 use Rattle.std.proofs.Common.{◌≡◌, ℕ, ◌+◌, ◌<◌, ◌≤◌, List, [], ◌∷◌, ◌++◌, length, take, sym, ap, subst, ◌∙◌, arith}
 use Rattle.std.proofs.lemmas.List.{length-take-le, take_all, take_more}
-use Rattle.packet_cutter.specs.Cutting.{packets_of}
 use Rattle.call_rings.specs.Keeping.{HoldsPackets, most_of, room_of}
 use Rattle.call_rings.specs.Parts.{size_of}
 use Rattle.one_way.proofs.way.keep_packets.Goals as goal

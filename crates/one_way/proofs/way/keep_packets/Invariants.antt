@@ -1,5 +1,4 @@
 use Rattle.std.proofs.Common.{◌≡◌, ◌+◌, [], ◌∷◌, ◌++◌, take}
-use Rattle.packet_cutter.specs.Cutting.{packets_of}
 use Rattle.call_rings.specs.Keeping.{HasSizes, HoldsPackets, Pictures, begun_of, most_of, period_of, room_of}
 use Rattle.one_way.proofs.way.keep_packets.Given as goal
 

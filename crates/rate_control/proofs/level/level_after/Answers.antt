@@ -1,4 +1,4 @@
-use Rattle.std.proofs.Common.{ℕ, ◌<◌, length, get_or, sym, arith}
+use Rattle.std.proofs.Common.{◌<◌, length, sym, arith}
 use Rattle.rate_control.proofs.Levels.{level_more, level_none}
 use Rattle.rate_control.proofs.level.level_after.Goals as goal
 

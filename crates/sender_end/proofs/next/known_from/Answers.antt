@@ -1,4 +1,4 @@
-use Rattle.std.proofs.Common.{◌≡◌, ℕ, ◌+◌, ◌<◌, ◌≤◌, ◌&&◌, Bool, refl, sym, ap, ◌∙◌, arith, leb}
+use Rattle.std.proofs.Common.{◌≡◌, ℕ, ◌&&◌, sym, ap, ◌∙◌, arith, leb}
 use Rattle.sender_end.specs.Known.{count_below}
 use Rattle.sender_end.proofs.Counted.{at_most, counts_one, none_yet}
 use Rattle.sender_end.proofs.next.known_from.Goals as goal

@@ -1,4 +1,4 @@
-use Rattle.std.proofs.Common.{Some, None, sym, ap, ◌∙◌}
+use Rattle.std.proofs.Common.{sym, ap, ◌∙◌}
 use Rattle.std.specs.Prelude.{option_copied}
 use Rattle.duplex_ends.proofs.Lasting.{header_kept}
 use Rattle.duplex_ends.proofs.headers.CarriedRing.get.Goals as goal

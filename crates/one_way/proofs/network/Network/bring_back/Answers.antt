@@ -1,15 +1,13 @@
-use Rattle.std.proofs.Common.{◌≡◌, ℕ, zero, suc, ◌+◌, ◌<◌, ◌≤◌, Bool, List, [], ◌∷◌, length, Option, Some, None, sym, ap, ◌∙◌, arith, if◌then◌else◌}
+use Rattle.std.proofs.Common.{◌≡◌, ℕ, zero, suc, ◌+◌, ◌<◌, Bool, List, [], ◌∷◌, length, Some, None, sym, ap, ◌∙◌, arith, if◌then◌else◌}
 use Rattle.std.specs.Prelude.{slice_get}
 use Rattle.std.proofs.lemmas.Bool.{le-leb}
 use Rattle.back_messages.specs.declared.writing.MessageBytes.{MessageBytes}
 use Rattle.call_model.specs.JoinedRun.{SaidMessage}
 use Rattle.call_rings.specs.Messages.{message_at}
-use Rattle.receiver_end.specs.State as receiver_end
 use Rattle.one_way.specs.Both.{both_after, steady}
 use Rattle.one_way.specs.Network.{told_in}
 use Rattle.one_way.proofs.Bringing.{message_kept, some_at, there}
 use Rattle.one_way.proofs.Holding.{as_many}
-use Rattle.one_way.proofs.Passing.{half_few, steady_is}
 use Rattle.one_way.proofs.Ring.{told_at}
 use Rattle.one_way.proofs.network.Network.bring_back.Goals as goal
 

@@ -1,7 +1,6 @@
-use Rattle.std.proofs.Common.{◌≡◌, ℕ, suc, ◌+◌, ◌<◌, ◌++◌, length, sym, ap, subst, ◌∙◌, arith}
+use Rattle.std.proofs.Common.{◌≡◌, ℕ, suc, ◌+◌, ◌++◌, length, sym, ap, subst, ◌∙◌, arith}
 use Rattle.h263_types.specs.declared.blocks.Mb.{Mb}
 use Rattle.h263_planes.specs.Picture.{Picture}
-use Rattle.call_model.specs.Coding.{Rules}
 use Rattle.call_model.specs.IdealCall.{Deliver, slices_at}
 use Rattle.call_model.specs.Sending.{SenderRun}
 use Rattle.call_decoding.specs.Rules.{rules_of}

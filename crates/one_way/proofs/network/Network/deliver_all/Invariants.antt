@@ -1,4 +1,4 @@
-use Rattle.std.proofs.Common.{◌≡◌, ℕ, ◌+◌, ◌≤◌, List, ◌++◌, length}
+use Rattle.std.proofs.Common.{◌≡◌, ◌+◌, ◌≤◌, List, ◌++◌, length}
 use Rattle.h263_types.specs.declared.params.Params.{Params}
 use Rattle.call_model.specs.IdealCall.{Deliver, Event}
 use Rattle.call_model.specs.Receiving.{ReceiverEntry}

@@ -1,10 +1,9 @@
-use Rattle.std.proofs.Common.{◌≡◌, ℕ, ◌+◌, ◌*◌, List, [], ◌∷◌, ◌++◌, length, Option, sym, ap, subst, ◌∙◌, arith}
+use Rattle.std.proofs.Common.{◌≡◌, ℕ, ◌*◌, List, [], ◌∷◌, ◌++◌, length, Option, sym, ap, subst, ◌∙◌, arith}
 use Rattle.std.specs.Prelude.{slice_get}
 use Rattle.h263_types.specs.Sizes.{mbs_of}
 use Rattle.h263_types.specs.Params.{IsParams}
 use Rattle.h263_types.specs.declared.params.Params.{Params}
 use Rattle.h263_planes.specs.Lent.{picture}
-use Rattle.packet_cutter.specs.Cutting.{packets_of}
 use Rattle.call_model.specs.Sending.{Capture}
 use Rattle.one_way.specs.Both.{both_after, carrying, next_of, steady}
 use Rattle.one_way.specs.References.{AreNoted}

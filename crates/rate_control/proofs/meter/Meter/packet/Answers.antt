@@ -1,5 +1,4 @@
-use Rattle.std.proofs.Common.{◌≡◌, ◌≤◌, List, ℕ, length, ◌++◌, ◌∷◌, [], arith, subst, sym, ◌∙◌, Ok, Err}
-use Rattle.rtp_header.specs.Faults.{rtp_in}
+use Rattle.std.proofs.Common.{◌≤◌, length, ◌++◌, ◌∷◌, [], subst, sym, ◌∙◌}
 use Rattle.rate_control.specs.declared.meter.Meter.{Meter}
 use Rattle.rate_control.specs.Metering.{MeterStands}
 use Rattle.rate_control.proofs.Meters.{read_as, refused_stands, room_for, taken_stands, told}

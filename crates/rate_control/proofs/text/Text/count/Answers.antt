@@ -1,5 +1,4 @@
-use Rattle.std.proofs.Common.{◌≤◌, ◌+◌, length, decimal, length-append, ap, arith}
-use Rattle.rate_control.specs.Text.{text_of}
+use Rattle.std.proofs.Common.{length, length-append, ap, arith}
 use Rattle.rate_control.proofs.Digits.{decimal_short}
 use Rattle.rate_control.proofs.text.Text.count.Goals as goal
 

@@ -1,4 +1,4 @@
-use Rattle.std.proofs.Common.{◌≡◌, ◌+◌, ℕ, false, refl, ap, ◌∙◌, arith, List, Option, length}
+use Rattle.std.proofs.Common.{ℕ, false, refl, ap, ◌∙◌, arith, List, Option, length}
 use Rattle.std.proofs.lemmas.List.{length-replicate}
 use Rattle.picture_store.specs.Pictures.{slots_of}
 use Rattle.call_decoding.specs.Rules.{rules_of}
