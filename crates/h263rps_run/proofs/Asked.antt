@@ -55,24 +55,6 @@ as_run a c e rightly result old new run words = record {
   second_refused = λ inputs told fault r. rightly.second inputs fault (sym (run.texts inputs told (subst IsSettled (sym r) tt)).known ∙ r);
 }
 
--- a command was performed with these roles, which are its own
-module _ (a : Asked) (c : Command) (is : a.command ≡ c) (rightly : IsRefusedRightly c) (roles : List (Role × Text)) (own : roles ≡ roles_of c a) (result : Status) (old new : Outside)
-    (status : (inputs : Role → List ℕ) → Tells old inputs → HasStatus (run_of c inputs) result old.faults new.faults)
-    (texts : (inputs : Role → List ℕ) → Tells old inputs → IsSettled result → HasTexts (run_of c inputs) end_text result old.written new.written)
-    (prefixes : (inputs : Role → List ℕ) → Tells old inputs → IsStopped result → HasPrefixes (run_of c inputs) end_text result old.written new.written)
-    (words : IsNotUsage result)
-    (unopened : IsUnopened result → Gains (end_text result) old.written new.written)
-    (causes : HasCause result old.faults new.faults)
-    (attached : AttachedAt ((Report, []) ∷ roles) result new)
-    (whole_input : (inputs : Role → List ℕ) → Tells old inputs → IsReadOut result (source_of c) new)
-    (taken_input : (inputs : Role → List ℕ) → Tells old inputs → TakesInput result (run_of c inputs) end_text inputs old.written new) where
-  pub carried_out : IsRun (Some a) result old new
-  carried_out =
-      as_run a c is rightly result old new
-      (subst (λ (l : List (Role × Text)). IsRunOf (run_of c) ((Report, []) ∷ l) (source_of c) result old new) own
-      (performed (run_of c) roles (source_of c) old new result status texts prefixes words unopened causes attached whole_input taken_input))
-      words
-
 -- Usage was told, since there is no command
 pub usage_run : (mid new : Outside) → AreAttached ((Report, []) ∷ []) mid → OnlyWrites mid new → (result : Status) → Finishes Usage result mid new → IsRun None result mid new
 usage_run mid new are rest result told = record {
@@ -193,5 +175,26 @@ stopped_run words stops.Usage mid new none are rest result told =
     subst (λ (o : Option Asked). IsRun o result mid new) (sym (none refl)) (usage_run mid new are rest result told)
 
 -- the words were a command, which was carried out from where the report was attached
-pub asked_run : (words : List Text) (a : Asked) (old mid new : Outside) (result : Status) → OnlyAttaches old mid → mid.faults ≡ old.faults → asked words ≡ Some a → IsRun (Some a) result mid new → IsRun (command_of words) result old new
+asked_run : (words : List Text) (a : Asked) (old mid new : Outside) (result : Status) → OnlyAttaches old mid → mid.faults ≡ old.faults → asked words ≡ Some a → IsRun (Some a) result mid new → IsRun (command_of words) result old new
 asked_run words a old mid new result attaches quiet is run = run_since (command_of words) old mid new result attaches quiet (subst (λ (o : Option Asked). IsRun o result mid new) (sym is) run)
+
+-- the command of the words was performed with the roles that they name, from where the report was attached
+module _ (words : List Text) (a : Asked) (asks : asked words ≡ Some a) (old mid : Outside) (attaches : OnlyAttaches old mid) (quiet : mid.faults ≡ old.faults)
+    (rightly : (k : Command) → IsRefusedRightly k) (roles : List (Role × Text)) (own : roles ≡ roles_of a.command a)
+    (c : Command) (is : a.command ≡ c) (result : Status) (new : Outside)
+    (status : (inputs : Role → List ℕ) → Tells mid inputs → HasStatus (run_of c inputs) result mid.faults new.faults)
+    (texts : (inputs : Role → List ℕ) → Tells mid inputs → IsSettled result → HasTexts (run_of c inputs) end_text result mid.written new.written)
+    (prefixes : (inputs : Role → List ℕ) → Tells mid inputs → IsStopped result → HasPrefixes (run_of c inputs) end_text result mid.written new.written)
+    (not_usage : IsNotUsage result)
+    (unopened : IsUnopened result → Gains (end_text result) mid.written new.written)
+    (causes : HasCause result mid.faults new.faults)
+    (attached : AttachedAt ((Report, []) ∷ roles) result new)
+    (whole_input : (inputs : Role → List ℕ) → Tells mid inputs → IsReadOut result (source_of c) new)
+    (taken_input : (inputs : Role → List ℕ) → Tells mid inputs → TakesInput result (run_of c inputs) end_text inputs mid.written new) where
+  pub performed_run : IsRun (command_of words) result old new
+  performed_run =
+      asked_run words a old mid new result attaches quiet asks
+      (as_run a c is (rightly c) result mid new
+      (subst (λ (l : List (Role × Text)). IsRunOf (run_of c) ((Report, []) ∷ l) (source_of c) result mid new) (own ∙ ap (λ (k : Command). roles_of k a) is)
+      (performed (run_of c) roles (source_of c) mid new result status texts prefixes not_usage unopened causes attached whole_input taken_input))
+      not_usage)

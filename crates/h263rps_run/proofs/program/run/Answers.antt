@@ -1,15 +1,14 @@
-use Rattle.std.proofs.Common.{◌≡◌, Bool, true, false, ℕ, List, Option, ◌∙◌, sym, ap, subst, arith}
+use Rattle.std.proofs.Common.{Bool, true, false, ℕ, List, Option, ◌∙◌, sym, ap, subst, arith}
 use Rattle.std.proofs.lemmas.List.{length-take-le}
 use Rattle.h263_outside.specs.declared.desk.Role.{Role}
 use Rattle.call_report.specs.declared.status.Status.{Status}
 use Rattle.command_words.specs.Clap.{texts}
 use Rattle.command_words.specs.View.{asked_of}
-use Rattle.command_words.specs.declared.command.Command.{Command}
 use Rattle.command_words.specs.declared.command.Command.TheVariants.{Call, Send, Recv, Demo, Rate, Audit, Duplex}
 use Rattle.desk_program.specs.Ends.{IsReadOut, Tells}
 use Rattle.desk_program.specs.Lines.{Finishes}
-use Rattle.h263rps_run.specs.Output.{command_of, roles_of}
-use Rattle.h263rps_run.proofs.Asked.{asked_run, call_source, carried_out, report_failed, report_alone, run_since, stopped_run}
+use Rattle.h263rps_run.specs.Output.{command_of}
+use Rattle.h263rps_run.proofs.Asked.{call_source, performed_run, report_failed, report_alone, run_since, stopped_run}
 use Rattle.h263rps_run.proofs.program.run.Goals as goal
 
 pub returns-in-Err : goal.returns-in-Err
@@ -44,105 +43,79 @@ slice_bounds-roles-end g c =
 pub returns-in-Call : goal.returns-in-Call
 returns-in-Call g c =
     let outside = g.D.Desk.outside in
-    let mid = outside c.attach_role.new.desk in
-    let new = outside c.perform.new.desk in
-    let a = asked_of c.in-Ok.words in
-    let k = Call c.in-Call.params c.in-Call.traced in
-    let is : a.command ≡ k = sym c.command.ensures ∙ c.in-Call.is in
-    let says = c.perform.ensures in
-    asked_run (texts c.args.words.now) a (outside c.args.desk.now) mid new c.perform.result c.attach_role.ensures.rest c.in_default.ensures.ok_faults c.in-Ok.ensures.answer
-    (carried_out a k is (c.refused_videos.ensures k) _ (c.put_roles-count.ensures.roles ∙ ap (λ (l : Command). roles_of l a) is) c.perform.result mid new
-    says.status says.texts says.prefixes says.words says.unopened says.causes says.attached
-    (subst (λ (source : Option Role). (inputs : Role → List ℕ) → Tells mid inputs → IsReadOut c.perform.result source new) (call_source c.in-Call.params c.in-Call.traced) says.whole_input)
-    says.taken_input)
+    let done = c.perform in
+    let says = done.ensures in
+    performed_run (texts c.args.words.now) (asked_of c.in-Ok.words) c.in-Ok.ensures.answer (outside c.args.desk.now) (outside c.attach_role.new.desk)
+    c.attach_role.ensures.rest c.in_default.ensures.ok_faults c.refused_videos.ensures _ c.put_roles-count.ensures.roles
+    (Call c.in-Call.params c.in-Call.traced) (sym c.command.ensures ∙ c.in-Call.is) done.result (outside done.new.desk)
+    says.status says.texts says.prefixes says.words says.unopened says.causes says.attached (subst (λ (source : Option Role). (inputs : Role → List ℕ) → Tells (outside c.attach_role.new.desk) inputs → IsReadOut done.result source (outside done.new.desk)) (call_source c.in-Call.params c.in-Call.traced) says.whole_input) says.taken_input
 
 pub returns-in-Send : goal.returns-in-Send
 returns-in-Send g c =
     let outside = g.D.Desk.outside in
-    let mid = outside c.attach_role.new.desk in
-    let new = outside c.perform-in-Send.new.desk in
-    let a = asked_of c.in-Ok.words in
-    let k = Send c.in-Send.params c.in-Send.target in
-    let is : a.command ≡ k = sym c.command.ensures ∙ c.in-Send.is in
-    let says = c.perform-in-Send.ensures in
-    asked_run (texts c.args.words.now) a (outside c.args.desk.now) mid new c.perform-in-Send.result c.attach_role.ensures.rest c.in_default.ensures.ok_faults c.in-Ok.ensures.answer
-    (carried_out a k is (c.refused_videos.ensures k) _ (c.put_roles-count.ensures.roles ∙ ap (λ (l : Command). roles_of l a) is) c.perform-in-Send.result mid new
-    says.status says.texts says.prefixes says.words says.unopened says.causes says.attached says.whole_input says.taken_input)
+    let done = c.perform-in-Send in
+    let says = done.ensures in
+    performed_run (texts c.args.words.now) (asked_of c.in-Ok.words) c.in-Ok.ensures.answer (outside c.args.desk.now) (outside c.attach_role.new.desk)
+    c.attach_role.ensures.rest c.in_default.ensures.ok_faults c.refused_videos.ensures _ c.put_roles-count.ensures.roles
+    (Send c.in-Send.params c.in-Send.target) (sym c.command.ensures ∙ c.in-Send.is) done.result (outside done.new.desk)
+    says.status says.texts says.prefixes says.words says.unopened says.causes says.attached says.whole_input says.taken_input
 
 pub returns-in-Recv-default-true : goal.returns-in-Recv-default-true
 returns-in-Recv-default-true g c =
     let outside = g.D.Desk.outside in
-    let mid = outside c.attach_role.new.desk in
-    let new = outside c.perform-in-Recv-default-true.new.desk in
-    let a = asked_of c.in-Ok.words in
-    let k = Recv c.in-Recv-default-true.params true in
-    let is : a.command ≡ k = sym c.command.ensures ∙ c.in-Recv-default-true.is ∙ ap (λ (join : Bool). Recv c.in-Recv-default-true.params join) c.in-Recv-default-true.join-test in
-    let says = c.perform-in-Recv-default-true.ensures in
-    asked_run (texts c.args.words.now) a (outside c.args.desk.now) mid new c.perform-in-Recv-default-true.result c.attach_role.ensures.rest c.in_default.ensures.ok_faults c.in-Ok.ensures.answer
-    (carried_out a k is (c.refused_videos.ensures k) _ (c.put_roles-count.ensures.roles ∙ ap (λ (l : Command). roles_of l a) is) c.perform-in-Recv-default-true.result mid new
-    says.status says.texts says.prefixes says.words says.unopened says.causes says.attached says.whole_input says.taken_input)
+    let done = c.perform-in-Recv-default-true in
+    let says = done.ensures in
+    performed_run (texts c.args.words.now) (asked_of c.in-Ok.words) c.in-Ok.ensures.answer (outside c.args.desk.now) (outside c.attach_role.new.desk)
+    c.attach_role.ensures.rest c.in_default.ensures.ok_faults c.refused_videos.ensures _ c.put_roles-count.ensures.roles
+    (Recv c.in-Recv-default-true.params true) (sym c.command.ensures ∙ c.in-Recv-default-true.is ∙ ap (λ (join : Bool). Recv c.in-Recv-default-true.params join) c.in-Recv-default-true.join-test) done.result (outside done.new.desk)
+    says.status says.texts says.prefixes says.words says.unopened says.causes says.attached says.whole_input says.taken_input
 
 pub returns-in-Recv-default-false : goal.returns-in-Recv-default-false
 returns-in-Recv-default-false g c =
     let outside = g.D.Desk.outside in
-    let mid = outside c.attach_role.new.desk in
-    let new = outside c.perform-in-Recv-default-false.new.desk in
-    let a = asked_of c.in-Ok.words in
-    let k = Recv c.in-Recv-default-false.params false in
-    let is : a.command ≡ k = sym c.command.ensures ∙ c.in-Recv-default-false.is ∙ ap (λ (join : Bool). Recv c.in-Recv-default-false.params join) c.in-Recv-default-false.join-test in
-    let says = c.perform-in-Recv-default-false.ensures in
-    asked_run (texts c.args.words.now) a (outside c.args.desk.now) mid new c.perform-in-Recv-default-false.result c.attach_role.ensures.rest c.in_default.ensures.ok_faults c.in-Ok.ensures.answer
-    (carried_out a k is (c.refused_videos.ensures k) _ (c.put_roles-count.ensures.roles ∙ ap (λ (l : Command). roles_of l a) is) c.perform-in-Recv-default-false.result mid new
-    says.status says.texts says.prefixes says.words says.unopened says.causes says.attached says.whole_input says.taken_input)
+    let done = c.perform-in-Recv-default-false in
+    let says = done.ensures in
+    performed_run (texts c.args.words.now) (asked_of c.in-Ok.words) c.in-Ok.ensures.answer (outside c.args.desk.now) (outside c.attach_role.new.desk)
+    c.attach_role.ensures.rest c.in_default.ensures.ok_faults c.refused_videos.ensures _ c.put_roles-count.ensures.roles
+    (Recv c.in-Recv-default-false.params false) (sym c.command.ensures ∙ c.in-Recv-default-false.is ∙ ap (λ (join : Bool). Recv c.in-Recv-default-false.params join) c.in-Recv-default-false.join-test) done.result (outside done.new.desk)
+    says.status says.texts says.prefixes says.words says.unopened says.causes says.attached says.whole_input says.taken_input
 
 pub returns-in-Demo : goal.returns-in-Demo
 returns-in-Demo g c =
     let outside = g.D.Desk.outside in
-    let mid = outside c.attach_role.new.desk in
-    let new = outside c.perform-in-Demo.new.desk in
-    let a = asked_of c.in-Ok.words in
-    let k = Demo c.in-Demo.params c.in-Demo.seed c.in-Demo.frames in
-    let is : a.command ≡ k = sym c.command.ensures ∙ c.in-Demo.is in
-    let says = c.perform-in-Demo.ensures in
-    asked_run (texts c.args.words.now) a (outside c.args.desk.now) mid new c.perform-in-Demo.result c.attach_role.ensures.rest c.in_default.ensures.ok_faults c.in-Ok.ensures.answer
-    (carried_out a k is (c.refused_videos.ensures k) _ (c.put_roles-count.ensures.roles ∙ ap (λ (l : Command). roles_of l a) is) c.perform-in-Demo.result mid new
-    says.status says.texts says.prefixes says.words says.unopened says.causes says.attached says.whole_input says.taken_input)
+    let done = c.perform-in-Demo in
+    let says = done.ensures in
+    performed_run (texts c.args.words.now) (asked_of c.in-Ok.words) c.in-Ok.ensures.answer (outside c.args.desk.now) (outside c.attach_role.new.desk)
+    c.attach_role.ensures.rest c.in_default.ensures.ok_faults c.refused_videos.ensures _ c.put_roles-count.ensures.roles
+    (Demo c.in-Demo.params c.in-Demo.seed c.in-Demo.frames) (sym c.command.ensures ∙ c.in-Demo.is) done.result (outside done.new.desk)
+    says.status says.texts says.prefixes says.words says.unopened says.causes says.attached says.whole_input says.taken_input
 
 pub returns-in-Rate : goal.returns-in-Rate
 returns-in-Rate g c =
     let outside = g.D.Desk.outside in
-    let mid = outside c.attach_role.new.desk in
-    let new = outside c.perform-in-Rate.new.desk in
-    let a = asked_of c.in-Ok.words in
-    let k = Rate c.in-Rate.target c.in-Rate.bucket in
-    let is : a.command ≡ k = sym c.command.ensures ∙ c.in-Rate.is in
-    let says = c.perform-in-Rate.ensures in
-    asked_run (texts c.args.words.now) a (outside c.args.desk.now) mid new c.perform-in-Rate.result c.attach_role.ensures.rest c.in_default.ensures.ok_faults c.in-Ok.ensures.answer
-    (carried_out a k is (c.refused_videos.ensures k) _ (c.put_roles-count.ensures.roles ∙ ap (λ (l : Command). roles_of l a) is) c.perform-in-Rate.result mid new
-    says.status says.texts says.prefixes says.words says.unopened says.causes says.attached says.whole_input says.taken_input)
+    let done = c.perform-in-Rate in
+    let says = done.ensures in
+    performed_run (texts c.args.words.now) (asked_of c.in-Ok.words) c.in-Ok.ensures.answer (outside c.args.desk.now) (outside c.attach_role.new.desk)
+    c.attach_role.ensures.rest c.in_default.ensures.ok_faults c.refused_videos.ensures _ c.put_roles-count.ensures.roles
+    (Rate c.in-Rate.target c.in-Rate.bucket) (sym c.command.ensures ∙ c.in-Rate.is) done.result (outside done.new.desk)
+    says.status says.texts says.prefixes says.words says.unopened says.causes says.attached says.whole_input says.taken_input
 
 pub returns-in-Audit : goal.returns-in-Audit
 returns-in-Audit g c =
     let outside = g.D.Desk.outside in
-    let mid = outside c.attach_role.new.desk in
-    let new = outside c.perform-in-Audit.new.desk in
-    let a = asked_of c.in-Ok.words in
-    let k = Audit c.in-Audit.params in
-    let is : a.command ≡ k = sym c.command.ensures ∙ c.in-Audit.is in
-    let says = c.perform-in-Audit.ensures in
-    asked_run (texts c.args.words.now) a (outside c.args.desk.now) mid new c.perform-in-Audit.result c.attach_role.ensures.rest c.in_default.ensures.ok_faults c.in-Ok.ensures.answer
-    (carried_out a k is (c.refused_videos.ensures k) _ (c.put_roles-count.ensures.roles ∙ ap (λ (l : Command). roles_of l a) is) c.perform-in-Audit.result mid new
-    says.status says.texts says.prefixes says.words says.unopened says.causes says.attached says.whole_input says.taken_input)
+    let done = c.perform-in-Audit in
+    let says = done.ensures in
+    performed_run (texts c.args.words.now) (asked_of c.in-Ok.words) c.in-Ok.ensures.answer (outside c.args.desk.now) (outside c.attach_role.new.desk)
+    c.attach_role.ensures.rest c.in_default.ensures.ok_faults c.refused_videos.ensures _ c.put_roles-count.ensures.roles
+    (Audit c.in-Audit.params) (sym c.command.ensures ∙ c.in-Audit.is) done.result (outside done.new.desk)
+    says.status says.texts says.prefixes says.words says.unopened says.causes says.attached says.whole_input says.taken_input
 
 pub returns : goal.returns
 returns g c =
     let outside = g.D.Desk.outside in
-    let mid = outside c.attach_role.new.desk in
-    let new = outside c.perform-in-Duplex.new.desk in
-    let a = asked_of c.in-Ok.words in
-    let k = Duplex c.in-Duplex.params in
-    let is : a.command ≡ k = sym c.command.ensures ∙ c.in-Duplex.is in
-    let says = c.perform-in-Duplex.ensures in
-    asked_run (texts c.args.words.now) a (outside c.args.desk.now) mid new c.perform-in-Duplex.result c.attach_role.ensures.rest c.in_default.ensures.ok_faults c.in-Ok.ensures.answer
-    (carried_out a k is (c.refused_videos.ensures k) _ (c.put_roles-count.ensures.roles ∙ ap (λ (l : Command). roles_of l a) is) c.perform-in-Duplex.result mid new
-    says.status says.texts says.prefixes says.words says.unopened says.causes says.attached says.whole_input says.taken_input)
+    let done = c.perform-in-Duplex in
+    let says = done.ensures in
+    performed_run (texts c.args.words.now) (asked_of c.in-Ok.words) c.in-Ok.ensures.answer (outside c.args.desk.now) (outside c.attach_role.new.desk)
+    c.attach_role.ensures.rest c.in_default.ensures.ok_faults c.refused_videos.ensures _ c.put_roles-count.ensures.roles
+    (Duplex c.in-Duplex.params) (sym c.command.ensures ∙ c.in-Duplex.is) done.result (outside done.new.desk)
+    says.status says.texts says.prefixes says.words says.unopened says.causes says.attached says.whole_input says.taken_input
