@@ -2,8 +2,8 @@
 //!
 //! `specs/Text` gives the syntax of a block and the text that is written of its levels. A reader
 //! finds exactly what the syntax says, or the first fault at its place. A block is a
-//! [`Block`](h263_types::Block), whose levels stand in the zigzag order. A writer
-//! takes the block's marks from a caller that has found them.
+//! [`Block`](h263_types::Block), whose levels stand in the zigzag order. A writer that is named
+//! `_marked` takes the block's marks from a caller that has found them.
 //!
 //! ```rust
 //! let mut block = Block { levels: [7; 64] };
@@ -18,4 +18,4 @@ mod reading;
 mod writing;
 
 pub use reading::{read_inter, read_intra};
-pub use writing::{is_coded_by, write_inter, write_intra};
+pub use writing::{is_coded_by, write_inter, write_inter_marked, write_intra, write_intra_marked};

@@ -71,10 +71,37 @@ fn dc_bits(block: &Block) -> u32
     block.levels[0].unsigned_abs() as u32
 }
 
-/// Writes a block of an intra macroblock, whose marks are given: INTRADC, and its events where
-/// another level isn't 0 (H.263, 5.4). There is room for its text, at most 1,394 bits.
+/// Writes a block of an intra macroblock: INTRADC, and its events where another level isn't 0
+/// (H.263, 5.4). There is room for its text, at most 1,394 bits.
+pub fn write_intra(writer: &mut BitWriter<'_>, block: &Block)
+    requires block { IsIntraBlock block.now }
+    requires room { len_of writer.old + length (intra_text block.now.levels) ≤ room_of writer.old }
+    ensures bits { Appends writer.old writer.new (intra_text block.now.levels) }
+    // It is a text of the block, which is coded exactly where a level other than INTRADC isn't 0.
+    ensures spells { IsIntraText
+        (is_coded block.now.levels) block.now.levels (intra_text block.now.levels) }
+    ensures len { len_of writer.new ≡ len_of writer.old + length (intra_text block.now.levels) }
+{
+    write_intra_marked(writer, block, block.marks());
+}
+
+/// Writes a coded block of an inter macroblock: the events of its levels, of which one at least
+/// isn't 0 (H.263, 5.4.2). There is room for its text, at most 1,408 bits.
+pub fn write_inter(writer: &mut BitWriter<'_>, block: &Block)
+    requires block { IsInterBlock block.now }
+    requires some { none_left block.now.levels ≡ false }
+    requires room { len_of writer.old + length (inter_text block.now.levels) ≤ room_of writer.old }
+    ensures bits { Appends writer.old writer.new (inter_text block.now.levels) }
+    // It is a text of the block.
+    ensures spells { IsInterText block.now.levels (inter_text block.now.levels) }
+    ensures len { len_of writer.new ≡ len_of writer.old + length (inter_text block.now.levels) }
+{
+    write_inter_marked(writer, block, block.marks());
+}
+
+/// Writes a block of an intra macroblock, whose marks are given, as [`write_intra`] does.
 #[tactic(auto, unfolding(crate::specs::Text::intra_text))]
-pub fn write_intra(writer: &mut BitWriter<'_>, block: &Block, marks: u64)
+pub fn write_intra_marked(writer: &mut BitWriter<'_>, block: &Block, marks: u64)
     requires block { IsIntraBlock block.now }
     requires marks { marks ≡ marks_of block.now.levels }
     requires whole { length block.now.levels ≡ 64 }
@@ -90,10 +117,10 @@ pub fn write_intra(writer: &mut BitWriter<'_>, block: &Block, marks: u64)
     write_levels(writer, block, marks, 1);
 }
 
-/// Writes the events of a block of an inter macroblock, whose marks are given (H.263, 5.4.2). There
-/// are none where the block isn't coded. There is room for its text, at most 1,408 bits.
+/// Writes the events of a block of an inter macroblock, whose marks are given, as [`write_inter`]
+/// does. There are none where the block isn't coded.
 #[tactic(auto, unfolding(crate::specs::Text::inter_text))]
-pub fn write_inter(writer: &mut BitWriter<'_>, block: &Block, marks: u64)
+pub fn write_inter_marked(writer: &mut BitWriter<'_>, block: &Block, marks: u64)
     requires block { IsInterBlock block.now }
     requires marks { marks ≡ marks_of block.now.levels }
     requires whole { length block.now.levels ≡ 64 }

@@ -7,10 +7,10 @@ ghost use Rattle.h263_types.specs.declared.clock.Clock.{Clock};
 ghost use Rattle.h263_types.specs.declared.params.Params.{Params};
 ghost use Rattle.h263_types.specs.Params.{IsParams};
 ghost use Rattle.h263_types.specs.Sizes.{mbs_of};
-ghost use Rattle.back_messages.specs.MessageBytes.{text_of};
+ghost use Rattle.back_messages.specs.Said.{text_of};
 ghost use Rattle.back_messages.specs.Text.{IsMessage};
 ghost use Rattle.back_messages.specs.declared.message.Message.{Message as BackMessage};
-ghost use Rattle.back_messages.specs.declared.writing.MessageBytes.{MessageBytes};
+ghost use Rattle.back_messages.specs.declared.writing.Said.{Said};
 ghost use Rattle.picture_header.specs.declared.header.Header.{Header};
 ghost use Rattle.picture_header.specs.Ranges.{IsHeader};
 ghost use Rattle.slice_layer.specs.Around.{around};
@@ -142,7 +142,7 @@ pub fn any_order()
 /// The bytes that a receiver says of a message are those that are written of it (`written`). A
 /// message of the program, as a call has it, is that message again (`marked_again`).
 pub fn said_bytes()
-    ensures written { (clock : Clock) (said : MessageBytes) (message : Message) → AreBytes (text_of said)
+    ensures written { (clock : Clock) (said : Said) (message : Message) → AreBytes (text_of said)
         → IsSaid clock said message → text_of said ≡ write_message message }
     ensures marked_again { (clock : Clock) (m : BackMessage)
         → IsMessage clock m → marked (message_of m) ≡ m }

@@ -29,3 +29,9 @@ pub record Appends (old new : BitWriter) (bits : List Bool) : Type 0 where
   pub buffer : buffer_of new ≡ buffer_of old
   pub room : room_of new ≡ room_of old
   pub text : written new ≡ written old ++ bits
+
+-- the bits after the first `len` were dropped, in the same buffer
+pub record Cuts (old new : BitWriter) (len : ℕ) : Type 0 where
+  pub buffer : buffer_of new ≡ buffer_of old
+  pub room : room_of new ≡ room_of old
+  pub text : written new ≡ take len (written old)

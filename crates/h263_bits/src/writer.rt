@@ -97,7 +97,7 @@ fn put_bits(bytes: &mut [u8], at: u32, value: u32, n: u32)
 }
 
 impl<'a> BitWriter<'a> {
-    ghost use Rattle.h263_bits.specs.Written.{written, len_of, room_of, buffer_of, to_byte, Appends};
+    ghost use Rattle.h263_bits.specs.Written.{written, len_of, room_of, buffer_of, to_byte, Appends, Cuts};
 
     /// A writer at the first bit of a buffer.
     pub fn new(bytes: &'a mut [u8]) -> BitWriter<'a>
@@ -129,6 +129,15 @@ impl<'a> BitWriter<'a> {
         ensures whole { len_of self.new % 8 ≡ 0 }
     {
         self.put(0, (8 - self.len % 8) % 8);
+    }
+
+    /// Drops the bits after the first `len`.
+    pub fn cut(&mut self, len: u32)
+        requires { len ≤ len_of self.old }
+        ensures bits { Cuts self.old self.new len }
+        ensures len { len_of self.new ≡ len }
+    {
+        self.len = len;
     }
 
     /// How many bits are written.

@@ -5,3 +5,4 @@ pub mod Wholes
 pub mod Givens
 mod Spots
 pub mod Rows
+pub mod LentRows

@@ -1,5 +1,6 @@
 -- What a write of one byte does to the picture that the bytes hold.
-use Rattle.std.proofs.Common.{◌≡◌, ℕ, ◌+◌, ◌*◌, ◌-◌, ◌/◌, ◌<◌, ◌≤◌, List, length, refl, ap, ◌∙◌, arith, slice_set, subst, suc, [], ◌∷◌, ◌++◌, add_assoc, append_assoc, sym, take, drop, cond, get_or, length-drop, length-take}
+use Rattle.std.proofs.Common.{◌≡◌, Bool, true, false, ◌&&◌, nat_eq, nat_le, nat_lt, ℕ, ◌+◌, ◌*◌, ◌-◌, ◌/◌, ◌<◌, ◌≤◌, List, length, refl, ap, ◌∙◌, arith, slice_set, subst, suc, [], ◌∷◌, ◌++◌, add_assoc, append_assoc, sym, take, drop, cond, get_or, length-drop, length-take}
+use Rattle.std.proofs.lemmas.Bool.Decides.{nat_tests}
 use Rattle.h263_planes.proofs.Runs.{run_at}
 use Rattle.std.proofs.Math.Seq.{drop-drop}
 use Rattle.std.proofs.lemmas.List.Edits.{sets-eq}
@@ -14,7 +15,7 @@ use Rattle.h263_planes.specs.declared.Plane.{Plane}
 use Rattle.h263_planes.specs.declared.Plane.TheVariants.{Y, Cb, Cr}
 use Rattle.h263_planes.specs.Picture.{Picture}
 use Rattle.h263_planes.specs.Layout.{picture_of, offset_of, width_in, height_in}
-use Rattle.h263_planes.specs.Samples.{with_plane, plane_of, with_samples, sample_at, in_run}
+use Rattle.h263_planes.specs.Samples.{with_plane, plane_of, with_sample, with_samples, sample_at, in_run, same_plane}
 use Rattle.h263_planes.proofs.Ranges.{range_set_before, range_set_within, range_set_after}
 
 -- pictures with the same planes are the same
@@ -132,3 +133,30 @@ run_samples f bytes q plane other run x y i j whole hx hy hi e =
     let inside : width_in f plane * y + x + length run ≤ width_in f plane * height_in f plane = run_inside (width_in f plane) (height_in f plane) x y (length run) hx hy in
     let room : width_in f plane * y + x + length run ≤ length (plane_of (picture_of f bytes) plane) = omega (arith, plane_long f bytes plane whole) in
     ap (λ (p : Picture). sample_at p other i j) e ∙ run_sample (picture_of f bytes) plane other run x y i j hx (omega arith) room
+
+-- what a write of one byte leaves
+pub put_one : (f : Format) (bytes : List ℕ) (plane : Plane) (at x y v : ℕ) → at ≡ offset_of f plane + width_in f plane * y + x → x + 1 ≤ width_in f plane → y < height_in f plane →
+    picture_of f (slice_set bytes at v) ≡ with_sample (picture_of f bytes) plane x y v
+put_one f bytes plane at x y v e hx hy =
+    let place : at ≡ offset_of f plane + (width_in f plane * y + x) = omega arith in
+    let inside : width_in f plane * y + x + 1 ≤ width_in f plane * height_in f plane = run_inside (width_in f plane) (height_in f plane) x y 1 hx hy in
+    ap (λ (k : ℕ). picture_of f (slice_set bytes k v)) place ∙ set_in_plane f bytes plane (width_in f plane * y + x) v (omega arith)
+
+-- a run of one has one sample
+by_column : (x i a v old : ℕ) → (x ≤ i → i < x + 1 → a ≡ v) →
+    cond (nat_le x i && nat_lt i (x + 1)) a old ≡ cond (nat_le x i && nat_lt i (x + 1)) v old
+by_column x i a v old h = grind (arith, nat_tests)
+
+by_tests : (p q : Bool) (x i a v old : ℕ) → (x ≤ i → i < x + 1 → a ≡ v) →
+    cond (p && (q && (nat_le x i && nat_lt i (x + 1)))) a old ≡ cond (p && (q && (nat_le x i && nat_lt i (x + 1)))) v old
+by_tests false q x i a v old h = refl
+by_tests true false x i a v old h = refl
+by_tests true true x i a v old h = by_column x i a v old h
+
+pub one_sample : (f : Format) (bytes : List ℕ) (q : Picture) (plane other : Plane) (v x y i j : ℕ) → length bytes ≡ size_of_picture f →
+    x + 1 ≤ width_in f plane → y < height_in f plane → i + 1 ≤ width_in f other → q ≡ with_sample (picture_of f bytes) plane x y v →
+    sample_at q other i j ≡ cond (in_run plane x y 1 other i j) v (sample_at (picture_of f bytes) other i j)
+one_sample f bytes q plane other v x y i j whole hx hy hi e =
+    run_samples f bytes q plane other (v ∷ []) x y i j whole hx hy hi e
+    ∙ by_tests (same_plane plane other) (nat_eq j y) x i (get_or (v ∷ []) (i - x) 0) v (sample_at (picture_of f bytes) other i j)
+    (λ low high. let none : i - x ≡ 0 = omega arith in ap (λ (k : ℕ). get_or (v ∷ []) k 0) none)

@@ -1,5 +1,5 @@
 -- The samples of a picture.
-use Rattle.std.specs.Prelude.{ℕ, ◌+◌, ◌*◌, ◌<◌, ◌≤◌, ◌≡◌, List, ◌++◌, length, slice_index, slice_set, Bool, true, false, ◌&&◌, nat_eq, nat_le, nat_lt}
+use Rattle.std.specs.Prelude.{ℕ, ◌+◌, ◌*◌, ◌<◌, ◌≤◌, ◌≡◌, List, ◌++◌, length, slice_index, Bool, true, false, ◌&&◌, nat_eq, nat_le, nat_lt, slice_set}
 use lib.Seq.{sets}
 use Rattle.h263_types.specs.declared.format.Format.{Format}
 use Rattle.h263_planes.specs.declared.Plane.{Plane}
@@ -48,6 +48,11 @@ abbrev pub with_plane : Picture → Plane → List ℕ → Picture
 with_plane p Y samples = record p { y = samples }
 with_plane p Cb samples = record p { cb = samples }
 with_plane p Cr samples = record p { cr = samples }
+
+-- the picture with another sample in column x of row y
+abbrev pub with_sample : Picture → Plane → ℕ → ℕ → ℕ → Picture
+with_sample p plane x y v =
+    with_plane p plane (slice_set (plane_of p plane) (width_in p.format plane * y + x) v)
 
 -- the picture with a run of samples from column x of row y on
 abbrev pub with_samples : Picture → Plane → ℕ → ℕ → List ℕ → Picture

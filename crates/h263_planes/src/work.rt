@@ -1,5 +1,5 @@
 //! A picture that is lent for writing.
-ghost use Rattle.std.specs.Prelude.{◌≡◌, ◌+◌, ◌*◌, ◌-◌, ◌<◌, ◌≤◌, length};
+ghost use Rattle.std.specs.Prelude.{◌≡◌, ◌+◌, ◌*◌, ◌-◌, ◌<◌, ◌≤◌, length, slice_set};
 ghost use lib.Seq.{sets};
 ghost use Rattle.h263_types.specs.Sizes.{size_of_picture};
 ghost use Rattle.h263_planes.specs.Rows.{sets_rows};
@@ -24,7 +24,7 @@ impl<'a> PictureMut<'a> {
     ghost use Rattle.h263_planes.specs.declared.Plane.{Plane};
     ghost use Rattle.h263_types.specs.Sizes.{size_of_picture};
     ghost use Rattle.h263_planes.specs.Layout.{picture_of};
-    ghost use Rattle.h263_planes.specs.Samples.{Inside, IsPicture, sample_at, with_samples, in_block, in_run};
+    ghost use Rattle.h263_planes.specs.Samples.{Inside, IsPicture, sample_at, with_sample, with_samples, in_block, in_run};
     ghost use Rattle.h263_planes.specs.Lent.{picture};
     ghost use Rattle.h263_planes.specs.Work.{work, loan_of};
 
@@ -56,6 +56,21 @@ impl<'a> PictureMut<'a> {
         ensures { IsPicture (work self.now) }
     {
         laws::are_samples(self.bytes);
+    }
+
+    /// Writes the sample in column `x` of row `y`.
+    pub fn set(&mut self, plane: Plane, x: u32, y: u32, value: u8)
+        requires { Inside (work self.old).format plane x y 1 }
+        ensures same_loan { loan_of self.new ≡ loan_of self.old }
+        ensures picture { work self.new ≡ with_sample (work self.old) plane x y value }
+        ensures format { (work self.new).format ≡ (work self.old).format }
+        ensures whole { IsPicture (work self.new) }
+        ensures samples { (other : Plane) (i j : ℕ)
+            → Inside (work self.old).format other i j 1 → sample_at (work self.new) other i j ≡
+            (if in_run plane x y 1 other i j then value else sample_at (work self.old) other i j) }
+    {
+        let at = self.layout.place(plane, x, y);
+        put_sample(self.bytes, at, value);
     }
 
     /// Writes `samples` into row `y` from column `x` on.
@@ -90,7 +105,35 @@ impl<'a> PictureMut<'a> {
     {
         let from = self.layout.place(plane, x, y);
         let width = self.layout.width(plane);
-        put_rows::<N>(self.bytes, from, width, samples);
+        put_rows::<N>(self.bytes, from, width, samples, N);
+    }
+
+    /// Copies `N` columns and rows of samples, from column `x` of row `y` on, from the same place of
+    /// another picture of this format.
+    #[inline(always)]
+    pub fn copy_square<const N: usize>(
+        &mut self,
+        plane: Plane,
+        x: u32,
+        y: u32,
+        source: PictureRef<'_>,
+    )
+        requires format { (picture source).format ≡ (work self.old).format }
+        requires inside { Inside (work self.old).format plane x (y + (N - 1)) N }
+        requires size { 0 < N }
+        requires most { N ≤ 16 }
+        ensures same_loan { loan_of self.new ≡ loan_of self.old }
+        ensures format { (work self.new).format ≡ (work self.old).format }
+        ensures whole { IsPicture (work self.new) }
+        ensures samples { (other : Plane) (i j : ℕ) → Inside (work self.old).format other i j 1
+            → sample_at (work self.new) other i j ≡ (if in_block plane x y N N other i j
+            then sample_at (picture source.entry) other i j
+            else sample_at (work self.old) other i j) }
+    {
+        let from = self.layout.place(plane, x, y);
+        let width = self.layout.width(plane);
+        let rows = source.rows(plane, x, y, N as u32, N as u32);
+        put_rows::<N>(self.bytes, from, width, rows, width);
     }
 
     /// The picture as it is now, for reading.
@@ -100,6 +143,16 @@ impl<'a> PictureMut<'a> {
     {
         PictureRef::new(self.layout.format, &*self.bytes)
     }
+}
+
+// Writes one sample, and leaves samples.
+#[inline(always)]
+fn put_sample(bytes: &mut [u8], at: usize, sample: u8)
+    requires { at < length bytes.old }
+    ensures after { bytes.new ≡ slice_set bytes.old at sample }
+    ensures samples { AreSamples bytes.new }
+{
+    bytes[at] = sample;
 }
 
 // Writes samples one after the other, and leaves samples.
@@ -112,18 +165,30 @@ fn put_samples(bytes: &mut [u8], from: usize, samples: &[u8])
     bytes[from..from + samples.len()].copy_from_slice(samples);
 }
 
-// Writes the rows of a square of N x N samples, each `width` bytes after the one above it.
+// Writes N rows of as many samples, each `width` bytes after the one above it, from rows that stand
+// `stride` samples after one another.
 #[inline(always)]
-fn put_rows<const N: usize>(bytes: &mut [u8], from: usize, width: usize, samples: &[u8])
+fn put_rows<const N: usize>(
+    bytes: &mut [u8],
+    from: usize,
+    width: usize,
+    samples: &[u8],
+    stride: usize,
+)
     requires room { from + width * (N - 1) + N ≤ length bytes.old }
     requires size { N ≤ 16 }
     requires width { width ≤ 352 }
-    requires samples { length samples.now ≡ N * N }
-    ensures after { bytes.new ≡ sets_rows width N samples.now from N bytes.old }
+    requires stride { stride ≤ 352 }
+    requires samples { stride * (N - 1) + N ≤ length samples.now }
+    ensures after { bytes.new ≡ sets_rows width N stride samples.now from N bytes.old }
     ensures samples { AreSamples bytes.new }
 {
+    let mut to = from;
+    let mut at = 0;
     for k in 0..N {
-        put_row::<N>(bytes, from + width * k, &samples[N * k..N * k + N]);
+        put_row::<N>(bytes, to, &samples[at..at + N]);
+        to += width;
+        at += stride;
     }
     laws::are_samples(bytes);
 }

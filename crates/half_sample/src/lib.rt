@@ -2,7 +2,7 @@
 //! 6.1).
 //!
 //! [`predict`] gives all of a macroblock as [`Predicted`]; [`luma`] and [`chroma`] fill one of its
-//! planes.
+//! planes, [`colours`] both of colour.
 //!
 //! ```rust
 //! // columns of 10 and 11 by turns: half a sample across is 11, and 10 with the rounding bit
@@ -20,6 +20,7 @@ mod block;
 mod macroblock;
 mod place;
 mod rows;
+mod source;
 
 pub use around::{Around, luma_around};
-pub use macroblock::{Predicted, chroma, luma, predict};
+pub use macroblock::{Predicted, chroma, colours, luma, predict};

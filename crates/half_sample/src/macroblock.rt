@@ -3,11 +3,11 @@ ghost use Rattle.std.specs.Prelude.{◌≤◌, ◌<◌};
 ghost use Rattle.h263_types.specs.Sizes.{mbs_of};
 ghost use Rattle.h263_types.specs.Vectors.{InReach};
 ghost use Rattle.h263_planes.specs.Lent.{picture};
-ghost use Rattle.h263_planes.specs.declared.Plane.TheVariants.{Y};
+ghost use Rattle.h263_planes.specs.declared.Plane.TheVariants.{Cb, Cr, Y};
 ghost use Rattle.half_sample.specs.Macroblock.{IsPredicted};
 ghost use Rattle.half_sample.specs.Prediction.{ArePredicted, IsColour};
 
-use crate::block::block;
+use crate::block::{colour_blocks, luma_block};
 use crate::place::{half_of, place_of};
 use h263_planes::{PictureRef, Plane};
 use h263_types::Vector;
@@ -36,8 +36,14 @@ pub fn predict(reference: PictureRef<'_>, mb: u32, vector: Vector, rounding: u8)
         cr: [0; 64],
     };
     luma(reference, mb, vector, rounding, &mut samples.y);
-    chroma(reference, Plane::Cb, mb, vector, rounding, &mut samples.cb);
-    chroma(reference, Plane::Cr, mb, vector, rounding, &mut samples.cr);
+    colours(
+        reference,
+        mb,
+        vector,
+        rounding,
+        &mut samples.cb,
+        &mut samples.cr,
+    );
     samples
 }
 
@@ -51,7 +57,7 @@ pub fn luma(reference: PictureRef<'_>, mb: u32, vector: Vector, rounding: u8, ou
 {
     let place = place_of(reference, Plane::Y, mb, vector);
     let half = half_of(Plane::Y, vector);
-    block::<16, 16>(reference, Plane::Y, place, half, rounding, out);
+    luma_block(reference, place, half, rounding, out);
 }
 
 /// The 8 x 8 samples of a colour, Cb or Cr, that the macroblock's luma vector predicts, by rows
@@ -70,8 +76,30 @@ pub fn chroma(
     requires rounding { rounding ≤ 1 }
     ensures { ArePredicted 8 (picture reference.entry) plane mb vector rounding out.new }
 {
-    // Both colours are read alike.
+    let mut other = [0; 64];
+    match plane {
+        Plane::Cb => colours(reference, mb, vector, rounding, out, &mut other),
+        _ => colours(reference, mb, vector, rounding, &mut other, out),
+    }
+}
+
+/// The same for both colours at once, which takes little longer than for one: their samples stand
+/// beside one another in lanes.
+pub fn colours(
+    reference: PictureRef<'_>,
+    mb: u32,
+    vector: Vector,
+    rounding: u8,
+    cb: &mut [u8; 64],
+    cr: &mut [u8; 64],
+)
+    requires mb { mb < mbs_of (picture reference).format }
+    requires reach { InReach (picture reference).format mb vector.x vector.y }
+    requires rounding { rounding ≤ 1 }
+    ensures cb { ArePredicted 8 (picture reference.entry) Cb mb vector rounding cb.new }
+    ensures cr { ArePredicted 8 (picture reference.entry) Cr mb vector rounding cr.new }
+{
     let place = place_of(reference, Plane::Cb, mb, vector);
     let half = half_of(Plane::Cb, vector);
-    block::<8, 8>(reference, plane, place, half, rounding, out);
+    colour_blocks(reference, place, half, rounding, cb, cr);
 }

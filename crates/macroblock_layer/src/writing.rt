@@ -16,7 +16,7 @@ ghost use Rattle.macroblock_layer.specs.Written.{levels_at, cbpy_of, cbpc_of, cl
 
 use crate::laws;
 use crate::reading::wrapped;
-use block_layer::{is_coded_by, write_inter, write_intra};
+use block_layer::{is_coded_by, write_inter_marked, write_intra_marked};
 use code_tables::{MbClass, Mcbpc, write_cbpy, write_dquant, write_mcbpc, write_mvd};
 use h263_bits::BitWriter;
 use h263_types::{Block, Kind, Mb, Vector};
@@ -208,7 +208,7 @@ fn write_intra_blocks(writer: &mut BitWriter<'_>, blocks: &[Block; 6], marks: &[
         ≡ len_of writer.old + length (blocks_text intra_text blocks.now) }
 {
     'all: for k in 0..6 {
-        write_intra(writer, &blocks[k], marks[k]);
+        write_intra_marked(writer, &blocks[k], marks[k]);
     }
 }
 
@@ -223,7 +223,7 @@ fn write_inter_blocks(writer: &mut BitWriter<'_>, blocks: &[Block; 6], marks: &[
         ≡ len_of writer.old + length (blocks_text inter_text blocks.now) }
 {
     'all: for k in 0..6 {
-        write_inter(writer, &blocks[k], marks[k]);
+        write_inter_marked(writer, &blocks[k], marks[k]);
     }
 }
 

@@ -2,7 +2,7 @@
 use Rattle.std.proofs.Common.{◌≡◌, arith, ℕ, suc, ◌+◌, ◌≤◌, List, [], ◌∷◌, ◌++◌, length, replicate, refl, ap, sym, subst, ◌∙◌, take, drop, length-take, length-drop, take-append-drop}
 use Rattle.std.specs.Int.{abs_diff}
 use lib.Lanes.{sum_l}
-use Rattle.motion_search.specs.Differences.{differences}
+use Rattle.sad_kernel.specs.Differences.{differences}
 
 -- the differences from 0 are the samples
 pub from_zero : (xs : List ℕ) → differences xs (replicate (length xs) 0) ≡ sum_l xs

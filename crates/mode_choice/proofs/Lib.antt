@@ -11,3 +11,4 @@ pub mod Sixteenths
 pub mod Whole
 pub mod Empties
 pub mod Searched
+pub mod LentRows

@@ -19,7 +19,7 @@ use Rattle.quantiser.specs.Zigzag.{block_place_of}
 use Rattle.idct8.specs.Transform.{forward_at}
 use Rattle.motion_search.specs.Best.{best_vector}
 use Rattle.motion_search.specs.Cost as luma
-use Rattle.motion_search.specs.Differences.{differences}
+use Rattle.sad_kernel.specs.Differences.{differences}
 use Rattle.picture_header.specs.declared.header.Header.{Header}
 
 -- ---- what is transformed

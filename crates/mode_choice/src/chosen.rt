@@ -5,9 +5,9 @@ ghost use Rattle.h263_types.specs.Vectors.{InReach};
 ghost use Rattle.h263_planes.specs.Lent.{picture};
 ghost use Rattle.half_sample.specs.Macroblock.{IsPredicted};
 
-use h263_planes::{PictureRef, Plane};
+use h263_planes::PictureRef;
 use h263_types::{Mb, Vector};
-use half_sample::{Predicted, chroma, luma};
+use half_sample::{Predicted, colours, luma};
 use motion_search::KeptSums;
 
 /// A macroblock as it is chosen, the marks of its blocks, and the samples that the vector of an
@@ -64,6 +64,5 @@ pub(crate) fn predict_into(
     ensures { IsPredicted (picture reference.entry) mb vector rounding out.new }
 {
     luma(reference, mb, vector, rounding, &mut out.y);
-    chroma(reference, Plane::Cb, mb, vector, rounding, &mut out.cb);
-    chroma(reference, Plane::Cr, mb, vector, rounding, &mut out.cr);
+    colours(reference, mb, vector, rounding, &mut out.cb, &mut out.cr);
 }

@@ -7,7 +7,9 @@ ghost use Rattle.mode_choice.specs.Walk.{least_of, level_by, level_in};
 
 use crate::order::{Standing, put_in_order};
 use h263_types::laws as types_laws;
-use quantiser::{Factor, laws as quantiser_laws, level_inter, level_intra, limited};
+use quantiser::{
+    Factor, laws as quantiser_laws, level_inter_by_factor, level_intra_by_factor, limited,
+};
 
 // How a block is coded: by itself, or as what a prediction leaves.
 #[derive(Clone, Copy, Debug)]
@@ -113,7 +115,7 @@ fn level(coding: Coding, quantisation: Quantisation, coefficient: i16) -> i16
 {
     let Quantisation { quant, factor, .. } = quantisation;
     match coding {
-        Coding::Intra => level_intra(quant, factor, coefficient),
-        Coding::Inter => level_inter(quant, factor, coefficient),
+        Coding::Intra => level_intra_by_factor(quant, factor, coefficient),
+        Coding::Inter => level_inter_by_factor(quant, factor, coefficient),
     }
 }

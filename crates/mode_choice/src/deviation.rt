@@ -2,14 +2,14 @@
 ghost use Rattle.std.specs.Prelude.{◌≡◌, ℕ, ◌<◌, ◌≤◌, replicate};
 ghost use Rattle.h263_types.specs.Sizes.{mbs_of};
 ghost use Rattle.h263_planes.specs.Lent.{picture};
-ghost use Rattle.motion_search.specs.Differences.{differences};
+ghost use Rattle.sad_kernel.specs.Differences.{differences};
 ghost use Rattle.motion_search.specs.Cost.{samples_of};
 ghost use Rattle.mode_choice.specs.Choice.{deviation_of, mean_of};
 
 use h263_planes::PictureRef;
 use h263_types::Vector;
 use half_sample::luma;
-use motion_search::sad;
+use sad_kernel::sad;
 
 // The sum of the absolute differences of a macroblock's luma samples from their mean.
 pub(crate) fn deviation(samples: &[u8; 256]) -> u32

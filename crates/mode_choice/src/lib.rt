@@ -1,17 +1,15 @@
 //! The choice of each macroblock: how it is coded, and with which levels. H.263 leaves this to the
 //! encoder.
 //!
-//! [`choose`] writes a macroblock into a place that is kept, a [`Chosen`]: an
-//! [`Mb`](h263_types::Mb) that is not coded, predicted by a vector, or coded by itself.
+//! [`choose`] answers an [`Mb`](h263_types::Mb) that is not coded, predicted by a vector, or coded
+//! by itself; [`choose_into`] writes it into a place that is kept, a [`Chosen`].
 //!
 //! ```rust
 //! // one sample that is lighter by 78 leaves no level
 //! let mut lighter = [100; SIZE];
 //! lighter[128 * 16 + 16] = 178;
 //! let frame = PictureRef::new(Format::SubQcif, &lighter);
-//! let mut chosen = Chosen::new();
-//! choose(frame, Some(reference), 9, &header, &params, &mut chosen);
-//! assert!(rt; chosen.mb == Mb::Skip);
+//! assert!(rt; choose(frame, Some(reference), 9, &header, &params) == Mb::Skip);
 //! ```
 #![tactic(auto)]
 
@@ -29,4 +27,4 @@ mod sure;
 mod transformed;
 
 pub use chosen::Chosen;
-pub use macroblock::choose;
+pub use macroblock::{choose, choose_into};

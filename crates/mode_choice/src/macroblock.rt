@@ -29,19 +29,44 @@ use crate::samples::block_samples;
 use h263_planes::PictureRef;
 use h263_types::{Block, Mb, Params, Vector, laws as types_laws};
 use half_sample::Predicted;
-use motion_search::search;
+use motion_search::search_from;
 use picture_header::Header;
 use quantiser::factor_of;
 
-/// Writes the macroblock that is coded at place `mb` of `frame` into its place, with the marks of
-/// its blocks and what the vector of an inter macroblock predicts: by the quantiser of the header,
-/// with the first `keep` places of each block's zigzag order. Without a reference, which only a P
-/// picture has, it is coded by itself; else the motion search of `radius` whole samples decides
-/// whether it is predicted, coded by itself, or not coded at all. The choice is the same whatever
-/// the place held before. Where that is an inter macroblock the search begins at its vector, so the
-/// choice comes sooner if it is a neighbour's, and its sums are those of this reference: a new place
-/// for each picture.
+/// The macroblock that is coded at place `mb` of `frame`, by the quantiser of the header and with
+/// the first `keep` places of each block's zigzag order. Without a reference, which only a P picture
+/// has, it is coded by itself; else the motion search of `radius` whole samples decides whether it
+/// is predicted, coded by itself, or not coded at all.
 pub fn choose(
+    frame: PictureRef<'_>,
+    reference: Option<PictureRef<'_>>,
+    mb: u32,
+    header: &Header,
+    params: &Params,
+) -> Mb
+    requires reference { HasReferenceOnlyInP header.now.kind
+        (picture frame).format (option_map picture reference) }
+    requires quant { IsQuant header.now.quant }
+    requires rounding { header.now.rounding ≤ 1 }
+    requires radius { params.now.radius ≤ 15 }
+    requires mb { mb < mbs_of (picture frame).format }
+    ensures choice { result ≡ choice.choice_of
+        (picture frame.entry) (option_map picture reference.entry) header.now params.now mb }
+    ensures in_range { IsMb result }
+    ensures of_kind { IsOfKind header.now.kind result }
+    ensures reach { ReachesInside (picture frame.entry).format mb result }
+    ensures plain { HasQuant header.now.quant result }
+{
+    let mut chosen = Chosen::new();
+    choose_into(frame, reference, mb, header, params, &mut chosen);
+    chosen.mb
+}
+
+/// Writes what [`choose`] answers into its place, with the marks of its blocks and what the vector
+/// of an inter macroblock predicts. The choice is the same whatever the place held before. Where
+/// that is an inter macroblock the search begins at its vector, so the choice comes sooner if it is
+/// a neighbour's, and its sums are those of this reference: a new place for each picture.
+pub fn choose_into(
     frame: PictureRef<'_>,
     reference: Option<PictureRef<'_>>,
     mb: u32,
@@ -103,7 +128,7 @@ fn macroblock_in_p(
     let guess = vector_of(&out.mb);
     let radius = params.radius;
     let sums = &mut out.sums;
-    let (vector, cost) = search(frame, reference, mb, radius, header.rounding, guess, sums);
+    let (vector, cost) = search_from(frame, reference, mb, radius, header.rounding, guess, sums);
     if is_nearer_to_mean(frame, mb, cost) {
         let (quant, keep) = (header.quant, params.keep);
         intra_macroblock(frame, mb, quant, keep, &mut out.mb, &mut out.marks);

@@ -123,10 +123,49 @@ fn differences(
         -ℤ pos (slice_index predicted.now (from + stride * (k / 8) + k % 8))) }
     ensures range { All IsSample residuals.new }
 {
-    for j in 0..8u32 {
-        let row = frame.row(corner.plane, corner.x, corner.y + j, 8);
-        let at = from + stride * j as usize;
-        put_difference(residuals, j as usize, row, &predicted[at..at + 8]);
+    let rows = frame.rows(corner.plane, corner.x, corner.y, 8, 8);
+    put_differences(
+        rows,
+        frame.width(corner.plane),
+        predicted,
+        from,
+        stride,
+        residuals,
+    );
+}
+
+// The same of eight rows, each `width` places after the one above it.
+#[inline(always)]
+fn put_differences(
+    rows: &[u8],
+    width: usize,
+    predicted: &[u8],
+    from: usize,
+    stride: usize,
+    residuals: &mut [i16; 64],
+)
+    requires rows { width * 7 + 8 ≤ length rows.now }
+    requires width { width ≤ 352 }
+    requires from { from ≤ 136 }
+    requires stride { stride ≤ 16 }
+    requires predicted { from + 7 * stride + 8 ≤ length predicted.now }
+    ensures long { length residuals.new ≡ 64 }
+    ensures differences { (k : ℕ) → k < 64 → slice_index_or residuals.new k (pos 0)
+        ≡ (pos (slice_index rows.now (width * (k / 8) + k % 8))
+        -ℤ pos (slice_index predicted.now (from + stride * (k / 8) + k % 8))) }
+    ensures range { All IsSample residuals.new }
+{
+    let mut above = 0;
+    let mut at = from;
+    for j in 0..8usize {
+        put_difference(
+            residuals,
+            j,
+            &rows[above..above + 8],
+            &predicted[at..at + 8],
+        );
+        above += width;
+        at += stride;
     }
 }
 

@@ -1,5 +1,5 @@
 //! The samples of a block.
-ghost use Rattle.std.specs.Prelude.{◌≡◌, ℕ, ◌+◌, ◌%◌, ◌/◌, ◌<◌, pos, All, length, slice_index, slice_index_or, nat_eq, if◌then◌else◌};
+ghost use Rattle.std.specs.Prelude.{◌≡◌, ℕ, ◌+◌, ◌*◌, ◌%◌, ◌/◌, ◌<◌, ◌≤◌, pos, All, length, slice_index, slice_index_or, nat_eq, if◌then◌else◌};
 ghost use Rattle.h263_types.specs.Sizes.{mbs_of};
 ghost use Rattle.h263_planes.specs.Lent.{picture};
 ghost use Rattle.h263_planes.specs.Samples.{Inside, sample_at};
@@ -34,9 +34,23 @@ fn square(frame: PictureRef<'_>, plane: Plane, x: u32, y: u32, samples: &mut [i1
         ≡ pos (sample_at (picture frame.entry) plane (x + k % 8) (y + k / 8)) }
     ensures range { All IsSample samples.new }
 {
-    for j in 0..8u32 {
-        let row = frame.row(plane, x, y + j, 8);
-        put_row(samples, j as usize, row);
+    put_rows(frame.rows(plane, x, y, 8, 8), frame.width(plane), samples);
+}
+
+// Writes eight rows of a block, each `width` places after the one above it.
+#[inline(always)]
+fn put_rows(rows: &[u8], width: usize, samples: &mut [i16; 64])
+    requires rows { width * 7 + 8 ≤ length rows.now }
+    requires width { width ≤ 352 }
+    ensures long { length samples.new ≡ 64 }
+    ensures samples { (k : ℕ) → k < 64 → slice_index_or samples.new k (pos 0)
+        ≡ pos (slice_index rows.now (width * (k / 8) + k % 8)) }
+    ensures range { All IsSample samples.new }
+{
+    let mut at = 0;
+    for j in 0..8usize {
+        put_row(samples, j, &rows[at..at + 8]);
+        at += width;
     }
 }
 

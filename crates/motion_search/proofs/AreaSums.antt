@@ -9,7 +9,7 @@ use Rattle.std.specs.List.{range_with_len}
 use Rattle.std.proofs.lemmas.Grind.{same_number_lists}
 use Rattle.std.proofs.lemmas.List.FromFn.{length-map-range_with_len, get_or-map-range_with_len}
 use Rattle.std.proofs.lemmas.Simd.{zip2-map, bitmask_splat, bit_mask_l, length-chunk, get_or-chunk}
-use Rattle.motion_search.specs.Differences.{differences}
+use Rattle.sad_kernel.specs.Differences.{differences}
 use Rattle.motion_search.specs.Cost.{square}
 use Rattle.motion_search.specs.Areas.{total, column_sum, area_sum, AreBytes, sixteen, in_block, IsRow}
 use Rattle.motion_search.proofs.Blocks.{length-square, get_or-square}

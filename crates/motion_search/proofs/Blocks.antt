@@ -5,7 +5,7 @@ use Rattle.std.proofs.lemmas.Simd.{length-chunk, chunk-drop}
 use Rattle.std.proofs.lemmas.Grind.{same_number_lists}
 use Rattle.std.proofs.lemmas.List.FromFn.{length-map-range_with_len, get_or-map-range_with_len}
 use Rattle.std.proofs.lemmas.List.{get_or-take, get_or-drop}
-use Rattle.motion_search.specs.Differences.{differences}
+use Rattle.sad_kernel.specs.Differences.{differences}
 use Rattle.h263_types.specs.declared.vector.Vector.{Vector}
 use Rattle.h263_planes.specs.Picture.{Picture}
 use Rattle.h263_planes.specs.declared.Plane.TheVariants.{Y}

@@ -11,7 +11,7 @@ use Rattle.h263_types.specs.Sizes.{columns_of, height_of, mbs_of, width_of}
 use Rattle.h263_planes.specs.Picture.{Picture}
 use Rattle.h263_planes.specs.Samples.{sample_at, IsPicture}
 use Rattle.h263_planes.specs.declared.Plane.TheVariants.{Y}
-use Rattle.motion_search.specs.Differences.{differences}
+use Rattle.sad_kernel.specs.Differences.{differences}
 use Rattle.motion_search.specs.Cost.{square}
 use Rattle.motion_search.specs.declared.areas.Quarters.{Quarters}
 use Rattle.motion_search.specs.declared.kept.AreaRows.{AreaRows}

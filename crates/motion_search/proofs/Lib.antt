@@ -10,4 +10,3 @@ pub mod Nears
 pub mod AreaSums
 pub mod Strips
 pub mod Held
-pub mod AbsoluteSums

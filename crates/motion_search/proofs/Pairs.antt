@@ -3,7 +3,7 @@ use Rattle.std.proofs.Common.{◌≡◌, refl, ap, ◌∙◌, arith, ℕ, ◌+�
 use lib.Lanes.{chunk}
 use Rattle.std.proofs.lemmas.Int.{ints}
 use Rattle.std.proofs.lemmas.Simd.{length-chunk, get_or-chunk}
-use Rattle.motion_search.specs.Differences.{differences}
+use Rattle.sad_kernel.specs.Differences.{differences}
 use Rattle.h263_types.specs.declared.vector.Vector.{Vector}
 use Rattle.h263_planes.specs.Picture.{Picture}
 use Rattle.half_sample.specs.Around.{down_by, right_by, IsBetween}

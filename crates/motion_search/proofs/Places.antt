@@ -9,7 +9,7 @@ use Rattle.h263_planes.specs.Picture.{Picture}
 use Rattle.h263_planes.specs.Samples.{sample_at}
 use Rattle.h263_planes.specs.declared.Plane.TheVariants.{Y}
 use Rattle.half_sample.specs.Prediction.{predicted_sample, interpolated, is_half, moved, whole_part}
-use Rattle.motion_search.specs.Differences.{differences}
+use Rattle.sad_kernel.specs.Differences.{differences}
 use Rattle.motion_search.specs.declared.candidate.Candidate.{Candidate}
 use Rattle.motion_search.specs.Cost.{square, difference_of, candidate_of}
 use Rattle.motion_search.specs.Vectors.{zero_vector, IsEven}

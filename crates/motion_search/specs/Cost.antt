@@ -8,7 +8,7 @@ use Rattle.h263_planes.specs.Picture.{Picture}
 use Rattle.h263_planes.specs.Samples.{sample_at}
 use Rattle.h263_planes.specs.declared.Plane.TheVariants.{Y}
 use Rattle.half_sample.specs.Prediction.{predicted_sample}
-use Rattle.motion_search.specs.Differences.{differences}
+use Rattle.sad_kernel.specs.Differences.{differences}
 use Rattle.motion_search.specs.declared.candidate.Candidate.{Candidate}
 
 -- the 16 x 16 numbers that are given by their column and row, by rows from the top

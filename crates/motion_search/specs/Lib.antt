@@ -1,4 +1,3 @@
-pub mod Differences
 pub mod Order
 pub mod Cost
 pub mod Vectors

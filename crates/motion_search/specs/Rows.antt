@@ -1,6 +1,6 @@
 -- Blocks of 16 x 16 numbers by their rows.
 use Rattle.std.specs.Prelude.{ℕ, ◌*◌, List, drop}
-use Rattle.motion_search.specs.Differences.{differences}
+use Rattle.sad_kernel.specs.Differences.{differences}
 
 -- the differences of the rows from row j on of two blocks
 unfoldable pub rows_from : List ℕ → List ℕ → ℕ → ℕ

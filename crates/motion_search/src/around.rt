@@ -7,17 +7,17 @@ ghost use Rattle.h263_types.specs.declared.vector.Vector.{Vector};
 ghost use Rattle.h263_planes.specs.Lent.{picture};
 ghost use Rattle.h263_planes.specs.Picture.{Picture};
 ghost use Rattle.h263_planes.specs.declared.Plane.TheVariants.{Y};
-ghost use Rattle.motion_search.specs.Differences.{differences};
+ghost use Rattle.sad_kernel.specs.Differences.{differences};
 ghost use Rattle.motion_search.specs.Cost.{difference_of};
 ghost use Rattle.motion_search.specs.Rows.{rows_from};
 ghost use Rattle.half_sample.specs.Prediction.{ArePredicted};
 ghost use Rattle.motion_search.specs.Vectors.{around, IsEven};
 
-use crate::laws;
 use crate::lent::differences_of_four;
 use h263_planes::PictureRef;
 use h263_types::Vector;
 use half_sample::{Around, luma, luma_around};
+use sad_kernel::laws as sad_kernel_laws;
 
 // The neighbour in place `n` of the eight around a vector, by rows from the top: of the nine places
 // the middle one is the vector's own.
@@ -67,7 +67,7 @@ fn four_rows_of(block: &[u8; 256], samples: &[u8], j: u32) -> u32
         + rows_from block.now samples.now (j + 12) }
     ensures most { result ≤ 16320 }
 {
-    laws::parts_add();
+    sad_kernel_laws::parts_add();
     let top = stored_row(samples, j);
     let second = stored_row(samples, j + 4);
     let third = stored_row(samples, j + 8);

@@ -1,6 +1,6 @@
 //! What the best vector is, without the lists that define it. Each law is the contract of a
 //! function that does nothing.
-ghost use Rattle.std.specs.Prelude.{◌≡◌, ℕ, ◌+◌, ◌<◌, ◌↔◌, List, ◌++◌, ◌∷◌, length, IsTrue, IsFalse};
+ghost use Rattle.std.specs.Prelude.{◌≡◌, ℕ, ◌<◌, ◌↔◌, List, ◌∷◌, IsTrue, IsFalse};
 ghost use Rattle.std.specs.List.{All, Contains};
 ghost use Rattle.std.specs.Cmp.{IsTotalOrder};
 ghost use Rattle.h263_types.specs.declared.format.Format.{Format};
@@ -9,7 +9,6 @@ ghost use Rattle.h263_types.specs.Sizes.{mbs_of};
 ghost use Rattle.h263_types.specs.Vectors.{InReach};
 ghost use Rattle.h263_planes.specs.Picture.{Picture};
 ghost use Rattle.motion_search.specs.declared.candidate.Candidate.{Candidate};
-ghost use Rattle.motion_search.specs.Differences.{differences};
 ghost use Rattle.motion_search.specs.Order.{before, compared, least};
 ghost use Rattle.motion_search.specs.Cost.{candidate_of, samples_of};
 ghost use Rattle.motion_search.specs.Vectors.{in_reach, IsNear, IsWholeSample};
@@ -67,11 +66,4 @@ pub fn best_is_a_candidate()
     ensures { (frame reference : Picture) (mb radius rounding : ℕ)
         → mb < mbs_of reference.format → IsCandidate (samples_of frame mb) reference mb rounding
         (best_vector frame reference mb radius rounding) }
-{}
-
-/// The differences of lists that are cut into two parts at the same place are those of the parts,
-/// added.
-pub fn parts_add()
-    ensures { (xs ys us vs : List ℕ) → length xs ≡ length us
-        → differences (xs ++ ys) (us ++ vs) ≡ differences xs us + differences ys vs }
 {}

@@ -5,17 +5,16 @@ ghost use Rattle.h263_types.specs.Vectors.{InReach, whole_place};
 ghost use Rattle.h263_planes.specs.Lent.{picture};
 ghost use Rattle.h263_planes.specs.Samples.{Inside};
 ghost use Rattle.h263_planes.specs.declared.Plane.TheVariants.{Y};
-ghost use Rattle.motion_search.specs.Differences.{differences};
+ghost use Rattle.sad_kernel.specs.Differences.{differences};
 ghost use Rattle.motion_search.specs.Order.{before, first_of};
 ghost use Rattle.motion_search.specs.Cost.{candidate_of, differences_from, IsCost};
 ghost use Rattle.motion_search.specs.Vectors.{zero_vector, IsEven};
 
 use crate::candidate::{Candidate, first, with_differences};
-use crate::laws;
-use crate::sums::sad_of_four;
 use crate::window::Window;
 use h263_planes::{PictureRef, Plane, laws as planes_laws};
 use h263_types::{Format, Vector};
+use sad_kernel::{laws as sad_kernel_laws, sad_of_four};
 
 // Row `j` of a block.
 #[inline(always)]
@@ -75,7 +74,7 @@ fn four_rows(block: &[u8; 256], reference: PictureRef<'_>, x: u32, y: u16, j: u3
         x y (j + 8) + differences_from block.now (picture reference.entry) x y (j + 12) }
     ensures most { result ≤ 16320 }
 {
-    laws::parts_add();
+    sad_kernel_laws::parts_add();
     let y = u32::from(y);
     let first = reference.row(Plane::Y, x, y + j, 16);
     let second = reference.row(Plane::Y, x, y + (j + 4), 16);

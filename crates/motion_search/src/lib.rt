@@ -2,17 +2,14 @@
 //! best, and then of that one and its neighbours half a sample away. The choice is this project's
 //! own; H.263 leaves it to the coder.
 //!
-//! [`search`] answers the [`Vector`](h263_types::Vector) and its cost, [`sad`] the absolute
-//! differences of two lists of samples, added up. [`KeptSums`] are what the search of one macroblock
-//! leaves to those after it.
+//! [`search`] answers the [`Vector`](h263_types::Vector) and its cost, and [`search_from`] the same,
+//! sooner: it begins at a guess, and [`KeptSums`] are what the search of one macroblock leaves to
+//! those after it.
 //!
 //! ```rust
 //! // columns of 10 and 11 by turns: half a sample across lies 11 where that is rounded up
 //! let frame = PictureRef::new(Format::SubQcif, &[11; SIZE]);
-//! let mut sums = KeptSums::none();
-//! let found = search(frame, reference, 0, 7, 0, Vector::ZERO, &mut sums);
-//! assert_eq!(rt; found, (Vector { x: 1, y: 0 }, 0));
-//! assert_eq!(rt; sad(&[10, 20, 30, 40], &[11, 18, 33, 36]), 10);
+//! assert_eq!(rt; search(frame, reference, 0, 7, 0), (Vector { x: 1, y: 0 }, 0));
 //! ```
 #![tactic(auto)]
 
@@ -36,7 +33,6 @@ mod predicted;
 mod square;
 mod start;
 mod strip;
-mod sums;
 mod whole;
 mod window;
 mod within;
@@ -48,14 +44,44 @@ use h263_planes::PictureRef;
 use h263_types::Vector;
 use half_sample::luma;
 pub use kept::KeptSums;
-pub use sums::sad;
 
 /// The vector by which `reference` predicts macroblock `mb` of `frame` best, and its cost: the 256
 /// absolute luma differences, less 100 for the zero vector. The search goes `radius` whole samples
 /// far, 0 to 15, and then half a sample further; `rounding` is the picture's rounding bit, 0 or 1.
-/// It answers the same whatever `guess` is, sooner where the guess is near, as a neighbour's vector.
-/// `sums` are those that were kept of this reference, or none: it adds those that it needs.
 pub fn search(
+    frame: PictureRef<'_>,
+    reference: PictureRef<'_>,
+    mb: u32,
+    radius: u8,
+    rounding: u8,
+) -> (Vector, i32)
+    requires format { (picture frame).format ≡ (picture reference).format }
+    requires mb { mb < mbs_of (picture reference).format }
+    requires radius { radius ≤ 15 }
+    requires rounding { rounding ≤ 1 }
+    ensures vector { result.0
+        ≡ (best_vector (picture frame.entry) (picture reference.entry) mb radius rounding).vector }
+    ensures cost { result.1
+        ≡ (best_vector (picture frame.entry) (picture reference.entry) mb radius rounding).cost }
+    ensures reach { InReach (picture reference.entry).format mb result.0.x result.0.y }
+    ensures range { IsCost result.1 }
+{
+    let mut sums = KeptSums::none();
+    search_from(
+        frame,
+        reference,
+        mb,
+        radius,
+        rounding,
+        Vector::ZERO,
+        &mut sums,
+    )
+}
+
+/// The same for one macroblock of many. It answers what [`search`] answers whatever `guess` is,
+/// sooner where the guess is near, as a neighbour's vector. `sums` are those that were kept of this
+/// reference, or none: it adds those that it needs.
+pub fn search_from(
     frame: PictureRef<'_>,
     reference: PictureRef<'_>,
     mb: u32,

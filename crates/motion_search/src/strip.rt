@@ -4,7 +4,7 @@ ghost use Rattle.std.specs.Prelude.{◌≡◌, ℕ, ◌+◌, ◌*◌, ◌<◌, �
 ghost use Rattle.std.specs.Int.{bit_at};
 ghost use Rattle.h263_types.specs.Sizes.{width_of};
 ghost use Rattle.h263_planes.specs.Lent.{picture};
-ghost use Rattle.motion_search.specs.Differences.{differences};
+ghost use Rattle.sad_kernel.specs.Differences.{differences};
 ghost use Rattle.motion_search.specs.Cost.{square, IsCost};
 ghost use Rattle.motion_search.specs.Vectors.{whole_component};
 ghost use Rattle.motion_search.specs.SoFar.{HoldsAround, IsNoBetter, IsKept, IsSoFar};

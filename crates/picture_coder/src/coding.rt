@@ -16,7 +16,7 @@ ghost use Rattle.packet_cutter.specs.Packets.{ArePacketsOf};
 
 use h263_planes::{PictureMut, PictureRef};
 use h263_types::{Params, laws as types_laws};
-use mode_choice::{Chosen, choose, laws as mode_choice_laws};
+use mode_choice::{Chosen, choose_into, laws as mode_choice_laws};
 use packet_cutter::Cutter;
 use picture_header::Header;
 use picture_recon::{laws as picture_recon_laws, recon_predicted};
@@ -75,7 +75,7 @@ pub fn code_picture(
     cutter.begin(number, header);
     let mut chosen = Chosen::new();
     for at in 0..params.format.mbs() {
-        choose(frame, reference, at, header, params, &mut chosen);
+        choose_into(frame, reference, at, header, params, &mut chosen);
         let (mb, marks) = (&chosen.mb, &chosen.marks);
         cutter.add_marked(mb, marks);
         recon_predicted(mb, marks, &chosen.predicted, at, header, reference, work);

@@ -1,5 +1,5 @@
 -- The steps of the loops that fill a block, a macroblock and a slice.
-use Rattle.std.proofs.Common.{◌≡◌, ◌≢◌, ℕ, zero, suc, ◌+◌, ◌*◌, ◌%◌, ◌<◌, ◌≤◌, ℤ, pos, List, length, get_or, slice_set, map, Bool, true, false, cond, ◌&&◌, nat_eq, nat_le, nat_lt, refl, ap, sym, ◌∙◌, arith, lit<, length-set, get_or-set_same, get_or-set_other}
+use Rattle.std.proofs.Common.{◌≡◌, ◌≢◌, ℕ, zero, suc, ◌+◌, ◌*◌, ◌%◌, ◌<◌, ◌≤◌, ℤ, pos, List, length, get_or, slice_set, map, Bool, true, cond, ◌&&◌, nat_eq, nat_lt, ap, sym, ◌∙◌, arith, lit<, length-set, get_or-set_same, get_or-set_other}
 use Rattle.std.specs.List.{range_with_len}
 use Rattle.std.proofs.lemmas.List.FromFn.{fill_by_all}
 use Rattle.std.proofs.lemmas.Bool.Decides.{nat_tests}
@@ -25,22 +25,6 @@ pub first_put : (f : ℕ → ℤ) (xs : List ℤ) (v : ℤ) → length xs ≡ 64
     ((k : ℕ) → 1 ≤ k → k < 64 → get_or xs k (pos 0) ≡ f k) → slice_set xs 0 v ≡ map f (range_with_len 0 64)
 first_put f xs v long first others =
     fill_by_all f (slice_set xs 0 v) 64 (pos 0) (length-set xs 0 v ∙ long) (with_first f xs v long first others)
-
-inside_rows : (x y w k i j now blk old before run : ℕ) →
-    now ≡ cond (nat_eq j (y + k) && (nat_le x i && nat_lt i (x + w))) run before →
-    before ≡ cond ((nat_le y j && nat_lt j (y + k)) && (nat_le x i && nat_lt i (x + w))) blk old →
-    (j ≡ y + k → x ≤ i → i < x + w → run ≡ blk) →
-    now ≡ cond ((nat_le y j && nat_lt j (y + (k + 1))) && (nat_le x i && nat_lt i (x + w))) blk old
-inside_rows x y w k i j now blk old before run h1 h2 h3 = grind (arith, nat_tests)
-
--- one more row of a block of w columns
-pub more_rows : (s : Bool) (x y w k i j now blk old before run : ℕ) →
-    now ≡ cond (s && (nat_eq j (y + k) && (nat_le x i && nat_lt i (x + w)))) run before →
-    before ≡ cond (s && ((nat_le y j && nat_lt j (y + k)) && (nat_le x i && nat_lt i (x + w)))) blk old →
-    (s ≡ true → j ≡ y + k → x ≤ i → i < x + w → run ≡ blk) →
-    now ≡ cond (s && ((nat_le y j && nat_lt j (y + (k + 1))) && (nat_le x i && nat_lt i (x + w)))) blk old
-more_rows true x y w k i j now blk old before run h1 h2 h3 = inside_rows x y w k i j now blk old before run h1 h2 (h3 refl)
-more_rows false x y w k i j now blk old before run h1 h2 h3 = h1 ∙ h2
 
 -- a sample by its plane, column and row
 pub same_sample : (p : Picture) (plane other : Plane) (i j x y : ℕ) → same_plane plane other ≡ true → i ≡ x → j ≡ y →

@@ -1,5 +1,5 @@
 //! A block in a picture.
-ghost use Rattle.std.specs.Prelude.{◌≡◌, ℕ, ◌+◌, ◌*◌, ◌%◌, ◌<◌, slice_index, if◌then◌else◌};
+ghost use Rattle.std.specs.Prelude.{◌≡◌, ℕ, ◌+◌, ◌*◌, ◌%◌, ◌<◌, ◌≤◌, length, slice_index, if◌then◌else◌};
 ghost use Rattle.h263_types.specs.Sizes.{mbs_of};
 ghost use Rattle.h263_planes.specs.declared.Plane.{Plane};
 ghost use Rattle.h263_planes.specs.Blocks.{IsCorner};
@@ -8,7 +8,7 @@ ghost use Rattle.h263_planes.specs.Samples.{Inside, IsPicture, in_block, sample_
 ghost use Rattle.h263_planes.specs.Work.{loan_of, work};
 ghost use Rattle.picture_recon.specs.Coded.{SetsBlock};
 
-use h263_planes::{Corner, PictureMut, PictureRef, Plane, block_corner};
+use h263_planes::{Corner, PictureMut, PictureRef, block_corner};
 use h263_types::Format;
 use std::simd::prelude::*;
 
@@ -57,22 +57,34 @@ pub(crate) fn samples_at(seen: PictureRef<'_>, corner: Corner) -> [u8; 64]
     ensures { (j i : ℕ) → j < 8 → i < 8 → slice_index result (8 * j + i)
         ≡ sample_at (picture seen.entry) corner.plane (corner.x + i) (corner.y + j) }
 {
+    let rows = seen.rows(corner.plane, corner.x, corner.y, 8, 8);
+    eight_rows(rows, seen.width(corner.plane))
+}
+
+// Eight rows of as many samples, each `width` places after the one above it.
+#[inline(always)]
+fn eight_rows(rows: &[u8], width: usize) -> [u8; 64]
+    requires rows { width * 7 + 8 ≤ length rows.now }
+    requires width { width ≤ 352 }
+    ensures { (j i : ℕ) → j < 8 → i < 8
+        → slice_index result (8 * j + i) ≡ slice_index rows.now (width * j + i) }
+{
     let mut samples = [0; 64];
-    for j in 0..8u32 {
-        let at = 8 * j as usize;
-        let row = row_at(seen, corner.plane, corner.x, corner.y + j);
-        samples[at..at + 8].copy_from_slice(&row);
+    let mut at = 0;
+    for j in 0..8usize {
+        let row = row_at(rows, at);
+        samples[8 * j..8 * j + 8].copy_from_slice(&row);
+        at += width;
     }
     samples
 }
 
-// Eight samples of row `y` from column `x` on, in one load. As an array they are known to lie apart
-// from where they are copied to.
+// Eight samples from place `at` on, in one load. As an array they are known to lie apart from where
+// they are copied to.
 #[inline(always)]
-fn row_at(seen: PictureRef<'_>, plane: Plane, x: u32, y: u32) -> [u8; 8]
-    requires { Inside (picture seen).format plane x y 8 }
-    ensures { (i : ℕ)
-        → i < 8 → slice_index result i ≡ sample_at (picture seen.entry) plane (x + i) y }
+fn row_at(rows: &[u8], at: usize) -> [u8; 8]
+    requires { at + 8 ≤ length rows.now }
+    ensures { (i : ℕ) → i < 8 → slice_index result i ≡ slice_index rows.now (at + i) }
 {
-    Simd::from_slice(seen.row(plane, x, y, 8)).to_array()
+    Simd::from_slice(&rows[at..at + 8]).to_array()
 }

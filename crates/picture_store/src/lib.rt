@@ -24,18 +24,20 @@ use h263_planes::PictureRef;
 use h263_region::{Region, Slot};
 use h263_types::{Format, OutOfMemory};
 use std::alloc::Global;
+use std::boxed::BoxedSlice;
 use std::marker::Model;
 
 /// Kept pictures and work pictures of one format. It has no `Drop`: it must be finished.
 pub struct PictureStore {
     format: Format,
-    numbers: Vec<Option<u32>>,
+    numbers: BoxedSlice<Option<u32>>,
     region: Region,
     // those of the kept pictures first
     slots: Vec<Slot>,
 }
 
 impl Model for PictureStore {
+    ghost use Rattle.std.specs.Box.{boxed_slice_items};
     ghost use Rattle.picture_store.specs.Pictures.{Pictures};
     ghost use Rattle.picture_store.specs.Holding.{IsStore, pictures_of, room_of};
 
@@ -43,12 +45,12 @@ impl Model for PictureStore {
 
     ghost view = { λ s. record {
       format = s.format;
-      numbers = s.numbers.items;
+      numbers = boxed_slice_items s.numbers;
       pictures = pictures_of s.format s.region s.slots.items;
       room = room_of s.region;
     } };
 
-    ghost invariant = { λ s. IsStore s.format s.numbers.items s.region s.slots.items };
+    ghost invariant = { λ s. IsStore s.format (boxed_slice_items s.numbers) s.region s.slots.items };
 }
 
 impl PictureStore {
@@ -71,7 +73,7 @@ impl PictureStore {
         ensures { IfOk result (IsEmpty format slots works) }
     {
         let count = slots + works;
-        let numbers = vec![in alloc; None; slots as usize]?;
+        let numbers = vec![in alloc; None; slots as usize]?.into_boxed_slice();
         let mut held = Vec::with_capacity(alloc, count as usize)?;
         match Region::make(alloc, count, format.size()) {
             Ok(mut region) => {

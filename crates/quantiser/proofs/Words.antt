@@ -1,9 +1,16 @@
 -- Levels of coefficients of 16 bits.
-use Rattle.std.proofs.Common.{◌≡◌, ℕ, suc, ◌-◌, ◌*◌, ◌/◌, min, ℤ, pos, negsuc, neg_ℤ, arith, ap}
-use Rattle.h263_types.specs.Blocks.{IsQuant}
+use Rattle.std.proofs.Common.{◌≡◌, ℕ, suc, ◌-◌, ◌*◌, ◌/◌, min, ℤ, pos, negsuc, neg_ℤ, arith, ap, to_z, of_z, w16, w32}
+use Rattle.std.proofs.lemmas.Int.{ints}
+use Rattle.h263_types.specs.Blocks.{IsCoefficient, IsQuant}
 use Rattle.quantiser.specs.Levels.{inter_level, intra_level}
-use Rattle.quantiser.specs.Factors.{limited_to_word}
+use Rattle.quantiser.specs.Factors.{IsWord, limited_to_word}
 use Rattle.quantiser.proofs.Quotients.{same_steps}
+
+pub coefficient_kept : (z : ℤ) → IsCoefficient z → to_z w32 (of_z w32 z) ≡ z
+coefficient_kept z h = omega (arith, ints)
+
+pub word_kept : (z : ℤ) → IsWord z → to_z w16 (of_z w16 z) ≡ z
+word_kept z h = omega (arith, ints)
 
 -- 127 steps and a half of one are fewer than 2 ^ 15
 same_inter : (q m n : ℕ) → IsQuant q → min m 32767 ≡ min n 32767 → min ((m - q / 2) / (2 * q)) 127 ≡ min ((n - q / 2) / (2 * q)) 127

@@ -15,6 +15,28 @@ pub struct Factor {
     pub shift: u32,
 }
 
+/// The level, -127 to 127, of a coefficient of an inter block, within 65,535 of 0 (H.263, 6.2.1 the
+/// other way); `quant` is 1 to 31.
+pub fn level_inter(quant: u8, coefficient: i32) -> i16
+    requires quant { IsQuant quant }
+    requires coefficient { IsCoefficient coefficient }
+    ensures level { result ≡ inter_level quant coefficient }
+    ensures range { IsLevel result }
+{
+    level_inter_by_factor(quant, factor_of(quant), limited(coefficient))
+}
+
+/// The level, -127 to 127, of a coefficient of an intra block other than its first, within 65,535
+/// of 0; `quant` is 1 to 31.
+pub fn level_intra(quant: u8, coefficient: i32) -> i16
+    requires quant { IsQuant quant }
+    requires coefficient { IsCoefficient coefficient }
+    ensures level { result ≡ intra_level quant coefficient }
+    ensures range { IsLevel result }
+{
+    level_intra_by_factor(quant, factor_of(quant), limited(coefficient))
+}
+
 /// A coefficient limited to 16 bits. It has the same levels, since none is beyond 127
 /// ([`limited_coefficients`](crate::laws::limited_coefficients)).
 #[inline(always)]
@@ -60,10 +82,10 @@ fn shift(quant: u8) -> u32
     }
 }
 
-/// The level, -127 to 127, of a coefficient of an inter block, limited to 16 bits, by the factor of
-/// the quantiser, which is 1 to 31.
+/// What [`level_inter`] gives for a coefficient that is limited to 16 bits, by the quantiser's
+/// factor.
 #[inline(always)]
-pub fn level_inter(quant: u8, factor: Factor, coefficient: i16) -> i16
+pub fn level_inter_by_factor(quant: u8, factor: Factor, coefficient: i16) -> i16
     requires quant { IsQuant quant }
     requires factor { IsFactor quant factor }
     requires coefficient { IsWord coefficient }
@@ -75,10 +97,10 @@ pub fn level_inter(quant: u8, factor: Factor, coefficient: i16) -> i16
     signed(coefficient, steps(quant, factor, size) as i16)
 }
 
-/// The level, -127 to 127, of a coefficient of an intra block other than its first, limited to 16
-/// bits, by the factor of the quantiser, which is 1 to 31.
+/// What [`level_intra`] gives for a coefficient that is limited to 16 bits, by the quantiser's
+/// factor.
 #[inline(always)]
-pub fn level_intra(quant: u8, factor: Factor, coefficient: i16) -> i16
+pub fn level_intra_by_factor(quant: u8, factor: Factor, coefficient: i16) -> i16
     requires quant { IsQuant quant }
     requires factor { IsFactor quant factor }
     requires coefficient { IsWord coefficient }

@@ -1,12 +1,14 @@
 //! Levels and the values that they stand for, by the quantiser (H.263, 6.2.1 and 6.2.2), the levels
 //! of coefficients, and the zigzag order of a block's levels (6.2.3).
 //!
-//! [`value`] is of a level, [`level_intra`] and [`level_inter`] are of a coefficient,
-//! [`level_between`] is of one that is only bracketed;
+//! [`value`] is of a level, [`level_intra`] and [`level_inter`] are of a coefficient; those
+//! `_by_factor` find many levels of one quantiser, [`level_between`] is of a coefficient that is
+//! only bracketed;
 //! [`block_place`] and [`zigzag_place`] lead from one order to the other.
 //!
 //! ```rust
 //! assert_eq!(rt; (value(8, 1), value(5, -2), value(31, -127)), (23, -25, -2048));
+//! assert_eq!(rt; (level_inter(8, 25), level_inter(8, -19), level_intra(8, -19)), (1, 0, -1));
 //! assert_eq!(rt; (block_place(2), zigzag_place(8)), (8, 2));
 //! ```
 #![tactic(auto)]
@@ -19,7 +21,10 @@ ghost use Rattle.std.specs.Prelude.{◌≡◌, ℕ, ◌≤◌, pos, unsigned_abs
 ghost use Rattle.h263_types.specs.Blocks.{IsLevel, IsQuant, IsValue};
 ghost use Rattle.quantiser.specs.Levels.{value_of, value_size};
 
-pub use coefficients::{Factor, factor_of, level_between, level_inter, level_intra, limited};
+pub use coefficients::{
+    Factor, factor_of, level_between, level_inter, level_inter_by_factor, level_intra,
+    level_intra_by_factor, limited,
+};
 pub use scan::{block_place, zigzag_place};
 
 /// The value, -2048 to 2047, of a level from -127 to 127 that isn't an INTRADC value; `quant` is 1

@@ -4,22 +4,22 @@ use Rattle.block_layer.specs.Text.{inter_text}
 use Rattle.macroblock_layer.proofs.Blocks.{left, next_length, goes, none_left_text, ended}
 use Rattle.macroblock_layer.proofs.writing.write_inter_blocks.Goals as goal
 
-pub write_inter-requires-clause-room : goal.write_inter-requires-clause-room
-write_inter-requires-clause-room c =
+pub write_inter_marked-requires-clause-room : goal.write_inter_marked-requires-clause-room
+write_inter_marked-requires-clause-room c =
     let long = next_length inter_text c.args.blocks.now c.all.k (omega arith) in
     omega (arith, long)
 
-pub write_inter-requires-clause-marks : goal.write_inter-requires-clause-marks
-write_inter-requires-clause-marks c = c.requires.marks c.all.k (omega arith)
+pub write_inter_marked-requires-clause-marks : goal.write_inter_marked-requires-clause-marks
+write_inter_marked-requires-clause-marks c = c.requires.marks c.all.k (omega arith)
 
 pub all-preserved : goal.all-preserved
 all-preserved c =
     let inside : c.all.k < length c.args.blocks.now = omega arith in
     let long = next_length inter_text c.args.blocks.now c.all.k inside in
     record {
-      buffer = c.write_inter.ensures.bits.buffer ∙ c.all.invariant.buffer;
-      room = c.write_inter.ensures.bits.room ∙ c.all.invariant.room;
-      text = goes inter_text c.args.blocks.now c.all.k (written c.all.writer) (written c.write_inter.new.writer) _ inside c.write_inter.ensures.bits.text c.all.invariant.text;
+      buffer = c.write_inter_marked.ensures.bits.buffer ∙ c.all.invariant.buffer;
+      room = c.write_inter_marked.ensures.bits.room ∙ c.all.invariant.room;
+      text = goes inter_text c.args.blocks.now c.all.k (written c.all.writer) (written c.write_inter_marked.new.writer) _ inside c.write_inter_marked.ensures.bits.text c.all.invariant.text;
       len = omega (arith, long);
     }
 

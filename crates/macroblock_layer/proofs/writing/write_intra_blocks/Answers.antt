@@ -4,22 +4,22 @@ use Rattle.block_layer.specs.Text.{intra_text}
 use Rattle.macroblock_layer.proofs.Blocks.{left, next_length, goes, none_left_text, ended}
 use Rattle.macroblock_layer.proofs.writing.write_intra_blocks.Goals as goal
 
-pub write_intra-requires-clause-room : goal.write_intra-requires-clause-room
-write_intra-requires-clause-room c =
+pub write_intra_marked-requires-clause-room : goal.write_intra_marked-requires-clause-room
+write_intra_marked-requires-clause-room c =
     let long = next_length intra_text c.args.blocks.now c.all.k (omega arith) in
     omega (arith, long)
 
-pub write_intra-requires-clause-marks : goal.write_intra-requires-clause-marks
-write_intra-requires-clause-marks c = c.requires.marks c.all.k (omega arith)
+pub write_intra_marked-requires-clause-marks : goal.write_intra_marked-requires-clause-marks
+write_intra_marked-requires-clause-marks c = c.requires.marks c.all.k (omega arith)
 
 pub all-preserved : goal.all-preserved
 all-preserved c =
     let inside : c.all.k < length c.args.blocks.now = omega arith in
     let long = next_length intra_text c.args.blocks.now c.all.k inside in
     record {
-      buffer = c.write_intra.ensures.bits.buffer ∙ c.all.invariant.buffer;
-      room = c.write_intra.ensures.bits.room ∙ c.all.invariant.room;
-      text = goes intra_text c.args.blocks.now c.all.k (written c.all.writer) (written c.write_intra.new.writer) _ inside c.write_intra.ensures.bits.text c.all.invariant.text;
+      buffer = c.write_intra_marked.ensures.bits.buffer ∙ c.all.invariant.buffer;
+      room = c.write_intra_marked.ensures.bits.room ∙ c.all.invariant.room;
+      text = goes intra_text c.args.blocks.now c.all.k (written c.all.writer) (written c.write_intra_marked.new.writer) _ inside c.write_intra_marked.ensures.bits.text c.all.invariant.text;
       len = omega (arith, long);
     }
 

@@ -1,5 +1,5 @@
 use Rattle.std.proofs.Common.{◌≡◌, ◌∙◌, ap, arith, take, drop, take_all, length-drop}
-use Rattle.motion_search.specs.Differences.{differences}
+use Rattle.sad_kernel.specs.Differences.{differences}
 use Rattle.mode_choice.proofs.Differences.{halves}
 use Rattle.mode_choice.proofs.deviation.halves_apart.Goals as goal
 

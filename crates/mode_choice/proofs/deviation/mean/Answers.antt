@@ -1,6 +1,6 @@
 use Rattle.std.proofs.Common.{◌≡◌, ℕ, ◌/◌, ap, subst, ◌∙◌, replicate}
 use Rattle.std.specs.Simd.Lanes.{sum_l}
-use Rattle.motion_search.specs.Differences.{differences}
+use Rattle.sad_kernel.specs.Differences.{differences}
 use Rattle.mode_choice.proofs.Differences.{from_zero}
 use Rattle.mode_choice.proofs.deviation.mean.Goals as goal
 

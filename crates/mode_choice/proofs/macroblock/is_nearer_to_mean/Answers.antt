@@ -3,7 +3,7 @@ use Rattle.std.specs.Prelude.{int_lt}
 use Rattle.std.proofs.lemmas.Int.{ints}
 use Rattle.h263_planes.specs.Lent.{picture}
 use Rattle.motion_search.specs.Cost.{samples_of}
-use Rattle.motion_search.specs.Differences.{differences}
+use Rattle.sad_kernel.specs.Differences.{differences}
 use Rattle.mode_choice.specs.Choice.{deviation_of, is_intra, mean_of}
 use Rattle.mode_choice.proofs.Searched.{cost_kept, no_greater}
 use Rattle.mode_choice.proofs.macroblock.is_nearer_to_mean.Goals as goal

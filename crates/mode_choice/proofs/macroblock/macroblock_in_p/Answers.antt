@@ -9,7 +9,7 @@ returns-clause-choice c =
     let p = picture c.args.frame in
     let q = picture c.args.reference in
     let h = c.args.header.now in
-    let search = c.search-cost in
+    let search = c.search_from-cost in
     by_best p q h c.args.params.now c.args.mb _ _ _ search.ensures.range search.ensures.vector search.ensures.cost (sym c.is_nearer_to_mean.ensures ∙ c.if-is_nearer_to_mean.false)
     (c.inter_macroblock.ensures.choice q h.rounding c.predict_into.ensures)
 

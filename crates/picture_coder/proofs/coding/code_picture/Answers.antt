@@ -34,7 +34,7 @@ drawn_by each (Intra quant blocks) marks are = λ b less. marked each (block_in 
 drawn_by each (Inter quant vector blocks) marks are = λ b less. marked each (block_in blocks b).levels (get_or marks b 0) (are b less)
 
 pub recon_predicted-requires-clause-marks : goal.recon_predicted-requires-clause-marks
-recon_predicted-requires-clause-marks c = drawn_by c.marks.ensures c.choose.new.out.mb c.choose.new.out.marks c.choose.ensures.marks
+recon_predicted-requires-clause-marks c = drawn_by c.marks.ensures c.choose_into.new.out.mb c.choose_into.new.out.marks c.choose_into.ensures.marks
 
 pub loop-at-preserved : goal.loop-at-preserved
 loop-at-preserved c =
@@ -47,13 +47,13 @@ loop-at-preserved c =
     let old = lent.work c.loop-at.work in
     let new = lent.work c.recon_predicted.new.out in
     let inside : at < mbs_of frame.format = subst (λ (f : Format). at < mbs_of f) (sym c.requires.frame_format) (omega (arith, c.mbs-at-end.ensures, c.loop-at-test.true)) in
-    let chosen = c.choose.ensures.choice ∙ sym (c.one_for_each_place.ensures.each frame reference h params at inside) in
+    let chosen = c.choose_into.ensures.choice ∙ sym (c.one_for_each_place.ensures.each frame reference h params at inside) in
     record {
       added = record {
         begun = c.add_marked.ensures.begun;
         holds =
             subst (λ (l : List Mb). Holds c.add_marked.new.self c.args.number h l)
-            (ap (λ (m : Mb). take at mbs ++ m ∷ []) c.choose.ensures.choice ∙ sym (c.one_for_each_place.ensures.next frame reference h params at inside))
+            (ap (λ (m : Mb). take at mbs ++ m ∷ []) c.choose_into.ensures.choice ∙ sym (c.one_for_each_place.ensures.next frame reference h params at inside))
             (c.add_marked.ensures.holds c.args.number h (take at mbs) c.loop-at.invariant.added.holds);
         added = c.add_marked.ensures.added ∙ ap (λ (n : ℕ). n + 1) c.loop-at.invariant.added.added;
         kind = c.add_marked.ensures.rest.kind ∙ c.loop-at.invariant.added.kind;
@@ -68,7 +68,7 @@ loop-at-preserved c =
         shows = c.shown_one_by_one.ensures.macroblock h.format h.rounding reference mbs at old new c.loop-at.invariant.shown.shows
             (subst (λ (m : Mb). SetsMb h.format h.rounding reference at m old new) chosen c.recon_predicted.ensures.samples);
       };
-      sums = c.choose.ensures.sums;
+      sums = c.choose_into.ensures.sums;
       same_loan = c.recon_predicted.ensures.same_loan ∙ c.loop-at.invariant.same_loan;
     }
 
