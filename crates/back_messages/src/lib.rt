@@ -9,7 +9,7 @@
 //! ```rust
 //! for (message, bytes, len) in MESSAGES {
 //!     let said = write(&message);
-//!     assert_eq!(rt; said, MessageBytes { bytes, len });
+//!     assert_eq!(rt; said, Said { bytes, len });
 //!     assert_eq!(rt; read(said.text(), Clock::Custom)?, message);
 //! }
 //! ```
@@ -22,4 +22,4 @@ mod writing;
 
 pub use message::{Message, MessageFault};
 pub use reading::{read, read_message};
-pub use writing::{MessageBytes, message_bits, write, write_message};
+pub use writing::{Said, message_bits, write, write_message};

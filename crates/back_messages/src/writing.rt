@@ -5,7 +5,7 @@ ghost use Rattle.h263_bits.specs.Written.{Appends, len_of, room_of};
 ghost use Rattle.h263_types.specs.declared.clock.Clock.{Clock};
 ghost use Rattle.h263_types.specs.declared.clock.Clock.TheVariants.{Custom};
 ghost use Rattle.back_messages.specs.Text.{IsMessage, urf_of, first_fields, first_text, flags_text, message_text, marks_of, message_bits, message_in};
-ghost use Rattle.back_messages.specs.MessageBytes.{text_of, IsFilled};
+ghost use Rattle.back_messages.specs.Said.{text_of, IsFilled};
 
 use crate::message::Message;
 use crate::reading::turned;
@@ -13,14 +13,14 @@ use h263_bits::BitWriter;
 
 /// The bytes of a message: the first `len`, 3 or 5, of `bytes`.
 #[derive(Clone, Copy, Debug, PartialEq, Eq)]
-pub struct MessageBytes {
+pub struct Said {
     pub bytes: [u8; 5],
     pub len: u8,
 }
 
-impl MessageBytes {
+impl Said {
     ghost use Rattle.std.specs.Prelude.{◌≡◌};
-    ghost use Rattle.back_messages.specs.MessageBytes.{text_of};
+    ghost use Rattle.back_messages.specs.Said.{text_of};
 
     /// The message's bytes.
     pub fn text(&self) -> &[u8]
@@ -73,7 +73,7 @@ fn flags_code(marks: u16) -> u32
 }
 
 /// The bytes of a message. A reader whose clock has its temporal references reads it again.
-pub fn write(message: &Message) -> MessageBytes
+pub fn write(message: &Message) -> Said
     requires { IsMessage Custom message.now }
     ensures text { bits_of (text_of result) ≡ message_text message.now }
     ensures len { 8 * result.len ≡ message_bits message.now }
@@ -86,13 +86,13 @@ pub fn write(message: &Message) -> MessageBytes
     let second = ((code >> 8) % 256) as u8;
     let third = (code % 256) as u8;
     match message.marks() {
-        None => MessageBytes {
+        None => Said {
             bytes: [first, second, third, 0, 0],
             len: 3,
         },
         Some(marks) => {
             let flags = flags_code(marks);
-            MessageBytes {
+            Said {
                 bytes: [
                     first,
                     second,

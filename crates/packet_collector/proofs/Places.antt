@@ -14,16 +14,16 @@ use Rattle.packet_collector.proofs.Rows.{below}
 
 -- the marks of a slice of a picture
 abbrev pub marks_of : Collector → ℕ → SliceHead → List Bool
-marks_of c n head = take head.count (drop (place_in c n * mbs_of (format_of c) + head.first) c.marks.items)
+marks_of c n head = take head.count (drop (place_in c n * mbs_of (format_of c) + head.first) c.marks.items.items)
 
 module _ (c : Collector) (n : ℕ) (head : SliceHead) (is : IsHeadOf (format_of c) head) where
   tests : (f : Bool → Bool) → list_all f (marks_of c n head) ≡ all_below head.count (λ i. f (has_in c n (head.first + i)))
   tests f =
       let m = mbs_of (format_of c) in
       let p = place_in c n in
-      let fits : p * m + head.first + head.count ≤ length c.marks.items = omega (arith, c.each, is.within, mul-le (p + 1) m (row_of c) m (omega (arith, below c n)) (omega arith)) in
-      all_marks f c.marks.items (p * m + head.first) head.count fits
-      ∙ all_same head.count _ _ (λ i lt. ap (λ (k : ℕ). f (get_or c.marks.items k false)) (omega arith))
+      let fits : p * m + head.first + head.count ≤ length c.marks.items.items = omega (arith, c.each, is.within, mul-le (p + 1) m (row_of c) m (omega (arith, below c n)) (omega arith)) in
+      all_marks f c.marks.items.items (p * m + head.first) head.count fits
+      ∙ all_same head.count _ _ (λ i lt. ap (λ (k : ℕ). f (get_or c.marks.items.items k false)) (omega arith))
 
   -- all marks of a piece are set exactly where all of its macroblocks are there
   pub all_kept : list_all (λ mark. mark) (marks_of c n head) ≡ all_in head (has_in c n)

@@ -44,11 +44,11 @@ below c n = mod_below n (row_of c) (omega (arith, c.some))
 -- one place has another header, and some of its marks are set or cleared
 pub record IsPutIn (c new : Collector) (p from count : ℕ) (value : Bool) (kept : Option Header) : Type 0 where
   pub format : format_of new ≡ format_of c
-  pub headers : new.headers.items ≡ set c.headers.items p kept
+  pub headers : new.headers.items.items ≡ set c.headers.items.items p kept
   pub place : p < row_of c
   pub within : from + count ≤ mbs_of (format_of c)
-  pub inside : (i : ℕ) → p * mbs_of (format_of c) + from ≤ i → i < p * mbs_of (format_of c) + from + count → get_or new.marks.items i false ≡ value
-  pub others : (i : ℕ) → (i < p * mbs_of (format_of c) + from) ⊎ (p * mbs_of (format_of c) + from + count ≤ i) → get_or new.marks.items i false ≡ get_or c.marks.items i false
+  pub inside : (i : ℕ) → p * mbs_of (format_of c) + from ≤ i → i < p * mbs_of (format_of c) + from + count → get_or new.marks.items.items i false ≡ value
+  pub others : (i : ℕ) → (i < p * mbs_of (format_of c) + from) ⊎ (p * mbs_of (format_of c) + from + count ≤ i) → get_or new.marks.items.items i false ≡ get_or c.marks.items.items i false
 
 -- ---- an empty row
 
@@ -57,7 +57,7 @@ untouched zero i x = refl
 untouched (suc n) zero x = refl
 untouched (suc n) (suc i) x = untouched n i x
 
-pub starts : (c : Collector) (first many size : ℕ) → first_of c ≡ first → c.headers.items ≡ replicate many None → c.marks.items ≡ replicate size false → Collects c first []
+pub starts : (c : Collector) (first many size : ℕ) → first_of c ≡ first → c.headers.items.items ≡ replicate many None → c.marks.items.items ≡ replicate size false → Collects c first []
 starts c first many size begins headers marks = record {
   begins = begins;
   below = λ t is. elim is [ ];
@@ -71,14 +71,14 @@ starts c first many size begins headers marks = record {
 
 -- marks that are put for a run of macroblocks, and a header, are in the place of one picture
 pub put_in : (c new : Collector) (p q from count at : ℕ) (value : Bool) (kept : Option Header) (old marks : List Bool)
-    → format_of new ≡ format_of c → new.headers.items ≡ set c.headers.items q kept → new.marks.items ≡ marks → old ≡ c.marks.items
+    → format_of new ≡ format_of c → new.headers.items.items ≡ set c.headers.items.items q kept → new.marks.items.items ≡ marks → old ≡ c.marks.items.items
     → q ≡ p → p < row_of c → from + count ≤ mbs_of (format_of c) → at ≡ p * mbs_of (format_of c) + from
     → ((i : ℕ) → at ≤ i → i < at + count → get_or marks i false ≡ value)
     → ((i : ℕ) → (i < at) ⊎ (at + count ≤ i) → get_or marks i false ≡ get_or old i false)
     → IsPutIn c new p from count value kept
 put_in c new p q from count at value kept old marks format headers now before same place within start inside others = record {
   format = format;
-  headers = headers ∙ ap (λ (k : ℕ). set c.headers.items k kept) same;
+  headers = headers ∙ ap (λ (k : ℕ). set c.headers.items.items k kept) same;
   place = place;
   within = within;
   inside = λ i low high. ap (λ (l : List Bool). get_or l i false) now ∙ inside i (omega (arith, start)) (omega (arith, start));
@@ -94,19 +94,19 @@ put_back v marks e = with_items_is v marks (omega (arith, e, v.ok.0))
 
 module _ (c new : Collector) (p from count : ℕ) (value : Bool) (kept : Option Header) (put : IsPutIn c new p from count value kept) where
   pub many_same : row_of new ≡ row_of c
-  many_same = ap length put.headers ∙ length-set c.headers.items p kept
+  many_same = ap length put.headers ∙ length-set c.headers.items.items p kept
 
-  header_as : (n : ℕ) → header_in new n ≡ get_or (set c.headers.items p kept) (place_in c n) None
-  header_as n = ap (λ (r : ℕ). get_or new.headers.items (n % r) None) many_same ∙ ap (λ (l : List (Option Header)). get_or l (place_in c n) None) put.headers
+  header_as : (n : ℕ) → header_in new n ≡ get_or (set c.headers.items.items p kept) (place_in c n) None
+  header_as n = ap (λ (r : ℕ). get_or new.headers.items.items (n % r) None) many_same ∙ ap (λ (l : List (Option Header)). get_or l (place_in c n) None) put.headers
 
   header_there : (n : ℕ) → place_in c n ≡ p → header_in new n ≡ kept
-  header_there n e = header_as n ∙ ap (λ (k : ℕ). get_or (set c.headers.items p kept) k None) e ∙ get_or-set_same c.headers.items p kept None put.place
+  header_there n e = header_as n ∙ ap (λ (k : ℕ). get_or (set c.headers.items.items p kept) k None) e ∙ get_or-set_same c.headers.items.items p kept None put.place
 
   header_other : (n : ℕ) → place_in c n ≢ p → header_in new n ≡ header_in c n
-  header_other n e = header_as n ∙ get_or-set_other c.headers.items p (place_in c n) kept None e
+  header_other n e = header_as n ∙ get_or-set_other c.headers.items.items p (place_in c n) kept None e
 
-  mark_as : (n k : ℕ) → has_in new n k ≡ get_or new.marks.items (place_in c n * mbs_of (format_of c) + k) false
-  mark_as n k = ap (λ (r : ℕ). get_or new.marks.items (n % r * mbs_of (format_of new) + k) false) many_same ∙ ap (λ f. get_or new.marks.items (place_in c n * mbs_of f + k) false) put.format
+  mark_as : (n k : ℕ) → has_in new n k ≡ get_or new.marks.items.items (place_in c n * mbs_of (format_of c) + k) false
+  mark_as n k = ap (λ (r : ℕ). get_or new.marks.items.items (n % r * mbs_of (format_of new) + k) false) many_same ∙ ap (λ f. get_or new.marks.items.items (place_in c n * mbs_of f + k) false) put.format
 
   mark_inside : (n k : ℕ) → place_in c n ≡ p → from ≤ k → k < from + count → has_in new n k ≡ value
   mark_inside n k e low high =

@@ -1,4 +1,5 @@
 -- What a collector keeps: of each picture in a row the header of its slices, and which macroblocks were taken.
+use Rattle.std.specs.Box.{boxed_slice_items}
 use Rattle.std.specs.Prelude.{◌≡◌, ℕ, ◌+◌, ◌*◌, ◌%◌, ◌<◌, ◌≤◌, Bool, true, false, nat_le, List, length, slice_index_or, Option, Some, None}
 use Rattle.std.specs.List.{filter}
 use Rattle.h263_bits.specs.Syntax.{IsIn}
@@ -19,7 +20,7 @@ first_of c = c.first
 
 -- how many pictures there are in the row
 abbrev pub row_of : Collector → ℕ
-row_of c = length c.headers.items
+row_of c = length (boxed_slice_items c.headers)
 
 -- a number of the row
 pub record IsInRow (c : Collector) (n : ℕ) : Type 0 where
@@ -32,11 +33,11 @@ place_in c n = n % row_of c
 
 -- the header that is kept of picture n
 abbrev pub header_in : Collector → ℕ → Option Header
-header_in c n = slice_index_or c.headers.items (place_in c n) None
+header_in c n = slice_index_or (boxed_slice_items c.headers) (place_in c n) None
 
 -- whether macroblock k of picture n is marked
 abbrev pub has_in : Collector → ℕ → ℕ → Bool
-has_in c n k = slice_index_or c.marks.items (place_in c n * mbs_of (format_of c) + k) false
+has_in c n k = slice_index_or (boxed_slice_items c.marks) (place_in c n * mbs_of (format_of c) + k) false
 
 -- the header of what was taken of picture n, or none where nothing was
 abbrev pub IsKept : List Taken → ℕ → Option Header → Type 0

@@ -1,5 +1,6 @@
 //! Which macroblocks were taken of the next picture and of those that may come early.
 ghost use Rattle.std.specs.Prelude.{◌≡◌, ◌+◌, ◌*◌, ◌^◌, ◌≤◌, length};
+ghost use Rattle.std.specs.Box.{boxed_slice_items};
 ghost use Rattle.h263_types.specs.Sizes.{mbs_of};
 
 use crate::marks::{all, none, put};
@@ -7,6 +8,7 @@ use crate::piece::{Piece, Place};
 use h263_types::{Format, OutOfMemory, Params, SliceHead};
 use picture_header::Header;
 use std::alloc::Global;
+use std::boxed::BoxedSlice;
 
 /// Which macroblocks were taken of the pictures in a row, and the header of each: the picture that
 /// is played next, and as many after it as packets may come early.
@@ -16,13 +18,13 @@ pub struct Collector {
     // The row's first number.
     first: u32,
     // The header of each place, where something was taken of its picture.
-    headers: Vec<Option<Header>>,
+    headers: BoxedSlice<Option<Header>>,
     // The marks of each place's macroblocks, place after place.
-    marks: Vec<bool>,
-    ghost some: { 1 ≤ length headers.items },
-    ghost few: { length headers.items ≤ 64 },
-    ghost each: { length marks.items ≡ length headers.items * mbs_of format },
-    ghost numbers: { first + length headers.items ≤ 2 ^ 32 },
+    marks: BoxedSlice<bool>,
+    ghost some: { 1 ≤ length (boxed_slice_items headers) },
+    ghost few: { length (boxed_slice_items headers) ≤ 64 },
+    ghost each: { length (boxed_slice_items marks) ≡ length (boxed_slice_items headers) * mbs_of format },
+    ghost numbers: { first + length (boxed_slice_items headers) ≤ 2 ^ 32 },
 }
 
 impl Collector {
@@ -45,8 +47,8 @@ impl Collector {
         Ok(Collector {
             format: params.format,
             first: 0,
-            headers: vec![in alloc; None; many]?,
-            marks: vec![in alloc; false; many * mbs]?,
+            headers: vec![in alloc; None; many]?.into_boxed_slice(),
+            marks: vec![in alloc; false; many * mbs]?.into_boxed_slice(),
         })
     }
 
@@ -62,8 +64,8 @@ impl Collector {
     fn marks_at(&self, place: usize) -> usize
         requires { place < row_of self.now }
         ensures value { result ≡ place * mbs_of (format_of self.now) }
-        ensures within { result + mbs_of (format_of self.now) ≤ length self.now.marks.items }
-        ensures few { length self.now.marks.items ≤ 64 * 396 }
+        ensures within { result + mbs_of (format_of self.now) ≤ length (boxed_slice_items self.now.marks) }
+        ensures few { length (boxed_slice_items self.now.marks) ≤ 64 * 396 }
     {
         place * self.format.mbs() as usize
     }
@@ -72,7 +74,7 @@ impl Collector {
     fn marks_of(&self, number: u32, head: &SliceHead) -> &[bool]
         requires { IsHeadOf (format_of self.now) head.now }
         ensures { result.now ≡ take head.now.count (drop (place_in self.now number
-            * mbs_of (format_of self.now) + head.now.first) self.now.marks.items) }
+            * mbs_of (format_of self.now) + head.now.first) (boxed_slice_items self.now.marks)) }
     {
         let from = self.marks_at(self.place_of(number)) + head.first as usize;
         &self.marks[from..from + head.count as usize]

@@ -10,3 +10,4 @@ pub mod Packed
 pub mod Places
 pub mod Turns
 pub mod Marked
+pub mod Parts

@@ -1,4 +1,5 @@
 -- What the cutter holds: a picture so far, and the packets of the one that was finished last.
+use Rattle.std.specs.Box.{boxed_slice_items}
 use Rattle.std.specs.Prelude.{◌≡◌, ◌<◌, ℕ, List, [], take, slice_index_or, All}
 use Rattle.h263_types.specs.declared.Kind.{Kind}
 use Rattle.h263_types.specs.declared.format.Format.{Format}
@@ -49,11 +50,11 @@ pub record OnlyAdds (old new : Cutter) : Type 0 where
 -- a picture is begun, and its macroblocks so far are of its kind, have its quantiser, and stand beside their marks
 pub record IsBegun (c : Cutter) : Type 0 where
   pub header : IsHeader c.header
-  pub each : All (IsTaken (kind_of c) (quant_of c)) (take c.added c.mbs.items)
-  pub marked : (k : ℕ) → k < c.added → HasMarks (mb_in c.mbs.items k) (slice_index_or c.marks.items k [])
+  pub each : All (IsTaken (kind_of c) (quant_of c)) (take c.added (boxed_slice_items c.mbs))
+  pub marked : (k : ℕ) → k < c.added → HasMarks (mb_in (boxed_slice_items c.mbs) k) (slice_index_or (boxed_slice_items c.marks) k [])
 
 -- this picture was begun, and these are its macroblocks so far
 pub record Holds (c : Cutter) (number : ℕ) (h : Header) (mbs : List Mb) : Type 0 where
   pub number_is : c.number ≡ number
   pub header_is : c.header ≡ h
-  pub mbs_are : take c.added c.mbs.items ≡ mbs
+  pub mbs_are : take c.added (boxed_slice_items c.mbs) ≡ mbs

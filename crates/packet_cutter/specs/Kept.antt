@@ -1,4 +1,5 @@
 -- The packets of one picture, as they are kept.
+use Rattle.std.specs.Box.{boxed_slice_items}
 use Rattle.std.specs.Prelude.{◌≡◌, ℕ, ◌≤◌, ◌==◌, List, [], ◌∷◌, ◌++◌, length, take, drop}
 use Rattle.h263_types.specs.declared.blocks.Mb.{Mb}
 use Rattle.picture_header.specs.declared.header.Header.{Header}
@@ -13,13 +14,13 @@ most_bytes p = p.limit
 
 -- the bytes that were taken for packets
 abbrev pub room_of : Packets → ℕ
-room_of p = length p.bytes.items
+room_of p = length (boxed_slice_items p.bytes)
 
 abbrev pub count_of : Packets → ℕ
 count_of p = p.count
 
 abbrev pub kept_packets : Packets → List (List ℕ)
-kept_packets p = packets_in p.bytes.items p.places p.count
+kept_packets p = packets_in (boxed_slice_items p.bytes) p.places p.count
 
 -- the packet of the first `count` of the macroblocks that are left, in the longest slice, was put after the others
 pub record Appends (old new : Packets)

@@ -6,3 +6,4 @@ pub mod Again
 pub mod Taken
 pub mod Kept
 pub mod Cutting
+pub mod Parts

@@ -1,5 +1,6 @@
 //! Takes a picture's macroblocks and cuts them into packets.
 ghost use Rattle.std.specs.Prelude.{◌≡◌, ℕ, ◌+◌, ◌*◌, ◌%◌, ◌<◌, ◌≤◌, ◌++◌, ◌∷◌, [], List, length, take, slice_index_or, All, IfOk};
+ghost use Rattle.std.specs.Box.{boxed_slice_items};
 ghost use Rattle.h263_types.specs.declared.blocks.Mb.{Mb};
 ghost use Rattle.h263_types.specs.Blocks.{HasQuant, IsMb, IsOfKind};
 ghost use Rattle.h263_types.specs.Params.{IsParams};
@@ -19,6 +20,7 @@ use h263_types::{Mb, OutOfMemory, Params};
 use macroblock_layer::marks_in;
 use picture_header::Header;
 use std::alloc::Global;
+use std::boxed::BoxedSlice;
 
 // Cuts a picture: packet after packet.
 fn cut(
@@ -55,17 +57,17 @@ pub struct Cutter {
     number: u32,
     header: Header,
     // The picture's macroblocks: the first `added` ones are there.
-    mbs: Vec<Mb>,
+    mbs: BoxedSlice<Mb>,
     // Which levels of their blocks aren't 0, found before they are added.
-    marks: Vec<[u64; 6]>,
+    marks: BoxedSlice<[u64; 6]>,
     added: u32,
     // The number of the next packet.
     sequence: u16,
     packets: Packets,
-    ghost whole: { length mbs.items ≡ mbs_of header.format },
-    ghost beside: { length marks.items ≡ length mbs.items },
-    ghost within: { added ≤ length mbs.items },
-    ghost room: { most_bytes packets * length mbs.items ≤ room_of packets },
+    ghost whole: { length (boxed_slice_items mbs) ≡ mbs_of header.format },
+    ghost beside: { length (boxed_slice_items marks) ≡ length (boxed_slice_items mbs) },
+    ghost within: { added ≤ length (boxed_slice_items mbs) },
+    ghost room: { most_bytes packets * length (boxed_slice_items mbs) ≤ room_of packets },
 }
 
 // Puts a macroblock in the place of another. One that is skipped has no blocks to copy.
@@ -95,8 +97,8 @@ impl Cutter {
         Ok(Cutter {
             number: 0,
             header: Header::blank(params.format),
-            mbs: vec![in alloc; Mb::Skip; count as usize]?,
-            marks: vec![in alloc; [0; 6]; count as usize]?,
+            mbs: vec![in alloc; Mb::Skip; count as usize]?.into_boxed_slice(),
+            marks: vec![in alloc; [0; 6]; count as usize]?.into_boxed_slice(),
             added: 0,
             sequence: 0,
             packets: Packets::start(alloc, params.limit, count)?,

@@ -11,8 +11,9 @@ ghost use Rattle.h263_bits.specs.Bits.{bits_of};
 ghost use Rattle.picture_header.specs.declared.header.Header.{Header};
 ghost use Rattle.picture_header.specs.Ranges.{IsHeader};
 ghost use Rattle.slice_layer.specs.Around.{around};
-ghost use Rattle.slice_layer.specs.Written.{AreWritable};
+ghost use Rattle.slice_layer.specs.Written.{mbs_text, AreWritable};
 ghost use Rattle.packet_cutter.specs.Cut.{packet_bytes, IsCut, joined, Fit};
+ghost use Rattle.packet_cutter.specs.Parts.{HasShortParts};
 ghost use Rattle.packet_cutter.specs.Slices.{cut_of, slices_at};
 ghost use Rattle.packet_cutter.specs.Packets.{packet_text, packet_of, packets_of};
 ghost use Rattle.packet_cutter.specs.Packets.{ArePackets, ArePacketsOf};
@@ -119,6 +120,18 @@ pub fn packet_is_text()
     ensures bytes { (number sequence : ℕ) (marker : Bool) (h : Header) (first : ℕ) (run : List Mb)
         → length (packet_of number sequence marker h first run) ≡ packet_bytes h first run }
 {
+    h263_payload::laws::read_again();
+}
+
+/// A packet's parts other than its macroblocks, which are the headers before them and the zero bits
+/// after them, have at most 51 bytes.
+pub fn other_parts()
+    ensures { (number sequence : ℕ) (marker : Bool) (h : Header) (first : ℕ) (run : List Mb)
+        → IsHeader h → HasShortParts (mbs_text (around h first) h.quant [] run)
+        (bits_of (packet_of number sequence marker h first run)) }
+{
+    longest_text();
+    slice_layer::laws::longest_text();
     h263_payload::laws::read_again();
 }
 

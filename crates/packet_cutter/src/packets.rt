@@ -1,5 +1,6 @@
 //! The packets of one picture, in memory that is taken once.
 ghost use Rattle.std.specs.Prelude.{◌≡◌, ℕ, ◌+◌, ◌*◌, ◌^◌, ◌<◌, ◌≤◌, ◌++◌, [], length, slice_index_or, slice_range, take, drop, All, IfOk};
+ghost use Rattle.std.specs.Box.{boxed_slice_items};
 ghost use Rattle.h263_types.specs.Sizes.{mbs_of};
 ghost use Rattle.picture_header.specs.Ranges.{IsHeader};
 ghost use Rattle.packet_cutter.specs.Taken.{AreMarked, IsTaken, ArePlaced};
@@ -8,20 +9,21 @@ use crate::filling::write_packet;
 use h263_types::Mb;
 use picture_header::Header;
 use std::alloc::{AllocError, Global};
+use std::boxed::BoxedSlice;
 
 /// Packets one after the other, each of `limit` bytes at most.
 #[derive(Drop)]
 pub struct Packets {
     limit: u32,
-    bytes: Vec<u8>,
+    bytes: BoxedSlice<u8>,
     // Where each packet begins, and after the last one its end.
     places: [u32; 397],
     count: u32,
     ghost low: { 1200 ≤ limit },
     ghost high: { limit ≤ 9000 },
     ghost few: { count ≤ 396 },
-    ghost room: { limit * count ≤ length bytes.items },
-    ghost short: { length bytes.items < 2 ^ 31 },
+    ghost room: { limit * count ≤ length (boxed_slice_items bytes) },
+    ghost short: { length (boxed_slice_items bytes) < 2 ^ 31 },
     ghost placed: { ArePlaced limit places count },
 }
 
@@ -48,7 +50,7 @@ impl Packets {
         let size = limit as usize * most as usize;
         Ok(Packets {
             limit,
-            bytes: vec![in alloc; 0; size]?,
+            bytes: vec![in alloc; 0; size]?.into_boxed_slice(),
             places: [0; 397],
             count: 0,
         })

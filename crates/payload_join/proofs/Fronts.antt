@@ -13,6 +13,7 @@ use Rattle.rtp_header.specs.Written.{rtp_fields}
 use Rattle.h263_bits.specs.Bits.{spelled, number, bits_of, fields}
 use Rattle.h263_bits.specs.Syntax.{same_bit, reading}
 use Rattle.h263_bits.proofs.SyntaxLaws.{bits_of-append}
+use Rattle.byteorder.specs.Endian.{big_bytes}
 use Rattle.h263_payload.specs.Written.{opening_fields}
 use Rattle.payload_join.specs.Unit.{each_below}
 use Rattle.payload_join.specs.Outgoing.{bytes_in}
@@ -56,7 +57,7 @@ same_list_is (x ∷ xs) (y ∷ ys) e =
     λ i. first i ∷ more i
 
 opening_bytes : ℕ → ℕ → List ℕ
-opening_bytes plen pebit = (1024 + 8 * plen + pebit) / 256 ∷ (1024 + 8 * plen + pebit) % 256 ∷ []
+opening_bytes plen pebit = big_bytes 2 (1024 + 8 * plen + pebit)
 
 is_opening : ℕ → ℕ → Bool
 is_opening plen pebit = same_list (bits_of (opening_bytes plen pebit)) (fields (opening_fields plen pebit))
@@ -66,7 +67,7 @@ unfolding each_below is_opening opening_bytes same_list bits_of spelled
 tried = refl
 
 -- the 16 bits of a payload header
-pub opening_is : (plen pebit : ℕ) → plen < 64 → pebit < 8 → bits_of ((1024 + 8 * plen + pebit) / 256 ∷ (1024 + 8 * plen + pebit) % 256 ∷ []) ≡ fields (opening_fields plen pebit)
+pub opening_is : (plen pebit : ℕ) → plen < 64 → pebit < 8 → bits_of (big_bytes 2 (1024 + 8 * plen + pebit)) ≡ fields (opening_fields plen pebit)
 unfolding is_opening opening_bytes
 opening_is plen pebit few less =
     same_list_is (bits_of (opening_bytes plen pebit)) (fields (opening_fields plen pebit))

@@ -6,6 +6,7 @@ ghost use Rattle.payload_join.specs.Places.{put_at};
 ghost use Rattle.payload_join.specs.Outgoing.{padded_bytes};
 ghost use Rattle.payload_join.specs.Fronts.{front_bytes, front_by, header_end};
 
+use byteorder::{BigEndian, ByteOrder};
 use h263_bits::{BitReader, laws as h263_bits_laws};
 use h263_types::Format;
 use picture_header::read_header;
@@ -73,8 +74,9 @@ fn opening(plen: u32, pebit: u32) -> [u8; 2]
     requires pebit { pebit < 8 }
     ensures { bits_of result ≡ fields (opening_fields plen pebit) }
 {
-    let bits = 1024 + 8 * plen + pebit;
-    [(bits / 256) as u8, (bits % 256) as u8]
+    let mut bytes = [0; 2];
+    BigEndian::write_u16(&mut bytes, (1024 + 8 * plen + pebit) as u16);
+    bytes
 }
 
 // Where the picture header ends that coded bytes begin with, if it takes 63 bytes at most.

@@ -2,4 +2,4 @@ use Rattle.payload_join.proofs.Fronts.{opening_is}
 use Rattle.payload_join.proofs.front.opening.Goals as goal
 
 pub returns : goal.returns
-returns c = opening_is c.args.plen c.args.pebit c.requires.few c.requires.pebit
+returns c = rw (c.write_u16.ensures) (opening_is c.args.plen c.args.pebit c.requires.few c.requires.pebit)
