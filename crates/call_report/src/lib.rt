@@ -1,7 +1,7 @@
 //! How a run ends, and the lines of its report.
 //!
 //! A [`Status`] is what a run ends with, and [`refusal_line`] says why. A [`Line`] is built word by
-//! word; [`picture_line`] is the line of a [`PictureRow`].
+//! word; [`picture_line`] is the line of a picture.
 //!
 //! ```rust
 //! let mut line = Line::empty();
@@ -18,6 +18,6 @@ mod refusal;
 mod status;
 
 pub use line::Line;
-pub use picture::{PictureRow, picture_line};
+pub use picture::picture_line;
 pub use refusal::refusal_line;
 pub use status::Status;

@@ -46,27 +46,22 @@ impl Line {
     }
 }
 
-/// What the line of a picture tells.
-#[derive(Clone, Copy, Debug, PartialEq, Eq)]
-pub struct PictureRow {
-    /// The letter of its party, in ASCII, where there are two parties.
-    pub party: Option<u8>,
-    pub number: u32,
-    /// Its mark, where it was shown.
-    pub mark: Option<Mark>,
-    /// Its reference, where that is told, of which None is a picture without one.
-    pub reference: Option<Option<u32>>,
-}
-
-/// The line of a picture.
-pub fn picture_line(row: PictureRow) -> Line
-    requires { IfSome row.party (λ letter. letter < 128) }
-    ensures { text_of result ≡ picture_text row.number row.mark row.reference row.party }
+/// The line of picture `number`: after the letter of its party, in ASCII, where there are two
+/// parties, with its mark where it was shown, and with its reference where that is told, of which
+/// the inner None is a picture without one.
+pub fn picture_line(
+    number: u32,
+    mark: Option<Mark>,
+    reference: Option<Option<u32>>,
+    party: Option<u8>,
+) -> Line
+    requires { IfSome party (λ letter. letter < 128) }
+    ensures { text_of result ≡ picture_text number mark reference party }
 {
-    let mut line = party_start(row.party);
-    line.put_number(row.number as u64);
-    line.put(mark_words(row.mark));
-    line.put_reference(row.reference);
+    let mut line = party_start(party);
+    line.put_number(number as u64);
+    line.put(mark_words(mark));
+    line.put_reference(reference);
     line.end();
     line
 }

@@ -1,9 +1,9 @@
 //! The last messages, in memory that is taken once.
 ghost use Rattle.std.specs.Prelude.{◌≡◌, ℕ, ◌+◌, ◌-◌, ◌^◌, ◌<◌, ◌≤◌, List, [], ◌∷◌};
 ghost use Rattle.std.specs.Prelude.{◌++◌, length, IfOk};
-ghost use Rattle.back_messages.specs.declared.writing.MessageBytes.{MessageBytes};
+ghost use Rattle.back_messages.specs.declared.writing.Said.{Said};
 
-use back_messages::MessageBytes;
+use back_messages::Said;
 use circular_buffer::HeapCircularBuffer;
 use h263_types::OutOfMemory;
 use std::alloc::Global;
@@ -12,7 +12,7 @@ use std::alloc::Global;
 #[derive(Drop)]
 pub struct MessageRing {
     said: u64,
-    entries: HeapCircularBuffer<(u32, MessageBytes)>,
+    entries: HeapCircularBuffer<(u32, Said)>,
 }
 
 impl MessageRing {
@@ -27,9 +27,9 @@ impl MessageRing {
     }
 
     /// One more message, about picture `about`.
-    pub fn push(&mut self, about: u32, said: MessageBytes)
+    pub fn push(&mut self, about: u32, said: Said)
         requires { said_of self.old + 1 < 2 ^ 64 }
-        ensures pushes { (messages : List (ℕ × MessageBytes)) → HoldsMessages self.old messages
+        ensures pushes { (messages : List (ℕ × Said)) → HoldsMessages self.old messages
             → HoldsMessages self.new (messages ++ (about, said) ∷ []) }
         ensures said { said_of self.new ≡ said_of self.old + 1 }
     {
@@ -40,7 +40,7 @@ impl MessageRing {
     /// How many messages were said.
     pub fn said(&self) -> u64
         ensures count { result ≡ said_of self.now }
-        ensures messages { (messages : List (ℕ × MessageBytes)) → HoldsMessages self.now messages
+        ensures messages { (messages : List (ℕ × Said)) → HoldsMessages self.now messages
             → result ≡ length messages }
     {
         self.said
@@ -48,8 +48,8 @@ impl MessageRing {
 
     /// Message `k`, counted from 0 in the order in which they were said: none where it has left, or
     /// isn't said yet.
-    pub fn get(&self, k: u32) -> Option<(u32, MessageBytes)>
-        ensures { (messages : List (ℕ × MessageBytes)) → HoldsMessages self.now messages
+    pub fn get(&self, k: u32) -> Option<(u32, Said)>
+        ensures { (messages : List (ℕ × Said)) → HoldsMessages self.now messages
             → result ≡ message_at messages k }
     {
         let left = (self.said as usize).saturating_sub(self.entries.len());

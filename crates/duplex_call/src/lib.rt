@@ -21,4 +21,4 @@ pub mod worked;
 
 pub use counts::{Counts, Far};
 pub use line::{Party, party_line};
-pub use queue::{Carried, MessageQueue};
+pub use queue::{Carried, Carrier};

@@ -10,20 +10,20 @@ pub struct Carried {
 
 /// The last four messages, at most, that were said since the load before.
 #[derive(Clone, Copy, Debug, PartialEq, Eq)]
-pub struct MessageQueue {
+pub struct Carrier {
     waiting: [Option<Carried>; 4],
 }
 
-impl MessageQueue {
+impl Carrier {
     ghost use Rattle.std.specs.Prelude.{◌≡◌, List, [], ◌∷◌, ◌++◌};
     ghost use Rattle.duplex_call.specs.declared.queue.Carried.{Carried};
     ghost use Rattle.duplex_call.specs.Waiting.{in_places, Waits};
 
     /// No message was said.
-    pub fn new() -> MessageQueue
+    pub fn new() -> Carrier
         ensures { Waits result [] }
     {
-        MessageQueue {
+        Carrier {
             waiting: [None, None, None, None],
         }
     }

@@ -4,9 +4,9 @@ use Rattle.std.specs.Prelude.{drop, map, slice_index_or}
 use Rattle.h263_types.specs.declared.blocks.Mb.{Mb}
 use Rattle.h263_types.specs.declared.params.Params.{Params}
 use Rattle.h263_planes.specs.Picture.{Picture}
-use Rattle.back_messages.specs.MessageBytes.{text_of}
+use Rattle.back_messages.specs.Said.{text_of}
 use Rattle.back_messages.specs.Text as back
-use Rattle.back_messages.specs.declared.writing.MessageBytes.{MessageBytes}
+use Rattle.back_messages.specs.declared.writing.Said.{Said}
 use Rattle.call_model.specs.Coding.{Coding, Rules}
 use Rattle.call_model.specs.IdealCall.{AllMayHappen, Back, Call, Event, NumberedMessage, Send, about, ideal}
 use Rattle.call_model.specs.JoinedRun.{SaidMessage}
@@ -18,7 +18,7 @@ use Rattle.call_encoding.specs.Frames.{Frame}
 use Rattle.call_encoding.specs.Messages.{marked, write_message}
 use Rattle.coded_call.specs.Coding.{coding}
 use Rattle.duplex_call.specs.declared.queue.Carried.{Carried}
-use Rattle.duplex_call.specs.declared.queue.MessageQueue.{MessageQueue}
+use Rattle.duplex_call.specs.declared.queue.Carrier.{Carrier}
 use Rattle.duplex_call.specs.Duplex.{WayRun, brought}
 use Rattle.duplex_call.specs.Waiting.{Waits}
 use Rattle.one_way.specs.Both.{both_after, steady}
@@ -67,7 +67,7 @@ module _ (p : Params) (laws : SaidLaws p) where
   abbrev tell : NumberedMessage → SaidMessage
   tell = told_of write_message rules
 
-  read_more : (w : WayRun Frame) (old : List NumberedMessage) (n : ℕ) (result : Option MessageBytes) (notes : List NumberedMessage)
+  read_more : (w : WayRun Frame) (old : List NumberedMessage) (n : ℕ) (result : Option Said) (notes : List NumberedMessage)
       → (call_by p w).said ≡ old ++ notes → map tell notes ≡ network.told_by n result → map (carried_as rules) notes ≡ said_as p.clock n result
   read_more w old n None [] is told = refl
   read_more w old n None (x ∷ notes) is told = absurd (cc told)
@@ -82,7 +82,7 @@ module _ (p : Params) (laws : SaidLaws p) where
       ∙ sym (ap (λ (bytes : List ℕ). read_as n (back.message_in p.clock bytes)) (sym bytes) ∙ ap (read_as n) read)
 
   -- what is told grows by what is said at an event
-  pub told_more : (w : WayRun Frame) (e : Event) (n : ℕ) (result : Option MessageBytes) (notes : List NumberedMessage)
+  pub told_more : (w : WayRun Frame) (e : Event) (n : ℕ) (result : Option Said) (notes : List NumberedMessage)
       → (call_by p (record w { past = e ∷ w.past })).said ≡ (call_by p w).said ++ notes
       → (both_after p (steady p) w.frames [] (e ∷ w.past)).said ≡ (both_after p (steady p) w.frames [] w.past).said ++ network.told_by n result
       → Agree (coding p) rules (call_by p w) (both_after p (steady p) w.frames [] w.past)
@@ -162,7 +162,7 @@ module _ (p q : Params) (own : PartyEnds) (w far : WayRun Frame) (h : HoldsParty
   }
 
   -- more was said of it, and waits
-  pub party_waits : (waiting : MessageQueue) (now : WayRun Frame) (more : List Carried) → told_by q now ≡ told_by q far ++ more
+  pub party_waits : (waiting : Carrier) (now : WayRun Frame) (more : List Carried) → told_by q now ≡ told_by q far ++ more
       → Waits waiting (drop w.loaded (told_by q far) ++ more) → HoldsParty p q (record own { waiting = waiting }) w now
   party_waits waiting now more grows waits = record {
     params = h.params;

@@ -4,11 +4,11 @@ use Rattle.h263_types.specs.declared.blocks.Mb.{Mb}
 use Rattle.h263_types.specs.declared.clock.Clock.{Clock}
 use Rattle.h263_types.specs.declared.params.Params.{Params}
 use Rattle.h263_planes.specs.Picture.{Picture}
-use Rattle.back_messages.specs.MessageBytes.{text_of}
+use Rattle.back_messages.specs.Said.{text_of}
 use Rattle.back_messages.specs.Text as back
 use Rattle.back_messages.specs.declared.message.Message.{Message}
 use Rattle.back_messages.specs.declared.message.MessageFault.{MessageFault}
-use Rattle.back_messages.specs.declared.writing.MessageBytes.{MessageBytes}
+use Rattle.back_messages.specs.declared.writing.Said.{Said}
 use Rattle.call_model.specs.JoinedRun.{Joined, SaidMessage}
 use Rattle.call_model.specs.IdealCall.{Event}
 use Rattle.call_decoding.specs.Rules.{rules_of}
@@ -29,7 +29,7 @@ abbrev pub read_as : ℕ → Result Message MessageFault → List Carried
 read_as n (Ok message) = record { about = n; message = message } ∷ []
 read_as n (Err fault) = []
 
-abbrev pub said_as : Clock → ℕ → Option MessageBytes → List Carried
+abbrev pub said_as : Clock → ℕ → Option Said → List Carried
 said_as clock n None = []
 said_as clock n (Some said) = read_as n (back.message_in clock (text_of said))
 

@@ -13,7 +13,7 @@ ghost use Rattle.duplex_call.specs.Duplex.{MayHappenOf, WayRuns, with_capture};
 use crate::saying::put_messages;
 use crate::{CarriedRing, laws};
 use back_messages::Message;
-use duplex_call::MessageQueue;
+use duplex_call::Carrier;
 use h263_planes::PictureRef;
 use h263_types::{FixedPace, OutOfMemory, Params};
 use one_way::{Tally, Way, laws as one_way_laws};
@@ -37,7 +37,7 @@ pub struct PartyEnds {
     /// The messages that the headers of the last pictures carry.
     pub carried: CarriedRing,
     /// What the party's own receiver has said since the party's last picture.
-    pub waiting: MessageQueue,
+    pub waiting: Carrier,
 }
 
 impl PartyEnds {
@@ -66,7 +66,7 @@ impl PartyEnds {
                 far_end,
                 way,
                 carried,
-                waiting: MessageQueue::new(),
+                waiting: Carrier::new(),
             }),
             Err(_) => {
                 sender.finish();

@@ -1,20 +1,20 @@
 //! Messages on their way into a picture header, and out of it.
 ghost use Rattle.std.specs.Prelude.{◌≡◌, ◌++◌, ◌≤◌, List, map, take};
-ghost use Rattle.back_messages.specs.MessageBytes.{text_of};
+ghost use Rattle.back_messages.specs.Said.{text_of};
 ghost use Rattle.back_messages.specs.Text.{IsMessage};
 ghost use Rattle.call_encoding.specs.Messages.{written};
 ghost use Rattle.duplex_call.specs.declared.queue.Carried.{Carried};
 ghost use Rattle.duplex_call.specs.Waiting.{Waits};
 ghost use Rattle.duplex_ends.specs.Bringing.{carried_in, message_in, said_as};
 
-use back_messages::{Message, MessageBytes, read, write};
+use back_messages::{Message, Said, read, write};
 use coded_call::laws as coded_call_laws;
-use duplex_call::{Carried, MessageQueue};
+use duplex_call::{Carried, Carrier};
 use h263_types::Clock;
 use one_way::are_bytes;
 
 /// What was said of picture `about`, if anything was, waits for the next header.
-pub fn put_by(waiting: &mut MessageQueue, clock: Clock, about: u32, said: Option<MessageBytes>)
+pub fn put_by(waiting: &mut Carrier, clock: Clock, about: u32, said: Option<Said>)
     ensures { (before : List Carried) → Waits waiting.old before
         → Waits waiting.new (before ++ said_as clock about said) }
 {
@@ -27,7 +27,7 @@ pub fn put_by(waiting: &mut MessageQueue, clock: Clock, about: u32, said: Option
 }
 
 /// The bytes of a message of a picture header: those that are written of it.
-pub fn bytes_of(message: &Message, clock: Clock) -> MessageBytes
+pub fn bytes_of(message: &Message, clock: Clock) -> Said
     requires { IsMessage clock message.now }
     ensures { text_of result ≡ written message.now }
 {

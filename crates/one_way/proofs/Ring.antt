@@ -6,7 +6,7 @@ use Rattle.std.proofs.lemmas.Bool.{and_from, le-leb, lt-ltb}
 use Rattle.h263_types.specs.declared.blocks.Mb.{Mb}
 use Rattle.h263_types.specs.declared.params.Params.{Params}
 use Rattle.h263_planes.specs.Picture.{Picture}
-use Rattle.back_messages.specs.declared.writing.MessageBytes.{MessageBytes}
+use Rattle.back_messages.specs.declared.writing.Said.{Said}
 use Rattle.call_model.specs.Coding.{Header, Slice}
 use Rattle.call_model.specs.CodedPictures.{Coded}
 use Rattle.call_model.specs.IdealCall.{slices_at}
@@ -45,17 +45,17 @@ count_is p coded n count = by_slot (slice_get coded n)
 -- ---- messages
 
 -- message k, by its picture and bytes
-pub told_at : (pairs : List (ℕ × MessageBytes)) (k : ℕ) (x : ℕ × MessageBytes) → slice_get pairs k ≡ Some x → slice_get (map told_in pairs) k ≡ Some (told_in x)
+pub told_at : (pairs : List (ℕ × Said)) (k : ℕ) (x : ℕ × Said) → slice_get pairs k ≡ Some x → slice_get (map told_in pairs) k ≡ Some (told_in x)
 told_at [] k x is = absurd (cc is)
 told_at (y ∷ pairs) zero x is = ap (option_map told_in) is
 told_at (y ∷ pairs) (suc k) x is = told_at pairs k x is
 
 -- the pictures that the messages are about
-pub abouts_are : (pairs : List (ℕ × MessageBytes)) → map (λ (told : SaidMessage). told.about) (map told_in pairs) ≡ map about_of pairs
+pub abouts_are : (pairs : List (ℕ × Said)) → map (λ (told : SaidMessage). told.about) (map told_in pairs) ≡ map about_of pairs
 abouts_are [] = refl
 abouts_are (x ∷ pairs) = ap (λ (l : List ℕ). x.0 ∷ l) (abouts_are pairs)
 
-pub about_at : (pairs : List (ℕ × MessageBytes)) (k : ℕ) (x : ℕ × MessageBytes) → slice_get pairs k ≡ Some x → slice_get (map about_of pairs) k ≡ Some x.0
+pub about_at : (pairs : List (ℕ × Said)) (k : ℕ) (x : ℕ × Said) → slice_get pairs k ≡ Some x → slice_get (map about_of pairs) k ≡ Some x.0
 about_at [] k x is = absurd (cc is)
 about_at (y ∷ pairs) zero x is = ap (option_map about_of) is
 about_at (y ∷ pairs) (suc k) x is = about_at pairs k x is

@@ -18,8 +18,8 @@ use Rattle.h263_types.specs.declared.blocks.Mb.{Mb}
 use Rattle.h263_types.specs.declared.clock.Clock.{Clock}
 use Rattle.h263_types.specs.declared.params.Params.{Params}
 use Rattle.h263_types.specs.Params.{IsParams}
-use Rattle.back_messages.specs.MessageBytes.{text_of}
-use Rattle.back_messages.specs.declared.writing.MessageBytes.{MessageBytes}
+use Rattle.back_messages.specs.Said.{text_of}
+use Rattle.back_messages.specs.declared.writing.Said.{Said}
 use Rattle.call_model.specs.Coding.{Header, Message, Slice}
 use Rattle.call_model.specs.IdealCall.{Event, Send, Deliver, Play, Back, AllMayHappen, ideal}
 use Rattle.call_model.specs.Receiving.{ReceiverEntry}
@@ -58,7 +58,7 @@ ShowTheSame p frames past =
 
 -- a message is said by the bytes that are written of it, and a picture has a packet for each slice
 pub record MessageLaws (p : Params) : Type 0 where
-  pub said : (clock : Clock) (said : MessageBytes) (message : Message)
+  pub said : (clock : Clock) (said : Said) (message : Message)
       → AreBytes (text_of said) → IsSaid clock said message
       → text_of said ≡ write_message message
   pub count : (number sequence : ℕ) (h : Header Style) (slices : List (Slice Mb))

@@ -3,8 +3,8 @@ use Rattle.std.specs.Prelude.{◌≡◌, ℕ, ◌≤◌, List, [], ◌∷◌, le
 use Rattle.h263_types.specs.declared.blocks.Mb.{Mb}
 use Rattle.h263_types.specs.declared.params.Params.{Params}
 use Rattle.h263_planes.specs.Picture.{Picture}
-use Rattle.back_messages.specs.declared.writing.MessageBytes.{MessageBytes}
-use Rattle.back_messages.specs.MessageBytes.{text_of}
+use Rattle.back_messages.specs.declared.writing.Said.{Said}
+use Rattle.back_messages.specs.Said.{text_of}
 use Rattle.call_model.specs.CodedPictures.{Coded}
 use Rattle.call_model.specs.JoinedRun.{SaidMessage}
 use Rattle.call_model.specs.Sending as call
@@ -42,20 +42,20 @@ pub record HasPackets (p : Params) (packets : SentPackets) (coded : List (Coded 
 -- ---- messages
 
 -- a message that was said, by its picture and its bytes
-abbrev pub told_in : ℕ × MessageBytes → SaidMessage
+abbrev pub told_in : ℕ × Said → SaidMessage
 told_in x = record { about = x.0; bytes = text_of x.1 }
 
-abbrev pub about_of : ℕ × MessageBytes → ℕ
+abbrev pub about_of : ℕ × Said → ℕ
 about_of x = x.0
 
 -- the ring has these messages, which were said
 pub record HasMessages (messages : MessageRing) (said : List SaidMessage) : Type 0 where
-  pub pairs : List (ℕ × MessageBytes)
+  pub pairs : List (ℕ × Said)
   pub holds : HoldsMessages messages pairs
   pub same : map told_in pairs ≡ said
 
 -- what is told of picture n by this message, if one was said
-abbrev pub told_by : ℕ → Option MessageBytes → List SaidMessage
+abbrev pub told_by : ℕ → Option Said → List SaidMessage
 told_by n None = []
 told_by n (Some said) = told_in (n, said) ∷ []
 

@@ -1,7 +1,7 @@
 //! A way whose messages wait for their return, by their numbers.
 ghost use Rattle.std.specs.Prelude.{◌≡◌, ◌+◌, ◌^◌, ◌<◌, ◌≤◌, ℕ, Some, List, ◌∷◌, ◌++◌, IfOk, IfSome};
 ghost use Rattle.std.specs.Prelude.{length, slice_get};
-ghost use Rattle.back_messages.specs.MessageBytes.{text_of};
+ghost use Rattle.back_messages.specs.Said.{text_of};
 ghost use Rattle.coded_call.specs.Bytes.{AreBytes};
 ghost use Rattle.h263_types.specs.declared.params.Params.{Params};
 ghost use Rattle.h263_types.specs.Params.{IsParams};
@@ -27,7 +27,7 @@ ghost use Rattle.one_way.specs.Way.{MayHappenNow, OnlyCounts, SaysNothing, kept_
 ghost use Rattle.one_way.specs.Way.{said_in, tally_of, way_of};
 
 use crate::{Tally, Way, bring_back, laws};
-use back_messages::{Message, MessageBytes};
+use back_messages::{Message, Said};
 use call_rings::MessageRing;
 use h263_planes::PictureRef;
 use h263_types::{FixedPace, OutOfMemory, Params};
@@ -43,7 +43,7 @@ pub struct Network {
 }
 
 // Keeps what was said of this picture, if anything was.
-fn keep_message(messages: &mut MessageRing, about: u32, told: Option<MessageBytes>)
+fn keep_message(messages: &mut MessageRing, about: u32, told: Option<Said>)
     requires { said_of messages.old + 1 < 2 ^ 64 }
     ensures kept { (said : List SaidMessage) → HasMessages messages.old said
         → HasMessages messages.new (said ++ told_by about told) }

@@ -2,7 +2,7 @@
 //! Both ends are lent to each call.
 ghost use Rattle.std.specs.Prelude.{◌≡◌, ◌+◌, ◌^◌, ◌<◌, ◌≤◌, ℕ, Some, List, [], ◌∷◌, ◌++◌};
 ghost use Rattle.std.specs.Prelude.{IfOk, IfSome, length, slice_get};
-ghost use Rattle.back_messages.specs.MessageBytes.{text_of};
+ghost use Rattle.back_messages.specs.Said.{text_of};
 ghost use Rattle.coded_call.specs.Bytes.{AreBytes};
 ghost use Rattle.h263_types.specs.declared.params.Params.{Params};
 ghost use Rattle.h263_types.specs.Params.{IsParams};
@@ -28,7 +28,7 @@ ghost use Rattle.one_way.specs.Way.{OnlyCounts, kept_in, most_in, tally_of};
 ghost use Rattle.one_way.specs.declared.way.Way.{Way};
 
 use crate::{References, Tally, laws};
-use back_messages::{Message, MessageBytes};
+use back_messages::{Message, Said};
 use call_rings::{SentPackets, laws as call_rings_laws};
 use h263_planes::PictureRef;
 use h263_types::{FixedPace, OutOfMemory, Params};
@@ -71,7 +71,7 @@ pub fn are_bytes(bytes: &[u8])
 {}
 
 // What was said, if anything was: bytes.
-fn as_said(said: Option<MessageBytes>) -> Option<MessageBytes>
+fn as_said(said: Option<Said>) -> Option<Said>
     ensures same { result ≡ said }
     ensures bytes { IfSome result (λ said. AreBytes (text_of said)) }
 {
@@ -126,7 +126,7 @@ impl Way {
         laws::ends_run();
         laws::packet_laws();
         let number = sender.sent();
-        let coded = sender.capture(frame, back);
+        let coded = sender.code(frame, back);
         self.references.note(number, coded.reference);
         keep_packets(&mut self.packets, sender, coded.packets);
         number
@@ -151,7 +151,7 @@ impl Way {
 
     /// Delivers the packet at a place of a picture, if there is one, and answers what the receiver
     /// says to it. The picture was sent and is near.
-    pub fn deliver(&self, receiver: &mut Receiver, number: u32, place: u32) -> Option<MessageBytes>
+    pub fn deliver(&self, receiver: &mut Receiver, number: u32, place: u32) -> Option<Said>
         ensures params { receiver.new.params ≡ receiver.old.params }
         ensures played { receiver.new.played ≡ receiver.old.played }
         ensures bytes { IfSome result (λ said. AreBytes (text_of said)) }

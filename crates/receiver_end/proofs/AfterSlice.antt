@@ -31,7 +31,7 @@ use Rattle.receiver_end.specs.State.{Fits, seen, holds, picture_at, screen_in, w
 use Rattle.receiver_end.specs.Steps.{IsFresh, IsDrawn, IsSameBut, IsReferenceOf, ack_of, picture_of_reference, piece_in, taking}
 use Rattle.receiver_end.specs.Answers.{IsHeard, IsSaid}
 use Rattle.receiver_end.specs.declared.answers.Heard.TheVariants as heards
-use Rattle.back_messages.specs.declared.writing.MessageBytes.{MessageBytes}
+use Rattle.back_messages.specs.declared.writing.Said.{Said}
 use Rattle.receiver_end.proofs.Headers.{both}
 use Rattle.receiver_end.proofs.Marked.{all_same}
 use Rattle.receiver_end.proofs.Rings.{apart, differ}
@@ -82,7 +82,7 @@ module _ (r : Kept) (c : Collector) (s : Pictures) (mbs : List Mb) (piece : Piec
   said_same : ack_of r.params s f.number ≡ ack_of r.params r.store f.number
   said_same = ap (λ (l : List (Option ℕ)). call.Ack (f.number % call.period (rules_of r.params)) (flags_of (call.Rules.flags (rules_of r.params)) (λ m. option_map_or (λ k. eqb k m) (get_or l (m % r.params.slots) None) false) f.number)) d.store.numbers
 
-  pub taken_whole : (said : MessageBytes) → all_below (mbs_of r.params.format) (has_in c f.number) ≡ true → IsSaid r.params.clock said (ack_of r.params s f.number)
+  pub taken_whole : (said : Said) → all_below (mbs_of r.params.format) (has_in c f.number) ≡ true → IsSaid r.params.clock said (ack_of r.params s f.number)
       → IsHeard r.params.clock (heards.Completed said) (taking r f.number (piece_in piece mbs))
   taken_whole said all is = rw (completed ∙ all) (said, refl, subst (IsSaid r.params.clock said) said_same is)
 

@@ -5,8 +5,8 @@ use Rattle.h263_types.specs.declared.Mark.{Mark}
 use Rattle.h263_types.specs.declared.Mark.TheVariants as marks
 use Rattle.h263_types.specs.declared.clock.Clock.{Clock}
 use Rattle.back_messages.specs.declared.message.Message.{Message}
-use Rattle.back_messages.specs.declared.writing.MessageBytes.{MessageBytes}
-use Rattle.back_messages.specs.MessageBytes.{text_of, IsFilled}
+use Rattle.back_messages.specs.declared.writing.Said.{Said}
+use Rattle.back_messages.specs.Said.{text_of, IsFilled}
 use Rattle.back_messages.specs.Text.{message_in}
 use Rattle.reference_selector.specs.Messages.{message_of}
 use Rattle.call_model.specs.Coding as call
@@ -17,7 +17,7 @@ use Rattle.receiver_end.specs.declared.answers.PacketFault.TheVariants as faults
 use Rattle.receiver_end.specs.declared.answers.Played.{Played}
 
 -- the bytes of a message as it travels, which a sender by this clock reads
-pub record IsSaid (clock : Clock) (said : MessageBytes) (message : call.Message) : Type 0 where
+pub record IsSaid (clock : Clock) (said : Said) (message : call.Message) : Type 0 where
   pub written : Message
   pub read : message_in clock (text_of said) ≡ Ok written
   pub means : message_of written ≡ message
@@ -34,7 +34,7 @@ IsHeard clock h runs.MissingReference = h ≡ heards.Refused faults.MissingRefer
 IsHeard clock h runs.Repeat = h ≡ heards.Repeat
 IsHeard clock h runs.Overlap = h ≡ heards.Refused faults.Overlap
 IsHeard clock h (runs.Completed message) =
-    (said : MessageBytes) × (h ≡ heards.Completed said) × IsSaid clock said message
+    (said : Said) × (h ≡ heards.Completed said) × IsSaid clock said message
 IsHeard clock h runs.Taken = h ≡ heards.Taken
 
 -- the message of an answer: a packet that completes its picture acknowledges it
@@ -43,7 +43,7 @@ said_by (runs.Completed message) = Some message
 said_by _ = None
 
 -- the same, in bytes
-abbrev pub said_in : Heard → Option MessageBytes
+abbrev pub said_in : Heard → Option Said
 said_in (heards.Completed said) = Some said
 said_in _ = None
 
@@ -58,9 +58,9 @@ mark_of call.Exact = marks.Exact
 mark_of call.Patched = marks.Patched
 mark_of call.Held = marks.Held
 
-abbrev pub IsMessage : Clock → Option MessageBytes → Option call.Message → Type 0
+abbrev pub IsMessage : Clock → Option Said → Option call.Message → Type 0
 IsMessage clock o None = o ≡ None
-IsMessage clock o (Some message) = (said : MessageBytes) × (o ≡ Some said) × IsSaid clock said message
+IsMessage clock o (Some message) = (said : Said) × (o ≡ Some said) × IsSaid clock said message
 
 -- a play has this mark and says this message
 pub record IsPlayed (clock : Clock) (played : Played) (mark : call.Mark) (message : Option call.Message) : Type 0 where

@@ -1,5 +1,5 @@
 //! What a receiver answers.
-use back_messages::MessageBytes;
+use back_messages::Said;
 use h263_bits::Fault;
 use h263_types::Mark;
 
@@ -23,7 +23,7 @@ pub enum PacketFault {
 pub enum Heard {
     Taken,
     /// With this slice its picture is complete: the message that acknowledges it.
-    Completed(MessageBytes),
+    Completed(Said),
     /// Its picture was played.
     Late,
     /// Its picture is too far ahead.
@@ -38,7 +38,7 @@ impl Heard {
     ghost use Rattle.receiver_end.specs.Answers.{said_in};
 
     /// The message that it says: the acknowledgement of a picture that is complete.
-    pub fn message(&self) -> Option<MessageBytes>
+    pub fn message(&self) -> Option<Said>
         ensures { result ≡ said_in self.now }
     {
         match self {
@@ -65,5 +65,5 @@ pub struct Played {
     pub number: u32,
     pub mark: Mark,
     pub reference: Option<u32>,
-    pub message: Option<MessageBytes>,
+    pub message: Option<Said>,
 }

@@ -13,7 +13,7 @@ ghost use Rattle.receiver_end.specs.Decoding.{decoding};
 ghost use Rattle.receiver_end.specs.Answers.{IsSaid};
 
 use crate::kept::Kept;
-use back_messages::{Message, MessageBytes, write};
+use back_messages::{Message, Said, write};
 use call_model::laws as call_model_laws;
 
 fn bit(flag: bool) -> u16
@@ -58,7 +58,7 @@ impl Kept {
     }
 
     /// The message that acknowledges a picture.
-    pub fn ack(&self, number: u32) -> MessageBytes
+    pub fn ack(&self, number: u32) -> Said
         requires slots { slots_of self.now.store ≡ self.now.params.slots }
         requires number { number ≤ 2 ^ 21 }
         ensures { IsSaid self.now.params.clock result
@@ -91,7 +91,7 @@ impl Kept {
 
     /// The message that the next picture isn't complete. It offers another one, or names that one
     /// again.
-    pub fn nack(&self) -> MessageBytes
+    pub fn nack(&self) -> Said
         requires fits { Fits self.now }
         ensures { IsSaid self.now.params.clock result (nack
             (rules_of self.now.params) self.now.played (offer_by_kept

@@ -13,17 +13,19 @@ use h263_planes::PictureRef;
 use h263_types::{Mb, OutOfMemory, Params};
 use packet_collector::read_packet;
 use std::alloc::Global;
+use std::boxed::BoxedSlice;
 use std::marker::Model;
 
 /// The receiving end of a call. It must be finished, since it has no `Drop`.
 pub struct Receiver {
     kept: Kept,
     // Room for the macroblocks of a packet, which has that of a whole picture.
-    mbs: Vec<Mb>,
+    mbs: BoxedSlice<Mb>,
 }
 
 impl Model for Receiver {
-    ghost use Rattle.std.specs.Prelude.{◌≡◌, length};
+    ghost use Rattle.std.specs.Prelude.{◌≡◌};
+    ghost use Rattle.std.specs.Box.{boxed_slice_len};
     ghost use Rattle.h263_types.specs.Sizes.{mbs_of};
     ghost use Rattle.receiver_end.specs.declared.kept.Kept.{Kept};
     ghost use Rattle.receiver_end.specs.State.{Fits};
@@ -32,7 +34,7 @@ impl Model for Receiver {
 
     ghost view = { λ r. r.kept };
 
-    ghost invariant = { λ r. Fits r.kept × (length r.mbs.items ≡ mbs_of r.kept.params.format) };
+    ghost invariant = { λ r. Fits r.kept × (boxed_slice_len r.mbs ≡ mbs_of r.kept.params.format) };
 }
 
 impl Receiver {
@@ -66,7 +68,7 @@ impl Receiver {
             ≡ room_for params.now.format (params.now.slots + (params.now.lead + 2))) }
         ensures stands { IfOk result (λ r. Stands r (plays_alone number)) }
     {
-        let mbs = vec![in alloc; Mb::Skip; params.format.mbs() as usize]?;
+        let mbs = vec![in alloc; Mb::Skip; params.format.mbs() as usize]?.into_boxed_slice();
         let kept = Kept::start(alloc, params, number)?;
         Ok(Receiver { kept, mbs })
     }

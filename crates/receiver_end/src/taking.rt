@@ -16,7 +16,7 @@ use crate::drawing::draw;
 use crate::judging::Fresh;
 use crate::kept::Kept;
 use crate::laws;
-use back_messages::MessageBytes;
+use back_messages::Said;
 use call_decoding::{Pictured, Styled, laws as call_decoding_laws};
 use call_model::laws as call_model_laws;
 use h263_bits::Fault;
@@ -51,7 +51,7 @@ impl Kept {
     }
 
     // Puts a picture that is complete now into its slot, and acknowledges it.
-    fn complete(&mut self, number: u32) -> Option<MessageBytes>
+    fn complete(&mut self, number: u32) -> Option<Said>
         requires fits { Fits self.old }
         requires row { IsInRow self.old.collector number }
         ensures fits { Fits self.new }

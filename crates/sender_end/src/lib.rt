@@ -1,4 +1,4 @@
-//! The sender of a call by itself: captures are coded into packets, and feedback tells which
+//! The sender of a call by itself: frames are coded into packets, and feedback tells which
 //! pictures the other end has (H.263, Annex N).
 //!
 //! Contracts see a sender as the record of `specs/State`. `specs/Stands` says for which entries it
@@ -7,9 +7,9 @@
 //! quantiser.
 //!
 //! ```rust
-//! sender.capture(frame, &[]);
+//! sender.code(frame, &[]);
 //! sender.feedback(&[0xC0, 0x04, 0x00]); // an ACK of picture 0
-//! let coded = sender.capture(frame, &[]);
+//! let coded = sender.code(frame, &[]);
 //! assert_eq!(rt; coded.reference, Some(0));
 //! sender.finish();
 //! ```

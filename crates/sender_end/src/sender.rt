@@ -120,7 +120,7 @@ impl<P: Pace> Sender<P> {
 
     /// Captures the next picture, of this frame, with at most four messages about pictures of the
     /// other direction in its header. Fewer than 1,048,576 pictures were coded.
-    pub fn capture(&mut self, frame: PictureRef<'_>, back: &[Message]) -> Coded
+    pub fn code(&mut self, frame: PictureRef<'_>, back: &[Message]) -> Coded
         requires frame { (picture frame).format ≡ self.old.params.format }
         requires few { length back.now ≤ 4 }
         requires back { AreMessages self.old.params.clock back.now }

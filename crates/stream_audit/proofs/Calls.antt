@@ -8,13 +8,13 @@ use Rattle.call_model.specs.Numbers.{AllBelowIs}
 use Rattle.call_model.specs.Coding.{Rules, period, Header, Message, Ack, Exact, Shown, Pictures, Decoding, reconstruction_of_slices}
 use Rattle.call_model.specs.CodedPictures.{Coded, picture_at}
 use Rattle.call_model.specs.Before.{ArrivedByEvents}
-use Rattle.call_model.specs.IdealCall.{Event, NumberedMessage, Got, Lost, about, Arrival, Call, Source, has_arrived, with_arrival, is_open, slices_at, is_full, newest_full, full_flags, delivery_counts, shown_at, call_from, AllMayHappenFrom}
+use Rattle.call_model.specs.IdealCall.{Event, NumberedMessage, Got, Lost, about, Arrival, Call, Source, has_arrived, with_arrival, is_open, slices_at, is_full, newest_full, full_flags, delivery_counts, reconstruction_at, shown_at, call_from, AllMayHappenFrom}
 use Rattle.call_model.specs.Sending.{NearestIsInPeriod, header_of, nearest_below}
 use Rattle.call_model.specs.Receiving.{Repeat, Completed, Taken, nack}
 use Rattle.call_model.specs.Sound.{Packets, AllSound, received, delivery_answer, play_message, AnySoundSender, NoneRefused}
 use Rattle.call_model.specs.TwoStores.{travelling}
 use Rattle.stream_audit.specs.Stream.{StreamPicture, Item, pictures_in, picture_in, slices_of, packets_in, known_of}
-use Rattle.stream_audit.specs.Replay.{MessageAbout, said_to, replay}
+use Rattle.stream_audit.specs.Replay.{MessageAbout, StreamEvent, decoded_in, events_in, said_to, replay}
 
 -- the laws of a call that are used of a stream
 pub record CallLaws {Style Mb P Fault : Type 0} (decoding : Decoding Style Mb P Fault) (rules : Rules) : Type 0 where
@@ -61,19 +61,20 @@ module _ {Style Mb P Fault MessageFault : Type 0} (decoding : Decoding Style Mb 
     pub reference : x.reference ≡ option_and_then (nearest_below rules n) picture.header.reference
 
   -- the call of the stream and the replay go together
-  pub record At (past : List Event) : Type 0 where
-    pub near : AllMayHappenFrom decoding.pictures rules source (pictures_in stream) past
-    pub all_sound : AllSound decoding rules source packets past
+  pub record At (past : List StreamEvent) : Type 0 where
+    pub near : AllMayHappenFrom decoding.pictures rules source (pictures_in stream) (events_in past)
+    pub all_sound : AllSound decoding rules source packets (events_in past)
     pub more : List (Item Style Mb)
     pub done : List (Item Style Mb)
     pub split : stream ≡ more ++ done
     pub items : (replay decoding read rules stream past).items ≡ length done
-    pub sent : (replay decoding read rules stream past).sent ≡ length (call past).coded
-    pub pictures : pictures_in done ≡ length (call past).coded
-    pub known : known_of read rules done ≡ (call past).known
-    pub receiver : (replay decoding read rules stream past).receiver ≡ received decoding rules source packets past
-    pub said : (replay decoding read rules stream past).said ≡ map (told_of rules) (call past).said
-    pub coded : (n : ℕ) (x : Coded Style Mb P) → slice_get (call past).coded n ≡ Some x → IsOf n x
+    pub sent : (replay decoding read rules stream past).sent ≡ length (call (events_in past)).coded
+    pub pictures : pictures_in done ≡ length (call (events_in past)).coded
+    pub known : known_of read rules done ≡ (call (events_in past)).known
+    pub receiver : (replay decoding read rules stream past).receiver ≡ received decoding rules source packets (events_in past)
+    pub said : (replay decoding read rules stream past).said ≡ map (told_of rules) (call (events_in past)).said
+    pub coded : (n : ℕ) (x : Coded Style Mb P) → slice_get (call (events_in past)).coded n ≡ Some x → IsOf n x
+    pub decoded : map (λ x. x.picture) (call (events_in past)).coded ≡ decoded_in decoding rules done
 
 -- what a delivery lets the receiver say is what the call says
 pub says : {Style Mb P : Type 0} (Fault : Type 0) (rules : Rules) (c : Call Style Mb P) (n j : ℕ) → j < length (slices_at c.coded n)
@@ -125,6 +126,10 @@ is_full_from below coded arrivals n sent each = and_from _ _ (lt-ltb n (length c
 pub exact_where_full : {Style Mb P : Type 0} (pictures : Pictures Style Mb P) (coded : List (Coded Style Mb P)) (arrivals : List Arrival) (plays : List (Shown P)) (n : ℕ) → is_full coded arrivals n ≡ true → (shown_at pictures coded arrivals plays n).mark ≡ Exact
 unfolding shown_at
 exact_where_full pictures coded arrivals plays n full = rw full refl
+
+pub shown_where_full : {Style Mb P : Type 0} (pictures : Pictures Style Mb P) (coded : List (Coded Style Mb P)) (arrivals : List Arrival) (plays : List (Shown P)) (n : ℕ) → is_full coded arrivals n ≡ true → (shown_at pictures coded arrivals plays n).picture ≡ reconstruction_at pictures coded n
+unfolding shown_at
+shown_where_full pictures coded arrivals plays n full = rw full refl
 
 pub header_is : {Style : Type 0} (h : Header Style) (number : ℕ) (reference : Option ℕ) (half : ℕ) → h.number ≡ number → reference ≡ h.reference → h.half ≡ half → h ≡ (let g : Header Style = record { number = number; reference = reference; half = half; style = h.style } in g)
 header_is {Style} h number reference half a b c =

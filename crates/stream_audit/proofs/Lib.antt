@@ -13,3 +13,5 @@ pub mod Adding
 pub mod Judged
 pub mod Standing
 pub mod Flags
+mod Lines
+mod Breaking

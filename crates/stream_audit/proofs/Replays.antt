@@ -3,22 +3,22 @@ use Rattle.std.proofs.Common.{Ok, ◌∙◌, ap, None, ◌≡◌, ℕ, ◌+◌, 
 use Rattle.std.specs.Prelude.{if◌then◌else◌, Result, slice_get, map, option_and_then}
 use Rattle.std.specs.Option.{option_map, option_map_or}
 use Rattle.std.specs.Result.{result_ok}
-use Rattle.std.proofs.lemmas.List.{append-nil}
+use Rattle.std.proofs.lemmas.List.{append-nil, append_assoc}
 use Rattle.std.proofs.lemmas.Option.{slice_get_cases, slice_get-map, slice_get_within}
-use Rattle.call_model.specs.Coding.{Rules, window, period, Slice, Header, Piece, Message, Shown, Decoding}
-use Rattle.call_model.specs.CodedPictures.{Coded, is_among}
+use Rattle.call_model.specs.Coding.{Rules, window, period, Slice, Header, Piece, Message, Exact, Shown, Decoding, grey, reconstruction_of_slices}
+use Rattle.call_model.specs.CodedPictures.{Coded, is_among, picture_at}
 use Rattle.call_model.specs.Before.{WasDelivered}
-use Rattle.call_model.specs.IdealCall.{Event, Send, Deliver, Play, Back, NumberedMessage, Got, Lost, about, told_full, Call, Source, with_arrival, slices_at, is_full, newest_full, full_flags, delivery_counts, MayHappen}
+use Rattle.call_model.specs.IdealCall.{Send, Deliver, Play, Back, NumberedMessage, Got, Lost, about, told_full, Call, Source, reconstruction_at, with_arrival, slices_at, is_full, newest_full, full_flags, delivery_counts, MayHappen}
 use Rattle.call_model.specs.Sending.{header_of, nearest_below, known_by_feedback}
-use Rattle.call_model.specs.Receiving.{ReceiverRun, Heard, heard, after_packet, after_play, played_message, played_mark}
+use Rattle.call_model.specs.Receiving.{ReceiverRun, Heard, heard, after_packet, after_play, played_message, played_mark, played_picture}
 use Rattle.call_model.specs.Sound.{IsSoundPicture, IsPacket, Packets, IsSoundEvent, received, delivery_answer, FollowsTheCall, is_refused}
 use Rattle.call_model.specs.TwoStores.{travelling}
-use Rattle.stream_audit.specs.Stream.{Part, StreamPicture, Item, Picture, Feedback, pictures_in, picture_in, packets_of, packets_in, known_of}
+use Rattle.stream_audit.specs.Stream.{Part, StreamPicture, Item, Picture, Feedback, pictures_in, picture_in, packets_of, packets_in, known_of, slices_of}
 use Rattle.stream_audit.specs.Sound.{IsSound, IsSoundAfter}
-use Rattle.stream_audit.specs.Replay.{MessageAbout, Replay, item_at, said_to, CameInTime, after_bytes, said_at_play, replay, MayHappenIn, AllMayHappenIn, NoneIsRefused, ExactWhereAllCame, ReadsInPeriod}
-use Rattle.stream_audit.proofs.Lists.{length_map, not_none, slice_get_push}
+use Rattle.stream_audit.specs.Replay.{Happens, MessageAbout, PassedOver, Replay, StreamEvent, decoded_in, decoded_next, events_in, item_at, said_to, CameInTime, after_bytes, said_at_play, replay, MayHappenIn, AllMayHappenIn, NoneIsRefused, ExactWhereAllCame, ReadsInPeriod}
+use Rattle.stream_audit.proofs.Lists.{length_map, not_none, slice_get_left, slice_get_push}
 use Rattle.stream_audit.proofs.Streams.{item_next, split_next, pictures_more, picture_here, sound_before, sound_at}
-use Rattle.stream_audit.proofs.Calls.{CallLaws, told_of, map_two, coded_of, source, packets, call, IsOf, At, says, no_count, told_by_play, slices_are, is_full_from, exact_where_full, header_is, header_of_is}
+use Rattle.stream_audit.proofs.Calls.{CallLaws, told_of, map_two, coded_of, source, packets, call, IsOf, At, says, no_count, told_by_play, slices_are, is_full_from, exact_where_full, shown_where_full, header_is, header_of_is}
 
 module _ {Style Mb P Fault MessageFault : Type 0} (decoding : Decoding Style Mb P Fault) (read : List ℕ → Result Message MessageFault) (rules : Rules) (in_period : ReadsInPeriod decoding rules) (laws : CallLaws decoding rules) (stream : List (Item Style Mb)) (sound : IsSound decoding read rules stream) where
   abbrev src : Source Style Mb P
@@ -27,21 +27,21 @@ module _ {Style Mb P Fault MessageFault : Type 0} (decoding : Decoding Style Mb 
   abbrev pks : Packets Style Mb P
   pks = packets decoding read rules stream
 
-  abbrev cl : List Event → Call Style Mb P
-  cl past = call decoding read rules stream past
+  abbrev cl : List StreamEvent → Call Style Mb P
+  cl past = call decoding read rules stream (events_in past)
 
-  abbrev rp : List Event → Replay Style Mb P
+  abbrev rp : List StreamEvent → Replay Style Mb P
   rp past = replay decoding read rules stream past
 
-  follows_at : (past : List Event) → At decoding read rules stream past → FollowsTheCall decoding rules src pks (pictures_in stream) past
-  follows_at past at = laws.sender src pks (pictures_in stream) past at.near at.all_sound
+  follows_at : (past : List StreamEvent) → At decoding read rules stream past → FollowsTheCall decoding rules src pks (pictures_in stream) (events_in past)
+  follows_at past at = laws.sender src pks (pictures_in stream) (events_in past) at.near at.all_sound
 
-  played_is : (past : List Event) → At decoding read rules stream past → (rp past).receiver.played ≡ (cl past).played
+  played_is : (past : List StreamEvent) → At decoding read rules stream past → (rp past).receiver.played ≡ (cl past).played
   played_is past at = ap (λ (r : ReceiverRun Style Mb P). r.played) at.receiver ∙ (follows_at past at).state.played
 
   -- ---- a picture that is sent is sound
 
-  sound_send : (past : List Event) (at : At decoding read rules stream past) (p : StreamPicture Style Mb) → IsSoundAfter decoding read rules at.done p → IsSoundPicture decoding.pictures rules (cl past) (coded_of decoding read rules stream (length (cl past).coded) (cl past).coded p)
+  sound_send : (past : List StreamEvent) (at : At decoding read rules stream past) (p : StreamPicture Style Mb) → IsSoundAfter decoding read rules at.done p → IsSoundPicture decoding.pictures rules (cl past) (coded_of decoding read rules stream (length (cl past).coded) (cl past).coded p)
   sound_send past at p placed = record {
     covers = placed.covers;
     picture = refl;
@@ -122,7 +122,7 @@ module _ {Style Mb P Fault MessageFault : Type 0} (decoding : Decoding Style Mb 
           ]
 
   -- a picture that was sent has as many slices as packets
-  slices_sent : (past : List Event) → At decoding read rules stream past → (n : ℕ) → n < length (cl past).coded → length (slices_at (cl past).coded n) ≡ length (packets_in stream n)
+  slices_sent : (past : List StreamEvent) → At decoding read rules stream past → (n : ℕ) → n < length (cl past).coded → length (slices_at (cl past).coded n) ≡ length (packets_in stream n)
   slices_sent past at n sent =
       elim (slice_get_cases (cl past).coded n).1 [
         | inl h ↦
@@ -135,9 +135,47 @@ module _ {Style Mb P Fault MessageFault : Type 0} (decoding : Decoding Style Mb 
         | inr h ↦ absurd (omega (arith, h.0, sent))
       ]
 
+  -- ---- pictures as they are decoded
+
+  picture_before : (coded : List (Coded Style Mb P)) (o : Option ℕ) → option_and_then (picture_at coded) o ≡ option_and_then (slice_get (map (λ x. x.picture) coded)) o
+  picture_before coded None = refl
+  picture_before coded (Some m) = sym (slice_get-map (λ (x : Coded Style Mb P). x.picture) coded m)
+
+  -- the picture that is sent next is the next of those before it
+  new_decoded : (coded : List (Coded Style Mb P)) (p : StreamPicture Style Mb) → (coded_of decoding read rules stream (length coded) coded p).picture ≡ decoded_next decoding rules (map (λ x. x.picture) coded) p
+  new_decoded coded p =
+      ap (λ (o : Option P). reconstruction_of_slices decoding.pictures p.header.style o (slices_of p)) (picture_before coded (option_and_then (nearest_below rules (length coded)) p.header.reference))
+      ∙ ap (λ (k : ℕ). reconstruction_of_slices decoding.pictures p.header.style (option_and_then (slice_get (map (λ x. x.picture) coded)) (option_and_then (nearest_below rules k) p.header.reference)) (slices_of p)) (sym (length_map (λ (x : Coded Style Mb P). x.picture) coded))
+
+  -- later items change none of them
+  decoded_more : (more done : List (Item Style Mb)) → (rest : List P) × (decoded_in decoding rules (more ++ done) ≡ decoded_in decoding rules done ++ rest)
+  decoded_more [] done = ([], sym (append-nil (decoded_in decoding rules done)))
+  decoded_more (Picture p ∷ more) done =
+      let r = decoded_more more done in
+      let next = decoded_next decoding rules (decoded_in decoding rules (more ++ done)) p in
+      (r.0 ++ next ∷ [], ap (λ (l : List P). l ++ next ∷ []) r.1 ∙ append_assoc (decoded_in decoding rules done) r.0 (next ∷ []))
+  decoded_more (Feedback bytes ∷ more) done = decoded_more more done
+
+  -- the picture of number n is that of the call
+  decoded_at : (past : List StreamEvent) → At decoding read rules stream past → (n : ℕ) → n < length (cl past).coded → slice_get (decoded_in decoding rules stream) n ≡ Some (reconstruction_at decoding.pictures (cl past).coded n)
+  decoded_at past at n sent =
+      elim (slice_get_cases (cl past).coded n).1 [
+        | inl h ↦
+            let there : slice_get (map (λ x. x.picture) (cl past).coded) n ≡ Some h.0.picture =
+            slice_get-map (λ (x : Coded Style Mb P). x.picture) (cl past).coded n ∙ ap (λ (o : Option (Coded Style Mb P)). option_map (λ x. x.picture) o) h.2
+            in
+            let early : slice_get (decoded_in decoding rules at.done) n ≡ Some h.0.picture = ap (λ (l : List P). slice_get l n) (sym at.decoded) ∙ there in
+            let more = decoded_more at.more at.done in
+            ap (λ (l : List (Item Style Mb)). slice_get (decoded_in decoding rules l) n) at.split
+            ∙ ap (λ (l : List P). slice_get l n) more.1
+            ∙ slice_get_left (decoded_in decoding rules at.done) more.0 n h.0.picture early
+            ∙ ap (λ (o : Option (Coded Style Mb P)). let q : Option P = Some (option_map_or (λ x. x.picture) o (grey decoding.pictures)) in q) (sym h.2)
+        | inr h ↦ absurd (omega (arith, h.0, sent))
+      ]
+
   -- ---- event by event
 
-  send : (past : List Event) → At decoding read rules stream past → MayHappenIn decoding read rules stream (rp past) Send → At decoding read rules stream (Send ∷ past)
+  send : (past : List StreamEvent) → At decoding read rules stream past → MayHappenIn decoding read rules stream (rp past) (Happens Send) → At decoding read rules stream (Happens Send ∷ past)
   send past at near = record {
     near = ((omega (arith, count, at.pictures), omega (arith, near.2, at.sent, played_is past at)), at.near);
     all_sound = (λ x is. subst (λ (y : Coded Style Mb P). IsSoundPicture decoding.pictures rules (cl past) y) (one x (sym is_source ∙ is)) (sound_send past at p here_sound), at.all_sound);
@@ -160,6 +198,11 @@ module _ {Style Mb P Fault MessageFault : Type 0} (decoding : Decoding Style Mb 
         reference = ap (λ (y : Coded Style Mb P). y.reference) last.1 ∙ ap (λ (k : ℕ). option_and_then (nearest_below rules k) p.header.reference) (sym last.0);
       }
     ];
+    decoded =
+        ap (λ (l : List (Coded Style Mb P)). map (λ x. x.picture) l) coded'
+        ∙ sym (map_two (λ (x : Coded Style Mb P). x.picture) (cl past).coded (new ∷ []))
+        ∙ ap (λ (y : P). map (λ x. x.picture) (cl past).coded ++ y ∷ []) (new_decoded (cl past).coded p)
+        ∙ ap (λ (l : List P). l ++ decoded_next decoding rules l p ∷ []) at.decoded;
   }
     where
       p : StreamPicture Style Mb
@@ -180,7 +223,7 @@ module _ {Style Mb P Fault MessageFault : Type 0} (decoding : Decoding Style Mb 
       is_source : src (cl past) ≡ Some new
       is_source = ap (λ (o : Option (StreamPicture Style Mb)). option_map (coded_of decoding read rules stream (length (cl past).coded) (cl past).coded) o) here
 
-      coded' : (cl (Send ∷ past)).coded ≡ (cl past).coded ++ new ∷ []
+      coded' : (cl (Happens Send ∷ past)).coded ≡ (cl past).coded ++ new ∷ []
       coded' = ap (λ (o : Option (Coded Style Mb P)). (cl past).coded ++ option_map_or (λ x. x ∷ []) o []) is_source
 
       here_sound : IsSoundAfter decoding read rules at.done p
@@ -192,7 +235,7 @@ module _ {Style Mb P Fault MessageFault : Type 0} (decoding : Decoding Style Mb 
       one : (x : Coded Style Mb P) → Some new ≡ Some x → new ≡ x
       one x e = cc
 
-  deliver : (past : List Event) (n j : ℕ) → At decoding read rules stream past → MayHappenIn decoding read rules stream (rp past) (Deliver n j) → At decoding read rules stream (Deliver n j ∷ past)
+  deliver : (past : List StreamEvent) (n j : ℕ) → At decoding read rules stream past → MayHappenIn decoding read rules stream (rp past) (Happens (Deliver n j)) → At decoding read rules stream (Happens (Deliver n j) ∷ past)
   deliver past n j at near =
       elim (slice_get_cases (packets_in stream n) j).1 [ inl h ↦ of_packet h.0 h.2 | inr h ↦ of_none h.1 h.0 ]
     where
@@ -203,14 +246,14 @@ module _ {Style Mb P Fault MessageFault : Type 0} (decoding : Decoding Style Mb 
       sound' x at_n = packet_is n j x (at.coded n x at_n)
 
       -- what the replay and the receiver's run come to, by what is delivered
-      replay_is : (o : Option (List ℕ)) → slice_get (packets_in stream n) j ≡ o → rp (Deliver n j ∷ past) ≡ option_map_or (after_bytes decoding read rules stream (rp past) n) o (rp past)
+      replay_is : (o : Option (List ℕ)) → slice_get (packets_in stream n) j ≡ o → rp (Happens (Deliver n j) ∷ past) ≡ option_map_or (after_bytes decoding read rules stream (rp past) n) o (rp past)
       replay_is o e = ap (λ (o : Option (List ℕ)). option_map_or (after_bytes decoding read rules stream (rp past) n) o (rp past)) e
 
-      received_is : (o : Option (List ℕ)) → slice_get (packets_in stream n) j ≡ o → received decoding rules src pks (Deliver n j ∷ past) ≡ option_map_or (λ bytes. after_packet decoding rules bytes (received decoding rules src pks past)) o (received decoding rules src pks past)
-      received_is o e = ap (λ (o : Option (List ℕ)). option_map_or (λ bytes. after_packet decoding rules bytes (received decoding rules src pks past)) o (received decoding rules src pks past)) e
+      received_is : (o : Option (List ℕ)) → slice_get (packets_in stream n) j ≡ o → received decoding rules src pks (Deliver n j ∷ events_in past) ≡ option_map_or (λ bytes. after_packet decoding rules bytes (received decoding rules src pks (events_in past))) o (received decoding rules src pks (events_in past))
+      received_is o e = ap (λ (o : Option (List ℕ)). option_map_or (λ bytes. after_packet decoding rules bytes (received decoding rules src pks (events_in past))) o (received decoding rules src pks (events_in past))) e
 
       -- only the receiver and what it said may change
-      delivered_as : (w : Replay Style Mb P) → rp (Deliver n j ∷ past) ≡ w → w.items ≡ (rp past).items → w.sent ≡ (rp past).sent → w.receiver ≡ received decoding rules src pks (Deliver n j ∷ past) → w.said ≡ map (told_of rules) (cl (Deliver n j ∷ past)).said → At decoding read rules stream (Deliver n j ∷ past)
+      delivered_as : (w : Replay Style Mb P) → rp (Happens (Deliver n j) ∷ past) ≡ w → w.items ≡ (rp past).items → w.sent ≡ (rp past).sent → w.receiver ≡ received decoding rules src pks (Deliver n j ∷ events_in past) → w.said ≡ map (told_of rules) (cl (Happens (Deliver n j) ∷ past)).said → At decoding read rules stream (Happens (Deliver n j) ∷ past)
       delivered_as w is items sent receiver said = record {
         near = (near', at.near);
         all_sound = (sound', at.all_sound);
@@ -224,12 +267,13 @@ module _ {Style Mb P Fault MessageFault : Type 0} (decoding : Decoding Style Mb 
         receiver = ap (λ (w : Replay Style Mb P). w.receiver) is ∙ receiver;
         said = ap (λ (w : Replay Style Mb P). w.said) is ∙ said;
         coded = at.coded;
+        decoded = at.decoded;
       }
 
-      of_packet : (bytes : List ℕ) → slice_get (packets_in stream n) j ≡ Some bytes → At decoding read rules stream (Deliver n j ∷ past)
+      of_packet : (bytes : List ℕ) → slice_get (packets_in stream n) j ≡ Some bytes → At decoding read rules stream (Happens (Deliver n j) ∷ past)
       of_packet bytes e =
           let answer : heard decoding rules (rp past).receiver (decoding.read bytes) ≡ delivery_answer rules (cl past) n j = ap (λ (r : ReceiverRun Style Mb P). heard decoding rules r (decoding.read bytes)) at.receiver ∙ (follows_at past at).answers n j bytes near' sound' e in
-          let said' : (rp past).said ++ said_to n (heard decoding rules (rp past).receiver (decoding.read bytes)) ≡ map (told_of rules) (cl (Deliver n j ∷ past)).said =
+          let said' : (rp past).said ++ said_to n (heard decoding rules (rp past).receiver (decoding.read bytes)) ≡ map (told_of rules) (cl (Happens (Deliver n j) ∷ past)).said =
           ap (λ (h : Heard Fault). (rp past).said ++ said_to n h) answer
           ∙ ap (λ (l : List MessageAbout). (rp past).said ++ l) (says Fault rules (cl past) n j (omega (arith, slice_get_within (packets_in stream n) j bytes e, slices_sent past at n near'.0)))
           ∙ ap (λ (l : List MessageAbout). l ++ map (told_of rules) (if delivery_counts rules (cl past) n j && is_full (cl past).coded (with_arrival (cl past).arrivals n j) n then Got n (full_flags rules (cl past).coded (with_arrival (cl past).arrivals n j) n) ∷ [] else [])) at.said
@@ -237,15 +281,15 @@ module _ {Style Mb P Fault MessageFault : Type 0} (decoding : Decoding Style Mb 
           delivered_as (after_bytes decoding read rules stream (rp past) n bytes) (replay_is (Some bytes) e) refl refl
           (ap (after_packet decoding rules bytes) at.receiver ∙ sym (received_is (Some bytes) e)) said'
 
-      of_none : slice_get (packets_in stream n) j ≡ None → length (packets_in stream n) ≤ j → At decoding read rules stream (Deliver n j ∷ past)
+      of_none : slice_get (packets_in stream n) j ≡ None → length (packets_in stream n) ≤ j → At decoding read rules stream (Happens (Deliver n j) ∷ past)
       of_none e far =
           let counts : delivery_counts rules (cl past) n j ≡ false = no_count rules (cl past) n j (omega (arith, far, slices_sent past at n near'.0)) in
-          let same : (cl (Deliver n j ∷ past)).said ≡ (cl past).said =
+          let same : (cl (Happens (Deliver n j) ∷ past)).said ≡ (cl past).said =
           ap (λ (b : Bool). (cl past).said ++ (if b && is_full (cl past).coded (with_arrival (cl past).arrivals n j) n then Got n (full_flags rules (cl past).coded (with_arrival (cl past).arrivals n j) n) ∷ [] else [])) counts
           ∙ append-nil (cl past).said in
           delivered_as (rp past) (replay_is None e) refl refl (at.receiver ∙ sym (received_is None e)) (at.said ∙ ap (map (told_of rules)) (sym same))
 
-  play : (past : List Event) → At decoding read rules stream past → MayHappenIn decoding read rules stream (rp past) Play → At decoding read rules stream (Play ∷ past)
+  play : (past : List StreamEvent) → At decoding read rules stream past → MayHappenIn decoding read rules stream (rp past) (Happens Play) → At decoding read rules stream (Happens Play ∷ past)
   play past at near =
       let near' : MayHappen rules (pictures_in stream) (cl past) Play = omega (arith, near, at.sent, played_is past at) in
       let follows = follows_at past at in
@@ -262,15 +306,16 @@ module _ {Style Mb P Fault MessageFault : Type 0} (decoding : Decoding Style Mb 
         known = at.known;
         receiver = ap (after_play decoding rules) at.receiver;
         said = ap (λ (r : ReceiverRun Style Mb P). (rp past).said ++ said_at_play decoding read rules stream r) at.receiver
-            ∙ ap (λ (k : ℕ). (rp past).said ++ option_map_or (λ m. let t : MessageAbout = record { about = k; message = m } in t ∷ []) (played_message decoding rules (received decoding rules src pks past)) []) follows.state.played
+            ∙ ap (λ (k : ℕ). (rp past).said ++ option_map_or (λ m. let t : MessageAbout = record { about = k; message = m } in t ∷ []) (played_message decoding rules (received decoding rules src pks (events_in past))) []) follows.state.played
             ∙ ap (λ (o : Option Message). (rp past).said ++ option_map_or (λ m. let t : MessageAbout = record { about = (cl past).played; message = m } in t ∷ []) o []) says'
             ∙ ap (λ (l : List MessageAbout). (rp past).said ++ l) (told_by_play rules (cl past))
             ∙ ap (λ (l : List MessageAbout). l ++ map (told_of rules) (if is_full (cl past).coded (cl past).arrivals (cl past).played then [] else Lost (cl past).played (newest_full rules (cl past).coded (cl past).arrivals (cl past).played) (full_flags rules (cl past).coded (cl past).arrivals (cl past).played) ∷ [])) at.said
             ∙ map_two (told_of rules) (cl past).said _;
         coded = at.coded;
+        decoded = at.decoded;
       }
 
-  back : (past : List Event) (k : ℕ) → At decoding read rules stream past → MayHappenIn decoding read rules stream (rp past) (Back k) → At decoding read rules stream (Back k ∷ past)
+  back : (past : List StreamEvent) (k : ℕ) → At decoding read rules stream past → MayHappenIn decoding read rules stream (rp past) (Happens (Back k)) → At decoding read rules stream (Happens (Back k) ∷ past)
   back past k at near =
       elim (slice_get_cases (cl past).said k).1 [ inl h ↦ of_note h.0 h.2 | inr h ↦ absurd (not_none near.0 (sym (sym (told_there ∙ ap (option_map (told_of rules)) h.1) ∙ near.2))) ]
     where
@@ -280,7 +325,7 @@ module _ {Style Mb P Fault MessageFault : Type 0} (decoding : Decoding Style Mb 
       next : (before : List (Item Style Mb)) × (at.more ≡ before ++ Feedback near.1 ∷ [])
       next = item_next at.more at.done (Feedback near.1) (ap (λ (l : List (Item Style Mb)). item_at l (length at.done)) (sym at.split) ∙ ap (item_at stream) (sym at.items) ∙ near.3)
 
-      of_note : (note : NumberedMessage) → slice_get (cl past).said k ≡ Some note → At decoding read rules stream (Back k ∷ past)
+      of_note : (note : NumberedMessage) → slice_get (cl past).said k ≡ Some note → At decoding read rules stream (Happens (Back k) ∷ past)
       of_note note there =
           let same : Some (told_of rules note) ≡ Some near.0 = sym (told_there ∙ ap (option_map (told_of rules)) there) ∙ near.2 in
           let told : told_of rules note ≡ near.0 = cc in
@@ -291,7 +336,7 @@ module _ {Style Mb P Fault MessageFault : Type 0} (decoding : Decoding Style Mb 
           ap (λ (r : Result Message MessageFault). known_by_feedback rules (pictures_in at.done) (result_ok r)) reads
           ∙ ap (λ (n : ℕ). known_by_feedback rules n (Some (travelling rules note))) at.pictures
           ∙ ap (λ (o : Option (List ℕ)). option_map_or (λ numbers. numbers) o []) learned in
-          let known' : (cl (Back k ∷ past)).known ≡ told_full note ++ (cl past).known = ap (λ (o : Option NumberedMessage). option_map_or told_full o [] ++ (cl past).known) there in
+          let known' : (cl (Happens (Back k) ∷ past)).known ≡ told_full note ++ (cl past).known = ap (λ (o : Option NumberedMessage). option_map_or told_full o [] ++ (cl past).known) there in
           record {
             near = ((note, there, close), at.near);
             all_sound = (tt, at.all_sound);
@@ -305,9 +350,33 @@ module _ {Style Mb P Fault MessageFault : Type 0} (decoding : Decoding Style Mb 
             receiver = at.receiver;
             said = at.said;
             coded = at.coded;
+            decoded = at.decoded;
           }
 
-  pub call_at : (past : List Event) → AllMayHappenIn decoding read rules stream past → At decoding read rules stream past
+  -- feedback that makes nothing known is passed over
+  passed : (past : List StreamEvent) → At decoding read rules stream past → MayHappenIn decoding read rules stream (rp past) PassedOver → At decoding read rules stream (PassedOver ∷ past)
+  passed past at near =
+      let next = item_next at.more at.done (Feedback near.0) (ap (λ (l : List (Item Style Mb)). item_at l (length at.done)) (sym at.split) ∙ ap (item_at stream) (sym at.items) ∙ near.1) in
+      let none : known_by_feedback rules (pictures_in at.done) (result_ok (read near.0)) ≡ [] =
+      ap (λ (n : ℕ). known_by_feedback rules n (result_ok (read near.0))) (at.pictures ∙ sym at.sent) ∙ near.2
+      in
+      record {
+        near = at.near;
+        all_sound = at.all_sound;
+        more = next.0;
+        done = Feedback near.0 ∷ at.done;
+        split = split_next stream at.more at.done next.0 (Feedback near.0) at.split next.1;
+        items = ap (λ (i : ℕ). i + 1) at.items ∙ omega arith;
+        sent = at.sent;
+        pictures = at.pictures;
+        known = ap (λ (l : List ℕ). l ++ known_of read rules at.done) none ∙ at.known;
+        receiver = at.receiver;
+        said = at.said;
+        coded = at.coded;
+        decoded = at.decoded;
+      }
+
+  pub call_at : (past : List StreamEvent) → AllMayHappenIn decoding read rules stream past → At decoding read rules stream past
   call_at [] near = record {
     near = tt;
     all_sound = tt;
@@ -321,11 +390,13 @@ module _ {Style Mb P Fault MessageFault : Type 0} (decoding : Decoding Style Mb 
     receiver = refl;
     said = refl;
     coded = λ n x e. cc;
+    decoded = refl;
   }
-  call_at (Send ∷ past) near = send past (call_at past near.1) near.0
-  call_at (Deliver n j ∷ past) near = deliver past n j (call_at past near.1) near.0
-  call_at (Play ∷ past) near = play past (call_at past near.1) near.0
-  call_at (Back k ∷ past) near = back past k (call_at past near.1) near.0
+  call_at (Happens Send ∷ past) near = send past (call_at past near.1) near.0
+  call_at (Happens (Deliver n j) ∷ past) near = deliver past n j (call_at past near.1) near.0
+  call_at (Happens Play ∷ past) near = play past (call_at past near.1) near.0
+  call_at (Happens (Back k) ∷ past) near = back past k (call_at past near.1) near.0
+  call_at (PassedOver ∷ past) near = passed past (call_at past near.1) near.0
 
   -- ---- what the law says
 
@@ -339,12 +410,13 @@ module _ {Style Mb P Fault MessageFault : Type 0} (decoding : Decoding Style Mb 
       ∙ laws.not_refused rules (cl past) n j
 
   -- what came in time was delivered
-  delivered : (past : List Event) → AllMayHappenIn decoding read rules stream past → (n j : ℕ) → j < length (packets_in stream n) → CameInTime rules past n j → WasDelivered decoding.pictures rules src past n j
+  delivered : (past : List StreamEvent) → AllMayHappenIn decoding read rules stream past → (n j : ℕ) → j < length (packets_in stream n) → CameInTime rules (events_in past) n j → WasDelivered decoding.pictures rules src (events_in past) n j
   delivered [] near n j lt came = came
-  delivered (Send ∷ past) near n j lt came = delivered past near.1 n j lt came
-  delivered (Play ∷ past) near n j lt came = delivered past near.1 n j lt came
-  delivered (Back k ∷ past) near n j lt came = delivered past near.1 n j lt came
-  delivered (Deliver m i ∷ past) near n j lt came =
+  delivered (Happens Send ∷ past) near n j lt came = delivered past near.1 n j lt came
+  delivered (Happens Play ∷ past) near n j lt came = delivered past near.1 n j lt came
+  delivered (Happens (Back k) ∷ past) near n j lt came = delivered past near.1 n j lt came
+  delivered (PassedOver ∷ past) near n j lt came = delivered past near.1 n j lt came
+  delivered (Happens (Deliver m i) ∷ past) near n j lt came =
       let before = delivered past near.1 n j lt in
       elim came [
         | inl now ↦
@@ -358,12 +430,25 @@ module _ {Style Mb P Fault MessageFault : Type 0} (decoding : Decoding Style Mb 
   exact_where_all_came past near all =
       let at = call_at past near.1 in
       let near' : MayHappen rules (pictures_in stream) (cl past) Play = omega (arith, near.0, at.sent, played_is past at) in
-      let each : (j : ℕ) → j < length (packets_in stream (cl past).played) → CameInTime rules past (cl past).played j =
-      subst (λ (k : ℕ). (j : ℕ) → j < length (packets_in stream k) → CameInTime rules past k j) (played_is past at) all in
+      let each : (j : ℕ) → j < length (packets_in stream (cl past).played) → CameInTime rules (events_in past) (cl past).played j =
+      subst (λ (k : ℕ). (j : ℕ) → j < length (packets_in stream k) → CameInTime rules (events_in past) k j) (played_is past at) all in
       let slices = slices_sent past at (cl past).played near' in
       let full : is_full (cl past).coded (cl past).arrivals (cl past).played ≡ true =
       is_full_from laws.below (cl past).coded (cl past).arrivals (cl past).played near'
-      (λ j lt. let fits : j < length (packets_in stream (cl past).played) = omega (arith, slices) in (laws.arrived src past (cl past).played j).1 (delivered past near.1 (cl past).played j fits (each j fits))) in
+      (λ j lt. let fits : j < length (packets_in stream (cl past).played) = omega (arith, slices) in (laws.arrived src (events_in past) (cl past).played j).1 (delivered past near.1 (cl past).played j fits (each j fits))) in
+      let shown = ((follows_at past at).plays near').0 in
+      let mark : played_mark decoding rules (rp past).receiver ≡ Exact =
       ap (played_mark decoding rules) at.receiver
-      ∙ ap (λ (s : Shown P). s.mark) ((follows_at past at).plays near').0
+      ∙ ap (λ (s : Shown P). s.mark) shown
       ∙ exact_where_full decoding.pictures (cl past).coded (cl past).arrivals (cl past).plays (cl past).played full
+      in
+      let picture : played_picture decoding rules (rp past).receiver ≡ reconstruction_at decoding.pictures (cl past).coded (cl past).played =
+      ap (played_picture decoding rules) at.receiver
+      ∙ ap (λ (s : Shown P). s.picture) shown
+      ∙ shown_where_full decoding.pictures (cl past).coded (cl past).arrivals (cl past).plays (cl past).played full
+      in (
+        mark,
+        ap (slice_get (decoded_in decoding rules stream)) (played_is past at)
+            ∙ decoded_at past at (cl past).played near'
+            ∙ ap Some (sym picture),
+      )

@@ -30,7 +30,7 @@ has_from slice k e =
     (leb-true _ _ parts.0, ltb-true _ _ parts.1)
 
 -- what is not in a slice that has no macroblock of the others
-none_of : AllBelowIs → {Mb : Type 0} (slice : Slice Mb) (test : ℕ → Bool) (k : ℕ) → none_in slice test ≡ true → has_mb slice k ≡ true → test k ≡ false
+pub none_of : AllBelowIs → {Mb : Type 0} (slice : Slice Mb) (test : ℕ → Bool) (k : ℕ) → none_in slice test ≡ true → has_mb slice k ≡ true → test k ≡ false
 none_of below slice test k none inside =
     let within = has_from slice k inside in
     let i = k - slice.first in

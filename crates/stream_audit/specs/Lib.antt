@@ -7,3 +7,4 @@ pub mod State
 pub mod Text
 pub mod Worked
 pub mod Computing
+pub mod Breaks

@@ -2,11 +2,11 @@
 use Rattle.std.specs.Prelude.{ℕ, ◌+◌, List, [], ◌∷◌}
 use Rattle.call_model.specs.Coding.{Rules}
 use Rattle.call_model.specs.SmallCoding.{small_decoding, small_read_message, SmallStyle, SmallMb}
-use Rattle.call_model.specs.IdealCall.{Event, Send, Deliver, Play, Back}
+use Rattle.call_model.specs.IdealCall.{Send, Deliver, Play, Back}
 use Rattle.stream_audit.specs.declared.verdict.Verdict.{Verdict}
 use Rattle.stream_audit.specs.Stream.{LogEntry, Sent, Fed, Item, stream_of}
 use Rattle.stream_audit.specs.Verdict.{verdict_of}
-use Rattle.stream_audit.specs.Replay.{AllMayHappenIn}
+use Rattle.stream_audit.specs.Replay.{AllMayHappenIn, Happens, PassedOver, StreamEvent}
 
 -- rules with so many slots, this lead and this half period
 abbrev small_rules : (slots lead half : ℕ) → Rules
@@ -44,12 +44,19 @@ ack number = Fed (0 ∷ number ∷ [])
 abbrev pub nack : ℕ → ℕ → LogEntry
 nack number offered = Fed (1 ∷ number ∷ offered ∷ [])
 
--- a call of two pictures: the first is sent, delivered and acknowledged, and the second refers to it
-abbrev two_pictures : List (Item SmallStyle SmallMb)
-two_pictures = stream_of small_decoding (predicted wide 1 0 ∷ ack 0 ∷ intra wide 0 ∷ [])
+-- bytes that are no message
+abbrev pub bytes_of_no_message : LogEntry
+bytes_of_no_message = Fed (7 ∷ [])
 
-abbrev its_events : List Event
-its_events = Play ∷ Play ∷ Deliver 1 0 ∷ Send ∷ Back 0 ∷ Deliver 0 0 ∷ Send ∷ []
+-- a call of two pictures: the first is sent, delivered and acknowledged, after bytes that are no message,
+-- and the second refers to it
+abbrev two_pictures : List (Item SmallStyle SmallMb)
+two_pictures = stream_of small_decoding (predicted wide 1 0 ∷ ack 0 ∷ bytes_of_no_message ∷ intra wide 0 ∷ [])
+
+abbrev its_events : List StreamEvent
+its_events =
+    Happens Play ∷ Happens Play ∷ Happens (Deliver 1 0) ∷ Happens Send
+    ∷ Happens (Back 0) ∷ PassedOver ∷ Happens (Deliver 0 0) ∷ Happens Send ∷ []
 
 abbrev pub MayHappenAll : Type 0
 MayHappenAll = AllMayHappenIn small_decoding small_read_message wide two_pictures its_events

@@ -4,9 +4,11 @@ ghost use Rattle.h263_types.specs.declared.params.Params.{Params};
 ghost use Rattle.h263_types.specs.Params.{IsParams};
 ghost use Rattle.call_model.specs.Coding.{Decoding, Message, Rules};
 ghost use Rattle.call_model.specs.Lawful.{IsDecoding, IsRules};
+ghost use Rattle.stream_audit.specs.Breaks.{NoIsFirst};
 ghost use Rattle.stream_audit.specs.Logs.{StreamsAreAudited, VerdictOfEachVersion};
 ghost use Rattle.stream_audit.specs.Replay.{Audited, ReadsInPeriod};
 ghost use Rattle.stream_audit.specs.Sound.{YesIsSound};
+ghost use Rattle.stream_audit.specs.Text.{LineTells};
 ghost use Rattle.stream_audit.specs.Verdict.{FlagsAreNotJudged};
 
 use back_messages::MessageFault;
@@ -28,8 +30,19 @@ pub fn yes_is_sound<Style, Mb, P, Fault, MessageFault>()
     searches();
 }
 
+/// Where the verdict on a log is no, its picture breaks its rule, and nothing before it in the log
+/// breaks one.
+pub fn no_is_first<Style, Mb, P, Fault, MessageFault>()
+    ensures { (decoding : Decoding Style Mb P Fault)
+        (read : List ℕ → Result Message MessageFault) (rules : Rules)
+        → IsDecoding decoding rules → NoIsFirst decoding read rules }
+{
+    searches();
+}
+
 /// Where the verdict on a log is yes, no receiver in a near call of its stream refuses a packet of
-/// it, and each picture whose packets all come in time is marked exact.
+/// it, and each picture whose packets all come in time is marked exact, and shown as the stream has
+/// it decoded. Feedback that makes nothing known is passed over.
 pub fn audited<Style, Mb, P, Fault, MessageFault>()
     ensures { (decoding : Decoding Style Mb P Fault)
         (read : List ℕ → Result Message MessageFault) (rules : Rules)
@@ -64,3 +77,8 @@ pub fn audited_streams()
     flags_are_not_judged::<Styled, Mb, Pictured, Fault, MessageFault>();
     audited::<Styled, Mb, Pictured, Fault, MessageFault>();
 }
+
+/// The line of the verdict on a log tells this verdict: no other one has it.
+pub fn lines_tell_verdicts()
+    ensures { (p : Params) → LineTells p }
+{}

@@ -59,7 +59,8 @@ pub fn numbers_wrap()
         ∷ intra short_period 0 ∷ []) ≡ No 2 rule.Reference }
 {}
 
-/// A near call of a stream, in which a message is brought back: what the laws ask can be met.
+/// A near call of a stream, in which a message is brought back and another is passed over: what the
+/// laws ask can be met.
 pub fn near_call()
     ensures { MayHappenAll }
 {}

@@ -1,5 +1,5 @@
 use Rattle.std.proofs.Common.{ap, refl, subst, ◌∙◌}
-use Rattle.back_messages.specs.MessageBytes.{text_of}
+use Rattle.back_messages.specs.Said.{text_of}
 use Rattle.reference_selector.specs.Messages.{message_of}
 use Rattle.call_encoding.specs.Messages.{written}
 use Rattle.coded_call.specs.Bytes.{AreBytes}

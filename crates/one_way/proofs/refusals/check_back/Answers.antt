@@ -1,5 +1,5 @@
 use Rattle.std.proofs.Common.{◌≡◌, ℕ, ◌+◌, ◌<◌, ◌≤◌, length, map, Option, Err, refl, sym, subst, ◌∙◌, arith, None}
-use Rattle.back_messages.specs.declared.writing.MessageBytes.{MessageBytes}
+use Rattle.back_messages.specs.declared.writing.Said.{Said}
 use Rattle.call_model.specs.IdealCall.{Back}
 use Rattle.call_model.specs.Refusals.{Far, NotSaid, Refusal, first_refusal}
 use Rattle.call_decoding.specs.Rules.{rules_of}
@@ -30,7 +30,7 @@ returns-in-Some c = λ p receiver before frames past in_range half begun h.
     let played = (both_after p (steady p) frames before past).receiver.played in
     let same = c.sent-sent.ensures.value ∙ (c.way_laws.ensures p).sent c.args.sender.now receiver before frames past h.way_holds.joined in
     let told_so = told_is p in_range (c.near_event_laws.ensures p in_range) c.args.network.now c.args.sender.now receiver before frames past begun h c.sent-sent.result k same in
-    let x : ℕ × MessageBytes = (c.in-Some.about, c.in-Some.field-0-1) in
+    let x : ℕ × Said = (c.in-Some.about, c.in-Some.field-0-1) in
     let at = there said.pairs k x (sym (c.get.ensures said.pairs said.holds) ∙ c.in-Some.is) in
     let near : c.sent-sent.result < c.in-Some.about + c.args.half = near_by (c.in-Some.about + c.args.half) c.sent-sent.result (sym c.is_late.ensures ∙ c.if-not-is_late.true) in
     sym told_so ∙ back_near (rules_of p) c.sent-sent.result played (map about_of said.pairs) (c.sent-sent.result + 1) k c.in-Some.about (about_at said.pairs k x at) (omega (arith, near, half))

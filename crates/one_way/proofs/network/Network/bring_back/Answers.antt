@@ -1,7 +1,7 @@
 use Rattle.std.proofs.Common.{◌≡◌, ℕ, zero, suc, ◌+◌, ◌<◌, Bool, List, [], ◌∷◌, length, Some, None, sym, ap, ◌∙◌, arith, if◌then◌else◌}
 use Rattle.std.specs.Prelude.{slice_get}
 use Rattle.std.proofs.lemmas.Bool.{le-leb}
-use Rattle.back_messages.specs.declared.writing.MessageBytes.{MessageBytes}
+use Rattle.back_messages.specs.declared.writing.Said.{Said}
 use Rattle.call_model.specs.JoinedRun.{SaidMessage}
 use Rattle.call_rings.specs.Messages.{message_at}
 use Rattle.one_way.specs.Both.{both_after, steady}
@@ -18,7 +18,7 @@ pub returns-in-Some-clause-holds : goal.returns-in-Some-clause-holds
 returns-in-Some-clause-holds c = λ p receiver before frames past in_range paced begun h near.
     let k = c.args.k in
     let said = h.messages_are in
-    let x : ℕ × MessageBytes = (c.in-Some.field-0-0, c.in-Some.message) in
+    let x : ℕ × Said = (c.in-Some.field-0-0, c.in-Some.message) in
     let at = there said.pairs k x (sym (c.get.ensures said.pairs said.holds) ∙ c.in-Some.is) in
     let told : SaidMessage = told_in x in
     let now : slice_get (both_after p (steady p) frames before past).said k ≡ Some told =

@@ -2,8 +2,8 @@ use Rattle.std.proofs.Common.{◌≡◌, ℕ, List, ◌++◌, Option, Some, None
 use Rattle.std.specs.Prelude.{slice_get}
 use Rattle.std.specs.Option.{option_map, option_map_or}
 use Rattle.std.proofs.lemmas.List.{append-nil}
-use Rattle.back_messages.specs.declared.writing.MessageBytes.{MessageBytes}
-use Rattle.back_messages.specs.MessageBytes.{text_of}
+use Rattle.back_messages.specs.declared.writing.Said.{Said}
+use Rattle.back_messages.specs.Said.{text_of}
 use Rattle.coded_call.specs.Bytes.{AreBytes}
 use Rattle.call_model.specs.JoinedRun.{SaidMessage, after_bytes}
 use Rattle.call_model.specs.Receiving.{heard}
@@ -70,10 +70,10 @@ returns-clause-says c = λ p sender before frames past h among.
     (c.packet-heard.ensures.answer (heard_in p (steady p) frames before past) h.joined.receives)
     in
     let says : IsMessage p.clock c.message.result (said_by answer) =
-    subst (λ (o : Option MessageBytes). IsMessage p.clock o (said_by answer)) (sym c.message.ensures) (c.answers_say.ensures p.clock c.packet-heard.result answer heard_so)
+    subst (λ (o : Option Said). IsMessage p.clock o (said_by answer)) (sym c.message.ensures) (c.answers_say.ensures p.clock c.packet-heard.result answer heard_so)
     in
     let fit : IfSome c.message.result (λ said. AreBytes (text_of said)) =
-    subst (λ (o : Option MessageBytes). IfSome o (λ said. AreBytes (text_of said))) c.as_said.ensures.same c.as_said.ensures.bytes
+    subst (λ (o : Option Said). IfSome o (λ said. AreBytes (text_of said))) c.as_said.ensures.same c.as_said.ensures.bytes
     in
     let told : told_by n c.as_said.result ≡ told_of n (said_by answer) =
     ap (told_by n) c.as_said.ensures.same ∙ told_is (c.message_laws.ensures p).said p.clock n c.message.result (said_by answer) says fit

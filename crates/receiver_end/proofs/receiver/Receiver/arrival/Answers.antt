@@ -29,8 +29,8 @@ pub returns-in-Ok-clause-answer : goal.returns-in-Ok-clause-answer
 returns-in-Ok-clause-answer c = λ past stands.
     let k = c.self.inside.kept in let bytes = c.args.bytes.now in
     let mine : Stands k past = subst (λ (x : Kept). Stands x past) (sym c.self.view_is) stands in
-    let long : length c.read_packet.new.out ≡ c.self.inside.mbs.len = c.read_packet.ensures.size ∙ ap length c.deref_mut.ensures.value ∙ sym c.self.inside.mbs.ok.0 in
-    let out : c.deref.result.now ≡ c.read_packet.new.out = c.deref.ensures.value ∙ with_items_is c.self.inside.mbs c.read_packet.new.out long in
+    let long : length c.read_packet.new.out ≡ c.self.inside.mbs.items.len = c.read_packet.ensures.size ∙ ap length c.deref_mut.ensures.value ∙ sym c.self.inside.mbs.items.ok.0 in
+    let out : c.deref.result.now ≡ c.read_packet.new.out = c.deref.ensures.value ∙ with_items_is c.self.inside.mbs.items c.read_packet.new.out long in
     let read : (decoding k.params.format).read bytes ≡ Ok (piece_in c.in-Ok.piece c.deref.result.now) =
     ap with_piece c.in-Ok.ensures.exact ∙ ap (λ (l : List Mb). Ok (piece_in c.in-Ok.piece l)) (sym out) in
     subst (λ (x : Kept). IsHeard x.params.clock c.packet.result (heard (decoding x.params.format) (rules_of x.params) (run_of x.params past) ((decoding x.params.format).read bytes))) c.self.view_is
@@ -41,8 +41,8 @@ pub returns-in-Ok-clause-stands : goal.returns-in-Ok-clause-stands
 returns-in-Ok-clause-stands c = λ past stands.
     let k = c.self.inside.kept in let bytes = c.args.bytes.now in
     let mine : Stands k past = subst (λ (x : Kept). Stands x past) (sym c.self.view_is) stands in
-    let long : length c.read_packet.new.out ≡ c.self.inside.mbs.len = c.read_packet.ensures.size ∙ ap length c.deref_mut.ensures.value ∙ sym c.self.inside.mbs.ok.0 in
-    let out : c.deref.result.now ≡ c.read_packet.new.out = c.deref.ensures.value ∙ with_items_is c.self.inside.mbs c.read_packet.new.out long in
+    let long : length c.read_packet.new.out ≡ c.self.inside.mbs.items.len = c.read_packet.ensures.size ∙ ap length c.deref_mut.ensures.value ∙ sym c.self.inside.mbs.items.ok.0 in
+    let out : c.deref.result.now ≡ c.read_packet.new.out = c.deref.ensures.value ∙ with_items_is c.self.inside.mbs.items c.read_packet.new.out long in
     let read : (decoding k.params.format).read bytes ≡ Ok (piece_in c.in-Ok.piece c.deref.result.now) =
     ap with_piece c.in-Ok.ensures.exact ∙ ap (λ (l : List Mb). Ok (piece_in c.in-Ok.piece l)) (sym out) in
     c.packet.ensures.stands past bytes mine read

@@ -34,9 +34,9 @@ use Rattle.sender_end.specs.State.{SenderState}
 use Rattle.sender_end.proofs.Captured.{IsCodedNext, made, made_is_next, next, packets_are, reference_at}
 use Rattle.sender_end.proofs.Keeping.{at_new, at_other, at_same, coded_numbers, coded_rests, has_kept, own_numbers, same_picture, still_kept}
 use Rattle.sender_end.proofs.Numbering.{numbered_fits}
-use Rattle.sender_end.proofs.sender.Sender.capture.Given.{Over}
-use Rattle.sender_end.proofs.sender.Sender.capture.Goals.{After-count}
-use Rattle.sender_end.proofs.sender.Sender.capture.Goals as goal
+use Rattle.sender_end.proofs.sender.Sender.code.Given.{Over}
+use Rattle.sender_end.proofs.sender.Sender.code.Goals.{After-count}
+use Rattle.sender_end.proofs.sender.Sender.code.Goals as goal
 
 pub code_in_store-requires-clause-kept : goal.code_in_store-requires-clause-kept
 code_in_store-requires-clause-kept g c =

@@ -3,8 +3,8 @@ use Rattle.std.specs.Option.{is_some}
 use Rattle.duplex_call.specs.declared.queue.Carried.{Carried}
 use Rattle.duplex_call.specs.Waiting.{last_four, placed}
 use Rattle.duplex_call.proofs.Last.{free_0, free_1, free_2, free_3, full, last_more}
-use Rattle.duplex_call.proofs.queue.MessageQueue.say.Goals.{then-is_none, else-is_none+then-is_none-2, else-is_none+else-is_none-2+then-is_none-3, else-is_none+else-is_none-2+else-is_none-3+then-is_none-4, else-is_none+else-is_none-2+else-is_none-3+else-is_none-4}
-use Rattle.duplex_call.proofs.queue.MessageQueue.say.Goals as goal
+use Rattle.duplex_call.proofs.queue.Carrier.say.Goals.{then-is_none, else-is_none+then-is_none-2, else-is_none+else-is_none-2+then-is_none-3, else-is_none+else-is_none-2+else-is_none-3+then-is_none-4, else-is_none+else-is_none-2+else-is_none-3+else-is_none-4}
+use Rattle.duplex_call.proofs.queue.Carrier.say.Goals as goal
 
 pub returns : goal.returns
 returns c before waits =
