@@ -13,7 +13,7 @@ use Rattle.loss_trace.specs.declared.fault.TraceFault.TheVariants.{NoFrame}
 use Rattle.loss_trace.specs.Lines.{is_closed}
 use Rattle.call_report.specs.declared.status.Status.TheVariants.{TraceRefused, VideoRefused}
 use Rattle.call_report.specs.Status.{phase, video_stop}
-use Rattle.desk_program.specs.Run.{Step, left_after, refusal}
+use Rattle.desk_program.specs.Run.{Step, left_after, video_refusal}
 use Rattle.desk_program.specs.Ends.{Tells, IsPart, Went, Ended, EndsBy, GivesUp, step_turns}
 use Rattle.desk_program.specs.Texts.{no_texts, of}
 use Rattle.desk_program.specs.Laws.{TurnLaws}
@@ -70,9 +70,10 @@ module _ (turns : TurnLaws) (laws : VideoLaws) (s : CallState) (inputs : Role �
   }
   frame_stops (Refused fault) e =
       record {
-        last = refusal (VideoRefused fault);
+        last = video_refusal Video (of Events (line_size trace)) (VideoRefused fault);
         is = video_next s trace (inputs Video) (Err fault) e.0 e.1;
-        by = turns.refuses (VideoRefused fault) inputs before mid (same ∙ taken.written);
+        by = turns.refuses_video Video (of Events (line_size trace)) (VideoRefused fault) inputs before mid
+            (λ r input other. others r other ∙ taken.left r input) (same ∙ taken.written);
       }
 
   -- no frame is left

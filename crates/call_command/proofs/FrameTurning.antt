@@ -19,7 +19,7 @@ use Rattle.y4m.specs.Text.{head_text}
 use Rattle.call_report.specs.declared.status.Status.{Status}
 use Rattle.call_report.specs.declared.status.Status.TheVariants.{Ok as Fine, OutOfMemory, WriteFault, VideoRefused}
 use Rattle.call_report.specs.Status.{phase, video_stop}
-use Rattle.desk_program.specs.Run.{Step, left_after, refusal}
+use Rattle.desk_program.specs.Run.{Step, left_after, video_refusal}
 use Rattle.desk_program.specs.Run.Step.{Ends}
 use Rattle.desk_program.specs.Ends.{Tells, Gains, GainsFronts, IsPart, Went, Ended, GivesUp, HasCause, StartGives, start_status, step_texts, step_turns}
 use Rattle.desk_program.specs.Texts.{no_bytes, on, of}
@@ -123,7 +123,11 @@ module _ (turns : TurnLaws) (laws : VideoLaws) (inputs : Role → List ℕ) (old
     written = same;
   }
   head_stops t (Refused fault) e =
-      record { last = refusal (VideoRefused fault); is = ap (head_step t (inputs Video)) e; by = turns.refuses (VideoRefused fault) inputs old mid same }
+      record {
+        last = video_refusal Video no_bytes (VideoRefused fault);
+        is = ap (head_step t (inputs Video)) e;
+        by = turns.refuses_video Video no_bytes (VideoRefused fault) inputs old mid (λ r input other. others r other ∙ told r input) same;
+      }
 
   pub frame_stops : (s : CallState) → s.ended ≡ false → (stop : VideoStop) (out : List ℕ) (reader : Y4mPlace) → Gives (Err stop) s (inputs Video) out reader (mid.left Video)
       → GivesUp (phase (video_stop stop)) (video_stop stop) (video_step by_ends s (inputs Video)) (may_read s) inputs old mid
@@ -135,7 +139,11 @@ module _ (turns : TurnLaws) (laws : VideoLaws) (inputs : Role → List ℕ) (old
     written = same;
   }
   frame_stops s going (Refused fault) out reader e =
-      record { last = refusal (VideoRefused fault); is = video_next s (inputs Video) (Err fault) e.0 e.1; by = turns.refuses (VideoRefused fault) inputs old mid same }
+      record {
+        last = video_refusal Video no_bytes (VideoRefused fault);
+        is = video_next s (inputs Video) (Err fault) e.0 e.1;
+        by = turns.refuses_video Video no_bytes (VideoRefused fault) inputs old mid (λ r input other. others r other ∙ told r input) same;
+      }
 
   module _ (new : Outside) (still : new.left ≡ mid.left) where
     -- ---- the end of the video

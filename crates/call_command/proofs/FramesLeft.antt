@@ -1,5 +1,5 @@
 -- How many frames are left to be sent matters to a capture alone.
-use Rattle.std.proofs.Common.{◌≡◌, ℕ, ◌+◌, ◌≤◌, Bool, true, false, List, Option, Some, None, refl, sym, ap, ◌∙◌, arith, if◌then◌else◌}
+use Rattle.std.proofs.Common.{◌≡◌, ◌≢◌, ℕ, ◌+◌, ◌≤◌, Bool, true, false, List, Option, Some, None, refl, sym, ap, ◌∙◌, arith, if◌then◌else◌}
 use Rattle.std.specs.Prelude.{nat_le}
 use Rattle.std.proofs.lemmas.Bool.{le-leb, lt-leb}
 use Rattle.call_model.specs.Coding.{Rules}
@@ -19,6 +19,16 @@ send_far rules left sent played abouts r = go (nat_le (played + rules.half) sent
         → (if far then Some (Far sent played) else if nat_le left sent then Some NoPicture else None) ≡ Some r
     go true never is = is
     go false never is = absurd (none_is r (sym (ap (λ (b : Bool). let o : Option Refusal = if b then Some NoPicture else None in o) never) ∙ is))
+
+-- and it is refused for its distance
+pub send_distance : (rules : Rules) (sent played : ℕ) (abouts : List ℕ) (r : Refusal) → first_refusal rules (sent + 1) sent played abouts Send ≡ Some r → r ≢ NoPicture
+unfolding first_refusal
+send_distance rules sent played abouts r = go (nat_le (played + rules.half) sent) (lt-leb (sent + 1) sent (omega arith))
+  where
+    go : (far : Bool) → nat_le (sent + 1) sent ≡ false
+        → (if far then Some (Far sent played) else if nat_le (sent + 1) sent then Some NoPicture else None) ≡ Some r → r ≢ NoPicture
+    go true never is out = absurd (cc (is, out))
+    go false never is out = absurd (none_is r (sym (ap (λ (b : Bool). let o : Option Refusal = if b then Some NoPicture else None in o) never) ∙ is))
 
 -- one that isn't far has no frame where all were sent
 pub send_out : (rules : Rules) (left sent played : ℕ) (abouts : List ℕ) → left ≤ sent → first_refusal rules (sent + 1) sent played abouts Send ≡ None → first_refusal rules left sent played abouts Send ≡ Some NoPicture

@@ -28,9 +28,9 @@ use Rattle.call_decoding.specs.Rules.{rules_of}
 use Rattle.call_encoding.specs.Frames.{Frame}
 use Rattle.coded_call.specs.Coding.{coding}
 use Rattle.receiver_end.specs.Answers.{mark_of}
-use Rattle.desk_program.specs.Run.{Turn, End, Step, refusal}
+use Rattle.desk_program.specs.Run.{Turn, End, Step, video_refusal}
 use Rattle.desk_program.specs.Run.Step.{Goes, Ends}
-use Rattle.desk_program.specs.Texts.{no_texts, on, then_also, of, and_of}
+use Rattle.desk_program.specs.Texts.{no_bytes, no_texts, on, then_also, of, and_of}
 use Rattle.call_command.specs.declared.terms.Terms.{Terms}
 use Rattle.one_way.specs.Trace.{delivered}
 use Rattle.one_way.specs.Both.{bare, both_after, steady}
@@ -143,7 +143,8 @@ captured_step s trace size (Ok planes) =
     let sent = with_frame s (bare (picture_of s.params.format planes)) in
     Goes (record (after_line sent trace) { at = s.at + size; more = s.more - 1 })
     (record { taken = and_of (of Events (line_size trace)) (of Video size); whole = is_closed trace; texts = no_texts })
-captured_step s trace size (Err fault) = Ends (refusal (VideoRefused fault))
+captured_step s trace size (Err fault) =
+    Ends (video_refusal Video (of Events (line_size trace)) (VideoRefused fault))
 
 -- the video is read once it is known that the event isn't far
 abbrev pub capture_step : CallState → List ℕ → List ℕ → Step CallState
@@ -208,7 +209,7 @@ module _ (view : View) where
         whole = true;
         texts = play_texts (view (with_picture s planes)) (length s.frames);
       })
-  frame_step s video (Err fault) = Ends (refusal (VideoRefused fault))
+  frame_step s video (Err fault) = Ends (video_refusal Video no_bytes (VideoRefused fault))
 
   abbrev pub video_step : CallState → List ℕ → Step CallState
   video_step s [] = Ends (all_played (view s))
@@ -251,7 +252,7 @@ abbrev pub head_step : Terms → List ℕ → Result Format Y4mFault → Step Ca
 head_step t video (Ok f) =
     Goes (first_state (with_format t f) [] (head_size video))
     (record { taken = of Video (head_size video); whole = true; texts = on Pictures (head_text f) })
-head_step t video (Err fault) = Ends (refusal (VideoRefused fault))
+head_step t video (Err fault) = Ends (video_refusal Video no_bytes (VideoRefused fault))
 
 abbrev pub call_begin : Terms → (Role → List ℕ) → Step CallState
 call_begin t inputs = head_step t (inputs Video) (head_of (inputs Video))

@@ -1,5 +1,5 @@
 -- What holds of a call by both ends, of a video, and of the turns of lines.
-use Rattle.std.specs.Prelude.{◌≡◌, ℕ, ◌+◌, ◌≤◌, true, false, List, [], ◌∷◌, take, drop, Some, None, Ok}
+use Rattle.std.specs.Prelude.{◌≡◌, ◌≢◌, ℕ, ◌+◌, ◌≤◌, true, false, List, [], ◌∷◌, take, drop, Some, None, Ok}
 use Rattle.h263_outside.specs.Desk.{Outside}
 use Rattle.h263_outside.specs.declared.desk.Role.{Role}
 use Rattle.h263_outside.specs.declared.desk.Role.TheVariants.{Events, Video}
@@ -36,7 +36,8 @@ pub record VideoLaws : Type 0 where
       → (frame_of f at (take k rest) ≡ Ok planes) × (frame_size f (take k rest) ≡ frame_size f rest)
 
 -- How many frames there are to be sent matters to a capture alone. One that is refused where a frame
--- is left is refused so however many there are; another one has no frame where all were sent.
+-- is left is refused for its distance, and so however many there are; another one has no frame where all
+-- were sent.
 pub record FramesLeft : Type 0 where
   pub packet : (rules : Rules) (n j a b sent played : ℕ) (abouts : List ℕ)
       → first_refusal rules a sent played abouts (Deliver n j) ≡ first_refusal rules b sent played abouts (Deliver n j)
@@ -45,6 +46,8 @@ pub record FramesLeft : Type 0 where
   pub far : (rules : Rules) (left sent played : ℕ) (abouts : List ℕ) (r : Refusal)
       → first_refusal rules (sent + 1) sent played abouts Send ≡ Some r
       → first_refusal rules left sent played abouts Send ≡ Some r
+  pub distance : (rules : Rules) (sent played : ℕ) (abouts : List ℕ) (r : Refusal)
+      → first_refusal rules (sent + 1) sent played abouts Send ≡ Some r → r ≢ NoFrame
   pub out : (rules : Rules) (left sent played : ℕ) (abouts : List ℕ) → left ≤ sent
       → first_refusal rules (sent + 1) sent played abouts Send ≡ None
       → first_refusal rules left sent played abouts Send ≡ Some NoFrame

@@ -19,7 +19,8 @@ ghost use Rattle.one_way.specs.Both.{steady};
 ghost use Rattle.one_way.specs.Laws.{EventLaws, NearLaws, WayLaws};
 ghost use Rattle.call_model.specs.LaterFrames.{LaterFramesBoth};
 ghost use Rattle.desk_program.specs.Laws.{StepLaws, TurnLaws};
-ghost use Rattle.desk_program.specs.Run.{refusal, run_from};
+ghost use Rattle.desk_program.specs.Run.{run_from, video_refusal};
+ghost use Rattle.desk_program.specs.Texts.{no_bytes};
 ghost use Rattle.call_command.specs.declared.terms.Terms.{Terms};
 ghost use Rattle.call_command.specs.Call.{call_begin, call_step, most_turns};
 ghost use Rattle.call_command.specs.Laws.{FramesLeft, LineLaws, TalkIsTheCall, VideoLaws};
@@ -82,7 +83,7 @@ pub fn a_call_follows_its_trace()
     ensures no_head { (p : Params) (inputs : Role → List ℕ) (fault : Y4mFault)
         → head_of (inputs Video) ≡ Err fault
         → run_from (call_begin (record { params = p; plain = false }) inputs) call_step 16777216
-        inputs ≡ record { turns = []; last = refusal (VideoRefused fault) } }
+        inputs ≡ record { turns = []; last = video_refusal Video no_bytes (VideoRefused fault) } }
 {
     refusals::<Framed, Styled, Mb, Pictured, Fault, MessageFault>();
     later_frames::<Framed, Styled, Mb, Pictured, Fault, MessageFault>();

@@ -21,7 +21,7 @@ ghost use Rattle.call_command.specs.Counts.{counts_of};
 ghost use Rattle.call_command.specs.Standing.{row_texts};
 
 use crate::counts_line;
-use call_report::{PictureRow, Status, picture_line};
+use call_report::{Status, picture_line};
 use desk_program::{laws as desk_program_laws, put_line, put_picture};
 use h263_outside::{Desk, laws as outside_laws};
 use h263_planes::PictureRef;
@@ -54,12 +54,7 @@ fn show<D: Desk>(
     outside_laws::calls();
     desk_program_laws::turn_laws();
     put_picture(desk, mark, picture)?;
-    let line = picture_line(PictureRow {
-        party: None,
-        number,
-        mark: Some(mark),
-        reference: Some(reference),
-    });
+    let line = picture_line(number, Some(mark), Some(reference), None);
     put_line(desk, &line)
 }
 

@@ -1,7 +1,7 @@
 -- The last line, and what a whole run promises.
 use Rattle.std.proofs.Common.{if◌then◌else◌, ◌≡◌, inl, inr, ℕ, Bool, true, false, List, [], ◌∷◌, ◌++◌, Option, Some, IfSome, refl, sym, ap, ◌∙◌, subst, append_assoc, append-nil}
-use Rattle.h263_outside.specs.Desk.{Outside, is_role, appended, GainsFront, OnlyWrites}
-use Rattle.h263_outside.specs.Gains.{gained, Front}
+use Rattle.h263_outside.specs.Desk.{Outside, is_role, appended, GainsFront, OnlyAttaches, OnlyWrites}
+use Rattle.h263_outside.specs.Gains.{gained}
 use Rattle.h263_outside.specs.declared.desk.Role.{Role}
 use Rattle.h263_outside.specs.declared.desk.Role.TheVariants.{Video, Events, Pictures, Wire, Report, Video2, Pictures2}
 use Rattle.call_report.specs.declared.status.Status.{Status}
@@ -9,14 +9,13 @@ use Rattle.call_report.specs.declared.status.Status.TheVariants.{WriteFault}
 use Rattle.call_report.specs.Status.{Phase, phase}
 use Rattle.call_report.specs.Status.Phase.{finished, refused, unread, unwritten, starved, unasked, unopened}
 use Rattle.call_report.specs.Text.{status_text}
-use Rattle.desk_program.specs.Run.{Turn, Run, texts_of, text_of}
-use Rattle.desk_program.specs.Ends.{ComesAtOpening, Gains, GainsFronts, ReadOutIn, IsReadOut, silent, IsExactly, IsCutAfter, EndedIn, HasEnded}
+use Rattle.desk_program.specs.Run.{Turn, End, Run, texts_of, text_of}
+use Rattle.desk_program.specs.Ends.{ComesAtOpening, ComesEarly, ComesLater, Gains, IsLater, ReadOutIn, IsReadOut, silent, IsExactly, IsCutAfter, IsCutIn, EndedIn, HasEnded, next_texts}
 use Rattle.desk_program.specs.Attached.{AttachedAt}
 use Rattle.desk_program.specs.Lines.{end_text, Finishes}
-use Rattle.desk_program.specs.Promises.{SettlesIn, StopsIn, HasTexts, ReportIn, HasPrefixes}
+use Rattle.desk_program.specs.Promises.{FlushedIn, HasTexts, IsFlushed, IsUnopened, PrefixesIn, ReadsNothing, SettlesIn, StopsIn, UnopenedIn}
 use Rattle.desk_program.proofs.Gained.{gained-nil, gained-gained}
 use Rattle.desk_program.proofs.Phases.{no_line}
-use Rattle.desk_program.proofs.Running.{texts-append}
 use Rattle.desk_program.proofs.Attaching.{some_attached, attached_still}
 
 -- ---- the last line, role by role
@@ -64,11 +63,6 @@ no_text : (b : Bool) → (if b then nothing else nothing) ≡ nothing
 no_text true = refl
 no_text false = refl
 
--- an end that writes no line writes nothing, and none writes on another output than the report
-other_end : (b : Bool) (l : List ℕ) → b ≡ false → (if b then l else []) ≡ []
-other_end true l is = absurd cc
-other_end false l is = refl
-
 glue : (a b : List ℕ) (old mid new : Option (List ℕ)) → mid ≡ gained old (a ++ []) → new ≡ gained mid b → new ≡ gained old (a ++ b)
 glue a b old mid new p q = q ∙ ap (λ (o : Option (List ℕ)). gained o b) p ∙ gained-gained old (a ++ []) b ∙ ap (λ (l : List ℕ). gained old (l ++ b)) (append-nil a)
 
@@ -76,15 +70,15 @@ front_nil : (a b : List ℕ) → a ++ b ≡ [] → a ≡ []
 front_nil [] b is = refl
 front_nil (x ∷ a) b is = absurd cc
 
-front_longer : (a b : List ℕ) (old mid new : Option (List ℕ)) → new ≡ mid → Front (a ++ []) old mid → Front (a ++ b) old new
-front_longer a b old mid new same f = record {
-  rest = f.rest ++ b;
-  so_far = record {
-    front = f.so_far.front;
-    whole = sym (append_assoc f.so_far.front f.rest b) ∙ ap (λ (l : List ℕ). l ++ b) (f.so_far.whole ∙ append-nil a);
-    gains = same ∙ f.so_far.gains;
-  };
-}
+-- the line of the end, where the end comes next
+line_after : List Turn → End → Role → List ℕ
+line_after [] last r = end_text last.status r
+line_after (t ∷ rest) last r = []
+
+with_line : (rest : List Turn) (last : End) (r : Role) → next_texts rest last silent r ++ line_after rest last r ≡ next_texts rest last end_text r
+unfolding line_after
+with_line [] last r = ap (λ (l : List ℕ). l ++ end_text last.status r) (append-nil (last.texts r))
+with_line (t ∷ rest) last r = append-nil (t.texts r)
 
 module _ (run : Run) (inputs : Role → List ℕ) (old : Role → Option (List ℕ)) (mid new : Outside) where
   -- with the whole line
@@ -121,12 +115,23 @@ module _ (run : Run) (inputs : Role → List ℕ) (old : Role → Option (List �
   }
   told unasked status is e g same = λ r. glue [] (end_text status r) (old r) (mid.written r) (new.written r) (e r) (g r)
   told (unopened role) status is e g same = λ r. glue [] (end_text status r) (old r) (mid.written r) (new.written r) (e r) (g r)
-  told unwritten status is (inl fronts) g same = inl (λ r. front_longer (text_of run r) (end_text run.last.status r) (old r) (mid.written r) (new.written r) (still_written status is g r) (fronts r))
+  told unwritten status is (inl c) g same = inl (record {
+    done = c.done;
+    rest = c.rest;
+    front = c.front;
+    piece = c.piece;
+    cut = λ r. c.cut r ++ line_after c.rest run.last r;
+    whole = λ r.
+        sym (append_assoc (c.piece r) (c.cut r) (line_after c.rest run.last r))
+        ∙ ap (λ (l : List ℕ). l ++ line_after c.rest run.last r) (c.whole r) ∙ with_line c.rest run.last r;
+    written = λ r. still_written status is g r ∙ c.written r;
+  })
   told unwritten status is (inr c) g same = inr (record {
     done = c.done;
     rest = c.rest;
     front = c.front;
     other = WriteFault;
+    early = tt;
     piece = c.piece;
     cut = c.cut;
     whole = λ r. c.whole r ∙ sym (no_text (is_role Report r));
@@ -134,22 +139,28 @@ module _ (run : Run) (inputs : Role → List ℕ) (old : Role → Option (List �
   })
 
   -- with a prefix of it
-  cut_line : (status : Status) → IsExactly run silent status inputs old mid → Ending status mid.written new.written → GainsFronts (λ r. text_of run r ++ end_text run.last.status r) old new.written
-  cut_line status e end = λ r. record {
-    rest = end.cut r;
-    so_far = record {
-      front = text_of run r ++ end.piece r;
-      whole = append_assoc (text_of run r) (end.piece r) (end.cut r) ∙ ap (λ (l : List ℕ). text_of run r ++ l) (end.whole r ∙ ap (λ (s : Status). end_text s r) e.known);
-      gains = glue (text_of run r) (end.piece r) (old r) (mid.written r) (new.written r) (e.written r) (end.written r);
-    };
+  cut_line : (status : Status) → IsExactly run silent status inputs old mid → Ending status mid.written new.written → IsCutIn run end_text old new.written
+  cut_line status e end = record {
+    done = run.turns;
+    rest = [];
+    front = append-nil run.turns;
+    piece = λ r. run.last.texts r ++ end.piece r;
+    cut = end.cut;
+    whole = λ r.
+        append_assoc (run.last.texts r) (end.piece r) (end.cut r)
+        ∙ ap (λ (l : List ℕ). run.last.texts r ++ l) (end.whole r ∙ ap (λ (s : Status). end_text s r) e.known);
+    written = λ r.
+        glue (text_of run r) (end.piece r) (old r) (mid.written r) (new.written r) (e.written r) (end.written r)
+        ∙ ap (λ (l : List ℕ). gained (old r) l) (append_assoc (texts_of run.turns r) (run.last.texts r) (end.piece r));
   }
 
-  cut_after : (status : Status) (done rest : List Turn) → done ++ rest ≡ run.turns → Gains (λ r. texts_of done r ++ []) old mid.written → Ending status mid.written new.written → IsCutAfter run (end_text) old new.written
-  cut_after status done rest front gains end = record {
+  cut_after : (status : Status) → ComesEarly (phase status) → (done rest : List Turn) → done ++ rest ≡ run.turns → Gains (λ r. texts_of done r ++ []) old mid.written → Ending status mid.written new.written → IsCutAfter run (end_text) old new.written
+  cut_after status early done rest front gains end = record {
     done = done;
     rest = rest;
     front = front;
     other = status;
+    early = early;
     piece = end.piece;
     cut = end.cut;
     whole = end.whole;
@@ -159,10 +170,10 @@ module _ (run : Run) (inputs : Role → List ℕ) (old : Role → Option (List �
   not_told : (p : Phase) (status : Status) → phase status ≡ p → EndedIn p run silent status inputs old mid → Ending status mid.written new.written → new.left ≡ mid.left → HasEnded run end_text WriteFault inputs old new
   not_told finished status is e end same = inl (cut_line status e end)
   not_told refused status is e end same = inl (cut_line status e end)
-  not_told starved status is e end same = inr (cut_after status e.done e.rest e.front e.written end)
-  not_told unread status is e end same = inr (cut_after status e.done e.rest e.front e.written end)
-  not_told unasked status is e end same = inr (cut_after status [] run.turns refl e end)
-  not_told (unopened role) status is e end same = inr (cut_after status [] run.turns refl e end)
+  not_told starved status is e end same = inr (cut_after status (subst ComesEarly (sym is) tt) e.done e.rest e.front e.written end)
+  not_told unread status is e end same = inr (cut_after status (subst ComesEarly (sym is) tt) e.done e.rest e.front e.written end)
+  not_told unasked status is e end same = inr (cut_after status (subst ComesEarly (sym is) tt) [] run.turns refl e end)
+  not_told (unopened role) status is e end same = inr (cut_after status (subst ComesEarly (sym is) tt) [] run.turns refl e end)
   not_told unwritten status is e end same =
       let quiet : (r : Role) → end_text status r ≡ [] = λ r. ap (λ (l : List ℕ). if is_role Report r then l else []) (no_line status is) ∙ no_text (is_role Report r) in
       told unwritten WriteFault refl e
@@ -225,40 +236,53 @@ module _ (run : Run) (inputs : Role → List ℕ) (old : Role → Option (List �
   has_texts unwritten s e is = absurd is
   has_texts (unopened role) s e is = absurd is
 
-  -- the text of some first turns is a prefix of the text
-  front_of_text : (done rest : List Turn) (r : Role) (tail : List ℕ) → done ++ rest ≡ run.turns → tail ≡ [] → new.written r ≡ gained (old r) (texts_of done r ++ tail) → Front (text_of run r) (old r) (new.written r)
-  front_of_text done rest r tail front none gains = record {
-    rest = texts_of rest r ++ run.last.texts r;
-    so_far = record {
-      front = texts_of done r;
-      whole = sym (append_assoc (texts_of done r) (texts_of rest r) (run.last.texts r)) ∙ ap (λ (l : List ℕ). l ++ run.last.texts r) (sym (texts-append done rest r) ∙ ap (λ (turns : List Turn). texts_of turns r) front);
-      gains = gains ∙ ap (λ (l : List ℕ). gained (old r) l) (ap (λ (l : List ℕ). texts_of done r ++ l) none ∙ append-nil (texts_of done r));
-    };
-  }
+  pub has_prefixes : (p : Phase) (s : Status) → EndedIn p run end_text s inputs old new → StopsIn p → PrefixesIn p s run end_text old new.written
+  has_prefixes starved s e is = e
+  has_prefixes unread s e is = record { done = e.done; rest = e.rest; front = e.front; written = e.written }
+  has_prefixes unwritten s e is = e
+  has_prefixes finished s e is = absurd is
+  has_prefixes refused s e is = absurd is
+  has_prefixes unasked s e is = absurd is
+  has_prefixes (unopened role) s e is = absurd is
 
-  -- each output but the report has a prefix of its text
-  abbrev Fronts : Type 0
-  Fronts = (r : Role) → is_role Report r ≡ false → Front (text_of run r) (old r) (new.written r)
+-- ---- a flush
 
-  fronts_in : (p : Phase) (s : Status) → EndedIn p run end_text s inputs old new → StopsIn p → Fronts
-  fronts_in starved s e is = λ r other. front_of_text e.done e.rest r _ e.front (other_end (is_role Report r) _ other) (e.written r)
-  fronts_in unread s e is = λ r other. front_of_text e.done e.rest r _ e.front (other_end (is_role Report r) _ other) (e.written r)
-  fronts_in unwritten s (inl fronts) is = λ r other. subst (λ (l : List ℕ). Front l (old r) (new.written r)) (ap (λ (l : List ℕ). text_of run r ++ l) (other_end (is_role Report r) _ other) ∙ append-nil (text_of run r)) (fronts r)
-  fronts_in unwritten s (inr c) is = λ r other. front_of_text c.done c.rest r (c.piece r) c.front (front_nil (c.piece r) (c.cut r) (c.whole r ∙ other_end (is_role Report r) _ other)) (c.written r)
-  fronts_in finished s e is = absurd is
-  fronts_in refused s e is = absurd is
-  fronts_in unasked s e is = absurd is
-  fronts_in (unopened role) s e is = absurd is
+flushed_in : (p : Phase) (new : Outside) → new.flushed ≡ true → FlushedIn p new
+flushed_in finished new is = is
+flushed_in refused new is = is
+flushed_in unread new is = is
+flushed_in unwritten new is = tt
+flushed_in starved new is = is
+flushed_in unasked new is = is
+flushed_in (unopened role) new is = is
 
-  report_in : (p : Phase) (s : Status) → EndedIn p run end_text s inputs old new → StopsIn p → ReportIn p s run end_text (old Report) (new.written Report)
-  report_in starved s e is = record { done = e.done; rest = e.rest; front = e.front; gains = e.written Report }
-  report_in unread s e is = record { done = e.done; rest = e.rest; front = e.front; gains = e.written Report }
-  report_in unwritten s (inl fronts) is = inl (fronts Report)
-  report_in unwritten s (inr c) is = inr (record { other = c.other; piece = c.piece Report; cut = c.cut Report; whole = c.whole Report; lines = record { done = c.done; rest = c.rest; front = c.front; gains = c.written Report } })
-  report_in finished s e is = absurd is
-  report_in refused s e is = absurd is
-  report_in unasked s e is = absurd is
-  report_in (unopened role) s e is = absurd is
+pub finished_flushed : (status result : Status) (mid new : Outside) → Finishes status result mid new → IsFlushed result new
+finished_flushed status result mid new (inl t) = flushed_in (phase result) new t.flushed
+finished_flushed status result mid new (inr t) = subst (λ (s : Status). IsFlushed s new) (sym t.fault) tt
 
-  pub has_prefixes : (s : Status) → HasEnded run end_text s inputs old new → StopsIn (phase s) → HasPrefixes run end_text s old new.written
-  has_prefixes s e is = record { outputs = fronts_in (phase s) s e is; report = report_in (phase s) s e is }
+-- ---- a role that could not be attached
+
+unopened_alone : (status result : Status) (old mid new : Outside) → mid.left ≡ old.left → mid.written ≡ old.written → new.left ≡ mid.left → Finishes status result mid new → IsUnopened result → ReadsNothing result old new
+unopened_alone status result old mid new left written same (inl t) is = record {
+  left = same ∙ left;
+  written = subst (λ (w : Role → Option (List ℕ)). Gains (end_text result) w new.written) written
+      (subst (λ (s : Status). Gains (end_text s) mid.written new.written) (sym t.same) (told_gains status mid.written new.written t.written));
+}
+unopened_alone status result old mid new left written same (inr t) is = absurd (subst IsUnopened t.fault is)
+
+pub opening_alone : (status result : Status) (old mid new : Outside) → OnlyAttaches old mid → OnlyWrites mid new → Finishes status result mid new → IsUnopened result → ReadsNothing result old new
+opening_alone status result old mid new attaches rest told is = unopened_alone status result old mid new attaches.left attaches.written rest.left told is
+
+-- a status that comes later is none of a role
+not_opening : (p : Phase) → ComesLater p → UnopenedIn p → ⊥
+not_opening finished later is = absurd is
+not_opening refused later is = absurd is
+not_opening unread later is = absurd is
+not_opening unwritten later is = absurd is
+not_opening starved later is = absurd is
+not_opening unasked later is = absurd is
+not_opening (unopened role) later is = absurd later
+
+pub later_alone : (status result : Status) (old mid new : Outside) → IsLater status → Finishes status result mid new → IsUnopened result → ReadsNothing result old new
+later_alone status result old mid new later (inl t) is = absurd (not_opening (phase status) later (subst IsUnopened t.same is))
+later_alone status result old mid new later (inr t) is = absurd (subst IsUnopened t.fault is)

@@ -1,12 +1,12 @@
 -- Texts and counts, role by role: one write after another, one read after another.
-use Rattle.std.proofs.Common.{if◌then◌else◌, ◌≡◌, ◌≢◌, ℕ, Bool, true, false, List, [], ◌++◌, drop, Option, Some, refl, sym, ap, ◌∙◌, append_assoc, ◌+◌, arith}
+use Rattle.std.proofs.Common.{if◌then◌else◌, ◌≡◌, ◌≢◌, ℕ, Bool, true, false, List, [], ◌++◌, drop, Option, Some, None, refl, sym, ap, ◌∙◌, append_assoc, ◌+◌, arith}
 use Rattle.std.proofs.lemmas.List.{drop-drop}
 use Rattle.h263_outside.specs.Desk.{Outside, IsInput, is_role, appended, GainsFront}
 use Rattle.h263_outside.specs.Gains.{gained}
 use Rattle.h263_outside.specs.declared.desk.Role.{Role}
 use Rattle.h263_outside.specs.declared.desk.Role.TheVariants.{Video, Events, Pictures, Wire, Report, Video2, Pictures2}
 use Rattle.call_report.specs.declared.status.Status.{Status}
-use Rattle.desk_program.specs.Run.{left_after, refusal}
+use Rattle.desk_program.specs.Run.{left_after, refusal, video_refusal}
 use Rattle.desk_program.specs.Ends.{Tells, Gains, GainsFronts, EndsBy}
 use Rattle.desk_program.proofs.Gained.{gained-nil, gained-gained}
 use Rattle.desk_program.specs.Texts.{no_texts, on, then_also, no_bytes, of, and_of}
@@ -166,3 +166,21 @@ refuses status inputs old new same = record {
   left = λ r input k said. absurd (cc said);
   written = gains_none old.written new.written same;
 }
+
+-- a refused video: of each other input this much was taken
+pub refuses_video : (video : Role) (before : Role → ℕ) (status : Status) (inputs : Role → List ℕ) (old new : Outside)
+    → ((r : Role) → IsInput r → r ≢ video → new.left r ≡ Some (left_after inputs before r)) → new.written ≡ old.written
+    → EndsBy (video_refusal video before status) status inputs old new
+refuses_video video before status inputs old new left same = record {
+  known = refl;
+  left = λ r input k said. at_role (is_role video r) r (λ other. left r input (apart video r other)) refl k said;
+  written = gains_none old.written new.written same;
+}
+  where
+    so_many : (a k : ℕ) → a ≡ k → a ≡ 0 + k
+    so_many a k is = omega (arith, is)
+
+    at_role : (b : Bool) (r : Role) → (is_role video r ≡ false → new.left r ≡ Some (left_after inputs before r)) → is_role video r ≡ b
+        → (k : ℕ) → (if b then None else Some (before r)) ≡ Some k → new.left r ≡ Some (left_after inputs (λ _. 0 + k) r)
+    at_role true r left is k said = absurd (cc said)
+    at_role false r left is k said = left is ∙ ap (λ (n : ℕ). Some (drop n (inputs r))) (so_many (before r) k (cc said))

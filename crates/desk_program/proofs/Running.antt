@@ -11,9 +11,9 @@ use Rattle.call_report.specs.Status.{Phase, phase}
 use Rattle.call_report.specs.Status.Phase.{finished, refused, unread, unwritten, starved, unasked, unopened}
 use Rattle.desk_program.specs.Run.{Turn, End, Step, Run, run_of, run_from, end_state, follow_state, follow, silence, left_after, texts_of, text_of, taken_of, IsWholeTurn}
 use Rattle.desk_program.specs.Run.Step.{Goes, Ends}
-use Rattle.desk_program.specs.Ends.{Tells, Gains, GainsFronts, IsPart, KeepsRoles, Went, Ended, Lost, TurnGives, GivesUp, step_texts, step_turns, IsExactly, IsSoFar, IsWholeOnly, EndedIn, HasEnded, silent, Falls, OnGoing, OnEnd, OnceSettled, OnSettled, ComesAtStart, ComesAtStop, ComesLater, ReadOutIn}
+use Rattle.desk_program.specs.Ends.{Tells, Gains, GainsFronts, IsPart, KeepsRoles, Went, Ended, Lost, TurnGives, GivesUp, step_texts, step_turns, IsExactly, IsCutIn, IsSoFar, IsWholeOnly, next_texts, EndedIn, HasEnded, silent, Falls, OnGoing, OnEnd, OnceSettled, OnSettled, ComesAtStart, ComesAtStop, ComesLater, ReadOutIn}
 use Rattle.desk_program.specs.UnderWay.{IsUnderWay, EndsIn, LeftIn}
-use Rattle.desk_program.proofs.Gained.{gained-nil, gained-gained, front_after}
+use Rattle.desk_program.proofs.Gained.{gained-nil, gained-gained}
 
 -- ---- lists of turns
 
@@ -50,15 +50,10 @@ part_follow : {State : Type 0} (x : Step State) (rest : State → (Role → ℕ)
 part_follow (Goes next t) rest k part = part
 part_follow (Ends last) rest k part = tt
 
--- what comes after the text of a step
-tail_of : {State : Type 0} → Step State → (State → (Role → ℕ) → Run) → Role → List ℕ
-tail_of (Goes next t) rest r = text_of (rest next t.taken) r
-tail_of (Ends last) rest r = []
-
-text_follow : {State : Type 0} (x : Step State) (rest : State → (Role → ℕ) → Run) (r : Role) → text_of (follow x rest) r ≡ step_texts x r ++ tail_of x rest r
-unfolding tail_of
-text_follow (Goes next t) rest r = append_assoc (t.texts r) (texts_of (rest next t.taken).turns r) ((rest next t.taken).last.texts r)
-text_follow (Ends last) rest r = sym (append-nil (last.texts r))
+-- the text of a step is what comes next in the run
+next_follow : {State : Type 0} (x : Step State) (rest : State → (Role → ℕ) → Run) (r : Role) → step_texts x r ≡ next_texts (follow x rest).turns (follow x rest).last silent r
+next_follow (Goes next t) rest r = refl
+next_follow (Ends last) rest r = sym (append-nil (last.texts r))
 
 -- ---- a run before a step
 
@@ -120,7 +115,7 @@ module _ {State : Type 0} (x : Step State) (cont : State → (Role → ℕ) → 
     written = λ r. ap (λ (w : Role → Option (List ℕ)). w r) e.written ∙ p.written r ∙ ap (λ (l : List ℕ). gained (start r) l) (sym (append-nil (texts_of p.done r)));
   }
 
-  no_memory : new.written ≡ old.written → IsSoFar run (λ _. []) start new
+  no_memory : new.written ≡ old.written → IsSoFar run (λ _. []) start new.written
   no_memory same = record {
     done = p.done;
     rest = (follow x cont).turns;
@@ -128,18 +123,16 @@ module _ {State : Type 0} (x : Step State) (cont : State → (Role → ℕ) → 
     written = λ r. ap (λ (w : Role → Option (List ℕ)). w r) same ∙ p.written r ∙ ap (λ (l : List ℕ). gained (start r) l) (sym (append-nil (texts_of p.done r)));
   }
 
-  whole_text : (r : Role) → texts_of p.done r ++ (step_texts x r ++ tail_of x cont r) ≡ text_of run r
-  whole_text r =
-      let now = follow x cont in
-      ap (λ (l : List ℕ). texts_of p.done r ++ l) (sym (text_follow x cont r))
-      ∙ sym (append_assoc (texts_of p.done r) (texts_of now.turns r) (now.last.texts r))
-      ∙ ap (λ (l : List ℕ). l ++ now.last.texts r) (sym (texts-append p.done now.turns r))
-      ∙ (λ i. texts_of (p.turns i) r ++ (p.last i).texts r)
-
-  cut : GainsFronts (step_texts x) old.written new.written → GainsFronts (λ r. text_of run r ++ []) start new.written
-  cut fronts = λ r.
-      front_after (texts_of p.done r) (step_texts x r) (tail_of x cont r) (text_of run r ++ []) (start r) (old.written r) (new.written r)
-      (whole_text r ∙ sym (append-nil (text_of run r))) (p.written r) (fronts r)
+  cut : GainsFronts (step_texts x) old.written new.written → IsCutIn run silent start new.written
+  cut fronts = record {
+    done = p.done;
+    rest = (follow x cont).turns;
+    front = p.turns;
+    piece = λ r. (fronts r).so_far.front;
+    cut = λ r. (fronts r).rest;
+    whole = λ r. (fronts r).so_far.whole ∙ next_follow x cont r ∙ ap (λ (last : End). next_texts (follow x cont).turns last silent r) p.last;
+    written = λ r. gains_more (fronts r).so_far.front r (fronts r).so_far.gains;
+  }
 
   -- a step that doesn't go on ends the run
   pub gives_up : (phase : Phase) (status : Status) → GivesUp phase status x reads p.rest old new → EndedIn phase run silent status inputs start new

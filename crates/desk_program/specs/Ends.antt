@@ -246,12 +246,12 @@ pub record IsExactly (run : Run) (after : Status → Role → List ℕ) (status 
   pub written : Gains (λ r. text_of run r ++ after status r) old new.written
   pub left : LeavesBehind run.last.taken inputs (taken_of run.turns) new
 
--- exactly the texts of some first turns
-pub record IsSoFar (run : Run) (after : Role → List ℕ) (old : Role → Option (List ℕ)) (new : Outside) : Type 0 where
+-- exactly the texts of some first turns, which are the same for all outputs
+pub record IsSoFar (run : Run) (after : Role → List ℕ) (old new : Role → Option (List ℕ)) : Type 0 where
   pub done : List Turn
   pub rest : List Turn
   pub front : done ++ rest ≡ run.turns
-  pub written : Gains (λ r. texts_of done r ++ after r) old new.written
+  pub written : Gains (λ r. texts_of done r ++ after r) old new
 
 -- exactly the texts of the turns that were taken whole
 pub record IsWholeOnly (run : Run) (after : Role → List ℕ)
@@ -265,12 +265,34 @@ pub record IsWholeOnly (run : Run) (after : Role → List ℕ)
   pub left : Tells new (left_after inputs (λ r. taken_of done r + part r))
   pub written : Gains (λ r. texts_of done r ++ after r) old new.written
 
--- the texts of some first turns, and then a prefix of what another end writes
+-- what comes next: the text of the first of these turns, or that of the end and what it writes besides
+abbrev pub next_texts : List Turn → End → (Status → Role → List ℕ) → Role → List ℕ
+next_texts [] last after r = last.texts r ++ after last.status r
+next_texts (t ∷ rest) last after r = t.texts r
+
+-- the texts of some first turns, which are the same for all outputs, and then a prefix of what comes next
+pub record IsCutIn (run : Run) (after : Status → Role → List ℕ) (old new : Role → Option (List ℕ)) : Type 0 where
+  pub done : List Turn
+  pub rest : List Turn
+  pub front : done ++ rest ≡ run.turns
+  pub piece : Role → List ℕ
+  pub cut : Role → List ℕ
+  pub whole : (r : Role) → piece r ++ cut r ≡ next_texts rest run.last after r
+  pub written : Gains (λ r. texts_of done r ++ piece r) old new
+
+-- a status that comes before all is written
+abbrev pub ComesEarly : Phase → Type 0
+ComesEarly finished = ⊥
+ComesEarly refused = ⊥
+ComesEarly _ = Unit {0}
+
+-- the texts of some first turns, and then a prefix of what an end writes that came early
 pub record IsCutAfter (run : Run) (after : Status → Role → List ℕ) (old new : Role → Option (List ℕ)) : Type 0 where
   pub done : List Turn
   pub rest : List Turn
   pub front : done ++ rest ≡ run.turns
   pub other : Status
+  pub early : ComesEarly (phase other)
   pub piece : Role → List ℕ
   pub cut : Role → List ℕ
   pub whole : (r : Role) → piece r ++ cut r ≡ after other r
@@ -282,9 +304,9 @@ abbrev pub EndedIn : Phase → Run → (Status → Role → List ℕ)
 EndedIn finished run after status inputs old new = IsExactly run after status inputs old new
 EndedIn refused run after status inputs old new = IsExactly run after status inputs old new
 EndedIn unread run after status inputs old new = IsWholeOnly run (after status) inputs old new
-EndedIn starved run after status inputs old new = IsSoFar run (after status) old new
+EndedIn starved run after status inputs old new = IsSoFar run (after status) old new.written
 EndedIn unwritten run after status inputs old new =
-    GainsFronts (λ r. text_of run r ++ after run.last.status r) old new.written ⊎ IsCutAfter run after old new.written
+    IsCutIn run after old new.written ⊎ IsCutAfter run after old new.written
 EndedIn unasked run after status inputs old new = Gains (after status) old new.written
 EndedIn (unopened role) run after status inputs old new = Gains (after status) old new.written
 

@@ -1,6 +1,6 @@
 -- How the reads and writes of one turn add up, what a refusal comes to, why a turn stops, and how runs begin.
 use Rattle.std.specs.Prelude.{ℕ, ◌≡◌, ◌≢◌, Bool, true, List, [], Option, Some, Result, IfErr, drop}
-use Rattle.h263_outside.specs.Desk.{Faults, NoneFalls, OnlyReads, OnlyWrites, Outside, Rose, appended, GainsFront}
+use Rattle.h263_outside.specs.Desk.{Faults, IsInput, NoneFalls, OnlyReads, OnlyWrites, Outside, Rose, appended, GainsFront}
 use Rattle.h263_outside.specs.declared.desk.Role.{Role}
 use Rattle.y4m.specs.declared.fault.VideoStop.{VideoStop}
 use Rattle.y4m.specs.declared.fault.VideoStop.TheVariants as video
@@ -9,7 +9,7 @@ use Rattle.loss_trace.specs.declared.fault.TraceStop.TheVariants as trace
 use Rattle.call_report.specs.declared.status.Status.{Status}
 use Rattle.call_report.specs.declared.status.Status.TheVariants.{OutOfMemory}
 use Rattle.call_report.specs.Status.{phase, trace_stop, video_stop}
-use Rattle.desk_program.specs.Run.{Run, Step, left_after, refusal, run_from}
+use Rattle.desk_program.specs.Run.{Run, Step, left_after, refusal, run_from, video_refusal}
 use Rattle.desk_program.specs.Ends.{Tells, Gains, GainsFronts, EndsBy, GivesUp, HasCause, HasEnded, IsStop, KeepsRoles, Went, silent, turn_status}
 use Rattle.desk_program.specs.UnderWay.{IsUnderWay}
 use Rattle.desk_program.specs.Texts.{no_texts, on, then_also, no_bytes, of, and_of}
@@ -50,6 +50,10 @@ pub record TurnLaws : Type 0 where
   -- a refusal says nothing of what it takes, and writes nothing
   pub refuses : (status : Status) (inputs : Role → List ℕ) (old new : Outside) →
       new.written ≡ old.written → EndsBy (refusal status) status inputs old new
+  -- a video is refused, and this much was taken of each other input
+  pub refuses_video : (video : Role) (before : Role → ℕ) (status : Status) (inputs : Role → List ℕ) (old new : Outside) →
+      ((r : Role) → IsInput r → r ≢ video → new.left r ≡ Some (left_after inputs before r))
+      → new.written ≡ old.written → EndsBy (video_refusal video before status) status inputs old new
 
 -- how two steps over a desk add up, and why a turn stops
 pub record StepLaws : Type 0 where

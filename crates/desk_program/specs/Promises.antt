@@ -1,15 +1,14 @@
 -- What is promised of a whole run, clause by clause.
-use Rattle.std.specs.Prelude.{ℕ, ◌≡◌, ◌⊎◌, false, List, ◌++◌, Option}
-use Rattle.h263_outside.specs.Desk.{Outside, Faults, SomeRose, is_role}
-use Rattle.h263_outside.specs.Gains.{gained, Front}
+use Rattle.std.specs.Prelude.{ℕ, ◌≡◌, ◌⊎◌, true, List, ◌++◌, Option}
+use Rattle.h263_outside.specs.Desk.{Outside, Faults, SomeRose}
 use Rattle.h263_outside.specs.declared.desk.Role.{Role}
-use Rattle.h263_outside.specs.declared.desk.Role.TheVariants.{Report}
 use Rattle.call_report.specs.declared.status.Status.{Status}
 use Rattle.call_report.specs.declared.status.Status.TheVariants.{OutOfMemory}
 use Rattle.call_report.specs.Status.{Phase, phase}
 use Rattle.call_report.specs.Status.Phase.{finished, refused, unread, unwritten, starved, unasked, unopened}
-use Rattle.desk_program.specs.Run.{Turn, Run, texts_of, text_of, taken_of}
-use Rattle.desk_program.specs.Ends.{Gains, LeavesBehind, IsWholeOnly}
+use Rattle.desk_program.specs.Lines.{end_text}
+use Rattle.desk_program.specs.Run.{Run, text_of, taken_of}
+use Rattle.desk_program.specs.Ends.{Gains, IsCutAfter, IsCutIn, IsSoFar, IsWholeOnly, LeavesBehind}
 
 -- a status after which all that the run says was written
 abbrev pub SettlesIn : Phase → Type 0
@@ -57,35 +56,33 @@ pub record HasTexts (run : Run) (after : Status → Role → List ℕ)
   pub known : status ≡ run.last.status
   pub written : Gains (λ r. text_of run r ++ after status r) old new
 
--- the report has gained that of some first turns, and the line of this end
-pub record HasLines (run : Run) (line : List ℕ) (old new : Option (List ℕ)) : Type 0 where
-  pub done : List Turn
-  pub rest : List Turn
-  pub front : done ++ rest ≡ run.turns
-  pub gains : new ≡ gained old (texts_of done Report ++ line)
+-- prefixes: of some first turns, which are the same for all outputs, each has gained exactly its text,
+-- and then the line of the status; or, where a write failed, a prefix of what comes next, or of the line
+-- of an end that came early
+abbrev pub PrefixesIn : Phase → Status
+    → Run → (Status → Role → List ℕ) → (Role → Option (List ℕ)) → (Role → Option (List ℕ)) → Type 0
+PrefixesIn starved status run after old new = IsSoFar run (after status) old new
+PrefixesIn unread status run after old new = IsSoFar run (after status) old new
+PrefixesIn unwritten status run after old new = IsCutIn run after old new ⊎ IsCutAfter run after old new
+PrefixesIn _ status run after old new = Unit {0}
 
--- the report has gained that of some first turns, and a prefix of the line of some end
-pub record HasLinesCut (run : Run) (after : Status → Role → List ℕ) (old new : Option (List ℕ)) : Type 0 where
-  pub other : Status
-  pub piece : List ℕ
-  pub cut : List ℕ
-  pub whole : piece ++ cut ≡ after other Report
-  pub lines : HasLines run piece old new
+abbrev pub HasPrefixes : Run → (Status → Role → List ℕ)
+    → Status → (Role → Option (List ℕ)) → (Role → Option (List ℕ)) → Type 0
+HasPrefixes run after status old new = PrefixesIn (phase status) status run after old new
 
--- the report of a run that was stopped
-abbrev pub ReportIn : Phase → Status → Run → (Status → Role → List ℕ) → Option (List ℕ) → Option (List ℕ) → Type 0
-ReportIn starved status run after old new = HasLines run (after status Report) old new
-ReportIn unread status run after old new = HasLines run (after status Report) old new
-ReportIn unwritten status run after old new =
-    Front (text_of run Report ++ after run.last.status Report) old new ⊎ HasLinesCut run after old new
-ReportIn _ status run after old new = Unit {0}
+-- unread: nothing was read, and the line of the status alone was written
+pub record ReadsNothing (status : Status) (old new : Outside) : Type 0 where
+  pub left : new.left ≡ old.left
+  pub written : Gains (end_text status) old.written new.written
 
--- prefixes: each output but the report has gained a prefix of its text; the report has gained whole
--- lines and that of the status, or was cut in a line
-pub record HasPrefixes (run : Run) (after : Status → Role → List ℕ)
-    (status : Status) (old new : Role → Option (List ℕ)) : Type 0 where
-  pub outputs : (r : Role) → is_role Report r ≡ false → Front (text_of run r) (old r) (new r)
-  pub report : ReportIn (phase status) status run after (old Report) (new Report)
+-- flushed: unless a write failed, a flush has seen all that was written at its place, and nothing was
+-- written since
+abbrev pub FlushedIn : Phase → Outside → Type 0
+FlushedIn unwritten new = Unit {0}
+FlushedIn _ new = new.flushed ≡ true
+
+abbrev pub IsFlushed : Status → Outside → Type 0
+IsFlushed status new = FlushedIn (phase status) new
 
 -- taken_input: just what the run takes is gone, as far as its end says it; after a failed read the
 -- outputs are those of what was taken whole

@@ -1,6 +1,7 @@
 -- What a machine makes of its inputs: a list of turns, and an end.
-use Rattle.std.specs.Prelude.{ℕ, zero, suc, ◌+◌, ◌≡◌, Bool, true, List, [], ◌∷◌, ◌++◌, drop, Option, None}
+use Rattle.std.specs.Prelude.{ℕ, zero, suc, ◌+◌, ◌≡◌, Bool, true, List, [], ◌∷◌, ◌++◌, drop, Option, Some, None, if◌then◌else◌}
 use Rattle.std.specs.List.{flat_map}
+use Rattle.h263_outside.specs.Desk.{is_role}
 use Rattle.h263_outside.specs.declared.desk.Role.{Role}
 use Rattle.call_report.specs.declared.status.Status.{Status}
 use Rattle.call_report.specs.declared.status.Status.TheVariants.{Ok as Fine}
@@ -81,3 +82,13 @@ IsWholeTurn t = t.whole ≡ true
 -- an end that refuses: it writes nothing, and of what it takes nothing is said
 abbrev pub refusal : Status → End
 refusal status = record { status = status; taken = λ _. None; texts = λ _. [] }
+
+-- an end that refuses a video: of what it takes of that video nothing is said, and of each other input
+-- it takes this much
+abbrev pub video_refusal : Role → (Role → ℕ) → Status → End
+video_refusal video before status =
+    record {
+      status = status;
+      taken = λ r. if is_role video r then None else Some (before r);
+      texts = λ _. [];
+    }

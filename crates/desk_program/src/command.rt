@@ -3,11 +3,12 @@ ghost use Rattle.std.specs.Prelude.{◌∷◌, [], ℕ, List, false, true, IsTru
 ghost use Rattle.h263_outside.specs.Desk.{Outside, with_role};
 ghost use Rattle.h263_outside.specs.declared.desk.Role.{Role};
 ghost use Rattle.h263_outside.specs.declared.desk.Role.TheVariants.{Report};
-ghost use Rattle.desk_program.specs.Ends.{Tells, HasCause, IsReadOut, Gains};
+ghost use Rattle.desk_program.specs.Ends.{Tells, HasCause, IsReadOut};
 ghost use Rattle.desk_program.specs.Attached.{AreAttached, AttachedAt, are_free, names};
 ghost use Rattle.desk_program.specs.Lines.{end_text};
 ghost use Rattle.desk_program.specs.Promises.{IsSettled, IsStopped, IsUnopened, IsNotUsage};
 ghost use Rattle.desk_program.specs.Promises.{HasStatus, HasTexts, HasPrefixes, TakesInput};
+ghost use Rattle.desk_program.specs.Promises.{IsFlushed, ReadsNothing};
 
 use crate::{Acts, attach_all, finish};
 use call_report::Status;
@@ -38,17 +39,21 @@ pub fn perform<D: Desk, A: Acts>(
         HasTexts (A.run setup.now inputs) (end_text) result (D.outside desk.old).written
         (D.outside desk.new).written }
 
-    // After `OutOfMemory`, `ReadFault` and `WriteFault` a prefix of each text was written, and the
-    // report in whole lines.
+    // After `OutOfMemory`, `ReadFault` and `WriteFault` the texts of some first turns were written,
+    // the same on each output, and after a failed write a prefix of what comes next.
     ensures prefixes { (inputs : Role → List ℕ) → Tells (D.outside desk.old) inputs
         → IsStopped result →
         HasPrefixes (A.run setup.now inputs) (end_text) result (D.outside desk.old).written
         (D.outside desk.new).written }
 
-    // It never answers `Usage`. Where a role could not be attached, its line alone was written.
+    // It never answers `Usage`. Where a role could not be attached, its line alone was written, and
+    // nothing was read.
     ensures words { IsNotUsage result }
-    ensures unopened { IsUnopened result → Gains (end_text result) (D.outside desk.old).written
-        (D.outside desk.new).written }
+    ensures unopened { IsUnopened result
+        → ReadsNothing result (D.outside desk.old) (D.outside desk.new) }
+
+    // Unless a write failed, all that was written was then seen to have come to its place.
+    ensures flushed { IsFlushed result (D.outside desk.new) }
 
     // Each fault has its cause, want of memory comes with no fault of the desk, and the first roles
     // of the order are attached by their names, whatever the desk tells.

@@ -26,6 +26,7 @@ module _ (a b : ℕ) (old new : Outside) where
     name = unexchanged new.name old.name kept.name;
     written = unexchanged new.written old.written kept.written;
     faults = kept.faults;
+    flushed = kept.flushed;
     loans = ap loans_below kept.loans;
   }
 

@@ -14,18 +14,17 @@ use Rattle.loss_trace.specs.declared.fault.TraceFault.TheVariants.{NoFrame}
 use Rattle.loss_trace.specs.Lines.{is_closed}
 use Rattle.call_report.specs.declared.status.Status.TheVariants.{TraceRefused, VideoRefused}
 use Rattle.call_report.specs.Status.{phase, video_stop}
-use Rattle.desk_program.specs.Run.{Step, left_after}
+use Rattle.desk_program.specs.Run.{Step, left_after, video_refusal}
 use Rattle.desk_program.specs.Ends.{Tells, IsPart, Went, Ended, EndsBy, GivesUp, step_turns}
 use Rattle.desk_program.specs.Texts.{no_texts, of, and_of}
 use Rattle.desk_program.specs.Laws.{TurnLaws}
 use Rattle.duplex_call.specs.declared.line.Party.{Party}
-use Rattle.duplex_command.specs.Duplex.{DuplexState, VideoPlace, after_line, capture_step, captured_step, may_read, place_of, video_refusal, with_frame}
+use Rattle.duplex_command.specs.Duplex.{DuplexState, VideoPlace, after_line, capture_step, captured_step, may_read, place_of, with_frame}
 use Rattle.call_command.specs.Call.{line_size, refused_line}
 use Rattle.call_command.specs.Laws.{LineLaws, VideoLaws}
 use Rattle.call_command.specs.Standing.{HasTaken}
 use Rattle.duplex_command.specs.Standing.{place_in}
 use Rattle.duplex_command.proofs.LineTurning.{double_not}
-use Rattle.duplex_command.proofs.Refusing.{not_first, refused_by}
 
 -- ---- a part of a frame holds no turn
 
@@ -120,8 +119,8 @@ module _ (x : Party) (s : DuplexState) where
         record {
           last = video_refusal Video (of Events (line_size trace)) (VideoRefused fault);
           is = video_next trace (inputs Video) (Err fault) e.0 e.1;
-          by = refused_by turns Video (of Events (line_size trace)) (VideoRefused fault) inputs before mid
-              (λ r input other. others r (not_first r other) ∙ taken.left r input) (same ∙ taken.written);
+          by = turns.refuses_video Video (of Events (line_size trace)) (VideoRefused fault) inputs before mid
+              (λ r input other. others r other ∙ taken.left r input) (same ∙ taken.written);
         }
 
     -- no frame is left

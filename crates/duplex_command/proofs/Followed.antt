@@ -1,5 +1,5 @@
 -- A whole run of a call of two parties over a recorded trace.
-use Rattle.std.proofs.Common.{◌≡◌, ℕ, ◌+◌, List, [], ◌++◌, length, drop, Result, Ok, refl, sym, ap, subst, ◌∙◌, arith}
+use Rattle.std.proofs.Common.{◌≡◌, ℕ, ◌+◌, List, [], ◌++◌, length, drop, Option, Result, Ok, refl, sym, ap, subst, ◌∙◌, arith}
 use Rattle.std.specs.Prelude.{false, map}
 use Rattle.std.proofs.lemmas.List.{append-nil, append_assoc}
 use Rattle.h263_types.specs.declared.format.Format.{Format}
@@ -12,7 +12,7 @@ use Rattle.y4m.specs.declared.fault.Y4mFault.{Y4mFault}
 use Rattle.y4m.specs.Head.{head_of, head_size}
 use Rattle.y4m.specs.Laws.{FrameLaws}
 use Rattle.y4m.specs.Text.{head_text}
-use Rattle.y4m.specs.Video.{frames_after_head, frames_of, video_frames}
+use Rattle.y4m.specs.Video.{fault_after_head, fault_of, frames_after_head, frames_of, video_fault, video_frames}
 use Rattle.call_encoding.specs.Frames.{Frame}
 use Rattle.call_model.specs.Before.{sent_before}
 use Rattle.call_command.specs.Recorded.{ShowsWhatArrived, shown_text}
@@ -23,12 +23,16 @@ use Rattle.duplex_call.specs.Duplex.{AllMayHappenOf, Lettered, no_runs, way}
 use Rattle.duplex_ends.specs.Ways.{sides}
 use Rattle.duplex_command.specs.Begin.{duplex_run, heads_step, heads_taken, heads_text, in_formats}
 use Rattle.duplex_command.specs.Duplex.{DuplexState, VideoPlace, duplex_step, first_state, pictures_of, place_of, video_of}
-use Rattle.duplex_command.specs.Recorded.{FollowsItsTrace, IsEnd, call_after, fault_in, film, line_events, ways_of, with_lines}
+use Rattle.duplex_command.specs.Recorded.{FollowsItsTrace, IsEnd, call_after, fault_in, faults, film, line_events, ways_of, with_lines}
 use Rattle.duplex_command.proofs.Recorded.{CallLaws, Comes, IsOn, run_comes, state}
 
 video_is : (video : List ℕ) (f : Format) → head_of video ≡ Ok f → video_frames video ≡ frames_of f 1048576 (head_size video) (drop (head_size video) video)
 unfolding video_frames
 video_is video f is = ap (λ (r : Result Format Y4mFault). frames_after_head r (head_size video) (drop (head_size video) video)) is
+
+fault_is : (video : List ℕ) (f : Format) → head_of video ≡ Ok f → video_fault video ≡ fault_of f 1048576 (head_size video) (drop (head_size video) video)
+unfolding video_fault
+fault_is video f is = ap (λ (r : Result Format Y4mFault). fault_after_head r (head_size video) (drop (head_size video) video)) is
 
 module _ (q : Params) (f g : Format) (inputs : Role → List ℕ) where
   abbrev p : Party → Params
@@ -36,6 +40,9 @@ module _ (q : Params) (f g : Format) (inputs : Role → List ℕ) where
 
   abbrev captures : Party → List Picture
   captures = film p inputs
+
+  abbrev broken : Party → Option Y4mFault
+  broken = faults inputs
 
   module _ (laws : CallLaws p captures) (frame_laws : FrameLaws) (arrived : (past : List Lettered) → AllMayHappenOf (sides p) captures past → (x : Party) → ShowsWhatArrived (p x) (way x (ways_of p captures past)).frames (way x (ways_of p captures past)).past)
       (head_a : head_of (inputs Video) ≡ Ok f) (head_b : head_of (inputs Video2) ≡ Ok g) where
@@ -66,25 +73,29 @@ module _ (q : Params) (f g : Format) (inputs : Role → List ℕ) where
         ap (λ (l : List (List ℕ)). map (λ planes. picture_of g planes) l) (video_is (inputs Video2) g head_b)
         ∙ ap (λ (m : ℕ). map (λ planes. picture_of g planes) (frames_of g 1048576 (head_size (inputs Video2)) (drop m (inputs Video2)))) (sym (none_before (head_size (inputs Video2))))
 
-    none_sent : IsOn p captures laws no_runs (state p captures laws no_runs (first A) (first B) 0 false) left
-    none_sent = record { sent = sent; ahead = ahead }
+    none_sent : IsOn p captures broken laws no_runs (state p captures broken laws no_runs (first A) (first B) 0 false) left
+    none_sent = record { sent = sent; ahead = ahead; fault = fault }
       where
         sent : (x : Party) → sent_before (way {Frame = Frame} x no_runs).past ≡ length (way {Frame = Frame} x no_runs).frames
         sent A = refl
         sent B = refl
 
-        ahead : (x : Party) → drop (length (way {Frame = Frame} x no_runs).frames) (captures x) ≡ map (λ planes. picture_of (p x).format planes) (frames_of (p x).format (place_of x (state p captures laws no_runs (first A) (first B) 0 false)).more (place_of x (state p captures laws no_runs (first A) (first B) 0 false)).at (left (video_of x)))
+        ahead : (x : Party) → drop (length (way {Frame = Frame} x no_runs).frames) (captures x) ≡ map (λ planes. picture_of (p x).format planes) (frames_of (p x).format (place_of x (state p captures broken laws no_runs (first A) (first B) 0 false)).more (place_of x (state p captures broken laws no_runs (first A) (first B) 0 false)).at (left (video_of x)))
         ahead A = all_ahead A
         ahead B = all_ahead B
 
-    comes : Comes p captures laws [] (line_events 16777216 (inputs Events)) (fault_in 16777216 1 (inputs Events)) 1 run
-    comes = run_comes p captures laws frame_laws 16777216 [] (first A) (first B) 0 false left tt none_sent (none_before 16777216)
+        fault : (x : Party) → fault_of (p x).format (place_of x (state p captures broken laws no_runs (first A) (first B) 0 false)).more (place_of x (state p captures broken laws no_runs (first A) (first B) 0 false)).at (left (video_of x)) ≡ broken x
+        fault A = ap (λ (m : ℕ). fault_of f 1048576 (head_size (inputs Video)) (drop m (inputs Video))) (no_more (head_size (inputs Video))) ∙ sym (fault_is (inputs Video) f head_a)
+        fault B = ap (λ (m : ℕ). fault_of g 1048576 (head_size (inputs Video2)) (drop m (inputs Video2))) (none_before (head_size (inputs Video2))) ∙ sym (fault_is (inputs Video2) g head_b)
+
+    comes : Comes p captures broken laws [] (line_events 16777216 (inputs Events)) (fault_in 16777216 1 (inputs Events)) 1 run
+    comes = run_comes p captures broken laws frame_laws 16777216 [] (first A) (first B) 0 false left tt none_sent (none_before 16777216)
 
     one_more : (n : ℕ) → 1 + n ≡ n + 1
     one_more n = omega arith
 
-    end_is : IsEnd p captures (fault_in 16777216 1 (inputs Events)) (length comes.lines + 1) (with_lines p captures [] comes.lines) comes.refused run.last.status
-    end_is = subst (λ (m : ℕ). IsEnd p captures (fault_in 16777216 1 (inputs Events)) m (with_lines p captures [] comes.lines) comes.refused run.last.status) (one_more (length comes.lines)) comes.end
+    end_is : IsEnd p captures broken (fault_in 16777216 1 (inputs Events)) (length comes.lines + 1) (with_lines p captures [] comes.lines) comes.refused run.last.status
+    end_is = subst (λ (m : ℕ). IsEnd p captures broken (fault_in 16777216 1 (inputs Events)) m (with_lines p captures [] comes.lines) comes.refused run.last.status) (one_more (length comes.lines)) comes.end
 
     -- the head of each party's pictures is written first
     shown_first : (x : Party) → (heads_text f g (pictures_of x) ++ texts_of run.turns (pictures_of x)) ++ run.last.texts (pictures_of x)
@@ -106,6 +117,7 @@ module _ (q : Params) (f g : Format) (inputs : Role → List ℕ) where
           lines = comes.lines;
           refused = comes.refused;
           read = comes.read;
+          may = comes.may;
           end = end_is;
           others = comes.others;
           taken = omega (arith, comes.taken);

@@ -17,14 +17,13 @@ use Rattle.y4m.specs.Text.{head_text}
 use Rattle.call_report.specs.declared.status.Status.{Status}
 use Rattle.call_report.specs.declared.status.Status.TheVariants.{VideoRefused, Video2Refused}
 use Rattle.call_report.specs.Status.{phase, video_stop}
-use Rattle.desk_program.specs.Run.{Step, left_after}
+use Rattle.desk_program.specs.Run.{Step, left_after, video_refusal}
 use Rattle.desk_program.specs.Ends.{Ended, Gains, GainsFronts, GivesUp, IsPart, Lost, Tells, step_turns}
 use Rattle.desk_program.specs.Laws.{TurnLaws}
 use Rattle.desk_program.specs.Texts.{and_of, no_bytes, of, on}
 use Rattle.duplex_command.specs.Begin.{HaveHeads, duplex_begin, heads_step, heads_taken, heads_text}
 use Rattle.duplex_command.specs.declared.heads.Heads.{Heads}
-use Rattle.duplex_command.specs.Duplex.{DuplexState, video_refusal}
-use Rattle.duplex_command.proofs.Refusing.{not_first, not_second, refused_by}
+use Rattle.duplex_command.specs.Duplex.{DuplexState}
 
 -- ---- what was taken holds no whole turn
 
@@ -101,7 +100,7 @@ module _ (turns : TurnLaws) (law : HeadLaw) (inputs : Role → List ℕ) (old mi
   first_stops p (Refused fault) e = record {
     last = video_refusal Video no_bytes (VideoRefused fault);
     is = ap (λ (a : Result Format Y4mFault). heads_step p inputs a (head_of (inputs Video2))) e;
-    by = refused_by turns Video no_bytes (VideoRefused fault) inputs old mid (λ r input other. others r (not_first r other) ∙ told r input) same;
+    by = turns.refuses_video Video no_bytes (VideoRefused fault) inputs old mid (λ r input other. others r other ∙ told r input) same;
   }
 
   -- the second video is as it was
@@ -131,8 +130,8 @@ module _ (turns : TurnLaws) (law : HeadLaw) (inputs : Role → List ℕ) (old mi
     refused_so p fault e = record {
       last = video_refusal Video2 (of Video (head_size (inputs Video))) (Video2Refused fault);
       is = (λ i. heads_step p inputs (first.0 i) (e i));
-      by = refused_by turns Video2 (of Video (head_size (inputs Video))) (Video2Refused fault) inputs old new
-          (λ r input other. others2 r (not_second r other) ∙ turns.one_read Video (head_size (inputs Video)) old mid inputs told first.2 others r input) (same2 ∙ same);
+      by = turns.refuses_video Video2 (of Video (head_size (inputs Video))) (Video2Refused fault) inputs old new
+          (λ r input other. others2 r other ∙ turns.one_read Video (head_size (inputs Video)) old mid inputs told first.2 others r input) (same2 ∙ same);
     }
 
     pub second_refused : (p : Params) (stop : VideoStop) (fault : Y4mFault) → stop ≡ Refused fault → HeadGives (Err stop) (inputs Video2) (new.left Video2)

@@ -1,5 +1,5 @@
 -- The run of a call of two parties over a recorded trace, line by line.
-use Rattle.std.proofs.Common.{◌≡◌, inl, inr, ℕ, zero, suc, ◌+◌, ◌-◌, ◌<◌, ◌≤◌, Bool, true, false, not, List, [], ◌∷◌, ◌++◌, length, drop, Option, Some, None, Result, Ok, Err, refl, sym, ap, subst, ◌∙◌, arith, nat_lt, if◌then◌else◌}
+use Rattle.std.proofs.Common.{◌≡◌, ◌≢◌, ℕ, zero, suc, ◌+◌, ◌-◌, ◌<◌, ◌≤◌, Bool, true, false, not, List, [], ◌∷◌, ◌++◌, length, drop, Option, Some, None, Result, Ok, Err, refl, sym, ap, subst, ◌∙◌, arith, nat_lt, if◌then◌else◌}
 use Rattle.std.specs.Prelude.{map, slice_get, slice_index_or}
 use Rattle.std.specs.Option.{option_map_or}
 use Rattle.std.proofs.lemmas.Bool.{ltb-false, ltb-true}
@@ -14,7 +14,7 @@ use Rattle.h263_outside.specs.declared.desk.Role.TheVariants.{Video, Events, Rep
 use Rattle.y4m.specs.declared.fault.Y4mFault.{Y4mFault}
 use Rattle.y4m.specs.Frame.{next_frame, frame_size}
 use Rattle.y4m.specs.Laws.{FrameLaws}
-use Rattle.y4m.specs.Video.{after_frame, frames_of}
+use Rattle.y4m.specs.Video.{after_frame, fault_of as video_fault_of, frames_of}
 use Rattle.loss_trace.specs.declared.event.Event.{Event as Line}
 use Rattle.loss_trace.specs.declared.event.Event.TheVariants as says
 use Rattle.loss_trace.specs.declared.fault.TraceFault.{TraceFault}
@@ -27,13 +27,13 @@ use Rattle.call_model.specs.Before.{CountsAreThose, sent_before}
 use Rattle.call_model.specs.Coding.{Shown, pictures_of as shown_pictures}
 use Rattle.call_model.specs.IdealCall.{AllMayHappen, Call, Event, Send, Deliver, Play, Back, about, ideal, shown_at, slices_at}
 use Rattle.call_model.specs.LaterFrames.{LaterFrames}
-use Rattle.call_model.specs.Refusals.{NoFrame as NoPicture, NotSaid, Refusal}
+use Rattle.call_model.specs.Refusals.{NotSent, NotSaid, Far, PlayBeforeSend, NoFrame as NoPicture, Refusal}
 use Rattle.call_decoding.specs.Rules.{rules_of}
 use Rattle.call_decoding.specs.Styles.{Style}
 use Rattle.call_encoding.specs.Frames.{Frame}
 use Rattle.coded_call.specs.Coding.{coding}
 use Rattle.receiver_end.specs.Answers.{mark_of}
-use Rattle.desk_program.specs.Run.{Run, Step, Turn, left_after, follow, run_of, silence, text_of, texts_of}
+use Rattle.desk_program.specs.Run.{Run, Step, Turn, left_after, follow, run_of, silence, text_of, texts_of, video_refusal}
 use Rattle.desk_program.specs.Run.Step.{Ends}
 use Rattle.desk_program.specs.Texts.{and_of, no_texts, of}
 use Rattle.one_way.specs.Both.{steady}
@@ -48,8 +48,8 @@ use Rattle.duplex_call.specs.Duplex.{AllMayHappenOf, Lettered, WayRuns, other, w
 use Rattle.duplex_call.specs.Lines.{party_event}
 use Rattle.duplex_call.specs.Refused.{NoneWhereItMayHappenOf, first_of, heard_refusal, refusal_of}
 use Rattle.duplex_ends.specs.Ways.{call_in, sides, with_places, with_whole}
-use Rattle.duplex_command.specs.Duplex.{DuplexState, VideoPlace, after_line, both_counts, capture_step, captured_step, duplex_step, letter_of, line_step, party_step, pictures_of, place_of, play_step, play_texts, quiet_step, refusal_at, refused_video, seen_of, trace_step, unless, video_of, video_refusal, with_frame, with_next}
-use Rattle.duplex_command.specs.Recorded.{IsEnd, IsRefusal, LineEvent, bad_from, call_after, fault_in, and_event, line_events, told_line, told_lines, ways_of, with_event, with_line, with_lines, with_packets}
+use Rattle.duplex_command.specs.Duplex.{DuplexState, VideoPlace, after_line, both_counts, capture_step, captured_step, duplex_step, letter_of, line_step, party_step, pictures_of, place_of, play_step, play_texts, quiet_step, refusal_at, refused_video, seen_of, trace_step, unless, video_of, with_frame, with_next}
+use Rattle.duplex_command.specs.Recorded.{IsEnd, IsRefusal, IsRefusedCapture, LineEvent, LineMayHappen, LinesMayHappen, capture_told, bad_from, call_after, fault_in, and_event, line_events, told_line, told_lines, ways_of, with_event, with_line, with_lines, with_packets}
 use Rattle.duplex_command.proofs.Brought.{IsKept, kept_all, kept_delivery, kept_places, near_packets, told_packets, ways_packets}
 
 -- ---- lists
@@ -101,7 +101,16 @@ pub record CallLaws (p : Party → Params) (captures : Party → List Picture) :
   pub left : FramesLeft
   pub gone : (trace : List ℕ) → drop (line_size trace) trace ≡ later_lines trace
 
-module _ (p : Party → Params) (captures : Party → List Picture) (laws : CallLaws p captures) where
+-- a refusal for another reason than that no frame is left is told as itself
+distance_told : (x : Party) (broken : Option Y4mFault) (number : ℕ) (r : Refusal) → r ≢ NoPicture → TraceRefused (fault_of number Send r) ≡ capture_told x broken number r
+distance_told x None number r other = refl
+distance_told x (Some fault) number NotSent other = refl
+distance_told x (Some fault) number NotSaid other = refl
+distance_told x (Some fault) number (Far given seen) other = refl
+distance_told x (Some fault) number PlayBeforeSend other = refl
+distance_told x (Some fault) number NoPicture other = absurd (other refl)
+
+module _ (p : Party → Params) (captures : Party → List Picture) (broken : Party → Option Y4mFault) (laws : CallLaws p captures) where
   abbrev Near : List Lettered → Type 0
   Near past = AllMayHappenOf (sides p) captures past
 
@@ -130,10 +139,15 @@ module _ (p : Party → Params) (captures : Party → List Picture) (laws : Call
   captures_at x place video =
       map (λ planes. picture_of (p x).format planes) (frames_of (p x).format place.more place.at video)
 
-  -- of each party all frames were sent, and these are still to come
+  -- the first fault of a party's video from there on
+  abbrev fault_at : Party → VideoPlace → List ℕ → Option Y4mFault
+  fault_at x place video = video_fault_of (p x).format place.more place.at video
+
+  -- of each party all frames were sent, and these are still to come, up to the fault of its video
   pub record IsOn (met : WayRuns Frame) (s : DuplexState) (inputs : Role → List ℕ) : Type 0 where
     pub sent : (x : Party) → sent_before (way x met).past ≡ length (way x met).frames
     pub ahead : (x : Party) → drop (length (way x met).frames) (captures x) ≡ captures_at x (place_of x s) (inputs (video_of x))
+    pub fault : (x : Party) → fault_at x (place_of x s) (inputs (video_of x)) ≡ broken x
 
   -- ---- what a run from there comes to
 
@@ -162,16 +176,18 @@ module _ (p : Party → Params) (captures : Party → List Picture) (laws : Call
     pub read : ahead ≡ lines ++ refused
     pub taken : length run.turns ≡ length lines
     pub near : Near (Withs past lines)
+    pub may : LinesMayHappen p captures past lines
     pub pictures : (x : Party) → shown_text (call x (Withs past lines)).plays ≡ shown_text (call x past).plays ++ text_of run (pictures_of x)
     pub report : rows (Withs past lines) ++ told run.last.status (both_counts p (ways (Withs past lines)) Report) ≡ rows past ++ text_of run Report
-    pub end : IsEnd p captures fault (number + length lines) (Withs past lines) refused run.last.status
+    pub end : IsEnd p captures broken fault (number + length lines) (Withs past lines) refused run.last.status
     pub others : Spares run.last.status run.last.taken
 
   comes_stopped : (past : List Lettered) → Near past → (E : List LineEvent) (F : Option TraceFault) (m : ℕ) (rest : DuplexState → (Role → ℕ) → Run)
-      (status : Status) (taken : Role → Option ℕ) → ((text : Text) → told status text ≡ []) → Spares status taken → IsEnd p captures F (m + 0) past E status
+      (status : Status) (taken : Role → Option ℕ) → ((text : Text) → told status text ≡ []) → Spares status taken → IsEnd p captures broken F (m + 0) past E status
       → Comes past E F m (follow (Ends (record { status = status; taken = taken; texts = no_texts })) rest)
   comes_stopped past near E F m rest status taken silent spares end = record {
     end = end;
+    may = tt;
     others = spares;
     lines = [];
     refused = E;
@@ -184,7 +200,7 @@ module _ (p : Party → Params) (captures : Party → List Picture) (laws : Call
 
   -- a fault of the trace ends it
   comes_faulty : (past : List Lettered) → Near past → (E : List LineEvent) (F : Option TraceFault) (m : ℕ) (rest : DuplexState → (Role → ℕ) → Run)
-      (fault : TraceFault) (taken : Role → Option ℕ) → IsEnd p captures F (m + 0) past E (status_with fault)
+      (fault : TraceFault) (taken : Role → Option ℕ) → IsEnd p captures broken F (m + 0) past E (status_with fault)
       → Comes past E F m (follow (Ends (record { status = status_with fault; taken = taken; texts = no_texts })) rest)
   comes_faulty past near E F m rest fault taken end = comes_stopped past near E F m rest (status_with fault) taken (λ text. refl) (no_video_refused fault taken) end
 
@@ -196,6 +212,7 @@ module _ (p : Party → Params) (captures : Party → List Picture) (laws : Call
       → Comes past [] None m (follow (Ends (record { status = Fine; taken = λ _. Some 0; texts = both_counts p (ways past) })) rest)
   comes_end past near m rest = record {
     end = refl;
+    may = tt;
     others = none_refused (λ _. Some 0);
     lines = [];
     refused = [];
@@ -210,11 +227,11 @@ module _ (p : Party → Params) (captures : Party → List Picture) (laws : Call
   one_further m j = omega arith
 
   -- a line more
-  comes_more : (line : LineEvent) (E : List LineEvent) (F : Option TraceFault) (m : ℕ) (past past2 : List Lettered) (turn : Turn) (run : Run) → past2 ≡ With past line
+  comes_more : (line : LineEvent) (E : List LineEvent) (F : Option TraceFault) (m : ℕ) (past past2 : List Lettered) (turn : Turn) (run : Run) → past2 ≡ With past line → LineMayHappen p captures past line
       → ((x : Party) → shown_text (call x past2).plays ≡ shown_text (call x past).plays ++ turn.texts (pictures_of x))
       → rows past2 ≡ rows past ++ turn.texts Report
       → Comes past2 E F (m + 1) run → Comes past (line ∷ E) F m (record { turns = turn ∷ run.turns; last = run.last })
-  comes_more line E F m past past2 turn run is pictures2 report2 comes2 =
+  comes_more line E F m past past2 turn run is may pictures2 report2 comes2 =
       let now = With past line in
       let comes : Comes now E F (m + 1) run = subst (λ (q : List Lettered). Comes q E F (m + 1) run) is comes2 in
       let pictures : (x : Party) → shown_text (call x now).plays ≡ shown_text (call x past).plays ++ turn.texts (pictures_of x) =
@@ -224,7 +241,8 @@ module _ (p : Party → Params) (captures : Party → List Picture) (laws : Call
       subst (λ (q : List Lettered). rows q ≡ rows past ++ turn.texts Report) is report2
       in
       record {
-        end = subst (λ (j : ℕ). IsEnd p captures F j (Withs now comes.lines) comes.refused run.last.status) (one_further m (length comes.lines)) comes.end;
+        may = (may, comes.may);
+        end = subst (λ (j : ℕ). IsEnd p captures broken F j (Withs now comes.lines) comes.refused run.last.status) (one_further m (length comes.lines)) comes.end;
         others = comes.others;
         lines = line ∷ comes.lines;
         refused = comes.refused;
@@ -284,14 +302,14 @@ module _ (p : Party → Params) (captures : Party → List Picture) (laws : Call
 
       -- a refusal ends the call
       abbrev IsWhy : LineEvent → Party → Event → Type 0
-      IsWhy line x e = (r : Refusal) → refusal_at x s e ≡ Some r → IsEnd p captures F (lines + 1 + 0) past (line ∷ E) (TraceRefused (fault_of (lines + 1) e r))
+      IsWhy line x e = (r : Refusal) → refusal_at x s e ≡ Some r → IsEnd p captures broken F (lines + 1 + 0) past (line ∷ E) (TraceRefused (fault_of (lines + 1) e r))
 
       unless_comes : (line : LineEvent) (x : Party) (e : Event) (o : Option Refusal) (step : Step DuplexState) → refusal_at x s e ≡ o → IsWhy line x e → (o ≡ None → Takes line step) → Takes line (unless s trace e o step)
       unless_comes line x e None step found why takes = takes refl
       unless_comes line x e (Some r) step found why takes = comes_faulty past near (line ∷ E) F (lines + 1) rest _ _ (why r found)
 
       told_at : (x : Party) (e : Event) (r : Refusal) → refusal_of (sides p) (length (captures x)) x e met ≡ Some r → IsRefusal p captures (lines + 1 + 0) past x e (TraceRefused (fault_of (lines + 1) e r))
-      told_at x e r is = (r, is, inl (ap (λ (j : ℕ). status_with (fault_of j e r)) (sym (no_more (lines + 1)))))
+      told_at x e r is = (r, is, ap (λ (j : ℕ). status_with (fault_of j e r)) (sym (no_more (lines + 1))))
 
       -- how many pictures are there makes a difference to a capture alone
       packet_so : (x : Party) (n j : ℕ) (r : Refusal) → refusal_at x s (Deliver n j) ≡ Some r → refusal_of (sides p) (length (captures x)) x (Deliver n j) met ≡ Some r
@@ -311,6 +329,16 @@ module _ (p : Party → Params) (captures : Party → List Picture) (laws : Call
           let c = call x past in
           laws.left.far (rules_of (p x)) (length (captures x)) (length c.coded) c.played (map about c.said) r is
 
+      -- a capture that is too far is told so, whatever fault the video has
+      far_told : (x : Party) (r : Refusal) → refusal_at x s Send ≡ Some r → IsRefusedCapture p captures (broken x) (lines + 1 + 0) past x (TraceRefused (fault_of (lines + 1) Send r))
+      far_told x r is =
+          let c = call x past in (
+            r,
+            capture_so x r is,
+            ap (λ (j : ℕ). status_with (fault_of j Send r)) (sym (no_more (lines + 1)))
+                ∙ distance_told x (broken x) (lines + 1 + 0) r (laws.left.distance (rules_of (p x)) (length c.coded) c.played (map about c.said) r is),
+          )
+
       -- no frame is left
       none_left : (x : Party) → captures_at x (place_of x s) (inputs (video_of x)) ≡ [] → refusal_at x s Send ≡ None → refusal_of (sides p) (length (captures x)) x Send met ≡ Some NoPicture
       none_left x nothing is =
@@ -327,33 +355,40 @@ module _ (p : Party → Params) (captures : Party → List Picture) (laws : Call
       same_ahead A met2 ended2 = refl
       same_ahead B met2 ended2 = refl
 
+      same_fault : (x : Party) (met2 : WayRuns Frame) (ended2 : Bool)
+          → fault_at x (place_of x (state met2 va vb (lines + 1) ended2)) (left_after inputs (of Events size) (video_of x)) ≡ fault_at x (place_of x s) (inputs (video_of x))
+      same_fault A met2 ended2 = refl
+      same_fault B met2 ended2 = refl
+
       on_after : (met2 : WayRuns Frame) (ended2 : Bool) → ((x : Party) → (way x met2).frames ≡ (way x met).frames) → ((x : Party) → sent_before (way x met2).past ≡ sent_before (way x met).past)
           → IsOn met2 (state met2 va vb (lines + 1) ended2) (left_after inputs (of Events size))
       on_after met2 ended2 frames sent = record {
         sent = λ x. sent x ∙ on.sent x ∙ ap (λ (l : List Frame). length l) (sym (frames x));
         ahead = λ x. ap (λ (l : List Frame). drop (length l) (captures x)) (frames x) ∙ on.ahead x ∙ same_ahead x met2 ended2;
+        fault = λ x. same_fault x met2 ended2 ∙ on.fault x;
       }
 
       -- those that show nothing
-      quiet : (line : LineEvent) (past2 : List Lettered) (met2 : WayRuns Frame) → past2 ≡ With past line → met2 ≡ ways past2 → Near past2 → IsKept p met2 met → rows past2 ≡ rows past
+      quiet : (line : LineEvent) (past2 : List Lettered) (met2 : WayRuns Frame) → past2 ≡ With past line → LineMayHappen p captures past line → met2 ≡ ways past2 → Near past2 → IsKept p met2 met → rows past2 ≡ rows past
           → Takes line (quiet_step s trace met2)
-      quiet line past2 met2 same is near2 kept told2 =
+      quiet line past2 met2 same may is near2 kept told2 =
           let plays : (x : Party) → (call x past2).plays ≡ (call x past).plays = λ x. ap (λ (w : WayRuns Frame). (call_in p x w).plays) (sym is) ∙ kept.plays x in
-          comes_more line E F (lines + 1) past past2 (line_turn trace no_texts) _ same
+          comes_more line E F (lines + 1) past past2 (line_turn trace no_texts) _ same may
           (λ x. ap shown_text (plays x) ∙ sym (append-nil (shown_text (call x past).plays)))
           (told2 ∙ sym (append-nil (rows past)))
           (go past2 met2 va vb (not (is_closed trace)) (of Events size) is near2 (on_after met2 (not (is_closed trace)) kept.frames kept.sent) refl)
 
       packet_comes : (x : Party) (n j : ℕ) → refusal_at x s (Deliver n j) ≡ None → Takes (Some (x, says.Packet n j)) (quiet_step s trace (with_delivery (sides p) x n j met))
       packet_comes x n j o =
-          quiet (Some (x, says.Packet n j)) (with_event p captures x (Deliver n j) past) (with_delivery (sides p) x n j met) refl refl
-          ((laws.none (length (call x past).coded + 1) x (Deliver n j) met).0 o, near) (kept_delivery p x n j met) (append-nil (rows past))
+          let may = (laws.none (length (call x past).coded + 1) x (Deliver n j) met).0 o in
+          quiet (Some (x, says.Packet n j)) (with_event p captures x (Deliver n j) past) (with_delivery (sides p) x n j met) refl may refl (may, near) (kept_delivery p x n j met) (append-nil (rows past))
 
       all_comes : (x : Party) (n : ℕ) → refusal_at x s (Deliver n 0) ≡ None → Takes (Some (x, says.All n)) (quiet_step s trace (with_whole p x n met))
       all_comes x n o =
           let count = length (slices_at (call x past).coded n) in
-          quiet (Some (x, says.All n)) (with_packets p captures x n count past) (with_places p x n count met) refl (ways_packets p captures x n count past)
-          (near_packets p captures x n 0 count past ((laws.none (length (call x past).coded + 1) x (Deliver n 0) met).0 o) near)
+          let may = (laws.none (length (call x past).coded + 1) x (Deliver n 0) met).0 o in
+          quiet (Some (x, says.All n)) (with_packets p captures x n count past) (with_places p x n count met) refl may (ways_packets p captures x n count past)
+          (near_packets p captures x n 0 count past may near)
           (kept_places p x n count met) (told_packets p captures x n count past)
 
       -- ---- a play
@@ -392,11 +427,12 @@ module _ (p : Party → Params) (captures : Party → List Picture) (laws : Call
 
       play_comes : (x : Party) → refusal_at x s Play ≡ None → Takes (Some (x, says.Play)) (play_step (video_of x) (pictures_of x) (refused_video x) x s trace)
       play_comes x o =
-          comes_more (Some (x, says.Play)) E F (lines + 1) past (with_event p captures x Play past) (play_turn x) _ refl
+          let may = (laws.none (length (call x past).coded + 1) x Play met).0 o in
+          comes_more (Some (x, says.Play)) E F (lines + 1) past (with_event p captures x Play past) (play_turn x) _ refl may
           (played_pictures x)
           (ap (λ (l : Text). rows past ++ l) (row_is x))
           (go (with_event p captures x Play past) (with_play (sides p) x met) va vb (not (is_closed trace)) (of Events size) refl
-          ((laws.none (length (call x past).coded + 1) x Play met).0 o, near)
+          (may, near)
           (on_after (with_play (sides p) x met) (not (is_closed trace)) (played_frames x) (played_sent x)) refl)
 
       -- ---- a capture
@@ -429,11 +465,12 @@ module _ (p : Party → Params) (captures : Party → List Picture) (laws : Call
       -- the run goes on after a capture
       frame_on : (x : Party) (planes : List ℕ) (frame : ℕ)
           → drop (suc (length (way x met).frames)) (captures x) ≡ captures_at x (next_place x frame) (drop frame (inputs (video_of x)))
+          → fault_at x (next_place x frame) (drop frame (inputs (video_of x))) ≡ broken x
           → with_capture (sides p) x (picture_of (p x).format planes) met ≡ ways (with_event p captures x Send past) → Near (with_event p captures x Send past)
           → Comes (with_event p captures x Send past) E F (lines + 1 + 1) (rest (after_line (with_frame x s frame planes) trace) (takes_frame x frame))
-      frame_on A planes frame ahead is near2 =
+      frame_on A planes frame ahead still is near2 =
           go (with_event p captures A Send past) (with_capture (sides p) A (picture_of (p A).format planes) met) (next_place A frame) vb (not (is_closed trace)) (takes_frame A frame) is near2
-          (record { sent = sent; ahead = aheads }) (line_taken A frame)
+          (record { sent = sent; ahead = aheads; fault = faults }) (line_taken A frame)
         where
           sent : (y : Party) → sent_before (way y (with_capture (sides p) A (picture_of (p A).format planes) met)).past ≡ length (way y (with_capture (sides p) A (picture_of (p A).format planes) met)).frames
           sent A = one_sent (sent_before (way A met).past) (length (way A met).frames) _ (on.sent A) (longer (way A met).frames _)
@@ -444,9 +481,13 @@ module _ (p : Party → Params) (captures : Party → List Picture) (laws : Call
           aheads A =
               ap (λ (m : ℕ). drop m (captures A)) (longer (way A met).frames _) ∙ ahead ∙ ap (λ (l : List ℕ). captures_at A (next_place A frame) l) (sym (frame_gone A frame))
           aheads B = on.ahead B
-      frame_on B planes frame ahead is near2 =
+
+          faults : (y : Party) → fault_at y (place_of y (after_line (with_frame A s frame planes) trace)) (left_after inputs (takes_frame A frame) (video_of y)) ≡ broken y
+          faults A = ap (λ (l : List ℕ). fault_at A (next_place A frame) l) (frame_gone A frame) ∙ still
+          faults B = on.fault B
+      frame_on B planes frame ahead still is near2 =
           go (with_event p captures B Send past) (with_capture (sides p) B (picture_of (p B).format planes) met) va (next_place B frame) (not (is_closed trace)) (takes_frame B frame) is near2
-          (record { sent = sent; ahead = aheads }) (line_taken B frame)
+          (record { sent = sent; ahead = aheads; fault = faults }) (line_taken B frame)
         where
           sent : (y : Party) → sent_before (way y (with_capture (sides p) B (picture_of (p B).format planes) met)).past ≡ length (way y (with_capture (sides p) B (picture_of (p B).format planes) met)).frames
           sent A = on.sent A
@@ -458,6 +499,10 @@ module _ (p : Party → Params) (captures : Party → List Picture) (laws : Call
           aheads B =
               ap (λ (m : ℕ). drop m (captures B)) (longer (way B met).frames _) ∙ ahead ∙ ap (λ (l : List ℕ). captures_at B (next_place B frame) l) (sym (frame_gone B frame))
 
+          faults : (y : Party) → fault_at y (place_of y (after_line (with_frame B s frame planes) trace)) (left_after inputs (takes_frame B frame) (video_of y)) ≡ broken y
+          faults A = on.fault A
+          faults B = ap (λ (l : List ℕ). fault_at B (next_place B frame) l) (frame_gone B frame) ∙ still
+
       untold : (x : Party) (fault : Y4mFault) (text : Text) → told (refused_video x fault) text ≡ []
       untold A fault text = refl
       untold B fault text = refl
@@ -468,10 +513,13 @@ module _ (p : Party → Params) (captures : Party → List Picture) (laws : Call
           → Takes (Some (x, says.Send)) (captured_step (video_of x) (pictures_of x) (refused_video x) x s trace (frame_size (p x).format (b ∷ v)) r)
       captured_comes x b v video o (Err fault) found =
           let place = place_of x s in
+          let stops = frame_laws.stops (p x).format place.more place.at (b ∷ v) fault (omega arith) found in
           let nothing : captures_at x place (inputs (video_of x)) ≡ [] =
-          ap (λ (l : List ℕ). captures_at x place l) video ∙ ap (λ (l : List (List ℕ)). map (λ planes. picture_of (p x).format planes) l) (frame_laws.stops (p x).format place.more place.at (b ∷ v) fault (omega arith) found).0
+          ap (λ (l : List ℕ). captures_at x place l) video ∙ ap (λ (l : List (List ℕ)). map (λ planes. picture_of (p x).format planes) l) stops.0
           in
-          comes_stopped past near (Some (x, says.Send) ∷ E) F (lines + 1) rest _ _ (untold x fault) (one_refused size x fault) (NoPicture, none_left x nothing o, inr (refl, (fault, refl)))
+          let fault_is : Some fault ≡ broken x = sym (ap (λ (l : List ℕ). fault_at x place l) video ∙ stops.1) ∙ on.fault x in
+          comes_stopped past near (Some (x, says.Send) ∷ E) F (lines + 1) rest _ _ (untold x fault) (one_refused size x fault)
+          (NoPicture, none_left x nothing o, ap (λ (q : Option Y4mFault). capture_told x q (lines + 1 + 0) NoPicture) fault_is)
       captured_comes x b v video o (Ok planes) found =
           let f = (p x).format in
           let place = place_of x s in
@@ -494,25 +542,34 @@ module _ (p : Party → Params) (captures : Party → List Picture) (laws : Call
           let many : count < length (captures x) = some_after (captures x) count captured left stands in
           let below : length (call x past).coded < length (captures x) = omega (arith, coded, many) in
           let may = (laws.none (length (call x past).coded + 1) x Send met).0 o in
-          comes_more (Some (x, says.Send)) E F (lines + 1) past (with_event p captures x Send past) _ _ refl
+          let still : fault_at x (next_place x frame) (drop frame (inputs (video_of x))) ≡ broken x =
+          ap (λ (l : List ℕ). fault_at x (next_place x frame) (drop frame l)) video ∙ sym e.fault ∙ sym (ap (λ (l : List ℕ). fault_at x place l) video) ∙ on.fault x
+          in
+          comes_more (Some (x, says.Send)) E F (lines + 1) past (with_event p captures x Send past) _ _ refl (below, may.1)
           (λ y. ap (λ (w : WayRuns Frame). shown_text (call_in p y w).plays) (sym is) ∙ captured_plays x y captured ∙ sym (append-nil (shown_text (call y past).plays)))
           refl
-          (frame_on x planes frame ahead is ((below, may.1), near))
+          (frame_on x planes frame ahead still is ((below, may.1), near))
 
       send_comes : (x : Party) (video : List ℕ) → inputs (video_of x) ≡ video → refusal_at x s Send ≡ None → Takes (Some (x, says.Send)) (capture_step (video_of x) (pictures_of x) (refused_video x) x s trace video)
       send_comes x [] there o =
           let place = place_of x s in
+          let ends = frame_laws.ends (p x).format place.more place.at in
           let nothing : captures_at x place (inputs (video_of x)) ≡ [] =
-          ap (λ (l : List ℕ). captures_at x place l) there ∙ ap (λ (l : List (List ℕ)). map (λ planes. picture_of (p x).format planes) l) (frame_laws.ends (p x).format place.more place.at).0
+          ap (λ (l : List ℕ). captures_at x place l) there ∙ ap (λ (l : List (List ℕ)). map (λ planes. picture_of (p x).format planes) l) ends.0
           in
-          comes_faulty past near (Some (x, says.Send) ∷ E) F (lines + 1) rest _ _ (told_at x Send NoPicture (none_left x nothing o))
+          let none_is : None ≡ broken x = sym (ap (λ (l : List ℕ). fault_at x place l) there ∙ ends.1) ∙ on.fault x in
+          comes_faulty past near (Some (x, says.Send) ∷ E) F (lines + 1) rest _ _ (
+            NoPicture,
+            none_left x nothing o,
+            ap (λ (j : ℕ). status_with (fault_of j Send NoPicture)) (sym (no_more (lines + 1))) ∙ ap (λ (q : Option Y4mFault). capture_told x q (lines + 1 + 0) NoPicture) none_is,
+          )
       send_comes x (b ∷ v) there o = captured_comes x b v there o (next_frame (place_of x s).more (p x).format (place_of x s).at (b ∷ v)) refl
 
       -- ---- any line
 
       party_comes : (x : Party) (line : Line) → Takes (Some (x, line)) (party_step x s inputs line)
-      party_comes x says.Nothing = quiet (Some (x, says.Nothing)) past met refl refl near (kept_all p met) refl
-      party_comes x says.Send = unless_comes (Some (x, says.Send)) x Send (refusal_at x s Send) _ refl (λ r is. told_at x Send r (capture_so x r is)) (send_comes x (inputs (video_of x)) refl)
+      party_comes x says.Nothing = quiet (Some (x, says.Nothing)) past met refl tt refl near (kept_all p met) refl
+      party_comes x says.Send = unless_comes (Some (x, says.Send)) x Send (refusal_at x s Send) _ refl (far_told x) (send_comes x (inputs (video_of x)) refl)
       party_comes x (says.Packet n j) =
           unless_comes (Some (x, says.Packet n j)) x (Deliver n j) (refusal_at x s (Deliver n j)) _ refl (λ r is. told_at x (Deliver n j) r (packet_so x n j r is)) (packet_comes x n j)
       party_comes x (says.All n) =
@@ -522,7 +579,7 @@ module _ (p : Party → Params) (captures : Party → List Picture) (laws : Call
 
       line_comes : (o : Option LineEvent) → Comes past (and_event o E) (bad_from o (lines + 1) F) (lines + 1) (follow (line_step s inputs o) rest)
       line_comes None = comes_faulty past near [] _ (lines + 1) rest _ _ refl
-      line_comes (Some None) = quiet None past met refl refl near (kept_all p met) refl
+      line_comes (Some None) = quiet None past met refl tt refl near (kept_all p met) refl
       line_comes (Some (Some said)) = party_comes said.0 said.1
 
   -- ---- the run

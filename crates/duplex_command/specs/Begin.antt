@@ -11,7 +11,7 @@ use Rattle.y4m.specs.declared.fault.Y4mFault.{Y4mFault}
 use Rattle.y4m.specs.Head.{head_of, head_size}
 use Rattle.y4m.specs.Text.{head_text}
 use Rattle.call_report.specs.declared.status.Status.TheVariants.{VideoRefused, Video2Refused}
-use Rattle.desk_program.specs.Run.{Run, Step, left_after, run_from}
+use Rattle.desk_program.specs.Run.{Run, Step, left_after, run_from, video_refusal}
 use Rattle.desk_program.specs.Run.Step.{Goes, Ends}
 use Rattle.desk_program.specs.Ends.{Tells}
 use Rattle.desk_program.specs.Texts.{and_of, no_bytes, of, on, then_also}
@@ -20,7 +20,7 @@ use Rattle.duplex_call.specs.declared.line.Party.TheVariants.{A, B}
 use Rattle.duplex_ends.specs.Pair.{IsNewParty}
 use Rattle.duplex_command.specs.declared.heads.Heads.{Heads}
 use Rattle.duplex_command.specs.declared.talk.Talk.{Talk}
-use Rattle.duplex_command.specs.Duplex.{DuplexState, duplex_step, first_state, most_turns, video_refusal}
+use Rattle.duplex_command.specs.Duplex.{DuplexState, duplex_step, first_state, most_turns}
 use Rattle.duplex_command.specs.Standing.{DuplexOpens}
 
 -- the parameters of each party, with the format of its video

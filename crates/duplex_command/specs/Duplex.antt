@@ -3,7 +3,6 @@ use Rattle.std.specs.Prelude.{ℕ, ◌+◌, ◌-◌, Bool, false, not, nat_lt, c
 use Rattle.h263_types.specs.declared.params.Params.{Params}
 use Rattle.h263_planes.specs.Layout.{picture_of}
 use Rattle.h263_planes.specs.Picture.{Picture}
-use Rattle.h263_outside.specs.Desk.{is_role}
 use Rattle.h263_outside.specs.declared.desk.Role.{Role}
 use Rattle.h263_outside.specs.declared.desk.Role.TheVariants.{Video, Events, Pictures, Report, Video2, Pictures2}
 use Rattle.y4m.specs.declared.fault.Y4mFault.{Y4mFault}
@@ -21,7 +20,7 @@ use Rattle.call_model.specs.IdealCall.{Event, Send, Deliver, Play, Back}
 use Rattle.call_model.specs.Refusals.{Refusal}
 use Rattle.call_encoding.specs.Frames.{Frame}
 use Rattle.receiver_end.specs.Answers.{mark_of}
-use Rattle.desk_program.specs.Run.{End, Step}
+use Rattle.desk_program.specs.Run.{End, Step, video_refusal}
 use Rattle.desk_program.specs.Run.Step.{Goes, Ends}
 use Rattle.desk_program.specs.Texts.{no_texts, on, then_also, of, and_of}
 use Rattle.one_way.specs.Seen.{Seen, in_call, reference_in}
@@ -116,16 +115,6 @@ both_counts p ways = then_also (on Report (counts_of A p ways)) (on Report (coun
 -- the trace is at its end
 abbrev pub all_played : DuplexState → End
 all_played s = record { status = Fine; taken = λ _. Some 0; texts = both_counts s.params s.ways }
-
--- A video is refused: of what is taken of it nothing is said, and of each other input this much is
--- taken.
-abbrev pub video_refusal : Role → (Role → ℕ) → Status → End
-video_refusal video before status =
-    record {
-      status = status;
-      taken = λ r. if is_role video r then None else Some (before r);
-      texts = no_texts;
-    }
 
 -- ---- a line
 

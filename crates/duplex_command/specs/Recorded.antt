@@ -1,6 +1,6 @@
 -- What a call of two parties over a recorded trace comes to, as a whole: the two ideal calls of both
 -- videos over the events of the lines that it accepts.
-use Rattle.std.specs.Prelude.{◌≡◌, ◌⊎◌, ℕ, zero, suc, ◌+◌, List, [], ◌∷◌, ◌++◌, length, map, Option, Some, None}
+use Rattle.std.specs.Prelude.{◌≡◌, ℕ, zero, suc, ◌+◌, List, [], ◌∷◌, ◌++◌, length, map, Option, Some, None}
 use Rattle.h263_types.specs.declared.blocks.Mb.{Mb}
 use Rattle.h263_types.specs.declared.params.Params.{Params}
 use Rattle.h263_planes.specs.Layout.{picture_of}
@@ -9,7 +9,7 @@ use Rattle.h263_outside.specs.declared.desk.Role.{Role}
 use Rattle.h263_outside.specs.declared.desk.Role.TheVariants.{Events, Report}
 use Rattle.y4m.specs.declared.fault.Y4mFault.{Y4mFault}
 use Rattle.y4m.specs.Text.{head_text}
-use Rattle.y4m.specs.Video.{video_frames}
+use Rattle.y4m.specs.Video.{video_fault, video_frames}
 use Rattle.loss_trace.specs.declared.event.Event.{Event as Line}
 use Rattle.loss_trace.specs.declared.event.Event.TheVariants as says
 use Rattle.loss_trace.specs.declared.fault.TraceFault.{TraceFault}
@@ -30,7 +30,7 @@ use Rattle.one_way.specs.Seen.{reference_in}
 use Rattle.call_command.specs.Recorded.{ShowsWhatArrived, read_out, shown_text, told}
 use Rattle.call_command.specs.Refused.{fault_of}
 use Rattle.duplex_call.specs.declared.line.Party.{Party}
-use Rattle.duplex_call.specs.Duplex.{AllMayHappenOf, Lettered, WayRuns, other, way, ways_after}
+use Rattle.duplex_call.specs.Duplex.{AllMayHappenOf, MayHappenOf, Lettered, WayRuns, other, way, ways_after}
 use Rattle.duplex_call.specs.Lines.{party_event}
 use Rattle.duplex_call.specs.Refused.{refusal_of}
 use Rattle.duplex_ends.specs.Ways.{call_in, sides}
@@ -39,6 +39,16 @@ use Rattle.duplex_command.specs.Duplex.{both_counts, letter_of, pictures_of, ref
 -- the pictures of each party's video, as they are captured
 abbrev pub film : (Party → Params) → (Role → List ℕ) → Party → List Picture
 film p inputs x = map (λ planes. picture_of (p x).format planes) (video_frames (inputs (video_of x)))
+
+-- the first fault of each party's video, if it has one
+abbrev pub faults : (Role → List ℕ) → Party → Option Y4mFault
+faults inputs x = video_fault (inputs (video_of x))
+
+-- how a refused capture of a party is told: where no frame is left for it, since the next one of its
+-- video is refused, by the fault of that video, and else by the number of its line
+abbrev pub capture_told : Party → Option Y4mFault → ℕ → Refusal → Status
+capture_told x (Some fault) number NoFrame = refused_video x fault
+capture_told x broken number r = TraceRefused (fault_of number Send r)
 
 -- ---- a trace
 
@@ -116,6 +126,25 @@ module _ (p : Party → Params) (captures : Party → List Picture) where
   with_lines past [] = past
   with_lines past (line ∷ lines) = with_lines (with_line past line) lines
 
+  -- the event of a party's line is in place and near; of one that delivers all packets of a picture the
+  -- first is, even where the picture has none
+  abbrev pub PartyMayHappen : List Lettered → Party → Line → Type 0
+  PartyMayHappen past x says.Nothing = Unit {0}
+  PartyMayHappen past x says.Send = MayHappenOf (sides p) (length (captures x)) x Send (ways_of past)
+  PartyMayHappen past x (says.Packet n j) = MayHappenOf (sides p) (length (captures x)) x (Deliver n j) (ways_of past)
+  PartyMayHappen past x (says.All n) = MayHappenOf (sides p) (length (captures x)) x (Deliver n 0) (ways_of past)
+  PartyMayHappen past x (says.Back k) = MayHappenOf (sides p) (length (captures x)) x (Back k) (ways_of past)
+  PartyMayHappen past x says.Play = MayHappenOf (sides p) (length (captures x)) x Play (ways_of past)
+
+  abbrev pub LineMayHappen : List Lettered → LineEvent → Type 0
+  LineMayHappen past None = Unit {0}
+  LineMayHappen past (Some said) = PartyMayHappen past said.0 said.1
+
+  -- each of these lines' events is, after those of the lines before it
+  abbrev pub LinesMayHappen : List Lettered → List LineEvent → Type 0
+  LinesMayHappen past [] = Unit {0}
+  LinesMayHappen past (line ∷ lines) = LineMayHappen past line × LinesMayHappen (with_line past line) lines
+
   -- ---- a run
 
   -- the line that tells of an event: of a play, its picture's
@@ -145,41 +174,46 @@ module _ (p : Party → Params) (captures : Party → List Picture) where
 
   -- ---- its end
 
-  -- the party's event has this refusal, and is told with it and its line's number; or no frame is left
-  -- for it, since the next one of the party's video is refused
+  -- the party's event has this refusal, and is told with it and its line's number
   abbrev pub IsRefusal : ℕ → List Lettered → Party → Event → Status → Type 0
   IsRefusal number past x e status =
       (r : Refusal) × (refusal_of (sides p) (length (captures x)) x e (ways_of past) ≡ Some r)
-      × ((status ≡ TraceRefused (fault_of number e r))
-      ⊎ ((r ≡ NoFrame) × ((fault : Y4mFault) × (status ≡ refused_video x fault))))
+      × (status ≡ TraceRefused (fault_of number e r))
+
+  -- the party's capture has this refusal, where its video has this fault or none
+  abbrev pub IsRefusedCapture : Option Y4mFault → ℕ → List Lettered → Party → Status → Type 0
+  IsRefusedCapture broken number past x status =
+      (r : Refusal) × (refusal_of (sides p) (length (captures x)) x Send (ways_of past) ≡ Some r)
+      × (status ≡ capture_told x broken number r)
 
   -- a party's line is refused for its event; one that delivers all packets of a picture for the first
-  abbrev pub IsRefusedLine : ℕ → List Lettered → Party → Line → Status → Type 0
-  IsRefusedLine number past x says.Nothing status = ⊥
-  IsRefusedLine number past x says.Send status = IsRefusal number past x Send status
-  IsRefusedLine number past x (says.Packet n j) status = IsRefusal number past x (Deliver n j) status
-  IsRefusedLine number past x (says.All n) status = IsRefusal number past x (Deliver n 0) status
-  IsRefusedLine number past x (says.Back k) status = IsRefusal number past x (Back k) status
-  IsRefusedLine number past x says.Play status = IsRefusal number past x Play status
+  abbrev pub IsRefusedLine : (Party → Option Y4mFault) → ℕ → List Lettered → Party → Line → Status → Type 0
+  IsRefusedLine broken number past x says.Nothing status = ⊥
+  IsRefusedLine broken number past x says.Send status = IsRefusedCapture (broken x) number past x status
+  IsRefusedLine broken number past x (says.Packet n j) status = IsRefusal number past x (Deliver n j) status
+  IsRefusedLine broken number past x (says.All n) status = IsRefusal number past x (Deliver n 0) status
+  IsRefusedLine broken number past x (says.Back k) status = IsRefusal number past x (Back k) status
+  IsRefusedLine broken number past x says.Play status = IsRefusal number past x Play status
 
   -- where the next line, which has this number, says an event of a party, that is refused; where there
   -- is none, the trace is read out, up to its first fault
-  abbrev pub IsEnd : Option TraceFault → ℕ → List Lettered → List LineEvent → Status → Type 0
-  IsEnd fault number past [] status = status ≡ read_out fault
-  IsEnd fault number past (None ∷ lines) status = ⊥
-  IsEnd fault number past (Some said ∷ lines) status = IsRefusedLine number past said.0 said.1 status
+  abbrev pub IsEnd : (Party → Option Y4mFault) → Option TraceFault → ℕ → List Lettered → List LineEvent → Status → Type 0
+  IsEnd broken fault number past [] status = status ≡ read_out fault
+  IsEnd broken fault number past (None ∷ lines) status = ⊥
+  IsEnd broken fault number past (Some said ∷ lines) status = IsRefusedLine broken number past said.0 said.1 status
 
 -- The lines that it accepts are the first ones of the trace, one in each turn but the first, which
--- reads both heads. Over their events the run is the two ideal calls of the pictures of both videos,
--- and it ends because of the line after them. Where it refuses a video, that turn takes nothing of the
--- other one.
+-- reads both heads, and each of them says what may happen there. Over their events the run is the two
+-- ideal calls of the pictures of both videos, and it ends because of the line after them. Where it
+-- refuses a video, that turn takes nothing of the other one.
 pub record FollowsItsTrace (p : Party → Params) (inputs : Role → List ℕ) (run : Run) : Type 0 where
   pub lines : List LineEvent
   pub refused : List LineEvent
   pub read : line_events 16777216 (inputs Events) ≡ lines ++ refused
   pub taken : length run.turns ≡ length lines + 1
+  pub may : LinesMayHappen p (film p inputs) [] lines
   pub are_calls : AreCallsOver p (film p inputs) (with_lines p (film p inputs) [] lines) run
-  pub end : IsEnd p (film p inputs) (fault_in 16777216 1 (inputs Events)) (length lines + 1)
+  pub end : IsEnd p (film p inputs) (faults inputs) (fault_in 16777216 1 (inputs Events)) (length lines + 1)
       (with_lines p (film p inputs) [] lines) refused run.last.status
   pub others : (x : Party) (fault : Y4mFault)
       → run.last.status ≡ refused_video x fault → run.last.taken (video_of (other x)) ≡ Some 0

@@ -21,7 +21,7 @@ ghost use Rattle.duplex_command.specs.Duplex.{both_counts, letter_of, play_texts
 ghost use Rattle.duplex_command.specs.Turning.{row_texts};
 
 use call_command::counts_line;
-use call_report::{Line, PictureRow, Status, picture_line};
+use call_report::{Line, Status, picture_line};
 use desk_program::{laws as desk_program_laws, put_line, put_picture};
 use duplex_call::Party;
 use duplex_ends::{PartyEnds, laws as duplex_ends_laws, play};
@@ -67,12 +67,12 @@ fn show<D: Desk>(desk: &mut D, row: &Row, picture: PictureRef<'_>) -> Result<(),
     desk_program_laws::turn_laws();
     put_picture(desk, row.mark, picture)?;
     let letter = letter(row.party);
-    let line = picture_line(PictureRow {
-        party: Some(letter),
-        number: row.number,
-        mark: Some(row.mark),
-        reference: Some(row.reference),
-    });
+    let line = picture_line(
+        row.number,
+        Some(row.mark),
+        Some(row.reference),
+        Some(letter),
+    );
     put_line(desk, &line)
 }
 

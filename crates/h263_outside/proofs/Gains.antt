@@ -43,6 +43,7 @@ reads_on a b c p q = record {
   name = q.name ∙ p.name;
   written = q.written ∙ p.written;
   faults = record { attach = omega arith; read = omega arith; write = omega arith };
+  flushed = q.flushed ∙ p.flushed;
   loans = q.loans ∙ p.loans;
 }
 

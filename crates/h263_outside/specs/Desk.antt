@@ -18,6 +18,8 @@ pub record Outside : Type 0 where
   pub left : Role → Option (List ℕ)
   pub written : Role → Option (List ℕ)
   pub faults : Faults
+  -- a flush has done its work, and nothing was written since
+  pub flushed : Bool
   -- the names of the loans that the desk stands on, one below the other
   pub loans : List ℕ
 
@@ -115,6 +117,7 @@ pub record OnlyAttaches (old new : Outside) : Type 0 where
   pub left : new.left ≡ old.left
   pub written : new.written ≡ old.written
   pub faults : NoneFalls old.faults new.faults
+  pub flushed : new.flushed ≡ old.flushed
   pub loans : new.loans ≡ old.loans
 
 -- nothing changes but what is left
@@ -123,9 +126,10 @@ pub record OnlyReads (old new : Outside) : Type 0 where
   pub name : new.name ≡ old.name
   pub written : new.written ≡ old.written
   pub faults : NoneFalls old.faults new.faults
+  pub flushed : new.flushed ≡ old.flushed
   pub loans : new.loans ≡ old.loans
 
--- nothing changes but what was written
+-- nothing changes but what was written, and whether it was flushed
 pub record OnlyWrites (old new : Outside) : Type 0 where
   pub attached : new.attached ≡ old.attached
   pub name : new.name ≡ old.name
@@ -151,5 +155,6 @@ exchanged_outside name o = record {
   left = λ r. o.left (exchanged r);
   written = λ r. o.written (exchanged r);
   faults = o.faults;
+  flushed = o.flushed;
   loans = name ∷ o.loans;
 }

@@ -50,6 +50,7 @@ memory_outside d = record {
   written = by_output (Some d.pictures.bytes.items)
       (Some d.wire.bytes.items) (Some d.report.bytes.items) (Some d.pictures2.bytes.items) None;
   faults = faults_of d.calls;
+  flushed = d.flushed;
   loans = [];
 }
 
@@ -61,6 +62,7 @@ blank_outside = record {
   left = by_input (Some []) (Some []) (Some []) None;
   written = by_output (Some []) (Some []) (Some []) (Some []) None;
   faults = record { attach = 0; read = 0; write = 0 };
+  flushed = false;
   loans = [];
 }
 

@@ -100,20 +100,19 @@ pub trait Desk {
         ensures written { IfOk result (λ k. (outside self.new).written
             ≡ appended (outside self.old).written role (take k bytes.now)) }
         ensures err { OnErr result ((outside self.new).written ≡ (outside self.old).written) }
+        ensures unflushed { (outside self.new).flushed ≡ false }
         ensures cause { OnErr result
             (Rose (outside self.old).faults.write (outside self.new).faults.write) }
         ensures ok_faults { OnOk result ((outside self.new).faults ≡ (outside self.old).faults) }
         ensures rest { OnlyWrites (outside self.old) (outside self.new) };
 
-    /// Sees that all that was written has come to its place. A desk that hands on each byte at once
-    /// has nothing to do.
+    /// Sees that all that was written has come to its place.
     fn flush(&mut self) -> Result<(), Failed>
         ensures written { (outside self.new).written ≡ (outside self.old).written }
+        ensures flushed { OnOk result ((outside self.new).flushed ≡ true) }
+        ensures unflushed { OnErr result ((outside self.new).flushed ≡ false) }
         ensures cause { OnErr result
             (Rose (outside self.old).faults.write (outside self.new).faults.write) }
         ensures ok_faults { OnOk result ((outside self.new).faults ≡ (outside self.old).faults) }
-        ensures rest { OnlyWrites (outside self.old) (outside self.new) }
-    {
-        Ok(())
-    }
+        ensures rest { OnlyWrites (outside self.old) (outside self.new) };
 }

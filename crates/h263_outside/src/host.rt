@@ -35,6 +35,7 @@ pub struct HostDesk<R: Runtime> {
     attach_faults: u64,
     read_faults: u64,
     write_faults: u64,
+    flushed: bool,
 }
 
 // A file takes the lowest number that is free, and the numbers of the standard streams are free
@@ -58,8 +59,8 @@ fn take_streams<R: Files>(rt: &R) -> Streams<R::File> {
 }
 
 impl<R: Runtime> HostDesk<R> {
-    ghost use Rattle.std.specs.Prelude.{true, false, MatchOption};
-    ghost use Rattle.h263_outside.specs.Host.{host_outside, no_faults};
+    ghost use Rattle.std.specs.Prelude.{true, false, MatchOption, OnSome};
+    ghost use Rattle.h263_outside.specs.Host.{host_outside, no_faults, input_of, IsUnread, KeepsOthers};
     ghost use Rattle.h263_outside.specs.Desk.{with_role};
 
     /// A desk with nothing attached, which opens its files and prints by this runtime.
@@ -81,11 +82,14 @@ impl<R: Runtime> HostDesk<R> {
             attach_faults: 0,
             read_faults: 0,
             write_faults: 0,
+            flushed: false,
         }
     }
 
-    // A file to be read. One that is written is refused.
-    fn open(&self, name: &str) -> Option<InputFile<R::File>> {
+    // A file to be read, from its first byte on. One that is written is refused.
+    fn open(&self, name: &str) -> Option<InputFile<R::File>>
+        ensures unread { IsUnread result }
+    {
         let file = fs::open(&self.rt, name).ok()?;
         let about = file.metadata().ok()?;
         if self.writes(&about) {
@@ -128,6 +132,9 @@ impl<R: Runtime> HostDesk<R> {
             (λ _. (host_outside self.new).attached
             ≡ with_role (host_outside self.old).attached role true) }
         ensures faults { (host_outside self.new).faults ≡ (host_outside self.old).faults }
+        ensures flushed { (host_outside self.new).flushed ≡ (host_outside self.old).flushed }
+        ensures unread { OnSome result (IsUnread (input_of role self.new)) }
+        ensures others { KeepsOthers role self.old self.new }
     {
         match role {
             Role::Video => self.video = Some(self.open(name)?),
@@ -206,7 +213,7 @@ fn print_some<R: Runtime>(rt: &R, bytes: &[u8]) -> Result<usize, Failed>
 
 impl<R: Runtime> Desk for HostDesk<R> {
     ghost use Rattle.std.specs.Prelude.{◌≢◌, true, false, take, IfSome, OnOk, OnErr, IsErrOf};
-    ghost use Rattle.h263_outside.specs.Host.{host_outside, input_left, input_of, output_of};
+    ghost use Rattle.h263_outside.specs.Host.{host_outside, input_left, input_of, output_of, IsUnread, KeepsOthers, KeepsFiles};
     ghost use Rattle.h263_outside.specs.Desk.{IsInput, IsOutput, IsFront, OnlyAttaches, OnlyReads, OnlyWrites, Rose, with_role, appended, consumed, raised_count};
 
     ghost outside = { host_outside };
@@ -230,6 +237,10 @@ impl<R: Runtime> Desk for HostDesk<R> {
         ensures no_memory { IsErrOf result Unattached.OutOfMemory
             → (host_outside self.new).faults ≡ (host_outside self.old).faults }
         ensures rest { OnlyAttaches (host_outside self.old) (host_outside self.new) }
+
+        // Of an input nothing is read yet. Each other role keeps its file.
+        ensures unread { OnOk result (IsUnread (input_of role self.new)) }
+        ensures others { KeepsOthers role self.old self.new }
 
         // The count rises by one where the call fails.
         ensures failed { OnErr result ((host_outside self.new).faults
@@ -261,9 +272,10 @@ impl<R: Runtime> Desk for HostDesk<R> {
             ((host_outside self.new).faults ≡ (host_outside self.old).faults) }
         ensures rest { OnlyReads (host_outside self.old) (host_outside self.new) }
 
-        // The role's input is read, as `read_input` says.
+        // The role's input is read, as `read_input` says, and no other file.
         ensures of_file { ReadConsumes (told_of (input_left R.File.remaining) (input_of role self.old))
             (told_of (input_left R.File.remaining) (input_of role self.new)) result buf.new }
+        ensures others { KeepsOthers role self.old self.new }
 
         // The count rises by one where the call fails.
         ensures failed { OnErr result ((host_outside self.new).faults
@@ -292,21 +304,24 @@ impl<R: Runtime> Desk for HostDesk<R> {
             ≡ appended (host_outside self.old).written role (take k bytes.now)) }
         ensures err { OnErr result
             ((host_outside self.new).written ≡ (host_outside self.old).written) }
+        ensures unflushed { (host_outside self.new).flushed ≡ false }
         ensures cause { OnErr result
             (Rose (host_outside self.old).faults.write (host_outside self.new).faults.write) }
         ensures ok_faults { OnOk result
             ((host_outside self.new).faults ≡ (host_outside self.old).faults) }
         ensures rest { OnlyWrites (host_outside self.old) (host_outside self.new) }
 
-        // The role's file is written, as `write_file` says.
+        // The role's file is written, as `write_file` says, and no other one.
         ensures of_file { WriteAppends (told_of R.File.contents (output_of role self.old))
             (told_of R.File.contents (output_of role self.new)) result bytes.now }
+        ensures others { KeepsOthers role self.old self.new }
 
         // The count rises by one where the call fails.
         ensures failed { OnErr result ((host_outside self.new).faults
             ≡ record ((host_outside self.old).faults)
             { write = raised_count (host_outside self.old).faults.write }) }
     {
+        self.flushed = false;
         let outcome = match role {
             Role::Pictures => write_file(&mut self.pictures, bytes),
             Role::Wire => write_file(&mut self.wire, bytes),
@@ -322,18 +337,22 @@ impl<R: Runtime> Desk for HostDesk<R> {
 
     fn flush(&mut self) -> Result<(), Failed>
         ensures written { (host_outside self.new).written ≡ (host_outside self.old).written }
+        ensures flushed { OnOk result ((host_outside self.new).flushed ≡ true) }
+        ensures unflushed { OnErr result ((host_outside self.new).flushed ≡ false) }
         ensures cause { OnErr result
             (Rose (host_outside self.old).faults.write (host_outside self.new).faults.write) }
         ensures ok_faults { OnOk result
             ((host_outside self.new).faults ≡ (host_outside self.old).faults) }
         ensures rest { OnlyWrites (host_outside self.old) (host_outside self.new) }
 
-        // The count of writes rises by one where the call fails.
+        // No file changes. The count of writes rises by one where the call fails.
+        ensures files { KeepsFiles self.old self.new }
         ensures failed { OnErr result ((host_outside self.new).faults
             ≡ record ((host_outside self.old).faults)
             { write = raised_count (host_outside self.old).faults.write }) }
     {
-        if self.keeps_all() {
+        self.flushed = self.keeps_all();
+        if self.flushed {
             return Ok(());
         }
         self.write_faults = raised(self.write_faults);

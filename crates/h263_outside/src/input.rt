@@ -1,7 +1,7 @@
 //! A file that is read.
-ghost use Rattle.std.specs.Prelude.{◌≡◌, ◌≤◌, length, IfOk, is_some};
+ghost use Rattle.std.specs.Prelude.{◌≡◌, ◌≤◌, ℕ, length, List, [], Option, IfOk, is_some};
 ghost use Rattle.std.specs.Io.KnownBytes.{ReadConsumes};
-ghost use Rattle.h263_outside.specs.Host.{input_left, told_of};
+ghost use Rattle.h263_outside.specs.Host.{ahead_bytes, input_left, told_of};
 
 use crate::Failed;
 use crate::ahead::{Ahead, MOST_AHEAD};
@@ -21,7 +21,11 @@ pub(crate) struct InputFile<F> {
 
 impl<F> InputFile<F> {
     /// A file of which nothing was read.
-    pub(crate) fn new(file: F) -> InputFile<F> {
+    pub(crate) fn new(file: F) -> InputFile<F>
+        ensures unread { ahead_bytes result.ahead ≡ [] }
+        ensures file { result.file ≡ file }
+        ensures left { (known : F → Option (List ℕ)) → input_left known result ≡ known file }
+    {
         InputFile {
             file,
             ahead: Ahead::new(),

@@ -25,6 +25,7 @@ mod second;
 mod whole;
 
 pub use desk::{Desk, Failed, Role, Unattached};
+pub use h263_types::OutOfMemory;
 pub use host::HostDesk;
 pub use memory::MemoryDesk;
 pub use second::Second;

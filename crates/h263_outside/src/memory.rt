@@ -94,6 +94,7 @@ pub struct MemoryDesk {
     report: Output,
     video2: Input,
     pictures2: Output,
+    flushed: bool,
     ghost moves: { 0 < piece },
 }
 
@@ -226,6 +227,7 @@ impl MemoryDesk {
             report: new_output(alloc, room)?,
             video2: new_input(alloc),
             pictures2: new_output(alloc, room)?,
+            flushed: false,
         })
     }
 
@@ -411,6 +413,7 @@ impl Desk for MemoryDesk {
             ≡ appended (memory_outside self.old).written role (take k bytes.now)) }
         ensures err { OnErr result
             ((memory_outside self.new).written ≡ (memory_outside self.old).written) }
+        ensures unflushed { (memory_outside self.new).flushed ≡ false }
         ensures cause { OnErr result
             (Rose (memory_outside self.old).faults.write (memory_outside self.new).faults.write) }
         ensures ok_faults { OnOk result
@@ -431,6 +434,7 @@ impl Desk for MemoryDesk {
             { write = raised_count (memory_outside self.old).faults.write }) }
         ensures setup { setup_of self.new ≡ after_call (setup_of self.old) }
     {
+        self.flushed = false;
         if self.calls.count() {
             self.calls.write_faults = raised(self.calls.write_faults);
             return Err(Failed);
@@ -454,5 +458,23 @@ impl Desk for MemoryDesk {
             }
             _ => unreachable!(),
         }
+    }
+
+    fn flush(&mut self) -> Result<(), Failed>
+        ensures written { (memory_outside self.new).written ≡ (memory_outside self.old).written }
+        ensures flushed { OnOk result ((memory_outside self.new).flushed ≡ true) }
+        ensures unflushed { OnErr result ((memory_outside self.new).flushed ≡ false) }
+        ensures cause { OnErr result
+            (Rose (memory_outside self.old).faults.write (memory_outside self.new).faults.write) }
+        ensures ok_faults { OnOk result
+            ((memory_outside self.new).faults ≡ (memory_outside self.old).faults) }
+        ensures rest { OnlyWrites (memory_outside self.old) (memory_outside self.new) }
+
+        // It never fails, and isn't counted among the calls.
+        ensures never { IsErr result → ⊥ }
+        ensures setup { setup_of self.new ≡ setup_of self.old }
+    {
+        self.flushed = true;
+        Ok(())
     }
 }

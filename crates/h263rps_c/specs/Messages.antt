@@ -4,12 +4,12 @@ use Rattle.h263_types.specs.declared.clock.Clock.{Clock}
 use Rattle.back_messages.specs.declared.message.Message.{Message}
 use Rattle.back_messages.specs.declared.message.MessageFault.{MessageFault}
 use Rattle.back_messages.specs.Text.{IsMessage, message_in}
-use Rattle.h263rps_c.specs.declared.answers.Said.{Said}
+use Rattle.h263rps_c.specs.declared.answers.CMessage.{CMessage}
 use Rattle.h263rps_c.specs.declared.messages.Place.{Place}
 use Rattle.h263rps_c.specs.declared.messages.Place.TheVariants.{Empty, Says, Wrong}
 
 -- the bytes of a message
-abbrev pub text_in : Said → List ℕ
+abbrev pub text_in : CMessage → List ℕ
 text_in said = take said.length said.bytes
 
 abbrev pub place_read : Result Message MessageFault → Place
@@ -18,7 +18,7 @@ place_read (Ok m) = Says m
 
 -- what is in a place: nothing where its length is 0, or a message of three bytes or five; no other
 -- length is one
-abbrev pub place_in : Clock → Said → Place
+abbrev pub place_in : Clock → CMessage → Place
 place_in clock said =
     if said.length == 0 then Empty
     else if (said.length == 3) || (said.length == 5) then place_read (message_in clock (text_in said))
@@ -36,6 +36,6 @@ with_place (Says m) None = None
 with_place (Says m) (Some messages) = Some (m ∷ messages)
 
 -- the messages by a clock, if each place that isn't empty has one
-abbrev pub messages_of : Clock → List Said → Option (List Message)
+abbrev pub messages_of : Clock → List CMessage → Option (List Message)
 messages_of clock [] = Some []
 messages_of clock (said ∷ others) = with_place (place_in clock said) (messages_of clock others)

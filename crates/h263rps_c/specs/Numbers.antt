@@ -6,7 +6,7 @@ use Rattle.h263_types.specs.declared.Mark.{Mark}
 use Rattle.h263_types.specs.declared.Mark.TheVariants as marks
 use Rattle.back_messages.specs.declared.message.MessageFault.{MessageFault}
 use Rattle.back_messages.specs.declared.message.MessageFault.TheVariants as messages
-use Rattle.back_messages.specs.declared.writing.MessageBytes.{MessageBytes}
+use Rattle.back_messages.specs.declared.writing.Said.{Said}
 use Rattle.receiver_end.specs.declared.answers.Arrival.{Arrival}
 use Rattle.receiver_end.specs.declared.answers.Heard.{Heard}
 use Rattle.receiver_end.specs.declared.answers.Heard.TheVariants as heards
@@ -19,7 +19,7 @@ use Rattle.sender_end.specs.declared.answers.Feedback.TheVariants as feedbacks
 use Rattle.h263rps_c.specs.declared.answers.Answer.{Answer}
 use Rattle.h263rps_c.specs.declared.answers.Made.{Made}
 use Rattle.h263rps_c.specs.declared.answers.Reply.{Reply}
-use Rattle.h263rps_c.specs.declared.answers.Said.{Said}
+use Rattle.h263rps_c.specs.declared.answers.CMessage.{CMessage}
 
 -- 10,000 times the major number of the version, and 100 times the minor one
 abbrev pub library_version : ℕ
@@ -84,13 +84,13 @@ place_of _ = 0
 
 -- ---- a receiver's answers
 
-abbrev pub no_message : Said
+abbrev pub no_message : CMessage
 no_message = record { bytes = 0 ∷ 0 ∷ 0 ∷ 0 ∷ 0 ∷ []; length = 0 }
 
-abbrev pub said_of : MessageBytes → Said
+abbrev pub said_of : Said → CMessage
 said_of said = record { bytes = said.bytes; length = said.len }
 
-abbrev pub said_in : Option MessageBytes → Said
+abbrev pub said_in : Option Said → CMessage
 said_in None = no_message
 said_in (Some said) = said_of said
 
@@ -106,7 +106,7 @@ plain kind =
       message = no_message;
     }
 
-abbrev pub saying : ℕ → MessageBytes → Answer
+abbrev pub saying : ℕ → Said → Answer
 saying kind said =
     record {
       kind = kind;

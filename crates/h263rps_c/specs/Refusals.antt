@@ -4,7 +4,7 @@ use Rattle.h263_types.specs.Sizes.{size_of_picture}
 use Rattle.sender_end.specs.State.{SenderState}
 use Rattle.receiver_end.specs.declared.kept.Kept.{Kept}
 use Rattle.back_messages.specs.declared.message.Message.{Message}
-use Rattle.h263rps_c.specs.declared.answers.Said.{Said}
+use Rattle.h263rps_c.specs.declared.answers.CMessage.{CMessage}
 use Rattle.rate_control.specs.declared.send_pace.SendPace.{SendPace}
 use Rattle.h263rps_c.specs.declared.refusals.EndRefusal.{EndRefusal}
 use Rattle.h263rps_c.specs.declared.refusals.EndRefusal.TheVariants.{NotStarted, Started, OtherEnd, BadParams, NoMemory, Ended, WrongLength, BadMessages, NoPacket, ShortRoom, NoStart}
@@ -50,7 +50,7 @@ unless_none None = Some BadMessages
 unless_none (Some messages) = None
 
 -- a picture of these bytes, with these messages
-abbrev pub capture_refusal : List ℕ → List Said → SenderState SendPace → Option EndRefusal
+abbrev pub capture_refusal : List ℕ → List CMessage → SenderState SendPace → Option EndRefusal
 capture_refusal bytes back s =
     if nat_le 1048576 s.sent then Some Ended
     else if length bytes == size_of_picture s.params.format then

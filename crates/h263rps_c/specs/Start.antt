@@ -5,7 +5,7 @@ use Rattle.back_messages.specs.declared.message.Message.{Message}
 use Rattle.back_messages.specs.Text.{message_bits, message_text}
 use Rattle.picture_header.specs.declared.header.Header.{Header}
 use Rattle.picture_header.specs.Ranges.{messages_in}
-use Rattle.h263rps_c.specs.declared.answers.Said.{Said}
+use Rattle.h263rps_c.specs.declared.answers.CMessage.{CMessage}
 use Rattle.h263rps_c.specs.declared.start.Start.{Start}
 use Rattle.h263rps_c.specs.declared.refusals.EndRefusal.{EndRefusal}
 use Rattle.h263rps_c.specs.declared.refusals.EndRefusal.TheVariants.{NoStart}
@@ -24,17 +24,17 @@ Refers intra reference None = (intra ≡ 1) × (reference ≡ 0)
 Refers intra reference (Some trp) = (intra ≡ 0) × (reference ≡ trp)
 
 -- the text of a message, and zeros in the bytes after it
-pub record IsSaid (said : Said) (m : Message) : Type 0 where
+pub record IsSaid (said : CMessage) (m : Message) : Type 0 where
   pub text : bits_of (text_in said) ≡ message_text m
   pub length : 8 * said.length ≡ message_bits m
   pub filled : said.length ≡ 3 → drop 3 said.bytes ≡ 0 ∷ 0 ∷ []
 
 -- the message at a place of a header, or nothing
-abbrev pub IsSaidOf : Said → Option Message → Type 0
+abbrev pub IsSaidOf : CMessage → Option Message → Type 0
 IsSaidOf said None = said ≡ no_message
 IsSaidOf said (Some m) = IsSaid said m
 
-abbrev pub AreSaid : List Said → List (Option Message) → Type 0
+abbrev pub AreSaid : List CMessage → List (Option Message) → Type 0
 AreSaid [] [] = Unit {0}
 AreSaid (said ∷ others) (place ∷ places) = IsSaidOf said place × AreSaid others places
 AreSaid [] (place ∷ places) = ⊥

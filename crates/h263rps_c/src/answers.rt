@@ -2,7 +2,7 @@
 ghost use Rattle.std.specs.Prelude.{◌≡◌};
 ghost use Rattle.h263rps_c.specs.Numbers as numbers;
 
-use back_messages::{MessageBytes, MessageFault};
+use back_messages::{MessageFault, Said};
 use h263_bits::FaultKind;
 use h263_types::Mark;
 use receiver_end::{Arrival, Heard, PacketFault, Played};
@@ -11,7 +11,7 @@ use sender_end::{Coded, Feedback};
 /// A message for the other end: the first `length` bytes, 3 or 5; with a length of 0 there is none.
 #[repr(C)]
 #[derive(Clone, Copy)]
-pub struct Said {
+pub struct CMessage {
     pub bytes: [u8; 5],
     pub length: u8,
 }
@@ -31,7 +31,7 @@ pub struct Answer {
     pub predicted: u32,
     /// The number of that one, else 0.
     pub reference: u32,
-    pub message: Said,
+    pub message: CMessage,
 }
 
 /// A picture that a sender coded.
@@ -55,27 +55,27 @@ pub struct Reply {
     pub fault: u32,
 }
 
-impl Said {
-    pub(crate) const NOTHING: Said = Said {
+impl CMessage {
+    pub(crate) const NOTHING: CMessage = CMessage {
         bytes: [0; 5],
         length: 0,
     };
 
-    pub(crate) fn of(said: &MessageBytes) -> Said
+    pub(crate) fn of(said: &Said) -> CMessage
         ensures { result ≡ numbers.said_of said.now }
     {
-        Said {
+        CMessage {
             bytes: said.bytes,
             length: said.len,
         }
     }
 
-    fn maybe(said: &Option<MessageBytes>) -> Said
+    fn maybe(said: &Option<Said>) -> CMessage
         ensures { result ≡ numbers.said_in said.now }
     {
         match said {
-            None => Said::NOTHING,
-            Some(said) => Said::of(said),
+            None => CMessage::NOTHING,
+            Some(said) => CMessage::of(said),
         }
     }
 }
@@ -164,11 +164,11 @@ impl Answer {
             number: 0,
             predicted: 0,
             reference: 0,
-            message: Said::NOTHING,
+            message: CMessage::NOTHING,
         }
     }
 
-    fn saying(kind: u32, said: &MessageBytes) -> Answer
+    fn saying(kind: u32, said: &Said) -> Answer
         ensures { result ≡ numbers.saying kind said.now }
     {
         Answer {
@@ -178,7 +178,7 @@ impl Answer {
             number: 0,
             predicted: 0,
             reference: 0,
-            message: Said::of(said),
+            message: CMessage::of(said),
         }
     }
 
@@ -199,7 +199,7 @@ impl Answer {
                 number: 0,
                 predicted: 0,
                 reference: 0,
-                message: Said::NOTHING,
+                message: CMessage::NOTHING,
             },
         }
     }
@@ -225,7 +225,7 @@ impl Answer {
             number: played.number,
             predicted: is_predicted(played.reference),
             reference: number_or_zero(played.reference),
-            message: Said::maybe(&played.message),
+            message: CMessage::maybe(&played.message),
         }
     }
 }

@@ -28,7 +28,7 @@ ghost use Rattle.h263rps_c.specs.Slots.{for_kind, for_receiver, for_sender, neve
 ghost use Rattle.h263rps_c.specs.declared.refusals.EndRefusal.TheVariants as refusals;
 
 use crate::MOST_PICTURES;
-use crate::answers::Said;
+use crate::answers::CMessage;
 use crate::refusals::EndRefusal;
 use crate::sending::Sending;
 use h263_planes::laws;
@@ -274,7 +274,7 @@ impl End {
     }
 
     /// Captures a sender's next picture, with these messages in its header.
-    pub fn capture(&mut self, bytes: &[u8], back: &[Said]) -> Result<Coded, EndRefusal>
+    pub fn code(&mut self, bytes: &[u8], back: &[CMessage]) -> Result<Coded, EndRefusal>
         ensures refusal { refusal_in result
             ≡ for_sender (capture_refusal bytes.now back.now) (Some self.old) }
         ensures same { IfErr result (λ why. self.new ≡ self.old) }
@@ -302,7 +302,7 @@ impl End {
             (next_after p (target_in first) (frame_of p bytes.now messages) past) coded) }
     {
         match self {
-            End::Sending(sending) => sending.capture(bytes, back),
+            End::Sending(sending) => sending.code(bytes, back),
             End::Receiving(_) => Err(EndRefusal::OtherEnd),
         }
     }

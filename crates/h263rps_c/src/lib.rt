@@ -28,7 +28,7 @@ mod statistics;
 #[cfg(test)]
 mod tests;
 
-pub use answers::{Answer, Made, Reply, Said};
+pub use answers::{Answer, CMessage, Made, Reply};
 pub use asked::Asked;
 pub use counting::Statistics;
 pub use handles::Slot;

@@ -4,7 +4,7 @@ ghost use Rattle.std.specs.Option.{option_map};
 ghost use Rattle.picture_header.specs.Ranges.{AreMessages};
 ghost use Rattle.h263rps_c.specs.Messages.{IsPlace, messages_of, place_in, text_in};
 
-use crate::answers::Said;
+use crate::answers::CMessage;
 use back_messages::{Message, read};
 use h263_types::Clock;
 
@@ -34,7 +34,7 @@ pub enum Place {
     Wrong,
 }
 
-impl Said {
+impl CMessage {
     // Its bytes, of which there are at most five.
     fn text(&self) -> &[u8]
         ensures { result.now ≡ text_in self.now }
@@ -68,7 +68,7 @@ impl Said {
 }
 
 /// The messages by a clock, if each place that isn't empty has one.
-pub fn messages_from(back: &[Said], clock: Clock) -> Option<Messages>
+pub fn messages_from(back: &[CMessage], clock: Clock) -> Option<Messages>
     requires { length back.now ≤ 4 }
     ensures value { option_map (λ messages. take messages.count messages.places) result
         ≡ messages_of clock back.now }

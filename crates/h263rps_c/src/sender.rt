@@ -21,7 +21,7 @@ ghost use Rattle.h263rps_c.specs.Slots.{fault_after, for_sender, never, start_re
 ghost use Rattle.h263rps_c.specs.Stays.{Stays};
 ghost use Rattle.h263rps_c.specs.declared.refusals.EndRefusal.TheVariants as refusals;
 
-use crate::answers::{Made, Reply, Said};
+use crate::answers::{CMessage, Made, Reply};
 use crate::asked::Asked;
 use crate::ends::{End, EndKind};
 use crate::handles::{Slot, put, taken};
@@ -72,7 +72,7 @@ pub extern "C" fn h263rps_raw_sender_start(
 pub extern "C" fn h263rps_raw_sender_code(
     slot: &mut Slot,
     picture: &[u8],
-    messages: &[Said],
+    messages: &[CMessage],
     made: &mut Made,
 ) -> u32
     ensures result { result
@@ -105,7 +105,7 @@ pub extern "C" fn h263rps_raw_sender_code(
     if !slot.is_started() {
         return EndRefusal::NotStarted.number();
     }
-    match slot.handle.end_mut().capture(picture, messages) {
+    match slot.handle.end_mut().code(picture, messages) {
         Err(refusal) => refusal.number(),
         Ok(coded) => {
             *made = Made::of(&coded);

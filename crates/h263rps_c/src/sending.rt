@@ -20,7 +20,7 @@ ghost use Rattle.h263rps_c.specs.Pace.{pace_of, target_in};
 ghost use Rattle.h263rps_c.specs.Refusals.{refusal_in, capture_refusal, packet_refusal, target_refusal};
 
 use crate::MOST_PICTURES;
-use crate::answers::Said;
+use crate::answers::CMessage;
 use crate::messages::messages_from;
 use crate::refusals::EndRefusal;
 use h263_planes::PictureRef;
@@ -90,7 +90,7 @@ impl Sending {
     }
 
     /// Captures the next picture, with these messages in its header.
-    pub fn capture(&mut self, bytes: &[u8], back: &[Said]) -> Result<Coded, EndRefusal>
+    pub fn code(&mut self, bytes: &[u8], back: &[CMessage]) -> Result<Coded, EndRefusal>
         ensures refusal { refusal_in result ≡ capture_refusal bytes.now back.now self.old }
         ensures same { IfErr result (λ why. self.new ≡ self.old) }
         ensures count { IfOk result (λ coded. coded.packets ≡ length self.new.packets) }
@@ -127,7 +127,7 @@ impl Sending {
             return Err(EndRefusal::BadMessages);
         };
         let frame = PictureRef::new(self.params.format, bytes);
-        let coded = self.sender.capture(frame, messages.as_slice());
+        let coded = self.sender.code(frame, messages.as_slice());
         self.packets = coded.packets;
         Ok(coded)
     }

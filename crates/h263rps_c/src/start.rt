@@ -12,7 +12,7 @@ ghost use Rattle.h263rps_c.specs.Asked.{clock_in, format_in};
 ghost use Rattle.h263rps_c.specs.Refusals.{status_of};
 ghost use Rattle.h263rps_c.specs.Start.{IsStart, IsSaidOf, Refers, start_refusal};
 
-use crate::answers::Said;
+use crate::answers::CMessage;
 use crate::refusals::{EndRefusal, OK};
 use back_messages::{Message, laws as back_messages_laws, write};
 use h263_types::{Clock, Format};
@@ -36,7 +36,7 @@ pub struct Start {
     /// How many messages its header carries, at most four.
     pub count: u32,
     /// These messages, and nothing in the places after them.
-    pub messages: [Said; 4],
+    pub messages: [CMessage; 4],
 }
 
 fn format_number(format: Format) -> u32
@@ -69,13 +69,13 @@ fn referring(trp: Option<u16>) -> (u32, u32)
 }
 
 // The message at one place of a header, if there is one.
-fn said_at(place: &Option<Message>) -> Said
+fn said_at(place: &Option<Message>) -> CMessage
     requires { IfSome place.now (IsMessage Custom) }
     ensures { IsSaidOf result place.now }
 {
     match place {
-        None => Said::NOTHING,
-        Some(message) => Said::of(&write(message)),
+        None => CMessage::NOTHING,
+        Some(message) => CMessage::of(&write(message)),
     }
 }
 

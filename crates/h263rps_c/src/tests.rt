@@ -1,5 +1,5 @@
 //! Calls of the functions as C makes them: each is refused where it must be, and a call works.
-use crate::answers::{Answer, Made, Reply, Said};
+use crate::answers::{Answer, CMessage, Made, Reply};
 use crate::asked::Asked;
 use crate::counting::Statistics;
 use crate::handles::Slot;
@@ -35,7 +35,7 @@ const UNTOUCHED: Answer = Answer {
     number: 77,
     predicted: 77,
     reference: 77,
-    message: Said {
+    message: CMessage {
         bytes: [7; 5],
         length: 7,
     },
@@ -336,7 +336,7 @@ const UNTOLD: Start = Start {
     intra: 77,
     reference: 77,
     count: 77,
-    messages: [Said {
+    messages: [CMessage {
         bytes: [7; 5],
         length: 7,
     }; 4],
@@ -344,7 +344,7 @@ const UNTOLD: Start = Start {
 
 // What the first packet of a sender's next picture says, with these messages in its header: the
 // status and the start.
-fn begun(sender: &mut Slot, picture: &[u8], messages: &[Said]) -> (u32, Start) {
+fn begun(sender: &mut Slot, picture: &[u8], messages: &[CMessage]) -> (u32, Start) {
     let mut made = Made {
         number: 0,
         packets: 0,
@@ -393,11 +393,11 @@ fn starts_of_packets(rt: HostRuntime) -> Result<(), Fail> {
         0
     );
     // the second refers to the first, and has two messages, of three bytes and of five
-    let short = Said {
+    let short = CMessage {
         bytes: [0xC0, 0x04, 0x00, 0, 0],
         length: 3,
     };
-    let long = Said {
+    let long = CMessage {
         bytes: [0xE0, 0x04, 0x00, 0xC0, 0x80],
         length: 5,
     };
@@ -497,11 +497,11 @@ fn messages_for_a_header(rt: HostRuntime) -> Result<(), Fail> {
     ];
     for (length, wanted) in lengths {
         let places = [
-            Said {
+            CMessage {
                 bytes: [7; 5],
                 length: 0,
             },
-            Said {
+            CMessage {
                 bytes: [0xC0, 0x04, 0, 0, 0],
                 length,
             },

@@ -14,10 +14,10 @@ use Rattle.command_words.specs.declared.simple.WordStop.{WordStop}
 use Rattle.command_words.specs.declared.simple.WordStop.TheVariants as stops
 use Rattle.command_words.specs.Simple.{Text}
 use Rattle.command_words.specs.Asked.{Asked, asked}
-use Rattle.desk_program.specs.Ends.{Gains, HasCause, IsReadOut, Tells}
+use Rattle.desk_program.specs.Ends.{HasCause, IsReadOut, Tells}
 use Rattle.desk_program.specs.Attached.{AreAttached, AttachedAt}
 use Rattle.desk_program.specs.Lines.{Finishes, end_text}
-use Rattle.desk_program.specs.Promises.{HasPrefixes, HasStatus, HasTexts, IsNotUsage, IsSettled, IsStopped, IsUnopened, TakesInput}
+use Rattle.desk_program.specs.Promises.{HasPrefixes, HasStatus, HasTexts, IsFlushed, IsNotUsage, IsSettled, IsStopped, IsUnopened, ReadsNothing, TakesInput}
 use Rattle.h263rps_run.specs.Output.{word_stop, command_of, roles_of, source_of, run_of, output_of, order_from, source_from}
 use Rattle.h263rps_run.specs.Promises.{IsRefusedRightly, IsRunOf, IsRun}
 use Rattle.h263rps_run.proofs.Promised.{performed, some_since, nothing_done, report_unopened, words_unread, usage_told, since_attached}
@@ -125,10 +125,10 @@ starved_run o old new none same quiet = record {
   second_refused = λ inputs told fault r. absurd (cc r);
 }
 
-unopened_run : (o : Option Asked) (old new : Outside) → NoneAttached new.attached → new.written ≡ old.written → Rose old.faults.attach new.faults.attach → IsRun o (OpenFault Report) old new
-unopened_run o old new none same rose = record {
+unopened_run : (o : Option Asked) (old new : Outside) → NoneAttached new.attached → new.left ≡ old.left → new.written ≡ old.written → Rose old.faults.attach new.faults.attach → IsRun o (OpenFault Report) old new
+unopened_run o old new none kept same rose = record {
   run = subst (λ (order : List (Role × Text)). IsRunOf (output_of o) order (source_from o) (OpenFault Report) old new) (begins_with_report o)
-      (report_unopened (output_of o) (rest_of o) (source_from o) old new none same rose);
+      (report_unopened (output_of o) (rest_of o) (source_from o) old new none kept same rose);
   usage = λ u. absurd (cc u);
   no_command = λ n. inr (inr (inl rose));
   refused = λ inputs told fault r. absurd (cc r);
@@ -136,12 +136,12 @@ unopened_run o old new none same rose = record {
 }
 
 -- the report could not be attached
-pub report_failed : (o : Option Asked) (old new : Outside) (status : Status) → NoneAttached new.attached → new.written ≡ old.written
+pub report_failed : (o : Option Asked) (old new : Outside) (status : Status) → NoneAttached new.attached → new.left ≡ old.left → new.written ≡ old.written
     → HasCause status old.faults new.faults → (status ≡ OpenFault Report) ⊎ (status ≡ OutOfMemory) → IsRun o status old new
-report_failed o old new status none same cause (inl is) =
+report_failed o old new status none kept same cause (inl is) =
     subst (λ (s : Status). IsRun o s old new) (sym is)
-    (unopened_run o old new none same (subst (λ (s : Status). HasCause s old.faults new.faults) is cause))
-report_failed o old new status none same cause (inr is) =
+    (unopened_run o old new none kept same (subst (λ (s : Status). HasCause s old.faults new.faults) is cause))
+report_failed o old new status none kept same cause (inr is) =
     subst (λ (s : Status). IsRun o s old new) (sym is) (starved_run o old new none same (subst (λ (s : Status). HasCause s old.faults new.faults) is cause))
 
 -- the report alone is attached
@@ -186,7 +186,8 @@ module _ (words : List Text) (a : Asked) (asks : asked words ≡ Some a) (old mi
     (texts : (inputs : Role → List ℕ) → Tells mid inputs → IsSettled result → HasTexts (run_of c inputs) end_text result mid.written new.written)
     (prefixes : (inputs : Role → List ℕ) → Tells mid inputs → IsStopped result → HasPrefixes (run_of c inputs) end_text result mid.written new.written)
     (not_usage : IsNotUsage result)
-    (unopened : IsUnopened result → Gains (end_text result) mid.written new.written)
+    (unopened : IsUnopened result → ReadsNothing result mid new)
+    (flushed : IsFlushed result new)
     (causes : HasCause result mid.faults new.faults)
     (attached : AttachedAt ((Report, []) ∷ roles) result new)
     (whole_input : (inputs : Role → List ℕ) → Tells mid inputs → IsReadOut result (source_of c) new)
@@ -196,5 +197,5 @@ module _ (words : List Text) (a : Asked) (asks : asked words ≡ Some a) (old mi
       asked_run words a old mid new result attaches quiet asks
       (as_run a c is (rightly c) result mid new
       (subst (λ (l : List (Role × Text)). IsRunOf (run_of c) ((Report, []) ∷ l) (source_of c) result mid new) (own ∙ ap (λ (k : Command). roles_of k a) is)
-      (performed (run_of c) roles (source_of c) mid new result status texts prefixes not_usage unopened causes attached whole_input taken_input))
+      (performed (run_of c) roles (source_of c) mid new result status texts prefixes not_usage unopened flushed causes attached whole_input taken_input))
       not_usage)

@@ -1,3 +1,4 @@
 mod Promised
 mod Asked
 mod Named
+mod Exits

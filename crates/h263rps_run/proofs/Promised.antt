@@ -1,8 +1,8 @@
 -- A run keeps its promises, whichever way it ends.
-use Rattle.std.proofs.Common.{◌≡◌, inl, inr, ℕ, ◌≤◌, Bool, true, false, List, [], ◌∷◌, Option, Some, None, IfSome, if◌then◌else◌, refl, sym, ap, ◌∙◌, subst, arith, append-nil}
+use Rattle.std.proofs.Common.{◌≡◌, inl, inr, ℕ, ◌≤◌, Bool, true, false, List, [], ◌∷◌, ◌++◌, Option, Some, None, IfSome, if◌then◌else◌, refl, sym, ap, ◌∙◌, subst, arith, append-nil}
 use Rattle.std.specs.List.{AllByRecursion}
 use Rattle.h263_outside.specs.Desk.{Outside, Faults, NoneFalls, SomeRose, Rose, NoneAttached, OnlyAttaches, OnlyWrites, is_role, appended}
-use Rattle.h263_outside.specs.Gains.{gained, Front}
+use Rattle.h263_outside.specs.Gains.{gained}
 use Rattle.h263_outside.specs.declared.desk.Role.{Role}
 use Rattle.h263_outside.specs.declared.desk.Role.TheVariants.{Report}
 use Rattle.call_report.specs.declared.status.Status.{Status}
@@ -10,20 +10,17 @@ use Rattle.call_report.specs.declared.status.Status.TheVariants.{OutOfMemory, Us
 use Rattle.call_report.specs.Status.{Phase, phase, before_reading}
 use Rattle.call_report.specs.Status.Phase.{finished, refused, unread, unwritten, starved, unasked, unopened}
 use Rattle.call_report.specs.Text.{status_text}
-use Rattle.desk_program.specs.Run.{Run, text_of}
-use Rattle.desk_program.specs.Ends.{Tells, Gains, HasCause, IsReadOut}
+use Rattle.desk_program.specs.Run.{Run}
+use Rattle.desk_program.specs.Ends.{ComesEarly, Tells, Gains, HasCause, IsReadOut}
 use Rattle.desk_program.specs.Attached.{AreAttached, AttachedAt, SomeAttached}
 use Rattle.desk_program.specs.Lines.{end_text, Finishes, IsUntold}
-use Rattle.desk_program.specs.Promises.{IsSettled, IsStopped, IsUnopened, UnopenedIn, AskedIn, IsNotUsage, HasStatus, HasTexts, HasPrefixes, ReportIn, TakesInput}
-use Rattle.h263rps_run.specs.Promises.{IsRunOf}
+use Rattle.desk_program.specs.Promises.{IsFlushed, IsSettled, IsStopped, IsUnopened, UnopenedIn, AskedIn, IsNotUsage, HasStatus, HasTexts, HasPrefixes, ReadsNothing, TakesInput}
+use Rattle.h263rps_run.specs.Promises.{IsCutOff, IsRunOf}
 
 -- nothing was gained
 gained-nil : (o : Option (List ℕ)) → gained o [] ≡ o
 gained-nil None = refl
 gained-nil (Some xs) = ap (λ (l : List ℕ). Some l) (append-nil xs)
-
-no_front : (all : List ℕ) (old new : Option (List ℕ)) → new ≡ old → Front all old new
-no_front all old new same = record { rest = all; so_far = record { front = []; whole = refl; gains = same ∙ sym (gained-nil old) } }
 
 -- ---- faults that rose
 
@@ -52,22 +49,20 @@ still_attached order mid new rest are = record {
 report_alone : (order : List (Role × List ℕ)) (new : Outside) → AreAttached ((Report, []) ∷ []) new → SomeAttached ((Report, []) ∷ order) new
 report_alone order new are = record { first = (Report, []) ∷ []; rest = order; whole = refl; attached = are }
 
-other_stays : (r : Role) (bytes : List ℕ) (old new : Role → Option (List ℕ)) → is_role Report r ≡ false → new ≡ appended old Report bytes → new r ≡ old r
-other_stays r bytes old new other is = ap (λ (w : Role → Option (List ℕ)). w r) is ∙ at (is_role Report r) other
+-- a piece of the line on the report, and nothing on the others
+gains_on : (bytes : List ℕ) (old new : Role → Option (List ℕ)) → new ≡ appended old Report bytes → Gains (λ r. if is_role Report r then bytes else []) old new
+gains_on bytes old new is = λ r. ap (λ (w : Role → Option (List ℕ)). w r) is ∙ at r (is_role Report r)
   where
-    at : (t : Bool) → t ≡ false → (if t then gained (old r) bytes else old r) ≡ old r
-    at true h = absurd (cc h)
-    at false h = refl
-
-report_gains : (bytes : List ℕ) (old new : Role → Option (List ℕ)) → new ≡ appended old Report bytes → new Report ≡ gained (old Report) bytes
-report_gains bytes old new is = ap (λ (w : Role → Option (List ℕ)). w Report) is
-
-gains_line : (status : Status) (old new : Role → Option (List ℕ)) → new ≡ appended old Report (status_text status) → Gains (end_text status) old new
-gains_line status old new is = λ r. ap (λ (w : Role → Option (List ℕ)). w r) is ∙ at r (is_role Report r)
-  where
-    at : (r : Role) (t : Bool) → (if t then gained (old r) (status_text status) else old r) ≡ gained (old r) (if t then status_text status else [])
+    at : (r : Role) (t : Bool) → (if t then gained (old r) bytes else old r) ≡ gained (old r) (if t then bytes else [])
     at r true = refl
     at r false = sym (gained-nil (old r))
+
+joined : (t : Bool) (a b all : List ℕ) → a ++ b ≡ all → (if t then a else []) ++ (if t then b else []) ≡ (if t then all else [])
+joined true a b all is = is
+joined false a b all is = refl
+
+gains_line : (status : Status) (old new : Role → Option (List ℕ)) → new ≡ appended old Report (status_text status) → Gains (end_text status) old new
+gains_line status old new is = gains_on (status_text status) old new is
 
 gains_nothing : (texts : Role → List ℕ) (old new : Role → Option (List ℕ)) → ((r : Role) → texts r ≡ []) → new ≡ old → Gains texts old new
 gains_nothing texts old new none same =
@@ -97,11 +92,9 @@ module _ (output : (Role → List ℕ) → Run) (order : List (Role × List ℕ)
   nothing_done old new none same quiet = record {
     status = λ inputs told. inr (inr refl);
     texts = λ inputs told settled. absurd settled;
-    prefixes = λ inputs told stopped. record {
-      outputs = λ r other. no_front _ (old.written r) (new.written r) (ap (λ (w : Role → Option (List ℕ)). w r) same);
-      report = λ is. absurd (cc (ap (λ (f : Role → Bool). f Report) none, is));
-    };
+    prefixes = λ inputs told stopped. inr (record { attached = none; written = same });
     unread = λ is. absurd (cc is);
+    flushed = λ is. absurd (cc (ap (λ (f : Role → Bool). f Report) none, is));
     causes = quiet;
     attached = record { first = []; rest = (Report, []) ∷ order; whole = refl; attached = none_attached new none };
     whole_input = λ inputs told. tt;
@@ -109,13 +102,14 @@ module _ (output : (Role → List ℕ) → Run) (order : List (Role × List ℕ)
   }
 
   -- the report could not be attached
-  pub report_unopened : (old new : Outside) → NoneAttached new.attached → new.written ≡ old.written → Rose old.faults.attach new.faults.attach
+  pub report_unopened : (old new : Outside) → NoneAttached new.attached → new.left ≡ old.left → new.written ≡ old.written → Rose old.faults.attach new.faults.attach
       → IsRunOf output ((Report, []) ∷ order) source (OpenFault Report) old new
-  report_unopened old new none same rose = record {
+  report_unopened old new none kept same rose = record {
     status = λ inputs told. inl (inl rose);
     texts = λ inputs told settled. absurd settled;
     prefixes = λ inputs told stopped. absurd stopped;
-    unread = λ is. gains_nothing (end_text (OpenFault Report)) old.written new.written no_line same;
+    unread = λ is. record { left = kept; written = gains_nothing (end_text (OpenFault Report)) old.written new.written no_line same };
+    flushed = λ is. absurd (cc (ap (λ (f : Role → Bool). f Report) none, is));
     causes = rose;
     attached = record { first = []; name = []; rest = order; whole = refl; attached = none_attached new none };
     whole_input = λ inputs told. tt;
@@ -124,26 +118,23 @@ module _ (output : (Role → List ℕ) → Run) (order : List (Role × List ℕ)
 
   module _ (mid new : Outside) (are : AreAttached ((Report, []) ∷ []) mid) (rest : OnlyWrites mid new) where
     -- the last line could not be written
-    pub line_cut : (status : Status) → IsUntold status WriteFault mid new → IsRunOf output ((Report, []) ∷ order) source WriteFault mid new
-    line_cut status told = record {
+    pub line_cut : (status : Status) → ComesEarly (phase status) → IsUntold status WriteFault mid new → IsRunOf output ((Report, []) ∷ order) source WriteFault mid new
+    line_cut status early told = record {
       status = λ inputs tells. inl (inr (inr told.cause));
       texts = λ inputs tells settled. absurd settled;
-      prefixes = λ inputs tells stopped. record {
-        outputs = λ r other. no_front _ (mid.written r) (new.written r) (other_stays r told.written.front mid.written new.written other told.written.gained);
-        report = λ is. inr (record {
-          other = status;
-          piece = told.written.front;
-          cut = told.written.rest;
-          whole = told.written.whole;
-          lines = record {
-            done = [];
-            rest = (output inputs).turns;
-            front = refl;
-            gains = report_gains told.written.front mid.written new.written told.written.gained;
-          };
-        });
-      };
+      prefixes = λ inputs tells stopped. inl (inr (record {
+        done = [];
+        rest = (output inputs).turns;
+        front = refl;
+        other = status;
+        early = early;
+        piece = λ r. if is_role Report r then told.written.front else [];
+        cut = λ r. if is_role Report r then told.written.rest else [];
+        whole = λ r. joined (is_role Report r) told.written.front told.written.rest (status_text status) told.written.whole;
+        written = gains_on told.written.front mid.written new.written told.written.gained;
+      }));
       unread = λ is. absurd (cc is);
+      flushed = λ is. tt;
       causes = told.cause;
       attached = report_alone order new (still_attached _ mid new rest are);
       whole_input = λ inputs tells. tt;
@@ -151,15 +142,13 @@ module _ (output : (Role → List ℕ) → Run) (order : List (Role × List ℕ)
     }
 
     -- there was no memory for the words
-    words_starved : new.written ≡ appended mid.written Report (status_text OutOfMemory) → new.faults ≡ mid.faults → IsRunOf output ((Report, []) ∷ order) source OutOfMemory mid new
-    words_starved written quiet = record {
+    words_starved : new.written ≡ appended mid.written Report (status_text OutOfMemory) → new.flushed ≡ true → new.faults ≡ mid.faults → IsRunOf output ((Report, []) ∷ order) source OutOfMemory mid new
+    words_starved written flushed quiet = record {
       status = λ inputs tells. inr (inr refl);
       texts = λ inputs tells settled. absurd settled;
-      prefixes = λ inputs tells stopped. record {
-        outputs = λ r other. no_front _ (mid.written r) (new.written r) (other_stays r _ mid.written new.written other written);
-        report = λ is. record { done = []; rest = (output inputs).turns; front = refl; gains = report_gains _ mid.written new.written written };
-      };
+      prefixes = λ inputs tells stopped. inl (record { done = []; rest = (output inputs).turns; front = refl; written = gains_line OutOfMemory mid.written new.written written });
       unread = λ is. absurd (cc is);
+      flushed = λ is. flushed;
       causes = quiet;
       attached = report_alone order new (still_attached _ mid new rest are);
       whole_input = λ inputs tells. tt;
@@ -167,10 +156,10 @@ module _ (output : (Role → List ℕ) → Run) (order : List (Role × List ℕ)
     }
 
     pub words_unread : (result : Status) → Finishes OutOfMemory result mid new → IsRunOf output ((Report, []) ∷ order) source result mid new
-    words_unread result (inl told) = subst (λ (s : Status). IsRunOf output ((Report, []) ∷ order) source s mid new) (sym told.same) (words_starved told.written told.faults)
+    words_unread result (inl told) = subst (λ (s : Status). IsRunOf output ((Report, []) ∷ order) source s mid new) (sym told.same) (words_starved told.written told.flushed told.faults)
     words_unread result (inr cut) =
         subst (λ (s : Status). IsRunOf output ((Report, []) ∷ order) source s mid new) (sym cut.fault)
-        (line_cut OutOfMemory (record { fault = refl; written = cut.written; cause = cut.cause }))
+        (line_cut OutOfMemory tt (record { fault = refl; written = cut.written; cause = cut.cause }))
 
   -- a command was performed
   module _ (mid new : Outside) (result : Status)
@@ -178,7 +167,8 @@ module _ (output : (Role → List ℕ) → Run) (order : List (Role × List ℕ)
       (texts : (inputs : Role → List ℕ) → Tells mid inputs → IsSettled result → HasTexts (output inputs) end_text result mid.written new.written)
       (prefixes : (inputs : Role → List ℕ) → Tells mid inputs → IsStopped result → HasPrefixes (output inputs) end_text result mid.written new.written)
       (words : IsNotUsage result)
-      (unopened : IsUnopened result → Gains (end_text result) mid.written new.written)
+      (unopened : IsUnopened result → ReadsNothing result mid new)
+      (flushed : IsFlushed result new)
       (causes : HasCause result mid.faults new.faults)
       (attached : AttachedAt ((Report, []) ∷ order) result new)
       (whole_input : (inputs : Role → List ℕ) → Tells mid inputs → IsReadOut result source new)
@@ -187,11 +177,9 @@ module _ (output : (Role → List ℕ) → Run) (order : List (Role × List ℕ)
     performed = record {
       status = status;
       texts = texts;
-      prefixes = λ inputs tells stopped. record {
-        outputs = (prefixes inputs tells stopped).outputs;
-        report = λ is. (prefixes inputs tells stopped).report;
-      };
+      prefixes = λ inputs tells stopped. inl (prefixes inputs tells stopped);
       unread = λ is. unopened (is_unopened (phase result) is words);
+      flushed = λ is. flushed;
       causes = causes;
       attached = attached;
       whole_input = whole_input;
@@ -201,12 +189,13 @@ module _ (output : (Role → List ℕ) → Run) (order : List (Role × List ℕ)
 -- the words are no command
 module _ (output : (Role → List ℕ) → Run) (source : Option Role) (mid new : Outside) (are : AreAttached ((Report, []) ∷ []) mid) (rest : OnlyWrites mid new)
     (says : (inputs : Role → List ℕ) → (output inputs).last.status ≡ Usage) where
-  told_usage : new.written ≡ appended mid.written Report (status_text Usage) → IsRunOf output ((Report, []) ∷ []) source Usage mid new
-  told_usage written = record {
+  told_usage : new.written ≡ appended mid.written Report (status_text Usage) → new.flushed ≡ true → IsRunOf output ((Report, []) ∷ []) source Usage mid new
+  told_usage written flushed = record {
     status = λ inputs tells. inr (inl (sym (says inputs)));
     texts = λ inputs tells settled. absurd settled;
     prefixes = λ inputs tells stopped. absurd stopped;
-    unread = λ is. gains_line Usage mid.written new.written written;
+    unread = λ is. record { left = rest.left; written = gains_line Usage mid.written new.written written };
+    flushed = λ is. flushed;
     causes = tt;
     attached = still_attached _ mid new rest are;
     whole_input = λ inputs tells. tt;
@@ -214,10 +203,10 @@ module _ (output : (Role → List ℕ) → Run) (source : Option Role) (mid new 
   }
 
   pub usage_told : (result : Status) → Finishes Usage result mid new → IsRunOf output ((Report, []) ∷ []) source result mid new
-  usage_told result (inl told) = subst (λ (s : Status). IsRunOf output ((Report, []) ∷ []) source s mid new) (sym told.same) (told_usage told.written)
+  usage_told result (inl told) = subst (λ (s : Status). IsRunOf output ((Report, []) ∷ []) source s mid new) (sym told.same) (told_usage told.written told.flushed)
   usage_told result (inr cut) =
       subst (λ (s : Status). IsRunOf output ((Report, []) ∷ []) source s mid new) (sym cut.fault)
-      (line_cut output [] source mid new are rest Usage (record { fault = refl; written = cut.written; cause = cut.cause }))
+      (line_cut output [] source mid new are rest Usage tt (record { fault = refl; written = cut.written; cause = cut.cause }))
 
 -- the same from an earlier outside, where only roles were attached since
 module _ (output : (Role → List ℕ) → Run) (order : List (Role × List ℕ)) (source : Option Role) (old mid new : Outside) (attaches : OnlyAttaches old mid) (quiet : mid.faults ≡ old.faults) (result : Status) where
@@ -228,21 +217,22 @@ module _ (output : (Role → List ℕ) → Run) (order : List (Role × List ℕ)
   status_since run (inl some) = inl (some_since old.faults mid.faults new.faults attaches.faults some)
   status_since run (inr rest) = inr rest
 
+  cut_since : (run : Run) → IsCutOff run result mid new → IsCutOff run result old new
+  cut_since run (inl prefixes) = inl (subst (λ (w : Role → Option (List ℕ)). HasPrefixes run end_text result w new.written) attaches.written prefixes)
+  cut_since run (inr none) = inr (record { attached = none.attached; written = none.written ∙ attaches.written })
+
   pub since_attached : IsRunOf output order source result mid new → IsRunOf output order source result old new
   since_attached run = record {
     status = λ inputs told. status_since (output inputs) (run.status inputs (tells_since inputs told));
     texts = λ inputs told settled.
         subst (λ (w : Role → Option (List ℕ)). HasTexts (output inputs) end_text result w new.written) attaches.written
         (run.texts inputs (tells_since inputs told) settled);
-    prefixes = λ inputs told stopped. record {
-      outputs = λ r other.
-          subst (λ (w : Role → Option (List ℕ)). Front (text_of (output inputs) r) (w r) (new.written r)) attaches.written
-          ((run.prefixes inputs (tells_since inputs told) stopped).outputs r other);
-      report = λ is.
-          subst (λ (w : Role → Option (List ℕ)). ReportIn (phase result) result (output inputs) end_text (w Report) (new.written Report)) attaches.written
-          ((run.prefixes inputs (tells_since inputs told) stopped).report is);
+    prefixes = λ inputs told stopped. cut_since (output inputs) (run.prefixes inputs (tells_since inputs told) stopped);
+    unread = λ is. record {
+      left = (run.unread is).left ∙ attaches.left;
+      written = subst (λ (w : Role → Option (List ℕ)). Gains (end_text result) w new.written) attaches.written (run.unread is).written;
     };
-    unread = λ is. subst (λ (w : Role → Option (List ℕ)). Gains (end_text result) w new.written) attaches.written (run.unread is);
+    flushed = run.flushed;
     causes = subst (λ (f : Faults). HasCause result f new.faults) quiet run.causes;
     attached = run.attached;
     whole_input = λ inputs told. run.whole_input inputs (tells_since inputs told);

@@ -1,7 +1,6 @@
 -- What is promised of a run of the program, clause by clause.
-use Rattle.std.specs.Prelude.{ℕ, ◌≡◌, ◌⊎◌, true, false, List, Option, Some, None}
-use Rattle.h263_outside.specs.Desk.{Outside, SomeRose, is_role}
-use Rattle.h263_outside.specs.Gains.{Front}
+use Rattle.std.specs.Prelude.{ℕ, ◌≡◌, ◌⊎◌, true, List, Option, Some, None}
+use Rattle.h263_outside.specs.Desk.{NoneAttached, Outside, SomeRose}
 use Rattle.h263_outside.specs.declared.desk.Role.{Role}
 use Rattle.h263_outside.specs.declared.desk.Role.TheVariants.{Video, Video2, Report}
 use Rattle.y4m.specs.declared.fault.Y4mFault.{Y4mFault}
@@ -11,19 +10,22 @@ use Rattle.call_report.specs.declared.status.Status.TheVariants.{OutOfMemory, Us
 use Rattle.call_report.specs.Status.{code_of, phase, before_reading}
 use Rattle.command_words.specs.Asked.{Asked}
 use Rattle.command_words.specs.declared.command.Command.{Command}
-use Rattle.desk_program.specs.Run.{Run, text_of}
-use Rattle.desk_program.specs.Ends.{Tells, Gains, HasCause, IsReadOut}
+use Rattle.desk_program.specs.Run.{Run}
+use Rattle.desk_program.specs.Ends.{Tells, HasCause, IsReadOut}
 use Rattle.desk_program.specs.Attached.{AttachedAt}
 use Rattle.desk_program.specs.Lines.{end_text}
 use Rattle.h263rps_run.specs.Output.{output_of, order_from, run_of, source_from}
-use Rattle.desk_program.specs.Promises.{IsSettled, IsStopped, HasStatus, HasTexts, ReportIn, TakesInput}
+use Rattle.desk_program.specs.Promises.{HasPrefixes, HasStatus, HasTexts, IsFlushed, IsSettled, IsStopped, ReadsNothing, TakesInput}
 
--- a prefix of each text was written; where the report is attached, it has whole lines and that of the
--- status, or was cut in a line
-pub record IsCutOff (run : Run) (status : Status) (old new : Outside) : Type 0 where
-  pub outputs : (r : Role) → is_role Report r ≡ false → Front (text_of run r) (old.written r) (new.written r)
-  pub report : new.attached Report ≡ true
-      → ReportIn (phase status) status run end_text (old.written Report) (new.written Report)
+-- no role is attached, and nothing was written
+pub record IsUnbegun (old new : Outside) : Type 0 where
+  pub attached : NoneAttached new.attached
+  pub written : new.written ≡ old.written
+
+-- each output has the texts of some first turns, the same for all, with the line of the status; or it
+-- was cut in what came next
+abbrev pub IsCutOff : Run → Status → Outside → Outside → Type 0
+IsCutOff run status old new = HasPrefixes run end_text status old.written new.written ⊎ IsUnbegun old new
 
 -- What is promised of a run with such an output, by what its inputs hold, whose roles are attached
 -- in such an order, and which waits for the end of such an input.
@@ -37,8 +39,11 @@ pub record IsRunOf (output : (Role → List ℕ) → Run) (order : List (Role ×
   -- after want of memory and a fault of a read or a write a prefix of each was written
   pub prefixes : (inputs : Role → List ℕ)
       → Tells old inputs → IsStopped result → IsCutOff (output inputs) result old new
-  -- where the words are no command, or a role could not be attached, that line alone was written
-  pub unread : before_reading (phase result) ≡ true → Gains (end_text result) old.written new.written
+  -- where the words are no command, or a role could not be attached, nothing was read, and that line
+  -- alone was written
+  pub unread : before_reading (phase result) ≡ true → ReadsNothing result old new
+  -- unless a write failed, all that was written was then seen to have come to its place
+  pub flushed : new.attached Report ≡ true → IsFlushed result new
   -- each fault has its cause, and want of memory comes with no fault of the desk, whatever it tells
   pub causes : HasCause result old.faults new.faults
   -- the first roles of the order are attached, each by its name

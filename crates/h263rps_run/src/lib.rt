@@ -14,5 +14,5 @@ mod program;
 mod roles;
 
 pub use call_report::Status;
-pub use process::code_for;
+pub use process::{code_for, code_of_words};
 pub use program::run;

@@ -7,6 +7,7 @@ ghost use Rattle.std.specs.Vec.Iter.{into_iter_items};
 ghost use Rattle.h263_outside.specs.Desk.{NoneAttached};
 ghost use Rattle.command_words.specs.Clap.{texts};
 ghost use Rattle.call_report.specs.Status.{code_of};
+ghost use Rattle.call_report.specs.declared.status.Status.TheVariants.{OutOfMemory};
 ghost use Rattle.h263rps_run.specs.Output.{command_of, unread_words, words_in};
 ghost use Rattle.h263rps_run.specs.Promises.{IsExit, IsRun};
 
@@ -45,6 +46,25 @@ fn unread(kind: io::ErrorKind) -> Status
     }
 }
 
+/// How a process ends whose words are these texts. Where there was no memory for them nothing is
+/// read or written.
+pub fn code_of_words<D: Desk>(
+    alloc: Global,
+    words: Result<Vec<&str>, AllocError>,
+    desk: &mut D,
+) -> ExitCode
+    requires { NoneAttached (D.outside desk.old).attached }
+    ensures run { IfOk words.entry (λ list. IsExit (command_of (texts list.items))
+        (exit_status result) (D.outside desk.old) (D.outside desk.new)) }
+    ensures starved { OnErr words.entry (exit_status result ≡ code_of OutOfMemory) }
+    ensures untouched { OnErr words.entry (desk.new ≡ desk.old) }
+{
+    match words {
+        Ok(words) => ExitCode::from(run(alloc, &words, desk).code()),
+        Err(_) => ExitCode::from(Status::OutOfMemory.code()),
+    }
+}
+
 /// How the process ends to which the host gave these arguments: the status of a run whose words are
 /// all of them but the first, the program's name. Where the host could not give them the desk is
 /// left alone.
@@ -60,12 +80,8 @@ pub fn code_for<D: Desk>(alloc: Global, args: io::Result<Args>, desk: &mut D) ->
         Ok(args) => args,
         Err(fault) => return ExitCode::from(unread(fault.kind()).code()),
     };
-    let Ok(words) = words_of(alloc, args) else {
-        return ExitCode::from(Status::OutOfMemory.code());
-    };
-    let status = match texts_of(alloc, &words) {
-        Ok(texts) => run(alloc, &texts, desk),
-        Err(_) => Status::OutOfMemory,
-    };
-    ExitCode::from(status.code())
+    match words_of(alloc, args) {
+        Ok(words) => code_of_words(alloc, texts_of(alloc, &words), desk),
+        Err(fault) => code_of_words(alloc, Err(fault), desk),
+    }
 }

@@ -3,3 +3,4 @@ mod Entries
 mod Handling
 mod Answering
 mod Refusing
+mod Followed

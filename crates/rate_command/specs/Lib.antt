@@ -1,1 +1,2 @@
 pub mod Rate
+pub mod Followed

@@ -11,7 +11,7 @@ use Rattle.payload_join.specs.Places.{Shows}
 use Rattle.payload_join.specs.Run.{given_next, joined_by}
 use Rattle.recv_command.specs.Join.{Delivering, JoinState, given_to, delivers_next, delivers_one, joined_state, packets_in, through}
 
-reversed : (x : ReceiverEntry) (xs ys : List ReceiverEntry) → reverse xs ++ (x ∷ ys) ≡ reverse (x ∷ xs) ++ ys
+pub reversed : (x : ReceiverEntry) (xs ys : List ReceiverEntry) → reverse xs ++ (x ∷ ys) ≡ reverse (x ∷ xs) ++ ys
 reversed x xs ys = sym (ap (λ (l : List ReceiverEntry). l ++ ys) (reverse-append (x ∷ []) xs) ∙ append_assoc (reverse xs) (x ∷ []) ys)
 
 -- the parameters stay

@@ -2,3 +2,5 @@ mod Saying
 mod Showing
 mod WrittenSoFar
 mod Joined
+mod Followed
+mod FollowedJoined

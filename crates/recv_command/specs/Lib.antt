@@ -3,3 +3,4 @@ pub mod Said
 pub mod Recv
 pub mod JoinTally
 pub mod Join
+pub mod Followed

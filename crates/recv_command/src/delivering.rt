@@ -15,7 +15,7 @@ ghost use Rattle.recv_command.specs.Tally.{total_of};
 
 use crate::parts::say;
 use crate::{JoinTally, Receiving};
-use back_messages::MessageBytes;
+use back_messages::Said;
 use call_report::Status;
 use desk_program::laws as desk_program_laws;
 use h263_outside::{Desk, laws as outside_laws};
@@ -24,7 +24,7 @@ use payload_join::Joiner;
 // Writes a message, if there is one, unless a write failed before.
 fn say_after<D: Desk>(
     desk: &mut D,
-    message: Option<MessageBytes>,
+    message: Option<Said>,
     before: Result<(), Status>,
 ) -> Result<(), Status>
     requires { (D.outside desk.old).attached Wire ≡ true }

@@ -10,8 +10,8 @@ ghost use Rattle.receiver_end.specs.Answers.{IsMessage};
 ghost use Rattle.coded_call.specs.Bytes.{AreBytes};
 ghost use Rattle.recv_command.specs.Said.{back_text, shown_text};
 
-use back_messages::MessageBytes;
-use call_report::{PictureRow, Status, picture_line};
+use back_messages::Said;
+use call_report::{Status, picture_line};
 use coded_call::laws as coded_call_laws;
 use desk_program::{laws as desk_program_laws, put_entry, put_line, put_picture};
 use h263_outside::{Desk, laws as outside_laws};
@@ -27,7 +27,7 @@ fn are_bytes(bytes: &[u8])
 {}
 
 /// Writes a message, if there is one.
-pub fn say<D: Desk>(desk: &mut D, said: Option<MessageBytes>) -> Result<(), Status>
+pub fn say<D: Desk>(desk: &mut D, said: Option<Said>) -> Result<(), Status>
     requires { (D.outside desk.old).attached Wire ≡ true }
     ensures ok { (clock : Clock) (message : Option Message)
         → IsMessage clock said message → OnOk result
@@ -72,12 +72,7 @@ pub fn show<D: Desk>(desk: &mut D, picture: PictureRef<'_>, played: Played) -> R
     outside_laws::calls();
     desk_program_laws::turn_laws();
     put_picture(desk, played.mark, picture)?;
-    let row = PictureRow {
-        party: None,
-        number: played.number,
-        mark: Some(played.mark),
-        reference: None,
-    };
-    put_line(desk, &picture_line(row))?;
+    let line = picture_line(played.number, Some(played.mark), None, None);
+    put_line(desk, &line)?;
     say(desk, played.message)
 }

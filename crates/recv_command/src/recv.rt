@@ -10,7 +10,7 @@ ghost use Rattle.recv_command.specs.Tally.{total_of};
 
 use crate::Tally;
 use crate::parts::{say, show};
-use back_messages::MessageBytes;
+use back_messages::Said;
 use call_report::Status;
 use desk_program::{put_head, put_line};
 use event_logs::Side;
@@ -31,7 +31,7 @@ pub struct Receiving {
 
 impl Receiving {
     // Delivers a packet. The message acknowledges what the packet completes.
-    pub(crate) fn deliver(&mut self, bytes: &[u8]) -> Option<MessageBytes>
+    pub(crate) fn deliver(&mut self, bytes: &[u8]) -> Option<Said>
         requires { total_of self.old.tally < 2 ^ 47 }
         ensures stands { (s : RecvState) → RecvStands self.old s
             → RecvStands self.new (recv_rules.packet s bytes.now) }

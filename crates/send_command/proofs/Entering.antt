@@ -11,22 +11,23 @@ use Rattle.event_logs.specs.declared.entry.Side.{Side}
 use Rattle.event_logs.specs.declared.entry.Side.TheVariants as sides
 use Rattle.event_logs.specs.declared.entry.Entry.{Entry}
 use Rattle.event_logs.specs.declared.entry.Entry.TheVariants as log_entry
+use Rattle.event_logs.specs.declared.fault.LogFault.{LogFault}
 use Rattle.event_logs.specs.declared.fault.LogFault.TheVariants.{BadRecord, TooMany}
 use Rattle.event_logs.specs.declared.fault.LogStop.{LogStop}
 use Rattle.event_logs.specs.declared.fault.LogStop.TheVariants as stops
 use Rattle.event_logs.specs.Entry.{entry_in, bytes_of}
 use Rattle.event_logs.specs.Place.{LogPlace}
 use Rattle.event_logs.specs.Reader.{EntryGives, Moves}
-use Rattle.call_report.specs.declared.status.Status.{Status}
 use Rattle.call_report.specs.declared.status.Status.TheVariants.{Ok as Fine, LogRefused}
 use Rattle.call_report.specs.Status.{phase, log_stop}
-use Rattle.desk_program.specs.Run.{End, Step, left_after, refusal}
+use Rattle.desk_program.specs.Run.{End, Step, left_after}
 use Rattle.desk_program.specs.Run.Step.{Ends}
 use Rattle.desk_program.specs.Ends.{Tells, Gains, GainsFronts, IsPart, Ended, GivesUp, step_turns, step_texts}
 use Rattle.desk_program.specs.Texts.{no_bytes, no_texts, on, of, and_of}
 use Rattle.desk_program.specs.Laws.{TurnLaws}
 use Rattle.send_command.specs.Tally.{count_text}
-use Rattle.send_command.specs.Send.{SendState, captured, capture_texts, most_entries, frame_step, capture_step, entry_step, all_read, log_step, send_step}
+use Rattle.send_command.specs.Send.{SendState, captured, bad_entry, capture_texts, most_entries, frame_step, capture_step, entry_step, all_read, log_step, send_step}
+use Rattle.send_command.proofs.Apart.{log_refused}
 use Rattle.send_command.proofs.Held.{no_entry_held, not_none}
 
 -- ---- a part of an entry holds no turn
@@ -52,7 +53,7 @@ CutAfter = (side : Side) (entry : Entry) (text : List ℕ) (k : ℕ) → entry_i
 
 -- the step, where another entry may come or not
 abbrev chosen : Bool → SendState → (Role → List ℕ) → Option Entry → Step SendState
-chosen t s inputs e = if t then entry_step s inputs e else Ends (refusal (LogRefused (TooMany s.at)))
+chosen t s inputs e = if t then entry_step s inputs e else Ends (bad_entry (TooMany s.at))
 
 part_of_choice : (t : Bool) (s : SendState) (inputs : Role → List ℕ) (e : Option Entry) (k : ℕ) → ((entry : Entry) → e ≡ Some entry → 3 + bytes_of entry ≤ k → ⊥) → IsPart (step_turns (chosen t s inputs e)) (of Events k)
 part_of_choice true s inputs e k few = part_of_entry s inputs e k few
@@ -75,7 +76,7 @@ some_entry : (log : List ℕ) (entry : Entry) → entry_in sides.Send log ≡ So
 some_entry [] entry is = absurd (cc is)
 some_entry (b ∷ log) entry is = omega arith
 
-many_is : (s : SendState) (inputs : Role → List ℕ) (log : List ℕ) → 0 < length log → s.read ≡ most_entries → log_step s inputs log ≡ Ends (refusal (LogRefused (TooMany s.at)))
+many_is : (s : SendState) (inputs : Role → List ℕ) (log : List ℕ) → 0 < length log → s.read ≡ most_entries → log_step s inputs log ≡ Ends (bad_entry (TooMany s.at))
 many_is s inputs [] some many = absurd (omega arith)
 many_is s inputs (b ∷ log) some many =
     ap (λ (t : Bool). chosen t s inputs (entry_in sides.Send (b ∷ log))) (le-ltb s.read most_entries (omega (arith, many)))
@@ -96,8 +97,8 @@ module _ (laws : TurnLaws) (cut : CutAfter) (s : SendState) (inputs : Role → L
   sent_in : (text : List ℕ) (e : Option Entry) → entry_in reader.side text ≡ e → entry_in sides.Send text ≡ e
   sent_in text e is = ap (λ (side : Side). entry_in side text) (sym at.side_is) ∙ is
 
-  refused : (status : Status) → send_step s inputs ≡ no_step (refusal status) → Ended (send_step s inputs) status inputs old mid
-  refused status is = record { last = refusal status; is = is; by = laws.refuses status inputs old mid same }
+  refused : (fault : LogFault) → send_step s inputs ≡ no_step (bad_entry fault) → Ended (send_step s inputs) (LogRefused fault) inputs old mid
+  refused fault is = record { last = bad_entry fault; is = is; by = log_refused laws (LogRefused fault) inputs old mid told others same }
 
   pub log_stops : (stop : LogStop) → EntryGives (Err stop) reader (inputs Events) bytes (mid.left Events) → Moves (Err stop) reader after → GivesUp (phase (log_stop stop)) (log_stop stop) (send_step s inputs) true inputs old mid
   log_stops stops.Read e moves = record {
@@ -108,13 +109,13 @@ module _ (laws : TurnLaws) (cut : CutAfter) (s : SendState) (inputs : Role → L
     written = same;
   }
   log_stops (stops.BadRecord place) e moves =
-      refused (LogRefused (BadRecord place))
+      refused (BadRecord place)
       (entry_is s inputs (inputs Events) None e.0 (omega (arith, moves.0, at.read_is)) (sent_in (inputs Events) None e.1)
-      ∙ ap (λ (n : ℕ). no_step (refusal (LogRefused (BadRecord n)))) (at.at_is ∙ sym moves.1))
+      ∙ ap (λ (n : ℕ). no_step (bad_entry (BadRecord n))) (at.at_is ∙ sym moves.1))
   log_stops (stops.TooMany place) e moves =
-      refused (LogRefused (TooMany place))
+      refused (TooMany place)
       (many_is s inputs (inputs Events) e.0 (at.read_is ∙ moves.0)
-      ∙ ap (λ (n : ℕ). no_step (refusal (LogRefused (TooMany n)))) (at.at_is ∙ sym moves.1))
+      ∙ ap (λ (n : ℕ). no_step (bad_entry (TooMany n))) (at.at_is ∙ sym moves.1))
 
   -- at the end of the log
   module _ (e : EntryGives (Ok None) reader (inputs Events) bytes (mid.left Events)) (new : Outside) where
@@ -154,8 +155,8 @@ pub moved_entry : (o known : Option (ℕ × Entry)) (reader after : LogPlace) �
 moved_entry o known reader after is moves = subst (λ (x : Option (ℕ × Entry)). Moves (Ok x) reader after) is moves
 
 -- an entry of a receiver's log is refused
-pub other_entry : (s : SendState) (inputs : Role → List ℕ) (place : ℕ) (entry : Entry) → ((x : ℕ) × entry ≡ log_entry.Packet x) ⊎ (entry ≡ log_entry.Play) → place ≡ s.at → entry_step s inputs (Some entry) ≡ no_step (refusal (LogRefused (BadRecord place)))
+pub other_entry : (s : SendState) (inputs : Role → List ℕ) (place : ℕ) (entry : Entry) → ((x : ℕ) × entry ≡ log_entry.Packet x) ⊎ (entry ≡ log_entry.Play) → place ≡ s.at → entry_step s inputs (Some entry) ≡ no_step (bad_entry (BadRecord place))
 other_entry s inputs place entry (inl packet) at =
-    ap (λ (e : Entry). entry_step s inputs (Some e)) packet.1 ∙ ap (λ (n : ℕ). no_step (refusal (LogRefused (BadRecord n)))) (sym at)
+    ap (λ (e : Entry). entry_step s inputs (Some e)) packet.1 ∙ ap (λ (n : ℕ). no_step (bad_entry (BadRecord n))) (sym at)
 other_entry s inputs place entry (inr play) at =
-    ap (λ (e : Entry). entry_step s inputs (Some e)) play ∙ ap (λ (n : ℕ). no_step (refusal (LogRefused (BadRecord n)))) (sym at)
+    ap (λ (e : Entry). entry_step s inputs (Some e)) play ∙ ap (λ (n : ℕ). no_step (bad_entry (BadRecord n))) (sym at)

@@ -18,12 +18,13 @@ use Rattle.y4m.specs.Reader.{FrameGives, Moves}
 use Rattle.event_logs.specs.declared.fault.LogFault.TheVariants.{NoFrame}
 use Rattle.call_report.specs.declared.status.Status.TheVariants.{VideoRefused, LogRefused}
 use Rattle.call_report.specs.Status.{phase, video_stop}
-use Rattle.desk_program.specs.Run.{Step, left_after, refusal}
+use Rattle.desk_program.specs.Run.{Step, left_after}
 use Rattle.desk_program.specs.Ends.{Tells, Gains, GainsFronts, holds, IsPart, Went, Ended, EndsBy, GivesUp, step_turns, step_texts}
 use Rattle.desk_program.specs.Texts.{no_texts, of, and_of}
 use Rattle.desk_program.specs.Laws.{TurnLaws}
-use Rattle.send_command.specs.Send.{SendState, captured, capture_texts, after_capture, frame_step, capture_step, no_frame}
+use Rattle.send_command.specs.Send.{SendState, captured, capture_texts, after_capture, frame_step, capture_step, no_frame, refused_video}
 use Rattle.send_command.specs.Stands.{HasTaken}
+use Rattle.send_command.proofs.Apart.{not_video, refused_by}
 use Rattle.send_command.proofs.Held.{no_frame_held, not_an_err}
 
 abbrev pub CutFrames : Type 0
@@ -83,9 +84,11 @@ module _ (laws : TurnLaws) (cut : CutFrames) (s : SendState) (inputs : Role → 
   }
   frame_stops (Refused fault) e =
       record {
-        last = refusal (VideoRefused fault);
+        last = refused_video 3 fault;
         is = video_next s (inputs Video) (Err fault) e.0 (next_at (Err fault) e.1);
-        by = laws.refuses (VideoRefused fault) inputs before mid (same ∙ taken.written);
+        by =
+            refused_by laws Video (of Events 3) (VideoRefused fault) inputs before mid
+            (λ r input other. others r (not_video r other) ∙ taken.left r input) (same ∙ taken.written);
       }
 
   pub frame_missing : (place : ℕ) → place ≡ s.at → FrameGives (Ok false) reader (inputs Video) out after (mid.left Video) → Ended (capture_step s (inputs Video)) (LogRefused (NoFrame place)) inputs before mid

@@ -9,3 +9,5 @@ pub mod Starting
 pub mod Keeping
 pub mod Refusing
 pub mod NoSecond
+mod Apart
+mod Followed

@@ -1,3 +1,4 @@
 pub mod Tally
 pub mod Send
 pub mod Stands
+pub mod Followed

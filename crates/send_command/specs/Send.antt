@@ -1,6 +1,7 @@
 -- What the command of a sender alone makes of a video and of a log.
 use Rattle.std.specs.Prelude.{ℕ, ◌+◌, ◌-◌, nat_lt, true, List, [], ◌∷◌, length, take, drop, Option, Some, None, Result, Ok, Err, if◌then◌else◌}
 use Rattle.std.specs.List.{flat_map}
+use Rattle.h263_outside.specs.Desk.{is_role}
 use Rattle.h263_outside.specs.declared.desk.Role.{Role}
 use Rattle.h263_outside.specs.declared.desk.Role.TheVariants.{Video, Events, Wire, Report}
 use Rattle.h263_types.specs.declared.format.Format.{Format}
@@ -13,9 +14,11 @@ use Rattle.y4m.specs.Video.{most_frames}
 use Rattle.event_logs.specs.declared.entry.Side.TheVariants as sides
 use Rattle.event_logs.specs.declared.entry.Entry.{Entry}
 use Rattle.event_logs.specs.declared.entry.Entry.TheVariants as log_entry
+use Rattle.event_logs.specs.declared.fault.LogFault.{LogFault}
 use Rattle.event_logs.specs.declared.fault.LogFault.TheVariants.{BadRecord, NoFrame, TooMany}
 use Rattle.event_logs.specs.Entry.{entry_in}
 use Rattle.event_logs.specs.Text.{entry_text}
+use Rattle.call_report.specs.declared.status.Status.{Status}
 use Rattle.call_report.specs.declared.status.Status.TheVariants.{Ok as Fine, VideoRefused, LogRefused}
 use Rattle.call_report.specs.Text.{picture_text}
 use Rattle.call_model.specs.Sending.{SenderEntry, Capture, Feedback, feedback_answer}
@@ -23,9 +26,9 @@ use Rattle.call_decoding.specs.Rules.{rules_of}
 use Rattle.call_encoding.specs.Frames.{Frame}
 use Rattle.call_encoding.specs.Messages.{read_message}
 use Rattle.sender_end.specs.Stands.{run_of, next_after, last_packets}
-use Rattle.desk_program.specs.Run.{End, Step, refusal}
+use Rattle.desk_program.specs.Run.{End, Step}
 use Rattle.desk_program.specs.Run.Step.{Goes, Ends}
-use Rattle.desk_program.specs.Texts.{no_texts, on, then_also, of, and_of}
+use Rattle.desk_program.specs.Texts.{no_bytes, no_texts, on, then_also, of, and_of}
 use Rattle.send_command.specs.declared.sending.Sending.{Sending}
 use Rattle.send_command.specs.declared.tally.Tally.{Tally}
 use Rattle.rate_control.specs.Pace.{pace_of}
@@ -43,6 +46,24 @@ pub record SendState : Type 0 where
   pub read : ℕ
   pub video_at : ℕ
   pub more : ℕ
+
+-- A refusal: of what it takes of this input nothing is said, and of each other one this much is
+-- taken.
+abbrev pub refusal_at : Role → (Role → ℕ) → Status → End
+refusal_at input before status =
+    record {
+      status = status;
+      taken = λ r. if is_role input r then None else Some (before r);
+      texts = no_texts;
+    }
+
+-- a video is refused, after so much of the log
+abbrev pub refused_video : ℕ → Y4mFault → End
+refused_video size fault = refusal_at Video (of Events size) (VideoRefused fault)
+
+-- a log is refused, where no entry stands that may be there
+abbrev pub bad_entry : LogFault → End
+bad_entry fault = refusal_at Events no_bytes (LogRefused fault)
 
 -- the most entries of a log
 abbrev pub most_entries : ℕ
@@ -92,7 +113,7 @@ frame_step s size (Ok frame) =
       whole = true;
       texts = capture_texts s.target s.params (captured s.params.format frame) s.entries;
     })
-frame_step s size (Err fault) = Ends (refusal (VideoRefused fault))
+frame_step s size (Err fault) = Ends (refused_video 3 fault)
 
 -- the capture was taken, and the video is at its end
 abbrev pub no_frame : ℕ → End
@@ -128,7 +149,7 @@ feedback_step s size bytes =
     (record { taken = of Events size; whole = true; texts = no_texts })
 
 abbrev pub no_entry : SendState → Step SendState
-no_entry s = Ends (refusal (LogRefused (BadRecord s.at)))
+no_entry s = Ends (bad_entry (BadRecord s.at))
 
 -- the entry that stands first in the log; one of a receiver's log never does
 abbrev pub entry_step : SendState → (Role → List ℕ) → Option Entry → Step SendState
@@ -148,7 +169,7 @@ abbrev pub log_step : SendState → (Role → List ℕ) → List ℕ → Step Se
 log_step s inputs [] = Ends (all_read s.tally)
 log_step s inputs (b ∷ log) =
     if nat_lt s.read most_entries then entry_step s inputs (entry_in sides.Send (b ∷ log))
-    else Ends (refusal (LogRefused (TooMany s.at)))
+    else Ends (bad_entry (TooMany s.at))
 
 -- a turn: one entry of the log
 abbrev pub send_step : SendState → (Role → List ℕ) → Step SendState
@@ -172,7 +193,7 @@ first_state setup f size =
 abbrev pub head_step : Sending → ℕ → Result Format Y4mFault → Step SendState
 head_step setup size (Ok f) =
     Goes (first_state setup f size) (record { taken = of Video size; whole = true; texts = no_texts })
-head_step setup size (Err fault) = Ends (refusal (VideoRefused fault))
+head_step setup size (Err fault) = Ends (refused_video 0 fault)
 
 -- before the first turn the video's head is read
 abbrev pub send_begin : Sending → (Role → List ℕ) → Step SendState

@@ -13,7 +13,7 @@ ghost use Rattle.rate_control.specs.Pace.{first_of, pace_of, target_of};
 ghost use Rattle.send_command.specs.Send.{packets_text, picture_texts};
 ghost use Rattle.send_command.specs.Stands.{IsCaptured};
 
-use call_report::{PictureRow, Status, picture_line};
+use call_report::{Status, picture_line};
 use desk_program::{laws as desk_program_laws, put_entry, put_line};
 use h263_outside::{Desk, laws as outside_laws};
 use h263_planes::PictureRef;
@@ -35,7 +35,7 @@ pub fn capture(sender: &mut Sender<SendPace>, frame: PictureRef<'_>) -> Coded
         (record { picture = picture frame.entry; messages = [] })
         sender.old.params entries sender.new result }
 {
-    sender.capture(frame, &[])
+    sender.code(frame, &[])
 }
 
 // Writes the packets of the last picture, which are this many.
@@ -82,11 +82,6 @@ pub fn put_picture<D: Desk>(
     outside_laws::calls();
     desk_program_laws::turn_laws();
     put_packets(desk, sender, coded.packets)?;
-    let row = PictureRow {
-        party: None,
-        number: coded.number,
-        mark: None,
-        reference: Some(coded.reference),
-    };
-    put_line(desk, &picture_line(row))
+    let line = picture_line(coded.number, None, Some(coded.reference), None);
+    put_line(desk, &line)
 }

@@ -24,6 +24,7 @@ loop-role-preserved g c =
         left = said.rest.left ∙ c.loop-role.invariant.rest.left;
         written = said.rest.written ∙ c.loop-role.invariant.rest.written;
         faults = record { attach = omega arith; read = omega arith; write = omega arith };
+        flushed = said.rest.flushed ∙ c.loop-role.invariant.rest.flushed;
         loans = said.rest.loans ∙ c.loop-role.invariant.rest.loans;
       };
     }

@@ -1,4 +1,4 @@
-use Rattle.desk_program.proofs.Parts.{gains_on, fronts_on, gains_none, gains_both, fronts_first, fronts_second, tells_none, tells_one, tells_end, tells_both, ends_at, refuses}
+use Rattle.desk_program.proofs.Parts.{gains_on, fronts_on, gains_none, gains_both, fronts_first, fronts_second, tells_none, tells_one, tells_end, tells_both, ends_at, refuses, refuses_video}
 use Rattle.desk_program.proofs.laws.turn_laws.Goals as goal
 
 pub returns : goal.returns
@@ -15,4 +15,5 @@ returns c = record {
   both_reads = tells_both;
   ends = ends_at;
   refuses = refuses;
+  refuses_video = refuses_video;
 }

@@ -16,7 +16,7 @@ returns-in-Err g c =
     let outside = g.D.Desk.outside in
     let failed = c.in-Err.ensures in
     report_failed (command_of (texts c.args.words.now)) (outside c.args.desk.now) (outside c.attach_role.new.desk) c.in-Err.status
-    (failed.err ∙ c.requires) failed.rest.written failed.cause failed.kind
+    (failed.err ∙ c.requires) failed.rest.left failed.rest.written failed.cause failed.kind
 
 pub returns-in-Err-read : goal.returns-in-Err-read
 returns-in-Err-read g c =
@@ -48,7 +48,7 @@ returns-in-Call g c =
     performed_run (texts c.args.words.now) (asked_of c.in-Ok.words) c.in-Ok.ensures.answer (outside c.args.desk.now) (outside c.attach_role.new.desk)
     c.attach_role.ensures.rest c.in_default.ensures.ok_faults c.refused_videos.ensures _ c.put_roles-count.ensures.roles
     (Call c.in-Call.params c.in-Call.traced) (sym c.command.ensures ∙ c.in-Call.is) done.result (outside done.new.desk)
-    says.status says.texts says.prefixes says.words says.unopened says.causes says.attached (subst (λ (source : Option Role). (inputs : Role → List ℕ) → Tells (outside c.attach_role.new.desk) inputs → IsReadOut done.result source (outside done.new.desk)) (call_source c.in-Call.params c.in-Call.traced) says.whole_input) says.taken_input
+    says.status says.texts says.prefixes says.words says.unopened says.flushed says.causes says.attached (subst (λ (source : Option Role). (inputs : Role → List ℕ) → Tells (outside c.attach_role.new.desk) inputs → IsReadOut done.result source (outside done.new.desk)) (call_source c.in-Call.params c.in-Call.traced) says.whole_input) says.taken_input
 
 pub returns-in-Send : goal.returns-in-Send
 returns-in-Send g c =
@@ -58,7 +58,7 @@ returns-in-Send g c =
     performed_run (texts c.args.words.now) (asked_of c.in-Ok.words) c.in-Ok.ensures.answer (outside c.args.desk.now) (outside c.attach_role.new.desk)
     c.attach_role.ensures.rest c.in_default.ensures.ok_faults c.refused_videos.ensures _ c.put_roles-count.ensures.roles
     (Send c.in-Send.params c.in-Send.target) (sym c.command.ensures ∙ c.in-Send.is) done.result (outside done.new.desk)
-    says.status says.texts says.prefixes says.words says.unopened says.causes says.attached says.whole_input says.taken_input
+    says.status says.texts says.prefixes says.words says.unopened says.flushed says.causes says.attached says.whole_input says.taken_input
 
 pub returns-in-Recv-default-true : goal.returns-in-Recv-default-true
 returns-in-Recv-default-true g c =
@@ -68,7 +68,7 @@ returns-in-Recv-default-true g c =
     performed_run (texts c.args.words.now) (asked_of c.in-Ok.words) c.in-Ok.ensures.answer (outside c.args.desk.now) (outside c.attach_role.new.desk)
     c.attach_role.ensures.rest c.in_default.ensures.ok_faults c.refused_videos.ensures _ c.put_roles-count.ensures.roles
     (Recv c.in-Recv-default-true.params true) (sym c.command.ensures ∙ c.in-Recv-default-true.is ∙ ap (λ (join : Bool). Recv c.in-Recv-default-true.params join) c.in-Recv-default-true.join-test) done.result (outside done.new.desk)
-    says.status says.texts says.prefixes says.words says.unopened says.causes says.attached says.whole_input says.taken_input
+    says.status says.texts says.prefixes says.words says.unopened says.flushed says.causes says.attached says.whole_input says.taken_input
 
 pub returns-in-Recv-default-false : goal.returns-in-Recv-default-false
 returns-in-Recv-default-false g c =
@@ -78,7 +78,7 @@ returns-in-Recv-default-false g c =
     performed_run (texts c.args.words.now) (asked_of c.in-Ok.words) c.in-Ok.ensures.answer (outside c.args.desk.now) (outside c.attach_role.new.desk)
     c.attach_role.ensures.rest c.in_default.ensures.ok_faults c.refused_videos.ensures _ c.put_roles-count.ensures.roles
     (Recv c.in-Recv-default-false.params false) (sym c.command.ensures ∙ c.in-Recv-default-false.is ∙ ap (λ (join : Bool). Recv c.in-Recv-default-false.params join) c.in-Recv-default-false.join-test) done.result (outside done.new.desk)
-    says.status says.texts says.prefixes says.words says.unopened says.causes says.attached says.whole_input says.taken_input
+    says.status says.texts says.prefixes says.words says.unopened says.flushed says.causes says.attached says.whole_input says.taken_input
 
 pub returns-in-Demo : goal.returns-in-Demo
 returns-in-Demo g c =
@@ -88,7 +88,7 @@ returns-in-Demo g c =
     performed_run (texts c.args.words.now) (asked_of c.in-Ok.words) c.in-Ok.ensures.answer (outside c.args.desk.now) (outside c.attach_role.new.desk)
     c.attach_role.ensures.rest c.in_default.ensures.ok_faults c.refused_videos.ensures _ c.put_roles-count.ensures.roles
     (Demo c.in-Demo.params c.in-Demo.seed c.in-Demo.frames) (sym c.command.ensures ∙ c.in-Demo.is) done.result (outside done.new.desk)
-    says.status says.texts says.prefixes says.words says.unopened says.causes says.attached says.whole_input says.taken_input
+    says.status says.texts says.prefixes says.words says.unopened says.flushed says.causes says.attached says.whole_input says.taken_input
 
 pub returns-in-Rate : goal.returns-in-Rate
 returns-in-Rate g c =
@@ -98,7 +98,7 @@ returns-in-Rate g c =
     performed_run (texts c.args.words.now) (asked_of c.in-Ok.words) c.in-Ok.ensures.answer (outside c.args.desk.now) (outside c.attach_role.new.desk)
     c.attach_role.ensures.rest c.in_default.ensures.ok_faults c.refused_videos.ensures _ c.put_roles-count.ensures.roles
     (Rate c.in-Rate.target c.in-Rate.bucket) (sym c.command.ensures ∙ c.in-Rate.is) done.result (outside done.new.desk)
-    says.status says.texts says.prefixes says.words says.unopened says.causes says.attached says.whole_input says.taken_input
+    says.status says.texts says.prefixes says.words says.unopened says.flushed says.causes says.attached says.whole_input says.taken_input
 
 pub returns-in-Audit : goal.returns-in-Audit
 returns-in-Audit g c =
@@ -108,7 +108,7 @@ returns-in-Audit g c =
     performed_run (texts c.args.words.now) (asked_of c.in-Ok.words) c.in-Ok.ensures.answer (outside c.args.desk.now) (outside c.attach_role.new.desk)
     c.attach_role.ensures.rest c.in_default.ensures.ok_faults c.refused_videos.ensures _ c.put_roles-count.ensures.roles
     (Audit c.in-Audit.params) (sym c.command.ensures ∙ c.in-Audit.is) done.result (outside done.new.desk)
-    says.status says.texts says.prefixes says.words says.unopened says.causes says.attached says.whole_input says.taken_input
+    says.status says.texts says.prefixes says.words says.unopened says.flushed says.causes says.attached says.whole_input says.taken_input
 
 pub returns : goal.returns
 returns g c =
@@ -118,4 +118,4 @@ returns g c =
     performed_run (texts c.args.words.now) (asked_of c.in-Ok.words) c.in-Ok.ensures.answer (outside c.args.desk.now) (outside c.attach_role.new.desk)
     c.attach_role.ensures.rest c.in_default.ensures.ok_faults c.refused_videos.ensures _ c.put_roles-count.ensures.roles
     (Duplex c.in-Duplex.params) (sym c.command.ensures ∙ c.in-Duplex.is) done.result (outside done.new.desk)
-    says.status says.texts says.prefixes says.words says.unopened says.causes says.attached says.whole_input says.taken_input
+    says.status says.texts says.prefixes says.words says.unopened says.flushed says.causes says.attached says.whole_input says.taken_input

@@ -11,5 +11,5 @@ returns-clause-captured c entries stands =
     let t = target_of old.pace in
     let quant = first_of old.pace in
     let st : Stands (quant_after_sizes t quant) old entries = subst (λ (q : ℕ). Stands (quant_after_sizes t q) old entries) (sym c.requires.pace) stands in
-    is_captured t old.params quant (record { picture = picture c.args.frame; messages = [] }) entries c.capture.new.self c.capture.result c.requires.pace c.capture.ensures.params
-    (c.capture.ensures.stands entries st) (c.capture.ensures.tells entries st)
+    is_captured t old.params quant (record { picture = picture c.args.frame; messages = [] }) entries c.code.new.self c.code.result c.requires.pace c.code.ensures.params
+    (c.code.ensures.stands entries st) (c.code.ensures.tells entries st)

@@ -25,4 +25,4 @@ returns-clause-err g c =
     on_err_so _ _ c.put_line.result c.put_line.ensures.err
     (λ fronts. c.turn_laws.ensures.front_of_second (on Wire (packets_text c.args.sender.now.packets)) (on Report line)
     (outside c.args.desk.now).written mid new c.in_ok-put_packets.ensures.ok
-    (subst (λ (l : List ℕ). GainsFronts (on Report l) mid new) c.picture_line.ensures fronts))
+    (subst (λ (l : List ℕ). GainsFronts (on Report l) mid new) c.picture_line-line.ensures fronts))

@@ -7,12 +7,13 @@ use Rattle.event_logs.specs.declared.entry.Entry.TheVariants.{Capture, Back}
 use Rattle.event_logs.specs.declared.fault.LogFault.TheVariants.{BadRecord}
 use Rattle.call_report.specs.declared.status.Status.TheVariants.{LogRefused}
 use Rattle.call_report.specs.Status.{phase, log_stop}
-use Rattle.desk_program.specs.Run.{Step, left_after, refusal}
+use Rattle.desk_program.specs.Run.{Step, left_after}
 use Rattle.desk_program.specs.Ends.{Gains, GainsFronts, GivesUp, Went}
 use Rattle.desk_program.specs.Texts.{on, of}
 use Rattle.send_command.specs.Tally.{count_text}
-use Rattle.send_command.specs.Send.{SendState, after_feedback}
+use Rattle.send_command.specs.Send.{SendState, after_feedback, bad_entry}
 use Rattle.send_command.specs.Stands.{SendStands}
+use Rattle.send_command.proofs.Apart.{log_refused}
 use Rattle.send_command.proofs.Answering.{turn_cut, turn_err}
 use Rattle.send_command.proofs.Entering.{end_cut, gave_entry, log_ends, log_stops, moved_entry, other_entry}
 use Rattle.send_command.proofs.Framing.{lent}
@@ -131,7 +132,7 @@ returns-in-Packet-clause-gives g c = λ s inputs stands told.
     (moved_entry c.in_ok-at.field-0 (Some (c.in-Some.at, entry)) m.log c.next.new.self c.in-Some.is c.in_ok-at.ensures.moves)
     in
     record {
-      last = refusal (LogRefused (BadRecord c.in-Some.at));
+      last = bad_entry (BadRecord c.in-Some.at);
       is = b.step_is ∙ other_entry s inputs c.in-Some.at entry c.in-Packet.is b.place_is;
-      by = c.turn_laws.ensures.refuses (LogRefused (BadRecord c.in-Some.at)) inputs old mid b.taken.written;
+      by = log_refused c.turn_laws.ensures (LogRefused (BadRecord c.in-Some.at)) inputs old mid told c.next.ensures.others b.taken.written;
     }
