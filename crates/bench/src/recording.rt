@@ -8,7 +8,7 @@ ghost use Rattle.h263_planes.specs.Lent.{picture};
 use crate::coding::Coder;
 use crate::times::Stop;
 use crate::video::{Video, make};
-use back_messages::MessageBytes;
+use back_messages::Said;
 use h263_planes::PictureRef;
 use h263_types::{FixedPace, OutOfMemory, Params};
 use receiver_end::Receiver;
@@ -19,7 +19,7 @@ use std::alloc::Global;
 #[derive(Drop)]
 struct Passed {
     packets: Vec<Vec<u8>>,
-    said: Option<MessageBytes>,
+    said: Option<Said>,
 }
 
 /// The packets and messages of a call, picture by picture.
@@ -39,7 +39,7 @@ impl Recorded {
     }
 
     /// The message about a picture.
-    pub fn said(&self, number: u32) -> Option<MessageBytes> {
+    pub fn said(&self, number: u32) -> Option<Said> {
         match self.pictures.get(number as usize) {
             Some(passed) => passed.said,
             None => None,
@@ -107,7 +107,7 @@ impl Ends {
         ensures played { IfOk result (λ _. self.new.receiver.played
             ≡ self.old.receiver.played + 1) }
     {
-        let coded = self.sender.capture(frame, &[]);
+        let coded = self.sender.code(frame, &[]);
         let passed = deliver(alloc, &self.sender, &mut self.receiver, coded.packets)?;
         self.receiver.play();
         if let Some(said) = passed.said {

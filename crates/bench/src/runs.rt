@@ -9,7 +9,7 @@ use crate::reading::Reader;
 use crate::recording::{Recorded, record, record_stills};
 use crate::times::{Stop, Times, add_since};
 use crate::video::{Video, make};
-use back_messages::MessageBytes;
+use back_messages::Said;
 use h263_planes::PictureRef;
 use h263_types::{FixedPace, Params};
 use receiver_end::Receiver;
@@ -22,7 +22,7 @@ fn send_frame(
     rt: &HostRuntime,
     sender: &mut Sender<FixedPace>,
     frame: PictureRef<'_>,
-    said: Option<MessageBytes>,
+    said: Option<Said>,
     sum: &mut u64,
 ) -> io::Result<()>
     requires left { sender.old.sent < 1048576 }
@@ -31,7 +31,7 @@ fn send_frame(
     ensures sent { IfOk result (λ _. sender.new.sent ≡ sender.old.sent + 1) }
 {
     let begin = Instant::now(rt)?;
-    sender.capture(frame, &[]);
+    sender.code(frame, &[]);
     add_since(rt, &begin, sum)?;
     if let Some(said) = said {
         sender.feedback(said.text());

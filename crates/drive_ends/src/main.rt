@@ -7,7 +7,7 @@ ghost use Rattle.std.specs.Prelude.{◌≡◌, ◌+◌, ◌<◌, IfOk, length};
 ghost use Rattle.h263_types.specs.Params.{IsParams};
 ghost use Rattle.h263_planes.specs.Lent.{picture};
 
-use back_messages::MessageBytes;
+use back_messages::Said;
 use h263_planes::PictureRef;
 use h263_types::{FixedPace, Format, Mark, OutOfMemory, Params};
 use receiver_end::Receiver;
@@ -55,7 +55,7 @@ impl Ends {
         ensures sent { self.new.sender.sent ≡ self.old.sender.sent + 1 }
         ensures played { self.new.receiver.played ≡ self.old.receiver.played }
     {
-        let coded = self.sender.capture(frame, &[]);
+        let coded = self.sender.code(frame, &[]);
         if let Some(message) = carry(&self.sender, &mut self.receiver, coded) {
             self.sender.feedback(message.text());
         }
@@ -87,7 +87,7 @@ impl Ends {
 
 // The network: it brings all packets of a picture in their order, or none. Answers what the
 // receiver says when the picture is complete.
-fn carry(sender: &Sender<FixedPace>, receiver: &mut Receiver, coded: Coded) -> Option<MessageBytes>
+fn carry(sender: &Sender<FixedPace>, receiver: &mut Receiver, coded: Coded) -> Option<Said>
     requires { coded.packets ≡ length sender.now.packets }
     ensures { receiver.new.played ≡ receiver.old.played }
 {

@@ -68,11 +68,11 @@ fn capture(
     let picture = PictureRef::new(format, frame);
     match message {
         Some(message) => {
-            let coded = sender.capture(picture, &[message]);
+            let coded = sender.code(picture, &[message]);
             log_packets(sender, coded.packets, log)
         }
         None => {
-            let coded = sender.capture(picture, &[]);
+            let coded = sender.code(picture, &[]);
             log_packets(sender, coded.packets, log)
         }
     }

@@ -187,32 +187,22 @@ pub fn compare_call(
     }
 }
 
-/// The same, with the pictures of the file `NAME.out.y4m`.
-pub fn compare_shown(
-    rt: &HostRuntime,
-    piece: Piece,
-    name: &str,
-    options: &str,
-    video: &[u8],
-) -> Result<bool, Stop> {
-    let pictures = fs::read(rt, &format!(in rt.alloc(); "{name}.out.y4m")?)?;
-    compare_call(rt, piece, name, options, video, Some(&pictures))
-}
-
 /// Runs a receiver over the log `NAME.log`, of what is delivered and played in the call of this
-/// name, and compares what it shows with the pictures of the call.
+/// name, and compares what it shows with these pictures, which are the call's.
 pub fn compare_log(
     rt: &HostRuntime,
     piece: Piece,
     name: &str,
     options: &str,
+    pictures: &[u8],
 ) -> Result<bool, Stop> {
     let alloc = rt.alloc();
-    let text = format!(in alloc; "recv {name}.log {name}.out.y4m wire {options}")?;
+    let text = format!(in alloc; "recv {name}.log out wire {options}")?;
     let list: Vec<&str> = text.split_whitespace().collect(alloc)?;
     let words = Words::read(alloc, &list)?;
     let mut desk = desk_of(rt, piece, &words)?;
     let status = run(alloc, &list, &mut desk);
-    let same = compare_output(rt, &words, Role::Pictures, &desk)?;
+    let label = format!(in alloc; "{name}, pictures of recv")?;
+    let same = compare(rt, &label, desk.text(Role::Pictures), pictures)?;
     Ok(same && status == Status::Ok)
 }

@@ -3,14 +3,15 @@
 //!
 //! A call `NAME` runs over the trace `NAME.trace`, and is to report `NAME.txt`. Its video is made
 //! here: flat pictures, or pictures of triangle waves that move. The pictures that are shown are
-//! compared where they are flat, or stored as `NAME.out.y4m`. The packets and plays of a call in
-//! CIF are stored as the log `NAME.log`, and a receiver over it is to show the same pictures.
-use crate::compare::{Piece, compare_call, compare_log, compare_shown};
+//! compared where they are flat, or stored as `NAME.out.y4m`. The packets and plays of `offered` and
+//! of a call in CIF are stored as the log `NAME.log`, and a receiver over it is to show the same
+//! pictures.
+use crate::compare::{Piece, compare_call, compare_log};
 use crate::stop::Stop;
 use crate::told;
 use crate::video::{flat_video, made_video, shown_video};
 use h263_types::Format;
-use std::io;
+use std::{fs, io};
 
 // Calls of flat pictures in sub-QCIF: the name of their files, the options, the video as numbers of
 // pictures of one level, and the pictures that are shown, as numbers with a mark and a level.
@@ -39,7 +40,7 @@ const FLAT: [(&str, &str, &[(u32, u8)], &[(u32, &str, u8)]); 11] = [
         "offered",
         "--slots 4 --lead 1 --radius 1",
         &[(3, 100)],
-        &[(1, "EXACT", 100), (1, "HELD", 100), (1, "EXACT", 100)],
+        OFFERED,
     ),
     // A chain of predictions at its limit.
     (
@@ -81,6 +82,9 @@ const FLAT: [(&str, &str, &[(u32, u8)], &[(u32, &str, u8)]); 11] = [
     ),
 ];
 
+// What is shown of `offered`.
+const OFFERED: &[(u32, &str, u8)] = &[(1, "EXACT", 100), (1, "HELD", 100), (1, "EXACT", 100)];
+
 // Calls of one flat picture in CIF, in two packets: one late, and both doubled in the other order.
 const CIF: [&str; 2] = ["one_late", "doubled"];
 
@@ -100,9 +104,17 @@ fn flat_call(
 
 fn cif_call(rt: &HostRuntime, piece: Piece, name: &str) -> Result<bool, Stop> {
     let video = flat_video(rt.alloc(), Format::Cif, &[(1, 100)])?;
-    let called = compare_shown(rt, piece, name, "", &video)?;
-    let received = compare_log(rt, piece, name, "--format cif")?;
+    let pictures = fs::read(rt, &format!(in rt.alloc(); "{name}.out.y4m")?)?;
+    let called = compare_call(rt, piece, name, "", &video, Some(&pictures))?;
+    let received = compare_log(rt, piece, name, "--format cif", &pictures)?;
     Ok(called && received)
+}
+
+// The deliveries of `offered`, to a receiver alone.
+fn offered_to_a_receiver(rt: &HostRuntime, piece: Piece) -> Result<bool, Stop> {
+    let pictures = shown_video(rt.alloc(), Format::SubQcif, OFFERED)?;
+    let options = "--format sub-qcif --slots 4 --lead 1";
+    compare_log(rt, piece, "offered", options, &pictures)
 }
 
 // A call of a user: thirty pictures of a camera, of which two are lost. What is shown of them is
@@ -127,6 +139,7 @@ pub fn recorded_calls(rt: &HostRuntime, piece: Piece) -> io::Result<bool> {
             same = false;
         }
     }
-    let compared = users_call(rt, piece);
-    Ok(told(rt, "users_call", compared)? && same)
+    let received = told(rt, "offered", offered_to_a_receiver(rt, piece))?;
+    let called = told(rt, "users_call", users_call(rt, piece))?;
+    Ok(same && received && called)
 }

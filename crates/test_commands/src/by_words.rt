@@ -21,9 +21,9 @@ fn run_once(
     difference(alloc, &desk, ends, case)
 }
 
-// The same, where a call of the desk moves this many bytes at most. A run in which memory ran out
-// is taken again, and is then to reach its end.
-fn check_in_pieces(
+/// Runs the words, where a call of the desk moves this many bytes at most, and compares. A run in
+/// which memory ran out is taken again, and is then to reach its end.
+pub fn check_in_pieces(
     rt: &impl Abort,
     alloc: Global,
     words: &[&str],

@@ -1,11 +1,11 @@
 //! Calls over a desk in memory.
-ghost use Rattle.std.specs.Prelude.{◌≡◌, true, OnOk};
+ghost use Rattle.std.specs.Prelude.{◌≡◌, ◌<◌, true, OnOk};
 ghost use Rattle.h263_types.specs.Params.{IsParams};
 ghost use Rattle.h263_outside.specs.Desk.{NoneAttached};
 ghost use Rattle.h263_outside.specs.declared.desk.Role.TheVariants.{Video, Events, Pictures};
 ghost use Rattle.h263_outside.specs.declared.desk.Role.TheVariants.{Report};
 
-use crate::by_words::check;
+use crate::by_words::{check, check_in_pieces};
 use call_command::{Begun, Terms, converse};
 use call_report::Status;
 use desk_program::attach_all;
@@ -391,6 +391,32 @@ fn each_call_of_a_traced_call(rt: HostRuntime) -> Result<(), Fail> {
     Ok(())
 }
 
+// Over calls of 1 byte each: the attach of Pictures, the first read, and the first write there,
+// which comes after the 19 bytes of the video's head.
+#[test]
+fn a_failed_call_by_single_bytes(rt: HostRuntime) -> Result<(), Fail> {
+    let table: &[(u64, Status, Parts)] = &[
+        (2, NO_PICTURES, &[b"cannot open pictures\n"]),
+        (3, Status::ReadFault, &[READ_LINE]),
+        (22, Status::WriteFault, NOTHING),
+    ];
+    for (failing, ends, report) in table {
+        let case = Case {
+            video: ONE,
+            events: ARRIVES,
+            failing: *failing,
+            ends: *ends,
+            pictures: NOTHING,
+            wire: NOTHING,
+            report,
+            video2: NOTHING,
+            pictures2: NOTHING,
+        };
+        check_in_pieces(&rt, rt.alloc(), CALL, 1, &case)?;
+    }
+    Ok(())
+}
+
 // ---- with ends that are lent
 
 // The receiver gets the packets of another sender, which codes a picture flat 100.
@@ -408,7 +434,7 @@ fn deliver_another(
         quant: params.quant,
     };
     let mut other = Sender::start(alloc, params, pace)?;
-    let coded = other.capture(PictureRef::new(params.format, &frame), &[]);
+    let coded = other.code(PictureRef::new(params.format, &frame), &[]);
     'packets: for place in 0..coded.packets {
         let _answer = receiver.packet(other.packet(place));
     }
@@ -442,8 +468,10 @@ fn attach_roles<D: Desk>(desk: &mut D) -> Result<(), OutOfMemory>
 
 // How a call over the plain trace ends whose receiver had heard another picture 0, and whether that
 // one was shown, as exact, and counted.
-fn conversed(alloc: Global) -> Result<(Status, bool, bool), OutOfMemory> {
-    let mut desk = MemoryDesk::new(alloc, 4096, 200_000)?;
+fn conversed(alloc: Global, piece: usize) -> Result<(Status, bool, bool), OutOfMemory>
+    requires { 0 < piece }
+{
+    let mut desk = MemoryDesk::new(alloc, piece, 200_000)?;
     desk.put(Role::Video, &joined(alloc, DARKER)?)?;
     desk.put(Role::Events, b"")?;
     attach_roles(&mut desk)?;
@@ -477,9 +505,14 @@ fn conversed(alloc: Global) -> Result<(Status, bool, bool), OutOfMemory> {
 // sender's.
 #[test]
 fn converse_with_a_receiver_that_had_heard(rt: HostRuntime) -> Result<(), Fail> {
-    let seen = match conversed(rt.alloc()) {
+    let by_bytes = match conversed(rt.alloc(), 1) {
         Ok(seen) => seen,
-        Err(OutOfMemory) => conversed(rt.alloc())?,
+        Err(OutOfMemory) => conversed(rt.alloc(), 1)?,
+    };
+    assert_eq!(rt; by_bytes, (Status::Ok, true, true));
+    let seen = match conversed(rt.alloc(), 4096) {
+        Ok(seen) => seen,
+        Err(OutOfMemory) => conversed(rt.alloc(), 4096)?,
     };
     assert_eq!(rt; seen, (Status::Ok, true, true));
     Ok(())

@@ -100,12 +100,12 @@ fn coded_by(
         second: Vec::new(alloc),
         predicted: Vec::new(alloc),
     };
-    if sender.capture(frame, &[]).packets == 2 {
+    if sender.code(frame, &[]).packets == 2 {
         packets.first = Vec::from_slice(alloc, sender.packet(0))?;
         packets.second = Vec::from_slice(alloc, sender.packet(1))?;
     }
     sender.feedback(&[0xC0, 0x04, 0x00]);
-    if sender.capture(frame, &[]).packets == 1 {
+    if sender.code(frame, &[]).packets == 1 {
         packets.predicted = Vec::from_slice(alloc, sender.packet(0))?;
     }
     Ok(packets)

@@ -1,5 +1,5 @@
 //! Rings that wrap.
-use back_messages::MessageBytes;
+use back_messages::Said;
 use call_rings::{MessageRing, SentPackets, laws};
 use h263_types::OutOfMemory;
 use std::alloc::Global;
@@ -46,7 +46,7 @@ fn oldest_message_gives_way(rt: HostRuntime) -> Result<(), Fail> {
 
 // Two messages more than are kept.
 fn many_messages(alloc: Global) -> Result<[bool; 5], OutOfMemory> {
-    let said = MessageBytes {
+    let said = Said {
         bytes: [1, 2, 3, 0, 0],
         len: 3,
     };

@@ -1,6 +1,6 @@
 //! Lines with a party's letter, the messages that wait for a header, and the counts of two parties.
 use back_messages::Message;
-use duplex_call::{Carried, Counts, Far, MessageQueue, Party, party_line};
+use duplex_call::{Carried, Carrier, Counts, Far, Party, party_line};
 use h263_types::Clock;
 use loss_trace::{BadLine, Event};
 
@@ -69,7 +69,7 @@ fn said(number: u16) -> Carried {
 
 #[test]
 fn last_four_of_six(rt: HostRuntime) {
-    let mut queue = MessageQueue::new();
+    let mut queue = Carrier::new();
     assert_eq!(rt; queue.load(), [None, None, None, None]);
     queue.say(said(7));
     queue.say(said(8));

@@ -348,7 +348,7 @@ fn begins_so(
 {
     let format = Format::SubQcif;
     let frame = vec![in alloc; 100; format.size() as usize]?;
-    let coded = sender.capture(PictureRef::new(format, frame.as_slice()), &[message]);
+    let coded = sender.code(PictureRef::new(format, frame.as_slice()), &[message]);
     if coded.packets != 1 {
         return Ok(false);
     }

@@ -2,7 +2,7 @@
 ghost use Rattle.std.specs.Prelude.{◌≡◌, IfOk, length};
 ghost use Rattle.h263_types.specs.Params.{IsParams};
 
-use back_messages::MessageBytes;
+use back_messages::Said;
 use h263_planes::PictureRef;
 use h263_types::{Clock, FixedPace, Format, Mark, OutOfMemory, Params};
 use receiver_end::{Heard, PacketFault, Played, Receiver};
@@ -47,7 +47,7 @@ struct Ends {
     receiver: Receiver,
     format: Format,
     packets: Vec<Vec<u8>>,
-    messages: Vec<MessageBytes>,
+    messages: Vec<Said>,
 }
 
 impl Ends {
@@ -109,7 +109,7 @@ impl Ends {
         }
         let frame = vec![in alloc; value; self.format.size() as usize]?;
         let frame = PictureRef::new(self.format, frame.as_slice());
-        let coded = self.sender.capture(frame, &[]);
+        let coded = self.sender.code(frame, &[]);
         self.send(alloc, coded.packets)?;
         Ok(coded.reference)
     }
@@ -168,7 +168,7 @@ impl Ends {
     }
 
     // The message of the next picture, if it has this mark.
-    fn asks(&mut self, mark: Mark) -> Option<MessageBytes>
+    fn asks(&mut self, mark: Mark) -> Option<Said>
         ensures sender { self.new.sender ≡ self.old.sender }
         ensures format { self.new.format ≡ self.old.format }
     {

@@ -1,5 +1,5 @@
 //! A receiver alone, on packets as another program writes them.
-use back_messages::MessageBytes;
+use back_messages::Said;
 use h263_bits::FaultKind;
 use h263_planes::Plane;
 use h263_types::{Format, Mark, Params};
@@ -8,12 +8,12 @@ use std::test::Fail;
 use test_fixtures::codec::{FLAT_PACKET, SKIPPED_PACKET};
 
 // They acknowledge pictures 0 and 1.
-const ACK_0: MessageBytes = MessageBytes {
+const ACK_0: Said = Said {
     bytes: [0xC0, 0x04, 0x00, 0, 0],
     len: 3,
 };
 
-const ACK_1: MessageBytes = MessageBytes {
+const ACK_1: Said = Said {
     bytes: [0xC0, 0x0C, 0x01, 0, 0],
     len: 3,
 };
@@ -26,8 +26,8 @@ fn bytes_refused(kind: FaultKind, at: u32) -> Heard {
 
 #[test]
 fn new_receiver_shows_grey(rt: HostRuntime) -> Result<(), Fail> {
-    let receiver = Receiver::start(rt.alloc(), &Params::of(Format::SubQcif))?;
-    let corner = receiver.shown().sample(Plane::Y, 127, 95);
+    let receiver = Receiver::start(rt.alloc(), &Params::of(Format::Qcif))?;
+    let corner = receiver.shown().sample(Plane::Y, 175, 143);
     let played = receiver.played();
     receiver.finish();
     assert_eq!(rt; (corner, played), (128, 0));
@@ -122,7 +122,7 @@ fn held_pictures(rt: HostRuntime) -> Result<(), Fail> {
             number: 0,
             mark: Mark::Held,
             reference: None,
-            message: Some(MessageBytes {
+            message: Some(Said {
                 bytes: [0x80, 0x04, 0x00, 0, 0],
                 len: 3
             })

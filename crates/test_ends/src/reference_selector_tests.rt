@@ -13,6 +13,12 @@ fn selector() -> Selector {
 }
 
 #[test]
+fn first_picture_has_no_reference(rt: HostRuntime) {
+    let selector = Selector::start(&Params::of(Format::Qcif));
+    assert_eq!(rt; selector.choose(0), None);
+}
+
+#[test]
 fn window_ends(rt: HostRuntime) {
     let mut selector = selector();
     assert_eq!(rt; selector.choose(0), None);

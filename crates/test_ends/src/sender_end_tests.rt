@@ -47,7 +47,7 @@ fn answers(sender: &mut Sender<FixedPace>, step: Step, frame: PictureRef<'_>) ->
     ensures sent { sender.new.sent ≤ sender.old.sent + 1 }
 {
     match step {
-        Step::Capture(reference) => sender.capture(frame, &[]).reference == reference,
+        Step::Capture(reference) => sender.code(frame, &[]).reference == reference,
         Step::Back(bytes, reply) => sender.feedback(bytes) == reply,
     }
 }
@@ -145,7 +145,7 @@ fn chained(alloc: Global, params: &Params) -> Result<[Option<u32>; 2], OutOfMemo
     let mut sender = sender_of(alloc, params)?;
     let mut references = [None; 2];
     for number in 0..133u32 {
-        let coded = sender.capture(frame, &[]);
+        let coded = sender.code(frame, &[]);
         references[(number % 2) as usize] = coded.reference;
         let ack = Message::Ack {
             tr: number as u16,
@@ -164,6 +164,15 @@ fn chain_ends(rt: HostRuntime) -> Result<(), Fail> {
         ..Params::of(Format::SubQcif)
     };
     assert_eq!(rt; chained(rt.alloc(), &params)?, [None, Some(130)]);
+    Ok(())
+}
+
+#[test]
+fn new_sender_has_sent_nothing(rt: HostRuntime) -> Result<(), Fail> {
+    let sender = sender_of(rt.alloc(), &Params::of(Format::Qcif))?;
+    let sent = sender.sent();
+    sender.finish();
+    assert_eq!(rt; sent, 0);
     Ok(())
 }
 
@@ -190,9 +199,9 @@ fn two_flat<P: Pace>(
     let frame = PictureRef::new(Format::SubQcif, &frame);
     let mut sender = Sender::start(alloc, &params, pace)?;
     let before = sender.sent();
-    sender.capture(frame, &[]);
+    sender.code(frame, &[]);
     sender.feedback(&[0xC0, 0x04, 0x00]);
-    let coded = sender.capture(frame, &[]);
+    let coded = sender.code(frame, &[]);
     let same = has_only(&sender, coded.packets, packet);
     let sample = sender.recon().sample(Plane::Y, 127, 95);
     sender.finish();

@@ -1,7 +1,6 @@
 //! The lines byte for byte.
-ghost use Rattle.std.specs.Prelude.{◌<◌, IfSome};
 
-use call_report::{Line, PictureRow, Status, picture_line, refusal_line};
+use call_report::{Line, Status, picture_line, refusal_line};
 use event_logs::LogFault;
 use event_logs::LogFault::BadRecord;
 use h263_outside::Role;
@@ -13,48 +12,34 @@ use test_desks::USAGE;
 use y4m::Y4mFault;
 use y4m::Y4mFault::{Colour, Interlaced, NotY4m, ShortFrame, Size};
 
-// The line of a picture with this number, mark, reference and party.
-fn line_of(
-    number: u32,
-    mark: Option<Mark>,
-    reference: Option<Option<u32>>,
-    party: Option<u8>,
-) -> Line
-    requires { IfSome party (λ letter. letter < 128) }
-{
-    picture_line(PictureRow {
-        party,
-        number,
-        mark,
-        reference,
-    })
-}
-
 #[test]
 fn lines_of_pictures(rt: HostRuntime) {
     let exact = Some(Mark::Exact);
     let patched = Some(Mark::Patched);
     let last = Some(Some(4_294_967_294));
     let table = [
-        (line_of(0, exact, Some(None), None), "0 exact intra\n"),
-        (line_of(3, exact, Some(Some(1)), None), "3 exact from 1\n"),
-        (line_of(12, patched, None, None), "12 patched\n"),
+        (picture_line(0, exact, Some(None), None), "0 exact intra\n"),
         (
-            line_of(7, Some(Mark::Held), Some(None), None),
+            picture_line(3, exact, Some(Some(1)), None),
+            "3 exact from 1\n",
+        ),
+        (picture_line(12, patched, None, None), "12 patched\n"),
+        (
+            picture_line(7, Some(Mark::Held), Some(None), None),
             "7 held intra\n",
         ),
-        (line_of(1, None, Some(None), None), "1 intra\n"),
-        (line_of(1, None, Some(Some(0)), None), "1 from 0\n"),
+        (picture_line(1, None, Some(None), None), "1 intra\n"),
+        (picture_line(1, None, Some(Some(0)), None), "1 from 0\n"),
         (
-            line_of(1, exact, Some(Some(0)), Some(b'a')),
+            picture_line(1, exact, Some(Some(0)), Some(b'a')),
             "a 1 exact from 0\n",
         ),
         (
-            line_of(0, exact, Some(None), Some(b'b')),
+            picture_line(0, exact, Some(None), Some(b'b')),
             "b 0 exact intra\n",
         ),
         (
-            line_of(4_294_967_295, patched, last, Some(b'a')),
+            picture_line(4_294_967_295, patched, last, Some(b'a')),
             "a 4294967295 patched from 4294967294\n",
         ),
     ];

@@ -22,7 +22,7 @@ fn planes_lie_one_after_the_other(rt: HostRuntime) {
         assert!(rt; x < 128 && y < 96 && at < SIZE);
         let mut bytes = [7; SIZE];
         let mut picture = PictureMut::new(Format::SubQcif, &mut bytes);
-        picture.set_row(plane, x, y, &[200]);
+        picture.set(plane, x, y, 200);
         assert_eq!(rt; picture.seen().sample(plane, x, y), 200);
         assert_eq!(rt; bytes[at], 200, "at {at}");
     }

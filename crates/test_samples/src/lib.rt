@@ -19,3 +19,5 @@ mod picture_recon_tests;
 mod picture_store_tests;
 #[cfg(test)]
 mod quantiser_tests;
+#[cfg(test)]
+mod sad_kernel_tests;

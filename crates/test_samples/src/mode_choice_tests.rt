@@ -3,7 +3,7 @@ ghost use Rattle.std.specs.Prelude.{◌<◌, ◌≤◌};
 
 use h263_planes::{PictureMut, PictureRef, Plane};
 use h263_types::{Block, Format, Kind, Mb, Params};
-use mode_choice::{Chosen, choose};
+use mode_choice::{Chosen, choose, choose_into};
 use picture_header::Header;
 use std::process::Abort;
 use test_fixtures::codec::{self, PARAMS, SIZE, texture};
@@ -56,17 +56,14 @@ fn levels_of_a_macroblock(rt: HostRuntime) {
             block(90, [0; 5]),
             block(200, [0; 5]),
         ];
-        let mut chosen = Chosen::new();
-        choose(out.seen(), None, 9, &codec::INTRA, &params, &mut chosen);
-        assert_eq!(rt; chosen.mb, Mb::Intra { quant: 8, blocks }, "keep {keep}");
+        let chosen = choose(out.seen(), None, 9, &codec::INTRA, &params);
+        assert_eq!(rt; chosen, Mb::Intra { quant: 8, blocks }, "keep {keep}");
     }
     let grey = Mb::Intra {
         quant: 8,
         blocks: [block(128, [0; 5]); 6],
     };
-    let mut last = Chosen::new();
-    choose(out.seen(), None, 47, &codec::INTRA, &PARAMS, &mut last);
-    assert_eq!(rt; last.mb, grey);
+    assert_eq!(rt; choose(out.seen(), None, 47, &codec::INTRA, &PARAMS), grey);
 }
 
 // The samples of Y of a sub-QCIF picture, and of one of its colours.
@@ -124,7 +121,7 @@ fn chosen(
     let frame = PictureRef::new(Format::SubQcif, frame);
     let reference = PictureRef::new(Format::SubQcif, reference);
     let mut chosen = Chosen::new();
-    choose(frame, Some(reference), mb, &header, &params, &mut chosen);
+    choose_into(frame, Some(reference), mb, &header, &params, &mut chosen);
     match chosen.mb {
         Mb::Skip => (SKIP, 0, 0, 0),
         Mb::Intra { blocks, .. } => (INTRA, 0, 0, digest(&blocks)),

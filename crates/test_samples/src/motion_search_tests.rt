@@ -3,7 +3,7 @@ ghost use Rattle.std.specs.Prelude.{◌<◌};
 
 use h263_planes::PictureRef;
 use h263_types::{Format, Vector};
-use motion_search::{KeptSums, sad, search};
+use motion_search::{KeptSums, search, search_from};
 use std::process::Abort;
 use test_fixtures::codec::{SIZE, texture};
 
@@ -12,7 +12,7 @@ const WIDTH: usize = 128;
 const HEIGHT: usize = 96;
 
 // The search in pictures of these bytes: the vector's components and its cost. A guess that is far
-// off changes nothing, nor do sums that were kept of the macroblock.
+// off changes nothing.
 fn found(
     rt: &impl Abort,
     frame: &[u8; SIZE],
@@ -26,11 +26,10 @@ fn found(
     assert!(rt; rounding <= 1);
     let frame = PictureRef::new(Format::SubQcif, frame);
     let reference = PictureRef::new(Format::SubQcif, reference);
+    let (vector, cost) = search(frame, reference, mb, radius, rounding);
     let mut sums = KeptSums::none();
-    let zero = Vector::ZERO;
-    let (vector, cost) = search(frame, reference, mb, radius, rounding, zero, &mut sums);
     let guess = Vector { x: -27, y: 14 };
-    let again = search(frame, reference, mb, radius, rounding, guess, &mut sums);
+    let again = search_from(frame, reference, mb, radius, rounding, guess, &mut sums);
     assert!(rt; again.0 == vector);
     assert!(rt; again.1 == cost);
     (vector.x, vector.y, cost)
@@ -226,37 +225,5 @@ fn zero_vector_is_ahead_by_100(rt: HostRuntime) {
             want,
             "at {count}"
         );
-    }
-}
-
-#[test]
-fn differences_by_hand(rt: HostRuntime) {
-    // 1, 2, 3 and 4
-    assert_eq!(rt; sad(&[10, 20, 30, 40], &[11, 18, 33, 36]), 10);
-    assert_eq!(rt; sad(&[], &[]), 0);
-}
-
-#[test]
-fn lanes_and_the_rest(rt: HostRuntime) {
-    // the difference at place k is 255 - 5 * k
-    let mut a = [0; 48];
-    let mut b = [0; 48];
-    for k in 0..48u8 {
-        a[k as usize] = if k % 2 == 0 { 255 - 2 * k } else { 3 * k };
-        b[k as usize] = if k % 2 == 0 { 3 * k } else { 255 - 2 * k };
-    }
-    let table = [
-        (0, 0),
-        (1, 255),
-        (15, 3300),
-        (16, 3480),
-        (17, 3655),
-        (32, 5680),
-        (33, 5775),
-        (48, 6600),
-    ];
-    for (n, want) in table {
-        assert!(rt; n <= 48);
-        assert_eq!(rt; sad(&a[..n], &b[..n]), want, "of {n}");
     }
 }

@@ -1,5 +1,5 @@
 //! Values, levels and the zigzag order, by the standard's formulas.
-use quantiser::{block_place, factor_of, level_inter, level_intra, limited, value, zigzag_place};
+use quantiser::{block_place, level_inter, level_intra, value, zigzag_place};
 
 #[test]
 fn values_of_levels(rt: HostRuntime) {
@@ -31,12 +31,12 @@ fn levels_of_coefficients(rt: HostRuntime) {
     for (quant, coefficient, inter, intra) in table {
         assert!(rt; 1 <= quant && quant <= 31 && -65_535 <= coefficient && coefficient <= 65_535);
         assert_eq!(rt;
-            level_inter(quant, factor_of(quant), limited(coefficient)),
+            level_inter(quant, coefficient),
             inter,
             "at {quant}, {coefficient}"
         );
         assert_eq!(rt;
-            level_intra(quant, factor_of(quant), limited(coefficient)),
+            level_intra(quant, coefficient),
             intra,
             "at {quant}, {coefficient}"
         );

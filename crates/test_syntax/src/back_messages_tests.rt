@@ -1,6 +1,6 @@
 //! Messages byte for byte, and each fault once.
 use back_messages::{
-    Message, MessageBytes, MessageFault, message_bits, read, read_message, write, write_message,
+    Message, MessageFault, Said, message_bits, read, read_message, write, write_message,
 };
 use h263_bits::{BitReader, BitWriter, Fault, FaultKind};
 use h263_types::Clock;
@@ -57,7 +57,7 @@ const MESSAGES: [(Message, [u8; 5], u8); 8] = [
 fn messages_and_their_bytes(rt: HostRuntime) -> Result<(), Fail> {
     for (message, bytes, len) in MESSAGES {
         let said = write(&message);
-        assert_eq!(rt; said, MessageBytes { bytes, len }, "of {message:?}");
+        assert_eq!(rt; said, Said { bytes, len }, "of {message:?}");
         assert_eq!(rt; read(said.text(), Clock::Custom)?, message, "in {bytes:?}");
     }
     Ok(())

@@ -2,7 +2,9 @@
 ghost use Rattle.std.specs.Prelude.{◌≡◌, ◌≤◌, true, false};
 ghost use Rattle.h263_types.specs.Blocks.{IsIntraBlock, IsInterBlock};
 
-use block_layer::{laws as block_laws, read_inter, read_intra, write_inter, write_intra};
+use block_layer::{
+    is_coded_by, laws as block_laws, read_inter, read_intra, write_inter, write_intra,
+};
 use h263_bits::{BitReader, BitWriter, Fault, FaultKind};
 use h263_types::Block;
 use std::test::Fail;
@@ -29,11 +31,11 @@ fn written(intra: bool, block: &Block, out: &mut [u8; 256]) -> u32
 {
     block_laws::longest_text();
     let mut writer = BitWriter::new(out);
-    let marks = block.marks();
+    let coded = is_coded_by(false, block.marks());
     if intra {
-        write_intra(&mut writer, block, marks);
-    } else {
-        write_inter(&mut writer, block, marks);
+        write_intra(&mut writer, block);
+    } else if coded {
+        write_inter(&mut writer, block);
     }
     writer.len()
 }

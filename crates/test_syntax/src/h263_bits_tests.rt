@@ -43,7 +43,8 @@ fn written_bytes(rt: HostRuntime) {
     writer.put(0b100000, 6);
     writer.put(0, 8);
     writer.put(0b10, 2);
-    writer.put(0x1c90_3, 20);
+    writer.put(0x1c90_3155, 32);
+    writer.cut(36);
     writer.put(0b101, 3);
     writer.align();
     assert_eq!(rt; writer.len(), 40);

@@ -6,7 +6,7 @@ ghost use Rattle.h263_types.specs.Sizes.{mbs_of};
 ghost use Rattle.picture_header.specs.Ranges.{IsHeader};
 ghost use Rattle.packet_cutter.specs.Cutting.{format_of, kind_of, quant_of, added_of, IsBegun};
 
-use h263_types::{Clock, Mb};
+use h263_types::{Clock, Format, Mb, Params};
 use packet_cutter::Cutter;
 use picture_header::Header;
 use std::test::Fail;
@@ -61,12 +61,18 @@ pub(crate) fn cut_even(cutter: &mut Cutter, number: u32, header: &Header, mb: &M
     cutter.finish();
 }
 
+#[test]
+fn new_cutter_has_no_packet(rt: HostRuntime) -> Result<(), Fail> {
+    let cutter = Cutter::start(rt.alloc(), &Params::of(Format::Qcif))?;
+    assert_eq!(rt; cutter.count(), 0);
+    Ok(())
+}
+
 // Macroblocks 0 to 206 take 1,396 bytes with their headers, and 207 to 395 take 1,278.
 #[test]
 fn flat_cif_picture(rt: HostRuntime) -> Result<(), Fail> {
     let mb = flat_mb();
     let mut cutter = Cutter::start(rt.alloc(), &PARAMS_OF_CIF)?;
-    assert_eq!(rt; cutter.count(), 0);
     cut_even(&mut cutter, 0, &INTRA_OF_CIF, &mb);
     assert_eq!(rt; cutter.count(), 2);
     assert_eq!(rt; cutter.packet(0).len(), 1396);

@@ -5,7 +5,7 @@ ghost use Rattle.packet_collector.specs.Collected.{IsInRow, IsRowFrom, first_of,
 ghost use Rattle.h263_types.specs.declared.format.Format.TheVariants.{Cif};
 
 use back_messages::Message;
-use h263_types::{Clock, Kind, OutOfMemory, SliceHead};
+use h263_types::{Clock, Format, Kind, OutOfMemory, Params, SliceHead};
 use packet_collector::{Collector, Piece, Place};
 use picture_header::Header;
 use std::alloc::Global;
@@ -51,6 +51,13 @@ fn add(rt: &impl Abort, collector: &mut Collector, number: u32, head: SliceHead)
         Place::Fresh => collector.add(number, &piece),
         place => panic!(rt; "{place:?}"),
     }
+}
+
+#[test]
+fn new_collector_has_nothing(rt: HostRuntime) -> Result<(), Fail> {
+    let collector = Collector::start(rt.alloc(), &Params::of(Format::Qcif))?;
+    assert!(rt; !collector.any(0) && !collector.whole(0));
+    Ok(())
 }
 
 #[test]

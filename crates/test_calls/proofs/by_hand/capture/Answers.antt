@@ -2,9 +2,9 @@ use Rattle.std.proofs.Common.{ap, sym, ◌∙◌}
 use Rattle.h263_planes.specs.Picture.{Picture}
 use Rattle.test_calls.proofs.by_hand.capture.Goals as goal
 
-pub capture-coded-requires-clause-frame : goal.capture-coded-requires-clause-frame
-capture-coded-requires-clause-frame c = ap (λ (p : Picture). p.format) c.new-picture.ensures.picture ∙ sym c.requires.format
+pub code-coded-requires-clause-frame : goal.code-coded-requires-clause-frame
+code-coded-requires-clause-frame c = ap (λ (p : Picture). p.format) c.new-picture.ensures.picture ∙ sym c.requires.format
 
-pub capture-coded-requires-in-None-clause-frame : goal.capture-coded-requires-in-None-clause-frame
-capture-coded-requires-in-None-clause-frame c =
+pub code-coded-requires-in-None-clause-frame : goal.code-coded-requires-in-None-clause-frame
+code-coded-requires-in-None-clause-frame c =
     ap (λ (p : Picture). p.format) c.new-picture.ensures.picture ∙ sym c.requires.format

@@ -5,11 +5,11 @@ use Rattle.h263_planes.specs.Lent.{picture}
 use Rattle.h263_planes.specs.Picture.{Picture}
 use Rattle.test_samples.proofs.mode_choice_tests.chosen.Goals as goal
 
-pub choose-requires-clause-reference : goal.choose-requires-clause-reference
-choose-requires-clause-reference g c = ap (λ (p : Picture). p.format) c.new-reference.ensures.picture ∙ sym (ap (λ (p : Picture). p.format) c.new-frame.ensures.picture)
+pub choose_into-requires-clause-reference : goal.choose_into-requires-clause-reference
+choose_into-requires-clause-reference g c = ap (λ (p : Picture). p.format) c.new-reference.ensures.picture ∙ sym (ap (λ (p : Picture). p.format) c.new-frame.ensures.picture)
 
-pub choose-requires-clause-mb : goal.choose-requires-clause-mb
-choose-requires-clause-mb g c = subst (λ (f : Format). c.args.mb < mbs_of f) (sym (ap (λ (p : Picture). p.format) c.new-frame.ensures.picture)) (omega arith)
+pub choose_into-requires-clause-mb : goal.choose_into-requires-clause-mb
+choose_into-requires-clause-mb g c = subst (λ (f : Format). c.args.mb < mbs_of f) (sym (ap (λ (p : Picture). p.format) c.new-frame.ensures.picture)) (omega arith)
 
-pub choose-requires-clause-sums : goal.choose-requires-clause-sums
-choose-requires-clause-sums g c = c.new-chosen.ensures.sums (Some (picture c.new-reference.result))
+pub choose_into-requires-clause-sums : goal.choose_into-requires-clause-sums
+choose_into-requires-clause-sums g c = c.new-chosen.ensures.sums (Some (picture c.new-reference.result))

@@ -11,11 +11,11 @@ search-cost-requires-clause-format g c = ap (λ (p : Picture). p.format) c.new-f
 pub search-cost-requires-clause-mb : goal.search-cost-requires-clause-mb
 search-cost-requires-clause-mb g c = subst (λ (f : Format). c.args.mb < mbs_of f) (sym (ap (λ (p : Picture). p.format) c.new-reference.ensures.picture)) (omega arith)
 
-pub search-again-requires-clause-format : goal.search-again-requires-clause-format
-search-again-requires-clause-format g c = ap (λ (p : Picture). p.format) c.new-frame.ensures.picture ∙ sym (ap (λ (p : Picture). p.format) c.new-reference.ensures.picture)
+pub search_from-again-requires-clause-format : goal.search_from-again-requires-clause-format
+search_from-again-requires-clause-format g c = ap (λ (p : Picture). p.format) c.new-frame.ensures.picture ∙ sym (ap (λ (p : Picture). p.format) c.new-reference.ensures.picture)
 
-pub search-again-requires-clause-mb : goal.search-again-requires-clause-mb
-search-again-requires-clause-mb g c = subst (λ (f : Format). c.args.mb < mbs_of f) (sym (ap (λ (p : Picture). p.format) c.new-reference.ensures.picture)) (omega arith)
+pub search_from-again-requires-clause-mb : goal.search_from-again-requires-clause-mb
+search_from-again-requires-clause-mb g c = subst (λ (f : Format). c.args.mb < mbs_of f) (sym (ap (λ (p : Picture). p.format) c.new-reference.ensures.picture)) (omega arith)
 
-pub search-cost-requires-clause-sums : goal.search-cost-requires-clause-sums
-search-cost-requires-clause-sums g c = c.none-sums.ensures (picture c.new-reference.result)
+pub search_from-again-requires-clause-sums : goal.search_from-again-requires-clause-sums
+search_from-again-requires-clause-sums g c = c.none-sums.ensures (picture c.new-reference.result)
