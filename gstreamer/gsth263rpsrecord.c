@@ -3,14 +3,26 @@
 #include <errno.h>
 #include <glib/gstdio.h>
 #include <stdio.h>
+#include <stdlib.h>
 #include <string.h>
+
+/* A file of a record: in memory until the record is kept. */
+typedef struct
+{
+  FILE *file;
+  gchar *held;
+  size_t held_size;
+} RecordFile;
 
 struct _GstH263RpsRecord
 {
   gchar *folder, *end;
   gchar *names[GST_H263RPS_RECORD_FILES];
-  FILE *files[GST_H263RPS_RECORD_FILES];
-  FILE *times[GST_H263RPS_RECORD_FILES];
+  RecordFile files[GST_H263RPS_RECORD_FILES];
+  RecordFile times[GST_H263RPS_RECORD_FILES];
+  gboolean is_kept;
+  gsize held;                   /* bytes that wait in memory */
+  gint fault;                   /* errno of the write that failed */
   gint64 flushed;               /* in us */
 };
 
@@ -40,61 +52,168 @@ open_file (GstH263RpsRecord * record, const gchar * name, const gchar * mode, GE
   return file;
 }
 
-static gboolean
-open_kind (GstH263RpsRecord * record, gint kind, guint number, GError ** error)
+static const gchar *
+stem_of (const GstH263RpsRecord * record, gint kind)
 {
-  gboolean is_send = g_str_equal (record->end, "send");
-  const gchar *stem = is_send ? kinds[kind].send : kinds[kind].recv;
-  gchar *name;
+  return g_str_equal (record->end, "send") ? kinds[kind].send : kinds[kind].recv;
+}
 
-  if (!stem)
-    return TRUE;
-  name = number == 1 ? g_strdup (stem) : g_strdup_printf ("%s-%u", stem, number);
-  record->names[kind] = g_strconcat (name, kinds[kind].suffix, NULL);
-  record->files[kind] = open_file (record, record->names[kind], "wb", error);
-  if (record->files[kind] && (is_send ? kinds[kind].send_times : kinds[kind].recv_times)) {
-    gchar *beside = g_strconcat (name, ".times", NULL);
+static gboolean
+has_times (const GstH263RpsRecord * record, gint kind)
+{
+  return g_str_equal (record->end, "send") ? kinds[kind].send_times : kinds[kind].recv_times;
+}
 
-    record->times[kind] = open_file (record, beside, "w", error);
-    g_free (beside);
-    if (!record->times[kind]) {
-      g_free (name);
-      return FALSE;
-    }
+static void
+hold_file (RecordFile * it)
+{
+  it->file = open_memstream (&it->held, &it->held_size);
+}
+
+static void
+close_file (RecordFile * it)
+{
+  if (it->file)
+    fclose (it->file);
+  it->file = NULL;
+  /* The memory of a stream of stdio is the C library's. */
+  free (it->held);
+  it->held = NULL;
+}
+
+/* A write failed, or the folder can't be made: nothing more is written, and what was stays. */
+static void
+stop (GstH263RpsRecord * record, gint fault)
+{
+  gint kind;
+
+  if (record->fault)
+    return;
+  record->fault = fault ? fault : EIO;
+  for (kind = 0; kind < GST_H263RPS_RECORD_FILES; kind++) {
+    close_file (&record->files[kind]);
+    close_file (&record->times[kind]);
   }
-  g_free (name);
-  return record->files[kind] != NULL;
+}
+
+static void
+check (GstH263RpsRecord * record, RecordFile * it)
+{
+  if (it->file && ferror (it->file))
+    stop (record, errno);
 }
 
 /**
  * gst_h263rps_record_new:
- * @folder: where the files go; it is made if it isn't there
  * @end: "send" or "recv"
- * @number: which run of this end in the folder, from 1
  *
- * Returns: (nullable) (transfer full): a record, or %NULL with @error
+ * What is written waits in memory until the record is kept.
+ *
+ * Returns: (transfer full): a record
  */
 GstH263RpsRecord *
-gst_h263rps_record_new (const gchar * folder, const gchar * end, guint number, GError ** error)
+gst_h263rps_record_new (const gchar * end)
 {
-  GstH263RpsRecord *record;
+  GstH263RpsRecord *record = g_new0 (GstH263RpsRecord, 1);
   gint kind;
 
-  if (g_mkdir_with_parents (folder, 0777) != 0) {
-    g_set_error (error, G_FILE_ERROR, g_file_error_from_errno (errno), "%s: %s", folder,
-        g_strerror (errno));
-    return NULL;
-  }
-  record = g_new0 (GstH263RpsRecord, 1);
-  record->folder = g_strdup (folder);
   record->end = g_strdup (end);
   for (kind = 0; kind < GST_H263RPS_RECORD_FILES; kind++) {
-    if (!open_kind (record, kind, number, error)) {
-      gst_h263rps_record_free (record);
-      return NULL;
-    }
+    if (stem_of (record, kind))
+      hold_file (&record->files[kind]);
+    if (stem_of (record, kind) && has_times (record, kind))
+      hold_file (&record->times[kind]);
   }
   return record;
+}
+
+/* Writes what waits in memory into a file of the folder, which takes its place. */
+static gboolean
+keep_file (GstH263RpsRecord * record, RecordFile * it, const gchar * name, GError ** error)
+{
+  FILE *file;
+
+  if (!it->file)
+    return TRUE;
+  file = open_file (record, name, "wb", error);
+  if (!file)
+    return FALSE;
+  fclose (it->file);
+  fwrite (it->held, 1, it->held_size, file);
+  free (it->held);
+  it->held = NULL;
+  it->file = file;
+  check (record, it);
+  return TRUE;
+}
+
+static gboolean
+keep_kind (GstH263RpsRecord * record, gint kind, guint number, GError ** error)
+{
+  const gchar *stem = stem_of (record, kind);
+  gchar *name, *times;
+  gboolean is_done;
+
+  if (!stem)
+    return TRUE;
+  name = number == 1 ? g_strdup (stem) : g_strdup_printf ("%s-%u", stem, number);
+  times = g_strconcat (name, ".times", NULL);
+  record->names[kind] = g_strconcat (name, kinds[kind].suffix, NULL);
+  is_done = keep_file (record, &record->files[kind], record->names[kind], error)
+      && keep_file (record, &record->times[kind], times, error);
+  g_free (name);
+  g_free (times);
+  return is_done;
+}
+
+/**
+ * gst_h263rps_record_keep:
+ * @record: a record
+ * @folder: where the files go; it is made if it isn't there
+ * @number: which run of this end in the folder, from 1
+ *
+ * From now on it is in the folder, with all that was written before.
+ *
+ * Returns: whether it is; with @error nothing more is written
+ */
+gboolean
+gst_h263rps_record_keep (GstH263RpsRecord * record, const gchar * folder, guint number,
+    GError ** error)
+{
+  gint kind;
+
+  record->is_kept = TRUE;
+  record->held = 0;
+  record->folder = g_strdup (folder);
+  if (g_mkdir_with_parents (folder, 0777) != 0) {
+    gint fault = errno;
+
+    g_set_error (error, G_FILE_ERROR, g_file_error_from_errno (fault), "%s: %s", folder,
+        g_strerror (fault));
+    stop (record, fault);
+    return FALSE;
+  }
+  for (kind = 0; kind < GST_H263RPS_RECORD_FILES; kind++) {
+    if (!keep_kind (record, kind, number, error)) {
+      stop (record, EIO);
+      return FALSE;
+    }
+  }
+  return TRUE;
+}
+
+/* How many bytes wait in memory. */
+gsize
+gst_h263rps_record_held (const GstH263RpsRecord * record)
+{
+  return record ? record->held : 0;
+}
+
+/* Why nothing more is written (errno), or 0. */
+gint
+gst_h263rps_record_fault (const GstH263RpsRecord * record)
+{
+  return record ? record->fault : 0;
 }
 
 void
@@ -103,10 +222,8 @@ gst_h263rps_record_free (GstH263RpsRecord * record)
   gint kind;
 
   for (kind = 0; kind < GST_H263RPS_RECORD_FILES; kind++) {
-    if (record->files[kind])
-      fclose (record->files[kind]);
-    if (record->times[kind])
-      fclose (record->times[kind]);
+    close_file (&record->files[kind]);
+    close_file (&record->times[kind]);
     g_free (record->names[kind]);
   }
   g_free (record->folder);
@@ -115,10 +232,19 @@ gst_h263rps_record_free (GstH263RpsRecord * record)
 }
 
 static void
+note_written (GstH263RpsRecord * record, gint kind, gsize bytes)
+{
+  if (!record->is_kept)
+    record->held += bytes;
+  check (record, &record->files[kind]);
+  check (record, &record->times[kind]);
+}
+
+static void
 write_time (GstH263RpsRecord * record, gint kind, GstClockTime when)
 {
-  if (record->times[kind])
-    fprintf (record->times[kind], "%" G_GUINT64_FORMAT ".%06u\n", when / GST_SECOND,
+  if (record->times[kind].file)
+    fprintf (record->times[kind].file, "%" G_GUINT64_FORMAT ".%06u\n", when / GST_SECOND,
         (guint) (when % GST_SECOND / 1000));
 }
 
@@ -127,22 +253,32 @@ void
 gst_h263rps_record_entry (GstH263RpsRecord * record, GstH263RpsRecordFile file, gchar letter,
     const guint8 * body, gsize length, GstClockTime when)
 {
-  if (!record || !record->files[file] || length > G_MAXUINT16)
+  FILE *to = record ? record->files[file].file : NULL;
+
+  if (!to || length > G_MAXUINT16)
     return;
-  fputc (letter, record->files[file]);
-  fputc (length >> 8, record->files[file]);
-  fputc (length & 255, record->files[file]);
+  fputc (letter, to);
+  fputc (length >> 8, to);
+  fputc (length & 255, to);
   if (length)
-    fwrite (body, 1, length, record->files[file]);
+    fwrite (body, 1, length, to);
   write_time (record, file, when);
+  note_written (record, file, 3 + length);
 }
 
 void
 gst_h263rps_record_head (GstH263RpsRecord * record, gint width, gint height, gint fps_n, gint fps_d)
 {
-  if (record)
-    fprintf (record->files[GST_H263RPS_RECORD_VIDEO], "YUV4MPEG2 W%d H%d F%d:%d Ip C420jpeg\n",
+  if (record && record->files[GST_H263RPS_RECORD_VIDEO].file)
+    fprintf (record->files[GST_H263RPS_RECORD_VIDEO].file, "YUV4MPEG2 W%d H%d F%d:%d Ip C420jpeg\n",
         width, height, fps_n, fps_d);
+}
+
+static void
+flush (GstH263RpsRecord * record, RecordFile * it)
+{
+  if (it->file && fflush (it->file) != 0)
+    stop (record, errno);
 }
 
 /* What is recorded outlives the process, whatever ends it. */
@@ -152,14 +288,12 @@ flush_each_second (GstH263RpsRecord * record)
   gint64 now = g_get_monotonic_time ();
   gint kind;
 
-  if (now - record->flushed < G_USEC_PER_SEC)
+  if (!record->is_kept || now - record->flushed < G_USEC_PER_SEC)
     return;
   record->flushed = now;
   for (kind = 0; kind < GST_H263RPS_RECORD_FILES; kind++) {
-    if (record->files[kind])
-      fflush (record->files[kind]);
-    if (record->times[kind])
-      fflush (record->times[kind]);
+    flush (record, &record->files[kind]);
+    flush (record, &record->times[kind]);
   }
 }
 
@@ -168,11 +302,10 @@ void
 gst_h263rps_record_frame (GstH263RpsRecord * record, const gchar * mark, const guint8 * samples,
     gsize size, GstClockTime when)
 {
-  FILE *file;
+  FILE *file = record ? record->files[GST_H263RPS_RECORD_VIDEO].file : NULL;
 
-  if (!record)
+  if (!file)
     return;
-  file = record->files[GST_H263RPS_RECORD_VIDEO];
   if (mark) {
     gchar *capitals = g_ascii_strup (mark, -1);
 
@@ -183,6 +316,7 @@ gst_h263rps_record_frame (GstH263RpsRecord * record, const gchar * mark, const g
   }
   fwrite (samples, 1, size, file);
   write_time (record, GST_H263RPS_RECORD_VIDEO, when);
+  note_written (record, GST_H263RPS_RECORD_VIDEO, size);
   flush_each_second (record);
 }
 
@@ -192,12 +326,13 @@ gst_h263rps_record_line (GstH263RpsRecord * record, GstH263RpsRecordFile file,
 {
   va_list args;
 
-  if (!record || !record->files[file])
+  if (!record || !record->files[file].file)
     return;
   va_start (args, format);
-  vfprintf (record->files[file], format, args);
+  vfprintf (record->files[file].file, format, args);
   va_end (args);
-  fputc ('\n', record->files[file]);
+  fputc ('\n', record->files[file].file);
+  check (record, &record->files[file]);
 }
 
 /* Adds a line to the end's list of runs, which tools/record_of_elements reads: the files' names and
@@ -206,7 +341,7 @@ void
 gst_h263rps_record_facts (GstH263RpsRecord * record, const gchar * format, ...)
 {
   gchar *name = g_strconcat (record->end, ".runs", NULL);
-  FILE *file = open_file (record, name, "a", NULL);
+  FILE *file = record->fault ? NULL : open_file (record, name, "a", NULL);
   va_list args;
   gint kind;
 
@@ -222,5 +357,6 @@ gst_h263rps_record_facts (GstH263RpsRecord * record, const gchar * format, ...)
   vfprintf (file, format, args);
   va_end (args);
   fputs ("}\n", file);
-  fclose (file);
+  if (fclose (file) != 0)
+    stop (record, errno);
 }

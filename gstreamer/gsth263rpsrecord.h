@@ -1,5 +1,6 @@
 /* The files of a recorded run: what an end read and wrote, as `h263rps send` and `recv` and the
- * tools read it (docs/LIVE.md, "A recorded call"). */
+ * tools read it (docs/LIVE.md, "A recorded call"). Where a write fails the recording ends, and the
+ * call goes on. */
 #ifndef __GST_H263RPS_RECORD_H__
 #define __GST_H263RPS_RECORD_H__
 
@@ -28,8 +29,17 @@ typedef enum
 } GstH263RpsRecordFile;
 
 G_GNUC_INTERNAL
-GstH263RpsRecord * gst_h263rps_record_new   (const gchar * folder, const gchar * end,
+GstH263RpsRecord * gst_h263rps_record_new   (const gchar * end);
+
+G_GNUC_INTERNAL
+gboolean           gst_h263rps_record_keep  (GstH263RpsRecord * record, const gchar * folder,
                                              guint number, GError ** error);
+
+G_GNUC_INTERNAL
+gsize              gst_h263rps_record_held  (const GstH263RpsRecord * record);
+
+G_GNUC_INTERNAL
+gint               gst_h263rps_record_fault (const GstH263RpsRecord * record);
 
 G_GNUC_INTERNAL
 void               gst_h263rps_record_free  (GstH263RpsRecord * record);

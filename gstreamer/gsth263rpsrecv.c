@@ -16,7 +16,8 @@
  *
  * One stream is followed while pictures of it become complete. Half a second after the last one
  * another is tried in a run of its own, once three of its packets came, and followed from its first
- * complete picture on. What doesn't count costs a count, and no more.
+ * complete picture on. The former one with the most complete pictures keeps its run, and is followed
+ * again from its next complete picture on. What doesn't count costs a count, and no more.
  *
  * ## Example launch line
  * |[
@@ -50,8 +51,15 @@ GST_DEBUG_CATEGORY_STATIC (h263rpsrecv_debug);
 /* As that of a payloader: one that is drawn at random. */
 #define DEFAULT_SSRC G_MAXUINT32
 
-/* Another stream that is tried has this long for its first complete picture. */
+/* A picture waits at least this long for the packets that were sent with its first one. */
+#define LEAST_WAIT GST_MSECOND
+/* Another stream that is tried has this long for its first complete picture, as long as its packets
+ * are no further apart than that; so much of it is kept for the record. One that failed then waits
+ * this long, so that another has its turn. */
 #define TRIAL GST_SECOND
+#define QUIET (GST_SECOND / 2)
+#define MOST_HELD (8 << 20)
+#define TURN (GST_SECOND / 2)
 /* After this much silence the run begins anew: numbers can't be told any more. */
 #define LOST (30 * GST_SECOND)
 /* An intra picture is asked for at most this often. */
@@ -60,7 +68,7 @@ GST_DEBUG_CATEGORY_STATIC (h263rpsrecv_debug);
 #define MOST_OUT 8
 /* Messages that wait to be said; a further one is dropped. */
 #define MOST_PENDING 256
-/* Runs that are recorded: strangers may begin runs, and mustn't fill a disk. */
+/* Runs that are recorded: whoever is followed may begin runs, and mustn't fill a disk. */
 #define MOST_RECORDED 16
 /* The longest packet of UDP. */
 #define ROOM 65536
@@ -114,17 +122,26 @@ struct _GstH263RpsRecv
   gboolean is_flushing, is_playing, is_eos, is_clock_new;
   GstClockID clock_id;
 
-  /* from the caps of the packets; 0 where they don't say */
-  guint caps_slots, caps_lead, caps_pt;
+  /* from the caps of the packets; -1 where they don't say, and of the payload type 0 */
+  gint caps_slots, caps_lead;
+  guint caps_pt;
   gint fps_n, fps_d;
 
-  /* the stream that is followed, the one that is tried, and those that might be */
-  GstH263RpsRun *run, *trial;
+  /* the stream that is followed, the one that is tried, the one that was followed before, and those
+   * that might be tried; of others than the first and the third so many packets are looked at */
+  GstH263RpsRun *run, *trial, *former;
   GstClockTime trial_began, last, complete;
   GstH263RpsProbation probation;
-  GstH263RpsAllowance allowance;
+  GstH263RpsAllowance strangers_allowance;
+  /* the stream whose trial ended last without a complete picture, and when */
+  gboolean has_failed;
+  guint32 failed;
+  GstClockTime failed_at;
   guint8 *room;
   guint recorded;
+  gchar *record_fault;          /* what is to be told of the record, or NULL */
+  guint32 run_fault;            /* why no run could be begun, or 0 */
+  gboolean is_run_fault_told;
 
   /* pictures, with new caps before them, for the task */
   GQueue out;
@@ -436,69 +453,144 @@ play_shown (GstH263RpsRecv * self, GstClockTime due)
 }
 
 /* At most as many at once as are kept: what is due beyond them waits until the network was looked
- * at again. */
+ * at again. Nothing from picture `before` on is played; with -1 all that is due is. */
 static void
-play_due (GstH263RpsRecv * self, GstH263RpsRun * run, GstClockTime now)
+play_due (GstH263RpsRecv * self, GstH263RpsRun * run, GstClockTime now, gint64 before)
 {
   GstClockTime due;
   h263rps_answer answer;
   guint i;
 
-  for (i = 0; i < run->params.slots && gst_h263rps_run_due (run, &due) && due <= now; i++) {
+  for (i = 0; i < run->params.slots && run->played != before; i++) {
+    if (!gst_h263rps_run_due (run, &due) || due > now)
+      return;
     if (run == self->run)
       play_shown (self, due);
-    else
-      gst_h263rps_run_play (run, NULL, &answer, running_time_of (self, now));
+    else if (gst_h263rps_run_play (run, NULL, &answer, running_time_of (self, now))
+        && answer.message.length)
+      note_message (self, run, &answer.message);
   }
 }
 
-/* ---- which stream is followed, under the lock ---- */
+/* ---- the record ---- */
 
+/* Under the lock: what is to be told once it is left. */
 static void
-begin_record (GstH263RpsRecv * self, GstH263RpsRun * run, const GstH263RpsArrival * arrival)
+note_record_fault (GstH263RpsRecv * self, const gchar * words)
 {
-  GError *error = NULL;
-  gchar *folder;
+  GST_WARNING_OBJECT (self, "%s", words);
+  if (!self->record_fault)
+    self->record_fault = g_strdup (words);
+}
+
+/* Under the lock: a disk that fills up ends the recording, once, and not the call. */
+static void
+check_record (GstH263RpsRecv * self, GstH263RpsRun * run)
+{
+  gint fault = gst_h263rps_record_fault (run->record);
+  gchar *words;
+
+  if (!fault)
+    return;
+  words = g_strdup_printf ("The recording ends here: %s.", g_strerror (fault));
+  note_record_fault (self, words);
+  g_free (words);
+  g_clear_pointer (&run->record, gst_h263rps_record_free);
+}
+
+/* Without the lock. */
+static void
+tell_record_fault (GstH263RpsRecv * self)
+{
+  gchar *words;
+
+  g_mutex_lock (&self->lock);
+  words = g_steal_pointer (&self->record_fault);
+  g_mutex_unlock (&self->lock);
+  if (!words)
+    return;
+  GST_ELEMENT_WARNING (self, RESOURCE, WRITE, ("%s", words), (NULL));
+  g_free (words);
+}
+
+/* Without the lock, and once: without a run there will be no picture. */
+static void
+tell_run_fault (GstH263RpsRecv * self)
+{
+  guint32 fault;
+
+  g_mutex_lock (&self->lock);
+  fault = self->is_run_fault_told ? 0 : self->run_fault;
+  self->is_run_fault_told = self->run_fault != 0;
+  g_mutex_unlock (&self->lock);
+  if (fault)
+    GST_ELEMENT_ERROR (self, LIBRARY, SETTINGS, ("%s", h263rps_status_text (fault)),
+        ("slots and lead: %d, %d by the caps (-1: none), %u, %u by the properties",
+            self->caps_slots, self->caps_lead, self->slots, self->lead));
+}
+
+/* What is recorded of a run waits in memory until its stream is followed. */
+static void
+hold_record (GstH263RpsRecv * self, GstH263RpsRun * run)
+{
+  gboolean is_wanted;
   gint width, height;
   gint64 i;
 
   GST_OBJECT_LOCK (self);
-  folder = g_strdup (self->record_location);
+  is_wanted = self->record_location != NULL;
   GST_OBJECT_UNLOCK (self);
-  if (!folder || self->recorded == MOST_RECORDED) {
-    g_free (folder);
+  if (!is_wanted || self->recorded == MOST_RECORDED)
     return;
-  }
-  run->record = gst_h263rps_record_new (folder, "recv", ++self->recorded, &error);
-  g_free (folder);
-  if (!run->record) {
-    GST_WARNING_OBJECT (self, "no record: %s", error->message);
-    g_clear_error (&error);
-    return;
-  }
+  run->record = gst_h263rps_record_new ("recv");
   gst_h263rps_size_of_format (run->params.format, &width, &height);
   gst_h263rps_record_head (run->record, width, height, run->fps_n, run->fps_d);
-  gst_h263rps_record_facts (run->record, "\"format\": \"%s\", \"rate\": \"%d/%d\", "
-      "\"clock\": \"%s\", \"messages\": %u, \"slots\": %u, \"lead\": %u, \"wait\": %.6f, "
-      "\"source\": %u, \"skipped\": %" G_GINT64_FORMAT ", \"first\": %u",
-      gst_h263rps_format_name (run->params.format), run->fps_n, run->fps_d,
-      run->params.clock ? "custom" : "standard", run->params.messages, run->params.slots,
-      run->params.lead, (gdouble) run->wait / GST_SECOND, run->ssrc, run->first,
-      arrival->start.temporal_reference);
   /* `recv` counts from 0: the log has the plays that the library leaves out. */
   for (i = 0; i < run->first; i++)
     gst_h263rps_record_entry (run->record, GST_H263RPS_RECORD_LOG, 'P', NULL, 0,
         running_time_of (self, clock_time (self)));
 }
 
+/* From now on it is in the folder. Where that can't be made the call goes on. */
+static void
+keep_record (GstH263RpsRecv * self, GstH263RpsRun * run)
+{
+  GError *error = NULL;
+  gchar *folder;
+
+  if (!run->record)
+    return;
+  GST_OBJECT_LOCK (self);
+  folder = g_strdup (self->record_location);
+  GST_OBJECT_UNLOCK (self);
+  if (!folder || self->recorded == MOST_RECORDED) {
+    g_clear_pointer (&run->record, gst_h263rps_record_free);
+  } else if (!gst_h263rps_record_keep (run->record, folder, ++self->recorded, &error)) {
+    note_record_fault (self, error ? error->message : "The folder of the record can't be made.");
+    g_clear_error (&error);
+    g_clear_pointer (&run->record, gst_h263rps_record_free);
+  } else {
+    gst_h263rps_record_facts (run->record, "\"format\": \"%s\", \"rate\": \"%d/%d\", "
+        "\"clock\": \"%s\", \"messages\": %u, \"slots\": %u, \"lead\": %u, \"wait\": %.6f, "
+        "\"source\": %u, \"skipped\": %" G_GINT64_FORMAT ", \"first\": %u",
+        gst_h263rps_format_name (run->params.format), run->fps_n, run->fps_d,
+        run->params.clock ? "custom" : "standard", run->params.messages, run->params.slots,
+        run->params.lead, (gdouble) run->wait / GST_SECOND, run->ssrc, run->first, run->joined);
+  }
+  g_free (folder);
+}
+
+/* ---- which stream is followed, under the lock ---- */
+
 /* How long pictures wait before they are played. More than the lead holds would come early. */
 static GstClockTime
 wait_for (GstH263RpsRecv * self, guint lead)
 {
-  GstClockTime wait = self->latency * GST_MSECOND;
+  GstClockTime wait = MAX (self->latency * GST_MSECOND, LEAST_WAIT);
   GstClockTime most = lead > 1
       ? gst_util_uint64_scale (GST_SECOND, (lead - 1) * self->fps_d, self->fps_n) : 0;
 
+  most = MAX (most, LEAST_WAIT);
   if (wait <= most)
     return wait;
   GST_WARNING_OBJECT (self, "a lead of %u pictures holds %" GST_TIME_FORMAT " of the latency of "
@@ -513,68 +605,128 @@ begin_run (GstH263RpsRecv * self, const GstH263RpsArrival * arrival)
   GstH263RpsRun *run;
   guint32 status = H263RPS_OK;
 
-  params.slots = self->caps_slots ? self->caps_slots : self->slots;
-  params.lead = self->caps_lead ? self->caps_lead : self->lead;
+  params.slots = self->caps_slots >= 0 ? (guint) self->caps_slots : self->slots;
+  params.lead = self->caps_lead >= 0 ? (guint) self->caps_lead : self->lead;
   params.messages = self->messages;
   run = gst_h263rps_run_new (&params, self->fps_n, self->fps_d, wait_for (self, params.lead),
       arrival, &status);
   if (!run)
-    GST_ERROR_OBJECT (self, "no run: %s (slots %u, lead %u)", h263rps_status_text (status),
-        params.slots, params.lead);
+    self->run_fault = status;
   else
     GST_INFO_OBJECT (self, "a run of stream %08x from picture %" G_GINT64_FORMAT " on", run->ssrc,
         run->first);
   return run;
 }
 
-static void
-end_trial (GstH263RpsRecv * self)
+static gboolean
+is_silent (GstH263RpsRecv * self, GstClockTime now)
 {
+  return !self->run || now - self->complete >= GST_H263RPS_SILENT;
+}
+
+/* It wasn't complete in its time, or another takes its place. */
+static void
+end_trial (GstH263RpsRecv * self, GstClockTime now)
+{
+  if (!self->trial)
+    return;
+  self->has_failed = TRUE;
+  self->failed = self->trial->ssrc;
+  self->failed_at = now;
   g_clear_pointer (&self->trial, gst_h263rps_run_free);
 }
 
 static void
 forget_streams (GstH263RpsRecv * self)
 {
-  end_trial (self);
+  g_clear_pointer (&self->trial, gst_h263rps_run_free);
+  g_clear_pointer (&self->former, gst_h263rps_run_free);
   g_clear_pointer (&self->run, gst_h263rps_run_free);
+  self->has_failed = FALSE;
   gst_h263rps_probation_clear (&self->probation);
 }
 
+/* The run is that of the stream that is followed. What was before stays the caller's. */
 static void
 follow_run (GstH263RpsRecv * self, GstH263RpsRun * run, GstClockTime now)
 {
   gboolean is_new = !self->run || self->run->params.format != run->params.format
       || self->run->fps_n != run->fps_n || self->run->fps_d != run->fps_d;
 
-  g_clear_pointer (&self->run, gst_h263rps_run_free);
   self->run = run;
   self->last = self->complete = now;
-  self->counts.runs++;
-  if (is_new)
-    gst_caps_replace (&self->new_caps, NULL);
-  if (is_new)
-    self->new_caps = caps_of (run);
+  if (!is_new)
+    return;
+  gst_caps_replace (&self->new_caps, NULL);
+  self->new_caps = caps_of (run);
 }
 
-/* What a packet's answer means: a message, and for a stream that is tried, that it is followed. */
+/* A new run is followed: that of the first stream, of one that was tried, or one that goes on. */
+static void
+begin_following (GstH263RpsRecv * self, GstH263RpsRun * run, GstClockTime now)
+{
+  follow_run (self, run, now);
+  self->counts.runs++;
+  keep_record (self, run);
+}
+
+/* Of the streams that were followed the one that has completed more keeps its run, if it isn't the
+ * one that is followed now. */
+static void
+keep_beside (GstH263RpsRecv * self, GstH263RpsRun * old)
+{
+  GstH263RpsRun *less = old;
+
+  if (old->ssrc != self->run->ssrc && (!self->former || self->former->completed < old->completed)) {
+    less = self->former;
+    self->former = old;
+  }
+  g_clear_pointer (&less, gst_h263rps_run_free);
+}
+
+/* The stream that was tried, or was followed before, is followed from now on. */
+static void
+turn_to (GstH263RpsRecv * self, GstH263RpsRun * run, GstClockTime now)
+{
+  GstH263RpsRun *old = self->run;
+
+  if (run == self->trial) {
+    self->trial = NULL;
+    begin_following (self, run, now);
+  } else {
+    self->former = NULL;
+    follow_run (self, run, now);
+  }
+  keep_beside (self, old);
+  gst_h263rps_probation_clear (&self->probation);
+}
+
+static void
+note_completed (GstH263RpsRecv * self, GstH263RpsRun * run, GstClockTime now)
+{
+  gboolean is_better;
+
+  run->completed++;
+  is_better = run == self->former
+      && (is_silent (self, now) || run->completed > self->run->completed);
+  if (run == self->trial || is_better)
+    turn_to (self, run, now);
+  if (run == self->run)
+    self->complete = now;
+}
+
+/* What a packet's answer means: a message, and for a stream that isn't followed, that it is. */
 static void
 note_answer (GstH263RpsRecv * self, GstH263RpsRun * run, const h263rps_answer * answer,
     GstClockTime now)
 {
-  if (answer->kind == H263RPS_COMPLETED) {
-    if (run == self->trial) {
-      self->trial = NULL;
-      follow_run (self, run, now);
-      gst_h263rps_probation_clear (&self->probation);
-    }
-    self->complete = now;
-  }
+  if (answer->kind == H263RPS_COMPLETED)
+    note_completed (self, run, now);
   if (answer->kind == H263RPS_REFUSED && answer->fault == H263RPS_MISSING_REFERENCE)
     note_intra (self, run, now);
-  if (run != self->run)
-    return;
-  self->counts.heard[answer->kind]++;
+  if (run == self->run)
+    self->counts.heard[answer->kind]++;
+  /* Also of one that is tried, or was followed: what it lacks is to come. */
   if (answer->message.length)
     note_message (self, run, &answer->message);
 }
@@ -586,12 +738,14 @@ give_run (GstH263RpsRecv * self, GstH263RpsRun * run, const GstH263RpsArrival * 
 {
   h263rps_answer answer = { 0 };
   gsize length = gst_buffer_get_size (arrival->buffer);
+  gint64 number;
 
-  if (!gst_h263rps_run_place (run, arrival, now))
+  if (!gst_h263rps_run_place (run, arrival, now, &number))
     return FALSE;
-  play_due (self, run, now);
+  play_due (self, run, now, number);
   gst_buffer_extract (arrival->buffer, 0, self->room, length);
   gst_h263rps_run_hear (run, self->room, length, &answer, running_time_of (self, now));
+  check_record (self, run);
   note_answer (self, run, &answer, now);
   return TRUE;
 }
@@ -600,12 +754,13 @@ give_run (GstH263RpsRecv * self, GstH263RpsRun * run, const GstH263RpsArrival * 
 static void
 begin_anew (GstH263RpsRecv * self, const GstH263RpsArrival * arrival, GstClockTime now)
 {
-  GstH263RpsRun *run = begin_run (self, arrival);
+  GstH263RpsRun *old = self->run, *run = begin_run (self, arrival);
 
   if (!run)
     return;
-  follow_run (self, run, now);
-  begin_record (self, run, arrival);
+  hold_record (self, run);
+  begin_following (self, run, now);
+  gst_h263rps_run_free (old);
   note_intra (self, run, now);
 }
 
@@ -615,14 +770,32 @@ take_followed (GstH263RpsRecv * self, const GstH263RpsArrival * arrival, GstCloc
 {
   if (now - self->last > LOST || gst_h263rps_run_is_lost (self->run, now))
     begin_anew (self, arrival, now);
-  if (arrival->start.format != self->run->params.format
-      || arrival->start.clock != self->run->params.clock) {
+  if (!gst_h263rps_run_is_of (self->run, arrival)) {
     self->counts.other_format++;
     return TRUE;
   }
   if (!give_run (self, self->run, arrival, now))
     return FALSE;
   self->last = now;
+  return TRUE;
+}
+
+/* Whether a packet is of a stream that was followed before, or of the one that is tried. */
+static gboolean
+take_beside (GstH263RpsRecv * self, const GstH263RpsArrival * arrival, GstClockTime now)
+{
+  GstH263RpsRun *trial = self->trial;
+
+  if (self->former && gst_h263rps_run_is_of (self->former, arrival)) {
+    if (self->former->is_ended || now - self->former->last > LOST)
+      g_clear_pointer (&self->former, gst_h263rps_run_free);
+    else if (give_run (self, self->former, arrival, now))
+      return TRUE;
+  }
+  if (!trial || !gst_h263rps_run_is_of (trial, arrival) || !give_run (self, trial, arrival, now))
+    return FALSE;
+  if (self->trial == trial && gst_h263rps_record_held (trial->record) > MOST_HELD)
+    end_trial (self, now);
   return TRUE;
 }
 
@@ -636,21 +809,39 @@ try_stream (GstH263RpsRecv * self, const GstH263RpsArrival came[GST_H263RPS_PROB
 
   if (!run)
     return;
-  end_trial (self);
+  end_trial (self, now);
+  hold_record (self, run);
   if (!self->run) {
-    follow_run (self, run, now);
+    begin_following (self, run, now);
   } else {
     self->trial = run;
     self->trial_began = now;
     self->counts.trials++;
   }
-  begin_record (self, run, &came[0]);
   if (run->first > 0)
     note_intra (self, run, now);
   for (i = 0; i < GST_H263RPS_PROBATION; i++) {
-    if (run->params.format == came[i].start.format && run->params.clock == came[i].start.clock)
+    if (gst_h263rps_run_is_of (run, &came[i]))
       give_run (self, run, &came[i], now);
   }
+}
+
+/* Whether this stream, or another, has its turn to be tried. */
+static gboolean
+may_try (GstH263RpsRecv * self, guint32 ssrc, GstClockTime now)
+{
+  if (self->has_failed && self->failed == ssrc && now - self->failed_at < TURN)
+    return FALSE;
+  return !self->trial || now - self->trial->last > QUIET;
+}
+
+static void
+count_unwanted (GstH263RpsRecv * self, guint32 ssrc)
+{
+  if (self->run && self->run->ssrc == ssrc)
+    self->counts.ahead++;
+  else
+    self->counts.other_source++;
 }
 
 static void
@@ -663,26 +854,33 @@ follow (GstH263RpsRecv * self, const GstH263RpsArrival * arrival, GstClockTime n
   if (self->is_clock_new)
     forget_streams (self);
   self->is_clock_new = FALSE;
+  if (self->trial && now - self->trial_began >= TRIAL)
+    end_trial (self, now);
   if (self->run && self->run->ssrc == arrival->ssrc && take_followed (self, arrival, now))
     return;
-  if (self->trial && self->trial->ssrc == arrival->ssrc
-      && self->trial->params.format == arrival->start.format
-      && self->trial->params.clock == arrival->start.clock
-      && give_run (self, self->trial, arrival, now))
+  if (take_beside (self, arrival, now))
     return;
-  if (self->run && now - self->complete < GST_H263RPS_SILENT) {
-    if (self->run->ssrc == arrival->ssrc)
-      self->counts.ahead++;
-    else
-      self->counts.other_source++;
+  if (!is_silent (self, now) || !may_try (self, arrival->ssrc, now)) {
+    count_unwanted (self, arrival->ssrc);
     return;
   }
   if (!gst_h263rps_probation_add (&self->probation, arrival, came))
     return;
-  if (!self->trial || now - self->trial_began > TRIAL)
-    try_stream (self, came, now);
+  try_stream (self, came, now);
   for (i = 0; i < GST_H263RPS_PROBATION; i++)
     gst_buffer_unref (came[i].buffer);
+}
+
+/* How many more packets of this stream are looked at: what others send costs a stream nothing that
+ * is followed, or was. */
+static GstH263RpsAllowance *
+allowance_of (GstH263RpsRecv * self, guint32 ssrc)
+{
+  if (self->run && self->run->ssrc == ssrc)
+    return &self->run->allowance;
+  if (self->former && self->former->ssrc == ssrc)
+    return &self->former->allowance;
+  return &self->strangers_allowance;
 }
 
 /* ---- packets ---- */
@@ -737,12 +935,12 @@ gst_h263rps_recv_chain (GstPad * pad, GstObject * parent, GstBuffer * buffer)
     flow = GST_FLOW_EOS;
   else if (!self->is_playing)
     self->counts.paused++;
-  else if (!gst_h263rps_allowance_takes (&self->allowance, now))
-    self->counts.too_fast++;
   else if (!read_arrival (self, &arrival, buffer))
     self->counts.malformed++;
   else if (self->caps_pt && arrival.pt != self->caps_pt)
     self->counts.other_payload_type++;
+  else if (!gst_h263rps_allowance_takes (allowance_of (self, arrival.ssrc), now))
+    self->counts.too_fast++;
   else {
     follow (self, &arrival, now);
     wake (self);
@@ -750,6 +948,8 @@ gst_h263rps_recv_chain (GstPad * pad, GstObject * parent, GstBuffer * buffer)
   g_mutex_unlock (&self->lock);
   gst_buffer_unref (buffer);
   say_pending (self);
+  tell_record_fault (self);
+  tell_run_fault (self);
   return flow;
 }
 
@@ -854,7 +1054,7 @@ gst_h263rps_recv_loop (gpointer data)
       continue;
     }
     if (self->run)
-      play_due (self, self->run, clock_time (self));
+      play_due (self, self->run, clock_time (self), -1);
     next = g_queue_pop_head (&self->out);
     if (next || self->pending_count > 0) {
       g_mutex_unlock (&self->lock);
@@ -939,14 +1139,15 @@ read_rate (GstH263RpsRecv * self, const gchar * text)
   }
 }
 
-static guint
-number_in (const GstStructure * structure, const gchar * name, guint most)
+/* A number of SDP, or -1 where there is none from `least` to `most`. */
+static gint
+number_in (const GstStructure * structure, const gchar * name, guint least, guint most)
 {
   const gchar *text = gst_structure_get_string (structure, name);
   guint64 number;
 
-  if (!text || !g_ascii_string_to_unsigned (text, 10, 1, most, &number, NULL))
-    return 0;
+  if (!text || !g_ascii_string_to_unsigned (text, 10, least, most, &number, NULL))
+    return -1;
   return number;
 }
 
@@ -959,8 +1160,8 @@ read_caps (GstH263RpsRecv * self, GstCaps * caps)
   gst_structure_get_int (structure, "payload", &pt);
   g_mutex_lock (&self->lock);
   self->caps_pt = pt;
-  self->caps_slots = number_in (structure, "x-slots", 64);
-  self->caps_lead = number_in (structure, "x-lead", 62);
+  self->caps_slots = number_in (structure, "x-slots", 2, 64);
+  self->caps_lead = number_in (structure, "x-lead", 0, 62);
   read_rate (self, gst_structure_get_string (structure, "a-framerate"));
   g_mutex_unlock (&self->lock);
 }
@@ -1250,8 +1451,9 @@ gst_h263rps_recv_change_state (GstElement * element, GstStateChange transition)
     case GST_STATE_CHANGE_READY_TO_PAUSED:
       g_mutex_lock (&self->lock);
       memset (&self->counts, 0, sizeof self->counts);
-      memset (&self->allowance, 0, sizeof self->allowance);
-      self->has_asked = FALSE;
+      memset (&self->strangers_allowance, 0, sizeof self->strangers_allowance);
+      self->has_asked = self->is_run_fault_told = FALSE;
+      self->run_fault = 0;
       self->own_ssrc = self->ssrc == DEFAULT_SSRC ? g_random_int () : self->ssrc;
       g_mutex_unlock (&self->lock);
       set_playing (self, FALSE);
@@ -1305,6 +1507,7 @@ gst_h263rps_recv_finalize (GObject * object)
   g_queue_clear_full (&self->session_queue, g_free);
   gst_clear_caps (&self->new_caps);
   g_free (self->record_location);
+  g_free (self->record_fault);
   g_free (self->room);
   g_mutex_clear (&self->lock);
   g_mutex_clear (&self->rtcp_lock);
@@ -1345,6 +1548,7 @@ gst_h263rps_recv_init (GstH263RpsRecv * self)
   self->slots = DEFAULT_SLOTS;
   self->lead = DEFAULT_LEAD;
   self->messages = DEFAULT_MESSAGES;
+  self->caps_slots = self->caps_lead = -1;
   self->fps_n = 30000;
   self->fps_d = 1001;
   self->earliest = GST_CLOCK_TIME_NONE;

@@ -31,6 +31,7 @@ gst_h263rps_run_new (const h263rps_params * params, gint fps_n, gint fps_d, GstC
   run->fps_n = fps_n;
   run->fps_d = fps_d;
   run->wait = wait;
+  run->joined = reference;
   run->first = run->played = reference > BEFORE ? reference - BEFORE : 0;
   *status = h263rps_defaults (arrival->start.format, &run->params);
   if (*status == H263RPS_OK) {
@@ -84,13 +85,16 @@ gst_h263rps_run_free (GstH263RpsRun * run)
  * @run: a run
  * @arrival: a packet of its stream
  * @now: when it came
+ * @number: (out): its picture
  *
- * Gives a packet its place in time. What is due by now is to be played before the packet is heard.
+ * Gives a packet its place in time. What is due by now, up to the picture before, is to be played
+ * before the packet is heard, and the packet before its own picture is played.
  *
  * Returns: whether the packet may be of this stream: not where it is ahead of the clock
  */
 gboolean
-gst_h263rps_run_place (GstH263RpsRun * run, const GstH263RpsArrival * arrival, GstClockTime now)
+gst_h263rps_run_place (GstH263RpsRun * run, const GstH263RpsArrival * arrival, GstClockTime now,
+    gint64 * number)
 {
   h263rps_place place;
 
@@ -102,7 +106,17 @@ gst_h263rps_run_place (GstH263RpsRun * run, const GstH263RpsArrival * arrival, G
     run->late = 0;
   else if (run->late++ == 0)
     run->late_since = now;
+  run->last = now;
+  *number = place.number;
   return TRUE;
+}
+
+/* Whether a packet may be heard by a run: it is of its stream, format and clock. */
+gboolean
+gst_h263rps_run_is_of (const GstH263RpsRun * run, const GstH263RpsArrival * arrival)
+{
+  return run->ssrc == arrival->ssrc && run->params.format == arrival->start.format
+      && run->params.clock == arrival->start.clock;
 }
 
 static void

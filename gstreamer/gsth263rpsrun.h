@@ -21,6 +21,10 @@ typedef struct _GstH263RpsRun GstH263RpsRun;
  * @wait: from the least way to the play, in ns
  * @first: the number of the first picture that is played
  * @played: the number of the next one
+ * @joined: the temporal reference of the first packet
+ * @last: when a packet of it came last
+ * @completed: how many pictures were complete
+ * @allowance: how many more of its packets are looked at now
  *
  * What the rest holds is the run's own.
  */
@@ -33,6 +37,10 @@ struct _GstH263RpsRun
   gint fps_n, fps_d;
   GstClockTime wait;
   gint64 first, played;
+  guint joined;
+  GstClockTime last;
+  guint64 completed;
+  GstH263RpsAllowance allowance;
 
   h263rps_end end;
   h263rps_numbers numbers;
@@ -55,7 +63,11 @@ void            gst_h263rps_run_free    (GstH263RpsRun * run);
 
 G_GNUC_INTERNAL
 gboolean        gst_h263rps_run_place   (GstH263RpsRun * run, const GstH263RpsArrival * arrival,
-                                         GstClockTime now);
+                                         GstClockTime now, gint64 * number);
+
+G_GNUC_INTERNAL
+gboolean        gst_h263rps_run_is_of   (const GstH263RpsRun * run,
+                                         const GstH263RpsArrival * arrival);
 
 G_GNUC_INTERNAL
 void            gst_h263rps_run_hear    (GstH263RpsRun * run, guint8 * bytes, gsize length,

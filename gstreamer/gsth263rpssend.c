@@ -211,15 +211,28 @@ begin_record (GstH263RpsSend * self)
   if (!folder)
     return;
 
-  self->record = gst_h263rps_record_new (folder, "send", ++self->recorded, &error);
-  g_free (folder);
-  if (!self->record) {
+  self->record = gst_h263rps_record_new ("send");
+  if (!gst_h263rps_record_keep (self->record, folder, ++self->recorded, &error)) {
     GST_ELEMENT_WARNING (self, RESOURCE, OPEN_WRITE, ("%s", error->message), (NULL));
     g_clear_error (&error);
-    return;
+    g_clear_pointer (&self->record, gst_h263rps_record_free);
   }
+  g_free (folder);
   gst_h263rps_record_head (self->record, self->info.width, self->info.height, self->info.fps_n,
       self->info.fps_d);
+}
+
+/* A disk that fills up ends the recording, once, and not the call. */
+static void
+check_record (GstH263RpsSend * self)
+{
+  gint fault = gst_h263rps_record_fault (self->record);
+
+  if (!fault)
+    return;
+  GST_ELEMENT_WARNING (self, RESOURCE, WRITE, ("The recording ends here: %s.",
+          g_strerror (fault)), (NULL));
+  g_clear_pointer (&self->record, gst_h263rps_record_free);
 }
 
 /* Once the first picture's packets have gone out: the base class numbers them. */
@@ -681,6 +694,7 @@ gst_h263rps_send_handle_buffer (GstRTPBasePayload * payload, GstBuffer * buffer)
   flow = gst_rtp_base_payload_push_list (payload, list);
   if (coded.number == 0 && self->record)
     record_facts (self, coded.packets);
+  check_record (self);
   return flow;
 
 not_negotiated:

@@ -5,6 +5,7 @@
 #include <gst/rtp/rtp.h>
 #include <gst/video/video.h>
 #include <string.h>
+#include <unistd.h>
 
 #define CAPS(width, height) "video/x-raw, format = (string) I420, width = (int) " #width \
     ", height = (int) " #height ", framerate = (fraction) 60/1"
@@ -622,6 +623,199 @@ GST_START_TEST (test_forged_streams)
 }
 GST_END_TEST;
 
+/* A stranger's stream that comes while the call is silent is followed, and no longer once the call
+ * is there again, however long it goes on. */
+GST_START_TEST (test_a_former_stream_is_followed_again)
+{
+  Call call, forged;
+  GstBuffer *buffer;
+  guint i;
+
+  begin_call (&call);
+  begin_call (&forged);
+  run_call (&call, 90, 0);
+  g_usleep (600000);
+  for (i = 0; i < 120; i++) {
+    capture (&forged);
+    while ((buffer = gst_harness_try_pull (forged.out)))
+      gst_harness_push (call.in, buffer);
+    if (i == 30)
+      fail_unless_equals_int (ssrc_of (call.recv), ssrc_of (forged.send));
+    if (i < 60)
+      g_usleep (PERIOD / 1000);
+    else
+      run_call (&call, 1, 0);
+  }
+  drain ();
+  fail_unless_equals_int (ssrc_of (call.recv), ssrc_of (call.send));
+  assert_count (call.recv, "runs", 2);
+  end_call (&forged);
+  end_call (&call);
+}
+GST_END_TEST;
+
+/* 60,000 datagrams of twelve bytes a second: each costs a count. */
+GST_START_TEST (test_junk_costs_a_count)
+{
+  static const guint8 junk[12] = { 0x80, 96, 1, 2, 3 };
+  Call call;
+  guint i, j;
+
+  begin_call (&call);
+  run_call (&call, 10, 0);
+  for (i = 0; i < 90; i++) {
+    for (j = 0; j < 1000; j++)
+      gst_harness_push (call.in, gst_buffer_new_memdup (junk, sizeof junk));
+    run_call (&call, 1, 0);
+  }
+  drain ();
+  assert_count (call.recv, "malformed", 90000);
+  assert_count (call.recv, "too-fast", 0);
+  assert_nearly (call.recv, "exact", 100);
+  end_call (&call);
+}
+GST_END_TEST;
+
+static void
+deliver (Call * call, GQueue * packets)
+{
+  GstBuffer *buffer;
+
+  while ((buffer = g_queue_pop_head (packets)))
+    gst_harness_push (call->in, buffer);
+  while ((buffer = gst_harness_try_pull (call->said)))
+    gst_harness_push (call->back, buffer);
+}
+
+/* Two and a half pictures a second, whose way takes 0.8 s more from the sixth on. */
+GST_START_TEST (test_a_way_that_gets_longer)
+{
+  GQueue sent[20];
+  GstBuffer *buffer;
+  Call call;
+  guint i;
+
+  begin_call (&call);
+  g_object_set (call.recv, "latency", 100, NULL);
+  for (i = 0; i < G_N_ELEMENTS (sent); i++) {
+    g_queue_init (&sent[i]);
+    capture (&call);
+    if (i == 0)
+      pass_caps (&call);
+    while ((buffer = gst_harness_try_pull (call.out)))
+      g_queue_push_tail (&sent[i], buffer);
+    if (i < 5)
+      deliver (&call, &sent[i]);
+    else if (i >= 7)
+      deliver (&call, &sent[i - 2]);
+    g_usleep (400000);
+  }
+  for (i = 18; i < G_N_ELEMENTS (sent); i++)
+    g_queue_clear_full (&sent[i], (GDestroyNotify) gst_buffer_unref);
+  drain ();
+  assert_at_least (call.recv, "exact", 15);
+  end_call (&call);
+}
+GST_END_TEST;
+
+GST_START_TEST (test_no_latency)
+{
+  Call call;
+
+  begin_call (&call);
+  g_object_set (call.recv, "latency", 0, NULL);
+  run_call (&call, 60, 0);
+  drain ();
+  assert_nearly (call.recv, "exact", 60);
+  end_call (&call);
+}
+GST_END_TEST;
+
+/* ---- records ---- */
+
+static void
+assert_warned (GstBus * bus)
+{
+  GstMessage *message = gst_bus_pop_filtered (bus, GST_MESSAGE_WARNING);
+
+  fail_unless (message != NULL);
+  gst_message_unref (message);
+  fail_unless (gst_bus_pop_filtered (bus, GST_MESSAGE_WARNING | GST_MESSAGE_ERROR) == NULL);
+}
+
+/* A folder that can't be made, and a disk that is full: each is told once by both, and the call
+ * goes on. */
+GST_START_TEST (test_a_record_without_room)
+{
+  gchar *folder = g_dir_make_tmp ("h263rps-XXXXXX", NULL);
+  gchar *shown = g_build_filename (folder, "shown.y4m", NULL);
+  gchar *captured = g_build_filename (folder, "captured.y4m", NULL);
+  const gchar *folders[] = { "/proc/call", folder };
+  guint i;
+
+  fail_unless (symlink ("/dev/full", shown) == 0 && symlink ("/dev/full", captured) == 0);
+  for (i = 0; i < G_N_ELEMENTS (folders); i++) {
+    GstBus *send_bus = gst_bus_new (), *recv_bus = gst_bus_new ();
+    Call call;
+
+    begin_call (&call);
+    gst_element_set_bus (call.send, send_bus);
+    gst_element_set_bus (call.recv, recv_bus);
+    g_object_set (call.send, "record-location", folders[i], NULL);
+    g_object_set (call.recv, "record-location", folders[i], NULL);
+    set_size (&call, QCIF);
+    run_call (&call, 60, 0);
+    drain ();
+    run_call (&call, 10, 0);
+    drain ();
+    assert_nearly (call.recv, "exact", 70);
+    assert_warned (send_bus);
+    assert_warned (recv_bus);
+    gst_element_set_bus (call.send, NULL);
+    gst_element_set_bus (call.recv, NULL);
+    gst_object_unref (send_bus);
+    gst_object_unref (recv_bus);
+    end_call (&call);
+  }
+  g_free (captured);
+  g_free (shown);
+  g_free (folder);
+}
+GST_END_TEST;
+
+/* A lead of 0 is one; a lead that the slots don't hold is told once. */
+GST_START_TEST (test_what_the_caps_say)
+{
+  GstBus *bus = gst_bus_new ();
+  GstMessage *message;
+  Call call;
+
+  begin_call (&call);
+  g_object_set (call.send, "slots", 4, "lead", 0, NULL);
+  g_object_set (call.recv, "latency", 0, NULL);
+  set_size (&call, QCIF);
+  run_call (&call, 30, 0);
+  drain ();
+  assert_at_least (call.recv, "exact", 20);
+  end_call (&call);
+
+  begin_call (&call);
+  gst_element_set_bus (call.recv, bus);
+  run_call (&call, 1, 0);
+  gst_harness_set_src_caps_str (call.in, "application/x-rtp, media = (string) video, "
+      "clock-rate = (int) 90000, encoding-name = (string) H263-2000, payload = (int) 96, "
+      "x-slots = (string) 2, x-lead = (string) 62");
+  run_call (&call, 30, 0);
+  message = gst_bus_pop_filtered (bus, GST_MESSAGE_ERROR);
+  fail_unless (message != NULL);
+  gst_message_unref (message);
+  fail_unless (gst_bus_pop_filtered (bus, GST_MESSAGE_ERROR) == NULL);
+  gst_element_set_bus (call.recv, NULL);
+  gst_object_unref (bus);
+  end_call (&call);
+}
+GST_END_TEST;
+
 GST_START_TEST (test_other_payload_type)
 {
   Call call;
@@ -829,6 +1023,12 @@ elements_suite (void)
   tcase_add_test (chain, test_wrong_datagrams);
   tcase_add_test (chain, test_changed_packets);
   tcase_add_test (chain, test_forged_streams);
+  tcase_add_test (chain, test_a_former_stream_is_followed_again);
+  tcase_add_test (chain, test_junk_costs_a_count);
+  tcase_add_test (chain, test_a_way_that_gets_longer);
+  tcase_add_test (chain, test_no_latency);
+  tcase_add_test (chain, test_a_record_without_room);
+  tcase_add_test (chain, test_what_the_caps_say);
   tcase_add_test (chain, test_other_payload_type);
   tcase_add_test (chain, test_latency);
   tcase_add_test (chain, test_qos);

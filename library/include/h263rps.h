@@ -339,6 +339,88 @@ static inline const char *h263rps_status_text(uint32_t status) {
     }
 }
 
+/* Why a packet is refused, in a few words (enum h263rps_fault). As h263rps_status_text(). */
+static inline const char *h263rps_fault_text(uint32_t fault) {
+    switch (fault) {
+    case H263RPS_OTHER_CLOCK: return "the other picture clock";
+    case H263RPS_HEADER_DIFFERS: return "another header than its picture's packets so far";
+    case H263RPS_MISSING_REFERENCE: return "the picture that it refers to isn't complete here";
+    case H263RPS_OVERLAP: return "a part of it was taken before";
+    case H263RPS_BYTES_ENDED: return "the bits end inside a field or a word";
+    case H263RPS_BYTES_BAD_CODE: return "no word of the table";
+    case H263RPS_BYTES_BAD_DC: return "INTRADC of 0 or 128";
+    case H263RPS_BYTES_BAD_LEVEL: return "an escape whose LEVEL is 0 or -128";
+    case H263RPS_BYTES_PAST_END: return "an event after the last coefficient of its block";
+    case H263RPS_BYTES_FOUR_VECTORS: return "a macroblock with four vectors";
+    case H263RPS_BYTES_BAD_VECTOR: return "a vector that points out of its reach";
+    case H263RPS_BYTES_MARKER: return "a bit against start code emulation is wrong";
+    case H263RPS_BYTES_ADDRESS: return "a slice's macroblock address";
+    case H263RPS_BYTES_QUANT: return "a quantiser of 0";
+    case H263RPS_BYTES_SLICE_REFERENCE: return "a slice names another reference than its picture";
+    case H263RPS_BYTES_BCI: return "a back-channel indication that is neither 1 nor 01";
+    case H263RPS_BYTES_EMPTY: return "a slice with no macroblock";
+    case H263RPS_BYTES_TRAILING: return "more than padding after the last macroblock";
+    case H263RPS_BYTES_NO_START: return "not the rest of a start code";
+    case H263RPS_BYTES_PICTURE_TYPE: return "PTYPE isn't the extended one";
+    case H263RPS_BYTES_UFEP: return "UFEP isn't 001";
+    case H263RPS_BYTES_SOURCE_FORMAT: return "another source format than the three";
+    case H263RPS_BYTES_OTHER_FORMAT: return "not the expected source format";
+    case H263RPS_BYTES_MODES: return "the optional modes aren't Annexes K and N alone";
+    case H263RPS_BYTES_PICTURE_KIND: return "a picture that is neither I nor P";
+    case H263RPS_BYTES_RESAMPLING: return "resampling";
+    case H263RPS_BYTES_CPM: return "continuous presence multipoint";
+    case H263RPS_BYTES_DIVISOR: return "a custom picture clock whose divisor is 0";
+    case H263RPS_BYTES_SLICE_MODE: return "slices that are rectangular or in any order";
+    case H263RPS_BYTES_RPSMF: return "another mode of the back channel than the four";
+    case H263RPS_BYTES_INTRA_REFERENCE: return "an I picture that names a reference";
+    case H263RPS_BYTES_NO_REFERENCE: return "a P picture that names none";
+    case H263RPS_BYTES_HIGH_BITS: return "a temporal reference of more than eight bits";
+    case H263RPS_BYTES_MESSAGES: return "a back-channel message with a fault";
+    case H263RPS_BYTES_MANY_MESSAGES: return "a fifth message";
+    case H263RPS_BYTES_FOLLOW_ON: return "a packet that begins neither a picture nor a slice";
+    case H263RPS_BYTES_EXTRA_HEADER: return "an extra picture header that isn't as it must be";
+    case H263RPS_BYTES_NO_EXTRA_HEADER: return "no extra picture header before a later slice";
+    case H263RPS_BYTES_LONG: return "more than 65,535 bytes";
+    case H263RPS_BYTES_SHORT: return "it ends inside its RTP header";
+    case H263RPS_BYTES_VERSION: return "another version of RTP than 2";
+    case H263RPS_BYTES_PADDING: return "RTP padding whose count doesn't fit";
+    case H263RPS_BYTES_PAYLOAD_TYPE: return "another payload type";
+    case H263RPS_BYTES_SOURCE: return "another source";
+    default: return "no fault";
+    }
+}
+
+/* Why bytes aren't a message, in a few words (enum h263rps_message_fault). */
+static inline const char *h263rps_message_fault_text(uint32_t fault) {
+    switch (fault) {
+    case H263RPS_MESSAGE_LENGTH: return "neither three bytes nor five, as it says itself";
+    case H263RPS_MESSAGE_KIND: return "neither an acknowledgement nor its opposite";
+    case H263RPS_MESSAGE_HIGH: return "a picture number that the clock doesn't have";
+    case H263RPS_MESSAGE_MARKER: return "a marker bit is 0";
+    case H263RPS_MESSAGE_PAIR: return "an acknowledgement of two pictures";
+    default: return "no fault";
+    }
+}
+
+/* The name of a parameter (enum h263rps_param), as a start tells it. */
+static inline const char *h263rps_param_text(uint32_t param) {
+    switch (param) {
+    case H263RPS_PARAM_QUANT: return "quant";
+    case H263RPS_PARAM_KEEP: return "keep";
+    case H263RPS_PARAM_RADIUS: return "radius";
+    case H263RPS_PARAM_LIMIT: return "limit";
+    case H263RPS_PARAM_SLOTS: return "slots";
+    case H263RPS_PARAM_LEAD: return "lead";
+    case H263RPS_PARAM_MESSAGES: return "messages";
+    case H263RPS_PARAM_FORMAT: return "format";
+    case H263RPS_PARAM_CLOCK: return "clock";
+    case H263RPS_PARAM_TARGET: return "target";
+    case H263RPS_PARAM_NUMBER: return "number";
+    case H263RPS_PARAM_SIZE: return "size";
+    default: return "no parameter";
+    }
+}
+
 /* The version of the library, as H263RPS_VERSION has that of the header. A library of the same
  * soname serves each program that was compiled with a header of its version or an older one. */
 static inline uint32_t h263rps_version(void) {

@@ -29,16 +29,19 @@ extern "C" {
  * seconds of silence the timestamp tells how many pictures went by, and the sequence numbers how
  * many there can be at most: a camera that paused sent none.
  *
- * No picture was captured that is ahead of the receiver's clock by more than two seconds: a packet
- * that says so has no place, since everything up to its picture would be played for it. Neither has
- * one of an older picture that says it was captured after the newest. */
+ * No picture was captured that is ahead of the receiver's clock by more than two seconds, by its
+ * number or by its time: a packet that says so has no place, since everything up to its picture
+ * would be played for it. Neither has one of an older picture that says it was captured after the
+ * newest. A newer picture that says it was captured before the newest has a place where that is no
+ * further back than the stream had run ahead of the clock: one of the two times was false. */
 typedef struct h263rps_numbers {
     int64_t period;       /* pictures until a temporal reference comes again: 256 or 1,024 */
     int64_t rate, second; /* `rate` pictures in `second` seconds */
     int64_t newest;       /* the newest picture */
     int64_t ticks;        /* its time of capture, in ticks of 90 kHz from the first packet's */
     int64_t arrived;      /* when a packet of it came first */
-    int64_t slack;        /* by how much the stream may still run ahead of the clock */
+    /* by how much the stream may still run ahead of the clock, in numbers and in times */
+    int64_t numbers_slack, times_slack;
     uint32_t first;       /* the first packet's timestamp */
     uint16_t sequence;    /* the newest sequence number */
     uint8_t begun;
@@ -62,23 +65,32 @@ int h263rps_numbers_place(h263rps_numbers *numbers, uint32_t reference, uint16_t
 
 /* ---- play-out ------------------------------------------------------------------------------ */
 
-/* How many arrivals in half a second, and pictures that came and aren't played yet, are kept. Where
- * more come, arrivals count in coarser steps, and a picture is due by its neighbours. */
+/* How many arrivals, and pictures that came and aren't played yet, are kept. Where more come,
+ * arrivals count in coarser steps, and a picture is due by its neighbours. */
 #define H263RPS_ARRIVALS 512
 #define H263RPS_WAITING 1024
+/* The least time on the way is that of at least so many pictures: one that has grown then shows by
+ * the third picture at any rate, and neither one late picture nor the many packets of one decide
+ * it. */
+#define H263RPS_LEAST_PICTURES 3
 
-/* When each picture is due: its time of capture, plus the least time on the way in the last half
- * second, plus the wait. A time on the way is that between capture and arrival, each on its own
- * clock. A picture of which nothing came is due by its neighbours. None after the newest that came
- * is due: perhaps the camera paused, and there is no such picture yet. */
+/* When each picture is due: its time of capture, plus the least time on the way (in the last half
+ * second, and of at least the last three pictures), plus the wait. A time on the way is that
+ * between capture and arrival, each on its own clock. A picture of which nothing came is due by its
+ * neighbours, and none by a time after that of the newest. None after the newest that came is due:
+ * perhaps the camera paused, and there is no such picture yet.
+ *
+ * Hear a packet before you play its own picture: tell h263rps_playout_arrived, play what is due up
+ * to the picture before, give the packet to the receiver, and then play the rest. So a picture is
+ * shown however late its packets come, also with a wait of 0. */
 typedef struct h263rps_playout {
     int64_t rate, second, wait;
-    /* the ways of the last half second that may still become the least, in the order of time */
+    /* the ways that count and may still become the least, in the order of time */
     int64_t way_at[H263RPS_ARRIVALS], way[H263RPS_ARRIVALS];
     uint32_t first_way, ways;
-    /* when packets came in that time */
-    int64_t at[H263RPS_ARRIVALS];
-    uint32_t first_at, ats;
+    /* the last pictures of which something came, and when each began to come */
+    int64_t begun_picture[H263RPS_LEAST_PICTURES], begun_at[H263RPS_LEAST_PICTURES];
+    uint32_t first_begun, begun;
     /* the pictures that came and weren't played, in order */
     int64_t waiting[H263RPS_WAITING], captured[H263RPS_WAITING];
     uint32_t first_waiting, waitings;

@@ -39,7 +39,7 @@ void h263rps_numbers_begin(h263rps_numbers *numbers, uint32_t clock, uint32_t ra
     numbers->period = clock ? 1024 : 256;
     numbers->rate = rate;
     numbers->second = second;
-    numbers->slack = SLACK;
+    numbers->numbers_slack = numbers->times_slack = SLACK;
 }
 
 /* How many pictures are captured in so many ticks, to the nearest. */
@@ -55,16 +55,19 @@ static int64_t guess(const h263rps_numbers *numbers, int64_t ticks, int64_t ahea
     return numbers->newest + least_of(pictures_in(numbers, silence), most_of(ahead, 0));
 }
 
-/* Whether the clock allows the stream to go on to this picture and time, whichever is further. What
- * the clock has gone on since, and a tenth more, costs nothing. */
+/* Whether the clock allows the stream to go on to this picture and to this time. What the clock has
+ * gone on since, and a tenth more, costs nothing. A newer picture that was captured earlier says
+ * that one of the two times is false: its own is taken where it is no further back than the stream
+ * had run ahead of the clock. */
 static int may_advance(h263rps_numbers *numbers, int64_t number, int64_t ticks, int64_t now) {
+    int64_t allowed = (now - numbers->arrived) / 10 * 11;
     int64_t time = nanoseconds(ticks - numbers->ticks);
     int64_t by_number = time_of(number - numbers->newest, numbers->rate, numbers->second);
-    int64_t allowed = (now - numbers->arrived) / 10 * 11, left;
-    if (time < 0) return 0;
-    left = least_of(SLACK, numbers->slack + allowed - most_of(by_number, time));
-    if (left < 0) return 0;
-    numbers->slack = left;
+    int64_t numbers_left = numbers->numbers_slack + allowed - by_number;
+    int64_t times_left = numbers->times_slack + allowed - time;
+    if (numbers_left < 0 || times_left < 0 || -time > SLACK - numbers->times_slack) return 0;
+    numbers->numbers_slack = least_of(SLACK, numbers_left);
+    numbers->times_slack = least_of(SLACK, times_left);
     return 1;
 }
 
@@ -99,11 +102,8 @@ int h263rps_numbers_place(h263rps_numbers *numbers, uint32_t reference, uint16_t
 
 /* ---- play-out ------------------------------------------------------------------------------ */
 
-/* How long a packet's way counts for the least one. */
+/* How long a packet's way counts for the least one, however many pictures come. */
 #define MEMORY (SECOND / 2)
-/* The least way may grow when this many ways are known, over more than this time. */
-#define SOME 5
-#define LONG (3 * SECOND / 10)
 
 /* The place of entry `index` of a ring that begins at `first`. */
 static uint32_t in_ring(uint32_t first, uint32_t index, uint32_t size) {
@@ -118,8 +118,21 @@ void h263rps_playout_begin(h263rps_playout *playout, uint32_t rate, uint32_t sec
     playout->newest = playout->before = -1;
 }
 
+/* Notes when a picture began to come: of the last few pictures of which something came. */
+static void add_begun(h263rps_playout *it, int64_t picture, int64_t now) {
+    uint32_t index;
+    for (index = 0; index < it->begun; index++)
+        if (it->begun_picture[index] == picture) return;
+    if (it->begun < H263RPS_LEAST_PICTURES) it->begun++;
+    else it->first_begun = in_ring(it->first_begun, 1, H263RPS_LEAST_PICTURES);
+    index = in_ring(it->first_begun, it->begun - 1, H263RPS_LEAST_PICTURES);
+    it->begun_picture[index] = picture;
+    it->begun_at[index] = now;
+}
+
 /* Keeps a way: those that are no longer the least from now on are dropped. */
 static void add_way(h263rps_playout *it, int64_t now, int64_t way) {
+    int64_t oldest = least_of(now - MEMORY, it->begun_at[it->first_begun]);
     uint32_t last;
     while (it->ways && it->way[in_ring(it->first_way, it->ways - 1, H263RPS_ARRIVALS)] >= way)
         it->ways--;
@@ -127,18 +140,9 @@ static void add_way(h263rps_playout *it, int64_t now, int64_t way) {
     last = in_ring(it->first_way, it->ways - 1, H263RPS_ARRIVALS);
     it->way_at[last] = now;
     it->way[last] = way;
-    while (it->way_at[it->first_way] < now - MEMORY) {
+    while (it->way_at[it->first_way] < oldest) {
         it->first_way = in_ring(it->first_way, 1, H263RPS_ARRIVALS);
         it->ways--;
-    }
-}
-
-static void add_arrival(h263rps_playout *it, int64_t now) {
-    it->ats += it->ats < H263RPS_ARRIVALS;
-    it->at[in_ring(it->first_at, it->ats - 1, H263RPS_ARRIVALS)] = now;
-    while (it->at[it->first_at] < now - MEMORY) {
-        it->first_at = in_ring(it->first_at, 1, H263RPS_ARRIVALS);
-        it->ats--;
     }
 }
 
@@ -173,14 +177,10 @@ static void add_waiting(h263rps_playout *it, int64_t picture, int64_t captured) 
 
 void h263rps_playout_arrived(h263rps_playout *playout, int64_t picture, int64_t captured,
                              int64_t now) {
-    int64_t least;
     if (picture > playout->before || playout->before < 0) add_waiting(playout, picture, captured);
+    add_begun(playout, picture, now);
     add_way(playout, now, now - captured);
-    add_arrival(playout, now);
-    least = playout->way[playout->first_way];
-    if (!playout->known || least < playout->least
-        || (playout->ats >= SOME && now - playout->at[playout->first_at] > LONG))
-        playout->least = least;
+    playout->least = playout->way[playout->first_way];
     playout->known = 1;
 }
 
@@ -200,7 +200,9 @@ int h263rps_playout_due(const h263rps_playout *playout, int64_t picture, int64_t
             : least_of(playout->before_time + time_of(picture - playout->before, rate, second),
                        captured);
     }
-    *due = captured + playout->least + playout->wait;
+    /* None was captured after the newest. */
+    place = waiting_at(playout, playout->waitings - 1);
+    *due = least_of(captured, playout->captured[place]) + playout->least + playout->wait;
     return 1;
 }
 

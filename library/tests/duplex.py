@@ -16,13 +16,24 @@ from collections import Counter
 from pathlib import Path
 
 sys.path[:0] = [str(Path(__file__).resolve().parent.parent)]
-from h263rps import MARKS, Coded, Params, Receiver, Sender, Start, packet_start, picture_size  # noqa: E402
+from h263rps import (  # noqa: E402
+    MARKS,
+    Clock,
+    Coded,
+    Format,
+    Params,
+    Receiver,
+    Sender,
+    Start,
+    packet_start,
+    picture_size,
+)
 
-FORMATS = {b"W128": "sub-qcif", b"W176": "qcif", b"W352": "cif"}
+FORMATS: dict[bytes, Format] = {b"W128": "sub-qcif", b"W176": "qcif", b"W352": "cif"}
 SIZES = {"sub-qcif": "W128 H96", "qcif": "W176 H144", "cif": "W352 H288"}
 
 
-def read_video(path: str) -> tuple[str, list[bytes]]:
+def read_video(path: str) -> tuple[Format, list[bytes]]:
     """The format and the frames of a Y4M file."""
     head, rest = Path(path).read_bytes().split(b"\n", 1)
     format, pictures = FORMATS[head.split()[1]], []
@@ -43,7 +54,7 @@ class Party:
         self.letter = letter
         self.format, self.frames = read_video(video)
         params = Params.of(self.format, **options)
-        self.clock = ("standard", "custom")[params.clock]
+        self.clock: Clock = "custom" if params.clock else "standard"
         self.sender, self.receiver = Sender(params), Receiver(params)
         self.coded: list[Coded] = []
         self.packets: list[list[bytes]] = []

@@ -1,7 +1,7 @@
 #!/usr/bin/env python3
 """playout.py PROGRAM [SEEDS]: the rules of tools/calltools (numbers.py, playout.py) and those of h263rps_playout.h,
 which PROGRAM (playout.c) answers by, over the same random arrivals: the same numbers, and the same times to a
-microsecond."""
+microsecond. And by the latter no way to the receiver freezes a call (tools/way_scenarios.py)."""
 
 import random
 import subprocess
@@ -12,6 +12,7 @@ from typing import Optional
 sys.path.insert(0, str(Path(__file__).parents[2] / "tools"))
 from calltools.numbers import Numbers  # noqa: E402
 from calltools.playout import Playout  # noqa: E402
+from way_scenarios import Packet, Rules, Scenario, scenarios, shown_by  # noqa: E402
 
 SECOND = 10**9
 RATES = ((30000, 1001), (25, 1), (10, 1), (120, 1), (15, 2))
@@ -121,6 +122,27 @@ class Call:
         return None
 
 
+def rules_of(other: Other, scenario: Scenario) -> Rules:
+    """The companion's rules for a stream."""
+    other.tell("begin", 0, scenario.rate, scenario.second, round(scenario.wait * SECOND))
+
+    def came(packet: Packet) -> Optional[int]:
+        now = round(packet.when * SECOND)
+        told = other.asked("came", packet.picture % 256, packet.sequence % (1 << 16), packet.stamp % (1 << 32), now)
+        return None if told == "none" else int(told.split()[0])
+
+    def due(picture: int) -> Optional[float]:
+        told = other.asked("due", picture)
+        return None if told == "none" else int(told) / SECOND
+
+    return Rules(came, due, lambda picture: other.tell("played", picture))
+
+
+def frozen(other: Other) -> list[str]:
+    """The ways after which pictures that came aren't exact again in time."""
+    return [it.name for it in scenarios() if shown_by(rules_of(other, it), it).share(it.settled) < 1]
+
+
 def main(program: str, seeds: int) -> int:
     placed = refused = plays = 0
     for seed in range(seeds):
@@ -133,6 +155,11 @@ def main(program: str, seeds: int) -> int:
     if not placed or not refused or not plays:
         print("nothing was tried")
         return 1
+    wrong_ones = frozen(Other(program))
+    if wrong_ones:
+        print("frozen:", *wrong_ones, sep="\n")
+        return 1
+    print(f"{len(scenarios())} ways to the receiver, and no call froze")
     print(f"{seeds} calls: {placed} packets placed, {refused} refused, {plays} plays, the same")
     return 0
 

@@ -38,11 +38,21 @@ def counts(receiver: Receiver) -> tuple[int, int, int]:
     return told.heard["refused"], told.faults["bytes"], told.played["held"]
 
 
+
+def misspelt(name: str) -> bool:
+    """Whether a start refuses this parameter by its name."""
+    try:
+        Params.of("qcif", **{name: 9})
+    except TypeError as fault:
+        return f"unexpected keyword argument '{name}'" in str(fault)
+    return False
+
+
 wanted("Refused: start: bad params: slots", lambda: Sender(Params.of("qcif", slots=65)))
 wanted("ValueError: quant: 264 is out of its range", lambda: Params.of("qcif", quant=264))
 wanted("ValueError: lead: -1 is out of its range", lambda: Params.of("qcif", lead=-1))
 wanted("ValueError: there is no format vga", lambda: Params.of("vga"))
-wanted("TypeError: there is no parameter slot", lambda: Params.of("qcif", slot=9))
+wanted("True", lambda: misspelt("slot"))
 wanted("TypeError: there is no parameter slot", lambda: setattr(Params.of("qcif"), "slot", 9))
 wanted("Refused: start: bad params: number", lambda: Receiver(Params.of("qcif"), 1048577))
 wanted("ValueError: number: -1 is out of its range", lambda: Receiver(Params.of("qcif"), -1))
@@ -63,7 +73,8 @@ with Sender(Params.of("qcif")) as sender, Receiver(Params.of("qcif")) as receive
     wanted("None", lambda: (sender.target(999999), sender.forget())[1])
     wanted("(0, 0, 0)", lambda: (sender.sent(), sender.known(), receiver.played()))
     wanted("0", lambda: sum(sender.statistics().coded.values()))
-    wanted("Reply(kind='no message', fault=1)", lambda: sender.feedback(b""))
+    told = "Reply(kind='no message', fault=<MessageFault.LENGTH: 1>)"
+    wanted(told, lambda: sender.feedback(b""))
     wanted("1", lambda: sender.statistics().noted["no message"])
     wanted("'refused'", lambda: receiver.packet(b"").kind)
     wanted("(1, 1)", lambda: counts(receiver)[:2])

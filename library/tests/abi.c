@@ -1,0 +1,227 @@
+/* What programs that were compiled with the header of 1.3 rely on, the first release with libh263rps.so.2: they run with
+ * each later library of this soname. `.ci/library` compiles this file with the header of today, and asks the shared
+ * library for each function named here. So a struct, a number or a function that is another one isn't compiled, or not
+ * found: then the soname grows (docs/LIBRARY.md, "Versions"). At a release what is new joins the list. */
+#include "h263rps.h"
+
+#ifdef __cplusplus
+#define IS(what) static_assert(what, #what)
+#else
+#define IS(what) _Static_assert(what, #what)
+#endif
+#define AT(of, field, place, bytes) \
+    IS(offsetof(of, field) == (place)); \
+    IS(sizeof(((of *)0)->field) == (bytes))
+
+/* ---- structs: the place and the bytes of each field ------------------------------------------ */
+
+AT(h263rps_statistics, packets, 0, 8);
+AT(h263rps_statistics, bytes, 8, 8);
+AT(h263rps_statistics, heard, 16, 48);
+AT(h263rps_statistics, faults, 64, 40);
+AT(h263rps_statistics, played, 104, 24);
+AT(h263rps_statistics, coded, 128, 48);
+AT(h263rps_statistics, noted, 176, 24);
+IS(sizeof(h263rps_statistics) == 200);
+
+AT(h263rps_end, kind, 0, 4);
+AT(h263rps_end, at, 8, 8);
+AT(h263rps_end, counted, 16, 200);
+IS(sizeof(h263rps_end) == 216);
+
+AT(h263rps_params, size, 0, 4);
+AT(h263rps_params, format, 4, 4);
+AT(h263rps_params, quant, 8, 1);
+AT(h263rps_params, keep, 9, 1);
+AT(h263rps_params, radius, 10, 1);
+AT(h263rps_params, messages, 11, 1);
+AT(h263rps_params, limit, 12, 4);
+AT(h263rps_params, slots, 16, 4);
+AT(h263rps_params, lead, 20, 4);
+AT(h263rps_params, clock, 24, 4);
+AT(h263rps_params, target, 28, 4);
+IS(sizeof(h263rps_params) >= 32); /* more may follow */
+
+AT(h263rps_message, bytes, 0, 5);
+AT(h263rps_message, length, 5, 1);
+IS(sizeof(h263rps_message) == 6);
+
+AT(h263rps_answer, kind, 0, 4);
+AT(h263rps_answer, fault, 4, 4);
+AT(h263rps_answer, at, 8, 4);
+AT(h263rps_answer, number, 12, 4);
+AT(h263rps_answer, predicted, 16, 4);
+AT(h263rps_answer, reference, 20, 4);
+AT(h263rps_answer, message, 24, 6);
+IS(sizeof(h263rps_answer) == 32);
+
+AT(h263rps_coded, number, 0, 4);
+AT(h263rps_coded, packets, 4, 4);
+AT(h263rps_coded, intra, 8, 4);
+AT(h263rps_coded, reference, 12, 4);
+IS(sizeof(h263rps_coded) == 16);
+
+AT(h263rps_reply, kind, 0, 4);
+AT(h263rps_reply, fault, 4, 4);
+IS(sizeof(h263rps_reply) == 8);
+
+AT(h263rps_start, format, 0, 4);
+AT(h263rps_start, clock, 4, 4);
+AT(h263rps_start, temporal_reference, 8, 4);
+AT(h263rps_start, intra, 12, 4);
+AT(h263rps_start, reference, 16, 4);
+AT(h263rps_start, count, 20, 4);
+AT(h263rps_start, messages, 24, 24);
+IS(sizeof(h263rps_start) == 48);
+
+AT(h263rps_lent, samples, 0, 8);
+AT(h263rps_lent, length, 8, 8);
+IS(sizeof(h263rps_lent) == 16);
+
+/* ---- numbers --------------------------------------------------------------------------------- */
+
+IS(H263RPS_OK == 0);
+IS(H263RPS_NOT_STARTED == 1);
+IS(H263RPS_STARTED == 2);
+IS(H263RPS_OTHER_END == 3);
+IS(H263RPS_BAD_PARAMS == 4);
+IS(H263RPS_NO_MEMORY == 5);
+IS(H263RPS_ENDED == 6);
+IS(H263RPS_WRONG_LENGTH == 7);
+IS(H263RPS_BAD_MESSAGES == 8);
+IS(H263RPS_NO_PACKET == 9);
+IS(H263RPS_SHORT_ROOM == 10);
+IS(H263RPS_NULL == 11);
+IS(H263RPS_TOO_LONG == 12);
+IS(H263RPS_NO_START == 13);
+
+IS(H263RPS_SUB_QCIF == 1);
+IS(H263RPS_QCIF == 2);
+IS(H263RPS_CIF == 3);
+
+IS(H263RPS_STANDARD_CLOCK == 0);
+IS(H263RPS_CUSTOM_CLOCK == 1);
+
+IS(H263RPS_PARAM_QUANT == 1);
+IS(H263RPS_PARAM_KEEP == 2);
+IS(H263RPS_PARAM_RADIUS == 3);
+IS(H263RPS_PARAM_LIMIT == 4);
+IS(H263RPS_PARAM_SLOTS == 5);
+IS(H263RPS_PARAM_LEAD == 6);
+IS(H263RPS_PARAM_MESSAGES == 7);
+IS(H263RPS_PARAM_FORMAT == 8);
+IS(H263RPS_PARAM_CLOCK == 9);
+IS(H263RPS_PARAM_TARGET == 10);
+IS(H263RPS_PARAM_NUMBER == 11);
+IS(H263RPS_PARAM_SIZE == 12);
+
+IS(H263RPS_TAKEN == 0);
+IS(H263RPS_COMPLETED == 1);
+IS(H263RPS_LATE == 2);
+IS(H263RPS_EARLY == 3);
+IS(H263RPS_REPEAT == 4);
+IS(H263RPS_REFUSED == 5);
+
+IS(H263RPS_EXACT == 0);
+IS(H263RPS_PATCHED == 1);
+IS(H263RPS_HELD == 2);
+
+IS(H263RPS_OTHER_CLOCK == 1);
+IS(H263RPS_HEADER_DIFFERS == 2);
+IS(H263RPS_MISSING_REFERENCE == 3);
+IS(H263RPS_OVERLAP == 4);
+IS(H263RPS_BYTES_ENDED == 100);
+IS(H263RPS_BYTES_BAD_CODE == 101);
+IS(H263RPS_BYTES_BAD_DC == 102);
+IS(H263RPS_BYTES_BAD_LEVEL == 103);
+IS(H263RPS_BYTES_PAST_END == 104);
+IS(H263RPS_BYTES_FOUR_VECTORS == 105);
+IS(H263RPS_BYTES_BAD_VECTOR == 106);
+IS(H263RPS_BYTES_MARKER == 107);
+IS(H263RPS_BYTES_ADDRESS == 108);
+IS(H263RPS_BYTES_QUANT == 109);
+IS(H263RPS_BYTES_SLICE_REFERENCE == 110);
+IS(H263RPS_BYTES_BCI == 111);
+IS(H263RPS_BYTES_EMPTY == 112);
+IS(H263RPS_BYTES_TRAILING == 113);
+IS(H263RPS_BYTES_NO_START == 114);
+IS(H263RPS_BYTES_PICTURE_TYPE == 115);
+IS(H263RPS_BYTES_UFEP == 116);
+IS(H263RPS_BYTES_SOURCE_FORMAT == 117);
+IS(H263RPS_BYTES_OTHER_FORMAT == 118);
+IS(H263RPS_BYTES_MODES == 119);
+IS(H263RPS_BYTES_PICTURE_KIND == 120);
+IS(H263RPS_BYTES_RESAMPLING == 121);
+IS(H263RPS_BYTES_CPM == 122);
+IS(H263RPS_BYTES_DIVISOR == 123);
+IS(H263RPS_BYTES_SLICE_MODE == 124);
+IS(H263RPS_BYTES_RPSMF == 125);
+IS(H263RPS_BYTES_INTRA_REFERENCE == 126);
+IS(H263RPS_BYTES_NO_REFERENCE == 127);
+IS(H263RPS_BYTES_HIGH_BITS == 128);
+IS(H263RPS_BYTES_MESSAGES == 129);
+IS(H263RPS_BYTES_MANY_MESSAGES == 130);
+IS(H263RPS_BYTES_FOLLOW_ON == 131);
+IS(H263RPS_BYTES_EXTRA_HEADER == 132);
+IS(H263RPS_BYTES_NO_EXTRA_HEADER == 133);
+IS(H263RPS_BYTES_LONG == 134);
+IS(H263RPS_BYTES_SHORT == 135);
+IS(H263RPS_BYTES_VERSION == 136);
+IS(H263RPS_BYTES_PADDING == 137);
+IS(H263RPS_BYTES_PAYLOAD_TYPE == 138);
+IS(H263RPS_BYTES_SOURCE == 139);
+
+IS(H263RPS_NOTED == 0);
+IS(H263RPS_OLD == 1);
+IS(H263RPS_NO_MESSAGE == 2);
+
+IS(H263RPS_MESSAGE_LENGTH == 1);
+IS(H263RPS_MESSAGE_KIND == 2);
+IS(H263RPS_MESSAGE_HIGH == 3);
+IS(H263RPS_MESSAGE_MARKER == 4);
+IS(H263RPS_MESSAGE_PAIR == 5);
+
+IS(H263RPS_SSRC == 0x48323633u);
+IS(H263RPS_PAYLOAD_TYPE == 96u);
+
+/* ---- functions ------------------------------------------------------------------------------- */
+
+#ifdef __cplusplus
+extern "C" {
+#endif
+uint32_t h263rps_raw_version(void);
+uint32_t h263rps_raw_defaults(uint32_t format, h263rps_params *params);
+uint32_t h263rps_raw_picture_size(uint32_t format);
+uint32_t h263rps_raw_packet_start(const uint8_t *bytes, size_t length, h263rps_start *start);
+uint32_t h263rps_raw_receiver_start(h263rps_end *end, const h263rps_params *params,
+                                    uint32_t *fault);
+uint32_t h263rps_raw_receiver_start_at(h263rps_end *end, const h263rps_params *params,
+                                       uint32_t number, uint32_t *fault);
+uint32_t h263rps_raw_receiver_packet(h263rps_end *end, const uint8_t *bytes, size_t length,
+                                     h263rps_answer *answer);
+uint32_t h263rps_raw_receiver_play(h263rps_end *end, uint8_t *picture, size_t length,
+                                   h263rps_answer *answer);
+uint32_t h263rps_raw_receiver_next(h263rps_end *end, h263rps_answer *answer);
+uint32_t h263rps_raw_receiver_shown(h263rps_end *end, h263rps_lent *lent);
+uint32_t h263rps_raw_receiver_reset(h263rps_end *end, uint32_t number);
+uint32_t h263rps_raw_receiver_played(h263rps_end *end, uint32_t *count);
+uint32_t h263rps_raw_receiver_statistics(h263rps_end *end, h263rps_statistics *statistics);
+uint32_t h263rps_raw_receiver_finish(h263rps_end *end);
+uint32_t h263rps_raw_sender_start(h263rps_end *end, const h263rps_params *params, uint32_t *fault);
+uint32_t h263rps_raw_sender_code(h263rps_end *end, const uint8_t *picture, size_t length,
+                                 const h263rps_message *messages, size_t count,
+                                 h263rps_coded *coded);
+uint32_t h263rps_raw_sender_packet(h263rps_end *end, uint32_t number, uint8_t *room, size_t length,
+                                   size_t *count);
+uint32_t h263rps_raw_sender_feedback(h263rps_end *end, const uint8_t *message, size_t length,
+                                     h263rps_reply *reply);
+uint32_t h263rps_raw_sender_target(h263rps_end *end, uint32_t bytes);
+uint32_t h263rps_raw_sender_forget(h263rps_end *end);
+uint32_t h263rps_raw_sender_reset(h263rps_end *end, uint32_t bytes);
+uint32_t h263rps_raw_sender_sent(h263rps_end *end, uint32_t *count);
+uint32_t h263rps_raw_sender_known(h263rps_end *end, uint32_t *count);
+uint32_t h263rps_raw_sender_statistics(h263rps_end *end, h263rps_statistics *statistics);
+uint32_t h263rps_raw_sender_finish(h263rps_end *end);
+#ifdef __cplusplus
+}
+#endif

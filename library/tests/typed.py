@@ -1,0 +1,64 @@
+"""What a checker of types sees of the module for Python: `mypy --strict` accepts this file, where
+each line with `type: ignore` has the fault that it names, or is itself one. It isn't run."""
+
+from __future__ import annotations
+
+import array
+
+from h263rps import (
+    Fault,
+    Heard,
+    MessageFault,
+    Params,
+    Played,
+    PlayedLent,
+    Receiver,
+    Refused,
+    Sender,
+    Start,
+    Status,
+    packet_start,
+    picture_size,
+)
+
+
+def right(picture: bytes) -> None:
+    params = Params.of("qcif", target=1800, slots=39, lead=6)
+    params.quant = 3
+    with Sender(params) as sender, Receiver(params, 7) as receiver:
+        for packet in sender.packets(sender.code(bytearray(picture), [b"", bytes(3)])):
+            heard: Heard = receiver.packet(memoryview(packet))
+            fault: Fault = heard.fault
+            why: str = fault.text
+            if heard.kind == "refused" and fault is Fault.OVERLAP:
+                print(why, heard.at + 1)
+            note: MessageFault = sender.feedback(array.array("B", heard.message)).fault
+            start: Start = packet_start(packet)
+            print(note.text, start.format == "cif", start.reference is None)
+        lent: PlayedLent = receiver.play_lent()
+        played: Played = receiver.play()
+        size: int = picture_size("qcif") + len(lent.picture) + len(played.picture)
+        print(size, played.mark == "exact", receiver.statistics().heard["late"])
+        try:
+            sender.target(10**9)
+        except Refused as refused:
+            status: Status = refused.status
+            print(status is Status.BAD_PARAMS, status.text)
+
+
+def wrong(sender: Sender, receiver: Receiver, params: Params) -> None:
+    Params.of("vga")  # type: ignore[arg-type]
+    Params.of("qcif", qant=3)  # type: ignore[call-arg]
+    Params.of("qcif", quant="3")  # type: ignore[arg-type]
+    params.qant = 3  # type: ignore[attr-defined]
+    params.quant = 3.5  # type: ignore[assignment]
+    sender.code("text")  # type: ignore[arg-type]
+    sender.cod(b"")  # type: ignore[attr-defined]
+    with sender as same:
+        same.play()  # type: ignore[attr-defined]
+    if receiver.play().mark == "exakt":  # type: ignore[comparison-overlap]
+        pass
+    if receiver.packet(b"").kind == "complete":  # type: ignore[comparison-overlap]
+        pass
+    receiver.packet(b"").faults  # type: ignore[attr-defined]
+    receiver.play().picture[0] = 1  # type: ignore[index]
