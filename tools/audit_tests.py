@@ -5,6 +5,7 @@ import io
 import json
 import shutil
 import struct
+import subprocess
 import tempfile
 import unittest
 from pathlib import Path
@@ -109,7 +110,12 @@ class AuditLogTest(unittest.TestCase):
             path,
         )
         self.assert_refused(
-            f"{path}: port 5004: no RTP packet with SSRC 0x9 was captured", "--ssrc", "0x9", path
+            f"{path}: port 5004: no RTP packet with SSRC 0x9 was captured, "
+            "but 3 of SSRC 0x5, 1 of SSRC 0x6: --ssrc chooses",
+            "--ssrc", "0x9", path,
+        )
+        self.assert_refused(
+            f"{path}: port 5014: no RTP packet was captured, but 4 to port 5004: --port chooses", "--port", 5014, path
         )
         self.made("--ssrc", "5", path)
         kept = [("K", packets[0]), ("K", packets[1]), ("B", message), ("K", packets[2])]
@@ -132,6 +138,34 @@ class AuditLogTest(unittest.TestCase):
         self.assert_refused(f"{self.room}: send: it ran 2 times: --run chooses one", self.room)
         self.assertEqual(self.made("--run", 2, self.room), wanted)
         self.assert_refused(f"{self.room}: send: it ran 2 times", "--run", 3, self.room)
+
+    def test_a_folder_of_elements_tells_its_options(self) -> None:
+        """The line of GSTREAMER, over what the elements record; options that are no numbers are left out."""
+        for name, file in (("send.log", "object.send.log"), ("packets.log", "object.wire")):
+            (self.room / name).write_bytes((CALLS / file).read_bytes())
+        (self.room / "send.steps").write_bytes(b"")
+        run = {"log": "send.log", "wire": "packets.log", "video": "v.y4m", "report": "r.txt", "steps": "send.steps"}
+        run |= {"slots": 39, "lead": 6, "clock": "standard", "target": 900, "quant": 8, "limit": 1400}
+        run |= {"format": "sub-qcif", "rate": "30/1"}
+        (self.room / "send.runs").write_text(json.dumps(run) + "\n")
+        tool("record_of_elements").main([str(self.room)])
+        wanted = f"audit {self.log} --format=sub-qcif --clock=standard --slots=39 --lead=6"
+        self.assertEqual(self.made(self.room), wanted)
+        (self.room / "send.runs").write_text(json.dumps({**run, "slots": "3 --format=cif", "lead": "\033]0;"}) + "\n")
+        tool("record_of_elements").main([str(self.room)])
+        self.assertEqual(self.made(self.room), f"audit {self.log} --format=sub-qcif --clock=standard")
+        guide = (TOOLS.parent / "docs" / "GSTREAMER.md").read_text()
+        self.assertIn("\n    ./h263rps $(tools/audit_log call audit.log)\n", guide)
+        self.assertEqual(guide.count("audit_log"), 1)
+
+    def test_what_fails_within_a_line_makes_it_short(self) -> None:
+        """For `./h263rps $(tools/audit_log ..)`, which would print the whole help."""
+        for words in (["none", self.log], [], ["none", self.log, "--port", "x"]):
+            run = subprocess.run([TOOLS / "audit_log", *map(str, words)], capture_output=True, text=True)
+            self.assertEqual((run.returncode != 0, run.stdout), (True, "audit\n"))
+            self.assertTrue(run.stderr)
+        run = subprocess.run([TOOLS / "audit_log", "--help"], capture_output=True, text=True)
+        self.assertEqual((run.returncode, run.stdout[:6]), (0, "usage:"))
 
     def test_ends_that_do_not_fit_are_refused(self) -> None:
         packet = logs.Entry("K", bytes.fromhex("80600000 00000000 48323633"))

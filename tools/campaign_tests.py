@@ -458,6 +458,7 @@ class PlanTest(Room):
         for data, told in (
             (b"", "the plan: it has no [[video]]"),
             (b"\xff", "byte 0: this is no UTF-8"),
+            (b"SQLite format 3\0" + bytes(90), "its head: this is a table: --advise and --draw take it"),
             (b"a = [", "line 1: Invalid value"),
             (b"video = 3", "line 1: video is a table of an array: [[video]]"),
             (b"a" * (plan.MOST_PLAN + 1), f"byte {plan.MOST_PLAN}: a plan is shorter"),

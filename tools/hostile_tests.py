@@ -207,6 +207,63 @@ class HostileTest(Room):
         for name, output in outputs.items():
             self.refused("it is no file", name, self.room / "call", *output)
 
+    def test_names_that_a_terminal_would_obey(self) -> None:
+        """Of files, folders, words and runs: what isn't printed is an escape, halves of pairs and bytes, too."""
+        odd = "\x1b]0;x\x07\u202e\udcff"
+        told = "\\x1b]0;x\\x07\\u202e\\udcff"
+        noise = self.file(odd, b"noise")
+        out = self.room / "out"
+        tried = {
+            "psnr": [noise, noise], "log_of_pcap": [noise, out], "trace_of_pcap": [noise, out], "audit_log": [noise, out],
+            "pcap_of_log": [noise, out], "chart_of_report": [noise, out], "report_json": [noise], "page_of_call": [noise, out],
+            "times_of_call": [self.room / "none" / odd], "record_of_elements": [self.room / "none" / odd],
+        }
+        for name, words in tried.items():
+            self.refused(told, name, *words)
+        folder = whole_folder(self.room / f"{odd}.call").done()
+        self.refused(told, "times_of_call", folder, "--other", self.room / odd / "none")
+        run = subprocess.run([TOOLS / "psnr", "a", "b", odd], capture_output=True, text=True)
+        self.assertIn(f"unrecognized arguments: {told}", run.stderr)
+        whole_folder(self.room / "call").done()
+        path = self.room / "call" / "call.json"
+        facts = json.loads(path.read_text())
+        for name in ("\x1b]0;x\x07", "\ud800", "\udcff", "a\u202eb"):
+            facts["send"][0]["log"] = name
+            path.write_text(json.dumps(facts))
+            for tool_name, output in {"page_of_call": [out], "times_of_call": [], "audit_log": [out]}.items():
+                self.refused("send, run 1: log names no file of the folder", tool_name, self.room / "call", *output)
+
+    def test_sparse_files(self) -> None:
+        """Reports, times, traces and a call.json of eight gigabytes."""
+
+        def sparse(path: Path) -> Path:
+            path.unlink(missing_ok=True)
+            with open(path, "wb") as file:
+                file.truncate(8 << 30)
+            return path
+
+        empty, out = sparse(self.room / "empty"), self.room / "out"
+        log, video = self.file("one.log", b"S\0\0"), self.file("one.y4m", b"YUV4MPEG2 W128 H96\nFRAME\n" + bytes(18_432))
+        told = "line 1: it is longer than 8,192 letters"
+        self.refused(told, "report_json", empty)
+        self.refused(told, "chart_of_report", empty, out)
+        self.refused(told, "page_of_call", empty, out, "--shown", video)
+        self.refused(told, "psnr", video, video, "--report", empty)
+        self.refused(told, "pcap_of_log", log, out, "--times", empty)
+        report = self.file("report", b"0 exact intra\n")
+        self.refused(told, "page_of_call", report, out, "--shown", video, "--trace", empty)
+        for name in ("send.txt", "recv.txt", "recv.times"):
+            folder = whole_folder(self.room / name.replace(".", "-")).done()
+            sparse(folder / name)
+            self.refused(told, "times_of_call", folder)
+        folder = whole_folder(self.room / "call").done()
+        sparse(folder / "call.json")
+        self.refused("this is no JSON", "times_of_call", folder)
+        sparse(folder / "send.runs")
+        self.refused("this is no JSON", "record_of_elements", folder)
+        for data, place in ((b"x" * 9_000, "line 2"), (b"x\n" * 2_000_000, "line 100002")):
+            self.refused(f"{place}: ", "chart_of_report", self.file("long", b"0 exact intra\n" + data), out)
+
     def test_settings_that_no_call_has(self) -> None:
         """Numbers of 400 digits, none, or a date with control characters: the page leaves them out."""
         folder = whole_folder(self.room / "call")

@@ -53,6 +53,8 @@ class AskedTest(unittest.TestCase):
         self.assertEqual(read(**CALL), asked.CallAsked("qcif"))
         host = {**CALL, "host": "fe80::1:2", "port": 6_000, "recorded": True}
         self.assertEqual(read(**host), asked.CallAsked("qcif", "fe80::1:2", 6_000, True))
+        for text in ("::1", "fe80::1%eth0", "::ffff:127.0.0.1", "host.invalid"):
+            self.assertEqual(read(**{**CALL, "host": text}).host, text)
         self.assertEqual(read(**NETWORK).network, bad_network.BadNetwork(0.1, 2, 0.04, 0))
         self.assertEqual(read(do="hang up"), asked.HangUp())
         for name, kind in (("record", asked.Recording), ("compare", asked.Comparing), ("watch", asked.Watching)):
@@ -70,7 +72,7 @@ class AskedTest(unittest.TestCase):
         fields = [
             ("format", {**CALL, "format": bad}) for bad in ("4cif", 2, None, ["cif"])
         ] + [
-            ("host", {**CALL, "host": bad}) for bad in ("", "a b", "-x", "x;y", "a\nb", 300 * "a", 7, ["a"], "../x")
+            ("host", {**CALL, "host": bad}) for bad in ("", "a b", "-x", "x;y", "a\nb", 300 * "a", 7, ["a"], "../x", "::", "a%", "%a", "a%b c")
         ] + [
             ("port", {**CALL, "port": bad}) for bad in (0, 65_535, 1.5, "5004", True, math.nan, math.inf)
         ] + [
@@ -357,6 +359,41 @@ class ServerTest(Room):
 
         self.with_session(work)
 
+    def test_idle_connections_are_few(self) -> None:
+        """Of four hundred that say nothing the last ones stay; the page's stays, and another is let in."""
+        code = (
+            "import socket, sys\n"
+            "nets = [socket.create_connection(('127.0.0.1', int(sys.argv[1]))) for _ in range(400)]\n"
+            "print('open', flush=True)\n"
+            "sys.stdin.readline()\n"
+            "closed = 0\n"
+            "for net in nets:\n"
+            "    net.settimeout(0.01)\n"
+            "    try:\n"
+            "        closed += net.recv(1) == b''\n"
+            "    except ConnectionError:\n"
+            "        closed += 1\n"
+            "    except TimeoutError:\n"
+            "        pass\n"
+            "print(closed)\n"
+        )
+
+        async def work() -> None:
+            async with self.opened() as page_:
+                await self.words(page_, "hello")
+                pipes = {"stdin": subprocess.PIPE, "stdout": subprocess.PIPE}
+                idle = await asyncio.create_subprocess_exec(sys.executable, "-c", code, str(self.server.port), **pipes)
+                self.assertEqual(await idle.stdout.readline(), b"open\n")
+                async with self.session.get(self.server.origin + "/") as answer:
+                    self.assertEqual(answer.status, 200)
+                await page_.send_str('{"do": "dance"}')
+                self.assertEqual((await self.words(page_, "refused"))["cause"], "request")
+                told, _ = await idle.communicate(b"end\n")
+                self.assertGreaterEqual(int(told), 400 - 32)
+
+        asyncio.get_child_watcher().attach_loop(self.turns.asyncio)
+        self.with_session(work)
+
     def test_a_second_page_waits_for_the_first(self) -> None:
         async def work() -> None:
             async with self.opened() as first:
@@ -509,6 +546,36 @@ class ServerTest(Room):
         with contextlib.chdir(self.room):
             self.with_session(work)
         self.assertEqual(told, ["the other side has hung up"])
+
+    @needs_library
+    def test_a_record_that_cannot_be_made_leaves_the_call(self) -> None:
+        """It is said, and the call goes on as it was; a call that would begin with one is refused in words."""
+        self.phone._options = replace(self.phone._options, folder=self.room / "file")
+        (self.room / "file").write_text("x")
+
+        async def work() -> None:
+            async with self.opened() as page_:
+                await page_.send_str(json.dumps({**CALL, "recorded": True}))
+                while not (await self.words(page_, "state"))["why"]:
+                    pass
+                self.assertIsNone(self.phone.call)
+                await page_.send_str(json.dumps(CALL))
+                while not (await self.words(page_, "state"))["calls"]:
+                    pass
+                before = self.phone.call
+                self.phone._calls = 0
+                await page_.send_str('{"do": "record", "on": true}')
+                self.assertIn("nothing can be recorded there", (await self.words(page_, "said"))["words"])
+                self.assertIs(self.phone.call, before)
+                for number in range(10):
+                    await page_.send_bytes(struct.pack("<d", number) + made.made_frame(QCIF, 1, number))
+                    await asyncio.sleep(0.033)
+                self.assertGreater(self.phone.call.tally.captured, 5)
+                await page_.send_str('{"do": "hang up"}')
+                while (await self.words(page_, "state"))["calls"]:
+                    pass
+
+        self.with_session(work)
 
     @needs_library
     def test_a_record_begins_in_a_call_with_another_side(self) -> None:

@@ -3,6 +3,7 @@
 import contextlib
 import io
 import json
+import resource
 import signal
 import subprocess
 import time
@@ -194,6 +195,36 @@ class RecorderTest(Calls):
                 full.close()
         self.assertNotIn("counts", json.loads((folder / "call.json").read_text()))
         self.assertEqual(sorted(path.suffix for path in folder.iterdir() if path.suffix == ".new"), [])
+
+    def test_a_folder_is_tried_before_a_call_is_touched(self) -> None:
+        """A file in its place, one that isn't empty, no permission, no room: each is told, and nothing is left there."""
+        (self.room / "file").write_text("x")
+        (self.room / "full").mkdir()
+        soft, hard = resource.getrlimit(resource.RLIMIT_FSIZE)
+        for name, told in (
+            ("file", "nothing can be recorded there: File exists"),
+            ("file/call", "nothing can be recorded there: Not a directory"),
+            (".", "--record: the folder isn't empty"),
+            ("/proc/call", "nothing can be recorded there: No such file or directory"),
+            ("full", "nothing can be recorded there: File too large"),
+        ):
+            with self.assertRaises(errors.BadInput) as caught, contextlib.ExitStack() as stack:
+                resource.setrlimit(resource.RLIMIT_FSIZE, (1_000 if name == "full" else soft, hard))
+                stack.callback(resource.setrlimit, resource.RLIMIT_FSIZE, (soft, hard))
+                recording.make_folder(self.room / name)
+            self.assertEqual(str(caught.exception), f"{self.room / name}: {told}")
+        self.assertEqual(list((self.room / "full").iterdir()), [])
+        recording.make_folder(self.room / "full")
+        self.assertEqual(list((self.room / "full").iterdir()), [])
+
+    def test_a_disk_that_is_full_from_the_start(self) -> None:
+        """The first write fails: that is the recorder's fault, and the call goes on without it."""
+        with mock.patch.object(recording, "_replace", side_effect=OSError(28, "No space left on device")):
+            recorder = recording.Recorder(self.room / "call", 0.0, {})
+        self.assertFalse(recorder.is_on)
+        self.assertEqual(recorder.fault and recorder.fault.strerror, "No space left on device")
+        recorder.run("send", {}).write("log", b"S\0\0")
+        recorder.finish({})
 
     def test_a_call_that_begins_anew_without_end_fills_no_disk(self) -> None:
         """After so many runs of an end, kept at once or once tried, nothing more is recorded of that end."""

@@ -17,6 +17,7 @@ MOST_LETTERS = 4_000
 MOST_CANDIDATES = 16
 _FINGERPRINT = re.compile(r"(?:[0-9A-F]{2}:){31}[0-9A-F]{2}")
 _WORD = re.compile(r"[0-9A-Za-z+/]{4,256}")
+_BROADCAST = ipaddress.ip_address("255.255.255.255")
 # RFC 8839, 5.1, of what goes over UDP: foundation, component, priority, address and port, type.
 _CANDIDATE = re.compile(
     r"[0-9A-Za-z+/]{1,32} 1 udp [0-9]{1,10} ([0-9a-fA-F.:]{2,45}) ([0-9]{1,5}) typ (?:host|srflx)"
@@ -77,10 +78,16 @@ def _introduction(facts: Any) -> Optional[Introduction]:
 def _is_candidate(text: Any) -> bool:
     # An address is a number: a name would be asked of a server that the other side chooses.
     found = _CANDIDATE.fullmatch(text) if isinstance(text, str) else None
-    if not found or not 0 < int(found[2]) < 65_536:
-        return False
+    return bool(found and 0 < int(found[2]) < 65_536 and is_place(found[1]))
+
+
+def is_place(text: str) -> bool:
+    """Whether a line may name this address: one of a single machine, and of more than a single cable. Else a
+    line might have this side ask all machines around, or one that answers for its services to neighbours."""
     try:
-        address = ipaddress.ip_address(found[1])
+        address = ipaddress.ip_address(text)
     except ValueError:
         return False
-    return not address.is_multicast and not address.is_unspecified
+    address = getattr(address, "ipv4_mapped", None) or address
+    is_many = address.is_multicast or address.is_unspecified or address == _BROADCAST
+    return not is_many and not address.is_link_local

@@ -5,7 +5,7 @@ from dataclasses import dataclass, replace
 from pathlib import Path
 from typing import Optional
 
-from . import logs
+from . import lines, logs
 from .errors import BadInput
 from .report import Picture, Report, read_report
 from .trace import LINE
@@ -43,9 +43,10 @@ class Call:
 
 def read_trace(path: Path) -> list[str]:
     """The lines of a trace, each in the grammar, and each of a picture that was sent by then."""
-    lines = path.read_text(encoding="ascii", errors="replace").splitlines()
+    with open(path, "rb") as file:
+        events = [line.rstrip("\n") for line in lines.lines_in(file, str(path), lines.MOST_OF_TIMES)]
     sent = played = 0
-    for number, line in enumerate(lines, 1):
+    for number, line in enumerate(events, 1):
         if not LINE.fullmatch(line):
             raise BadInput(str(path), f"line {number}", "it says no event")
         sent += line == "S"
@@ -53,7 +54,7 @@ def read_trace(path: Path) -> list[str]:
         picture = int(line[2:].split(".")[0]) if line.startswith("D") else played - 1
         if picture >= sent:
             raise BadInput(str(path), f"line {number}", f"picture {picture} isn't sent yet")
-    return lines
+    return events
 
 
 def joined_call(call: Call, trace: list[str]) -> Report:

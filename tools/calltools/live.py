@@ -69,6 +69,8 @@ class LiveCall:
         self._began = self.loop.now()
         self._recorder = Recorder(asked.record, self._began, self._facts())
         self._recorder.on_fault = self._recording_failed
+        if self._recorder.fault:
+            self._recording_failed(self._recorder.fault)
         self._network: Lines
         if secure:
             self._network = secure.network(self.loop)

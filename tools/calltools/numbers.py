@@ -25,9 +25,12 @@ class Numbers:
     the newest one. After a silence the time tells how many pictures went by, and the sequence
     numbers how many there can be at most: a camera that paused sent none.
 
-    No picture was captured that is ahead of the clock: a packet that says so has no place, since
-    everything up to its picture would be played for it. Neither has one of an older picture that says it was captured
-    after the newest: nothing would be played until then.
+    No picture was captured that is ahead of the clock, by its number or by its time: a packet that says so has no
+    place, since everything up to its picture would be played for it. Neither has one of an older picture that says it
+    was captured after the newest: nothing would be played until then.
+
+    A newer picture was captured later. Where it says it wasn't, one of the two times is false: it has a place where its
+    own is no further back than the stream had run ahead of the clock.
     """
 
     def __init__(self, period: int, rate: float) -> None:
@@ -36,7 +39,8 @@ class Numbers:
         self._stamp = 0  # of the newest picture, counted on from the first one
         self._sequence = 0  # of the newest packet, likewise
         self._arrived = 0.0  # when a packet of the newest picture came
-        self._slack = SLACK * rate  # pictures by which the stream may still run ahead
+        # Seconds by which the stream's numbers, and its times, may still run ahead.
+        self._numbers_slack = self._times_slack = SLACK
         self.newest = 0
 
     def place(
@@ -61,16 +65,14 @@ class Numbers:
         return number, stamp / CLOCK
 
     def _may_advance(self, number: int, stamp: int, now: float) -> bool:
-        # By its number or by its time, whichever is further; what the clock allows costs nothing.
+        # What the clock has gone on since costs nothing.
+        allowed = (now - self._arrived) * _FASTER
         seconds = (stamp - self._stamp) / CLOCK
-        if seconds < 0:
+        numbers = self._numbers_slack + allowed - (number - self.newest) / self._rate
+        times = self._times_slack + allowed - seconds
+        if min(numbers, times) < 0 or -seconds > SLACK - self._times_slack:
             return False
-        advance = max(number - self.newest, seconds * self._rate)
-        allowed = (now - self._arrived) * self._rate * _FASTER
-        left = min(SLACK * self._rate, self._slack + allowed - advance)
-        if left < 0:
-            return False
-        self._slack = left
+        self._numbers_slack, self._times_slack = min(SLACK, numbers), min(SLACK, times)
         return True
 
     def _guess(self, stamp: int, ahead: int) -> int:

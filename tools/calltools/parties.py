@@ -11,7 +11,6 @@ from .receiving import Receiving
 from .reporting import Reporting
 from .reports import Report, is_description, rate_in, read_report
 from .rtcp import Bye, Feedback, bye_bytes, feedback_bytes, packets_of, read_rtcp
-from .rtp import rtp_header
 from .screens import Screen
 from .sending import Sending
 from .y4m import Frame
@@ -105,8 +104,7 @@ class Party:
         if not self.receiving:
             self._drop("not asked for")
             return
-        self.receiving.packet(data)
-        header = rtp_header(data)
+        header = self.receiving.packet(data)
         if header and header.source == self.receiving.source:
             self.reporting.came(header)
 

@@ -6,13 +6,15 @@ RFC 4629 (docs/FORMATS.md, "Payload header" and "Picture header")."""
 from dataclasses import dataclass
 from typing import Optional
 
-from .rtp import PAYLOAD_TYPE, payload_of, rtp_header
+from .rtp import HEADER_BYTES, PAYLOAD_TYPE, payload_of, rtp_header
 
 _FORMATS = {1: "sub-qcif", 2: "qcif", 3: "cif"}
 PERIODS = {"standard": 256, "custom": 1_024}
 # Places of fields, in bits from the header's start.
 _TR, _PTYPE, _UFEP, _SOURCE, _CLOCK, _ETR = 6, 14, 22, 25, 28, 61
 _BYTES = 8
+# No packet has fewer: the headers of RTP and of the payload, and the picture's.
+LEAST_BYTES = HEADER_BYTES + 2 + _BYTES
 
 
 @dataclass(frozen=True)

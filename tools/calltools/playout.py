@@ -5,41 +5,43 @@ from typing import Optional
 
 # How long a datagram's way counts for the least one, in seconds.
 _MEMORY = 0.5
-# The least way may grow when this many ways are known, over this many seconds.
-_SOME, _LONG = 5, 0.3
+# And those of at least so many pictures count: a way that has grown then shows by the third picture at any rate, and
+# neither one late picture nor the many packets of one decide.
+_PICTURES = 3
 
 
 class LeastWay:
-    """The least of the last half second's ways. Only those are kept that may still become the least."""
+    """The least of the last half second's ways, and of at least the last three pictures'. Only those are kept that may
+    still become the least."""
 
     def __init__(self) -> None:
         self._ways: deque[tuple[float, float]] = deque()
-        self._times: deque[float] = deque()
+        # The last pictures of which something came, and when each began to come.
+        self._begun: deque[tuple[int, float]] = deque(maxlen=_PICTURES)
 
-    def add(self, now: float, way: float) -> float:
+    def add(self, picture: int, now: float, way: float) -> float:
         """The least one with this one."""
+        if all(number != picture for number, _ in self._begun):
+            self._begun.append((picture, now))
         while self._ways and self._ways[-1][1] >= way:
             self._ways.pop()
         self._ways.append((now, way))
-        self._times.append(now)
-        while self._ways[0][0] < now - _MEMORY:
+        oldest = min(now - _MEMORY, self._begun[0][1])
+        while self._ways[0][0] < oldest:
             self._ways.popleft()
-        while self._times[0] < now - _MEMORY:
-            self._times.popleft()
         return self._ways[0][1]
-
-    def is_known(self, now: float) -> bool:
-        """Whether there were enough of them, over long enough."""
-        return len(self._times) >= _SOME and now - self._times[0] > _LONG
 
 
 class Playout:
-    """A picture is due at its time of capture, plus the least way of the last half second, plus
-    the wait.
+    """A picture is due at its time of capture, plus the least way (of the last half second, and of at least the last
+    three pictures), plus the wait.
 
-    A way is the time between capture and arrival, each on its own clock. A picture of which
-    nothing came is due by its neighbours. None after the newest that came is due: perhaps the
-    camera paused, and there is no such picture yet.
+    A way is the time between capture and arrival, each on its own clock. A picture of which nothing came is due by its
+    neighbours, and none by a time after that of the newest. None after the newest that came is due: perhaps the camera
+    paused, and there is no such picture yet.
+
+    Whoever plays hears a packet before its own picture: what is due by then is played up to the one before, then the
+    packet is heard, and then the rest is played. So a picture is shown however late its packets come.
     """
 
     def __init__(self, period: float, wait: float) -> None:
@@ -55,16 +57,15 @@ class Playout:
         if self._before is None or picture > self._before[0]:
             self._times[picture] = captured
             self._newest = max(self._newest, picture)
-        least = self._least.add(now, now - captured)
-        if self._way is None or least < self._way or self._least.is_known(now):
-            self._way = least
+        self._way = self._least.add(picture, now, now - captured)
 
     def due(self, picture: int) -> Optional[float]:
         """When the picture is to be played, or None where that isn't known yet. It is the next
         one: none before it will be asked for again."""
         if self._way is None or picture > self._newest:
             return None
-        return self._captured(picture) + self._way + self._wait
+        captured = min(self._captured(picture), self._times[self._newest])
+        return captured + self._way + self._wait
 
     def played(self, picture: int) -> None:
         """The picture was played: what came of it, and of those before it, counts no more."""

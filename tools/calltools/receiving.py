@@ -10,16 +10,18 @@ from .live_end import CallContext, LiveEnd, program_of
 from .loop import Call, Timer
 from .messages import read_message
 from .numbers import Numbers
-from .picture_start import PictureStart, picture_start
+from .picture_start import LEAST_BYTES, PictureStart, picture_start
 from .playout import Playout
 from .rtcp import Bye, Feedback
-from .rtp import OWN_SOURCE, renumbered, rtp_header
+from .rtp import OWN_SOURCE, RtpHeader, renumbered, rtp_header
 from .speakers import Allowance, Arrival, Probation
 from .y4m import Frame
 from .y4m_pipe import FrameCutter
 
 # Pictures that are open before the first one that came, for packets out of order at the start.
 _BEFORE = 2
+# A picture waits at least so many seconds for the packets that were sent with its first one.
+_LEAST_WAIT = 0.001
 # A stream is followed as long as no more than this many seconds go by without a picture of it that is complete.
 _SILENT = 0.5
 # One that is tried has this many seconds for its first one, as long as its packets are no further apart than that; and
@@ -27,7 +29,8 @@ _SILENT = 0.5
 _TRIAL, _QUIET, _MOST_HELD, _TURN = 1.0, 0.5, 8 << 20, 0.5
 # Plays a second by which the program joins streams that are tried.
 _JOINING = 1_024
-# Packets a second. The largest pictures that there can be, 30 a second, have fewer.
+# Packets a second that are looked at of each stream that is or was followed, and of all others together. The largest
+# pictures that there can be, 30 a second, have fewer.
 _MOST_PACKETS = 12_000
 # After this many seconds of silence the end begins anew: numbers can't be told any more.
 _LOST = 30.0
@@ -35,6 +38,8 @@ _LOST = 30.0
 _LATE, _LATE_TIME = 30, 1.0
 # Bytes that may wait before `recv`; a packet that comes then is dropped.
 _MOST_WAITING = 1 << 20
+# Another stream beside the one that is followed, for so many seconds, is no sender that has begun anew.
+_RIVAL = 2.0
 # Entries of a log, and pictures, that are left when a run counts as full.
 _MOST_ENTRIES, _LEFT = 1 << 24, 1_024
 
@@ -58,7 +63,8 @@ class ReceivingRun:
         self.program.lines(self._line)
         self.on_message: Callable[[bytes], None] = lambda _: None
         self.on_frame: Callable[[Frame], None] = lambda _: None
-        self._playout = Playout(settings.period, settings.wait)
+        self.allowed = Allowance(_MOST_PACKETS)
+        self._playout = Playout(settings.period, max(settings.wait, _LEAST_WAIT))
         self._numbers: Optional[Numbers] = None
         self._timer: Optional[Timer] = None
         # What `recv` will say of the plays by which it joins, `joining`: nobody sees these or hears of them.
@@ -100,7 +106,8 @@ class ReceivingRun:
         self._tally.packets_in += 1
         self._playout.arrived(number, captured, now)
         self._note_late(number, now)
-        self._play_due(now)
+        # A picture isn't due before the packet of it that comes now was heard; the next turn plays it if it is late.
+        self._play_due(now, number)
         packet = renumbered(arrival.data, header.sequence, header.timestamp, OWN_SOURCE)
         self._put(logs.entry_bytes(logs.PACKET, packet), now)
         self._plan()
@@ -168,11 +175,11 @@ class ReceivingRun:
         else:
             self._late += 1
 
-    def _play_due(self, now: float) -> None:
+    def _play_due(self, now: float, before: Optional[int] = None) -> None:
         # At most as many at once as are kept: what is due beyond them waits for a look at the sockets.
         for _ in range(self._settings.slots):
             due = self._playout.due(self.played)
-            if due is None or due > now:
+            if due is None or due > now or self.played == before:
                 return
             self._play(now)
 
@@ -248,7 +255,7 @@ class Receiving(LiveEnd):
         self._source: Optional[int] = None
         self._own_source = random.getrandbits(32)
         self._told: set[object] = set()
-        self._allowed = Allowance(_MOST_PACKETS)
+        self._strangers_allowed = Allowance(_MOST_PACKETS)
         self._probation = Probation()
         # When a packet of the stream came last, and when a picture of it was complete.
         self.last = self._complete = 0.0
@@ -258,6 +265,8 @@ class Receiving(LiveEnd):
         # The stream whose trial ended last without a complete picture, and when.
         self._failed: tuple[Optional[int], float] = (None, 0.0)
         self._former: Optional[ReceivingRun] = None
+        # Another stream that comes while one is followed, and since when.
+        self._rival: tuple[Optional[int], float] = (None, 0.0)
         self._left = 0
 
     def _begun(self, is_tried: bool = False) -> ReceivingRun:
@@ -272,19 +281,22 @@ class Receiving(LiveEnd):
         """The SSRC of the stream that is followed, or None before there is one."""
         return self._source
 
-    def packet(self, data: bytes) -> None:
-        """A datagram came from the other side."""
-        now = self._loop.now()
-        if not self._allowed.takes(now):
-            self._tally.dropped["too fast"] += 1
-            return
-        header, start = rtp_header(data), picture_start(data)
+    def packet(self, data: bytes) -> Optional[RtpHeader]:
+        """A datagram came from the other side. Answers its header if it may be a packet of a stream."""
+        # What can be none costs a count, and nothing of what streams are allowed; most of it isn't even read.
+        header = rtp_header(data) if len(data) >= LEAST_BYTES else None
+        start = picture_start(data) if header else None
         if not header or not start:
             self._tally.dropped["malformed"] += 1
-        elif not self._is_wanted(start):
+            return None
+        now = self._loop.now()
+        if not self._is_wanted(start):
             self._tally.dropped["other format or clock"] += 1
+        elif not self._allowed(header.source).takes(now):
+            self._tally.dropped["too fast"] += 1
         elif not self._is_ending:
             self._follow(Arrival(data, header, start), now)
+        return header
 
     def bye(self, bye: Bye) -> None:
         """The other side says that its stream ends."""
@@ -303,6 +315,13 @@ class Receiving(LiveEnd):
             self.on_over()
         for run in runs:
             run.end()
+
+    def _allowed(self, source: int) -> Allowance:
+        # What others send costs a stream nothing that is followed, or was.
+        for run in (self._run, self._former):
+            if run and run.source == source:
+                return run.allowed
+        return self._strangers_allowed
 
     def _is_wanted(self, start: PictureStart) -> bool:
         theirs, own = (start.format, start.clock), (self._settings.format, self._settings.clock)
@@ -328,6 +347,8 @@ class Receiving(LiveEnd):
         if not self._is_silent(now):
             cause = "ahead of the clock" if source == self._source else "other source"
             self._tally.dropped[cause] += 1
+            if source != self._source:
+                self._note_rival(source, now)
             return
         if self._has_failed(source, now):
             self._tally.dropped["other source"] += 1
@@ -335,6 +356,13 @@ class Receiving(LiveEnd):
         came = self._probation.add(arrival)
         if came and self._may_try(now):
             self._try(came, now)
+
+    def _note_rival(self, source: int, now: float) -> None:
+        if source != self._rival[0]:
+            self._rival = source, now
+        elif now - self._rival[1] >= _RIVAL:
+            words = "two streams come from the other side's address, and the one that is shown may be forged"
+            self._tell_once("rival", f"{words}: --secure of live_call keeps others out")
 
     def _is_silent(self, now: float) -> bool:
         return self._source is None or now - self._complete >= _SILENT

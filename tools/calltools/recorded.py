@@ -9,8 +9,8 @@ from fractions import Fraction
 from pathlib import Path
 from typing import Any, BinaryIO, Optional, Sequence
 
-from . import logs, report, working
-from .errors import BadInput
+from . import lines, logs, report, working
+from .errors import BadInput, shown
 from .frames import frames_of
 from .picture_start import PERIODS
 from .way import format_of
@@ -23,6 +23,8 @@ _TARGET = re.compile(r"(\d{1,6}) (\d{1,9})")
 _BEGAN = re.compile(r"[-0-9T:.+]{16,40}")
 # Greater numbers are no setting's.
 _MOST = 1e9
+# A call.json of a thousand runs of each end has less.
+_MOST_LETTERS = 1 << 22
 # What a run of each command names; `targets` only where it followed the line.
 _NAMES = {"send": ("video", "log", "wire", "report"), "recv": ("log", "video", "wire", "report")}
 
@@ -55,7 +57,7 @@ class Record:
     def tell_cut(self) -> None:
         """Says on the standard error that the call has no end, if that is so."""
         if self.is_cut:
-            print(f"{self.folder}: the recording was cut off: what is whole of it is taken", file=sys.stderr)
+            print(f"{shown(str(self.folder))}: the recording was cut off: what is whole of it is taken", file=sys.stderr)
 
     @property
     def size(self) -> Size:
@@ -77,7 +79,7 @@ def read_record(folder: Path) -> Record:
     _check_file(path)
     with open(path, encoding="utf-8") as file:
         try:
-            told = json.load(file)
+            told = json.loads(file.read(_MOST_LETTERS))
         except (ValueError, RecursionError) as fault:
             raise BadInput(str(path), "its text", f"this is no JSON: {fault}") from None
     if not isinstance(told, dict) or told.get("version") != 1:
@@ -133,9 +135,9 @@ def _check_runs(path: Path, command: str, runs: object, names: tuple[str, ...]) 
         if not isinstance(run, dict):
             raise BadInput(str(path), place, "this is no run")
         for name in _named(run, names):
-            # Names are flat, so that none leads out of the folder.
+            # Names are flat, so that none leads out of the folder, and are printed as they are.
             file = run.get(name)
-            if not isinstance(file, str) or file in ("", ".", "..") or "/" in file or "\0" in file:
+            if not isinstance(file, str) or file in ("", ".", "..") or "/" in file or not file.isprintable():
                 raise BadInput(str(path), place, f"{name} names no file of the folder")
         for name in ("source", "first_sequence", "first_time", "skipped", "joined"):
             number_of = run.get(name)
@@ -160,18 +162,17 @@ def times_in(path: Path, is_cut: bool = False) -> list[float]:
     """The times of a file, a line each. Where it may have been cut off, those before the cut."""
     if not path.exists():
         return []
-    lines = path.read_text(encoding="ascii", errors="replace").split("\n")
-    # What follows the last newline: nothing, or a number that was cut off.
-    last = lines.pop()
-    if last and not is_cut:
-        lines.append(last)
     times = []
-    for number, line in enumerate(lines, 1):
-        if not _TIME.fullmatch(line):
-            if is_cut:
-                break
-            raise BadInput(str(path), f"line {number}", "a time in seconds is wanted")
-        times.append(float(line))
+    with open(path, "rb") as file:
+        try:
+            for number, line in enumerate(lines.lines_in(file, str(path), lines.MOST_OF_TIMES), 1):
+                # What follows the last newline is a number that may have been cut off.
+                if not _TIME.fullmatch(line.rstrip("\n")) or is_cut and not line.endswith("\n"):
+                    raise BadInput(str(path), f"line {number}", "a time in seconds is wanted")
+                times.append(float(line))
+        except BadInput:
+            if not is_cut:
+                raise
     return times
 
 
@@ -180,15 +181,15 @@ def rates_of(record: Record, run: dict[str, Any]) -> list[int]:
     if "targets" not in run:
         return []
     with record.opened(run["targets"]) as file:
-        lines = file.read().decode("ascii", "replace").split("\n")
-    rates = []
-    # What follows the last newline is nothing, or was cut off.
-    for number, line in enumerate(lines[:-1], 1):
-        fields = _TARGET.fullmatch(line)
-        if not fields:
-            why = "a target and a rate are wanted"
-            raise BadInput(str(record.path(run["targets"])), f"line {number}", why)
-        rates.append(int(fields[2]))
+        path, rates = str(record.path(run["targets"])), []
+        for number, line in enumerate(lines.lines_in(file, path, lines.MOST_OF_REPORT), 1):
+            # What follows the last newline was cut off.
+            if not line.endswith("\n"):
+                break
+            fields = _TARGET.fullmatch(line.rstrip("\n"))
+            if not fields:
+                raise BadInput(path, f"line {number}", "a target and a rate are wanted")
+            rates.append(int(fields[2]))
     return rates
 
 
@@ -235,12 +236,13 @@ def pictures_of(record: Record, name: str, first: int = 0) -> list[report.Pictur
     """The pictures of a report, whose numbers begin with the first one's. One of an end that died at once has none."""
     path = record.path(name)
     with record.opened(name) as file:
-        lines = file.read().decode("ascii", "replace").splitlines(keepends=True)
-    if not record.is_cut:
-        return report.read_report(lines, str(path), first).pictures if lines else []
-    # The last line may be the beginning of another one.
-    whole = [line for line in lines if line.endswith("\n")]
-    return report.whole_pictures(whole, str(path), first)
+        told = lines.lines_in(file, str(path), lines.MOST_OF_REPORT)
+        if record.is_cut:
+            # The last line may be the beginning of another one.
+            return report.whole_pictures((line for line in told if line.endswith("\n")), str(path), first)
+        has_any = bool(file.read(1))
+        file.seek(0)
+        return report.read_report(told, str(path), first).pictures if has_any else []
 
 
 def about(record: Record) -> list[str]:

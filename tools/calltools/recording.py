@@ -14,6 +14,8 @@ VERSION = 1
 # Runs of an end that a folder takes. A call that begins anew more often is recorded no further, so that nobody can fill
 # a disk with files by streams of their own.
 MOST_RUNS = 1_000
+# A folder is taken where so many bytes have room in it.
+_ROOM = 1 << 16
 # What each end's run has: its key in call.json, the file's name, and whether it has times beside. One that follows the
 # line has a line a picture: the target in bytes, and the rate in kbit/s.
 TARGETS = ("targets", "targets", ".txt", False)
@@ -93,6 +95,21 @@ class RunRecord:
         self._files, self._times = {}, {}
 
 
+def make_folder(folder: Path) -> None:
+    """Makes the folder of a record, and tries whether it takes a file: before a call is touched for it."""
+    try:
+        folder.mkdir(parents=True, exist_ok=True)
+        if any(folder.iterdir()):
+            raise BadInput(str(folder), "--record", "the folder isn't empty")
+        trial = folder / "call.new"
+        try:
+            trial.write_bytes(bytes(_ROOM))
+        finally:
+            trial.unlink(missing_ok=True)
+    except OSError as fault:
+        raise BadInput(str(folder), "nothing can be recorded there", str(fault.strerror)) from None
+
+
 def _replace(path: Path, text: str) -> None:
     # So that a whole file is there at any time, whatever ends the call or fills the disk.
     new = path.with_suffix(".new")
@@ -119,8 +136,8 @@ def call_facts(settings: Settings, party: str, network: Optional[BadNetwork]) ->
 
 
 class Recorder:
-    """Writes a call's folder, or nothing without one. Where a write fails, recording ends, the
-    call goes on, and `fault` says why."""
+    """Writes a call's folder, or nothing without one. A folder that can't be made is refused. Where a write fails,
+    recording ends, the call goes on, and `fault` says why; so it does where already the first one fails."""
 
     def __init__(self, folder: Optional[Path], began: float, facts: dict[str, Any]) -> None:
         self.began = began
@@ -131,12 +148,8 @@ class Recorder:
         self._runs: list[RunRecord] = []
         self._told = ""
         if folder:
-            folder.mkdir(parents=True, exist_ok=True)
-            if any(folder.iterdir()):
-                raise BadInput(str(folder), "--record", "the folder isn't empty")
+            make_folder(folder)
             self._write_facts()
-        if self.fault:
-            raise self.fault
 
     @property
     def is_on(self) -> bool:

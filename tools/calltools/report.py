@@ -8,6 +8,8 @@ from typing import Iterable, Optional
 from .errors import BadInput
 
 MARKS = ("exact", "patched", "held")
+# Lines that may follow the pictures: a command has a few.
+_MOST_OTHERS = 100_000
 _PICTURE = re.compile(r"(?:([ab]) )?(\d{1,7})(?: (exact|patched|held))?(?: (intra)| from (\d{1,7}))?")
 
 
@@ -48,6 +50,8 @@ def read_rows(lines: Iterable[str], path: str, first: int = 0) -> Rows:
         text = line.rstrip("\n")
         fields = _PICTURE.fullmatch(text)
         if not fields or rest:
+            if len(rest) == _MOST_OTHERS:
+                raise BadInput(path, f"line {number}", f"more than {_MOST_OTHERS:,} lines follow its pictures")
             rest.append(text)
             continue
         row = found.setdefault(fields[1] or "", [])
@@ -84,14 +88,14 @@ def read_report(lines: Iterable[str], path: str, first: int = 0) -> Report:
 def whole_pictures(lines: Iterable[str], path: str, first: int = 0) -> list[Picture]:
     """The pictures of a report of one party that may have been cut off: those before what is none."""
     found: list[Picture] = []
-    for number, line in enumerate(lines, 1):
-        fields = _PICTURE.fullmatch(line.rstrip("\n"))
-        if not fields or fields[1]:
-            break
-        try:
+    try:
+        for number, line in enumerate(lines, 1):
+            fields = _PICTURE.fullmatch(line.rstrip("\n"))
+            if not fields or fields[1]:
+                break
             found.append(_picture(fields, first + len(found), path, number))
-        except BadInput:
-            break
+    except BadInput:
+        pass
     return found
 
 

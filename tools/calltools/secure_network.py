@@ -16,6 +16,10 @@ from .secure import SecureEnd
 from .udp import LOOPBACK, Address, Channel
 
 
+# A terminal takes half of it.
+_MOST_BYTES = 8_192
+
+
 def _of(ends: list[SecureEnd]) -> list[Line]:
     return [Line(end.media, end.control) for end in ends]
 
@@ -65,20 +69,34 @@ class ToAnother(SecureNetwork):
         say("send this line to the other side, by a way on which nobody can change it:")
         say(own.line())
         say("and paste the line of the other side:")
-        other = read_introduction(_line())
+        other = _pasted(own, say)
         say(f"this side is  {own.fingerprint}")
         say(f"the other one {other.fingerprint}")
         self._loop.complete(end.connect(own, other))
 
 
+def _pasted(own: Introduction, say: Callable[[str], None]) -> Introduction:
+    """The other side's line. A wrong one is told and asked for again: this side's own one stays as good as it was."""
+    while True:
+        line = _line()
+        try:
+            other = read_introduction(line)
+            if own.fingerprint != other.fingerprint:
+                return other
+            raise BadInput("--secure", "the other side's line", "it is this side's own")
+        except BadInput as fault:
+            if line.strip():
+                say(f"{fault}; paste it again:")
+
+
 def _line() -> str:
-    try:
-        line = sys.stdin.readline(8_192)
-    except UnicodeDecodeError:
-        line = ""
+    line = part = sys.stdin.buffer.readline(_MOST_BYTES)
     if not line:
         raise BadInput("--secure", "the other side's line", "none was given")
-    return line
+    # What is too long is one line, too.
+    while len(part) == _MOST_BYTES and not part.endswith(b"\n"):
+        part = sys.stdin.buffer.readline(_MOST_BYTES)
+    return line.decode("ascii", "replace")
 
 
 class WithItself(SecureNetwork):

@@ -77,7 +77,8 @@ def send(video: BinaryIO, log: BinaryIO, wire: int) -> None:
     print(f"sent {count} packets {count} noted {noted} old 0 refused 0", flush=True)
 
 
-def _message(is_ack: bool, number: int) -> bytes:
+def message(is_ack: bool, number: int) -> bytes:
+    """What is said of a picture, as an entry."""
     bits = (3 if is_ack else 2) << 22 | number % 256 << 11 | 1 << 10 | number % 256
     return logs.entry_bytes(logs.MESSAGE, bits.to_bytes(3, "big"))
 
@@ -94,11 +95,11 @@ def recv(log: BinaryIO, out: int, wire: int, size: y4m.Size) -> None:
             number = played + (start.reference - played + 128) % 256 - 128
             if number >= played and number not in came:
                 came.add(number)
-                _write(wire, _message(True, number))
+                _write(wire, message(True, number))
             continue
         mark = "exact" if played in came else "held"
         if mark == "held":
-            _write(wire, _message(False, played))
+            _write(wire, message(False, played))
         marks[mark] += 1
         _write(out, f"FRAME X{mark.upper()}\n".encode() + bytes([128]) * size.bytes)
         print(played, mark, flush=True)

@@ -2,7 +2,7 @@
 
 import errno
 import socket
-from typing import Callable, Optional
+from typing import Any, Callable, Optional, Sequence
 
 from .errors import BadInput
 from .loop import Loop
@@ -25,7 +25,19 @@ def resolved(host: str, port: int, family: int = 0) -> tuple[int, Address]:
         found = socket.getaddrinfo(host, port, family, socket.SOCK_DGRAM)
     except OSError as fault:
         raise BadInput(host, f"port {port}", f"no such host: {fault.strerror}") from None
-    return found[0][0], found[0][4][:2]
+    return found[0][0], named(found[0][4])
+
+
+def named(address: Sequence[Any]) -> Address:
+    """A socket's address as a host and a port, with the scope of one that leads nowhere without it (RFC 4007)."""
+    host, port, *more = address
+    scope = more[1] if len(more) == 2 else 0
+    return f"{host}%{scope}" if scope else host, port
+
+
+def full(family: int, address: Address) -> Sequence[Any]:
+    """The same as a socket takes it: a scope stands apart from the host there."""
+    return socket.getaddrinfo(*address, family, socket.SOCK_DGRAM)[0][4]
 
 
 def _bound(family: int, at: Address) -> socket.socket:
@@ -33,7 +45,7 @@ def _bound(family: int, at: Address) -> socket.socket:
     net.setblocking(False)
     net.setsockopt(socket.SOL_SOCKET, socket.SO_RCVBUF, _BUFFER)
     try:
-        net.bind(at)
+        net.bind(full(family, at))
     except OSError as fault:
         net.close()
         why = "it is taken" if fault.errno == errno.EADDRINUSE else str(fault.strerror)
@@ -53,7 +65,7 @@ class Channel:
         self._loop = loop
         self._net = _bound(family, own)
         self._others: Optional[socket.socket] = None
-        self.address: Address = self._net.getsockname()[:2]
+        self.address: Address = named(self._net.getsockname())
         self.on_datagram: Callable[[bytes], None] = lambda _: None
         self.strangers = self.unreached = self.long = 0
         self.bytes_in = self.bytes_out = 0
@@ -70,8 +82,8 @@ class Channel:
         others.setblocking(False)
         others.setsockopt(socket.SOL_SOCKET, socket.SO_REUSEADDR, 1)
         try:
-            self._net.connect(address)
-            others.bind(self.address)
+            self._net.connect(full(family, address))
+            others.bind(full(family, self.address))
         except OSError as fault:
             why = f"{fault.strerror} from {self.address[0]}"
             raise BadInput(to[0], f"port {to[1]}", why) from None

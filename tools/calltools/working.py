@@ -6,6 +6,8 @@ import threading
 import time
 from typing import Callable, Iterable, Iterator, Optional, TypeVar
 
+from .errors import shown
+
 Step = TypeVar("Step")
 
 # Nothing is said before this many seconds, and then once in so many.
@@ -28,7 +30,7 @@ class Working:
         if now < self._next or not sys.stderr.isatty():
             return
         self._next, self._is_shown = now + _EVERY, True
-        print(f"{_CLEAR}{self._what} {self._told(done, now)}", end="", file=sys.stderr, flush=True)
+        print(f"{_CLEAR}{shown(self._what)} {self._told(done, now)}", end="", file=sys.stderr, flush=True)
 
     def _told(self, done: int, now: float) -> str:
         if not self._whole or not done:

@@ -14,7 +14,7 @@ sum_of() {
         | LC_ALL=C sort -z | xargs -0 sha256sum | sha256sum | cut -c 1-64)
 }
 sum_of_sources() { sum_of \( -path '*/src/*' -o -name crates.txt \); }
-sum_of_all() { sum_of -name must-fail -prune -o; }
+sum_of_all() { sum_of -name must-fail -prune -o -name edits -prune -o; }
 sum_of_program() { sha256sum < "$program" | cut -c 1-64; }
 
 # What `.ci/run` keeps.
@@ -26,7 +26,7 @@ is_release() { [ "$program" = "$released" ]; }
 is_built() {
     ! is_release || return 0
     [ -x "$program" ] && [ -z "$(find "$top/crates.txt" "$top/crates" -name out -prune -o -name must-fail -prune \
-        -o -type f -newer "$program" -print -quit)" ]
+        -o -name edits -prune -o -type f -newer "$program" -print -quit)" ]
 }
 
 # Whether another program was put in the place of the one that the gate left. The sums are looked at where it is newer
@@ -71,23 +71,32 @@ compare_logic() {
 
 # Takes the unproved program that was compiled of these sources, or compiles it.
 take_unproved() {
-    local sum
+    local sum lock
     sum=$(sum_of_sources)
     program=$kept
-    if [ -x "$kept" ] && [ "$(cat "$kept.sum" 2>/dev/null)" = "$sum" ]; then
-        return
-    fi
+    ! is_kept "$sum" || return 0
     compare_logic
-    say "unproved: it is compiled now, once for these sources, in a minute or more; rt ci proves it"
-    compile
-    echo "$sum" > "$kept.sum"
+    mkdir -p "$crate/out" 2>/dev/null
+    [ -w "$crate/out" ] || fail "it is compiled to $crate/out, which may not be written: a clone of your own may"
+    # Of several first runs one compiles, and the others wait for it.
+    if command -v flock > /dev/null && exec {lock}< "$crate/out"; then
+        flock -n "$lock" || { say "another run compiles it: this one waits" && flock "$lock"; }
+    fi
+    if ! is_kept "$sum"; then
+        say "unproved: it is compiled now, once for these sources, in a minute or more; rt ci proves it"
+        compile
+        echo "$sum" > "$kept.sum"
+    fi
+    [ -z "$lock" ] || exec {lock}<&-
 }
+
+# is_kept SUM: whether the program of these sources is there.
+is_kept() { [ -x "$kept" ] && [ "$(cat "$kept.sum" 2>/dev/null)" = "$1" ]; }
 
 # rt try compiles, runs and removes a program. It is given a log that ends when the program was copied.
 compile() {
-    local room made=$kept.$$ copier compiler
-    mkdir -p "$crate/out" || fail "there is no room to compile it"
-    room=$(mktemp -d) || fail "there is no room to compile it"
+    local room made=$kept.$$ copier compiler said
+    room=$(mktemp -d 2>/dev/null) || fail "it can't be compiled: nothing may be written to ${TMPDIR:-/tmp}, or it is full"
     # shellcheck disable=SC2064
     trap "rm -rf '$room' '$made'" EXIT
     mkfifo "$room/log"
@@ -100,11 +109,13 @@ compile() {
     watch_seconds "compiling, for"
     wait "$compiler"
     end_watch
+    # A copier that is killed before it began may run the trap on its own exit.
+    said=$(cat "$room/said")
     kill "$copier" 2>/dev/null
     wait "$copier" 2>/dev/null
     trap - HUP INT TERM
     if ! chmod 755 "$made" 2>/dev/null || ! mv "$made" "$kept"; then
-        cat "$room/said" >&2
+        [ -z "$said" ] || printf '%s\n' "$said" >&2
         fail "it could not be compiled"
     fi
 }

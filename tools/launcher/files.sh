@@ -9,6 +9,13 @@ file_at() {
     printf '%s' "$word"
 }
 
+# The same, to be read; an empty name is called so by what follows.
+shown_at() {
+    local name
+    name=$(file_at "$1")
+    [ -z "$name" ] || shown "$name"
+}
+
 # file_of KIND: the file of this place of the command's row; TRACE is in its own word or in the option's.
 file_of() {
     local at
@@ -31,6 +38,10 @@ input_fault() {
     fi
 }
 
+# is_report FILE REPORT: whether a file is the standard output by name, which a terminal alone may be twice. Within a
+# substitution that name has another one.
+is_report() { case $1 in /dev/stdout | /dev/fd/1 | /proc/self/fd/1) [ ! -c "$2" ] ;; *) false ;; esac; }
+
 # output_fault PLACE REPORT: the same of an output; REPORT is the file of the standard output.
 output_fault() {
     local file folder=. place
@@ -40,7 +51,7 @@ output_fault() {
     [ ! -e "$file" ] || place=$file
     if [ -z "$file" ]; then
         echo "an empty name"
-    elif [ "$file" = - ]; then
+    elif [ "$file" = - ] || is_report "$file" "$2"; then
         echo ": the report goes to the standard output; 3>FILE and /dev/fd/3 would do"
     elif [ -d "$file" ]; then
         echo ": it is a folder"
@@ -96,10 +107,10 @@ name_files() {
     for at in "${!kinds[@]}"; do
         case $1:${kinds[at]} in
             inputs:IN* | inputs:LOG | inputs:TRACE* | all:IN* | all:LOG | all:TRACE*)
-                say "  $(file_at "$at")$(input_fault "$(file_at "$at")")"
+                say "  $(shown_at "$at")$(input_fault "$(file_at "$at")")"
                 ;;
             outputs:OUT* | outputs:WIRE | all:OUT* | all:WIRE)
-                say "  $(file_at "$at")$(output_fault "$at" "$2")"
+                say "  $(shown_at "$at")$(output_fault "$at" "$2")"
                 ;;
         esac
     done

@@ -53,6 +53,7 @@ command_help() {
     echo
     for name in $(option_names "$1"); do
         option_row "$name"
+        [[ " $needers " != *" $1 "* ]] || default=''
         printf '  %-14s%s\n' "--$option${value:+ $value}" "$(told_option)"
     done
     echo

@@ -5,7 +5,7 @@
 # LOG, OUT, WIRE, IN1, ..), TRACE (the file after --trace) or TRACE= (one in its word). Sets `fault`, what is wrong with
 # the first word that the program doesn't take, or nothing.
 read_words() {
-    local word waits='' is_plain='' left=()
+    local word waits='' is_plain='' dashed='' left=()
     declare -gA given=()
     kinds=() fault=''
     if ! command_row "${1-}"; then
@@ -28,18 +28,45 @@ read_words() {
     [ ${#left[@]} = 0 ] || blame "$command needs ${left[0]}: $command $places"
     check_needs
     check_lead
+    [ -z "$fault" ] || [ -z "$dashed" ] || fault="$(shown "$dashed") begins with a dash that is no hyphen; $(shown "--$(undashed "$dashed")")?"
 }
 
 blame() { [ -n "$fault" ] || fault=$1; }
 
-# A word as a shell would take it, so that no control character of it reaches the terminal.
-shown() { printf '%q' "$1"; }
+# A word for a command that may be typed again: as a shell would take it.
+quoted() { printf '%q' "$1"; }
+
+# A word to be read: as it stands, unless it is empty or the terminal would take a character of it for more than a
+# letter.
+shown() { if [[ -z $1 || $1 == *[![:print:]]* ]]; then quoted "$1"; else printf '%s' "$1"; fi; }
 
 no_command() {
-    local near
-    near=$(nearest "$1" "${COMMANDS[@]%%|*}")
-    [ -n "$near" ] && echo "no command $(shown "$1"); $near?" && return
-    echo "no command $(shown "$1"): call, send, recv, demo, rate, audit or duplex"
+    local near word
+    word=$(shown "$1")
+    if [[ $1 == --* ]] && option_row "$(option_of "$1")"; then
+        echo "no command $word: the command comes first, and then --$option"
+        return
+    fi
+    case $1 in
+        -v | -V) near=--version ;;
+        -q) near=--quiet ;;
+        *) near=$(nearest "$1" "${COMMANDS[@]%%|*}" --help --version --quiet --man --completion) ;;
+    esac
+    [ -n "$near" ] && echo "no command $word; $near?" && return
+    echo "no command $word: call, send, recv, demo, rate, audit or duplex"
+}
+
+# A word without the dash that an editor made of a hyphen (in UTF-8: en dash, em dash and minus).
+undashed() {
+    local word=$1 dash
+    for dash in $'\xe2\x80\x93' $'\xe2\x80\x94' $'\xe2\x88\x92'; do word=${word#"$dash"}; done
+    printf '%s' "${word%%=*}"
+}
+
+# The name of the option of a word that begins with --.
+option_of() {
+    local name=${1#--}
+    printf '%s' "${name%%=*}"
 }
 
 no_option() {
@@ -54,6 +81,7 @@ no_option() {
 }
 
 take_place() {
+    [ -n "$is_plain" ] || [ "$(undashed "$1")" = "${1%%=*}" ] || dashed=${dashed:-$1}
     if [ ${#left[@]} = 0 ]; then
         kinds+=(extra) && blame "$(shown "$1") is a word too many: $command $places"
         return
@@ -68,8 +96,8 @@ take_place() {
 }
 
 take_option() {
-    local name=${1#--}
-    name=${name%%=*}
+    local name
+    name=$(option_of "$1")
     if ! option_row "$name" || [[ " $takers " != *" $command "* ]]; then
         kinds+=(option) && blame "$(no_option "$name")"
     elif [ -z "$value" ]; then
@@ -139,14 +167,18 @@ check_lead() {
         || blame "--lead $lead: from 0 to $((10#$slots - 2)), --slots ($slots) less 2"
 }
 
-# nearest WORD NAME..: the name that is at most two letters away, if one is nearest.
+# nearest WORD NAME..: the name that is at most two letters away, if one is nearest, else the first one that begins with
+# the same three letters. Small letters and large ones are the same.
 nearest() {
-    local word=$1 name best='' least=3 far
+    local word=${1,,} name best='' least=3 far
     shift
     [ ${#word} -le 20 ] || return 0
     for name; do
         far=$(distance "$word" "$name")
         [ "$far" -ge "$least" ] || { least=$far best=$name; }
+    done
+    for name; do
+        [[ -n $best || $name == --* || ${#word} -lt 3 || $name != "${word:0:3}"* ]] || best=$name
     done
     echo "$best"
 }

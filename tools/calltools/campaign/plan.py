@@ -265,6 +265,8 @@ def read_plan(path: Path) -> Plan:
         data = file.read(MOST_PLAN + 1)
     if len(data) > MOST_PLAN:
         raise BadInput(str(path), f"byte {MOST_PLAN}", "a plan is shorter")
+    if data.startswith(b"SQLite format 3\0"):
+        raise BadInput(str(path), "its head", "this is a table: --advise and --draw take it")
     try:
         text = data.decode()
         document = tomllib.loads(text)

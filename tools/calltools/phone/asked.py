@@ -12,7 +12,8 @@ from ..y4m import FORMATS
 # Characters of a text, of a host's name (RFC 1035), and of words that are quoted in a refusal.
 MOST_TEXT = 2_048
 _MOST_HOST, _MOST_QUOTED = 253, 40
-_HOST = re.compile(r"[0-9A-Za-z](?:[0-9A-Za-z.:-]*[0-9A-Za-z])?")
+# A name, or an address, of IPv6 also with its scope.
+_HOST = re.compile(r"(?:::)?[0-9A-Za-z](?:[0-9A-Za-z.:-]*[0-9A-Za-z])?(?:%[0-9A-Za-z._-]{1,15})?")
 # The sliders' ends: a share, datagrams in a row, and seconds.
 MOST_LOSS, MOST_BURST, MOST_DELAY, MOST_JITTER = 0.4, 10.0, 0.4, 0.2
 

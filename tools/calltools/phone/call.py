@@ -96,6 +96,8 @@ class PhoneCall:
         self.network = wanted.network
         self._recorder = Watched(wanted.folder, self.began, self._facts(), wanted.settings)
         self._recorder.on_fault = lambda fault: say(f"the recording ends here: {fault.strerror}; the call goes on")
+        if self._recorder.fault:
+            self._recorder.on_fault(self._recorder.fault)
         self.on_picture: Callable[[int, str, int, float, bytes], None] = lambda *_: None
         self.on_over: Callable[[str], None] = lambda _: None
         self._status = Status()

@@ -14,7 +14,8 @@ from ..bad_network import BadNetwork
 from ..errors import BadInput, release
 from ..live_settings import TARGETS, Settings, lead_for, slots_for
 from ..loop import Timer
-from ..udp import LOOPBACK, Address, resolved
+from ..recording import make_folder
+from ..udp import LOOPBACK, Address, full, named, resolved
 from ..y4m import FORMATS, Size
 from . import asked as asks
 from . import ordinary
@@ -64,10 +65,10 @@ def address_towards(other: Address) -> str:
     family, there = resolved(*other)
     with socket.socket(family, socket.SOCK_DGRAM) as net:
         try:
-            net.connect(there)
+            net.connect(full(family, there))
         except OSError as fault:
             raise BadInput(other[0], "the other side", f"it can't be reached: {fault.strerror}") from None
-        return str(net.getsockname()[0])
+        return named(net.getsockname())[0]
 
 
 class Phone:
@@ -240,17 +241,25 @@ class Phone:
 
     def _record(self, call: PhoneCall, is_on: bool) -> None:
         # A record begins where both ends begin, so they do so anew. Another side follows the new stream once the old one
-        # is silent, and refers to no picture from before once its window has passed them.
+        # is silent, and refers to no picture from before once its window has passed them. A call whose record has no
+        # room goes on as it is.
         if is_on == (call.folder is not None) or call.is_over:
             return
         if not is_on:
             call.stop_recording()
             self._tell_state()
             return
+        folder = self._folder()
+        try:
+            make_folder(folder)
+        except BadInput as fault:
+            self._say(f"{fault}; the call goes on")
+            self._tell_state()
+            return
         call.on_over = lambda _: None
         call.renounce()
         self._call = None
-        self._begin(replace(call.wanted, folder=self._folder(), network=self._network, before=call.sources[-3:]))
+        self._begin(replace(call.wanted, folder=folder, network=self._network, before=call.sources[-3:]))
 
     def _over(self, call: PhoneCall, why: str) -> None:
         self._tell_status(call)

@@ -2,7 +2,7 @@
 
 import asyncio
 import hmac
-from typing import Awaitable, Callable
+from typing import Awaitable, Callable, Optional
 
 from aiohttp import web
 
@@ -20,6 +20,8 @@ _HEARTBEAT = 5.0
 # A page that sends a longer message is closed. It is twice the largest picture's, since aiohttp 3.8 counts what came of
 # a message in pieces together with the next message's first piece.
 _TOO_MANY = 2 * max(most_bytes(Size(*size)) for size in FORMATS.values()) + 1
+# A page has one, and while it is loaded a few more.
+_MOST_CONNECTIONS = 32
 # The WebSocket's own code for a page that has to wait, as the page knows it.
 BUSY = 4_001
 
@@ -37,17 +39,29 @@ class Server:
         app.router.add_get("/", self._index)
         app.router.add_get("/call", self._call)
         self._runner = web.AppRunner(app, handle_signals=False, access_log=None)
+        self._joined: Optional[asyncio.Transport] = None
         loop.complete(self._open(port))
 
     async def _open(self, port: int) -> None:
         await self._runner.setup()
-        site = web.TCPSite(self._runner, LOOPBACK, port, shutdown_timeout=1.0)
+        turns = self._loop.asyncio
         try:
-            await site.start()
+            self._net = await turns.create_server(self._accepted, LOOPBACK, port, backlog=_MOST_CONNECTIONS)
         except OSError as fault:
             await self._runner.cleanup()
             raise BadInput(LOOPBACK, f"port {port}", str(fault.strerror)) from None
-        self.port = int(self._runner.addresses[0][1])
+        self.port = int(self._net.sockets[0].getsockname()[1])
+
+    def _accepted(self) -> asyncio.Protocol:
+        """For one connection more. If there are too many, the oldest ones but the page's are closed: whoever opens them
+        and says nothing neither shuts a page out nor takes all of the process's files."""
+        server = self._runner.server
+        assert server
+        open_ones = [one.transport for one in server.connections if one.transport]
+        others = [one for one in open_ones if one is not self._joined and not one.is_closing()]
+        for one in others[: max(0, len(others) + 1 - _MOST_CONNECTIONS)]:
+            one.abort()
+        return server()
 
     @property
     def origin(self) -> str:
@@ -59,7 +73,15 @@ class Server:
         return f"{self.origin}/#{self._token}"
 
     def close(self) -> None:
-        self._loop.complete(self._runner.cleanup())
+        self._loop.complete(self._close())
+
+    async def _close(self) -> None:
+        self._net.close()
+        await self._net.wait_closed()
+        await self._runner.shutdown()
+        if self._runner.server:
+            await self._runner.server.shutdown(1.0)
+        await self._runner.cleanup()
 
     @web.middleware
     async def _checked(self, request: web.Request, handler: Handler) -> web.StreamResponse:
@@ -89,6 +111,7 @@ class Server:
 
     async def _serve(self, page: web.WebSocketResponse, transport: asyncio.Transport) -> None:
         link = PageLink(page, transport.abort)
+        self._joined = transport
         self._phone.join(link)
         writer = asyncio.ensure_future(link.write())
         try:
@@ -102,4 +125,5 @@ class Server:
         finally:
             link.close("")
             self._phone.leave(link)
+            self._joined = None
             writer.cancel()
