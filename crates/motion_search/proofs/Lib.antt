@@ -7,6 +7,7 @@ pub mod Blocks
 pub mod Places
 pub mod Pairs
 pub mod Nears
+pub mod Halves
 pub mod AreaSums
 pub mod Strips
 pub mod Held

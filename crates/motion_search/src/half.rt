@@ -1,10 +1,11 @@
 //! The neighbours half a sample away.
-ghost use Rattle.std.specs.Prelude.{◌≡◌, ℕ, ◌<◌, ◌≤◌, ◌↔◌, ℤ, if◌then◌else◌};
+ghost use Rattle.std.specs.Prelude.{◌≡◌, ℕ, ◌+◌, ◌/◌, ◌<◌, ◌≤◌, ◌↔◌, ℤ, pos, ◌-ℤ◌, ◌<ℤ◌, IsTrue, if◌then◌else◌};
+ghost use Rattle.h263_types.specs.Blocks.{IsVector};
 ghost use Rattle.h263_types.specs.Sizes.{mbs_of};
 ghost use Rattle.h263_types.specs.Vectors.{InReach, IsWithin};
 ghost use Rattle.h263_planes.specs.Lent.{picture};
 ghost use Rattle.motion_search.specs.Order.{first_of};
-ghost use Rattle.motion_search.specs.Cost.{candidate_of, IsCost};
+ghost use Rattle.motion_search.specs.Cost.{candidate_of, lead_of, IsCost};
 ghost use Rattle.motion_search.specs.Vectors.{around, in_reach, IsEven};
 ghost use Rattle.motion_search.specs.Best.{best_near, IsCandidate};
 
@@ -64,10 +65,40 @@ fn best_inside(
     let sums = differences_around(block, reference, mb, rounding, best.vector);
     let mut so_far = best;
     for n in 0..8u32 {
-        let vector = neighbour(best.vector, n);
-        so_far = first(so_far, with_differences(vector, sums[n as usize]));
+        so_far = better_neighbour(so_far, best.vector, n, sums[n as usize]);
     }
     so_far
+}
+
+// The first of the best one so far and neighbour `n` of a vector of whole samples, whose differences
+// are `sum`. It isn't the zero vector, so it has nothing ahead: where its differences are more than
+// the best one costs, no more is asked of it.
+#[inline(always)]
+fn better_neighbour(so_far: Candidate, vector: Vector, n: u32, sum: u32) -> Candidate
+    requires vector { IsVector vector }
+    requires whole { IsEven vector }
+    requires n { n < 8 }
+    requires sum { sum ≤ 65280 }
+    requires cost { IsCost so_far.cost }
+    ensures first { result ≡ first_of so_far (record {
+      vector = around vector (n + n / 4);
+      cost = pos sum -ℤ pos (lead_of (around vector (n + n / 4)));
+    }) }
+    ensures cost { IsCost result.cost }
+{
+    if is_below(so_far.cost, sum) {
+        return so_far;
+    }
+    first(so_far, with_differences(neighbour(vector, n), sum))
+}
+
+// Whether a cost is less than so many differences.
+#[inline(always)]
+fn is_below(cost: i32, sum: u32) -> bool
+    requires { sum ≤ 65280 }
+    ensures { IsTrue result ↔ (cost <ℤ pos sum) }
+{
+    cost < sum as i32
 }
 
 // The first of a candidate of whole samples and its neighbours.

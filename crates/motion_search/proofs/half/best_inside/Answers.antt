@@ -1,9 +1,7 @@
-use Rattle.std.proofs.Common.{arith, sym, subst}
+use Rattle.std.proofs.Common.{refl, arith}
 use Rattle.h263_planes.specs.Lent.{picture}
-use Rattle.motion_search.specs.declared.candidate.Candidate.{Candidate}
-use Rattle.motion_search.specs.Cost.{IsCost}
-use Rattle.motion_search.proofs.Orders.{first_has}
-use Rattle.motion_search.proofs.Nears.{none_yet, one_more, all_eight, by_differences}
+use Rattle.motion_search.proofs.Blocks.{costing}
+use Rattle.motion_search.proofs.Nears.{none_yet, one_more, all_eight, by_differences, eighth}
 use Rattle.motion_search.proofs.half.best_inside.Goals as goal
 
 pub loop-n-init : goal.loop-n-init
@@ -17,12 +15,12 @@ loop-n-preserved c =
     let r = c.args.rounding in
     let n = c.loop-n.n in
     let now = c.loop-n.so_far in
-    let other = c.with_differences.result in
-    one_more block p mb r c.args.best n now c.first-so_far.result (omega arith)
-    (by_differences block p mb r c.args.best n _ c.neighbour-vector.result now other c.first-so_far.result c.first-so_far.ensures c.with_differences.ensures.candidate
-    c.neighbour-vector.ensures (c.differences_around-sums.ensures.value n (omega arith)) (c.requires.inside _ (omega arith)))
-    (subst (λ (d : Candidate). IsCost d.cost) (sym c.first-so_far.ensures)
-    (first_has (λ (d : Candidate). IsCost d.cost) now other c.loop-n.invariant.cost c.with_differences.ensures.cost))
+    let v = eighth c.args.best.vector n in
+    let next = c.better_neighbour-so_far.result in
+    one_more block p mb r c.args.best n now next (omega arith)
+    (by_differences block p mb r c.args.best n _ v now (costing v _) next c.better_neighbour-so_far.ensures.first refl
+    refl (c.differences_around-sums.ensures.value n (omega arith)) (c.requires.inside _ (omega arith)))
+    c.better_neighbour-so_far.ensures.cost
     c.loop-n.invariant
 
 pub returns-clause-best : goal.returns-clause-best
