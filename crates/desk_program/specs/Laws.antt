@@ -51,8 +51,8 @@ pub record TurnLaws : Type 0 where
   pub refuses : (status : Status) (inputs : Role → List ℕ) (old new : Outside) →
       new.written ≡ old.written → EndsBy (refusal status) status inputs old new
   -- a video is refused, and this much was taken of each other input
-  pub refuses_video : (video : Role) (before : Role → ℕ) (status : Status) (inputs : Role → List ℕ) (old new : Outside) →
-      ((r : Role) → IsInput r → r ≢ video → new.left r ≡ Some (left_after inputs before r))
+  pub refuses_video : (video : Role) (before : Role → ℕ) (status : Status) (inputs : Role → List ℕ)
+      (old new : Outside) → ((r : Role) → IsInput r → r ≢ video → new.left r ≡ Some (left_after inputs before r))
       → new.written ≡ old.written → EndsBy (video_refusal video before status) status inputs old new
 
 -- how two steps over a desk add up, and why a turn stops

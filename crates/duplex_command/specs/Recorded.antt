@@ -197,7 +197,8 @@ module _ (p : Party → Params) (captures : Party → List Picture) where
 
   -- where the next line, which has this number, says an event of a party, that is refused; where there
   -- is none, the trace is read out, up to its first fault
-  abbrev pub IsEnd : (Party → Option Y4mFault) → Option TraceFault → ℕ → List Lettered → List LineEvent → Status → Type 0
+  abbrev pub IsEnd : (Party → Option Y4mFault) → Option TraceFault → ℕ → List Lettered → List LineEvent
+      → Status → Type 0
   IsEnd broken fault number past [] status = status ≡ read_out fault
   IsEnd broken fault number past (None ∷ lines) status = ⊥
   IsEnd broken fault number past (Some said ∷ lines) status = IsRefusedLine broken number past said.0 said.1 status

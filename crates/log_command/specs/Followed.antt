@@ -83,4 +83,5 @@ module _ {State : Type 0} (rules : LogRules State) where
     pub texts : (r : Role) → text_of run r
         ≡ head r ++ (text_after first accepted r
         ++ told run.last.status (rules.end_text (mind_after first accepted) r))
-    pub end : IsEnd (log_fault rules.side (inputs Events)) (rules.plays (mind_after first accepted)) refused run.last.status
+    pub end : IsEnd (log_fault rules.side (inputs Events))
+        (rules.plays (mind_after first accepted)) refused run.last.status

@@ -51,7 +51,8 @@ pub record OnlyAdds (old new : Cutter) : Type 0 where
 pub record IsBegun (c : Cutter) : Type 0 where
   pub header : IsHeader c.header
   pub each : All (IsTaken (kind_of c) (quant_of c)) (take c.added (boxed_slice_items c.mbs))
-  pub marked : (k : ℕ) → k < c.added → HasMarks (mb_in (boxed_slice_items c.mbs) k) (slice_index_or (boxed_slice_items c.marks) k [])
+  pub marked : (k : ℕ) → k < c.added
+      → HasMarks (mb_in (boxed_slice_items c.mbs) k) (slice_index_or (boxed_slice_items c.marks) k [])
 
 -- this picture was begun, and these are its macroblocks so far
 pub record Holds (c : Cutter) (number : ℕ) (h : Header) (mbs : List Mb) : Type 0 where

@@ -22,7 +22,8 @@ HasMarked Skip marks = Unit {0}
 HasMarked (Intra quant blocks) marks = AreMarkedIn blocks marks
 HasMarked (Inter quant vector blocks) marks = AreMarkedIn blocks marks
 
--- a value whose level's bit isn't set is 0; the first one is left out, since an intra block puts down 0 for it, marked or not
+-- a value whose level's bit isn't set is 0; the first one is left out, since an intra block puts down 0 for it,
+-- marked or not
 abbrev pub HasMarkedValues : ℕ → List ℤ → Type 0
 HasMarkedValues marks values =
     (at : ℕ) → 1 ≤ at → at < 64 → bit_at marks (zigzag_place_of at) ≡ 0 → slice_index_or values at (pos 0) ≡ pos 0
