@@ -1,0 +1,6 @@
+mod Choosing
+mod Quarters
+mod Following
+mod Earliest
+mod Dues
+mod Recovering

@@ -1,0 +1,4 @@
+pub mod Ways
+pub mod Due
+pub mod Kept
+pub mod Laws
