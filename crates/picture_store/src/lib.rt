@@ -33,7 +33,7 @@ pub struct PictureStore {
     numbers: BoxedSlice<Option<u32>>,
     region: Region,
     // those of the kept pictures first
-    slots: Vec<Slot>,
+    slots: BoxedSlice<Slot>,
 }
 
 impl Model for PictureStore {
@@ -46,11 +46,11 @@ impl Model for PictureStore {
     ghost view = { λ s. record {
       format = s.format;
       numbers = boxed_slice_items s.numbers;
-      pictures = pictures_of s.format s.region s.slots.items;
+      pictures = pictures_of s.format s.region (boxed_slice_items s.slots);
       room = room_of s.region;
     } };
 
-    ghost invariant = { λ s. IsStore s.format (boxed_slice_items s.numbers) s.region s.slots.items };
+    ghost invariant = { λ s. IsStore s.format (boxed_slice_items s.numbers) s.region (boxed_slice_items s.slots) };
 }
 
 impl PictureStore {
@@ -82,7 +82,7 @@ impl PictureStore {
                     format,
                     numbers,
                     region,
-                    slots: held,
+                    slots: held.into_boxed_slice(),
                 })
             }
             Err(e) => {
@@ -190,8 +190,9 @@ impl PictureStore {
             format: _,
             numbers: _,
             mut region,
-            mut slots,
+            slots,
         } = self;
+        let mut slots = slots.into_vec();
         for _ in 0..slots.len() {
             let slot = slots.take_last();
             region.release(slot);
