@@ -1,0 +1,47 @@
+//! Messages, alone and in a header.
+use crate::answer::{Answer, Asked, reader_of};
+use crate::stop::Stop;
+use back_messages::{MessageFault, message_bits, read, read_message, write, write_message};
+use h263_bits::{BitReader, BitWriter};
+use h263_types::Clock;
+
+// Says a message, and writes it again: its five bytes, and how many of them are meant.
+fn written(clock: Clock, bytes: &[u8], answer: &mut Answer) -> Result<(), Stop> {
+    let message = read(bytes, clock);
+    answer.say(&message)?;
+    if let Ok(message) = message {
+        let said = write(&message);
+        answer.say(&said.len)?;
+        answer.bits.put(&said.bytes, 40)?;
+    }
+    Ok(())
+}
+
+// Writes a message into a header, and reads it there.
+fn in_header(clock: Clock, bytes: &[u8], answer: &mut Answer) -> Result<(), Stop> {
+    let mut buffer = [0xff; 8];
+    let mut writer = BitWriter::new(&mut buffer);
+    if let Ok(message) = read(bytes, clock) {
+        write_message(&mut writer, &message);
+        answer.say(&message_bits(&message))?;
+    }
+    let len = writer.len();
+    answer.bits.put(&buffer, len)?;
+    let mut reader = BitReader::new(&buffer, 0, 64);
+    answer.say(&read_message(&mut reader, clock))?;
+    answer.say(&reader.at())
+}
+
+pub fn answer(call: &str, asked: &mut Asked<'_>, answer: &mut Answer) -> Result<(), Stop> {
+    let clock = asked.clock()?;
+    match call {
+        "read" => answer.say(&read(&asked.bytes, clock)),
+        "write" => written(clock, &asked.bytes, answer),
+        "in_header" => in_header(clock, &asked.bytes, answer),
+        "read_message" => answer.say(&read_message(
+            &mut reader_of(&asked.bytes, 0, asked.len),
+            clock,
+        )),
+        _ => Err(Stop::Row),
+    }
+}

@@ -1,0 +1,46 @@
+//! Headers by name.
+ghost use Rattle.std.specs.Prelude.{IfOk};
+ghost use Rattle.picture_header.specs.Ranges.{IsHeader};
+
+use crate::stop::Stop;
+use h263_types::Clock;
+use picture_header::Header;
+use test_fixtures::codec::{INTER, INTER_OF_CIF, INTRA, INTRA_OF_CIF};
+
+// The P picture of 128 x 96 whose only slice an independent encoder wrote.
+const SENT_P: Header = Header { quant: 31, ..INTER };
+
+// An I picture of 128 x 96 whose second slice the same encoder wrote.
+const SENT_I: Header = Header { quant: 12, ..INTRA };
+
+// A P picture of sub-QCIF with rounding 0 that refers to picture 255, at quantiser 31.
+const SMALL: Header = Header {
+    tr: 0,
+    rounding: 0,
+    trp: Some(255),
+    quant: 31,
+    ..INTER
+};
+
+// Picture 0 by the custom clock, whose header has ten bits more.
+const CUSTOM: Header = Header {
+    clock: Clock::Custom,
+    ..INTRA
+};
+
+/// The header with this name.
+pub fn header(name: &str) -> Result<Header, Stop>
+    ensures { IfOk result IsHeader }
+{
+    match name {
+        "intra" => Ok(INTRA),
+        "inter" => Ok(INTER),
+        "intra_of_cif" => Ok(INTRA_OF_CIF),
+        "inter_of_cif" => Ok(INTER_OF_CIF),
+        "sent_p" => Ok(SENT_P),
+        "sent_i" => Ok(SENT_I),
+        "small" => Ok(SMALL),
+        "custom" => Ok(CUSTOM),
+        _ => Err(Stop::Row),
+    }
+}

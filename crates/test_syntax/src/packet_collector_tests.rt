@@ -1,4 +1,0 @@
-//! Packets read, each fault at its place, and pieces collected.
-mod collected;
-mod faults;
-mod read;

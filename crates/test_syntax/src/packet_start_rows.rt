@@ -1,0 +1,17 @@
+//! The start of a packet.
+use crate::answer::{Answer, Asked};
+use crate::packet_collector_rows::packet;
+use crate::stop::Stop;
+use packet_start::{find_start, read_start};
+
+pub fn answer(call: &str, asked: &mut Asked<'_>, answer: &mut Answer) -> Result<(), Stop> {
+    match call {
+        "find_start" => answer.say(&find_start(&asked.bytes)),
+        "read_start" => {
+            let format = asked.format()?;
+            answer.say(&read_start(&asked.bytes, format))
+        }
+        "packet" => packet(&asked.bytes, answer),
+        _ => Err(Stop::Row),
+    }
+}

@@ -1,0 +1,64 @@
+//! Packets that are joined.
+ghost use Rattle.std.specs.Prelude.{◌≡◌, [], IfOk};
+
+use crate::answer::{Answer, Asked};
+use crate::stop::Stop;
+use h263_types::Format;
+use payload_join::Joiner;
+use std::alloc::Global;
+
+// Puts what a joiner still gives, one packet after the other. Answers how many bytes there are.
+fn drained(joiner: &mut Joiner, answer: &mut Answer) -> Result<usize, Stop>
+    ensures { IfOk result (λ _. joiner.new.left ≡ []) }
+{
+    let mut used: usize = 0;
+    while let Some(packet) = joiner.next() {
+        used = used.saturating_add(packet.len());
+        answer.bits.put(packet, u32::MAX)?;
+    }
+    Ok(used)
+}
+
+// Takes packets of so many bytes, one after the other. Says of each what becomes of it, and how many
+// bytes go out with it.
+fn take_all(
+    joiner: &mut Joiner,
+    format: Format,
+    asked: &mut Asked<'_>,
+    answer: &mut Answer,
+) -> Result<(), Stop>
+    requires { joiner.old.left ≡ [] }
+{
+    let mut from: usize = 0;
+    'words: for word in asked.words.by_ref() {
+        let to = from.saturating_add(word.parse::<usize>()?);
+        if to > asked.bytes.len() {
+            return Err(Stop::Row);
+        }
+        let took = joiner.take(&asked.bytes[from..to], format);
+        answer.say(&took)?;
+        let bytes = drained(joiner, answer)?;
+        answer.say(&bytes)?;
+        from = to;
+    }
+    if from != asked.bytes.len() {
+        return Err(Stop::Row);
+    }
+    Ok(())
+}
+
+pub fn answer(
+    alloc: Global,
+    call: &str,
+    asked: &mut Asked<'_>,
+    answer: &mut Answer,
+) -> Result<(), Stop> {
+    if call != "join" {
+        return Err(Stop::Row);
+    }
+    let format = asked.format()?;
+    let mut joiner = Joiner::start(alloc)?;
+    let taken = take_all(&mut joiner, format, asked, answer);
+    joiner.finish();
+    taken
+}

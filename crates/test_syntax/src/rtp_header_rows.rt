@@ -1,0 +1,17 @@
+//! RTP headers.
+use crate::answer::{Answer, Asked};
+use crate::stop::Stop;
+use rtp_header::{read, write};
+
+pub fn answer(call: &str, asked: &mut Asked<'_>, answer: &mut Answer) -> Result<(), Stop> {
+    match call {
+        "read" => answer.say(&read(&asked.bytes)),
+        "write" => {
+            let marker = asked.number(1)? == 1;
+            let sequence = asked.number(65_535)? as u16;
+            let timestamp = asked.number(u32::MAX)?;
+            Ok(answer.bits.put(&write(marker, sequence, timestamp), 96)?)
+        }
+        _ => Err(Stop::Row),
+    }
+}

@@ -1,0 +1,86 @@
+//! Slices that are read.
+ghost use Rattle.picture_header.specs.Ranges.{IsHeader};
+
+use crate::answer::{Answer, Asked, reader_of};
+use crate::headers::header;
+use crate::stop::Stop;
+use h263_bits::BitReader;
+use h263_types::{Block, Format, Mb, Vector};
+use picture_header::{Header, read_header};
+use slice_layer::read_slice;
+use std::fmt::Write;
+use test_fixtures::codec::head_of;
+
+/// A macroblock that no row has: where it still stands nothing was written.
+pub const UNTOUCHED: Mb = Mb::Inter {
+    quant: 30,
+    vector: Vector { x: -32, y: -32 },
+    blocks: [Block { levels: [0; 64] }; 6],
+};
+
+// Says the macroblocks that were written: each with its number, its quantiser and its vector.
+fn say_heads(mbs: &[Mb], answer: &mut Answer) -> Result<(), Stop> {
+    for (at, mb) in mbs.iter().enumerate() {
+        let (quant, vector) = head_of(mb);
+        if quant != 30 {
+            write!(answer.words, " {at}:{quant},{},{}", vector.x, vector.y)?;
+        }
+    }
+    Ok(())
+}
+
+// Says the first ten levels of the first block of each intra macroblock.
+fn say_levels(mbs: &[Mb], answer: &mut Answer) -> Result<(), Stop> {
+    for mb in mbs {
+        if let Mb::Intra { quant: _, blocks } = mb {
+            answer.say(&&blocks[0].levels[..10])?;
+        }
+    }
+    Ok(())
+}
+
+// Reads a slice, and says what it has.
+fn slice(
+    reader: &mut BitReader<'_>,
+    header: &Header,
+    begins: bool,
+    answer: &mut Answer,
+) -> Result<(), Stop>
+    requires { IsHeader header.now }
+{
+    let mut room = [UNTOUCHED; 396];
+    let mbs = &mut room[..header.format.mbs() as usize];
+    let head = read_slice(reader, header, begins, mbs);
+    answer.say(&head)?;
+    if head.is_ok() {
+        say_heads(mbs, answer)?;
+        say_levels(mbs, answer)?;
+    }
+    Ok(())
+}
+
+// The picture header, its end, and the first slice.
+fn picture(asked: &Asked<'_>, answer: &mut Answer) -> Result<(), Stop> {
+    let mut reader = reader_of(&asked.bytes, 0, asked.len);
+    let header = read_header(&mut reader, Format::SubQcif);
+    answer.say(&header)?;
+    answer.say(&reader.at())?;
+    if let Ok(header) = header {
+        return slice(&mut reader, &header, true, answer);
+    }
+    Ok(())
+}
+
+pub fn answer(call: &str, asked: &mut Asked<'_>, answer: &mut Answer) -> Result<(), Stop> {
+    if call == "picture" {
+        return picture(asked, answer);
+    }
+    let header = header(asked.word()?)?;
+    let begins = match call {
+        "first" => true,
+        "later" => false,
+        _ => return Err(Stop::Row),
+    };
+    let mut reader = reader_of(&asked.bytes, 0, asked.len);
+    slice(&mut reader, &header, begins, answer)
+}
