@@ -1,0 +1,227 @@
+/** Both ends of a video call in H.263 with acknowledged reference pictures, over RTP, in WebAssembly. */
+
+/** Whatever has its bytes in one piece, each an item of its own. It is copied before the call goes on. */
+export type Bytes = ArrayBufferView | ArrayBufferLike;
+
+export type Format = "sub-qcif" | "qcif" | "cif";
+export type Clock = "standard" | "custom";
+export type Kind = "taken" | "completed" | "late" | "early" | "repeat" | "refused";
+export type Mark = "exact" | "patched" | "held";
+export type Note = "noted" | "old" | "no message";
+export type Group = "bytes" | "other clock" | "header differs" | "missing reference" | "overlap";
+export type Distance = "intra" | "1" | "2" | "3" | "4 to 7" | "8 or more";
+export type Param =
+  "quant" | "keep" | "radius" | "limit" | "slots" | "lead" | "messages" | "format" | "clock" | "target";
+export type Status =
+  | "not started" | "started" | "other end" | "bad params" | "no memory" | "ended" | "wrong length"
+  | "bad messages" | "no packet" | "short room" | "null" | "too long" | "no start" | "other";
+
+export const FORMATS: Readonly<Record<Format, number>>;
+export const CLOCKS: Readonly<Record<Clock, number>>;
+export const HEARD: readonly Kind[];
+export const MARKS: readonly Mark[];
+export const NOTED: readonly Note[];
+export const GROUPS: readonly Group[];
+export const DISTANCES: readonly Distance[];
+export const PARAMS: readonly Param[];
+/** What a start names: a parameter, the number at which a receiver begins, or the struct's size. */
+export const FAULTS: readonly (Param | "number" | "size")[];
+/** Each status by its number; the first is "ok". */
+export const STATUS: readonly (Status | "ok")[];
+/** What a sender's packets have, and a receiver's must have. */
+export const SSRC: 0x48323633;
+export const PAYLOAD_TYPE: 96;
+
+/** A call that changed nothing. */
+export class Refused extends Error {
+  readonly name: "Refused";
+  /** Which call: "start", "code", "packet" .. */
+  readonly call: string;
+  readonly status: Status;
+  /** What more there is to say: the parameter that a start refuses. */
+  readonly detail: string;
+  /** What the status means, in a few words. */
+  readonly text: string;
+}
+
+/** A number of the header, with its name there and what it means. Equal ones are one object. */
+interface Named {
+  readonly number: number;
+  readonly name: string;
+  readonly text: string;
+}
+
+type Table<T, Names extends string> = { readonly [name in Names]: T } & {
+  /** The one of this number, null for 0. */
+  of(number: number): T | null;
+};
+
+/** Why a packet is refused. */
+export type Fault = Named;
+export const Fault: Table<Fault,
+  | "OTHER_CLOCK" | "HEADER_DIFFERS" | "MISSING_REFERENCE" | "OVERLAP" | "BYTES_ENDED" | "BYTES_BAD_CODE"
+  | "BYTES_BAD_DC" | "BYTES_BAD_LEVEL" | "BYTES_PAST_END" | "BYTES_FOUR_VECTORS" | "BYTES_BAD_VECTOR"
+  | "BYTES_MARKER" | "BYTES_ADDRESS" | "BYTES_QUANT" | "BYTES_SLICE_REFERENCE" | "BYTES_BCI" | "BYTES_EMPTY"
+  | "BYTES_TRAILING" | "BYTES_NO_START" | "BYTES_PICTURE_TYPE" | "BYTES_UFEP" | "BYTES_SOURCE_FORMAT"
+  | "BYTES_OTHER_FORMAT" | "BYTES_MODES" | "BYTES_PICTURE_KIND" | "BYTES_RESAMPLING" | "BYTES_CPM"
+  | "BYTES_DIVISOR" | "BYTES_SLICE_MODE" | "BYTES_RPSMF" | "BYTES_INTRA_REFERENCE" | "BYTES_NO_REFERENCE"
+  | "BYTES_HIGH_BITS" | "BYTES_MESSAGES" | "BYTES_MANY_MESSAGES" | "BYTES_FOLLOW_ON" | "BYTES_EXTRA_HEADER"
+  | "BYTES_NO_EXTRA_HEADER" | "BYTES_LONG" | "BYTES_SHORT" | "BYTES_VERSION" | "BYTES_PADDING"
+  | "BYTES_PAYLOAD_TYPE" | "BYTES_SOURCE">;
+
+/** Why bytes aren't a message. */
+export type MessageFault = Named;
+export const MessageFault: Table<MessageFault, "LENGTH" | "KIND" | "HIGH" | "MARKER" | "PAIR">;
+
+/** What may be changed of the defaults; the header says what each means. */
+export interface Changed {
+  quant?: number;
+  keep?: number;
+  radius?: number;
+  limit?: number;
+  slots?: number;
+  lead?: number;
+  messages?: number;
+  /** A number of CLOCKS. */
+  clock?: number;
+  target?: number;
+}
+
+/** The parameters of a call. Both ends need the same `format` and `clock`. */
+export class Params implements Required<Changed> {
+  static of(format: Format, changed?: Changed): Params;
+  quant: number;
+  keep: number;
+  radius: number;
+  limit: number;
+  slots: number;
+  lead: number;
+  messages: number;
+  /** A number of FORMATS. */
+  format: number;
+  clock: number;
+  target: number;
+}
+
+/** A picture that was coded. `reference` is the picture that it is predicted from, null for intra. */
+export interface Coded {
+  readonly number: number;
+  readonly packets: number;
+  readonly reference: number | null;
+}
+
+/** A receiver's answer to a packet. `at` is the bit of a fault of its bytes, `number` its picture's. */
+export interface Heard {
+  kind: Kind;
+  fault: Fault | null;
+  at: number;
+  /** What goes back to the sender, where it has bytes. */
+  message: Uint8Array;
+  number: number;
+}
+
+/** A picture that is shown: Y, Cb, Cr, each by rows from the top. */
+export interface Played {
+  mark: Mark;
+  /** Of playLent a view of the receiver's own, to be read until the next call of anything here. */
+  picture: Uint8Array;
+  message: Uint8Array;
+  number: number;
+  /** Null where the picture is intra, or nothing of it was taken. */
+  reference: number | null;
+}
+
+/** A sender's answer to a message. */
+export interface Reply {
+  kind: Note;
+  fault: MessageFault | null;
+}
+
+/** What a receiver has counted. */
+export interface Received {
+  packets: number;
+  bytes: number;
+  heard: Record<Kind, number>;
+  faults: Record<Group, number>;
+  played: Record<Mark, number>;
+}
+
+/** What a sender has counted. */
+export interface Sent {
+  packets: number;
+  bytes: number;
+  coded: Record<Distance, number>;
+  noted: Record<Note, number>;
+}
+
+/** What a packet says of its picture, before any end takes it. */
+export interface Start {
+  format: Format;
+  clock: Clock;
+  temporalReference: number;
+  reference: number | null;
+  /** Each is for `feedback` of one's own sender. */
+  messages: Uint8Array[];
+}
+
+/** Loads the module: from an address, or of its bytes, or compiled; by default h263rps.wasm beside the script. */
+export function load(source?: string | URL | Bytes | WebAssembly.Module): Promise<void>;
+/** Whether the engine has memories of 64 bits, without which nothing can be loaded. */
+export function hasLongMemory(): boolean;
+/** The version of the library: 10,000 times its major number and 100 times its minor one. */
+export function version(): number;
+/** How many bytes a picture has. */
+export function pictureSize(format: Format): number;
+/** What a packet says of its picture; bytes that begin as no packet are Refused. */
+export function packetStart(packet: Bytes): Start;
+/** An RTP packet with another SSRC and payload type, as a new one. */
+export function label(packet: Bytes, ssrc: number, payloadType: number): Uint8Array;
+
+/** An end between its start and its close. */
+declare class Started {
+  /** Gives the memory back. A second one does nothing. */
+  close(): void;
+}
+
+/** The end that codes pictures into packets, and hears the other side's messages. */
+export class Sender extends Started {
+  constructor(params: Params);
+  /** Codes the next picture, with up to four messages in its header. */
+  code(picture: Bytes, messages?: Iterable<Bytes>): Coded;
+  /** A packet of the picture that was coded last. */
+  packet(number: number): Uint8Array;
+  /** The packets of the picture that was coded last; of an older one they are gone. */
+  packets(coded: Coded): Uint8Array[];
+  /** Takes a message of the other side. */
+  feedback(message: Bytes): Reply;
+  /** Follows this many bytes a picture from the next picture on, or none where it is 0. */
+  target(size: number): void;
+  /** Takes no earlier picture as a reference again: the next one is intra. */
+  forget(): void;
+  /** Begins a call anew, with this target. */
+  reset(target: number): void;
+  /** How many pictures were coded: the number of the next one. */
+  sent(): number;
+  /** How many pictures it knows to be complete on the other side, of those to which its next one may refer. */
+  known(): number;
+  statistics(): Sent;
+}
+
+/** The end that hears packets and plays a picture at each picture's time. */
+export class Receiver extends Started {
+  /** A receiver whose next picture is the one of this number, up to 1,048,576. */
+  constructor(params: Params, number?: number);
+  /** Takes a whole RTP packet, whatever it is. */
+  packet(packet: Bytes): Heard;
+  /** Plays the next picture, and gives a copy of it. */
+  play(): Played;
+  /** Plays the next picture, and lends it: a view to be read, and not written, until the next call. */
+  playLent(): Played;
+  /** Lends the picture that is shown, in the same way. */
+  shown(): Uint8Array;
+  /** Begins a call anew at the picture of this number. */
+  reset(number?: number): void;
+  /** How many pictures were played, those before its start too: the number of the next one. */
+  played(): number;
+  statistics(): Received;
+}

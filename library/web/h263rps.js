@@ -1,0 +1,430 @@
+/**
+ * Both ends of a video call in H.263 with acknowledged reference pictures, over RTP: the proved
+ * library as WebAssembly. docs/LIBRARY.md, "In JavaScript", is the guide, and h263rps.d.ts has the
+ * types. Needs 64-bit memory: Chrome and Edge 133, Firefox 134, Node 24 (or 20 with
+ * --experimental-wasm-memory64).
+ *
+ *     await load();
+ *     const sender = new Sender(Params.of("qcif", { target: 1800 }));
+ *     const coded = sender.code(picture);
+ *     for (const packet of sender.packets(coded)) ...
+ *     const reply = sender.feedback(message);
+ *
+ *     const receiver = new Receiver(Params.of("qcif"));
+ *     const heard = receiver.packet(packet);   // heard.message goes back where it has bytes
+ *     const played = receiver.playLent();      // played.picture, played.mark, played.message
+ *
+ * A picture that is lent is a view of the receiver's own, good until the next call of anything here:
+ * read it, and don't write it. All else that a call gives is the caller's.
+ * @module
+ */
+
+import { Memory, SIZE, bytesOf, counted } from "./memory.js";
+import {
+  CLOCKS, DISTANCES, FAULTS, FORMATS, Fault, GROUPS, HEARD, MARKS, MessageFault, NOTED, PARAMS, Refused, STATUS,
+} from "./words.js";
+
+export { CLOCKS, DISTANCES, FAULTS, FORMATS, Fault, GROUPS, HEARD, MARKS, MessageFault, NOTED, PARAMS, Refused, STATUS };
+
+/** What a sender's packets have, and a receiver's must have. */
+export const SSRC = 0x48323633;
+export const PAYLOAD_TYPE = 96;
+
+/** The shortest RTP packet: its header. */
+const RTP_HEADER = 12;
+/** The most messages of a picture's header. */
+const HEADER_MESSAGES = 4;
+/** The longest message, after which its struct has its length. */
+const MESSAGE = 5;
+
+// ---- the module -------------------------------------------------------------------------------
+
+/** The instance that all ends share, once it is loaded. */
+let memory = null;
+
+/**
+ * Loads the module, which everything else needs. `source` is where it is, or its bytes, or what was
+ * compiled of them; by default the h263rps.wasm beside this file. A second call does nothing, unless
+ * a call was broken off.
+ */
+export async function load(source = new URL("h263rps.wasm", import.meta.url)) {
+  if (memory && !memory.isLost) return;
+  const module = source instanceof WebAssembly.Module ? source : await compiled(source);
+  memory = new Memory(await WebAssembly.instantiate(module, {}));
+}
+
+/** The module of bytes, or of what lies at an address. */
+async function compiled(source) {
+  const isPlace = typeof source === "string" || source instanceof URL;
+  try {
+    return await WebAssembly.compile(isPlace ? await read(source) : bytesOf("source", source));
+  } catch (fault) {
+    if (fault instanceof WebAssembly.CompileError && !hasLongMemory()) {
+      throw new Error("this engine has no 64-bit WebAssembly memory: Chrome or Edge 133, Firefox 134 or Node 24 do", { cause: fault });
+    }
+    throw fault;
+  }
+}
+
+/** Whether the engine has memories of 64 bits: a module with nothing but one tells. */
+export function hasLongMemory() {
+  return WebAssembly.validate(new Uint8Array([0, 97, 115, 109, 1, 0, 0, 0, 5, 3, 1, 4, 0]));
+}
+
+async function read(place) {
+  const isFile = String(place).startsWith("file:");
+  if (isFile && globalThis.process?.versions?.node) {
+    const { readFile } = await import("node:fs/promises");
+    return readFile(new URL(place));
+  }
+  const answer = await fetch(place);
+  if (!answer.ok) throw new Error(`${place}: ${answer.status} ${answer.statusText}`);
+  return answer.arrayBuffer();
+}
+
+function loaded() {
+  if (!memory) throw new Error("the module isn't loaded: await load() first");
+  return memory;
+}
+
+// ---- before the start -------------------------------------------------------------------------
+
+/** Refuses a call whose answer isn't 0. A newer library may have more refusals. */
+function must(call, status, detail) {
+  if (status) throw new Refused(call, STATUS[status] ?? "other", detail);
+}
+
+function formatNumber(format) {
+  if (!Object.hasOwn(FORMATS, format)) throw new RangeError(`there is no format ${String(format)}`);
+  return FORMATS[format];
+}
+
+/** The word of a number: of a format or a clock. */
+function wordOf(table, number) {
+  return Object.keys(table).find((word) => table[word] === number);
+}
+
+/** Where each parameter stands in its struct, and how many bits it has. */
+const PLACES = Object.freeze({
+  format: [4, 32], quant: [8, 8], keep: [9, 8], radius: [10, 8], messages: [11, 8],
+  limit: [12, 32], slots: [16, 32], lead: [20, 32], clock: [24, 32], target: [28, 32],
+});
+
+/**
+ * The parameters of a call; the header says what each means. Both ends need the same `format` and
+ * `clock`, and a receiver's `slots - lead` is at least its sender's.
+ */
+export class Params {
+  #values = {};
+
+  constructor() {
+    Object.seal(this);
+  }
+
+  /** The defaults, with what is changed: Params.of("cif", { target: 9000 }). */
+  static of(format, changed = {}) {
+    const { structRoom: at } = loaded();
+    must("defaults", memory.call("defaults", formatNumber(format), BigInt(at)));
+    const params = new Params();
+    for (const name of PARAMS) params[name] = Params.#read(at, name);
+    for (const [name, value] of Object.entries(changed)) {
+      if (!PARAMS.includes(name) || name === "format") throw new TypeError(`there is no parameter ${name} to change`);
+      if (value !== undefined) params[name] = value;
+    }
+    return params;
+  }
+
+  static #read(at, name) {
+    const [place, bits] = PLACES[name];
+    return bits === 8 ? memory.bytes[at + place] : memory.number(at + place);
+  }
+
+  /** Puts the parameters at a place in memory. */
+  static write(params, at) {
+    if (!(params instanceof Params)) throw new TypeError("params: Params are wanted, as Params.of gives them");
+    memory.setNumber(at, SIZE.params);
+    for (const name of PARAMS) {
+      const [place, bits] = PLACES[name];
+      if (bits === 8) memory.bytes[at + place] = params[name];
+      else memory.setNumber(at + place, params[name]);
+    }
+  }
+
+  static {
+    for (const name of PARAMS) {
+      const most = 2 ** PLACES[name][1] - 1;
+      Object.defineProperty(Params.prototype, name, {
+        enumerable: true,
+        get() {
+          return this.#values[name];
+        },
+        set(value) {
+          if (counted(name, value) > most) throw new RangeError(`${name}: ${value} is out of its range`);
+          this.#values[name] = value;
+        },
+      });
+    }
+  }
+}
+
+/** The version of the library: 10,000 times its major number and 100 times its minor one. */
+export function version() {
+  return loaded().call("version");
+}
+
+/** How many bytes a picture has. */
+export function pictureSize(format) {
+  return loaded().call("picture_size", formatNumber(format));
+}
+
+/**
+ * An RTP packet with another SSRC and payload type, as a new one. A sender writes SSRC and
+ * PAYLOAD_TYPE; a receiver takes no others.
+ */
+export function label(packet, ssrc, payloadType) {
+  const text = bytesOf("packet", packet).slice();
+  if (text.length < RTP_HEADER) throw new Refused("label", "wrong length");
+  if (counted("payloadType", payloadType) > 127) throw new RangeError(`payloadType: ${payloadType} is out of its range`);
+  text[1] = (text[1] & 0x80) | payloadType;
+  new DataView(text.buffer).setUint32(8, counted("ssrc", ssrc));
+  return text;
+}
+
+/** What a whole RTP packet says of its picture; bytes that begin as no packet are Refused. */
+export function packetStart(packet) {
+  const { answerRoom: to } = loaded();
+  const call = (at, size) => memory.call("packet_start", at, size, BigInt(to));
+  must("packet start", memory.passed(bytesOf("packet", packet), call));
+  const [format, clock, temporalReference, isIntra, reference, count] = memory.numbers(to, 6);
+  return {
+    format: wordOf(FORMATS, format),
+    clock: wordOf(CLOCKS, clock),
+    temporalReference,
+    reference: isIntra ? null : reference,
+    messages: Array.from({ length: count }, (_, n) => memory.message(to + 24 + SIZE.message * n)),
+  };
+}
+
+// ---- both ends --------------------------------------------------------------------------------
+
+/** Gives back what an end took that nobody closed, once nobody has it any more. */
+const unclosed = new FinalizationRegistry((held) => held.finish());
+
+/** What an end has in memory. It is apart from the end, so that it can be given back without it. */
+class Held {
+  constructor(name) {
+    this.name = name;
+    this.memory = memory;
+    this.at = memory.taken(SIZE.end, "start");
+    memory.bytes.fill(0, this.at, this.at + SIZE.end);
+  }
+
+  /** Ends the end, where it began, and gives all back. A second one does nothing. */
+  finish() {
+    if (!this.at || this.memory.isLost) return;
+    if (this.memory.number(this.at)) this.memory.call(`${this.name}_finish`, BigInt(this.at));
+    this.memory.giveBack(this.at);
+    this.at = 0;
+  }
+}
+
+/** An end between its start and its close. */
+class Started {
+  #held;
+
+  /** `at` are words between the parameters and the fault. */
+  constructor(name, start, params, ...at) {
+    const { structRoom: words, answerRoom: fault } = loaded();
+    Params.write(params, words);
+    this.#held = new Held(name);
+    memory.setNumber(fault, 0);
+    const status = memory.call(`${name}_${start}`, BigInt(this.#held.at), BigInt(words), ...at, BigInt(fault));
+    if (status) {
+      const detail = FAULTS[memory.number(fault) - 1];
+      this.#held.finish();
+      must("start", status, detail);
+    }
+    unclosed.register(this, this.#held, this);
+  }
+
+  /** Calls a function of this end; a refusal is thrown under the call's own name. */
+  _must(call, name, ...words) {
+    if (!this.#held.at) throw new Refused(call, "not started");
+    must(call, this.#held.memory.call(`${this.#held.name}_${name}`, BigInt(this.#held.at), ...words));
+  }
+
+  _count(name) {
+    this._must(name, name, BigInt(memory.answerRoom));
+    return memory.number(memory.answerRoom);
+  }
+
+  /** Its counts, the first of which stands at this place among them, by words. */
+  _counted() {
+    const { answerRoom: at } = memory;
+    this._must("statistics", "statistics", BigInt(at));
+    const long = (place) => memory.long(at + 8 * place);
+    const by = (words, first) => Object.fromEntries(words.map((word, n) => [word, long(first + n)]));
+    return { packets: long(0), bytes: long(1), by };
+  }
+
+  /** Gives the memory back. A second one does nothing. */
+  close() {
+    unclosed.unregister(this);
+    this.#held.finish();
+  }
+}
+
+if (Symbol.dispose) {
+  Started.prototype[Symbol.dispose] = Started.prototype.close;
+}
+
+// ---- the sender -------------------------------------------------------------------------------
+
+/** The end that codes pictures into packets, and hears the other side's messages. */
+export class Sender extends Started {
+  #limit;
+  // The picture that was coded last, itself: after a reset another one has its number.
+  #last = null;
+
+  constructor(params) {
+    super("sender", "start", params);
+    this.#limit = params.limit;
+    memory.reserve(Math.max(this.#limit, memory.call("picture_size", params.format)));
+  }
+
+  /** Codes the next picture, with up to four messages in its header. */
+  code(picture, messages = []) {
+    const samples = bytesOf("picture", picture);
+    const { structRoom: back, answerRoom: to } = memory;
+    const count = writeMessages(Array.from(messages, (message) => bytesOf("message", message)));
+    memory.passed(samples, (at, size) => this._must("code", "code", at, size, BigInt(back), BigInt(count), BigInt(to)));
+    const [number, packets, isIntra, reference] = memory.numbers(to, 4);
+    this.#last = Object.freeze({ number, packets, reference: isIntra ? null : reference });
+    return this.#last;
+  }
+
+  /** A packet of the picture that was coded last. */
+  packet(number) {
+    const { room, answerRoom: at } = memory;
+    this._must("packet", "packet", counted("number", number), BigInt(room), BigInt(this.#limit), BigInt(at));
+    return memory.copied(room, memory.long(at));
+  }
+
+  /** The packets of the picture that was coded last; of an older one they are gone. */
+  packets(coded) {
+    if (coded === null || coded !== this.#last) {
+      throw new Refused("packets", "no packet", `picture ${coded?.number} isn't the last one`);
+    }
+    return Array.from({ length: coded.packets }, (_, number) => this.packet(number));
+  }
+
+  /** Takes a message of the other side. */
+  feedback(message) {
+    const { answerRoom: to } = memory;
+    memory.passed(bytesOf("message", message), (at, size) => this._must("feedback", "feedback", at, size, BigInt(to)));
+    return { kind: NOTED[memory.number(to)], fault: MessageFault.of(memory.number(to + 4)) };
+  }
+
+  /** Follows this many bytes a picture from the next picture on, or none where it is 0. */
+  target(size) {
+    this._must("target", "target", counted("target", size));
+  }
+
+  /** Takes no earlier picture as a reference again: the next one is intra. */
+  forget() {
+    this._must("forget", "forget");
+  }
+
+  /** Begins a call anew, with this target: as after its start, with no picture coded and nothing counted. */
+  reset(target) {
+    this._must("reset", "reset", counted("target", target));
+    this.#last = null;
+  }
+
+  /** How many pictures were coded: the number of the next one. */
+  sent() {
+    return this._count("sent");
+  }
+
+  /** How many pictures it knows to be complete on the other side, of those to which its next picture may refer. */
+  known() {
+    return this._count("known");
+  }
+
+  /** What it has counted since its start or reset. */
+  statistics() {
+    const { packets, bytes, by } = this._counted();
+    return { packets, bytes, coded: by(DISTANCES, 16), noted: by(NOTED, 22) };
+  }
+}
+
+/** Puts messages where the next call finds them, and answers how many it finds: too many are one too many. */
+function writeMessages(messages) {
+  const count = Math.min(messages.length, HEADER_MESSAGES + 1);
+  for (let n = 0; n < count; n++) {
+    const at = memory.structRoom + SIZE.message * n;
+    memory.bytes.fill(0, at, at + SIZE.message).set(messages[n].subarray(0, MESSAGE), at);
+    memory.bytes[at + MESSAGE] = Math.min(messages[n].length, 255);
+  }
+  return count;
+}
+
+// ---- the receiver -----------------------------------------------------------------------------
+
+/** The end that hears packets and plays a picture at each picture's time. */
+export class Receiver extends Started {
+  #size;
+
+  /** A receiver whose next picture is the one of this number, up to 1,048,576. */
+  constructor(params, number = 0) {
+    super("receiver", "start_at", params, counted("number", number));
+    this.#size = memory.call("picture_size", params.format);
+  }
+
+  /** Takes a whole RTP packet, whatever it is. */
+  packet(packet) {
+    const { answerRoom: to } = memory;
+    memory.passed(bytesOf("packet", packet), (at, size) => this._must("packet", "packet", at, size, BigInt(to)));
+    const [kind, fault, at, number] = memory.numbers(to, 4);
+    return { kind: HEARD[kind], fault: Fault.of(fault), at, message: memory.message(to + 24), number };
+  }
+
+  /** Plays the next picture, and gives a copy of it. */
+  play() {
+    const played = this.playLent();
+    return { ...played, picture: played.picture.slice() };
+  }
+
+  /** Plays the next picture, and lends it where `play` copies it: a view that is good until the next call. */
+  playLent() {
+    const { answerRoom: at } = memory;
+    this._must("play", "next", BigInt(at));
+    const [kind, , , number, isPredicted, reference] = memory.numbers(at, 6);
+    const message = memory.message(at + 24);
+    return { mark: MARKS[kind], picture: this.shown(), message, number, reference: isPredicted ? reference : null };
+  }
+
+  /** Lends the picture that is shown: a view to be read until the next call. */
+  shown() {
+    const { answerRoom: at } = memory;
+    this._must("shown", "shown", BigInt(at));
+    const from = memory.long(at);
+    return memory.bytes.subarray(from, from + this.#size);
+  }
+
+  /** Begins a call anew at the picture of this number: as after its start, with nothing heard and nothing counted. */
+  reset(number = 0) {
+    this._must("reset", "reset", counted("number", number));
+  }
+
+  /** How many pictures were played, those before its start too: the number of the next one. */
+  played() {
+    return this._count("played");
+  }
+
+  /** What it has counted since its start or reset. */
+  statistics() {
+    const { packets, bytes, by } = this._counted();
+    return { packets, bytes, heard: by(HEARD, 2), faults: by(GROUPS, 8), played: by(MARKS, 13) };
+  }
+}

@@ -1,0 +1,149 @@
+#!/usr/bin/env python3
+"""run.py SCRIPT: carries out a script of scripts.py on the native library, and prints each answer."""
+
+import hashlib
+import json
+import re
+import sys
+from pathlib import Path
+
+sys.path[:0] = [str(Path(__file__).resolve().parents[2])]
+from h263rps import Params, Receiver, Refused, Sender, packet_start  # noqa: E402
+
+
+def sum_of(*parts: bytes) -> str:
+    """Of parts whose lengths count, too."""
+    sum = hashlib.sha256()
+    for part in parts:
+        sum.update(len(part).to_bytes(4, "big") + part)
+    return sum.hexdigest()[:16]
+
+
+def frames_of(path: str) -> list[bytes]:
+    data = Path(path).read_bytes()
+    head, _, rest = data.partition(b"\n")
+    width, height = (int(re.search(rb" %c(\d+)" % letter, head)[1]) for letter in b"WH")
+    size = width * height * 3 // 2
+    return [rest[at + 6 : at + 6 + size] for at in range(0, len(rest), size + 6)]
+
+
+def edited(packet: bytes, edits: list[str]) -> bytes:
+    made = bytearray(packet)
+    for edit in edits:
+        kind, word = edit.split(":")
+        if kind == "a":
+            made += bytes.fromhex(word)
+        elif kind == "c":
+            del made[int(word) % (len(made) + 1) :]
+        elif made:
+            bit = int(word) % (8 * (min(len(made), 16) if kind == "h" else len(made)))
+            made[bit // 8] ^= 128 >> bit % 8
+    return bytes(made)
+
+
+def or_none(number: object) -> object:
+    return "none" if number is None else number
+
+
+class Run:
+    def __init__(self) -> None:
+        self.frames: list[bytes] = []
+        self.coded = 0
+        self.packets: list[list[bytes]] = []
+        self.said: list[bytes] = []
+
+    def step(self, line: str) -> None:
+        name, _, rest = line.partition(" ")
+        getattr(self, f"do_{name}")(rest)
+
+    def do_sender(self, rest: str) -> None:
+        params = json.loads(rest)
+        self.sender = Sender(Params.of(params.pop("format"), **params))
+
+    def do_receiver(self, rest: str) -> None:
+        params = json.loads(rest)
+        number = params.pop("number", 0)
+        self.receiver = Receiver(Params.of(params.pop("format"), **params), number)
+
+    def do_video(self, path: str) -> None:
+        self.frames = frames_of(path)
+
+    def do_code(self, rest: str) -> None:
+        back = [self.said[int(word) % len(self.said)] for word in rest.split() if self.said]
+        coded = self.sender.code(self.frames[self.coded % len(self.frames)], back)
+        self.coded += 1
+        self.packets.append(self.sender.packets(coded))
+        print("coded", coded.number, coded.packets, or_none(coded.reference), sum_of(*self.packets[-1]))
+
+    def hear(self, packet: bytes) -> None:
+        try:
+            start = packet_start(packet)
+            back = ",".join(message.hex() for message in start.messages)
+            print("start", start.format, start.clock, start.temporal_reference, or_none(start.reference), back)
+        except Refused as fault:
+            print(fault)
+        heard = self.receiver.packet(packet)
+        print("heard", heard.kind, int(heard.fault), heard.at, heard.number, heard.message.hex())
+        self.keep(heard.message)
+
+    def keep(self, message: bytes) -> None:
+        if message:
+            self.said.append(message)
+
+    def do_hear(self, rest: str) -> None:
+        picture, place = rest.split(".")
+        packets = self.packets[int(picture) % len(self.packets)]
+        for packet in packets if place == "*" else packets[int(place) : int(place) + 1]:
+            self.hear(packet)
+
+    def do_changed(self, rest: str) -> None:
+        draw, *edits = rest.split()
+        packets = self.packets[-1]
+        self.hear(edited(packets[int(draw) % len(packets)], edits))
+
+    def do_bytes(self, rest: str) -> None:
+        self.hear(bytes.fromhex(rest))
+
+    def do_play(self, _: str) -> None:
+        played = self.receiver.play()
+        print("played", played.mark, played.number, or_none(played.reference), played.message.hex(), sum_of(played.picture))
+        self.keep(played.message)
+
+    def do_back(self, rest: str) -> None:
+        self.reply(self.said[int(rest)])
+
+    def do_last(self, rest: str) -> None:
+        if self.said:
+            self.reply(self.said[-1 - int(rest) % len(self.said)])
+
+    def do_reply(self, rest: str) -> None:
+        self.reply(bytes.fromhex(rest))
+
+    def reply(self, message: bytes) -> None:
+        reply = self.sender.feedback(message)
+        print("noted", reply.kind, int(reply.fault), self.sender.known())
+
+    def do_target(self, rest: str) -> None:
+        self.sender.target(int(rest))
+
+    def do_forget(self, _: str) -> None:
+        self.sender.forget()
+
+    def do_reset(self, rest: str) -> None:
+        self.counts()
+        self.sender.reset(int(rest))
+        self.receiver.reset()
+        self.packets.clear()
+
+    def counts(self) -> None:
+        for counted in (self.sender.statistics(), self.receiver.statistics()):
+            counts = [value if isinstance(value, dict) else {"": value} for value in counted]
+            print("counted", *(number for count in counts for number in count.values()))
+
+
+if __name__ == "__main__":
+    run = Run()
+    with open(sys.argv[1]) as script:
+        for step in script:
+            run.step(step.rstrip("\n"))
+    run.counts()

@@ -1,0 +1,36 @@
+/* What TypeScript takes and refuses of the module's types: tsc --noEmit. */
+
+import { Fault, Params, Receiver, Refused, Sender, hasLongMemory, label, load, packetStart, pictureSize } from "../h263rps.js";
+import type { Coded, Format, Mark } from "../h263rps.js";
+
+export async function call(pictures: Iterable<Uint8Array>, format: Format): Promise<Record<Mark, number>> {
+  if (!hasLongMemory()) throw new Error("no 64-bit memory");
+  await load(new URL("h263rps.wasm", "file:///"));
+  const sender = new Sender(Params.of(format, { target: 1800 }));
+  const receiver = new Receiver(Params.of(format), 0);
+  for (const picture of pictures) {
+    const coded: Coded = sender.code(picture, []);
+    for (const packet of sender.packets(coded)) {
+      const heard = receiver.packet(label(packet, 1, 96));
+      if (heard.fault === Fault.BYTES_SHORT) console.log(heard.fault.text, heard.at, packetStart(packet.buffer).format);
+      if (heard.message.length) sender.feedback(heard.message);
+    }
+    const { picture: shown, reference } = receiver.playLent();
+    if (reference !== null && shown.length !== pictureSize(format)) throw new RangeError();
+  }
+  try {
+    sender.target(-1);
+  } catch (fault) {
+    if (fault instanceof Refused && fault.status === "bad params") console.log(fault.detail);
+  }
+  return receiver.statistics().played;
+}
+
+// @ts-expect-error: there is no such format
+Params.of("vga");
+// @ts-expect-error: there is no such parameter
+Params.of("cif", { slot: 9 });
+// @ts-expect-error: a sender takes no packets
+new Sender(Params.of("cif")).packet(new Uint8Array(9));
+// @ts-expect-error: there is no such fault
+Fault.BYTES_OFF;

@@ -1,0 +1,211 @@
+#!/usr/bin/env node
+/* wrong.mjs: wrong calls of the module for JavaScript: each is an exception that names what is wrong, and never a trap. */
+
+import { Params, PAYLOAD_TYPE, Receiver, SSRC, Sender, label, load, packetStart, pictureSize, version } from "../h263rps.js";
+
+/** The acknowledgement of picture 0. */
+const ACK = new Uint8Array([0xc0, 0x04, 0x00]);
+const QCIF = 38016;
+const bytes = (length, value = 0) => new Uint8Array(length).fill(value);
+
+function wanted(told, call) {
+  let is;
+  try {
+    is = JSON.stringify(call());
+  } catch (fault) {
+    if (fault instanceof WebAssembly.RuntimeError) throw fault;
+    is = `${fault.name}: ${fault.message}`;
+  }
+  if (is !== told) {
+    console.error(`${is}, and not ${told}`);
+    process.exitCode = 1;
+  }
+}
+
+/** What is done with a sender and a receiver of QCIF. */
+function withEnds(act) {
+  const ends = [new Sender(Params.of("qcif")), new Receiver(Params.of("qcif"))];
+  act(...ends);
+  ends.forEach((end) => end.close());
+}
+
+/** The module's instance, which only this test looks into. */
+let instance;
+const { instantiate } = WebAssembly;
+WebAssembly.instantiate = async (...words) => (instance = await instantiate(...words));
+
+wanted("Error: the module isn't loaded: await load() first", () => Params.of("qcif"));
+wanted("Error: the module isn't loaded: await load() first", version);
+await load(process.env.H263RPS_MODULE ? new URL(process.env.H263RPS_MODULE, "file:") : undefined);
+
+// Parameters.
+wanted("Refused: start: bad params: slots", () => new Sender(Params.of("qcif", { slots: 65 })));
+wanted("RangeError: quant: 264 is out of its range", () => Params.of("qcif", { quant: 264 }));
+wanted("RangeError: lead: -1 is out of its range", () => Params.of("qcif", { lead: -1 }));
+wanted("TypeError: lead: a whole number is wanted", () => Params.of("qcif", { lead: 1.5 }));
+wanted("TypeError: lead: a whole number is wanted", () => Params.of("qcif", { lead: "3" }));
+wanted("RangeError: there is no format vga", () => Params.of("vga"));
+wanted("RangeError: there is no format toString", () => pictureSize("toString"));
+wanted("RangeError: there is no format Symbol(qcif)", () => pictureSize(Symbol("qcif")));
+wanted("TypeError: there is no parameter slot to change", () => Params.of("qcif", { slot: 9 }));
+wanted("TypeError: Cannot add property slot, object is not extensible", () => { Params.of("qcif").slot = 9; });
+wanted("TypeError: params: Params are wanted, as Params.of gives them", () => new Sender({ format: 2 }));
+wanted("TypeError: params: Params are wanted, as Params.of gives them", () => new Receiver());
+wanted("Refused: start: bad params: format", () => new Sender(new Params()));
+wanted("Refused: start: bad params: number", () => new Receiver(Params.of("qcif"), 1048577));
+wanted("RangeError: number: -1 is out of its range", () => new Receiver(Params.of("qcif"), -1));
+wanted("TypeError: number: a whole number is wanted", () => new Receiver(Params.of("qcif"), 1n));
+
+// Bytes of all kinds, and what is none.
+wanted("Refused: packet start: no start", () => packetStart(Buffer.from("abc")));
+wanted("Refused: packet start: no start", () => packetStart(bytes(100000)));
+wanted("TypeError: packet: bytes are wanted: a Uint8Array, an ArrayBuffer or a view of one", () => packetStart("abc"));
+wanted("TypeError: packet: bytes are wanted: a Uint8Array, an ArrayBuffer or a view of one", () => packetStart([1, 2]));
+wanted("TypeError: packet: bytes are wanted: a Uint8Array, an ArrayBuffer or a view of one", () => packetStart(null));
+wanted("TypeError: packet: bytes are wanted, and not items of 2 bytes", () => packetStart(new Uint16Array(9)));
+
+withEnds((sender, receiver) => {
+  wanted("Refused: code: wrong length", () => sender.code(bytes(3)));
+  wanted("Refused: code: wrong length", () => sender.code(bytes(1 << 20)));
+  wanted("Refused: code: bad messages", () => sender.code(bytes(QCIF), [bytes(6)]));
+  wanted("Refused: code: bad messages", () => sender.code(bytes(QCIF), [bytes(256)]));
+  for (const length of [1, 2, 4, 5]) {
+    const message = new Uint8Array(length);
+    message.set(ACK.subarray(0, length));
+    wanted("Refused: code: bad messages", () => sender.code(bytes(QCIF), [bytes(0), message]));
+  }
+  wanted("Refused: code: bad messages", () => sender.code(bytes(QCIF), Array(5).fill(bytes(0))));
+  wanted("Refused: code: bad messages", () => sender.code(bytes(QCIF), Array(1000).fill(ACK)));
+  wanted("TypeError: message: bytes are wanted: a Uint8Array, an ArrayBuffer or a view of one", () => sender.code(bytes(QCIF), [3]));
+  wanted("TypeError: number 3 is not iterable (cannot read property Symbol(Symbol.iterator))", () => sender.code(bytes(QCIF), new Set(3)));
+  wanted("Refused: packet: no packet", () => sender.packet(0));
+  wanted("TypeError: number: a whole number is wanted", () => sender.packet());
+  wanted("Refused: packets: no packet: picture undefined isn't the last one", () => sender.packets(null));
+  wanted("Refused: target: bad params", () => sender.target(1000000));
+  wanted("RangeError: target: 4294967296 is out of its range", () => sender.target(2 ** 32));
+  wanted("TypeError: target: a whole number is wanted", () => sender.target(NaN));
+  wanted("Refused: reset: bad params", () => sender.reset(1000000));
+  wanted("Refused: reset: bad params", () => receiver.reset(1048577));
+  wanted("RangeError: number: -1 is out of its range", () => receiver.reset(-1));
+  wanted("[0,0,0]", () => [sender.sent(), sender.known(), receiver.played()]);
+  wanted('{"kind":"no message","fault":{"number":1,"name":"LENGTH","text":"neither three bytes nor five, as it says itself"}}',
+    () => sender.feedback(bytes(0)));
+  wanted("1", () => sender.statistics().noted["no message"]);
+  wanted('["refused","BYTES_SHORT",0]', () => {
+    const { kind, fault, at } = receiver.packet(new ArrayBuffer(0));
+    return [kind, fault.name, at];
+  });
+  wanted('["held",0,null,38016,128]', () => {
+    const { mark, number, reference, picture } = receiver.playLent();
+    return [mark, number, reference, picture.length, picture.at(-1)];
+  });
+  wanted("true", () => Buffer.from(receiver.play().picture).equals(Buffer.from(receiver.shown())));
+});
+
+// Ends that are closed, or were never begun.
+withEnds((sender, receiver) => {
+  sender.close();
+  receiver.close();
+  sender.close();
+  wanted("Refused: code: not started", () => sender.code(bytes(QCIF)));
+  wanted("Refused: forget: not started", () => sender.forget());
+  wanted("Refused: packet: not started", () => sender.packet(0));
+  wanted("Refused: statistics: not started", () => sender.statistics());
+  wanted("Refused: shown: not started", () => receiver.shown());
+  wanted("Refused: play: not started", () => receiver.play());
+  wanted("Refused: packet: not started", () => receiver.packet(bytes(12)));
+  wanted("TypeError: Receiver.prototype.shown.call(...) is not an end", () => {
+    try {
+      return Receiver.prototype.shown.call({});
+    } catch (fault) {
+      throw fault instanceof TypeError ? new TypeError("Receiver.prototype.shown.call(...) is not an end") : fault;
+    }
+  });
+});
+wanted("Refused: play: ended", () => new Receiver(Params.of("qcif"), 1048576).play());
+
+// A header has the messages of the places that aren't empty; a picture before the last one has no packets any more.
+withEnds((sender) => {
+  const [plain, empty, one] = [[], [bytes(0)], [bytes(0), ACK, bytes(0)]].map((back) => {
+    sender.forget();
+    return sender.packets(sender.code(bytes(QCIF), back))[0].length;
+  });
+  wanted("[true,true]", () => [plain === empty, empty < one]);
+  const first = sender.code(bytes(QCIF));
+  const second = sender.code(bytes(QCIF));
+  wanted("Refused: packets: no packet: picture 3 isn't the last one", () => sender.packets(first));
+  wanted("true", () => sender.packets(second).length === second.packets);
+  sender.reset(0);
+  wanted("Refused: packets: no packet: picture 4 isn't the last one", () => sender.packets(second));
+});
+
+// Another SSRC and payload type, and back.
+withEnds((sender, receiver) => {
+  const [packet] = sender.packets(sender.code(bytes(QCIF)));
+  const other = label(packet, 1, 127);
+  wanted("[127,\"refused\"]", () => [other[1] & 127, receiver.packet(other).kind]);
+  wanted("true", () => Buffer.from(label(other, SSRC, PAYLOAD_TYPE)).equals(Buffer.from(packet)));
+  wanted('"completed"', () => receiver.packet(label(other, SSRC, PAYLOAD_TYPE)).kind);
+  wanted("Refused: label: wrong length", () => label(packet.slice(0, 11), 1, 127));
+  wanted("RangeError: payloadType: 128 is out of its range", () => label(packet, 1, 128));
+  wanted("RangeError: ssrc: -1 is out of its range", () => label(packet, -1, 96));
+});
+
+// The module's own memory as what is handed over: a picture that is lent, and a packet longer than any.
+withEnds((sender, receiver) => {
+  wanted("0", () => sender.code(receiver.shown()).number);
+  wanted('"BYTES_LONG"', () => receiver.packet(new Uint8Array(receiver.shown().buffer)).fault.name);
+});
+
+// Bytes of what several threads share.
+withEnds((sender) => wanted("0", () => sender.code(new Uint8Array(new SharedArrayBuffer(QCIF))).number));
+
+// A call that the engine breaks off, for want of stack: no end of that module is called again, and a new one serves.
+withEnds((sender) => {
+  const deep = () => {
+    sender.known();
+    deep();
+  };
+  try {
+    deep();
+  } catch (fault) {
+    if (!(fault instanceof RangeError) && !/broken off/.test(fault.message)) throw fault;
+  }
+});
+await load(process.env.H263RPS_MODULE ? new URL(process.env.H263RPS_MODULE, "file:") : undefined);
+withEnds((sender) => wanted("0", () => sender.code(bytes(QCIF)).number));
+
+// Ends that are started and finished again and again take no more memory than those that are open at once.
+const sizes = { "sub-qcif": 18432, qcif: QCIF, cif: 152064 };
+const size = (receiver) => receiver.shown().buffer.byteLength;
+let most = 0;
+for (let n = 0; n < 10_000; n++) {
+  const format = Object.keys(sizes)[n % 3];
+  const params = Params.of(format, { slots: 2 + (n % 7), lead: 0, limit: 1200 + (n % 5) * 1000 });
+  const sender = new Sender(params);
+  const receiver = new Receiver(params);
+  if (n % 500 === 0) for (const packet of sender.packets(sender.code(bytes(sizes[format])))) receiver.packet(packet);
+  const is = size(receiver);
+  if (n < 100) most = Math.max(most, is);
+  else if (is > most) {
+    wanted(`the memory of the first hundred, ${most} bytes`, () => is);
+    break;
+  }
+  // In either order.
+  for (const end of n % 2 ? [sender, receiver] : [receiver, sender]) end.close();
+}
+console.log(`10,000 senders and receivers in ${(most / 1e6).toFixed(1)} MB`);
+
+// No memory left: a start is refused, and so is room for a packet longer than any; all else is as it was.
+withEnds((sender, receiver) => {
+  const { malloc, free } = instance.exports;
+  const taken = [];
+  for (let bytes = 2 ** 30; bytes >= 16; bytes /= 2) {
+    for (let at = malloc(BigInt(bytes)); at; at = malloc(BigInt(bytes))) taken.push(at);
+  }
+  wanted("Refused: start: no memory: 216 bytes", () => new Receiver(Params.of("cif")));
+  wanted("Refused: memory: no memory: 200000 bytes", () => receiver.packet(bytes(200_000)));
+  wanted("[0,\"held\"]", () => [sender.code(bytes(QCIF)).number, receiver.play().mark]);
+  taken.forEach(free);
+});
+withEnds((sender) => wanted("0", () => sender.code(bytes(QCIF)).number));
