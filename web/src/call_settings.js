@@ -1,0 +1,22 @@
+/**
+ * What both sides of a call take for granted.
+ * @module
+ */
+
+/** Pictures a second, at the most. */
+export const RATE = 30000 / 1001;
+/** Pictures that may come before their play: those of the longest wait, and three. */
+export const LEAD = 15;
+/** Pictures that each end keeps: besides the lead, those that may be referred to while a message is on its way. */
+export const SLOTS = 48;
+/** The most bytes of a packet: with what DTLS and SCTP add it is one datagram everywhere. */
+export const LIMIT = 1200;
+/** Bytes a picture, by format: some 215, 430 and 1,440 kbit/s. */
+export const TARGETS = Object.freeze({ "sub-qcif": 900, qcif: 1800, cif: 6000 });
+/** A datagram that is shorter is a message: no RTP packet is. */
+export const SHORTEST_PACKET = 12;
+
+/** Seconds, on a clock that all threads of a page share and that doesn't go back. */
+export function now() {
+  return (performance.timeOrigin + performance.now()) / 1000;
+}

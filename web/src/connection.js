@@ -1,0 +1,183 @@
+/**
+ * Connections of the browser: encrypted, with datagrams that are neither put in order nor sent again, words that are, and
+ * sound.
+ * @module
+ */
+
+/** Bytes that may wait to go out; beyond them a datagram is lost, as a full line loses it. */
+const MOST_WAITING = 1 << 18;
+
+/** One side of a connection. */
+export class Side {
+  onDatagram = () => {};
+  onWords = () => {};
+  onSound = () => {};
+  onState = () => {};
+  #sound = null;
+
+  constructor(servers = []) {
+    this.peer = new RTCPeerConnection({ iceServers: servers });
+    this.datagrams = this.peer.createDataChannel("pictures", { negotiated: true, id: 0, ordered: false, maxRetransmits: 0 });
+    this.words = this.peer.createDataChannel("words", { negotiated: true, id: 1 });
+    this.datagrams.binaryType = "arraybuffer";
+    this.datagrams.onmessage = ({ data }) => data instanceof ArrayBuffer && this.onDatagram(data);
+    this.words.onmessage = ({ data }) => this.#heard(data);
+    this.peer.ontrack = ({ track }) => this.onSound(new MediaStream([track]));
+    this.peer.onconnectionstatechange = () => this.onState(this.peer.connectionState);
+    this.isOpen = Promise.all([this.datagrams, this.words].map(opened));
+  }
+
+  /** An offer of a call. */
+  async offer() {
+    const sound = this.peer.addTransceiver("audio", { direction: "sendrecv" });
+    // One codec has fewer words, which may be sent along by hand.
+    const opus = RTCRtpReceiver.getCapabilities("audio").codecs.filter(({ mimeType }) => mimeType === "audio/opus");
+    if (opus.length) sound.setCodecPreferences?.(opus);
+    await this.peer.setLocalDescription();
+    return this.peer.localDescription;
+  }
+
+  /** The own description once all ways to this machine are in it, or after so many milliseconds. */
+  async complete(patience = 3000) {
+    const { peer } = this;
+    const gathered = new Promise((done) => {
+      peer.addEventListener("icegatheringstatechange", () => peer.iceGatheringState === "complete" && done());
+    });
+    if (peer.iceGatheringState !== "complete") await Promise.race([gathered, new Promise((done) => setTimeout(done, patience))]);
+    return peer.localDescription;
+  }
+
+  /** The answer to an offer. */
+  async answer(offer) {
+    await this.peer.setRemoteDescription(offer);
+    for (const transceiver of this.peer.getTransceivers()) transceiver.direction = "sendrecv";
+    this.setSound(this.#sound);
+    await this.peer.setLocalDescription();
+    return this.peer.localDescription;
+  }
+
+  async accept(answer) {
+    await this.peer.setRemoteDescription(answer);
+    this.setSound(this.#sound);
+  }
+
+  /** What is heard on the other side: a track, or nothing. */
+  setSound(track) {
+    this.#sound = track;
+    for (const { sender } of this.peer.getTransceivers()) sender.replaceTrack(track).catch(() => {});
+  }
+
+  send(datagram) {
+    if (this.datagrams.readyState !== "open" || this.datagrams.bufferedAmount > MOST_WAITING) return false;
+    this.datagrams.send(datagram);
+    return true;
+  }
+
+  say(words) {
+    if (this.words.readyState === "open") this.words.send(JSON.stringify(words));
+  }
+
+  close() {
+    this.onState = () => {};
+    this.peer.close();
+  }
+
+  #heard(data) {
+    try {
+      this.onWords(JSON.parse(data));
+    } catch {
+      // Words that are none are passed over.
+    }
+  }
+}
+
+function opened(channel) {
+  return new Promise((done) => channel.addEventListener("open", done, { once: true }));
+}
+
+/** Both sides of a call with oneself. What one side sends goes over a network that is made worse, and comes back here. */
+export class SelfCall {
+  #near = new Side();
+  #far = new Side();
+  #isDirect = false;
+
+  /** It calls `hear(datagram)`, and `listen(stream)` when there is sound. */
+  constructor(network, hear, listen) {
+    Object.assign(this, { network, hear });
+    this.#near.onDatagram = this.#far.onDatagram = hear;
+    this.#far.onSound = listen;
+  }
+
+  /** Connects both sides; answers whether the browser let them, within so many milliseconds. */
+  async connect(patience = 5000) {
+    for (const [side, other] of [[this.#near, this.#far], [this.#far, this.#near]]) {
+      side.peer.onicecandidate = ({ candidate }) => candidate && other.peer.addIceCandidate(candidate).catch(() => {});
+    }
+    await this.#near.accept(await this.#far.answer(await this.#near.offer()));
+    const late = new Promise((done) => setTimeout(done, patience, false));
+    const isOpen = await Promise.race([Promise.all([this.#near.isOpen, this.#far.isOpen]).then(() => true), late]);
+    this.#isDirect = !isOpen;
+    return isOpen;
+  }
+
+  /** A packet goes out on the near side, a message on the far one. */
+  send(datagram, isMessage) {
+    const side = isMessage ? this.#far : this.#near;
+    const out = (bytes) => (this.#isDirect ? this.hear(bytes.buffer) : side.send(bytes));
+    this.network.carry(datagram, out);
+  }
+
+  setSound(track) {
+    this.#near.setSound(track);
+  }
+
+  soundHeard() {
+    return soundOf(this.#far.peer);
+  }
+
+  say() {}
+
+  close() {
+    this.#near.close();
+    this.#far.close();
+  }
+}
+
+/** One's own side of a call with someone else. */
+export class OtherCall {
+  /** It calls `hear(datagram)`, `listen(stream)` when there is sound, and `ended(why)`. */
+  constructor(side, hear, listen, heardWords, ended) {
+    this.side = side;
+    side.onDatagram = hear;
+    side.onSound = listen;
+    side.onWords = heardWords;
+    side.onState = (state) => state === "failed" && ended("lost");
+    side.words.addEventListener("close", () => ended("lost"));
+  }
+
+  send(datagram) {
+    this.side.send(datagram);
+  }
+
+  say(words) {
+    this.side.say(words);
+  }
+
+  setSound(track) {
+    this.side.setSound(track);
+  }
+
+  soundHeard() {
+    return soundOf(this.side.peer);
+  }
+
+  close() {
+    this.side.close();
+  }
+}
+
+/** How many packets of sound came. */
+async function soundOf(peer) {
+  const stats = [...(await peer.getStats()).values()];
+  return stats.find(({ type, kind }) => type === "inbound-rtp" && kind === "audio")?.packetsReceived ?? 0;
+}

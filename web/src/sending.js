@@ -1,0 +1,83 @@
+/**
+ * The sending side: pictures to packets.
+ * @module
+ */
+
+import { Params, Sender } from "../../library/web/h263rps.js";
+import { LEAD, LIMIT, RATE, SLOTS, TARGETS, now } from "./call_settings.js";
+import { SIZES, covering, fillPlanes } from "./planes.js";
+import { TICKS } from "./playout.js";
+
+/** A picture that comes sooner after the one before is left out: no stream goes on faster than at its rate. */
+const LEAST_STEP = 0.9 / RATE;
+/** Times of capture that are kept, to tell how long a picture took. */
+const KEPT = 256;
+
+export class Sending {
+  #sender;
+  #planes;
+  #pen;
+  #began = null;
+  #last = -Infinity;
+  /** When each of the last pictures was captured, by its number. */
+  captured = new Map();
+  /** Seconds that the last picture took to become planes, and to be coded. */
+  took = { planes: 0, code: 0 };
+
+  constructor(format, target = TARGETS[format]) {
+    const [width, height] = SIZES[format];
+    Object.assign(this, { width, height });
+    this.#sender = new Sender(Params.of(format, { target, limit: LIMIT, slots: SLOTS, lead: LEAD }));
+    this.#planes = new Uint8Array((width * height * 3) / 2);
+    this.#pen = new OffscreenCanvas(width, height).getContext("2d", { alpha: false, willReadFrequently: true });
+  }
+
+  /** The packets of a picture: none where it comes too soon. */
+  packets(source, width, height) {
+    const time = now();
+    if (time - this.#last < LEAST_STEP) return [];
+    this.#last = time;
+    this.#began ??= time;
+    this.#fill(source, width, height);
+    const filled = now();
+    const coded = this.#sender.code(this.#planes);
+    this.#keep(coded.number, time);
+    const packets = this.#sender.packets(coded);
+    this.took = { planes: filled - time, code: now() - filled };
+    return packets.map((packet) => stamped(packet, Math.round((time - this.#began) * TICKS)));
+  }
+
+  #fill(source, width, height) {
+    this.#pen.drawImage(source, ...covering(width, height, this.width, this.height), 0, 0, this.width, this.height);
+    fillPlanes(this.#pen.getImageData(0, 0, this.width, this.height).data, this.width, this.height, this.#planes);
+  }
+
+  #keep(number, time) {
+    this.captured.set(number, time);
+    this.captured.delete(number - KEPT);
+  }
+
+  /** Takes a message of the other side. */
+  feedback(message) {
+    this.#sender.feedback(message);
+  }
+
+  /** Follows this many bytes a picture. */
+  target(bytes) {
+    this.#sender.target(bytes);
+  }
+
+  get statistics() {
+    return this.#sender.statistics();
+  }
+
+  close() {
+    this.#sender.close();
+  }
+}
+
+/** The packet with a time of capture in the place of RTP's timestamp. */
+function stamped(packet, ticks) {
+  new DataView(packet.buffer, packet.byteOffset).setUint32(4, ticks % 2 ** 32);
+  return packet;
+}

@@ -1,0 +1,153 @@
+/**
+ * What the page says, in two languages. A text with numbers is a function of them.
+ * @module
+ */
+
+const ENGLISH = {
+  title: "Telephone",
+  language: "Deutsch",
+  ready: "Ready",
+  starting: "Starting",
+  connecting: "Connecting",
+  with_yourself: "A call with yourself",
+  you: "You",
+  what_comes: "Over the network",
+  own_picture: "What you send",
+  other_picture: "What comes over the network",
+  line_of_time: "The marks of the last pictures",
+  exact: "exact",
+  patched: "patched",
+  held: "held",
+  exact_means: "just as it was sent",
+  patched_means: "a part is missing",
+  held_means: "the picture before stays",
+  try_it: "Try it by yourself",
+  try_it_means: "Your pictures go over a bad network and come back. You set how bad it is. Nothing leaves this machine.",
+  call_yourself: "Call yourself",
+  camera: "Camera",
+  microphone: "Microphone",
+  hear: "Hear yourself",
+  full: "Full screen",
+  hang_up: "Hang up",
+  how_bad: "How bad is the network?",
+  loss: "Lost packets",
+  delay: "Delay each way",
+  jitter: "Uneven delay",
+  wait: "Wait for late packets",
+  settings: "Settings",
+  first_one: "the first one",
+  made: "made picture",
+  size: "Picture size",
+  small: "small, 128 × 96",
+  medium: "medium, 176 × 144",
+  large: "large, 352 × 288",
+  numbers: "Numbers",
+  proved: "How a picture is coded and read, and when it may be called exact, is proved, for the code that is compiled for 64-bit ARM. Trusted are the compiler, one textual step from ARM to WebAssembly, and your browser.",
+  no_script: "The telephone works by a script, and scripts are turned off here.",
+  camera_off: "The camera is off",
+  share: (percent) => `exact ${percent} %`,
+  waiting: "waiting for the first picture",
+  percent: (number) => `${number} %`,
+  milliseconds: (number) => `${number} ms`,
+  all_exact: (lost) => (lost ? `${lost} % of the packets are lost, and every picture is exact.` : "Every picture is exact."),
+  some_exact: (share, lost) => `${lost} % of the packets are lost; of 100 pictures ${share} are exact, and no loss spreads to the next picture.`,
+  late_ones: (share) => `Pictures come late: of 100 pictures ${share} are exact.`,
+  summary: ({ exact, patched, held }) => `Of the last pictures ${exact} were exact, ${patched} patched and ${held} held.`,
+  figures: (it) => `Camera to screen ${it.late} ms · to planes ${it.planes} ms, to code ${it.code} ms a picture · ${it.sent} pictures sent, ${it.left} of the camera left out · ${it.packets} packets, ${it.lost} lost · ${it.rate} kbit/s · ${it.sound} packets of sound`,
+  ended: (seconds, share) => `The call took ${seconds} s; of 100 pictures ${share} were exact.`,
+  no_connection: "The browser lets no connection through within this page, so the packets go directly. The losses are the same, but there is no sound.",
+  no_memory64: "This browser has no 64-bit WebAssembly memory, which the telephone needs. Chrome, Edge and Firefox have it; Safari doesn’t yet.",
+  framed: "The telephone doesn’t run inside another page. Open it by itself.",
+  fault: (words) => `That went wrong: ${words}`,
+  NotAllowedError: "The camera isn’t allowed here, so a made picture goes out. Allow it beside the browser’s address line to be seen.",
+  NotFoundError: "No camera was found, so a made picture goes out.",
+  NotReadableError: "Another program has the camera, so a made picture goes out. Close that program, and turn the camera on again.",
+  NotSupportedError: "This browser gives a page no camera, so a made picture goes out.",
+  OverconstrainedError: "The camera that was chosen is gone. Choose another one.",
+  camera_fault: "The camera can’t be used, so a made picture goes out.",
+  camera_lost: "The camera was taken away, so a made picture goes out.",
+};
+
+const GERMAN = {
+  title: "Telefon",
+  language: "English",
+  ready: "Bereit",
+  starting: "Es fängt an",
+  connecting: "Verbindung wird aufgebaut",
+  with_yourself: "Anruf bei sich selbst",
+  you: "Sie",
+  what_comes: "Über das Netz",
+  own_picture: "Was Sie senden",
+  other_picture: "Was über das Netz kommt",
+  line_of_time: "Wie die letzten Bilder ankamen",
+  exact: "genau",
+  patched: "geflickt",
+  held: "gehalten",
+  exact_means: "so wie gesendet",
+  patched_means: "ein Teil fehlt",
+  held_means: "das Bild davor bleibt stehen",
+  try_it: "Allein ausprobieren",
+  try_it_means: "Ihre Bilder gehen über ein schlechtes Netz und kommen zurück. Wie schlecht, stellen Sie ein. Nichts verlässt dieses Gerät.",
+  call_yourself: "Sich selbst anrufen",
+  camera: "Kamera",
+  microphone: "Mikrofon",
+  hear: "Sich hören",
+  full: "Vollbild",
+  hang_up: "Auflegen",
+  how_bad: "Wie schlecht ist das Netz?",
+  loss: "Verlorene Pakete",
+  delay: "Verzögerung je Weg",
+  jitter: "Ungleiche Verzögerung",
+  wait: "Auf späte Pakete warten",
+  settings: "Einstellungen",
+  first_one: "die erste",
+  made: "gemachtes Bild",
+  size: "Bildgröße",
+  small: "klein, 128 × 96",
+  medium: "mittel, 176 × 144",
+  large: "groß, 352 × 288",
+  numbers: "Zahlen",
+  proved: "Wie ein Bild kodiert und gelesen wird und wann es genau heißen darf, ist bewiesen, für den Code, der für 64-Bit-ARM übersetzt ist. Vertraut wird dem Übersetzer, einem Textschritt von ARM zu WebAssembly und Ihrem Browser.",
+  no_script: "Das Telefon braucht Skripte, und die sind hier ausgeschaltet.",
+  camera_off: "Die Kamera ist aus",
+  share: (percent) => `genau ${percent} %`,
+  waiting: "wartet auf das erste Bild",
+  percent: (number) => `${number} %`,
+  milliseconds: (number) => `${number} ms`,
+  all_exact: (lost) => (lost ? `${lost} % der Pakete gehen verloren, und jedes Bild ist genau.` : "Jedes Bild ist genau."),
+  some_exact: (share, lost) => `${lost} % der Pakete gehen verloren; von 100 Bildern sind ${share} genau, und kein Verlust geht auf das nächste Bild über.`,
+  late_ones: (share) => `Bilder kommen zu spät: von 100 Bildern sind ${share} genau.`,
+  summary: ({ exact, patched, held }) => `Von den letzten Bildern waren ${exact} genau, ${patched} geflickt und ${held} gehalten.`,
+  figures: (it) => `Kamera bis Schirm ${it.late} ms · je Bild Ebenen ${it.planes} ms, Kodieren ${it.code} ms · ${it.sent} Bilder gesendet, ${it.left} der Kamera ausgelassen · ${it.packets} Pakete, ${it.lost} verloren · ${it.rate} kbit/s · ${it.sound} Pakete Ton`,
+  ended: (seconds, share) => `Der Anruf dauerte ${seconds} s; von 100 Bildern waren ${share} genau.`,
+  no_connection: "Der Browser lässt innerhalb dieser Seite keine Verbindung zu, darum gehen die Pakete unmittelbar. Die Verluste sind dieselben, aber es gibt keinen Ton.",
+  no_memory64: "Dieser Browser hat keinen 64-Bit-Speicher für WebAssembly, den das Telefon braucht. Chrome, Edge und Firefox haben ihn, Safari noch nicht.",
+  framed: "Das Telefon läuft nicht in einer anderen Seite. Öffnen Sie es für sich.",
+  fault: (words) => `Das ging schief: ${words}`,
+  NotAllowedError: "Die Kamera ist hier nicht erlaubt, darum geht ein gemachtes Bild hinaus. Erlauben Sie sie neben der Adresszeile des Browsers, um gesehen zu werden.",
+  NotFoundError: "Es wurde keine Kamera gefunden, darum geht ein gemachtes Bild hinaus.",
+  NotReadableError: "Ein anderes Programm hat die Kamera, darum geht ein gemachtes Bild hinaus. Schließen Sie es, und schalten Sie die Kamera wieder ein.",
+  NotSupportedError: "Dieser Browser gibt einer Seite keine Kamera, darum geht ein gemachtes Bild hinaus.",
+  OverconstrainedError: "Die gewählte Kamera ist weg. Wählen Sie eine andere.",
+  camera_fault: "Die Kamera lässt sich nicht verwenden, darum geht ein gemachtes Bild hinaus.",
+  camera_lost: "Die Kamera wurde abgezogen, darum geht ein gemachtes Bild hinaus.",
+};
+
+const LANGUAGES = Object.freeze({ en: ENGLISH, de: GERMAN });
+
+/** The language of the browser, of those that there are. */
+export function ownLanguage() {
+  return navigator.languages.map((tag) => tag.slice(0, 2)).find((tag) => Object.hasOwn(LANGUAGES, tag)) ?? "en";
+}
+
+/** A text by its name; where it is a function, of these words. */
+export function text(language, name, ...words) {
+  const found = LANGUAGES[language][name];
+  return typeof found === "function" ? found(...words) : found;
+}
+
+/** Whether there is a text of this name. */
+export const hasText = (name) => Object.hasOwn(ENGLISH, name);
+
+/** The other language. */
+export const otherLanguage = (language) => (language === "en" ? "de" : "en");

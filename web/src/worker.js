@@ -1,0 +1,117 @@
+/**
+ * The worker: both ends, what they are given, and both canvases. The page hands over frames of the camera and datagrams;
+ * the worker hands back datagrams, and tells what was played.
+ * @module
+ */
+
+import { load } from "../../library/web/h263rps.js";
+import { RATE, SHORTEST_PACKET, now } from "./call_settings.js";
+import { MadePicture } from "./made_picture.js";
+import { SIZES, covering, fillColours } from "./planes.js";
+import { Receiving } from "./receiving.js";
+import { Sending } from "./sending.js";
+
+/** How often the page is told the counts, in milliseconds. */
+const TOLD_EACH = 250;
+
+const tell = (is, words = {}, owned = []) => postMessage({ is, ...words }, owned);
+
+class Ends {
+  #own;
+  #other;
+  #image = null;
+  #sending = null;
+  #receiving = null;
+  #made = null;
+  #timers = [];
+
+  constructor(own, other) {
+    this.#own = own.getContext("2d", { alpha: false });
+    this.#other = other.getContext("2d", { alpha: false });
+  }
+
+  /** Begins a call: pictures of this format go out, and what comes waits so long. */
+  begin({ format, wait }) {
+    this.end();
+    this.#sending = new Sending(format);
+    this.#receiving = new Receiving(wait, (message) => tell("datagrams", { datagrams: [message] }), (played, of) => this.#show(played, of));
+    this.#timers.push(setInterval(() => this.#tellCounts(), TOLD_EACH));
+  }
+
+  end() {
+    this.#timers.forEach(clearInterval);
+    this.#timers = [];
+    this.#sending?.close();
+    this.#receiving?.close();
+    this.#sending = this.#receiving = null;
+  }
+
+  /** A picture of the camera, which is then let go. */
+  frame({ frame }) {
+    this.#send(frame, frame.displayWidth ?? frame.width, frame.displayHeight ?? frame.height);
+    frame.close();
+    tell("ready");
+  }
+
+  /** Pictures that are made here, or no longer. */
+  made({ isOn }) {
+    clearInterval(this.#made);
+    this.#made = null;
+    if (!isOn) return;
+    const picture = new MadePicture();
+    const next = () => {
+      const canvas = picture.next();
+      this.#send(canvas, canvas.width, canvas.height);
+    };
+    this.#made = setInterval(next, 1000 / RATE);
+    next();
+  }
+
+  wait({ wait }) {
+    this.#receiving?.setWait(wait);
+  }
+
+  datagram({ datagram }) {
+    const bytes = new Uint8Array(datagram);
+    if (bytes.length < SHORTEST_PACKET) this.#sending?.feedback(bytes);
+    else this.#receiving?.take(bytes);
+  }
+
+  #send(source, width, height) {
+    const { canvas } = this.#own;
+    this.#own.drawImage(source, ...covering(width, height, canvas.width, canvas.height), 0, 0, canvas.width, canvas.height);
+    const datagrams = this.#sending?.packets(source, width, height) ?? [];
+    if (datagrams.length) tell("datagrams", { datagrams }, datagrams.map(({ buffer }) => buffer));
+  }
+
+  #show({ picture, mark, number, reference }, format) {
+    const [width, height] = SIZES[format];
+    if (this.#image?.width !== width) {
+      Object.assign(this.#other.canvas, { width, height });
+      this.#image = this.#other.createImageData(width, height);
+    }
+    fillColours(picture, width, height, this.#image.data);
+    this.#other.putImageData(this.#image, 0, 0);
+    const captured = this.#sending?.captured.get(number);
+    tell("played", { mark, number, reference, late: captured === undefined ? null : now() - captured });
+  }
+
+  #tellCounts() {
+    const { took, statistics } = this.#sending;
+    tell("counts", { took, sent: statistics, received: this.#receiving.statistics, dropped: this.#receiving.dropped });
+  }
+}
+
+let ends = null;
+
+/** The first message has the module and the canvases. What came before the module was there waits for it. */
+async function start({ module, own, other }) {
+  await load(module);
+  ends = new Ends(own, other);
+  tell("loaded");
+}
+
+let last = Promise.resolve();
+onmessage = ({ data }) => {
+  last = last.then(() => (data.is === "start" ? start(data) : ends[data.is](data))).catch((fault) => tell("fault", { words: String(fault) }));
+};
