@@ -1,0 +1,18 @@
+//! Laws of streams and budgets, over the definitions alone.
+ghost use Rattle.stream_choice.specs.Laws.{NeverMore, NeverShutOut, Undisturbed};
+
+/// In no second more packets are granted than a budget has.
+pub fn never_more()
+    ensures { NeverMore }
+{}
+
+/// What others send changes nothing of a stream of which a picture is complete every half second.
+pub fn undisturbed()
+    ensures { Undisturbed }
+{}
+
+/// No stream is shut out for good: where none that is followed is live, its packets are taken a
+/// second and a half after the last trial began, or sooner.
+pub fn never_shut_out()
+    ensures { NeverShutOut }
+{}

@@ -1,0 +1,90 @@
+//! A stream that is, or was, followed.
+ghost use Rattle.std.specs.Prelude.{◌≡◌};
+ghost use Rattle.stream_choice.specs.Choice.{counted, is_live, is_live_one, is_of, kept, overtakes};
+
+// A stream is live for half a second after each complete picture.
+const LIVE: u64 = 500_000_000;
+
+/// A stream that is, or was, followed: its SSRC, how many pictures of it were complete, and when
+/// the last one was.
+#[derive(Clone, Copy, Debug, PartialEq, Eq)]
+pub struct Stream {
+    pub source: u32,
+    pub pictures: u32,
+    pub last: u64,
+}
+
+impl Stream {
+    /// The same with one more picture.
+    pub fn counted(&self, now: u64) -> Stream
+        ensures { result ≡ counted now self.now }
+    {
+        Stream {
+            source: self.source,
+            pictures: self.pictures.saturating_add(1),
+            last: now,
+        }
+    }
+
+    /// Whether a picture of it was complete in the last half second.
+    pub fn is_live(&self, now: u64) -> bool
+        ensures { result ≡ is_live now self.now }
+    {
+        now.saturating_sub(self.last) < LIVE
+    }
+}
+
+/// Whether there is a stream, and it has this SSRC.
+pub fn is_of(stream: Option<Stream>, source: u32) -> bool
+    ensures { result ≡ is_of stream source }
+{
+    match stream {
+        Some(stream) => stream.source == source,
+        None => false,
+    }
+}
+
+/// Whether there is a stream, and it is live.
+pub fn is_live(stream: Option<Stream>, now: u64) -> bool
+    ensures { result ≡ is_live_one stream now }
+{
+    match stream {
+        Some(stream) => stream.is_live(now),
+        None => false,
+    }
+}
+
+/// Whether a former stream of which one more picture is complete is to be followed again.
+pub fn overtakes(former: &Stream, followed: Option<Stream>, now: u64) -> bool
+    ensures { result ≡ overtakes followed former.now now }
+{
+    match followed {
+        Some(followed) => {
+            if followed.is_live(now) {
+                followed.pictures < former.pictures
+            } else {
+                true
+            }
+        }
+        None => true,
+    }
+}
+
+/// Of the former stream and of the one that was followed: the one that keeps its run.
+pub fn kept(former: Option<Stream>, followed: Option<Stream>) -> Option<Stream>
+    ensures { result ≡ kept former followed }
+{
+    match followed {
+        None => former,
+        Some(stream) => match former {
+            None => followed,
+            Some(other) => {
+                if other.pictures < stream.pictures {
+                    followed
+                } else {
+                    former
+                }
+            }
+        },
+    }
+}

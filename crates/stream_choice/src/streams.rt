@@ -1,0 +1,183 @@
+//! Which stream is followed.
+ghost use Rattle.std.specs.Prelude.{◌≡◌, None};
+ghost use Rattle.std.specs.Option.{option_map};
+ghost use Rattle.stream_choice.specs.Choice.{after_complete, after_packet, taker_of};
+ghost use Rattle.stream_choice.specs.Choice.{tried_after, with_former, with_tried};
+
+use crate::stream::{self, Stream};
+use crate::trial::{self, Trial};
+
+/// A run of a receiver.
+#[derive(Clone, Copy, Debug, PartialEq, Eq)]
+pub enum Run {
+    /// Of the stream that is followed.
+    Followed,
+    /// Of the stream that was followed before.
+    Former,
+    /// Of the stream that is tried.
+    Tried,
+}
+
+/// Which run takes a packet.
+#[derive(Clone, Copy, Debug, PartialEq, Eq)]
+pub enum Taker {
+    Followed,
+    Former,
+    Tried,
+    /// A new run, of the stream that is tried from now on.
+    Begins,
+    /// None: the packet is dropped.
+    NoRun,
+}
+
+/// The streams that have a run. Times are nanoseconds of one clock.
+#[derive(Clone, Copy, Debug)]
+pub struct Streams {
+    followed: Option<Stream>,
+    former: Option<Stream>,
+    tried: Option<Trial>,
+}
+
+impl Streams {
+    /// No packet came yet.
+    pub fn new() -> Streams
+        ensures followed { result.followed ≡ None }
+        ensures former { result.former ≡ None }
+        ensures tried { result.tried ≡ None }
+    {
+        Streams {
+            followed: None,
+            former: None,
+            tried: None,
+        }
+    }
+
+    /// A packet of this stream came: which run takes it.
+    pub fn packet(&mut self, source: u32, now: u64) -> Taker
+        ensures taker { result ≡ taker_of self.old source now }
+        ensures after { self.new ≡ after_packet self.old source now }
+    {
+        let taker = self.taker(source, now);
+        self.tried = tried_after(taker, self.tried, source, now);
+        taker
+    }
+
+    // Which run takes a packet of this stream.
+    fn taker(&self, source: u32, now: u64) -> Taker
+        ensures { result ≡ taker_of self.now source now }
+    {
+        if stream::is_of(self.followed, source) {
+            return Taker::Followed;
+        }
+        if stream::is_of(self.former, source) {
+            return Taker::Former;
+        }
+        if trial::is_tried(self.tried, source, now) {
+            return Taker::Tried;
+        }
+        if stream::is_live(self.followed, now) {
+            return Taker::NoRun;
+        }
+        if trial::may_begin(self.tried, source, now) {
+            return Taker::Begins;
+        }
+        Taker::NoRun
+    }
+
+    /// A picture of this run is complete.
+    pub fn completed(&mut self, run: Run, now: u64)
+        ensures { self.new ≡ after_complete self.old run now }
+    {
+        *self = match run {
+            Run::Followed => self.with_followed(now),
+            Run::Former => self.with_former(self.former, now),
+            Run::Tried => self.with_tried(self.tried, now),
+        };
+    }
+
+    fn with_followed(&self, now: u64) -> Streams
+        ensures { result ≡ after_complete self.now Run.Followed now }
+    {
+        let followed = match self.followed {
+            Some(stream) => Some(stream.counted(now)),
+            None => None,
+        };
+        Streams {
+            followed,
+            former: self.former,
+            tried: self.tried,
+        }
+    }
+
+    fn with_former(&self, former: Option<Stream>, now: u64) -> Streams
+        ensures { result ≡ with_former self.now former now }
+    {
+        let Some(stream) = former else {
+            return *self;
+        };
+        let counted = stream.counted(now);
+        if stream::overtakes(&counted, self.followed, now) {
+            Streams {
+                followed: Some(counted),
+                former: self.followed,
+                tried: self.tried,
+            }
+        } else {
+            Streams {
+                followed: self.followed,
+                former: Some(counted),
+                tried: self.tried,
+            }
+        }
+    }
+
+    fn with_tried(&self, tried: Option<Trial>, now: u64) -> Streams
+        ensures { result ≡ with_tried self.now tried now }
+    {
+        let Some(trial) = tried else {
+            return *self;
+        };
+        let is_live = stream::is_live(self.followed, now);
+        if is_live {
+            return Streams {
+                followed: self.followed,
+                former: self.former,
+                tried: None,
+            };
+        }
+        Streams {
+            followed: Some(Stream {
+                source: trial.source,
+                pictures: 1,
+                last: now,
+            }),
+            former: stream::kept(self.former, self.followed),
+            tried: None,
+        }
+    }
+
+    /// The SSRC of the stream that is followed, if there is one.
+    pub fn followed(&self) -> Option<u32>
+        ensures { result ≡ option_map (λ s. s.source) self.now.followed }
+    {
+        match self.followed {
+            Some(stream) => Some(stream.source),
+            None => None,
+        }
+    }
+}
+
+// The trial after a packet of this stream.
+fn tried_after(taker: Taker, tried: Option<Trial>, source: u32, now: u64) -> Option<Trial>
+    ensures { result ≡ tried_after taker tried source now }
+{
+    match taker {
+        Taker::Tried => trial::touched(tried, now),
+        Taker::Begins => Some(Trial {
+            source,
+            began: now,
+            last: now,
+        }),
+        _ => tried,
+    }
+}

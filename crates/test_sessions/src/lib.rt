@@ -1,0 +1,7 @@
+//! Tests of the parts of a session.
+#![tactic(auto)]
+
+#[cfg(test)]
+mod playout_times_tests;
+#[cfg(test)]
+mod stream_choice_tests;
