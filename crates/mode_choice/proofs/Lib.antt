@@ -12,3 +12,4 @@ pub mod Whole
 pub mod Empties
 pub mod Searched
 pub mod LentRows
+pub mod Turned

@@ -1,11 +1,10 @@
 -- Levels that sixteenths of coefficients tell.
-use Rattle.std.proofs.Common.{◌≡◌, ◌∙◌, ◌-◌, ap, arith, sym, ℕ, ◌+◌, ◌*◌, ◌/◌, ◌%◌, ◌<◌, ◌≤◌, ℤ, pos, subst, get_or, refl, List, unsigned_abs, Bool, true, false, not, IsTrue}
-use mir.Val.{bool_byte}
+use Rattle.std.proofs.Common.{◌≡◌, ◌∙◌, ◌-◌, ap, arith, sym, ℕ, ◌+◌, ◌*◌, ◌/◌, ◌%◌, ◌<◌, ℤ, pos, subst, get_or, List, unsigned_abs, mod-lt}
 use Rattle.h263_types.specs.Blocks.{IsQuant}
 use Rattle.idct8.specs.Near.{IsBracketed, near_at}
 use Rattle.idct8.specs.Transform.{entry, forward_at}
 use Rattle.quantiser.specs.Levels.{inter_level, signed_of}
-use Rattle.quantiser.specs.Settled.{AreSettled, IsBetween, steps_of}
+use Rattle.quantiser.specs.Settled.{AreSettled, IsBetween, rest_of, steps_of}
 use Rattle.quantiser.specs.Zigzag.{block_place_of}
 use Rattle.mode_choice.specs.Choice.{coefficient_at}
 use Rattle.mode_choice.specs.Walk.{half_of, level_by, place_in}
@@ -50,15 +49,12 @@ sure_level settled coding quant half t level f e h near is same =
 pub none_below : (quant least : ℕ) (t f : ℤ) → least ≡ 2 * quant + quant / 2 → IsQuant quant → IsBracketed t f → unsigned_abs t + 9 < 16 * least → inter_level quant f ≡ pos 0
 none_below quant least t f e h near small = no_level quant f h (omega (arith, e, near.most, small))
 
--- the count of unsure levels
-
-pub unsure_small : (b : Bool) (n : ℕ) → n ≡ bool_byte (not b) → n ≤ 1
-unsure_small true n e = omega (arith, e)
-unsure_small false n e = omega (arith, e)
-
-pub sure_where : (b : Bool) (n : ℕ) → n ≡ bool_byte (not b) → n ≡ 0 → IsTrue b
-sure_where true n e none = refl
-sure_where false n e none = absurd (omega (arith, e, none))
+-- what is left is less than a step
+pub rest_small : (quant half : ℕ) (t : ℤ) → IsQuant quant → rest_of quant half t < 1024
+rest_small quant half t h =
+    let some : 0 < 32 * quant = omega (arith, h.low) in
+    let less : rest_of quant half t < 32 * quant = mod-lt (unsigned_abs t + 6 - 16 * half) some in
+    omega (arith, less, h.high)
 
 -- the sixteenths at the place by columns of place k of the zigzag order bracket its coefficient
 pub brackets : (samples sixteenths : List ℤ) → ((s : List ℤ) (v u : ℕ) → v < 8 → u < 8 → IsBracketed (near_at s v u) (forward_at s v u)) →

@@ -1,13 +1,13 @@
 -- Where the levels of a block stand.
-use Rattle.std.proofs.Common.{◌≡◌, ◌≢◌, ℕ, zero, suc, ◌<◌, ℤ, pos, List, [], ◌∷◌, get_or, slice_index, slice_set, replicate, Bool, true, false, cond, nat_eq, nat_lt, refl, ap, sym, ◌∙◌, arith, lit<, ltb-true, length-set, get_or-set_same, get_or-set_other, to_z, of_z, w16}
+use Rattle.std.proofs.Common.{◌≡◌, ◌≢◌, ℕ, zero, suc, ◌<◌, ◌≤◌, ◌*◌, ◌%◌, ◌^◌, ℤ, pos, List, [], ◌∷◌, get_or, slice_index, slice_set, replicate, Bool, true, false, cond, nat_eq, nat_lt, refl, ap, sym, ◌∙◌, arith, lit<, ltb-true, length-set, get_or-set_same, get_or-set_other, to_z, of_z, w16, w64}
 use Rattle.std.specs.List.{list_all}
-use Rattle.std.specs.Int.{bit_at}
+use Rattle.std.specs.Int.{bit_at, bit_not}
 use Rattle.std.proofs.lemmas.Int.{ints}
 use Rattle.std.proofs.lemmas.Bool.{and_parts}
 use Rattle.std.proofs.lemmas.Bool.Decides.{Decides-int_eq, nat_tests}
 use Rattle.std.proofs.lemmas.List.{get_or-replicate}
 use Rattle.std.proofs.lemmas.List.Elements.{All-set, All-replicate}
-use Rattle.std.proofs.lemmas.Nat.Bits.{bit_at-zero}
+use Rattle.std.proofs.lemmas.Nat.Bits.{bit_at-lt, bit_at-zero, bit_at_and}
 use Rattle.h263_types.specs.Blocks.{IsLevel, IsQuant}
 use Rattle.h263_types.specs.Marks.{EachIsMarked, IsMark, is_zero, marks_of, without}
 use Rattle.quantiser.specs.Factors.{HasSameLevels, IsWord, limited_to_word}
@@ -126,6 +126,31 @@ set_one one s keep block at k rest levels v mark place room level range before =
           (get_or-set_other levels k j v (pos 0) differs, mark.others (place_in s j) (place_below s j) other));
       range = All-set IsLevel levels k v range before.range;
     }
+
+-- a level whose mark is still there isn't set yet
+pub not_yet : IsOneOrder → (s : Standing) (keep : ℕ) (block : List ℤ) (at k rest : ℕ) (levels : List ℤ) → IsMark rest at → k ≡ order_of s at → k < 64 →
+    AreSet s keep block rest levels → get_or levels k (pos 0) ≡ pos 0
+not_yet one s keep block at k rest levels mark place less before =
+    let back : place_in s k ≡ at = ap (place_in s) place ∙ order_back one s at mark.below in
+    before.stand k less
+    ∙ ap (λ (n : ℕ). cond (nat_eq n 0) (kept_level keep k (get_or block (place_in s k) (pos 0))) (pos 0)) (ap (bit_at rest) back ∙ mark.set)
+
+-- the marks that are left are some of those before
+pub left_marks : (rest at i : ℕ) → bit_at (without rest at) i ≡ 1 → bit_at rest i ≡ 1
+left_marks rest at i e = omega (arith, e, bit_at_and rest (bit_not w64 (1 * 2 ^ at % 2 ^ 64)) i, bit_at-lt rest i)
+
+kept_by : (b : Bool) (z : ℤ) → IsLevel z → IsLevel (cond b z (pos 0))
+kept_by true z h = h
+kept_by false z h = zero_level
+
+pub kept_range : (keep k : ℕ) (z : ℤ) → IsLevel z → IsLevel (kept_level keep k z)
+kept_range keep k z h = kept_by (nat_lt k keep) z h
+
+pub kept_before : (keep k : ℕ) (z : ℤ) → k < keep → kept_level keep k z ≡ z
+kept_before keep k z h = grind (arith, nat_tests)
+
+pub kept_from : (keep k : ℕ) (z : ℤ) → keep ≤ k → kept_level keep k z ≡ pos 0
+kept_from keep k z h = grind (arith, nat_tests)
 
 all_gone : (bit : ℕ) (now v : ℤ) → bit ≡ 0 → now ≡ cond (nat_eq bit 0) v (pos 0) → now ≡ v
 all_gone bit now v none h = grind (arith, nat_tests)

@@ -1,6 +1,7 @@
 //! The levels of a block's coefficients.
 ghost use Rattle.std.specs.Prelude.{◌≡◌, ℕ, ◌≤◌, ◌<◌, pos, All, length, replicate, slice_index_or};
 ghost use Rattle.h263_types.specs.Blocks.{IsCoefficient, IsLevel, IsQuant};
+ghost use Rattle.h263_types.specs.Marks.{marks_of};
 ghost use Rattle.quantiser.specs.Factors.{IsFactor, IsWord, limited_to_word};
 ghost use Rattle.quantiser.specs.Zigzag.{block_place_of};
 ghost use Rattle.mode_choice.specs.Walk.{least_of, level_by, level_in};
@@ -42,14 +43,14 @@ pub(crate) fn least_size(coding: Coding, quant: u8) -> u32
 }
 
 // Puts the levels of coefficients that stand by rows into zeros, in the zigzag order: 0 from place
-// `keep` on. The first one is a level as the others are.
+// `keep` on. The first one is a level as the others are. Gives the marks of what it put.
 #[inline(always)]
 pub(crate) fn levels_in(
     coding: Coding,
     quantisation: Quantisation,
     coefficients: &[i32; 64],
     out: &mut [i16; 64],
-)
+) -> u64
     requires quant { IsQuant quantisation.quant }
     requires factor { IsFactor quantisation.quant quantisation.factor }
     requires coefficients { (at : ℕ)
@@ -59,9 +60,10 @@ pub(crate) fn levels_in(
     ensures levels { (k : ℕ) → k < 64 → slice_index_or out.new k (pos 0)
         ≡ level_in coding quantisation.quant quantisation.keep
         (slice_index_or coefficients.now (block_place_of k) (pos 0)) k }
+    ensures marks { result ≡ marks_of out.new }
 {
     let by_rows = levels_by_rows(coding, quantisation, coefficients);
-    put_in_order(Standing::ByRows, &by_rows, quantisation.keep, out);
+    put_in_order(Standing::ByRows, &by_rows, quantisation.keep, out)
 }
 
 // The levels of all coefficients, by rows. There is no branch on any of them, so that they are

@@ -10,7 +10,7 @@ ghost use Rattle.mode_choice.specs.Walk.{zero_block};
 
 use crate::coefficients::{Coding, Quantisation};
 use crate::transformed::transformed;
-use h263_types::Block;
+use h263_types::{Block, laws as types_laws};
 
 // Puts the levels of a block of samples into a block of zeros, and gives their marks.
 pub(crate) fn intra_block(quantisation: Quantisation, samples: &[i16; 64], out: &mut Block) -> u64
@@ -22,9 +22,11 @@ pub(crate) fn intra_block(quantisation: Quantisation, samples: &[i16; 64], out: 
     ensures range { IsIntraBlock out.new }
     ensures marks { result ≡ marks_of out.new.levels }
 {
-    let first = transformed(Coding::Intra, quantisation, samples, &mut out.levels);
+    types_laws::marks();
+    let (first, marks) = transformed(Coding::Intra, quantisation, samples, &mut out.levels);
     out.levels[0] = intra_dc(first);
-    out.marks()
+    // INTRADC is never 0.
+    marks | 1
 }
 
 // The INTRADC value of a block's first coefficient.

@@ -30,8 +30,8 @@ pub(crate) fn residual_block(
     if are_small(quantisation.quant, residuals) {
         return 0;
     }
-    transformed(Coding::Inter, quantisation, residuals, &mut out.levels);
-    out.marks()
+    let (_first, marks) = transformed(Coding::Inter, quantisation, residuals, &mut out.levels);
+    marks
 }
 
 // Whether residuals are so small that they leave no level, which needs no transform. Most blocks of

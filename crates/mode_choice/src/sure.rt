@@ -1,6 +1,7 @@
 //! Levels that sixteenths of the coefficients tell, without the coefficients.
 ghost use Rattle.std.specs.Prelude.{◌≡◌, ℕ, ◌+◌, ◌*◌, ◌<◌, ◌≤◌, ℤ, pos, All, IsTrue, false, length, replicate, slice_index_or, unsigned_abs};
 ghost use Rattle.h263_types.specs.Blocks.{IsLevel, IsQuant};
+ghost use Rattle.h263_types.specs.Marks.{marks_of};
 ghost use Rattle.idct8.specs.Near.{IsBracketed};
 ghost use Rattle.quantiser.specs.Factors.{IsFactor, IsWord};
 ghost use Rattle.mode_choice.specs.declared.order.Standing.TheVariants.{ByColumns};
@@ -9,37 +10,39 @@ ghost use Rattle.mode_choice.specs.Walk.{half_of, level_by, level_in, place_in};
 use crate::coefficients::{Coding, Quantisation, least_size};
 use crate::order::{Standing, put_in_order};
 use h263_types::laws as types_laws;
-use quantiser::{laws as quantiser_laws, level_between};
+use quantiser::{laws as quantiser_laws, level_with_rest};
 
-// Puts the levels into zeros, in the zigzag order, and says whether all are sure; where one isn't,
-// the zeros stay. The sixteenths stand by columns.
+// Puts the levels into zeros, in the zigzag order, and says whether all are sure, with the marks of
+// what it put; where one isn't sure, the zeros stay. The sixteenths stand by columns.
 #[inline(always)]
 pub(crate) fn sure_levels_in(
     coding: Coding,
     quantisation: Quantisation,
     sixteenths: &[i16; 64],
     out: &mut [i16; 64],
-) -> bool
+) -> (bool, u64)
     requires quant { IsQuant quantisation.quant }
     requires factor { IsFactor quantisation.quant quantisation.factor }
     requires words { All IsWord sixteenths.now }
     requires zeros { out.old ≡ replicate 64 (pos 0) }
-    ensures unsure { result ≡ false → out.new ≡ out.old }
+    ensures unsure { result.0 ≡ false → out.new ≡ out.old }
     ensures long { length out.new ≡ 64 }
-    ensures levels { IsTrue result → (k : ℕ) (coefficient : ℤ) → k < 64
+    ensures levels { IsTrue result.0 → (k : ℕ) (coefficient : ℤ) → k < 64
         → IsBracketed (slice_index_or sixteenths.now (place_in ByColumns k) (pos 0)) coefficient
         → slice_index_or out.new k (pos 0)
         ≡ level_in coding quantisation.quant quantisation.keep coefficient k }
+    ensures marks { result.1 ≡ marks_of out.new }
 {
     if have_none(coding, quantisation.quant, sixteenths) {
-        return true;
+        return (true, 0);
     }
     let mut levels = [0; 64];
     let sure = sure_levels(coding, quantisation, sixteenths, &mut levels);
     if sure {
-        put_in_order(Standing::ByColumns, &levels, quantisation.keep, out);
+        let marks = put_in_order(Standing::ByColumns, &levels, quantisation.keep, out);
+        return (true, marks);
     }
-    sure
+    (false, 0)
 }
 
 // Whether no level is left, as of most residuals that are transformed. Of a block that is coded by
@@ -85,9 +88,10 @@ fn largest(sixteenths: &[i16; 64]) -> u16
     largest
 }
 
-// The levels where they stand, and whether all are sure. There is no branch on any of them, so that
-// they are taken together, eight at a time. Of a block with one that isn't sure all are found
-// again: that is rare, and costs less than to look for the one.
+// The levels where they stand, and whether all are sure: whether the most that is left of one is
+// little enough. There is no branch on any of them, so that they are taken together, eight at a
+// time. Of a block with one that isn't sure all are found again: that is rare, and costs less than
+// to look for the one.
 #[inline(always)]
 fn sure_levels(
     coding: Coding,
@@ -106,16 +110,17 @@ fn sure_levels(
     ensures range { All IsLevel levels.new }
 {
     quantiser_laws::settled();
+    quantiser_laws::rest_settles();
     types_laws::one_more::<i16>();
     let Quantisation { quant, factor, .. } = quantisation;
     let half = half_step(coding, quant);
-    let mut unsure: u16 = 0;
+    let mut most: u16 = 0;
     for at in 0..64 {
-        let (level, sure) = level_between(quant, factor, half, sixteenths[at]);
+        let (level, rest) = level_with_rest(quant, factor, half, sixteenths[at]);
         levels[at] = level;
-        unsure += u16::from(!sure);
+        most = most.max(rest);
     }
-    unsure == 0
+    most + 3 < 32 * u16::from(quant)
 }
 
 // What is taken from a coefficient's size before the steps are counted.

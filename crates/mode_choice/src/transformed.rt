@@ -2,6 +2,7 @@
 ghost use Rattle.std.specs.Prelude.{◌≡◌, ℕ, ◌<◌, pos, ◌+ℤ◌, All, length, replicate, slice_index_or};
 ghost use Rattle.std.specs.Int.{int_shr};
 ghost use Rattle.h263_types.specs.Blocks.{IsCoefficient, IsQuant};
+ghost use Rattle.h263_types.specs.Marks.{marks_of};
 ghost use Rattle.idct8.specs.Ranges.{IsSample, Within};
 ghost use Rattle.idct8.specs.Transform.{forward_at};
 ghost use Rattle.quantiser.specs.Factors.{IsFactor};
@@ -17,23 +18,25 @@ use idct8::{forward, laws as idct8_laws, nearly};
 const LEAST_NEARLY: u8 = 5;
 
 // Puts the levels of samples into zeros, in the zigzag order: 0 from place `keep` on. The first one
-// is a level as the others are. Gives the first coefficient, of which INTRADC is made.
+// is a level as the others are. Gives the first coefficient, of which INTRADC is made, and the marks
+// of the levels.
 #[inline(always)]
 pub(crate) fn transformed(
     coding: Coding,
     quantisation: Quantisation,
     samples: &[i16; 64],
     out: &mut [i16; 64],
-) -> i32
+) -> (i32, u64)
     requires quant { IsQuant quantisation.quant }
     requires factor { IsFactor quantisation.quant quantisation.factor }
     requires samples { All IsSample samples.now }
     requires zeros { out.old ≡ replicate 64 (pos 0) }
-    ensures first { result ≡ forward_at samples.now 0 0 }
-    ensures first_range { IsCoefficient result }
+    ensures first { result.0 ≡ forward_at samples.now 0 0 }
+    ensures first_range { IsCoefficient result.0 }
     ensures long { length out.new ≡ 64 }
     ensures levels { (k : ℕ) → k < 64 → slice_index_or out.new k (pos 0)
         ≡ level_in coding quantisation.quant quantisation.keep (coefficient_at samples.now k) k }
+    ensures marks { result.1 ≡ marks_of out.new }
 {
     if quantisation.quant < LEAST_NEARLY {
         return exactly(coding, quantisation, samples, out);
@@ -41,8 +44,9 @@ pub(crate) fn transformed(
     idct8_laws::near_brackets();
     idct8_laws::first_is_exact();
     let sixteenths = nearly(samples);
-    if sure_levels_in(coding, quantisation, &sixteenths, out) {
-        first_coefficient(sixteenths[0])
+    let (sure, marks) = sure_levels_in(coding, quantisation, &sixteenths, out);
+    if sure {
+        (first_coefficient(sixteenths[0]), marks)
     } else {
         exactly(coding, quantisation, samples, out)
     }
@@ -64,18 +68,19 @@ fn exactly(
     quantisation: Quantisation,
     samples: &[i16; 64],
     out: &mut [i16; 64],
-) -> i32
+) -> (i32, u64)
     requires quant { IsQuant quantisation.quant }
     requires factor { IsFactor quantisation.quant quantisation.factor }
     requires samples { All IsSample samples.now }
     requires zeros { out.old ≡ replicate 64 (pos 0) }
-    ensures first { result ≡ forward_at samples.now 0 0 }
-    ensures first_range { IsCoefficient result }
+    ensures first { result.0 ≡ forward_at samples.now 0 0 }
+    ensures first_range { IsCoefficient result.0 }
     ensures long { length out.new ≡ 64 }
     ensures levels { (k : ℕ) → k < 64 → slice_index_or out.new k (pos 0)
         ≡ level_in coding quantisation.quant quantisation.keep (coefficient_at samples.now k) k }
+    ensures marks { result.1 ≡ marks_of out.new }
 {
     let coefficients = forward(samples);
-    levels_in(coding, quantisation, &coefficients, out);
-    coefficients[0]
+    let marks = levels_in(coding, quantisation, &coefficients, out);
+    (coefficients[0], marks)
 }

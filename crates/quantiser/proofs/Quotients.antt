@@ -1,7 +1,7 @@
 -- A quotient by a product, and no more steps than 127.
 use Rattle.std.proofs.Common.{◌≡◌, ℕ, ◌+◌, ◌-◌, ◌*◌, ◌/◌, ◌%◌, ◌^◌, ◌<◌, ◌≤◌, Bool, true, false, min, nat_lt, ltb-true, refl, sym, ap, subst, ◌∙◌, arith}
 use Rattle.std.proofs.lemmas.Bool.Decides.{nat_tests}
-use Rattle.std.proofs.lemmas.Nat.{div-mul-add}
+use Rattle.std.proofs.lemmas.Nat.{div-mul-add, pow-add}
 use Rattle.std.proofs.Math.Nat.{div-div-eq-div-mul, div-lt_iff_lt-mul, mul-le-mul, mul-le-mul_left, pow-le-pow_right}
 use Rattle.h263_types.specs.Blocks.{IsQuant}
 use Rattle.quantiser.specs.declared.coefficients.Factor.{Factor}
@@ -74,17 +74,53 @@ product_of q k some =
     let rest : (32768 * k + (q - 1)) % q < q = omega (arith, some) in
     omega (arith, whole, rest)
 
--- what the rounding adds, 2 * (q - 1) at most, is so little that 2 ^ 15 times as much is below 2 ^ 16 times the power of two
-pub exact : (q size : ℕ) (f : Factor) → IsQuant q → IsFactor q f → size ≤ 32768 → size * f.number / 2 ^ 16 / 2 ^ f.shift ≡ size / (2 * q)
-exact q size f h is few =
+-- what the rounding adds, 2 * (q - 1) at most, is so little that 2 ^ 15 + 6 times as much is below 2 ^ 16 times the power of two
+exact_beyond : (q size : ℕ) (f : Factor) → IsQuant q → IsFactor q f → size ≤ 32774 → size * f.number / 2 ^ 16 / 2 ^ f.shift ≡ size / (2 * q)
+exact_beyond q size f h is few =
     let k : ℕ = 2 ^ f.shift in
     let e : ℕ = 2 * (q - 1 - (32768 * k + (q - 1)) % q) in
     let some : 0 < q = omega (arith, h.low) in
     let reaches : q ≤ k = is.shift.reaches in
     let number : f.number * (2 * q) ≡ 65536 * k + e = ap (λ (m : ℕ). m * (2 * q)) is.number ∙ product_of q k some in
-    let small : size * e ≤ 32768 * (2 * (q - 1)) = mul-le-mul few (let added : e ≤ 2 * (q - 1) = omega arith in added) in
-    let less : size * e < 65536 * k = omega (arith, small, reaches, h.low) in
+    let small : size * e ≤ 32774 * (2 * (q - 1)) = mul-le-mul few (let added : e ≤ 2 * (q - 1) = omega arith in added) in
+    let less : size * e < 65536 * k = omega (arith, small, reaches, h.low, h.high) in
     div-div-eq-div-mul (size * f.number) 65536 k ∙ by_product (65536 * k) size (2 * q) f.number e (omega (arith, some)) number less
+
+pub exact : (q size : ℕ) (f : Factor) → IsQuant q → IsFactor q f → size ≤ 32768 → size * f.number / 2 ^ 16 / 2 ^ f.shift ≡ size / (2 * q)
+exact q size f h is few = exact_beyond q size f h is (omega (arith, few))
+
+-- sixteenths of a size in steps of twice the quantiser
+pub in_sixteenths : (q size : ℕ) → size / 16 / (2 * q) ≡ size / (32 * q)
+in_sixteenths q size =
+    let whole : 16 * (2 * q) ≡ 32 * q = omega arith in
+    div-div-eq-div-mul size 16 (2 * q) ∙ ap (λ (d : ℕ). size / d) whole
+
+-- with four bits of shift more the product gives the quotient of sixteenths
+pub exact_sixteenths : (q size : ℕ) (f : Factor) → IsQuant q → IsFactor q f → size ≤ 32774 → size * f.number / 2 ^ 16 / 2 ^ (f.shift + 4) ≡ size / (32 * q)
+exact_sixteenths q size f h is few =
+    let n : ℕ = size * f.number / 2 ^ 16 in
+    let whole : 2 * q * 16 ≡ 32 * q = omega arith in
+    ap (λ (d : ℕ). n / d) (pow-add 2 f.shift 4)
+    ∙ sym (div-div-eq-div-mul n (2 ^ f.shift) 16)
+    ∙ ap (λ (k : ℕ). k / 16) (exact_beyond q size f h is few)
+    ∙ div-div-eq-div-mul size (2 * q) 16
+    ∙ ap (λ (d : ℕ). size / d) whole
+
+-- the quotient as the product has it, and what is left
+pub product_quotient : (q size a b : ℕ) (f : Factor) → IsQuant q → IsFactor q f → size ≤ 32774 → a ≡ size → b ≡ f.number → a * b / 65536 / 2 ^ (f.shift + 4) ≡ size / (32 * q)
+product_quotient q size a b f h is few first second =
+    let product : a * b ≡ size * f.number = cc (first, second) in
+    ap (λ (k : ℕ). k / 65536 / 2 ^ (f.shift + 4)) product ∙ exact_sixteenths q size f h is few
+
+pub product_steps : (q size a b n : ℕ) (f : Factor) → IsQuant q → IsFactor q f → size ≤ 32774 → a ≡ size → b ≡ f.number → n ≡ q →
+    a * b / 65536 / 2 ^ (f.shift + 4) * (32 * n) ≡ size / (32 * q) * (32 * q)
+product_steps q size a b n f h is few first second third =
+    ap (λ (k : ℕ). k * (32 * n)) (product_quotient q size a b f h is few first second) ∙ ap (λ (k : ℕ). size / (32 * q) * (32 * k)) third
+
+pub rest_after : (n d : ℕ) → 0 < d → n - n / d * d ≡ n % d
+rest_after n d some =
+    let whole : d * (n / d) + n % d ≡ n = omega (arith, some) in
+    omega (arith, whole)
 
 -- the power of two isn't above 32
 shift_by : (b : Bool) (q shift : ℕ) → nat_lt shift 6 ≡ b → IsQuant q → 2 ^ shift < 2 * q → shift < 6

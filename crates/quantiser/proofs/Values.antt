@@ -3,7 +3,7 @@ use Rattle.std.proofs.Common.{◌≡◌, ℕ, zero, suc, ◌^◌, ◌≤◌, min
 use Rattle.std.specs.Int.{int_max, int_min, int_signum}
 use Rattle.std.proofs.lemmas.Int.{ints, clamps}
 use Rattle.h263_types.specs.Blocks.{IsLevel, IsValue}
-use Rattle.quantiser.specs.Levels.{value_of, value_size}
+use Rattle.quantiser.specs.Levels.{signed_of, value_of, value_size}
 
 pub kept_level : (z : ℤ) → IsLevel z → to_z w16 (of_z w16 z) ≡ z
 kept_level z h = omega (arith, ints)
@@ -51,3 +51,6 @@ same_product z sign size n e h within =
     ap (λ (k : ℤ). to_z w32 (of_z w32 (k *ℤ to_z w32 (of_z w32 size)))) first
     ∙ ap (λ (k : ℤ). to_z w32 (of_z w32 (int_signum z *ℤ k))) second
     ∙ kept_product z n within
+
+pub signed_same : (a b s : ℤ) (n : ℕ) → a ≡ s → b ≡ pos n → signed_of a b ≡ signed_of s (pos n)
+signed_same a b s n first second = cc (first, second)

@@ -1,11 +1,11 @@
 //! The levels of coefficients (H.263, 6.2.1 and 6.2.2 the other way). A level is a quotient by
 //! twice the quantiser; many of one quantiser are found by a product in place of each division, in
 //! numbers of 16 bits, of which a processor's lane holds twice as many as of 32.
-ghost use Rattle.std.specs.Prelude.{◌≡◌, ℕ, ◌+◌, ◌-◌, ◌*◌, ◌/◌, ◌≤◌, IsTrue, min, pos, unsigned_abs};
+ghost use Rattle.std.specs.Prelude.{◌≡◌, ℕ, ◌+◌, ◌-◌, ◌*◌, ◌/◌, ◌%◌, ◌≤◌, IsTrue, min, pos, unsigned_abs};
 ghost use Rattle.h263_types.specs.Blocks.{IsCoefficient, IsLevel, IsQuant};
 ghost use Rattle.quantiser.specs.Levels.{inter_level, intra_level, signed_of};
 ghost use Rattle.quantiser.specs.Factors.{IsFactor, IsShift, IsWord, limited_to_word};
-ghost use Rattle.quantiser.specs.Settled.{steps_of};
+ghost use Rattle.quantiser.specs.Settled.{rest_of, steps_of};
 
 /// What a size is multiplied by, and how far the product's upper 16 bits are then shifted, in the
 /// place of a division by twice the quantiser.
@@ -127,6 +127,41 @@ fn steps(quant: u8, factor: Factor, size: u16) -> u16
     steps.min(127)
 }
 
+// How many steps of 32 times the quantiser sixteenths of a size have, 127 at most, and what is left
+// of them after all their steps. The factor is exact for a little more than 2^15, too.
+#[inline(always)]
+fn steps_and_rest(quant: u8, factor: Factor, size: u16) -> (u16, u16)
+    requires quant { IsQuant quant }
+    requires factor { IsFactor quant factor }
+    requires size { size ≤ 32774 }
+    ensures steps { result.0 ≡ min (size / (32 * quant)) 127 }
+    ensures most { result.0 ≤ 127 }
+    ensures rest { result.1 ≡ size % (32 * quant) }
+{
+    let product = u32::from(size) * u32::from(factor.number);
+    let steps = (product >> 16) as u16 >> (factor.shift + 4);
+    (steps.min(127), size - steps * (32 * u16::from(quant)))
+}
+
+/// The level of a coefficient of which sixteenths are known that are off by one and a half at most,
+/// less `half` of a step, and what is left of the sixteenths of the least that its size can be after
+/// all its steps. The level is sure where no step begins within three sixteenths more
+/// ([`rest_settles`](crate::laws::rest_settles)).
+#[inline(always)]
+pub fn level_with_rest(quant: u8, factor: Factor, half: u16, sixteenths: i16) -> (i16, u16)
+    requires quant { IsQuant quant }
+    requires factor { IsFactor quant factor }
+    requires sixteenths { IsWord sixteenths }
+    ensures level { result.0 ≡ signed_of sixteenths
+        (pos (steps_of quant ((unsigned_abs sixteenths + 6) / 16 - half))) }
+    ensures rest { result.1 ≡ rest_of quant half sixteenths }
+    ensures range { IsLevel result.0 }
+{
+    let least = (sixteenths.unsigned_abs() + 6).saturating_sub(16 * half.min(4095));
+    let (steps, rest) = steps_and_rest(quant, factor, least);
+    (signed(sixteenths, steps as i16), rest)
+}
+
 /// The level of a coefficient of which sixteenths are known that are off by one and a half at most,
 /// less `half` of a step, and whether it is sure: whether the least and the most that the
 /// coefficient can be have as many steps ([`settled`](crate::laws::settled)).
@@ -141,10 +176,8 @@ pub fn level_between(quant: u8, factor: Factor, half: u16, sixteenths: i16) -> (
         ≡ steps_of quant ((unsigned_abs sixteenths + 9) / 16 - half) }
     ensures range { IsLevel result.0 }
 {
-    let size = sixteenths.unsigned_abs();
-    let least = steps(quant, factor, ((size + 6) / 16).saturating_sub(half));
-    let most = steps(quant, factor, ((size + 9) / 16).saturating_sub(half));
-    (signed(sixteenths, least as i16), least == most)
+    let (level, rest) = level_with_rest(quant, factor, half, sixteenths);
+    (level, rest + 3 < 32 * u16::from(quant))
 }
 
 // `size`, 0 to 127, with the sign of `number`.

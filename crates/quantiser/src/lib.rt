@@ -2,8 +2,8 @@
 //! of coefficients, and the zigzag order of a block's levels (6.2.3).
 //!
 //! [`value`] is of a level, [`level_intra`] and [`level_inter`] are of a coefficient; those
-//! `_by_factor` find many levels of one quantiser, [`level_between`] is of a coefficient that is
-//! only bracketed;
+//! `_by_factor` find many levels of one quantiser, [`level_with_rest`] and [`level_between`] are of a
+//! coefficient that is only bracketed;
 //! [`block_place`] and [`zigzag_place`] lead from one order to the other.
 //!
 //! ```rust
@@ -23,7 +23,7 @@ ghost use Rattle.quantiser.specs.Levels.{value_of, value_size};
 
 pub use coefficients::{
     Factor, factor_of, level_between, level_inter, level_inter_by_factor, level_intra,
-    level_intra_by_factor, limited,
+    level_intra_by_factor, level_with_rest, limited,
 };
 pub use scan::{block_place, zigzag_place};
 

@@ -6,8 +6,8 @@ use Rattle.mode_choice.proofs.Levels.{no_levels}
 use Rattle.mode_choice.proofs.Marked.{none_of_zeros}
 use Rattle.mode_choice.proofs.residual.residual_block.Goals as goal
 
-pub transformed-requires-clause-zeros : goal.transformed-requires-clause-zeros
-transformed-requires-clause-zeros c = ap (λ (b : Block). b.levels) c.requires.zeros
+pub transformed-first-requires-clause-zeros : goal.transformed-first-requires-clause-zeros
+transformed-first-requires-clause-zeros c = ap (λ (b : Block). b.levels) c.requires.zeros
 
 pub returns-then-are_small-clause-levels : goal.returns-then-are_small-clause-levels
 returns-then-are_small-clause-levels c = c.requires.zeros ∙ no_levels c.args.quantisation.quant c.args.quantisation.keep c.args.residuals.now (c.are_small.ensures c.if-are_small.true)
@@ -19,5 +19,5 @@ pub returns-clause-levels : goal.returns-clause-levels
 unfolding residual_levels_of
 returns-clause-levels c =
     let block : List ℤ → Block = λ ls. record { levels = ls } in
-    ap block (fill_by_all (λ (k : ℕ). residual_level_of c.args.quantisation.quant c.args.quantisation.keep k (coefficient_at c.args.residuals.now k)) c.transformed.new.out 64 (pos 0) c.transformed.ensures.long
-    c.transformed.ensures.levels)
+    ap block (fill_by_all (λ (k : ℕ). residual_level_of c.args.quantisation.quant c.args.quantisation.keep k (coefficient_at c.args.residuals.now k)) c.transformed-first.new.out 64 (pos 0) c.transformed-first.ensures.long
+    c.transformed-first.ensures.levels)

@@ -3,6 +3,7 @@ use Rattle.std.proofs.lemmas.List.{get_or-replicate}
 use Rattle.mode_choice.specs.Walk.{kept_level, place_in, level_by}
 use Rattle.mode_choice.specs.declared.order.Standing.TheVariants.{ByColumns}
 use Rattle.mode_choice.proofs.Levels.{kept_nothing}
+use Rattle.mode_choice.proofs.Marked.{none_in_zeros}
 use Rattle.mode_choice.proofs.Walk.{place_below}
 use Rattle.mode_choice.proofs.sure.sure_levels_in.Goals as goal
 
@@ -13,7 +14,13 @@ returns-then-have_none-clause-levels c sure k f less near =
     ∙ kept_nothing (nat_lt k c.args.quantisation.keep) (level_by c.args.coding c.args.quantisation.quant f)
     (c.have_none.ensures c.if-have_none.true (place_in ByColumns k) f (place_below ByColumns k) near)
 
+pub returns-then-have_none-clause-marks : goal.returns-then-have_none-clause-marks
+returns-then-have_none-clause-marks c = none_in_zeros c.args.out.now c.requires.zeros
+
+pub returns-clause-marks : goal.returns-clause-marks
+returns-clause-marks c = none_in_zeros c.args.out.now c.requires.zeros
+
 pub returns-then-sure-clause-levels : goal.returns-then-sure-clause-levels
 returns-then-sure-clause-levels c sure k f less near =
-    c.put_in_order.ensures.levels k less
-    ∙ ap (kept_level c.args.quantisation.keep k) (c.sure_levels-sure.ensures.levels sure (place_in ByColumns k) f (place_below ByColumns k) near)
+    c.put_in_order-marks.ensures.levels k less
+    ∙ ap (kept_level c.args.quantisation.keep k) (c.sure_levels-sure.ensures.levels c.if-sure.true (place_in ByColumns k) f (place_below ByColumns k) near)

@@ -5,8 +5,8 @@ use Rattle.mode_choice.proofs.Levels.{coefficient_kept, is_coefficient}
 use Rattle.mode_choice.proofs.Walk.{is_forward_at}
 use Rattle.mode_choice.proofs.transformed.exactly.Goals as goal
 
-pub levels_in-requires-clause-coefficients : goal.levels_in-requires-clause-coefficients
-levels_in-requires-clause-coefficients c at h = is_coefficient c.forward-coefficients.result at h c.forward-coefficients.ensures.range
+pub levels_in-marks-requires-clause-coefficients : goal.levels_in-marks-requires-clause-coefficients
+levels_in-marks-requires-clause-coefficients c at h = is_coefficient c.forward-coefficients.result at h c.forward-coefficients.ensures.range
 
 pub returns-clause-first : goal.returns-clause-first
 returns-clause-first c =
@@ -20,5 +20,5 @@ returns-clause-first_range c =
 
 pub returns-clause-levels : goal.returns-clause-levels
 returns-clause-levels c k h =
-    c.levels_in.ensures.levels k h
+    c.levels_in-marks.ensures.levels k h
     ∙ ap (λ (f : ℤ). level_in c.args.coding c.args.quantisation.quant c.args.quantisation.keep f k) (is_forward_at c.forward-coefficients.result c.args.samples.now k c.forward-coefficients.ensures.coefficients)
