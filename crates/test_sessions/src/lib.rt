@@ -5,3 +5,5 @@
 mod playout_times_tests;
 #[cfg(test)]
 mod stream_choice_tests;
+#[cfg(test)]
+mod stream_numbers_tests;

@@ -1,0 +1,17 @@
+//! Laws of the numbers, over the definitions alone.
+ghost use Rattle.stream_numbers.specs.Laws.{Found, NearestIsFound, NeverAhead};
+
+/// A number is found by its rest where it is less than half a period from where it is looked for.
+pub fn nearest()
+    ensures { NearestIsFound }
+{}
+
+/// A packet near the newest picture gets the number and the time that it means.
+pub fn found()
+    ensures { Found }
+{}
+
+/// No stream runs ahead of the clock by more than its credit.
+pub fn never_ahead()
+    ensures { NeverAhead }
+{}
