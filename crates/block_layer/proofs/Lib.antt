@@ -7,3 +7,4 @@ pub mod Spelt
 pub mod Lengths
 pub mod Marks
 pub mod FaultRows
+pub mod Gathered

@@ -3,3 +3,4 @@ pub mod Placed
 pub mod Step
 pub mod Faults
 pub mod Laws
+pub mod Waiting

@@ -29,4 +29,6 @@ mod words;
 
 pub use code::Coefficient;
 pub use macroblock::{MbClass, Mcbpc, read_dquant, read_mcbpc, write_dquant, write_mcbpc};
-pub use words::{read_cbpy, read_event, read_mvd, write_cbpy, write_event, write_mvd};
+pub use words::{
+    event_number, read_cbpy, read_event, read_mvd, write_cbpy, write_event, write_mvd,
+};

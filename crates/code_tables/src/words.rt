@@ -1,7 +1,7 @@
 //! The words of CBPY, MVD and the events of TCOEF, read and written.
-ghost use Rattle.std.specs.Prelude.{◌≡◌, ◌≢◌, ℕ, ℤ, pos, negsuc, ◌+◌, ◌-◌, ◌++◌, List, Bool, slice_get, IfOk, IfErr, IsOkAnd, IfSome, ◌<◌, ◌≤◌, ◌≤ℤ◌, length};
+ghost use Rattle.std.specs.Prelude.{◌≡◌, ◌≢◌, ℕ, ℤ, pos, negsuc, ◌+◌, ◌-◌, ◌++◌, List, Bool, slice_get, IfOk, IfErr, IsOkAnd, IfSome, ◌<◌, ◌≤◌, ◌^◌, ◌≤ℤ◌, length};
 ghost use Rattle.h263_bits.specs.Written.{Appends, len_of, room_of};
-ghost use Rattle.h263_bits.specs.Bits.{fields};
+ghost use Rattle.h263_bits.specs.Bits.{fields, spelled};
 ghost use Rattle.code_tables.specs.Words.{text_at, code_at, word_of, place_in};
 ghost use Rattle.code_tables.specs.Starts.{starts_of};
 ghost use Rattle.code_tables.specs.Rows.{row_at, place_in_row};
@@ -12,7 +12,9 @@ ghost use Rattle.code_tables.specs.EventWords.{IsEventFault};
 ghost use Rattle.code_tables.specs.Tables.{cbpy, cbpy_texts, cbpy_text, magnitude_texts, size_of, sign_text, mvd_text, cbpy_words, magnitude_table, event_table, mvd, mvd_words, Coefficient as Event, signed, level_of, mvd_parts, event, event_parts, byte_of, escape_fields, event_text, IsEvent};
 ghost use Rattle.code_tables.specs.Events.{event_of_code, coefficient_of};
 
-use crate::code::{Coefficient, Level, read_code, search_code, write_code, write_signed_code};
+use crate::code::{
+    Coefficient, Level, read_code, search_code, signed_number, write_code, write_signed_code,
+};
 use crate::difference_bits::seen_difference;
 use crate::event_bits::{escape_level, level_at, seen_escape, seen_event, with_sign};
 use crate::event_tables::{EVENTS, LAST_0_ROWS, LAST_1_ROWS, LEVELS, Row};
@@ -276,18 +278,30 @@ fn level_byte(level: i8) -> u32
     }
 }
 
-// Writes an escape: its four fields as one number. Few are written, out of the way of the words.
-#[inline(never)]
-fn write_escape(writer: &mut BitWriter<'_>, event: &Coefficient)
-    requires event { IsEvent (coefficient_of event.now) }
-    requires room { len_of writer.old + 22 ≤ room_of writer.old }
-    ensures bits { Appends writer.old writer.new
-        (fields (escape_fields (coefficient_of event.now))) }
-    ensures len { len_of writer.new ≡ len_of writer.old + 22 }
+// An escape as a number of 22 bits: its four fields. Out of line, it would want each event in memory.
+#[inline(always)]
+fn escape_number(event: &Coefficient) -> u32
+    requires { IsEvent (coefficient_of event.now) }
+    ensures text { spelled 22 result ≡ fields (escape_fields (coefficient_of event.now)) }
+    ensures fits { result < 2 ^ 22 }
 {
     let head = 2 * 3 + event.last as u32;
-    let value = (head * 64 + event.run as u32) * 256 + level_byte(event.level);
-    writer.put(value, 22);
+    (head * 64 + event.run as u32) * 256 + level_byte(event.level)
+}
+
+/// The text of an event as a number, and how many bits it has, 22 at most: the word of its LAST, RUN
+/// and size with the sign, where they have one, and else an escape.
+#[inline(always)]
+pub fn event_number(event: &Coefficient) -> (u32, u32)
+    requires { IsEvent (coefficient_of event.now) }
+    ensures text { spelled result.1 result.0 ≡ event_text (coefficient_of event.now) }
+    ensures fits { result.0 < 2 ^ result.1 }
+    ensures few { result.1 ≤ 22 }
+{
+    match triple_place(event.last, event.run as usize, size(event.level)) {
+        Some(place) => signed_number(&EVENTS, place, event.level < 0),
+        None => (escape_number(event), 22),
+    }
 }
 
 /// Writes an event: the word of its LAST, RUN and size with the sign, where they have one, and else
@@ -301,8 +315,6 @@ pub fn write_event(writer: &mut BitWriter<'_>, event: &Coefficient)
     ensures len { len_of writer.new
         ≡ len_of writer.old + length (event_text (coefficient_of event.now)) }
 {
-    match triple_place(event.last, event.run as usize, size(event.level)) {
-        Some(place) => write_signed_code(writer, &EVENTS, place, event.level < 0),
-        None => write_escape(writer, event),
-    }
+    let (number, len) = event_number(event);
+    writer.put(number, len);
 }

@@ -1,5 +1,6 @@
 use Rattle.std.proofs.Common.{◌≡◌, [], ℕ, List, length, ap, sym, ◌∙◌, eq-eqb, arith}
 use Rattle.std.specs.Prelude.{ℤ}
+use Rattle.h263_bits.specs.Bits.{spelled}
 use Rattle.h263_bits.proofs.SyntaxLaws.{appends_none}
 use Rattle.h263_types.specs.Marks.{marks_of}
 use Rattle.block_layer.specs.Text.{inter_text}
@@ -18,6 +19,10 @@ write_levels-requires-clause-levels c = record { sizes = λ k after inside. size
 
 pub returns-then-marks-ne0-clause-spells : goal.returns-then-marks-ne0-clause-spells
 returns-then-marks-ne0-clause-spells c = inter_written c.in_a_syntax.ensures c.args.block.now c.requires.whole c.requires.block
+
+pub returns-then-marks-ne0-clause-bits : goal.returns-then-marks-ne0-clause-bits
+unfolding inter_text spelled
+returns-then-marks-ne0-clause-bits c = c.write_levels.ensures.bits
 
 pub returns-else-marks-ne0-clause-bits : goal.returns-else-marks-ne0-clause-bits
 returns-else-marks-ne0-clause-bits c =

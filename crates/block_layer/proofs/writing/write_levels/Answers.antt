@@ -1,8 +1,10 @@
-use Rattle.std.proofs.Common.{◌≡◌, ◌+◌, ◌/◌, ◌^◌, ◌++◌, Bool, List, length, ap, sym, ◌∙◌, subst, arith, refl}
+use Rattle.std.proofs.Common.{◌≡◌, ◌+◌, ◌/◌, ◌^◌, ◌++◌, Bool, List, length, ap, sym, ◌∙◌, subst, append_assoc, arith, refl}
 use lib.Count.{count_trailing_zeros}
 use Rattle.h263_bits.specs.Written.{written}
+use Rattle.h263_bits.proofs.SyntaxLaws.{length-spelled}
 use Rattle.code_tables.specs.Tables.{IsEvent}
 use Rattle.block_layer.specs.Step.{level_at}
+use Rattle.block_layer.specs.Waiting.{waiting_text}
 use Rattle.block_layer.proofs.Steps.{left_text, none_text, ended, text_is}
 use Rattle.block_layer.proofs.Written.{some_size}
 use Rattle.block_layer.proofs.Marks.{marks_after, next, goes, none_next}
@@ -12,8 +14,9 @@ pub events-init : goal.events-init
 events-init c = record {
   buffer = refl;
   room = refl;
-  text = ap (λ (l : List Bool). written c.args.writer.now ++ l) (text_is c.args.from c.args.block.now.levels);
-  len = ap (λ (l : List Bool). c.args.writer.now.len + length l) (text_is c.args.from c.args.block.now.levels);
+  text = append_assoc (written c.args.writer.now) (waiting_text c.args.before) (left_text 0 c.args.from c.args.block.now.levels) ∙ ap (λ (l : List Bool). written c.args.writer.now ++ (waiting_text c.args.before ++ l)) (text_is c.args.from c.args.block.now.levels);
+  len = ap (λ (l : List Bool). c.args.writer.now.len + c.args.before.count + length l) (text_is c.args.from c.args.block.now.levels);
+  waiting = c.requires.before;
   marked = ap (λ n. n / 2 ^ c.args.from) c.requires.marks ∙ marks_after c.args.from c.args.block.now.levels;
   since = omega arith;
   within = omega arith;
@@ -30,8 +33,8 @@ event_at-requires-clause-size c =
     let n = next e.place (count_trailing_zeros 64 e.left) e.left c.args.block.now.levels c.requires.whole e.invariant.marked c.events-test.true refl in
     c.requires.levels.sizes (e.place + count_trailing_zeros 64 e.left) (omega arith) (omega (arith, n.inside))
 
-pub write_event-requires-clause-event : goal.write_event-requires-clause-event
-write_event-requires-clause-event c =
+pub event_number-number-requires : goal.event_number-number-requires
+event_number-number-requires c =
     let e = c.events in
     let levels = c.args.block.now.levels in
     let run = count_trailing_zeros 64 e.left in
@@ -42,13 +45,15 @@ write_event-requires-clause-event c =
       level = c.requires.levels.sizes (e.place + run) (omega arith) (omega (arith, n.inside));
     })
 
-pub write_event-requires-clause-room : goal.write_event-requires-clause-room
-write_event-requires-clause-room c =
+pub gather-waiting-requires-clause-room : goal.gather-waiting-requires-clause-room
+gather-waiting-requires-clause-room c =
     let e = c.events in
     let levels = c.args.block.now.levels in
     let run = count_trailing_zeros 64 e.left in
     let n = next e.place run e.left levels c.requires.whole e.invariant.marked c.events-test.true refl in
-    rw c.event_at.ensures (omega (arith, n.length))
+    let text = rw c.event_at.ensures at c.event_number-number.ensures.text in
+    let long = sym (length-spelled c.event_number-number.result.1 c.event_number-number.result.0) ∙ ap length text in
+    omega (arith, n.length, long, e.invariant.len, e.invariant.room, c.requires.room)
 
 pub events-preserved : goal.events-preserved
 events-preserved c =
@@ -56,26 +61,33 @@ events-preserved c =
     let levels = c.args.block.now.levels in
     let run = count_trailing_zeros 64 e.left in
     let n = next e.place run e.left levels c.requires.whole e.invariant.marked c.events-test.true refl in
-    let bits = c.write_event.ensures.bits in
-    let len = rw c.event_at.ensures at c.write_event.ensures.len in
+    let text = rw c.event_at.ensures at c.event_number-number.ensures.text in
+    let long = sym (length-spelled c.event_number-number.result.1 c.event_number-number.result.0) ∙ ap length text in
+    let more = c.gather-waiting.ensures in
     record {
-      buffer = bits.buffer ∙ e.invariant.buffer;
-      room = bits.room ∙ e.invariant.room;
-      text = goes e.place run e.left levels (written e.writer) (written c.write_event.new.writer) _ n (rw c.event_at.ensures at bits.text) e.invariant.text;
-      len = omega (arith, n.length, len);
+      buffer = more.buffer ∙ e.invariant.buffer;
+      room = more.room ∙ e.invariant.room;
+      text = goes e.place run e.left levels (written e.writer ++ waiting_text e.waiting) (written c.gather-waiting.new.writer ++ waiting_text c.gather-waiting.result) _ n
+          (more.text ∙ ap (λ (t : List Bool). (written e.writer ++ waiting_text e.waiting) ++ t) text) e.invariant.text;
+      len = omega (arith, n.length, long, more.len, e.invariant.len);
+      waiting = more.waiting;
       marked = n.marked;
       since = omega arith;
       within = omega (arith, n.inside);
     }
 
+pub put-requires-clause-room : goal.put-requires-clause-room
+put-requires-clause-room c = omega (arith, c.events.invariant.len, c.events.invariant.room, c.requires.room)
+
 pub returns-clause-bits : goal.returns-clause-bits
 returns-clause-bits c =
     let e = c.events in
     let none = none_next e.place e.left c.args.block.now.levels e.invariant.marked c.events-test.false in
+    let bits = c.put.ensures.bits in
     record {
-      buffer = e.invariant.buffer;
-      room = e.invariant.room;
-      text = ended 0 e.place c.args.block.now.levels (written e.writer) _ none e.invariant.text;
+      buffer = bits.buffer ∙ e.invariant.buffer;
+      room = bits.room ∙ e.invariant.room;
+      text = bits.text ∙ ended 0 e.place c.args.block.now.levels (written e.writer ++ waiting_text e.waiting) _ none e.invariant.text;
     }
 
 pub returns-clause-len : goal.returns-clause-len
@@ -83,4 +95,4 @@ returns-clause-len c =
     let e = c.events in
     let none = none_next e.place e.left c.args.block.now.levels e.invariant.marked c.events-test.false in
     let nothing : length (left_text 0 e.place c.args.block.now.levels) ≡ 0 = ap length (none_text 0 e.place c.args.block.now.levels none) in
-    omega (arith, nothing)
+    omega (arith, nothing, c.put.ensures.len, e.invariant.len)
