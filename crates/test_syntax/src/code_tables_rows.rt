@@ -2,8 +2,8 @@
 use crate::answer::{Answer, Asked, reader_of};
 use crate::stop::Stop;
 use code_tables::{
-    Coefficient, MbClass, Mcbpc, read_cbpy, read_dquant, read_event, read_mcbpc, read_mvd,
-    write_cbpy, write_dquant, write_event, write_mcbpc, write_mvd,
+    Coefficient, MbClass, Mcbpc, event_number, read_cbpy, read_dquant, read_event, read_mcbpc,
+    read_mvd, write_cbpy, write_dquant, write_event, write_mcbpc, write_mvd,
 };
 use h263_bits::BitWriter;
 use h263_types::Kind;
@@ -21,9 +21,11 @@ fn words_written() -> [u8; 2] {
     bytes
 }
 
-// The three events (0, 0, 1), (1, 0, -1) and (1, 5, -20), the last one as an escape.
-fn events_written(bytes: &mut [u8; 4]) -> u32 {
-    let mut writer = BitWriter::new(bytes);
+// The three events (0, 0, 1), (1, 0, -1) and (1, 5, -20), the last one as an escape: each as a number,
+// and all written.
+fn events_written(answer: &mut Answer) -> Result<(), Stop> {
+    let mut bytes = [0u8; 4];
+    let mut writer = BitWriter::new(&mut bytes);
     let first = Coefficient {
         last: false,
         run: 0,
@@ -42,7 +44,11 @@ fn events_written(bytes: &mut [u8; 4]) -> u32 {
     write_event(&mut writer, &first);
     write_event(&mut writer, &second);
     write_event(&mut writer, &third);
-    writer.len()
+    let len = writer.len();
+    answer.say(&event_number(&first))?;
+    answer.say(&event_number(&second))?;
+    answer.say(&event_number(&third))?;
+    Ok(answer.bits.put(&bytes, len)?)
 }
 
 // Reads words one after the other, each of the kind that is named, and says each, or its fault, and
@@ -69,11 +75,7 @@ pub fn answer(call: &str, asked: &mut Asked<'_>, answer: &mut Answer) -> Result<
     match call {
         "read" => read_words(asked, answer),
         "words_written" => Ok(answer.bits.put(&words_written(), 16)?),
-        "events_written" => {
-            let mut bytes = [0u8; 4];
-            let len = events_written(&mut bytes);
-            Ok(answer.bits.put(&bytes, len)?)
-        }
+        "events_written" => events_written(answer),
         _ => Err(Stop::Row),
     }
 }
