@@ -1,0 +1,105 @@
+//! What is chosen for a macroblock.
+ghost use Rattle.std.specs.Prelude.{◌<◌, ◌≤◌};
+
+use crate::answer::{Answer, Asked};
+use crate::idct8_rows::digest_with;
+use crate::pictures::picture;
+use crate::stop::Stop;
+use h263_planes::PictureRef;
+use h263_types::{Block, Format, Kind, Mb, Params};
+use mode_choice::{Chosen, choose, choose_into};
+use picture_header::Header;
+use std::fmt::Write;
+use test_fixtures::codec::{INTRA, PARAMS, SIZE};
+
+// A number that tells of each level of a macroblock.
+fn digest(blocks: &[Block; 6]) -> u32 {
+    let mut digest = 0;
+    for block in blocks {
+        for level in block.levels {
+            digest = digest_with(digest, i32::from(level));
+        }
+    }
+    digest
+}
+
+// What is chosen in a P picture of these bytes.
+fn chosen(frame: &[u8; SIZE], reference: &[u8; SIZE], mb: u32, keep: u8, rounding: u8) -> Mb
+    requires mb { mb < 48 }
+    requires rounding { rounding ≤ 1 }
+{
+    let header = Header {
+        kind: Kind::P,
+        rounding,
+        trp: Some(0),
+        ..INTRA
+    };
+    let params = Params { keep, ..PARAMS };
+    let frame = PictureRef::new(Format::SubQcif, frame);
+    let reference = PictureRef::new(Format::SubQcif, reference);
+    let mut chosen = Chosen::new();
+    choose_into(frame, Some(reference), mb, &header, &params, &mut chosen);
+    chosen.mb
+}
+
+// Says whether the macroblock is skipped, intra, or predicted by a vector, and the digest of its
+// levels.
+fn say_inter(mb: &Mb, answer: &mut Answer) -> Result<(), Stop> {
+    match mb {
+        Mb::Skip => write!(answer.words, " skip")?,
+        Mb::Intra { blocks, .. } => write!(answer.words, " intra {}", digest(blocks))?,
+        Mb::Inter { vector, blocks, .. } => {
+            write!(
+                answer.words,
+                " inter {} {} {}",
+                vector.x,
+                vector.y,
+                digest(blocks)
+            )?
+        }
+    }
+    Ok(())
+}
+
+// What is chosen in an I picture.
+fn chosen_intra(frame: &[u8; SIZE], mb: u32, keep: u8) -> Mb
+    requires { mb < 48 }
+{
+    let params = Params { keep, ..PARAMS };
+    let frame = PictureRef::new(Format::SubQcif, frame);
+    choose(frame, None, mb, &INTRA, &params)
+}
+
+// Says the quantiser of an intra macroblock, and each level that is not 0 by its block and its place.
+fn say_intra(mb: &Mb, answer: &mut Answer) -> Result<(), Stop> {
+    if let Mb::Intra { quant, blocks } = mb {
+        answer.say(quant)?;
+        for (at, block) in blocks.iter().enumerate() {
+            for (place, level) in block.levels.iter().enumerate() {
+                if *level != 0 {
+                    write!(answer.words, " {at}.{place}:{level}")?;
+                }
+            }
+        }
+    }
+    Ok(())
+}
+
+pub fn answer(call: &str, asked: &mut Asked<'_>, answer: &mut Answer) -> Result<(), Stop> {
+    let frame = picture(asked)?;
+    match call {
+        "in_i" => {
+            let mb = asked.number(47)?;
+            let keep = asked.number(64)? as u8;
+            say_intra(&chosen_intra(&frame, mb, keep), answer)
+        }
+        "in_p" => {
+            let reference = picture(asked)?;
+            let mb = asked.number(47)?;
+            let keep = asked.number(64)? as u8;
+            let rounding = asked.number(1)? as u8;
+            say_inter(&chosen(&frame, &reference, mb, keep, rounding), answer)
+        }
+        _ => Err(Stop::Row),
+    }
+}
