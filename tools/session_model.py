@@ -1,5 +1,5 @@
-"""The times of a session as crates/playout_times defines them: worked out anew from the list of all that came, in whole
-nanoseconds. A model to try rules on, and no part of a tool."""
+"""Numbers and times of a stream as crates/stream_numbers and crates/playout_times define them, in whole numbers: the times
+are worked out anew from the list of all that came. A model to try rules on, and no part of a tool."""
 
 import sys
 from collections.abc import Iterator
@@ -7,8 +7,7 @@ from dataclasses import dataclass
 from itertools import groupby
 from typing import Optional
 
-from calltools.numbers import Numbers
-from way_scenarios import CLOCK, Packet, Rules, Scenario, lead_of, scenarios, shown_by
+from way_scenarios import Packet, Rules, Scenario, lead_of, scenarios, shown_by
 
 SECOND = 1_000_000_000
 QUARTER = SECOND // 4
@@ -16,6 +15,45 @@ QUARTER = SECOND // 4
 _QUARTERS, _RUNS = 2, 3
 # A wait of less counts as this one: the packets of a picture that are sent with its first one are heard, too.
 LEAST_WAIT = SECOND // 1_000
+
+
+def nearest(base: int, rest: int, period: int) -> int:
+    """The number next to base that leaves this rest."""
+    top = base + period // 2 - 1
+    return top - (top - rest) % period
+
+
+class Numbers:
+    """Which picture a packet is of, and when that was captured."""
+
+    def __init__(self, rate: int, second: int) -> None:
+        self._rate, self._second = rate, second
+        self._newest = self._stamp = self._sequence = self._at = -1
+        self._credit = 2 * SECOND
+
+    def place(self, reference: int, sequence: int, timestamp: int, now: int) -> Optional[tuple[int, int]]:
+        """The picture and its time, or None where that is ahead of the clock."""
+        if self._newest < 0:
+            self._newest, self._stamp, self._sequence, self._at = reference, 2**32 + timestamp, sequence, now
+            return reference, self._stamp * 100_000 // 9
+        stamp = nearest(self._stamp, timestamp, 2**32)
+        ahead = (sequence - self._sequence) % 2**16
+        ahead = ahead if ahead < 2**15 else 0
+        ticks, part = max(0, stamp - self._stamp), 180_000 * self._second
+        pictures = (2 * ticks * self._rate + part // 2) // part
+        number = nearest(self._newest + min(pictures, ahead), reference, 256)
+        if number > self._newest:
+            passed = now - self._at
+            left = self._credit + passed + passed // 10 - self._time_of(number - self._newest)
+            if left < 0:
+                return None
+            self._newest, self._stamp, self._at = number, stamp, now
+            self._credit = min(left, 2 * SECOND)
+        self._sequence = (self._sequence + ahead) % 2**16
+        return number, stamp * 100_000 // 9
+
+    def _time_of(self, pictures: int) -> int:
+        return -(-pictures * self._second * SECOND // self._rate)
 
 
 @dataclass(frozen=True)
@@ -63,20 +101,20 @@ class Model:
     """A stream's times. What can no longer decide anything is forgotten, so that long streams are quick."""
 
     def __init__(self, scenario: Scenario) -> None:
-        self._numbers = Numbers(256, scenario.rate / scenario.second)
+        self._numbers = Numbers(scenario.rate, scenario.second)
         self._wait = max(LEAST_WAIT, round(scenario.wait * SECOND))
         self._lead = lead_of(scenario)
         self._past: list[Arrival] = []
         self._open: list[Arrival] = []
 
     def came(self, packet: Packet) -> Optional[int]:
-        stamp = packet.stamp % 2**32
-        placed = self._numbers.place(packet.picture % 256, packet.sequence % 2**16, stamp, packet.when)
+        now, stamp = round(packet.when * SECOND), packet.stamp % 2**32
+        placed = self._numbers.place(packet.picture % 256, packet.sequence % 2**16, stamp, now)
         if placed is None:
             return None
         picture, captured = placed
-        arrival = Arrival(picture, round(captured * SECOND), round(packet.when * SECOND))
-        self._past = [*self._past, arrival][-2_000:]
+        arrival = Arrival(picture, captured, now)
+        self._past = [*self._past[-2_000:], arrival]
         self._open.append(arrival)
         return picture
 
