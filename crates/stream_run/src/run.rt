@@ -57,6 +57,8 @@ impl StreamRun {
         ensures run { IfOk result IsRun }
         ensures rate { IfOk result (λ r. r.numbers.rate ≡ rate) }
         ensures params { IfOk result (λ r. r.timed.receiver.params ≡ params.now) }
+        ensures next { IfOk result (λ r. r.timed.times.next ≡ 0) }
+        ensures last { IfOk result (λ r. r.timed.times.last ≡ 0) }
         ensures stands { IfOk result (λ r. RunStands r 0 []) }
     {
         let timed = TimedReceiver::start_at(alloc, params, 0, wait)?;
@@ -93,6 +95,7 @@ impl StreamRun {
         ensures run { IsRun self.new }
         ensures rate { self.new.numbers.rate ≡ self.old.numbers.rate }
         ensures params { self.new.timed.receiver.params ≡ self.old.timed.receiver.params }
+        ensures next { self.new.timed.times.next ≡ self.old.timed.times.next }
         ensures last { self.new.timed.times.last ≤ now }
         ensures answer { (first : ℕ) (past : List Entry) → RunStands self.old first past
             → IsArrived self.old.timed.receiver.params first self.old.lead
@@ -132,6 +135,7 @@ impl StreamRun {
         ensures rate { self.new.numbers.rate ≡ self.old.numbers.rate }
         ensures params { self.new.timed.receiver.params ≡ self.old.timed.receiver.params }
         ensures next { self.new.timed.times.next ≡ self.old.timed.times.next + 1 }
+        ensures last { self.new.timed.times.last ≡ self.old.timed.times.last }
         ensures told { (first : ℕ) (past : List Entry) → RunStands self.old first past
             → let entries = entries_of first (timed_of self.old.numbers.rate first self.old.lead past) in
             IsPlayed self.old.timed.receiver.params.clock result

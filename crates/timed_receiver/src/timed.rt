@@ -42,6 +42,7 @@ impl TimedReceiver {
         ensures wait { IfOk result (λ t. t.times.wait ≡ wait) }
         ensures next { IfOk result (λ t. t.times.next ≡ number) }
         ensures played { IfOk result (λ t. t.receiver.played ≡ number) }
+        ensures last { IfOk result (λ t. t.times.last ≡ 0) }
         ensures stands { IfOk result (λ t. TimedStands t number []) }
     {
         let receiver = Receiver::start_at(alloc, params, number)?;
