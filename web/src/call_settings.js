@@ -13,8 +13,9 @@ export const SLOTS = 48;
 export const LIMIT = 1200;
 /** Bytes a picture, by format: some 215, 430 and 1,440 kbit/s. */
 export const TARGETS = Object.freeze({ "sub-qcif": 900, qcif: 1800, cif: 6000 });
-/** A datagram that is shorter is a message: no RTP packet is. */
+/** A datagram that is shorter is a message: no RTP packet is. One that is longer than a sender's longest is neither. */
 export const SHORTEST_PACKET = 12;
+export const LONGEST_PACKET = 9000;
 
 /** Seconds, on a clock that all threads of a page share and that doesn't go back. */
 export function now() {

@@ -11,7 +11,8 @@ const WISHES = Object.freeze({
 });
 
 export class Camera {
-  #stream = null;
+  #picture = null;
+  #sound = null;
   #run = 0;
 
   /** It calls `give(frame)` for each frame, which the callee closes, and `lost()` when the camera is taken away. */
@@ -20,32 +21,40 @@ export class Camera {
   }
 
   get isOn() {
-    return Boolean(this.#stream?.getVideoTracks().length);
+    return Boolean(this.#picture);
   }
 
+  /** The microphone's track, or null. */
   get sound() {
-    return this.#stream?.getAudioTracks()[0] ?? null;
+    return this.#sound;
   }
 
-  /** Asks for camera and microphone, chosen by their names where they are given; throws what the browser throws. */
+  /** Asks for the camera, and for the microphone where there is none yet, by their names where they are given; throws what the browser throws. */
   async start({ camera, microphone } = {}) {
-    this.stop();
-    const run = ++this.#run;
+    this.stopPicture();
+    const run = this.#run;
     const video = { ...WISHES, ...(camera && { deviceId: { exact: camera } }) };
     const audio = microphone ? { deviceId: { exact: microphone } } : true;
-    const stream = await asked({ video, audio });
+    const stream = await asked(this.#sound ? { video } : { video, audio });
     if (run !== this.#run) return stream.getTracks().forEach((track) => track.stop());
-    this.#stream = stream;
-    const [track] = stream.getVideoTracks();
-    if (!track) return;
-    track.addEventListener("ended", () => stream === this.#stream && this.lost());
+    this.#sound ??= stream.getAudioTracks()[0] ?? null;
+    this.#picture = stream.getVideoTracks()[0] ?? null;
+    if (!this.#picture) return;
+    const track = this.#picture;
+    track.addEventListener("ended", () => track === this.#picture && this.lost());
     this.#read(track, run);
   }
 
-  stop() {
+  stopPicture() {
     this.#run++;
-    this.#stream?.getTracks().forEach((track) => track.stop());
-    this.#stream = null;
+    this.#picture?.stop();
+    this.#picture = null;
+  }
+
+  stop() {
+    this.stopPicture();
+    this.#sound?.stop();
+    this.#sound = null;
   }
 
   #read(track, run) {
@@ -79,14 +88,14 @@ export class Camera {
   }
 }
 
-/** Camera and microphone; where one of them isn't there, the other one. */
+/** What is wished for; where one of two isn't there, the other one. */
 async function asked(wishes) {
   const { mediaDevices } = navigator;
   if (!mediaDevices?.getUserMedia) throw new DOMException("", "NotSupportedError");
   try {
     return await mediaDevices.getUserMedia(wishes);
   } catch (fault) {
-    if (fault.name !== "NotFoundError") throw fault;
+    if (fault.name !== "NotFoundError" || !wishes.audio) throw fault;
     return mediaDevices.getUserMedia({ video: wishes.video }).catch(() => mediaDevices.getUserMedia({ audio: wishes.audio }));
   }
 }

@@ -145,14 +145,19 @@ export class SelfCall {
 
 /** One's own side of a call with someone else. */
 export class OtherCall {
-  /** It calls `hear(datagram)`, `listen(stream)` when there is sound, and `ended(why)`. */
-  constructor(side, hear, listen, heardWords, ended) {
+  /** It calls `hear(datagram)`, `heard(words)`, `listen(stream)` when there is sound, and `lost()`. */
+  constructor(side, { hear, heard, listen, lost }) {
     this.side = side;
     side.onDatagram = hear;
     side.onSound = listen;
-    side.onWords = heardWords;
-    side.onState = (state) => state === "failed" && ended("lost");
-    side.words.addEventListener("close", () => ended("lost"));
+    side.onWords = heard;
+    side.onState = (state) => state === "failed" && lost();
+    side.words.addEventListener("close", lost);
+  }
+
+  /** What comes of sound. */
+  get sound() {
+    return new MediaStream(this.side.peer.getReceivers().map(({ track }) => track));
   }
 
   send(datagram) {

@@ -6,9 +6,10 @@
 import { hasLongMemory } from "../../library/web/h263rps.js";
 import { SHORTEST_PACKET } from "./call_settings.js";
 import { Camera, devices } from "./camera.js";
-import { SelfCall } from "./connection.js";
+import { OtherCall, SelfCall } from "./connection.js";
+import { Invitations } from "./invitations.js";
 import { BadNetwork } from "./network.js";
-import { Strip } from "./strip.js";
+import { Told } from "./told.js";
 import { hasText, otherLanguage, ownLanguage, text } from "./words.js";
 
 const byId = (id) => document.getElementById(id);
@@ -18,39 +19,43 @@ const SLIDERS = Object.freeze({
 });
 /** The camera that is none. */
 const MADE = "made";
-/** Seconds between two summaries for who hears the page. */
-const SUMMARY_EACH = 10;
-/** Pictures of which the shown time from camera to screen is the middle. */
-const LATE_OF = 60;
+/** Milliseconds for which a connection stays after one has hung up. */
+const FAREWELL = 3000;
+/** Milliseconds between two tellings of the numbers. */
+const TOLD_AGAIN = 500;
 
 class Telephone {
   #language = ownLanguage();
   #worker = workerOf(byId("worker").textContent);
   #network = new BadNetwork();
-  #strip = new Strip(byId("strip"));
+  #told = new Told((...words) => this.#text(...words));
   #camera = new Camera((frame) => this.#give(frame), () => this.#lostCamera());
+  #invitations = new Invitations({
+    text: (...words) => this.#text(...words),
+    prepare: () => this.#prepare(),
+    begin: (call) => this.#callOther(call),
+    leave: () => this.#call || this.#camera.stop(),
+  });
   #call = null;
+  #other = "";
+  #isOtherOff = false;
   #isBusy = false;
-  #counts = null;
-  #late = [];
-  #left = 0;
-  #began = 0;
-  #bytes = { at: 0, count: 0, rate: 0 };
-  #status = "starting";
+  #state = ["starting"];
+  #ticking = null;
 
   constructor() {
     const heard = {
       ready: () => { this.#isBusy = false; },
       datagrams: ({ datagrams }) => datagrams.forEach((datagram) => this.#call?.send(datagram, datagram.length < SHORTEST_PACKET)),
       played: (played) => this.#played(played),
-      counts: (counts) => { this.#counts = counts; },
+      counts: (counts) => { this.#told.counts = counts; },
+      // What a worker says is wrong is a fault of this page.
       fault: ({ words }) => this.#tellFault(this.#text("fault", words)),
       loaded: () => this.#loaded(),
     };
     this.#worker.onmessage = ({ data }) => heard[data.is](data);
     this.#listen();
     this.#translate();
-    this.#listDevices();
   }
 
   /** Hands the module and the canvases over to the worker. */
@@ -69,8 +74,9 @@ class Telephone {
   }
 
   #loaded() {
-    byId("call_yourself").disabled = false;
+    for (const id of ["call_yourself", "invite", "invited", "accept"]) byId(id).disabled = false;
     this.#tellState("ready");
+    this.#invitations.rings();
   }
 
   #listen() {
@@ -84,8 +90,12 @@ class Telephone {
     pressed("language", () => this.#speak(otherLanguage(this.#language)));
     byId("full").hidden = !document.fullscreenEnabled;
     for (const name of Object.keys(SLIDERS)) byId(name).addEventListener("input", () => this.#slide());
-    for (const id of ["which_camera", "which_microphone"]) byId(id).addEventListener("change", () => this.#call && this.#startCamera());
-    matchMedia("(prefers-color-scheme: dark)").addEventListener("change", () => this.#strip.draw());
+    byId("which_camera").addEventListener("change", () => this.#call && this.#startCamera());
+    addEventListener("beforeunload", (event) => this.#isWithOther && event.preventDefault());
+  }
+
+  get #isWithOther() {
+    return this.#call instanceof OtherCall;
   }
 
   // ---- words ----------------------------------------------------------------------------------
@@ -93,7 +103,6 @@ class Telephone {
   #speak(language) {
     this.#language = language;
     this.#translate();
-    this.#listDevices();
   }
 
   #translate() {
@@ -102,15 +111,16 @@ class Telephone {
     for (const it of document.querySelectorAll("[data-text]")) it.textContent = this.#text(it.dataset.text);
     for (const it of document.querySelectorAll("[data-label]")) it.setAttribute("aria-label", this.#text(it.dataset.label));
     byId("language").lang = otherLanguage(this.#language);
-    this.#tellState(this.#status);
+    this.#tellState(...this.#state);
     this.#slide();
+    this.#listDevices();
     if (this.#call) this.#tick();
   }
 
-  #tellState(status) {
-    this.#status = status;
-    byId("state").textContent = this.#text(status);
-    byId("other_name").textContent = this.#text("what_comes");
+  #tellState(...state) {
+    this.#state = state;
+    byId("state").textContent = this.#text(...state);
+    byId("other_name").textContent = this.#isWithOther ? this.#other : this.#text("what_comes");
   }
 
   #tellFault(words) {
@@ -123,46 +133,79 @@ class Telephone {
     byId("news").hidden = !words;
   }
 
+  /** What stands in the place of the other side's picture. */
+  #tellNone(words) {
+    byId("other_none").textContent = words;
+    byId("other_none").hidden = !words;
+  }
+
   // ---- a call ---------------------------------------------------------------------------------
 
   async #callYourself() {
     if (this.#call) return;
-    this.#tellFault("");
-    this.#tellNews("");
+    this.#invitations.cancel();
     this.#network.sent = this.#network.lost = 0;
-    this.#begin("connecting", true);
-    const hear = (datagram) => this.#tell("datagram", { datagram }, [datagram]);
-    const call = new SelfCall(this.#network, hear, (stream) => { byId("sound").srcObject = stream; });
-    this.#call = call;
+    const call = new SelfCall(this.#network, (datagram) => this.#hear(call, datagram), (stream) => { byId("sound").srcObject = stream; });
+    this.#begin(call, "connecting");
     const [isOpen] = await Promise.all([call.connect(), this.#startCamera()]);
     if (this.#call !== call) return;
     if (!isOpen) this.#tellFault(this.#text("no_connection"));
-    this.#tell("begin", { format: byId("size").value, wait: this.#value("wait") });
+    this.#beginEnds();
     this.#tellState("with_yourself");
-    this.#tick();
   }
 
-  #begin(status, isAlone) {
+  #callOther({ side, name, digits }) {
+    this.#other = name || this.#text("other_side");
+    const listen = (stream) => {
+      byId("sound").srcObject = stream;
+      byId("sound").play().catch(() => {});
+    };
+    const call = new OtherCall(side, {
+      hear: (datagram) => this.#hear(call, datagram),
+      heard: (words) => this.#call === call && this.#heard(words),
+      lost: () => this.#call === call && this.#end("lost"),
+      listen,
+    });
+    this.#begin(call, "with_other", this.#other);
+    byId("digits").textContent = this.#text("digits", digits);
+    this.#tellNone(this.#text("waiting_for", this.#other));
+    this.#beginEnds();
+    this.#tellCamera();
+    this.#tellMicrophone();
+    listen(call.sound);
+  }
+
+  #begin(call, ...state) {
+    this.#call = call;
+    this.#isOtherOff = false;
+    this.#tellFault("");
+    this.#tellNews("");
+    this.#tellNone("");
     document.body.dataset.state = "call";
-    document.body.classList.toggle("alone", isAlone);
-    this.#began = performance.now();
-    this.#counts = null;
-    this.#late = [];
-    this.#left = 0;
-    this.#bytes = { at: this.#began, count: 0, rate: 0 };
-    this.#strip.clear();
+    document.body.classList.toggle("alone", !this.#isWithOther);
+    this.#told.begin();
     byId("size").disabled = true;
-    byId("other_frame").dataset.mark = byId("mark").textContent = "";
-    this.#tellShare();
-    this.#tellState(status);
+    this.#tellState(...state);
+    this.#tick();
     byId("hang_up").focus();
   }
 
+  #beginEnds() {
+    this.#tell("begin", { format: byId("size").value, wait: this.#value("wait"), isAlone: !this.#isWithOther });
+  }
+
   #hangUp() {
-    const seconds = Math.round((performance.now() - this.#began) / 1000);
-    const { exact, patched, held } = this.#counts?.received?.played ?? { exact: 0, patched: 0, held: 0 };
-    this.#call?.close();
+    this.#call?.say({ is: "bye" });
+    this.#end("");
+  }
+
+  /** The call is over; `why` is the name of a text. */
+  #end(why) {
+    const { seconds, share } = this.#told;
+    const call = this.#call;
     this.#call = null;
+    // What was said last still goes out, again where it is lost.
+    setTimeout(() => call?.close(), why ? 0 : FAREWELL);
     this.#tell("end");
     this.#tell("made", { isOn: false });
     this.#camera.stop();
@@ -171,108 +214,91 @@ class Telephone {
     byId("size").disabled = false;
     byId("clock").textContent = "";
     this.#tellState("ready");
-    this.#tellNews(this.#text("ended", seconds, percent(exact, exact + patched + held)));
+    this.#tellNews([why && this.#text(why, this.#other), this.#text("ended", Math.round(seconds), share)].filter(Boolean).join(" "));
     byId("call_yourself").focus();
   }
 
-  /** Each half second: the numbers that are shown. */
+  /** A datagram came; one of a call that is over counts no more. */
+  #hear(call, datagram) {
+    if (this.#call === call) this.#tell("datagram", { datagram }, [datagram]);
+  }
+
+  /** Words of the other side, which may say anything. */
+  #heard(words) {
+    if (words?.is === "bye") this.#end("other_hung_up");
+    if (words?.is !== "camera") return;
+    this.#isOtherOff = !words.isOn;
+    this.#tellNone(words.isOn ? "" : this.#text("other_camera_off", this.#other));
+  }
+
+  #played(played) {
+    if (!this.#call) return;
+    this.#told.played(played);
+    if (!this.#isOtherOff && !byId("other_none").hidden) this.#tellNone("");
+  }
+
   async #tick() {
-    clearTimeout(this.ticking);
+    clearTimeout(this.#ticking);
     const call = this.#call;
     if (!call) return;
-    this.ticking = setTimeout(() => this.#tick(), 500);
-    byId("clock").textContent = clockWords((performance.now() - this.#began) / 1000);
-    this.#tellShare();
-    if (byId("numbers").open) this.#tellFigures(await call.soundHeard());
-  }
-
-  #played({ mark, late }) {
-    if (!this.#call) return;
-    this.#strip.add(mark);
-    byId("other_frame").dataset.mark = byId("mark").dataset.mark = mark;
-    byId("mark").textContent = this.#text(mark);
-    if (late === null) return;
-    this.#late.push(late);
-    if (this.#late.length > LATE_OF) this.#late.shift();
-  }
-
-  #tellShare() {
-    const { counts } = this.#strip;
-    const shown = counts.exact + counts.patched + counts.held;
-    const share = percent(counts.exact, shown);
-    const lost = percent(this.#network.lost, this.#network.sent);
-    byId("share").textContent = shown ? this.#text("share", share) : this.#text("waiting");
-    byId("sentence").textContent = shown ? this.#sentence(share, lost, counts.exact === shown) : "";
-    byId("strip").setAttribute("aria-label", `${this.#text("line_of_time")}. ${this.#text("summary", counts)}`);
-    const seconds = Math.floor((performance.now() - this.#began) / 1000);
-    if (shown && seconds % SUMMARY_EACH === 0) byId("summary").textContent = this.#text("summary", counts);
-  }
-
-  #sentence(share, lost, isAll) {
-    if (isAll) return this.#text("all_exact", lost);
-    return lost ? this.#text("some_exact", share, lost) : this.#text("late_ones", share);
-  }
-
-  #tellFigures(sound) {
-    if (!this.#counts) return;
-    const { took, sent } = this.#counts;
-    const now = performance.now();
-    if (now - this.#bytes.at > 900) {
-      const rate = (8 * (sent.bytes - this.#bytes.count)) / (now - this.#bytes.at);
-      this.#bytes = { at: now, count: sent.bytes, rate };
-    }
-    const ms = (seconds) => (1000 * seconds).toFixed(1);
-    const figures = {
-      late: this.#late.length ? Math.round(1000 * middle(this.#late)) : "–",
-      planes: ms(took.planes), code: ms(took.code), rate: Math.round(this.#bytes.rate), sound,
-      sent: Object.values(sent.coded).reduce((sum, count) => sum + count, 0), left: this.#left,
-      packets: this.#network.sent, lost: this.#network.lost,
-    };
-    byId("figures").textContent = this.#text("figures", figures);
+    this.#ticking = setTimeout(() => this.#tick(), TOLD_AGAIN);
+    const network = this.#isWithOther ? null : this.#network;
+    this.#told.tell(network);
+    if (byId("numbers").open) this.#told.tellFigures(network, await call.soundHeard());
   }
 
   // ---- camera, microphone, network -------------------------------------------------------------
 
-  /** Begins with the camera that is chosen; where there is none, a picture is made. */
-  async #startCamera() {
+  /** Before a link is made or answered: a browser tells its addresses once the camera is allowed. Answers the sound. */
+  async #prepare() {
+    if (!this.#camera.isOn) await this.#openCamera();
+    return this.#camera.sound;
+  }
+
+  async #openCamera() {
     const camera = byId("which_camera").value;
     let fault = null;
-    if (camera === MADE) this.#camera.stop();
+    if (camera === MADE) this.#camera.stopPicture();
     else fault = await this.#camera.start({ camera, microphone: byId("which_microphone").value }).catch((it) => it);
-    if (!this.#call) return this.#camera.stop();
     if (fault) this.#tellFault(this.#text(hasText(fault.name) ? fault.name : "camera_fault"));
-    this.#tellCamera();
-    this.#call.setSound(this.#camera.sound);
-    this.#tellMicrophone();
     this.#listDevices();
   }
 
+  async #startCamera() {
+    await this.#openCamera();
+    if (!this.#call) return this.#camera.stop();
+    this.#tellCamera();
+    this.#call.setSound(this.#camera.sound);
+    this.#tellMicrophone();
+  }
+
+  /** With oneself a picture is made where there is no camera; with someone else only where that was chosen. */
   #tellCamera() {
     const { isOn } = this.#camera;
+    const isMade = !isOn && (!this.#isWithOther || byId("which_camera").value === MADE);
     document.body.classList.toggle("mirrored", isOn);
     byId("camera").setAttribute("aria-pressed", isOn);
     this.#isBusy = false;
-    this.#tell("made", { isOn: !isOn });
+    this.#tell("made", { isOn: isMade });
+    this.#call?.say({ is: "camera", isOn: isOn || isMade });
   }
 
   #turnCamera() {
     if (!this.#camera.isOn) return this.#startCamera();
-    this.#camera.stop();
-    this.#call?.setSound(null);
+    this.#camera.stopPicture();
     this.#tellCamera();
-    this.#tellMicrophone();
   }
 
   #lostCamera() {
-    this.#camera.stop();
+    this.#camera.stopPicture();
     this.#tellCamera();
     this.#tellFault(this.#text("camera_lost"));
   }
 
   /** A frame goes to the worker, if it has done with the one before. */
   #give(frame) {
-    if (this.#isBusy) {
-      this.#left++;
+    if (this.#isBusy || !this.#call) {
+      this.#told.left++;
       return frame.close();
     }
     this.#isBusy = true;
@@ -327,20 +353,6 @@ function fillChoice(select, pairs) {
   if (pairs.some(([value]) => value === chosen)) select.value = chosen;
 }
 
-/** In whole percent; 100 only where it is all. */
-function percent(part, whole) {
-  return whole ? Math.floor((100 * part) / whole) : 0;
-}
-
-function middle(list) {
-  return [...list].sort((a, b) => a - b)[list.length >> 1];
-}
-
-function clockWords(seconds) {
-  const two = (number) => String(Math.floor(number)).padStart(2, "0");
-  return `${two(seconds / 60)}:${two(seconds % 60)}`;
-}
-
 /** A worker of what stands in this page. */
 function workerOf(source) {
   return new Worker(URL.createObjectURL(new Blob([source], { type: "text/javascript" })));
@@ -351,12 +363,12 @@ function moduleBytes() {
   return Uint8Array.from(atob(byId("module").textContent), (letter) => letter.charCodeAt(0));
 }
 
-function tellOnly(name) {
-  const language = ownLanguage();
-  byId("fault").textContent = text(language, name);
+/** Says the one thing that there is to say, where there is no telephone. */
+function sayOnly(name) {
+  byId("fault").textContent = text(ownLanguage(), name);
   byId("fault").hidden = false;
 }
 
-if (window.top !== window) tellOnly("framed");
-else if (!hasLongMemory()) tellOnly("no_memory64");
+if (window.top !== window) sayOnly("framed");
+else if (!hasLongMemory()) sayOnly("no_memory64");
 else new Telephone().start(moduleBytes());

@@ -4,7 +4,7 @@
  */
 
 import { CLOCKS, Params, Receiver, Refused, packetStart } from "../../library/web/h263rps.js";
-import { LEAD, RATE, SLOTS, now } from "./call_settings.js";
+import { LEAD, LONGEST_PACKET, RATE, SLOTS, now } from "./call_settings.js";
 import { Numbers, Playout } from "./playout.js";
 
 /** How many numbers each clock has. */
@@ -56,7 +56,7 @@ export class Receiving {
 
   /** The packet's picture; null where it is none of this stream, or ahead of the clock. */
   #placed(packet, time) {
-    const start = startOf(packet);
+    const start = packet.length > LONGEST_PACKET ? null : startOf(packet);
     if (!start) return null;
     if (!this.#start) this.#begin(start);
     if (start.format !== this.#start.format || start.clock !== this.#start.clock) return null;

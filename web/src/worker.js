@@ -24,15 +24,17 @@ class Ends {
   #receiving = null;
   #made = null;
   #timers = [];
+  #isAlone = false;
 
   constructor(own, other) {
     this.#own = own.getContext("2d", { alpha: false });
     this.#other = other.getContext("2d", { alpha: false });
   }
 
-  /** Begins a call: pictures of this format go out, and what comes waits so long. */
-  begin({ format, wait }) {
+  /** Begins a call: pictures of this format go out, and what comes waits so long. With oneself it is told how late. */
+  begin({ format, wait, isAlone }) {
     this.end();
+    this.#isAlone = isAlone;
     this.#sending = new Sending(format);
     this.#receiving = new Receiving(wait, (message) => tell("datagrams", { datagrams: [message] }), (played, of) => this.#show(played, of));
     this.#timers.push(setInterval(() => this.#tellCounts(), TOLD_EACH));
@@ -92,7 +94,7 @@ class Ends {
     }
     fillColours(picture, width, height, this.#image.data);
     this.#other.putImageData(this.#image, 0, 0);
-    const captured = this.#sending?.captured.get(number);
+    const captured = this.#isAlone ? this.#sending.captured.get(number) : undefined;
     tell("played", { mark, number, reference, late: captured === undefined ? null : now() - captured });
   }
 

