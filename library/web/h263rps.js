@@ -24,14 +24,17 @@ import {
   CLOCKS, DISTANCES, FAULTS, FORMATS, Fault, GROUPS, HEARD, MARKS, MessageFault, NOTED, PARAMS, Refused, STATUS,
 } from "./words.js";
 
-export { CLOCKS, DISTANCES, FAULTS, FORMATS, Fault, GROUPS, HEARD, MARKS, MessageFault, NOTED, PARAMS, Refused, STATUS };
+export {
+  CLOCKS, DISTANCES, FAULTS, FORMATS, Fault, GROUPS, HEARD, MARKS, MessageFault, NOTED, PARAMS, Refused, STATUS,
+};
 
 /** What a sender's packets have, and a receiver's must have. */
 export const SSRC = 0x48323633;
 export const PAYLOAD_TYPE = 96;
 
-/** The shortest RTP packet: its header. */
+/** The shortest RTP packet, its header; and the greatest payload type. */
 const RTP_HEADER = 12;
+const MOST_TYPE = 127;
 /** The most messages of a picture's header. */
 const HEADER_MESSAGES = 4;
 /** The longest message, after which its struct has its length. */
@@ -60,7 +63,8 @@ async function compiled(source) {
     return await WebAssembly.compile(isPlace ? await read(source) : bytesOf("source", source));
   } catch (fault) {
     if (fault instanceof WebAssembly.CompileError && !hasLongMemory()) {
-      throw new Error("this engine has no 64-bit WebAssembly memory: Chrome or Edge 133, Firefox 134 or Node 24 do", { cause: fault });
+      const who = "Chrome or Edge 133, Firefox 134 or Node 24 have one";
+      throw new Error(`this engine has no 64-bit WebAssembly memory: ${who}`, { cause: fault });
     }
     throw fault;
   }
@@ -184,13 +188,19 @@ export function pictureSize(format) {
 export function label(packet, ssrc, payloadType) {
   const text = bytesOf("packet", packet).slice();
   if (text.length < RTP_HEADER) throw new Refused("label", "wrong length");
-  if (counted("payloadType", payloadType) > 127) throw new RangeError(`payloadType: ${payloadType} is out of its range`);
+  if (counted("payloadType", payloadType) > MOST_TYPE) {
+    throw new RangeError(`payloadType: ${payloadType} is out of its range`);
+  }
   text[1] = (text[1] & 0x80) | payloadType;
   new DataView(text.buffer).setUint32(8, counted("ssrc", ssrc));
   return text;
 }
 
-/** What a whole RTP packet says of its picture; bytes that begin as no packet are Refused. */
+/**
+ * What a whole RTP packet says of its picture; bytes that begin as no packet are Refused.
+ * @param {import("./h263rps.js").Bytes} packet
+ * @returns {import("./h263rps.js").Start}
+ */
 export function packetStart(packet) {
   const { answerRoom: to } = loaded();
   const call = (at, size) => memory.call("packet_start", at, size, BigInt(to));
@@ -292,7 +302,12 @@ export class Sender extends Started {
     memory.reserve(Math.max(this.#limit, memory.call("picture_size", params.format)));
   }
 
-  /** Codes the next picture, with up to four messages in its header. */
+  /**
+   * Codes the next picture, with up to four messages in its header.
+   * @param {import("./h263rps.js").Bytes} picture
+   * @param {Iterable<import("./h263rps.js").Bytes>} messages
+   * @returns {import("./h263rps.js").Coded}
+   */
   code(picture, messages = []) {
     const samples = bytesOf("picture", picture);
     const { structRoom: back, answerRoom: to } = memory;
@@ -303,14 +318,22 @@ export class Sender extends Started {
     return this.#last;
   }
 
-  /** A packet of the picture that was coded last. */
+  /**
+   * A packet of the picture that was coded last.
+   * @param {number} number
+   * @returns {Uint8Array}
+   */
   packet(number) {
     const { room, answerRoom: at } = memory;
     this._must("packet", "packet", counted("number", number), BigInt(room), BigInt(this.#limit), BigInt(at));
     return memory.copied(room, memory.long(at));
   }
 
-  /** The packets of the picture that was coded last; of an older one they are gone. */
+  /**
+   * The packets of the picture that was coded last; of an older one they are gone.
+   * @param {import("./h263rps.js").Coded} coded
+   * @returns {Uint8Array[]}
+   */
   packets(coded) {
     if (coded === null || coded !== this.#last) {
       throw new Refused("packets", "no packet", `picture ${coded?.number} isn't the last one`);
@@ -318,7 +341,11 @@ export class Sender extends Started {
     return Array.from({ length: coded.packets }, (_, number) => this.packet(number));
   }
 
-  /** Takes a message of the other side. */
+  /**
+   * Takes a message of the other side.
+   * @param {import("./h263rps.js").Bytes} message
+   * @returns {import("./h263rps.js").Reply}
+   */
   feedback(message) {
     const { answerRoom: to } = memory;
     memory.passed(bytesOf("message", message), (at, size) => this._must("feedback", "feedback", at, size, BigInt(to)));
@@ -381,7 +408,11 @@ export class Receiver extends Started {
     this.#size = memory.call("picture_size", params.format);
   }
 
-  /** Takes a whole RTP packet, whatever it is. */
+  /**
+   * Takes a whole RTP packet, whatever it is.
+   * @param {import("./h263rps.js").Bytes} packet
+   * @returns {import("./h263rps.js").Heard}
+   */
   packet(packet) {
     const { answerRoom: to } = memory;
     memory.passed(bytesOf("packet", packet), (at, size) => this._must("packet", "packet", at, size, BigInt(to)));
@@ -389,13 +420,19 @@ export class Receiver extends Started {
     return { kind: HEARD[kind], fault: Fault.of(fault), at, message: memory.message(to + 24), number };
   }
 
-  /** Plays the next picture, and gives a copy of it. */
+  /**
+   * Plays the next picture, and gives a copy of it.
+   * @returns {import("./h263rps.js").Played}
+   */
   play() {
     const played = this.playLent();
     return { ...played, picture: played.picture.slice() };
   }
 
-  /** Plays the next picture, and lends it where `play` copies it: a view that is good until the next call. */
+  /**
+   * Plays the next picture, and lends it where `play` copies it: a view that is good until the next call.
+   * @returns {import("./h263rps.js").Played}
+   */
   playLent() {
     const { answerRoom: at } = memory;
     this._must("play", "next", BigInt(at));

@@ -16,7 +16,12 @@ const LEAST_ROOM = 65536;
 /** Where a struct is put that is handed over or answered: the longest one fits. */
 const STRUCT_ROOM = 256;
 
-/** Which bytes these are, without a copy; the name is said where they are none. */
+/**
+ * Which bytes these are, without a copy; the name is said where they are none.
+ * @param {string} name
+ * @param {unknown} data
+ * @returns {Uint8Array}
+ */
 export function bytesOf(name, data) {
   if (data instanceof Uint8Array) return data;
   if (ArrayBuffer.isView(data)) {
@@ -29,7 +34,12 @@ export function bytesOf(name, data) {
   throw new TypeError(`${name}: bytes are wanted: a Uint8Array, an ArrayBuffer or a view of one`);
 }
 
-/** A whole number from 0 to 2^32 - 1: the module would cut any other. */
+/**
+ * A whole number from 0 to 2^32 - 1: the module would cut any other.
+ * @param {string} name
+ * @param {unknown} value
+ * @returns {number}
+ */
 export function counted(name, value) {
   if (typeof value !== "number" || !Number.isInteger(value)) {
     throw new TypeError(`${name}: a whole number is wanted`);
@@ -40,6 +50,11 @@ export function counted(name, value) {
 
 /** One instance of the module. All ends of a page or worker share it. */
 export class Memory {
+  /** @type {{ buffer: ArrayBuffer, bytes: Uint8Array, words: DataView } | null} */
+  #seen = null;
+  /** Whether the engine broke a call off. */
+  isLost = false;
+
   /** @param {WebAssembly.Instance} instance */
   constructor({ exports }) {
     this.exports = exports;
@@ -50,14 +65,16 @@ export class Memory {
     this.answerRoom = this.taken(STRUCT_ROOM);
   }
 
-  /** The bytes as they are now. The view is made anew after the memory grew. */
-  get bytes() {
+  /** Views of the memory as it is: one that grew has another buffer. */
+  #views() {
     const { buffer } = this.exports.memory;
-    if (this.view?.buffer !== buffer) {
-      this.view = new Uint8Array(buffer);
-      this.words = new DataView(buffer);
-    }
-    return this.view;
+    if (this.#seen?.buffer !== buffer) this.#seen = { buffer, bytes: new Uint8Array(buffer), words: new DataView(buffer) };
+    return this.#seen;
+  }
+
+  /** The bytes as they are now. */
+  get bytes() {
+    return this.#views().bytes;
   }
 
   /** Room for so many bytes, for this call. */
@@ -73,8 +90,11 @@ export class Memory {
   }
 
   /**
-   * Calls a function of the library, whose status it answers. If the engine breaks it off, as it does where JavaScript
-   * has no stack left, nobody knows what became of the ends: then none is called again.
+   * Calls a function of the library, whose status it answers. If the engine breaks it off, as it does where
+   * JavaScript has no stack left, nobody knows what became of the ends: then none is called again.
+   * @param {string} name
+   * @param {...(number | bigint)} words
+   * @returns {number}
    */
   call(name, ...words) {
     if (this.isLost) throw new Error("a call was broken off by the engine: load the module anew");
@@ -86,8 +106,7 @@ export class Memory {
 
   /** The number of 32 bits at this place. */
   number(at) {
-    this.bytes;
-    return this.words.getUint32(at, true);
+    return this.#views().words.getUint32(at, true);
   }
 
   /** So many numbers of 32 bits, from this place on. */
@@ -97,13 +116,11 @@ export class Memory {
 
   /** The number of 64 bits at this place. It is exact up to 2^53. */
   long(at) {
-    this.bytes;
-    return Number(this.words.getBigUint64(at, true));
+    return Number(this.#views().words.getBigUint64(at, true));
   }
 
   setNumber(at, value) {
-    this.bytes;
-    this.words.setUint32(at, value, true);
+    this.#views().words.setUint32(at, value, true);
   }
 
   /** A copy of so many bytes. */
@@ -125,7 +142,13 @@ export class Memory {
     this.roomSize = size;
   }
 
-  /** Hands bytes over for one call: puts them into the module's memory, and answers what `act(at, size)` does. */
+  /**
+   * Hands bytes over for one call: puts them into the module's memory, and answers what `act(at, size)` does.
+   * @template T
+   * @param {Uint8Array} data
+   * @param {(at: bigint, size: bigint) => T} act
+   * @returns {T}
+   */
   passed(data, act) {
     const { length } = data;
     if (length <= this.roomSize) {

@@ -7,7 +7,11 @@ import { RATE } from "./call_settings.js";
 
 /** The largest format's size, so that little is left to scale. */
 const WISHES = Object.freeze({
-  width: { ideal: 352 }, height: { ideal: 288 }, frameRate: { ideal: 30, max: 30 }, resizeMode: "crop-and-scale", facingMode: "user",
+  width: { ideal: 352 },
+  height: { ideal: 288 },
+  frameRate: { ideal: 30, max: 30 },
+  resizeMode: "crop-and-scale",
+  facingMode: "user",
 });
 
 export class Camera {
@@ -29,7 +33,10 @@ export class Camera {
     return this.#sound;
   }
 
-  /** Asks for the camera, and for the microphone where there is none yet, by their names where they are given; throws what the browser throws. */
+  /**
+   * Asks for the camera, and for the microphone where there is none yet, by their names where they are given; throws
+   * what the browser throws.
+   */
   async start({ camera, microphone } = {}) {
     this.stopPicture();
     const run = this.#run;
@@ -78,7 +85,10 @@ export class Camera {
     const video = Object.assign(document.createElement("video"), { muted: true, playsInline: true });
     video.srcObject = new MediaStream([track]);
     video.play();
-    const again = (act) => (video.requestVideoFrameCallback ? video.requestVideoFrameCallback(act) : setTimeout(act, 1000 / RATE));
+    const again = (act) => {
+      if (video.requestVideoFrameCallback) video.requestVideoFrameCallback(act);
+      else setTimeout(act, 1000 / RATE);
+    };
     const next = async () => {
       if (run !== this.#run) return;
       if (video.videoWidth) this.give(await createImageBitmap(video));
@@ -96,13 +106,15 @@ async function asked(wishes) {
     return await mediaDevices.getUserMedia(wishes);
   } catch (fault) {
     if (fault.name !== "NotFoundError" || !wishes.audio) throw fault;
-    return mediaDevices.getUserMedia({ video: wishes.video }).catch(() => mediaDevices.getUserMedia({ audio: wishes.audio }));
+    const { video, audio } = wishes;
+    return mediaDevices.getUserMedia({ video }).catch(() => mediaDevices.getUserMedia({ audio }));
   }
 }
 
 /** Which cameras and microphones there are: pairs of a name and a label. */
 export async function devices() {
   const all = (await navigator.mediaDevices?.enumerateDevices?.()) ?? [];
-  const of = (kind) => all.filter((it) => it.kind === kind && it.deviceId).map(({ deviceId, label }) => [deviceId, label]);
+  const known = all.filter(({ deviceId }) => deviceId);
+  const of = (wanted) => known.filter(({ kind }) => kind === wanted).map(({ deviceId, label }) => [deviceId, label]);
   return { cameras: of("videoinput"), microphones: of("audioinput") };
 }

@@ -17,7 +17,7 @@ export class BadCode extends Error {}
 /** The code of a session's description and of who makes it. */
 export async function codeOf({ type, sdp }, name) {
   const text = JSON.stringify({ type, sdp, name: cut(name) });
-  const packed = await all(new Blob([text]).stream().pipeThrough(new CompressionStream("deflate-raw")), Infinity);
+  const packed = await through(new CompressionStream("deflate-raw"), text);
   return btoa(String.fromCharCode(...packed)).replaceAll("+", "-").replaceAll("/", "_").replaceAll("=", "");
 }
 
@@ -27,13 +27,15 @@ export async function readCode(text) {
   if (!/^[\w-]+$/.test(code) || code.length > MOST_LETTERS) throw new BadCode("letters");
   let said;
   try {
-    const packed = Uint8Array.from(atob(code.replaceAll("-", "+").replaceAll("_", "/")), (letter) => letter.charCodeAt(0));
-    const unpacked = await all(new Blob([packed]).stream().pipeThrough(new DecompressionStream("deflate-raw")), MOST_BYTES);
+    const letters = atob(code.replaceAll("-", "+").replaceAll("_", "/"));
+    const packed = Uint8Array.from(letters, (letter) => letter.charCodeAt(0));
+    const unpacked = await through(new DecompressionStream("deflate-raw"), packed, MOST_BYTES);
     said = JSON.parse(new TextDecoder().decode(unpacked));
   } catch (fault) {
     throw new BadCode("packing", { cause: fault });
   }
-  if (!["offer", "answer"].includes(said?.type) || typeof said.sdp !== "string" || typeof said.name !== "string") throw new BadCode("kind");
+  const isKind = ["offer", "answer"].includes(said?.type);
+  if (!isKind || typeof said.sdp !== "string" || typeof said.name !== "string") throw new BadCode("kind");
   return { description: { type: said.type, sdp: said.sdp }, name: cut(said.name) };
 }
 
@@ -55,11 +57,11 @@ export async function digitsOf(...descriptions) {
 
 const cut = (name) => name.replace(/[\p{C}\s]+/gu, " ").trim().slice(0, MOST_NAME);
 
-/** All bytes of a stream, which may be so many. */
-async function all(stream, most) {
+/** What comes of data that goes through a packer or an unpacker, which may be so many bytes. */
+async function through(packer, data, most = Infinity) {
   const parts = [];
   let size = 0;
-  for (const reader = stream.getReader(); ;) {
+  for (const reader = new Blob([data]).stream().pipeThrough(packer).getReader(); ;) {
     const { value, done } = await reader.read();
     if (done) break;
     size += value.length;

@@ -1,10 +1,11 @@
 /**
- * Connections of the browser: encrypted, with datagrams that are neither put in order nor sent again, words that are, and
- * sound.
+ * Connections of the browser: encrypted, with datagrams that are neither put in order nor sent again, words that are,
+ * and sound.
  * @module
  */
 
-/** Bytes that may wait to go out; beyond them a datagram is lost, as a full line loses it. */
+/** Bytes that may wait to go out before pictures are left out, and before a datagram is lost, as on a full line. */
+const WAITING = 1 << 15;
 const MOST_WAITING = 1 << 18;
 
 /** One side of a connection. */
@@ -17,7 +18,8 @@ export class Side {
 
   constructor(servers = []) {
     this.peer = new RTCPeerConnection({ iceServers: servers });
-    this.datagrams = this.peer.createDataChannel("pictures", { negotiated: true, id: 0, ordered: false, maxRetransmits: 0 });
+    const asDatagrams = { ordered: false, maxRetransmits: 0 };
+    this.datagrams = this.peer.createDataChannel("pictures", { negotiated: true, id: 0, ...asDatagrams });
     this.words = this.peer.createDataChannel("words", { negotiated: true, id: 1 });
     this.datagrams.binaryType = "arraybuffer";
     this.datagrams.onmessage = ({ data }) => data instanceof ArrayBuffer && this.onDatagram(data);
@@ -43,7 +45,8 @@ export class Side {
     const gathered = new Promise((done) => {
       peer.addEventListener("icegatheringstatechange", () => peer.iceGatheringState === "complete" && done());
     });
-    if (peer.iceGatheringState !== "complete") await Promise.race([gathered, new Promise((done) => setTimeout(done, patience))]);
+    const late = new Promise((done) => setTimeout(done, patience));
+    if (peer.iceGatheringState !== "complete") await Promise.race([gathered, late]);
     return peer.localDescription;
   }
 
@@ -65,6 +68,11 @@ export class Side {
   setSound(track) {
     this.#sound = track;
     for (const { sender } of this.peer.getTransceivers()) sender.replaceTrack(track).catch(() => {});
+  }
+
+  /** Whether more waits than the line takes. */
+  get isFull() {
+    return this.datagrams.bufferedAmount > WAITING;
   }
 
   send(datagram) {
@@ -115,7 +123,8 @@ export class SelfCall {
     }
     await this.#near.accept(await this.#far.answer(await this.#near.offer()));
     const late = new Promise((done) => setTimeout(done, patience, false));
-    const isOpen = await Promise.race([Promise.all([this.#near.isOpen, this.#far.isOpen]).then(() => true), late]);
+    const both = Promise.all([this.#near.isOpen, this.#far.isOpen]).then(() => true);
+    const isOpen = await Promise.race([both, late]);
     this.#isDirect = !isOpen;
     return isOpen;
   }
@@ -136,6 +145,10 @@ export class SelfCall {
   }
 
   say() {}
+
+  get isFull() {
+    return this.#near.isFull;
+  }
 
   close() {
     this.#near.close();
@@ -158,6 +171,10 @@ export class OtherCall {
   /** What comes of sound. */
   get sound() {
     return new MediaStream(this.side.peer.getReceivers().map(({ track }) => track));
+  }
+
+  get isFull() {
+    return this.side.isFull;
   }
 
   send(datagram) {

@@ -18,9 +18,9 @@ export class Invitations {
   #ring = new Ring();
 
   /**
-   * It says texts by `text(name, ..words)`. `prepare()` is awaited before a side is made and answers its sound: a browser
-   * tells its addresses once the camera is allowed. `begin({ side, name, digits })` has the call, `leave()` is told that
-   * none comes about.
+   * It says texts by `text(name, ..words)`. `prepare()` is awaited before a side is made, and answers its sound: a
+   * browser tells its addresses once the camera is allowed. `begin({ side, name, digits })` has the call; `leave()` is
+   * told that none comes about.
    */
   constructor({ text, prepare, begin, leave }) {
     Object.assign(this, { text, prepare, begin, leave });
@@ -31,16 +31,18 @@ export class Invitations {
     pressed("accept", () => this.#accept());
     pressed("decline", () => this.cancel("declined"));
     pressed("connect", () => this.#connect(part("answer_code").value));
-    for (const button of document.querySelectorAll("[data-cancel]")) button.addEventListener("click", () => this.cancel());
-    for (const [button, field] of [["copy_link", "link"], ["copy_answer", "answer"]]) pressed(button, () => this.#copy(button, field));
-    part("answer_code").addEventListener("paste", () => setTimeout(() => this.#try(() => this.#connect(part("answer_code").value))));
+    pressed("copy_link", () => this.#copy("copy_link", "link"));
+    pressed("copy_answer", () => this.#copy("copy_answer", "answer"));
+    for (const it of document.querySelectorAll("[data-cancel]")) it.addEventListener("click", () => this.cancel());
+    // What is pasted stands in the field a moment later.
+    part("answer_code").addEventListener("paste", () => setTimeout(() => part("connect").click()));
     addEventListener("hashchange", () => this.rings());
   }
 
-  /** Rings, where this page's address has a call. */
+  /** Rings, where this page's address has a call, and nothing else goes on. */
   rings() {
     const code = ownCode();
-    if (code) this.#try(() => this.#take(code));
+    if (code && !this.#side && document.body.dataset.state === "ready") this.#try(() => this.#take(code));
   }
 
   /** No call comes about; `why` is the name of a text. */
@@ -71,10 +73,10 @@ export class Invitations {
   }
 
   async #connect(text) {
-    if (!text.trim() || !this.#side) return;
+    const side = this.#side;
+    if (!text.trim() || side?.peer.signalingState !== "have-local-offer") return;
     const { description, name } = await readCode(text);
     if (description.type !== "answer") throw new BadCode("offer");
-    const side = this.#side;
     const own = side.peer.localDescription;
     await side.accept(description);
     this.#tell("connecting");
@@ -97,7 +99,10 @@ export class Invitations {
     const offer = this.#offer;
     this.#ring.stop();
     const side = await this.#made();
-    await side.answer(offer);
+    await side.answer(offer).catch((fault) => {
+      this.cancel();
+      throw fault;
+    });
     const own = await side.complete();
     const code = await codeOf(own, part("name").value);
     if (side !== this.#side) return;
@@ -152,7 +157,8 @@ export class Invitations {
     try {
       await act();
     } catch (fault) {
-      this.#tell(fault instanceof BadCode ? `bad_code_${["offer", "answer"].includes(fault.message) ? fault.message : "other"}` : "bad_code_other");
+      const isOther = fault instanceof BadCode && ["offer", "answer"].includes(fault.message);
+      this.#tell(`bad_code_${isOther ? fault.message : "other"}`);
     }
   }
 }

@@ -15,10 +15,15 @@ import { hasText, otherLanguage, ownLanguage, text } from "./words.js";
 const byId = (id) => document.getElementById(id);
 /** The sliders: what one step of each is in seconds, or as a share, and the text of its value. */
 const SLIDERS = Object.freeze({
-  loss: [0.01, "percent"], delay: [0.001, "milliseconds"], jitter: [0.001, "milliseconds"], wait: [0.001, "milliseconds"],
+  loss: [0.01, "percent"],
+  delay: [0.001, "milliseconds"],
+  jitter: [0.001, "milliseconds"],
+  wait: [0.001, "milliseconds"],
 });
 /** The camera that is none. */
 const MADE = "made";
+/** By this name the session keeps with whom a call is, in case that the page is loaded anew. */
+const KEPT_NAME = "in_call_with";
 /** Milliseconds for which a connection stays after one has hung up. */
 const FAREWELL = 3000;
 /** Milliseconds between two tellings of the numbers. */
@@ -46,7 +51,7 @@ class Telephone {
   constructor() {
     const heard = {
       ready: () => { this.#isBusy = false; },
-      datagrams: ({ datagrams }) => datagrams.forEach((datagram) => this.#call?.send(datagram, datagram.length < SHORTEST_PACKET)),
+      datagrams: ({ datagrams }) => datagrams.forEach((datagram) => this.#send(datagram)),
       played: (played) => this.#played(played),
       counts: (counts) => { this.#told.counts = counts; },
       // What a worker says is wrong is a fault of this page.
@@ -76,6 +81,9 @@ class Telephone {
   #loaded() {
     for (const id of ["call_yourself", "invite", "invited", "accept"]) byId(id).disabled = false;
     this.#tellState("ready");
+    const other = sessionStorage.getItem(KEPT_NAME);
+    sessionStorage.removeItem(KEPT_NAME);
+    if (other) this.#tellNews(this.#text("loaded_anew", other));
     this.#invitations.rings();
   }
 
@@ -109,7 +117,7 @@ class Telephone {
     document.documentElement.lang = this.#language;
     document.title = this.#text("title");
     for (const it of document.querySelectorAll("[data-text]")) it.textContent = this.#text(it.dataset.text);
-    for (const it of document.querySelectorAll("[data-label]")) it.setAttribute("aria-label", this.#text(it.dataset.label));
+    for (const it of document.querySelectorAll("[data-label]")) it.ariaLabel = this.#text(it.dataset.label);
     byId("language").lang = otherLanguage(this.#language);
     this.#tellState(...this.#state);
     this.#slide();
@@ -145,7 +153,8 @@ class Telephone {
     if (this.#call) return;
     this.#invitations.cancel();
     this.#network.sent = this.#network.lost = 0;
-    const call = new SelfCall(this.#network, (datagram) => this.#hear(call, datagram), (stream) => { byId("sound").srcObject = stream; });
+    const listen = (stream) => { byId("sound").srcObject = stream; };
+    const call = new SelfCall(this.#network, (datagram) => this.#hear(call, datagram), listen);
     this.#begin(call, "connecting");
     const [isOpen] = await Promise.all([call.connect(), this.#startCamera()]);
     if (this.#call !== call) return;
@@ -166,6 +175,7 @@ class Telephone {
       lost: () => this.#call === call && this.#end("lost"),
       listen,
     });
+    sessionStorage.setItem(KEPT_NAME, this.#other);
     this.#begin(call, "with_other", this.#other);
     byId("digits").textContent = this.#text("digits", digits);
     this.#tellNone(this.#text("waiting_for", this.#other));
@@ -204,6 +214,7 @@ class Telephone {
     const { seconds, share } = this.#told;
     const call = this.#call;
     this.#call = null;
+    sessionStorage.removeItem(KEPT_NAME);
     // What was said last still goes out, again where it is lost.
     setTimeout(() => call?.close(), why ? 0 : FAREWELL);
     this.#tell("end");
@@ -214,8 +225,13 @@ class Telephone {
     byId("size").disabled = false;
     byId("clock").textContent = "";
     this.#tellState("ready");
-    this.#tellNews([why && this.#text(why, this.#other), this.#text("ended", Math.round(seconds), share)].filter(Boolean).join(" "));
+    const ended = this.#text("ended", Math.round(seconds), share);
+    this.#tellNews(why ? `${this.#text(why, this.#other)} ${ended}` : ended);
     byId("call_yourself").focus();
+  }
+
+  #send(datagram) {
+    this.#call?.send(datagram, datagram.length < SHORTEST_PACKET);
   }
 
   /** A datagram came; one of a call that is over counts no more. */
@@ -259,7 +275,7 @@ class Telephone {
     const camera = byId("which_camera").value;
     let fault = null;
     if (camera === MADE) this.#camera.stopPicture();
-    else fault = await this.#camera.start({ camera, microphone: byId("which_microphone").value }).catch((it) => it);
+    else fault = await this.#camera.start({ camera, microphone: byId("which_microphone").value }).catch((why) => why);
     if (fault) this.#tellFault(this.#text(hasText(fault.name) ? fault.name : "camera_fault"));
     this.#listDevices();
   }
@@ -295,9 +311,9 @@ class Telephone {
     this.#tellFault(this.#text("camera_lost"));
   }
 
-  /** A frame goes to the worker, if it has done with the one before. */
+  /** A frame goes to the worker, if it has done with the one before, and the line isn't full. */
   #give(frame) {
-    if (this.#isBusy || !this.#call) {
+    if (this.#isBusy || !this.#call || this.#call.isFull) {
       this.#told.left++;
       return frame.close();
     }

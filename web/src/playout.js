@@ -1,7 +1,7 @@
 /**
  * When each picture is to be played: the rules of docs/LIVE.md ("Rules", 3 and 11), as tools/calltools/numbers.py and
- * playout.py have them. Nothing here is proved: a wrong time costs pictures, and marks none exact that isn't. Times are in
- * seconds, on one clock that doesn't go back.
+ * playout.py have them. Nothing here is proved: a wrong time costs pictures, and marks none exact that isn't. Times are
+ * in seconds, on one clock that doesn't go back.
  * @module
  */
 
@@ -39,9 +39,9 @@ function rounded(number) {
 }
 
 /**
- * Numbers and times of one stream, by its packets in any order. The first packet's temporal reference is its number; from
- * then on a number is the one nearest to the newest. After a silence the time tells how many pictures went by, and the
- * sequence numbers how many there can be at most: a camera that paused sent none.
+ * Numbers and times of one stream, by its packets in any order. The first packet's temporal reference is its number;
+ * from then on a number is the one nearest to the newest. After a silence the time tells how many pictures went by, and
+ * the sequence numbers how many there can be at most: a camera that paused sent none.
  */
 export class Numbers {
   #firstStamp = null;
@@ -58,7 +58,10 @@ export class Numbers {
     Object.assign(this, { period, rate });
   }
 
-  /** A packet's picture, and its time of capture from the first one's; null where it is ahead of the clock, or out of order. */
+  /**
+   * A packet's picture, and its time of capture from the first one's; null where it is ahead of the clock, or out of
+   * order.
+   */
   place(reference, sequence, timestamp, now) {
     if (this.#firstStamp === null) {
       this.#firstStamp = timestamp;
@@ -123,8 +126,8 @@ class LeastWay {
  * A picture is due at its time of capture, plus the least way, plus the wait. One of which nothing came is due by its
  * neighbours; none by a time after that of the newest; and none after the newest that came: perhaps the camera paused.
  *
- * Whoever plays hears a packet before its own picture: what is due by then is played up to the one before, then the packet
- * is heard, and then the rest is played. So a picture is shown however late its packets come.
+ * Whoever plays hears a packet before its own picture: what is due by then is played up to the one before, then the
+ * packet is heard, and then the rest is played. So a picture is shown however late its packets come.
  */
 export class Playout {
   #least = new LeastWay();

@@ -67,8 +67,9 @@ export class Told {
     place("clock").textContent = clockWords(this.seconds);
     place("share").textContent = shown ? this.text("share", share) : this.text("waiting");
     place("sentence").textContent = shown ? this.#sentence(share, counts.exact === shown, network) : "";
-    place("strip").setAttribute("aria-label", `${this.text("line_of_time")}. ${this.text("summary", counts)}`);
-    if (shown && Math.floor(this.seconds) % SUMMARY_EACH === 0) place("summary").textContent = this.text("summary", counts);
+    place("strip").ariaLabel = `${this.text("line_of_time")}. ${this.text("summary", counts)}`;
+    const isTime = shown && Math.floor(this.seconds) % SUMMARY_EACH === 0;
+    if (isTime) place("summary").textContent = this.text("summary", counts);
   }
 
   #sentence(share, isAll, network) {

@@ -1,6 +1,6 @@
 /**
- * The worker: both ends, what they are given, and both canvases. The page hands over frames of the camera and datagrams;
- * the worker hands back datagrams, and tells what was played.
+ * The worker: both ends, what they are given, and both canvases. The page hands over frames of the camera and
+ * datagrams; the worker hands back datagrams, and tells what was played.
  * @module
  */
 
@@ -36,7 +36,8 @@ class Ends {
     this.end();
     this.#isAlone = isAlone;
     this.#sending = new Sending(format);
-    this.#receiving = new Receiving(wait, (message) => tell("datagrams", { datagrams: [message] }), (played, of) => this.#show(played, of));
+    const say = (message) => tell("datagrams", { datagrams: [message] });
+    this.#receiving = new Receiving(wait, say, (played, of) => this.#show(played, of));
     this.#timers.push(setInterval(() => this.#tellCounts(), TOLD_EACH));
   }
 
@@ -80,8 +81,8 @@ class Ends {
   }
 
   #send(source, width, height) {
-    const { canvas } = this.#own;
-    this.#own.drawImage(source, ...covering(width, height, canvas.width, canvas.height), 0, 0, canvas.width, canvas.height);
+    const { width: across, height: down } = this.#own.canvas;
+    this.#own.drawImage(source, ...covering(width, height, across, down), 0, 0, across, down);
     const datagrams = this.#sending?.packets(source, width, height) ?? [];
     if (datagrams.length) tell("datagrams", { datagrams }, datagrams.map(({ buffer }) => buffer));
   }
@@ -115,5 +116,6 @@ async function start({ module, own, other }) {
 
 let last = Promise.resolve();
 onmessage = ({ data }) => {
-  last = last.then(() => (data.is === "start" ? start(data) : ends[data.is](data))).catch((fault) => tell("fault", { words: String(fault) }));
+  const act = () => (data.is === "start" ? start(data) : ends[data.is](data));
+  last = last.then(act).catch((fault) => tell("fault", { words: String(fault) }));
 };
