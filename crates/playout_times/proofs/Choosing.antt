@@ -58,20 +58,24 @@ all_by_both P Q R f (a ∷ past) h i = (f a h.0 i.0, all_by_both P Q R f past h.
 
 -- ---- choosing
 
-pub chosen : (p : Arrival → Bool) (a : Arrival) (past : List Arrival) → p a ≡ true → filter p (a ∷ past) ≡ a ∷ filter p past
+pub chosen : (p : Arrival → Bool) (a : Arrival) (past : List Arrival) → p a ≡ true
+    → filter p (a ∷ past) ≡ a ∷ filter p past
 chosen p a past e = ap (λ (b : Bool). cond b (a ∷ filter p past) (filter p past)) e
 
-pub passed : (p : Arrival → Bool) (a : Arrival) (past : List Arrival) → p a ≡ false → filter p (a ∷ past) ≡ filter p past
+pub passed : (p : Arrival → Bool) (a : Arrival) (past : List Arrival) → p a ≡ false
+    → filter p (a ∷ past) ≡ filter p past
 passed p a past e = ap (λ (b : Bool). cond b (a ∷ filter p past) (filter p past)) e
 
 -- tests that agree choose the same
-pub same_choice : (p q : Arrival → Bool) (past : List Arrival) → AllByRecursion (λ a. p a ≡ q a) past → filter p past ≡ filter q past
+pub same_choice : (p q : Arrival → Bool) (past : List Arrival) → AllByRecursion (λ a. p a ≡ q a) past
+    → filter p past ≡ filter q past
 same_choice p q [] s = refl
 same_choice p q (a ∷ past) s =
     ap (λ (b : Bool). cond b (a ∷ filter p past) (filter p past)) s.0
     ∙ ap (λ (l : List Arrival). cond (q a) (a ∷ l) l) (same_choice p q past s.1)
 
-pub none_chosen : (p : Arrival → Bool) (past : List Arrival) → AllByRecursion (λ a. p a ≡ false) past → filter p past ≡ []
+pub none_chosen : (p : Arrival → Bool) (past : List Arrival) → AllByRecursion (λ a. p a ≡ false) past
+    → filter p past ≡ []
 none_chosen p [] s = refl
 none_chosen p (a ∷ past) s = passed p a past s.0 ∙ none_chosen p past s.1
 
@@ -83,7 +87,8 @@ same_test x y u v f g =
 -- ---- the least of what is chosen
 
 pub least_chosen : (f : Arrival → ℕ) (p : Arrival → Bool) (a : Arrival) (past : List Arrival)
-    → least (map f (filter p (a ∷ past))) ≡ cond (p a) (min (f a) (least (map f (filter p past)))) (least (map f (filter p past)))
+    → least (map f (filter p (a ∷ past))) ≡ cond (p a) (min (f a) (least (map f (filter p past))))
+    (least (map f (filter p past)))
 least_chosen f p a past = go (p a)
   where
     go : (b : Bool) → least (map f (cond b (a ∷ filter p past) (filter p past)))
@@ -100,12 +105,14 @@ fewer true false n l m h i =
 fewer false true n l m h i = omega arith
 fewer false false n l m h i = i
 
-pub more_chosen : (f : Arrival → ℕ) (p q : Arrival → Bool) → ((a : Arrival) → p a ≡ true → q a ≡ true) → (past : List Arrival)
+pub more_chosen : (f : Arrival → ℕ) (p q : Arrival → Bool) → ((a : Arrival) → p a ≡ true → q a ≡ true)
+    → (past : List Arrival)
     → least (map f (filter q past)) ≤ least (map f (filter p past))
 more_chosen f p q h [] = omega arith
 more_chosen f p q h (a ∷ past) =
     rw (least_chosen f q a past, least_chosen f p a past)
-    (fewer (p a) (q a) (f a) (least (map f (filter q past))) (least (map f (filter p past))) (h a) (more_chosen f p q h past))
+    (fewer (p a) (q a) (f a) (least (map f (filter q past))) (least (map f (filter p past))) (h a)
+    (more_chosen f p q h past))
 
 -- what is at most each that is chosen
 pub each_of : (b : Bool) (m n l : ℕ) → (b ≡ true → m ≤ n) → m ≤ l → m ≤ cond b (min n l) l
@@ -118,9 +125,11 @@ pub chosen_from : (m : ℕ) (f : Arrival → ℕ) (p : Arrival → Bool) (past :
     → AllByRecursion (λ a. p a ≡ true → m ≤ f a) past → m ≤ least (map f (filter p past))
 chosen_from m f p [] h s = h
 chosen_from m f p (a ∷ past) h s =
-    rw (least_chosen f p a past) (each_of (p a) m (f a) (least (map f (filter p past))) s.0 (chosen_from m f p past h s.1))
+    rw (least_chosen f p a past)
+    (each_of (p a) m (f a) (least (map f (filter p past))) s.0 (chosen_from m f p past h s.1))
 
-pub least_map-append : (f : Arrival → ℕ) (xs ys : List Arrival) → least (map f (xs ++ ys)) ≡ min (least (map f xs)) (least (map f ys))
+pub least_map-append : (f : Arrival → ℕ) (xs ys : List Arrival)
+    → least (map f (xs ++ ys)) ≡ min (least (map f xs)) (least (map f ys))
 least_map-append f [] ys = under 18446744073709551615 (least (map f ys)) (least_small (map f ys))
 least_map-append f (x ∷ xs) ys =
     first_of_both (f x) (least (map f xs)) (least (map f ys)) (least (map f (xs ++ ys))) (least_map-append f xs ys)

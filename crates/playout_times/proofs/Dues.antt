@@ -25,7 +25,8 @@ unfolding least_way
 two_parts a past = least_map-append way (recent a.at (a ∷ past)) (latest (a ∷ past))
 
 pub least_kept : (t : Times) (a : Arrival) (past : List Arrival) → Stands t (a ∷ past)
-    → min (min t.recent.this (min t.recent.before t.recent.earlier)) (min t.runs.last (min t.runs.before t.runs.earlier))
+    → min (min t.recent.this (min t.recent.before t.recent.earlier))
+    (min t.runs.last (min t.runs.before t.runs.earlier))
     ≡ least_way (a ∷ past)
 least_kept t a past s =
     ap (λ (n : ℕ). min n (min t.runs.last (min t.runs.before t.runs.earlier)))
@@ -39,7 +40,8 @@ pub at_most_newest : (a : Arrival) (past : List Arrival) → least_way (a ∷ pa
 at_most_newest a past =
     let e = two_parts a past in
     let f = ap (λ (l : List Arrival). least (ways l))
-    (chosen (λ b. leb (quarter_of a.at) (quarter_of b.at + 2)) a past (le-leb (quarter_of a.at) (quarter_of a.at + 2) (omega arith))) in
+    (chosen (λ b. leb (quarter_of a.at) (quarter_of b.at + 2)) a past
+    (le-leb (quarter_of a.at) (quarter_of a.at + 2) (omega arith))) in
     smaller (least_way (a ∷ past)) (least (ways (recent a.at (a ∷ past)))) (least (ways (latest (a ∷ past))))
     (way a) (least (ways (recent a.at past))) e f
   where
@@ -61,12 +63,14 @@ if_come b n e = ap (λ (c : Bool). cond c (Some n) None) e
 if_not : (b : Bool) (n : ℕ) → b ≡ false → cond b (Some n) None ≡ (let n : Option ℕ = None in n)
 if_not b n e = ap (λ (c : Bool). cond c (Some n) None) e
 
-captures_small : (t : Times) (past : List Arrival) → Stands t past → has_come t.next past ≡ true → captured_from t.next past < origin
+captures_small : (t : Times) (past : List Arrival) → Stands t past → has_come t.next past ≡ true
+    → captured_from t.next past < origin
 captures_small t past s e =
     come t.next origin past e (all_by IsTimed (λ a. a.captured < origin) (λ a h. h.captured) past s.timed)
 
 -- no time is kept: nothing came
-pub not_due : (t : Times) (past : List Arrival) → Stands t past → least t.captured ≡ none → due_of t.wait t.next past ≡ None
+pub not_due : (t : Times) (past : List Arrival) → Stands t past → least t.captured ≡ none
+    → due_of t.wait t.next past ≡ None
 not_due t past s e =
     let f = earliest t.captured t.next past s.captured in
     if_not (has_come t.next past) (due_at t.wait (captured_from t.next past) past)
@@ -78,15 +82,19 @@ not_due t past s e =
     too_small : (n : ℕ) → n < origin → n ≡ none → ⊥
     too_small n h e = omega arith
 
-pub is_known : (t : Times) (past : List Arrival) → Stands t past → (least t.captured ≡ none → ⊥) → has_come t.next past ≡ true
+pub is_known : (t : Times) (past : List Arrival) → Stands t past → (least t.captured ≡ none → ⊥)
+    → has_come t.next past ≡ true
 is_known t past s n =
     elim (cases_Bool (has_come t.next past)) [
       | inl h ↦ h
       | inr h ↦ absurd (n (earliest t.captured t.next past s.captured ∙ not_come t.next past h))
     ]
 
-pub due : (t : Times) (captured : ℕ) (past : List Arrival) → Stands t past → captured ≡ least t.captured → (captured ≡ none → ⊥)
-    → Some (min (min (captured + min (min t.recent.this (min t.recent.before t.recent.earlier)) (min t.runs.last (min t.runs.before t.runs.earlier))) none + t.wait) none - origin)
+pub due : (t : Times) (captured : ℕ) (past : List Arrival) → Stands t past → captured ≡ least t.captured
+    → (captured ≡ none → ⊥)
+    → Some (min
+    (min (captured + min (min t.recent.this (min t.recent.before t.recent.earlier))
+    (min t.runs.last (min t.runs.before t.runs.earlier))) none + t.wait) none - origin)
     ≡ due_of t.wait t.next past
 due t captured [] s e n = absurd (false≢true (is_known t [] s (λ f. n (e ∙ f))))
 due t captured (a ∷ past) s e n =
@@ -94,7 +102,10 @@ due t captured (a ∷ past) s e n =
     let c = e ∙ earliest t.captured t.next (a ∷ past) s.captured in
     let l = least_kept t a past s in
     let timed : IsTimed a = s.timed.0 in
-    ap (λ (x : ℕ). Some (min (min (x + min (min t.recent.this (min t.recent.before t.recent.earlier)) (min t.runs.last (min t.runs.before t.runs.earlier))) none + t.wait) none - origin)) c
+    ap (λ (x : ℕ). Some
+    (min (min
+    (x + min (min t.recent.this (min t.recent.before t.recent.earlier))
+    (min t.runs.last (min t.runs.before t.runs.earlier))) none + t.wait) none - origin)) c
     ∙ ap (λ (x : ℕ). Some (min (min (captured_from t.next (a ∷ past) + x) none + t.wait) none - origin)) l
     ∙ ap (λ (x : ℕ). Some x) (saturated (captured_from t.next (a ∷ past)) (least_way (a ∷ past)) t.wait
     (captures_small t (a ∷ past) s known)

@@ -18,11 +18,15 @@ time a = a.captured
 
 -- ---- one more
 
-more_of : (n : ℕ) (a : Arrival) (past : List Arrival) → a.picture ≡ n → captured_of n (a ∷ past) ≡ min a.captured (captured_of n past)
-more_of n a past e = ap (λ (l : List Arrival). least (map time l)) (chosen (λ b. eqb b.picture n) a past (eq-eqb a.picture n e))
+more_of : (n : ℕ) (a : Arrival) (past : List Arrival) → a.picture ≡ n
+    → captured_of n (a ∷ past) ≡ min a.captured (captured_of n past)
+more_of n a past e = ap (λ (l : List Arrival). least (map time l))
+    (chosen (λ b. eqb b.picture n) a past (eq-eqb a.picture n e))
 
-same_of : (n : ℕ) (a : Arrival) (past : List Arrival) → (a.picture ≡ n → ⊥) → captured_of n (a ∷ past) ≡ captured_of n past
-same_of n a past e = ap (λ (l : List Arrival). least (map time l)) (passed (λ b. eqb b.picture n) a past (ne_eqb a.picture n e))
+same_of : (n : ℕ) (a : Arrival) (past : List Arrival) → (a.picture ≡ n → ⊥)
+    → captured_of n (a ∷ past) ≡ captured_of n past
+same_of n a past e = ap (λ (l : List Arrival). least (map time l))
+    (passed (λ b. eqb b.picture n) a past (ne_eqb a.picture n e))
 
 flipped : (m x y c d : ℕ) → m ≡ min x c → x ≡ y → d ≡ min c y → m ≡ d
 flipped m x y c d e f g = omega arith
@@ -36,9 +40,12 @@ noted old next place a past h e s =
     record {
       long = length-set old place (min (get_or old place 0) a.captured) ∙ s.long;
       each = λ k i. ⊎_elim
-          (λ (j : k ≡ place). subst (λ (n : ℕ). get_or (set old place (min (get_or old place 0) a.captured)) n 0 ≡ captured_of (next + n) (a ∷ past)) (sym j)
+          (λ (j : k ≡ place). subst
+          (λ (n : ℕ). get_or (set old place (min (get_or old place 0) a.captured)) n 0 ≡ captured_of (next + n)
+          (a ∷ past)) (sym j)
           (flipped _ (get_or old place 0) (captured_of (next + place) past) a.captured _
-          (get_or-set_same old place (min (get_or old place 0) a.captured) 0 within) (s.each place h) (more_of (next + place) a past e)))
+          (get_or-set_same old place (min (get_or old place 0) a.captured) 0 within) (s.each place h)
+          (more_of (next + place) a past e)))
           (λ (j : k ≡ place → ⊥). get_or-set_other old place k (min (get_or old place 0) a.captured) 0 j ∙ s.each k i
           ∙ sym (same_of (next + k) a past (λ f. j (omega arith))))
           (cases_eq k place);
@@ -87,7 +94,8 @@ no_later true n l = omega arith
 no_later false n l = omega arith
 
 grows : (n : ℕ) (a : Arrival) (past : List Arrival) → captured_of n (a ∷ past) ≤ captured_of n past
-grows n a past = rw (least_chosen time (λ b. eqb b.picture n) a past) (no_later (eqb a.picture n) a.captured (captured_of n past))
+grows n a past = rw (least_chosen time (λ b. eqb b.picture n) a past)
+    (no_later (eqb a.picture n) a.captured (captured_of n past))
 
 each_said : (past : List Arrival) → AllByRecursion (λ a. captured_of a.picture past ≤ a.captured) past
 each_said [] = tt
@@ -128,7 +136,8 @@ earliest captured next past s =
 
 -- ---- whether something came
 
-nothing : (next : ℕ) (past : List Arrival) → has_come next past ≡ false → AllByRecursion (λ a. leb next a.picture ≡ false) past
+nothing : (next : ℕ) (past : List Arrival) → has_come next past ≡ false
+    → AllByRecursion (λ a. leb next a.picture ≡ false) past
 nothing next [] e = tt
 nothing next (a ∷ past) e =
     let h = or_parts (leb next a.picture) (has_come next past) e in
@@ -149,5 +158,6 @@ unfolding captured_from
 come next z [] e h = absurd (false≢true e)
 come next z (a ∷ past) e h =
     rw (least_chosen time (λ b. leb next b.picture) a past)
-    (came_one (leb next a.picture) (has_come next past) a.captured (least (map time (filter (λ b. leb next b.picture) past))) z e h.0
+    (came_one (leb next a.picture) (has_come next past) a.captured
+    (least (map time (filter (λ b. leb next b.picture) past))) z e h.0
     (λ f. come next z past f h.1))

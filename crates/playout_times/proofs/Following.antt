@@ -40,7 +40,8 @@ pub grown : (l b e m t : ℕ) (a c : Arrival) (rs : List (List Arrival)) → Beg
 grown l b e m t a c rs r same i w =
     subst (λ (x : List (List Arrival)). Three l b e x → Three m b e (onto a x)) (sym r.is)
     (λ s. subst (λ (x : List (List Arrival)). Three m b e x)
-    (sym (ap (λ (k : Bool). cond k ((a ∷ c ∷ r.run) ∷ r.before) ((a ∷ []) ∷ (c ∷ r.run) ∷ r.before)) (eq-eqb a.picture c.picture same)))
+    (sym (ap (λ (k : Bool). cond k ((a ∷ c ∷ r.run) ∷ r.before) ((a ∷ []) ∷ (c ∷ r.run) ∷ r.before))
+    (eq-eqb a.picture c.picture same)))
     (swapped m l t (way a) (least (ways (c ∷ r.run))) i w s.0, s.1, s.2))
 
 -- of another picture
@@ -49,11 +50,13 @@ pub turned : (l b e t : ℕ) (a c : Arrival) (rs : List (List Arrival)) → Begi
 turned l b e t a c rs r other h w =
     subst (λ (x : List (List Arrival)). Three l b e x → Three t l b (onto a x)) (sym r.is)
     (λ s. subst (λ (x : List (List Arrival)). Three t l b x)
-    (sym (ap (λ (k : Bool). cond k ((a ∷ c ∷ r.run) ∷ r.before) ((a ∷ []) ∷ (c ∷ r.run) ∷ r.before)) (ne_eqb a.picture c.picture other)))
+    (sym (ap (λ (k : Bool). cond k ((a ∷ c ∷ r.run) ∷ r.before) ((a ∷ []) ∷ (c ∷ r.run) ∷ r.before))
+    (ne_eqb a.picture c.picture other)))
     (alone t (way a) 18446744073709551615 h w, s.0, s.1))
 
 pub same_picture : (r : Runs) (m t picture : ℕ) (a : Arrival) (past : List Arrival) → RunsStand r past
-    → r.picture ≡ picture → m ≡ min r.last t → a.picture ≡ picture → way a ≡ t → RunsStand (record { picture = picture; last = m; before = r.before; earlier = r.earlier }) (a ∷ past)
+    → r.picture ≡ picture → m ≡ min r.last t → a.picture ≡ picture → way a ≡ t
+    → RunsStand (record { picture = picture; last = m; before = r.before; earlier = r.earlier }) (a ∷ past)
 same_picture r m t picture a [] s f e p w =
     record {
       picture = p;
@@ -82,7 +85,13 @@ other_picture r t picture a (c ∷ past) s n h p w =
     other h w (s.last, s.before, s.earlier) in
     record { picture = p; last = x.0; before = x.1; earlier = x.2 }
 
-pub no_runs : RunsStand (record { picture = 0; last = 18446744073709551615; before = 18446744073709551615; earlier = 18446744073709551615 }) []
+pub no_runs : RunsStand
+    (record {
+      picture = 0;
+      last = 18446744073709551615;
+      before = 18446744073709551615;
+      earlier = 18446744073709551615;
+    }) []
 no_runs = record { picture = tt; last = refl; before = refl; earlier = refl }
 
 -- ---- the least of all
@@ -109,8 +118,10 @@ all_three (r ∷ s ∷ []) =
     let f = least_map-append way s [] in
     omega (arith, e, f)
 all_three (r ∷ s ∷ t ∷ rs) =
-    in_turn (least (ways r)) (least (ways s)) (least (ways t)) (least (ways (r ++ (s ++ (t ++ []))))) (least (ways (s ++ (t ++ []))))
-    (least (ways (t ++ []))) (least_small (ways t)) (least_map-append way r (s ++ (t ++ []))) (least_map-append way s (t ++ []))
+    in_turn (least (ways r)) (least (ways s)) (least (ways t)) (least (ways (r ++ (s ++ (t ++ [])))))
+    (least (ways (s ++ (t ++ []))))
+    (least (ways (t ++ []))) (least_small (ways t)) (least_map-append way r (s ++ (t ++ [])))
+    (least_map-append way s (t ++ []))
     (least_map-append way t [])
     ∙ ap (λ (l : List (List Arrival)). least (ways (r ++ (s ++ (t ++ all_of l))))) (sym (take_none rs))
 

@@ -25,7 +25,8 @@ shifted k d q past =
     ap (λ (l : List Arrival). least (ways l))
     (same_choice (is_before (k + d) (q + d)) (is_before k q) past
     (everywhere (λ a. is_before (k + d) (q + d) a ≡ is_before k q a)
-    (λ a. same_test (quarter_of a.at + (k + d)) (q + d) (quarter_of a.at + k) q (λ e. omega arith) (λ e. omega arith)) past))
+    (λ a. same_test (quarter_of a.at + (k + d)) (q + d) (quarter_of a.at + k) q (λ e. omega arith)
+    (λ e. omega arith)) past))
 
 -- nothing came since
 since : (k d q : ℕ) (past : List Arrival) → k < d → Order q past → least_before k (q + d) past ≡ none
@@ -39,7 +40,8 @@ later : (d q : ℕ) (past : List Arrival) → Order q past → Order (q + d) pas
 later d q past o =
     all_by (λ a. quarter_of a.at ≤ q) (λ a. quarter_of a.at ≤ q + d) (λ a i. omega arith) past o
 
-pub after_none : (r : Recent) (q d : ℕ) (past : List Arrival) → d ≡ 0 → RecentStands r q past → RecentStands r (q + d) past
+pub after_none : (r : Recent) (q d : ℕ) (past : List Arrival) → d ≡ 0 → RecentStands r q past
+    → RecentStands r (q + d) past
 after_none r q d past e s =
     let same : q ≡ q + d = omega arith in
     subst (λ (n : ℕ). RecentStands r n past) same s
@@ -89,9 +91,12 @@ added r m t q a past e s w i =
     let other : (k : ℕ) → 0 < k → is_before k q a ≡ false = λ k h. ne_eqb (quarter_of a.at + k) q (λ j. omega arith) in
     record {
       this = swapped m r.this t (way a) (least_before 0 q past) e w s.this
-          ∙ sym (ap (λ (l : List Arrival). least (ways l)) (chosen (is_before 0 q) a past (eq-eqb (quarter_of a.at + 0) q (omega arith))));
-      before = s.before ∙ sym (ap (λ (l : List Arrival). least (ways l)) (passed (is_before 1 q) a past (other 1 (omega arith))));
-      earlier = s.earlier ∙ sym (ap (λ (l : List Arrival). least (ways l)) (passed (is_before 2 q) a past (other 2 (omega arith))));
+          ∙ sym (ap (λ (l : List Arrival). least (ways l))
+          (chosen (is_before 0 q) a past (eq-eqb (quarter_of a.at + 0) q (omega arith))));
+      before = s.before
+          ∙ sym (ap (λ (l : List Arrival). least (ways l)) (passed (is_before 1 q) a past (other 1 (omega arith))));
+      earlier = s.earlier
+          ∙ sym (ap (λ (l : List Arrival). least (ways l)) (passed (is_before 2 q) a past (other 2 (omega arith))));
       order = (omega (arith, i), s.order);
     }
 
@@ -104,13 +109,16 @@ neither x y e f = ap (λ (b : Bool). b || y) e ∙ f
 one_of_three : (x q : ℕ) → x ≤ q → leb q (x + 2) ≡ (eqb (x + 0) q || (eqb (x + 1) q || eqb (x + 2) q))
 one_of_three x q h =
     ⊎_elim
-    (λ e. le-leb q (x + 2) (omega arith) ∙ sym (or_left (eqb (x + 0) q) (eqb (x + 1) q || eqb (x + 2) q) (eq-eqb (x + 0) q e)))
+    (λ e. le-leb q (x + 2) (omega arith)
+    ∙ sym (or_left (eqb (x + 0) q) (eqb (x + 1) q || eqb (x + 2) q) (eq-eqb (x + 0) q e)))
     (λ n. ⊎_elim
     (λ e. le-leb q (x + 2) (omega arith)
-    ∙ sym (or_right (eqb (x + 0) q) (eqb (x + 1) q || eqb (x + 2) q) (or_left (eqb (x + 1) q) (eqb (x + 2) q) (eq-eqb (x + 1) q e))))
+    ∙ sym (or_right (eqb (x + 0) q) (eqb (x + 1) q || eqb (x + 2) q)
+    (or_left (eqb (x + 1) q) (eqb (x + 2) q) (eq-eqb (x + 1) q e))))
     (λ n1. ⊎_elim
     (λ e. le-leb q (x + 2) (omega arith)
-    ∙ sym (or_right (eqb (x + 0) q) (eqb (x + 1) q || eqb (x + 2) q) (or_right (eqb (x + 1) q) (eqb (x + 2) q) (eq-eqb (x + 2) q e))))
+    ∙ sym (or_right (eqb (x + 0) q) (eqb (x + 1) q || eqb (x + 2) q)
+    (or_right (eqb (x + 1) q) (eqb (x + 2) q) (eq-eqb (x + 2) q e))))
     (λ n2. lt-leb q (x + 2) (omega arith)
     ∙ sym (neither (eqb (x + 0) q) (eqb (x + 1) q || eqb (x + 2) q) (ne_eqb (x + 0) q n)
     (neither (eqb (x + 1) q) (eqb (x + 2) q) (ne_eqb (x + 1) q n1) (ne_eqb (x + 2) q n2))))
@@ -134,18 +142,23 @@ abbrev within : ℕ → Arrival → Bool
 within q a = leb q (quarter_of a.at + 2)
 
 all_three : (q : ℕ) (past : List Arrival) → Order q past
-    → min (least_before 0 q past) (min (least_before 1 q past) (least_before 2 q past)) ≡ least (ways (filter (within q) past))
+    → min (least_before 0 q past) (min (least_before 1 q past) (least_before 2 q past)) ≡ least
+    (ways (filter (within q) past))
 all_three q [] o = omega arith
 all_three q (a ∷ past) o =
-    ap (λ (n : ℕ). min n (min (least_before 1 q (a ∷ past)) (least_before 2 q (a ∷ past)))) (least_chosen way (is_before 0 q) a past)
-    ∙ ap (λ (n : ℕ). min (cond (is_before 0 q a) (min (way a) (least_before 0 q past)) (least_before 0 q past)) (min n (least_before 2 q (a ∷ past))))
+    ap (λ (n : ℕ). min n (min (least_before 1 q (a ∷ past)) (least_before 2 q (a ∷ past))))
+    (least_chosen way (is_before 0 q) a past)
+    ∙ ap (λ (n : ℕ). min (cond (is_before 0 q a) (min (way a) (least_before 0 q past)) (least_before 0 q past))
+    (min n (least_before 2 q (a ∷ past))))
     (least_chosen way (is_before 1 q) a past)
     ∙ ap (λ (n : ℕ). min (cond (is_before 0 q a) (min (way a) (least_before 0 q past)) (least_before 0 q past))
     (min (cond (is_before 1 q a) (min (way a) (least_before 1 q past)) (least_before 1 q past)) n))
     (least_chosen way (is_before 2 q) a past)
-    ∙ joined (is_before 0 q a) (is_before 1 q a) (is_before 2 q a) (way a) (least_before 0 q past) (least_before 1 q past)
+    ∙ joined (is_before 0 q a) (is_before 1 q a) (is_before 2 q a) (way a) (least_before 0 q past)
+    (least_before 1 q past)
     (least_before 2 q past) (least (ways (filter (within q) past))) (all_three q past o.1)
-    ∙ ap (λ (b : Bool). cond b (min (way a) (least (ways (filter (within q) past)))) (least (ways (filter (within q) past))))
+    ∙ ap (λ (b : Bool). cond b (min (way a) (least (ways (filter (within q) past))))
+    (least (ways (filter (within q) past))))
     (sym (one_of_three (quarter_of a.at) q o.0))
     ∙ sym (least_chosen way (within q) a past)
 

@@ -50,7 +50,8 @@ runs_all : (P : Arrival → Type 0) (past : List Arrival) → AllByRecursion P p
 runs_all P [] s = tt
 runs_all P (a ∷ past) s = onto_all P a (runs past) s.0 (runs_all P past s.1)
 
-least_from_each : (n : ℕ) (run : List Arrival) → n ≤ 18446744073709551615 → AllByRecursion (λ a. n ≤ way a) run → n ≤ least (ways run)
+least_from_each : (n : ℕ) (run : List Arrival) → n ≤ 18446744073709551615 → AllByRecursion (λ a. n ≤ way a) run
+    → n ≤ least (ways run)
 least_from_each n [] h s = h
 least_from_each n (a ∷ run) h s = both n (way a) (least (ways run)) s.0 (least_from_each n run h s.1)
   where
@@ -58,7 +59,8 @@ least_from_each n (a ∷ run) h s = both n (way a) (least (ways run)) s.0 (least
     both n a l h i = omega arith
 
 -- the first runs are those of the later ones
-run_from : (n k : ℕ) (rs ss : List (List Arrival)) → n ≤ 18446744073709551615 → k < length rs → AllRuns (λ a. n ≤ way a) rs
+run_from : (n k : ℕ) (rs ss : List (List Arrival)) → n ≤ 18446744073709551615 → k < length rs
+    → AllRuns (λ a. n ≤ way a) rs
     → n ≤ least_of_run k (rs ++ ss)
 run_from n k [] ss h i s =
     let no : ⊥ = omega arith in
@@ -75,28 +77,34 @@ latest_from n rs ss all e h i s =
     subst (λ (l : List (List Arrival)). n ≤ least (ways (all_of (take 3 l)))) (sym e)
     (three_from n (least_of_run 0 (rs ++ ss)) (least_of_run 1 (rs ++ ss)) (least_of_run 2 (rs ++ ss))
     (least (ways (all_of (take 3 (rs ++ ss))))) (all_three (rs ++ ss))
-    (run_from n 0 rs ss h (omega arith) s) (run_from n 1 rs ss h (omega arith) s) (run_from n 2 rs ss h (omega arith) s))
+    (run_from n 0 rs ss h (omega arith) s) (run_from n 1 rs ss h (omega arith) s)
+    (run_from n 2 rs ss h (omega arith) s))
 
 -- ---- recovering
 
-all_append : (P : Arrival → Type 0) (xs ys : List Arrival) → AllByRecursion P xs → AllByRecursion P ys → AllByRecursion P (xs ++ ys)
+all_append : (P : Arrival → Type 0) (xs ys : List Arrival) → AllByRecursion P xs → AllByRecursion P ys
+    → AllByRecursion P (xs ++ ys)
 all_append P [] ys h i = i
 all_append P (x ∷ xs) ys h i = (h.0, all_append P xs ys h.1 i)
 
-recent_from : (n now : ℕ) (later before : List Arrival) → n ≤ 18446744073709551615 → AllByRecursion (λ a. n ≤ way a) later
-    → AllByRecursion (λ b. quarter_of b.at + 2 < quarter_of now) before → n ≤ least (ways (recent now (later ++ before)))
+recent_from : (n now : ℕ) (later before : List Arrival) → n ≤ 18446744073709551615
+    → AllByRecursion (λ a. n ≤ way a) later
+    → AllByRecursion (λ b. quarter_of b.at + 2 < quarter_of now) before
+    → n ≤ least (ways (recent now (later ++ before)))
 recent_from n now later before h s o =
     chosen_from n way (λ a. leb (quarter_of now) (quarter_of a.at + 2)) (later ++ before) h
     (all_append (λ a. leb (quarter_of now) (quarter_of a.at + 2) ≡ true → n ≤ way a) later before
     (all_by (λ a. n ≤ way a) (λ a. leb (quarter_of now) (quarter_of a.at + 2) ≡ true → n ≤ way a) (λ a i t. i) later s)
-    (all_by (λ b. quarter_of b.at + 2 < quarter_of now) (λ a. leb (quarter_of now) (quarter_of a.at + 2) ≡ true → n ≤ way a)
+    (all_by (λ b. quarter_of b.at + 2 < quarter_of now)
+    (λ a. leb (quarter_of now) (quarter_of a.at + 2) ≡ true → n ≤ way a)
     (λ a i t.
     let j = leb-true (quarter_of now) (quarter_of a.at + 2) t in
     let no : ⊥ = omega arith in
     absurd no)
     before o))
 
-small : (n c t : ℕ) → c < 4611686018427387904 → t < 4611686018427387904 → n ≤ t + 4611686018427387904 - c → n ≤ 18446744073709551615
+small : (n c t : ℕ) → c < 4611686018427387904 → t < 4611686018427387904 → n ≤ t + 4611686018427387904 - c
+    → n ≤ 18446744073709551615
 small n c t h i j = omega arith
 
 split : (n l r s : ℕ) → l ≡ min r s → n ≤ r → n ≤ s → n ≤ l
@@ -110,7 +118,8 @@ shortest_from n [] before h t s =
     absurd no
 shortest_from n (a ∷ later) before h t s =
     let fits = small n a.captured a.at t.0.captured t.0.at s.0 in
-    split n (least_way (a ∷ later ++ before)) (least (ways (recent a.at (a ∷ later ++ before)))) (least (ways (latest (a ∷ later ++ before))))
+    split n (least_way (a ∷ later ++ before)) (least (ways (recent a.at (a ∷ later ++ before))))
+    (least (ways (latest (a ∷ later ++ before))))
     (two_parts a (later ++ before))
     (recent_from n a.at (a ∷ later) before fits s h.old)
     (latest_from n (runs (a ∷ later)) (runs before) (runs (a ∷ later ++ before)) h.apart fits h.three

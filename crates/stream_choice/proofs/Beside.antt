@@ -14,7 +14,8 @@ use Rattle.stream_choice.specs.Laws.{Event, Came, Complete, StaysLive, after, af
 -- ---- not shut out
 
 shut : (b1 b2 b3 b4 b5 : Bool) → b4 ≡ false → b5 ≡ true
-    → cond b1 takers.Followed (cond b2 takers.Former (cond b3 takers.Tried (cond b4 takers.NoRun (cond b5 takers.Begins takers.NoRun))))
+    → cond b1 takers.Followed
+    (cond b2 takers.Former (cond b3 takers.Tried (cond b4 takers.NoRun (cond b5 takers.Begins takers.NoRun))))
     ≡ takers.NoRun → ⊥
 shut true b2 b3 b4 b5 h i e = cc
 shut false true b3 b4 b5 h i e = cc
@@ -32,7 +33,8 @@ or_later b c e = ap (λ (x : Bool). cond x true c) e
 
 over : (long now : ℕ) (t : Trial) → 1000000000 + long ≤ now - t.began → is_over long now t ≡ true
 over long now t h =
-    or_later (leb (1000000000 + long) (now - t.began)) (leb (500000000 + long) (now - t.last)) (le-leb (1000000000 + long) (now - t.began) h)
+    or_later (leb (1000000000 + long) (now - t.began)) (leb (500000000 + long) (now - t.last))
+    (le-leb (1000000000 + long) (now - t.began) h)
 
 may : (tried : Option Trial) (source now : ℕ) → MatchOption tried (Unit {0}) (λ t. t.began + 1500000000 ≤ now)
     → may_begin tried source now ≡ true
@@ -45,7 +47,8 @@ pub not_shut_out : (st : Streams) (source now : ℕ) → is_live_one st.followed
     → MatchOption st.tried (Unit {0}) (λ t. t.began + 1500000000 ≤ now)
     → taker_of st source now ≡ takers.NoRun → ⊥
 not_shut_out st source now h i =
-    shut (is_of st.followed source) (is_of st.former source) (is_tried st.tried source now) (is_live_one st.followed now)
+    shut (is_of st.followed source) (is_of st.former source) (is_tried st.tried source now)
+    (is_live_one st.followed now)
     (may_begin st.tried source now) h (may st.tried source now i)
 
 -- ---- the former stream, and the one that is tried
@@ -60,14 +63,17 @@ weaker (Some g) n h = omega arith
 abbrev Keeps : Stream → ℕ → Streams → Type 0
 Keeps f n st = (st.followed ≡ Some f) × Fewer st.former n
 
-overtaken : (f g : Stream) (o : Option Stream) (now : ℕ) → o ≡ Some f → now - f.last < 500000000 → g.pictures + 1 ≤ f.pictures
+overtaken : (f g : Stream) (o : Option Stream) (now : ℕ) → o ≡ Some f → now - f.last < 500000000
+    → g.pictures + 1 ≤ f.pictures
     → overtakes o (counted now g) now ≡ false
 overtaken f g o now e live h =
     ap (λ (x : Option Stream). overtakes x (counted now g) now) e
-    ∙ ap (λ (b : Bool). cond b (ltb f.pictures (min (g.pictures + 1) 4294967295)) true) (lt-ltb (now - f.last) 500000000 live)
+    ∙ ap (λ (b : Bool). cond b (ltb f.pictures (min (g.pictures + 1) 4294967295)) true)
+    (lt-ltb (now - f.last) 500000000 live)
     ∙ le-ltb f.pictures (min (g.pictures + 1) 4294967295) (omega arith)
 
-former_stays : (st : Streams) (f : Stream) (n now : ℕ) (o : Option Stream) → st.followed ≡ Some f → Fewer st.former n → Fewer o n
+former_stays : (st : Streams) (f : Stream) (n now : ℕ) (o : Option Stream) → st.followed ≡ Some f → Fewer st.former n
+    → Fewer o n
     → now - f.last < 500000000 → n + 1 ≤ f.pictures → Keeps f (n + 1) (with_former st o now)
 former_stays st f n now None e h i live more = (e, weaker st.former n h)
 former_stays st f n now (Some g) e h i live more =
@@ -80,7 +86,8 @@ former_stays st f n now (Some g) e h i live more =
     smaller : (g n : ℕ) → g ≤ n → min (g + 1) 4294967295 ≤ n + 1
     smaller g n h = omega arith
 
-is_live_still : (f : Stream) (o : Option Stream) (now : ℕ) → o ≡ Some f → now - f.last < 500000000 → is_live_one o now ≡ true
+is_live_still : (f : Stream) (o : Option Stream) (now : ℕ) → o ≡ Some f → now - f.last < 500000000
+    → is_live_one o now ≡ true
 is_live_still f o now e live =
     ap (λ (x : Option Stream). is_live_one x now) e ∙ lt-ltb (now - f.last) 500000000 live
 
@@ -124,7 +131,8 @@ alone_still : (b : Bool) (f : Stream) (e : Event) (es : List Event) → (b ≡ t
 alone_still true f e es h = ap (λ (s : Streams). after_all s es) (h refl)
 alone_still false f e es h = refl
 
-agree : (es : List Event) (st : Streams) (f : Stream) (n : ℕ) → st.followed ≡ Some f → Fewer st.former n → StaysLive n f es
+agree : (es : List Event) (st : Streams) (f : Stream) (n : ℕ) → st.followed ≡ Some f → Fewer st.former n
+    → StaysLive n f es
     → Agree (after_all st es) (after_all (alone f) (filter (is_own f.source) es)) f.source
 agree [] st f n e h s = record { followed = f; is = e; same = refl; source_is = refl }
 agree (Came other now ∷ es) st f n e h s =
@@ -132,7 +140,8 @@ agree (Came other now ∷ es) st f n e h s =
     (sym (alone_still (eqb other f.source) f (Came other now) (filter (is_own f.source) es) (came_alone f other now)))
     (agree es (after_packet st other now) f n e h s.1)
 agree (Complete runs.Followed now ∷ es) st f n e h s =
-    agree es (record { followed = option_map (counted now) st.followed; former = st.former; tried = st.tried }) (counted now f) n
+    agree es (record { followed = option_map (counted now) st.followed; former = st.former; tried = st.tried })
+    (counted now f) n
     (ap (option_map (counted now)) e) h s.1
 agree (Complete runs.Former now ∷ es) st f n e h s =
     let k = former_stays st f n now st.former e h h s.0 s.1 in
@@ -141,10 +150,13 @@ agree (Complete runs.Tried now ∷ es) st f n e h s =
     let k = tried_goes st f n now st.tried e h s.0 in
     agree es (with_tried st st.tried now) f n k.0 k.1 s.1
 
-taken : (st : Streams) (f : Stream) (source now : ℕ) → st.followed ≡ Some f → f.source ≡ source → taker_of st source now ≡ takers.Followed
+taken : (st : Streams) (f : Stream) (source now : ℕ) → st.followed ≡ Some f → f.source ≡ source
+    → taker_of st source now ≡ takers.Followed
 taken st f source now e h =
-    ap (λ (b : Bool). cond b takers.Followed (cond (is_of st.former source) takers.Former (cond (is_tried st.tried source now) takers.Tried
-    (cond (is_live_one st.followed now) takers.NoRun (cond (may_begin st.tried source now) takers.Begins takers.NoRun)))))
+    ap (λ (b : Bool). cond b takers.Followed
+    (cond (is_of st.former source) takers.Former (cond (is_tried st.tried source now) takers.Tried
+    (cond (is_live_one st.followed now) takers.NoRun
+    (cond (may_begin st.tried source now) takers.Begins takers.NoRun)))))
     (ap (λ (o : Option Stream). is_of o source) e ∙ eq-eqb f.source source h)
 
 pub undisturbed : (st : Streams) (f : Stream) (n : ℕ) (es : List Event) → st.followed ≡ Some f

@@ -40,13 +40,15 @@ pub refuses : (b : Budget) (now n : ℕ) (past : List ℕ) → n ≡ count_by (i
     → is_granted b.most now past ≡ false
 refuses b now n past e h = le-ltb (count_by (is_with now) (granted b.most past)) b.most (omega arith)
 
-later : (last now : ℕ) (past : List ℕ) → last ≤ now → AllByRecursion (λ t. t ≤ last) past → AllByRecursion (λ t. t ≤ now) past
+later : (last now : ℕ) (past : List ℕ) → last ≤ now → AllByRecursion (λ t. t ≤ last) past
+    → AllByRecursion (λ t. t ≤ now) past
 later last now [] h s = tt
 later last now (t ∷ past) h s =
     let first = s.0 in
     (omega arith, later last now past h s.1)
 
-pub stands_granted : (b : Budget) (now n : ℕ) (past : List ℕ) → b.last ≤ now → n ≡ count_by (is_with now) (granted b.most past)
+pub stands_granted : (b : Budget) (now n : ℕ) (past : List ℕ) → b.last ≤ now
+    → n ≡ count_by (is_with now) (granted b.most past)
     → n < b.most → BudgetStands b past
     → BudgetStands (record { most = b.most; last = now; taken = n + 1 }) (now ∷ past)
 stands_granted b now n past o e h s =
@@ -58,7 +60,8 @@ stands_granted b now n past o e h s =
           (grants b now n past e h));
     }
 
-pub stands_refused : (b : Budget) (now n : ℕ) (past : List ℕ) → b.last ≤ now → n ≡ count_by (is_with now) (granted b.most past)
+pub stands_refused : (b : Budget) (now n : ℕ) (past : List ℕ) → b.last ≤ now
+    → n ≡ count_by (is_with now) (granted b.most past)
     → b.most ≤ n → BudgetStands b past
     → BudgetStands (record { most = b.most; last = now; taken = n }) (now ∷ past)
 stands_refused b now n past o e h s =
@@ -76,11 +79,13 @@ pub same_second : (b : Budget) (now : ℕ) (past : List ℕ) → now / 100000000
 same_second b now past e s =
     s.taken ∙ ap (λ (second : ℕ). count_by (in_second second) (granted b.most past)) (sym e)
 
-kept_none : (p : ℕ → Bool) (c : Bool) (t : ℕ) (ns : List ℕ) → p t ≡ false → count_by p ns ≡ 0 → count_by p (cond c (t ∷ ns) ns) ≡ 0
+kept_none : (p : ℕ → Bool) (c : Bool) (t : ℕ) (ns : List ℕ) → p t ≡ false → count_by p ns ≡ 0
+    → count_by p (cond c (t ∷ ns) ns) ≡ 0
 kept_none p true t ns e h = passed p t ns e ∙ h
 kept_none p false t ns e h = h
 
-none_of : (most last now : ℕ) (past : List ℕ) → last / 1000000000 < now / 1000000000 → AllByRecursion (λ t. t ≤ last) past
+none_of : (most last now : ℕ) (past : List ℕ) → last / 1000000000 < now / 1000000000
+    → AllByRecursion (λ t. t ≤ last) past
     → count_by (is_with now) (granted most past) ≡ 0
 none_of most last now [] h s = refl
 none_of most last now (t ∷ past) h s =
@@ -103,7 +108,8 @@ step true most second t ns f h =
     let same = ap (λ (n : ℕ). count_by (in_second n) ns) (eqb-true (t / 1000000000) second e) in
     let less = f refl in
     let more = chosen (in_second second) t ns e in
-    fits (count_by (in_second second) (t ∷ ns)) (count_by (in_second second) ns) (count_by (is_with t) ns) most more same less)
+    fits (count_by (in_second second) (t ∷ ns)) (count_by (in_second second) ns)
+    (count_by (is_with t) ns) most more same less)
     (λ (e : in_second second t ≡ false).
     let more = passed (in_second second) t ns e in
     omega (arith, more, h))

@@ -22,7 +22,8 @@ back top over n h e =
 over_256 : (base n : ℕ) → base ≤ n + 128 → n < base + 128 → (base + 128 - 1 + 256 - n % 256) % 256 ≡ base + 128 - 1 - n
 over_256 base n h i = omega arith
 
-over_1024 : (base n : ℕ) → base ≤ n + 512 → n < base + 512 → (base + 512 - 1 + 1024 - n % 1024) % 1024 ≡ base + 512 - 1 - n
+over_1024 : (base n : ℕ) → base ≤ n + 512 → n < base + 512
+    → (base + 512 - 1 + 1024 - n % 1024) % 1024 ≡ base + 512 - 1 - n
 over_1024 base n h i = omega arith
 
 over_stamp : (base n : ℕ) → base ≤ n + 2147483648 → n < base + 2147483648
@@ -37,7 +38,8 @@ pub near_1024 : (base n : ℕ) → base ≤ n + 512 → n < base + 512 → neare
 near_1024 base n h i =
     back (base + 512 - 1) ((base + 512 - 1 + 1024 - n % 1024) % 1024) n (omega arith) (over_1024 base n h i)
 
-pub near_stamp : (base n : ℕ) → base ≤ n + 2147483648 → n < base + 2147483648 → nearest base (n % 4294967296) 4294967296 ≡ Some n
+pub near_stamp : (base n : ℕ) → base ≤ n + 2147483648 → n < base + 2147483648
+    → nearest base (n % 4294967296) 4294967296 ≡ Some n
 near_stamp base n h i =
     back (base + 2147483648 - 1) ((base + 2147483648 - 1 + 4294967296 - n % 4294967296) % 4294967296) n (omega arith)
     (over_stamp base n h i)
@@ -92,7 +94,8 @@ pub found : (r : Rate) (x : Newest) (p : Packet) (number stamp now : ℕ) → (r
 found r x p number stamp now period s n allowed =
     ap (λ (t : ℕ). place_in (with_stamp r x p (nearest x.stamp t 4294967296) now)) s.timestamp
     ∙ ap (λ (o : Option ℕ). place_in (with_stamp r x p o now)) (near_stamp x.stamp stamp n.stamp_low n.stamp_high)
-    ∙ ap (λ (b : Bool). place_in (cond b None (with_number r x p (nearest (guess_of r x p stamp) p.reference r.period) stamp now)))
+    ∙ ap (λ (b : Bool). place_in
+    (cond b None (with_number r x p (nearest (guess_of r x p stamp) p.reference r.period) stamp now)))
     (lt-leb 70368744177664 stamp s.small)
     ∙ ap (λ (t : ℕ). place_in (with_number r x p (nearest (guess_of r x p stamp) t r.period) stamp now)) s.reference
     ∙ ap (λ (o : Option ℕ). place_in (with_number r x p o stamp now))

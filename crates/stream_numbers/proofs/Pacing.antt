@@ -53,7 +53,8 @@ tenth rate time =
     let a : 10 * allowed_in time ≤ 11 * time = omega arith in
     mul-le-mul_left {m = 10 * allowed_in time} {n = 11 * time} rate a
 
-advance_paid : (r : Rate) (x : Newest) (p : Packet) (number stamp now left : ℕ) → 1 ≤ r.rate → x.at ≤ now → x.number < number
+advance_paid : (r : Rate) (x : Newest) (p : Packet) (number stamp now left : ℕ) → 1 ≤ r.rate → x.at ≤ now
+    → x.number < number
     → left ≤ x.credit + allowed_in (now - x.at) - time_of r.rate r.second (number - x.number)
     → time_of r.rate r.second (number - x.number) ≤ x.credit + allowed_in (now - x.at)
     → Paid r x (newer x p number stamp now left)
@@ -64,7 +65,8 @@ advance_paid r x p number stamp now left h o i j k =
     let b = factors r.rate x.credit (allowed_in (now - x.at)) cost (min left 2000000000) l k in
     let c = tenth r.rate (now - x.at) in
     record {
-      pays = sum number x.number r.second r.rate (min left 2000000000) x.credit (allowed_in (now - x.at)) cost (now - x.at)
+      pays = sum number x.number r.second r.rate (min left 2000000000) x.credit (allowed_in (now - x.at)) cost
+          (now - x.at)
           (omega arith) a b c;
       later = o;
     }
@@ -78,7 +80,8 @@ advance_paid r x p number stamp now left h o i j k =
     sum n m second rate left credit allowed cost time h a b c =
         let k = n - m in
         let e : n ≡ m + k = omega arith in
-        let f : (m + k) * (second * 10000000000) ≡ m * (second * 10000000000) + 10 * (k * second * 1000000000) = grind arith in
+        let f : (m + k) * (second * 10000000000) ≡ m * (second * 10000000000) + 10 *
+        (k * second * 1000000000) = grind arith in
         let g = ap (λ (t : ℕ). t * (second * 10000000000)) e in
         omega (arith, a, b, c, f, g)
 
@@ -87,7 +90,8 @@ advance_paid r x p number stamp now left h o i j k =
 abbrev PaidBy : Rate → Newest → Option Newest → Type 0
 PaidBy r x o = MatchOption o (Unit {0}) (λ y. Paid r x y)
 
-advanced_paid : (r : Rate) (x : Newest) (p : Packet) (number stamp now : ℕ) → 1 ≤ r.rate → x.at ≤ now → x.number < number
+advanced_paid : (r : Rate) (x : Newest) (p : Packet) (number stamp now : ℕ) → 1 ≤ r.rate → x.at ≤ now
+    → x.number < number
     → PaidBy r x (advanced r x p number stamp now)
 advanced_paid r x p number stamp now h o i =
     let cost = time_of r.rate r.second (number - x.number) in
@@ -103,7 +107,8 @@ moved_paid r x p number stamp now h o =
     (cond (ltb x.number number) (advanced r x p number stamp now) (Some (record x { sequence = sequence_after x p })))
     (λ s. PaidBy r x s)
     (λ e. tt)
-    (λ e. cond_both (ltb x.number number) (advanced r x p number stamp now) (Some (record x { sequence = sequence_after x p }))
+    (λ e. cond_both (ltb x.number number) (advanced r x p number stamp now)
+    (Some (record x { sequence = sequence_after x p }))
     (λ s. PaidBy r x s)
     (λ f. advanced_paid r x p number stamp now h o (ltb-true x.number number f))
     (λ f. nothing_paid r x (record x { sequence = sequence_after x p }) refl refl refl))
@@ -111,7 +116,8 @@ moved_paid r x p number stamp now h o =
 abbrev StepPaid : Rate → Newest → Option Step → Type 0
 StepPaid r x o = MatchOption o (Unit {0}) (λ s. Paid r x s.newest)
 
-with_moved_paid : (r : Rate) (x : Newest) (o : Option Newest) (number stamp : ℕ) → PaidBy r x o → StepPaid r x (with_moved o number stamp)
+with_moved_paid : (r : Rate) (x : Newest) (o : Option Newest) (number stamp : ℕ) → PaidBy r x o
+    → StepPaid r x (with_moved o number stamp)
 with_moved_paid r x None number stamp h = tt
 with_moved_paid r x (Some y) number stamp h = h
 
@@ -147,15 +153,18 @@ advanced_now : (r : Rate) (x : Newest) (p : Packet) (number stamp now : ℕ) →
 advanced_now r x p number stamp now =
     let cost = time_of r.rate r.second (number - x.number) in
     let most = x.credit + allowed_in (now - x.at) in
-    cond_both (ltb most cost) None (Some (newer x p number stamp now (most - cost))) (λ s. NowBy now s) (λ e. tt) (λ e. omega arith)
+    cond_both (ltb most cost) None (Some (newer x p number stamp now (most - cost))) (λ s. NowBy now s) (λ e. tt)
+    (λ e. omega arith)
 
-moved_now : (r : Rate) (x : Newest) (p : Packet) (number stamp now : ℕ) → x.at ≤ now → NowBy now (moved r x p number stamp now)
+moved_now : (r : Rate) (x : Newest) (p : Packet) (number stamp now : ℕ) → x.at ≤ now
+    → NowBy now (moved r x p number stamp now)
 moved_now r x p number stamp now o =
     cond_both (leb 1048576 number) None
     (cond (ltb x.number number) (advanced r x p number stamp now) (Some (record x { sequence = sequence_after x p })))
     (λ s. NowBy now s)
     (λ e. tt)
-    (λ e. cond_both (ltb x.number number) (advanced r x p number stamp now) (Some (record x { sequence = sequence_after x p }))
+    (λ e. cond_both (ltb x.number number) (advanced r x p number stamp now)
+    (Some (record x { sequence = sequence_after x p }))
     (λ s. NowBy now s)
     (λ f. advanced_now r x p number stamp now)
     (λ f. o))
@@ -163,7 +172,8 @@ moved_now r x p number stamp now o =
 abbrev StepNow : ℕ → Option Step → Type 0
 StepNow now o = MatchOption o (Unit {0}) (λ s. s.newest.at ≤ now)
 
-with_moved_now : (now : ℕ) (o : Option Newest) (number stamp : ℕ) → NowBy now o → StepNow now (with_moved o number stamp)
+with_moved_now : (now : ℕ) (o : Option Newest) (number stamp : ℕ) → NowBy now o
+    → StepNow now (with_moved o number stamp)
 with_moved_now now None number stamp h = tt
 with_moved_now now (Some y) number stamp h = h
 
@@ -173,7 +183,8 @@ with_number_now r x p None stamp now i = tt
 with_number_now r x p (Some number) stamp now i =
     with_moved_now now (moved r x p number stamp now) number stamp (moved_now r x p number stamp now i)
 
-with_stamp_now : (r : Rate) (x : Newest) (p : Packet) (o : Option ℕ) (now : ℕ) → x.at ≤ now → StepNow now (with_stamp r x p o now)
+with_stamp_now : (r : Rate) (x : Newest) (p : Packet) (o : Option ℕ) (now : ℕ) → x.at ≤ now
+    → StepNow now (with_stamp r x p o now)
 with_stamp_now r x p None now i = tt
 with_stamp_now r x p (Some stamp) now i =
     cond_both (leb 70368744177664 stamp) None
@@ -215,7 +226,8 @@ never_ahead r x hs i o =
     less (after_all r x hs).number x.number (r.second * 10000000000) (r.rate * (10 * (after_all r x hs).credit)) r.rate
     (10 * x.credit) (11 * ((after_all r x hs).at - x.at)) pays
   where
-    less : (n m s l rate credit time : ℕ) → n * s + l ≤ m * s + rate * credit + rate * time → (n - m) * s ≤ rate * (credit + time)
+    less : (n m s l rate credit time : ℕ) → n * s + l ≤ m * s + rate * credit + rate * time
+        → (n - m) * s ≤ rate * (credit + time)
     less n m s l rate credit time h =
         ⊎_elim
         (λ (i : n < m).

@@ -16,7 +16,8 @@ by_then (Some time) at now e h =
     let i = leb-true time now e in
     omega arith
 
-pub plays_wait : InTime → (wait first shortest now : ℕ) (packet : Arrival) (past : List Entry) (later before : List Arrival)
+pub plays_wait : InTime
+    → (wait first shortest now : ℕ) (packet : Arrival) (past : List Entry) (later before : List Arrival)
     → Timely wait first (Shown now ∷ past)
     → next_after first past ≡ packet.picture
     → arrivals_of past ≡ later ++ before

@@ -11,7 +11,8 @@ returns-clause-stands c = λ past s.
       recent = s.recent;
       runs = s.runs;
       captured = gone_on t.captured new t.next past c.forget.ensures.len c.forget.ensures.moved
-          (subst (λ (n : ℕ). get_or new (n - 1) 0 ≡ 18446744073709551615) s.captured.long c.forget.ensures.last) s.captured;
+          (subst (λ (n : ℕ). get_or new (n - 1) 0
+          ≡ 18446744073709551615) s.captured.long c.forget.ensures.last) s.captured;
       timed = s.timed;
       wait = s.wait;
     }

@@ -9,7 +9,8 @@ use Rattle.stream_numbers.proofs.numbers.Numbers.place.Goals as goal
 pub returns-in-Some-clause-place : goal.returns-in-Some-clause-place
 returns-in-Some-clause-place c = λ past s.
     ap (option_map (λ (x : Step). x.place)) c.in-Some.ensures.exact
-    ∙ ap (λ (o : Option Newest). option_map (λ (x : Step). x.place) (step_of c.args.self.now.rate o c.args.packet.now c.args.now)) s
+    ∙ ap (λ (o : Option Newest). option_map (λ (x : Step). x.place)
+    (step_of c.args.self.now.rate o c.args.packet.now c.args.now)) s
 
 pub returns-in-Some-clause-stands : goal.returns-in-Some-clause-stands
 returns-in-Some-clause-stands c = λ past s.
@@ -19,7 +20,8 @@ returns-in-Some-clause-stands c = λ past s.
 pub returns-in-None-clause-place : goal.returns-in-None-clause-place
 returns-in-None-clause-place c = λ past s.
     ap (option_map (λ (x : Step). x.place)) c.in-None.ensures.exact
-    ∙ ap (λ (o : Option Newest). option_map (λ (x : Step). x.place) (step_of c.args.self.now.rate o c.args.packet.now c.args.now)) s
+    ∙ ap (λ (o : Option Newest). option_map (λ (x : Step). x.place)
+    (step_of c.args.self.now.rate o c.args.packet.now c.args.now)) s
 
 pub returns-in-None-clause-stands : goal.returns-in-None-clause-stands
 returns-in-None-clause-stands c = λ past s.
