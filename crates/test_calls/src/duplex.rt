@@ -16,7 +16,6 @@ use h263rps_run::run;
 use loss_trace::TraceFault;
 use std::alloc::Global;
 use std::io;
-use test_desks::repeated;
 
 const CALLS: [&str; 3] = ["duplex_mix", "duplex_reorder", "duplex_slow"];
 
@@ -34,6 +33,17 @@ fn called(rt: &HostRuntime, piece: Piece, name: &str) -> Result<bool, Stop> {
 
 // Lines of a trace, each part a number of times.
 type Lines = &'static [(&'static [u8], usize)];
+
+// The parts one after the other, each this many times.
+fn repeated(alloc: Global, parts: &[(&[u8], usize)]) -> Result<Vec<u8>, OutOfMemory> {
+    let mut bytes = Vec::new(alloc);
+    for (part, times) in parts {
+        for _ in 0..*times {
+            bytes.extend_from_slice(part)?;
+        }
+    }
+    Ok(bytes)
+}
 
 // The line, and both numbers, with which a call is refused for what is far.
 type Far = Option<(u32, u32, u32)>;

@@ -3,17 +3,19 @@ use h263_planes::PictureMut;
 use h263_types::{Format, OutOfMemory};
 use make_input::frame;
 use std::alloc::Global;
-use test_desks::{FRAME, HEAD, QCIF_HEAD, SHOWN_HEAD, SHOWN_QCIF_HEAD};
 
 // The head of a camera's video in QCIF, with tags that tell more than is asked for.
 const CAMERA_HEAD: &[u8] =
     b"YUV4MPEG2 W176 H144 F30000:1001 Ip A128:117 C420mpeg2 XYSCSS=420MPEG2\n";
 
+// The line of a frame.
+const FRAME: &[u8] = b"FRAME\n";
+
 // The head of a video, as it is read.
 fn head_of(format: Format) -> &'static [u8] {
     match format {
-        Format::SubQcif => HEAD,
-        Format::Qcif => QCIF_HEAD,
+        Format::SubQcif => b"YUV4MPEG2 W128 H96\n",
+        Format::Qcif => b"YUV4MPEG2 W176 H144\n",
         Format::Cif => b"YUV4MPEG2 W352 H288\n",
     }
 }
@@ -21,8 +23,8 @@ fn head_of(format: Format) -> &'static [u8] {
 // The head of the video that is shown.
 fn shown_head_of(format: Format) -> &'static [u8] {
     match format {
-        Format::SubQcif => SHOWN_HEAD,
-        Format::Qcif => SHOWN_QCIF_HEAD,
+        Format::SubQcif => b"YUV4MPEG2 W128 H96 F30000:1001 Ip C420jpeg\n",
+        Format::Qcif => b"YUV4MPEG2 W176 H144 F30000:1001 Ip C420jpeg\n",
         Format::Cif => b"YUV4MPEG2 W352 H288 F30000:1001 Ip C420jpeg\n",
     }
 }
