@@ -7,6 +7,8 @@
 /** Bytes that may wait to go out before pictures are left out, and before a datagram is lost, as on a full line. */
 const WAITING = 1 << 15;
 const MOST_WAITING = 1 << 18;
+/** Milliseconds that sound can be asked to wait. */
+const MOST_SOUND_WAIT = 4000;
 
 /** One side of a connection. */
 export class Side {
@@ -68,6 +70,13 @@ export class Side {
   setSound(track) {
     this.#sound = track;
     for (const { sender } of this.peer.getTransceivers()) sender.replaceTrack(track).catch(() => {});
+  }
+
+  /** Sound waits about so many seconds, as pictures do, where the browser lets a page say so. */
+  setWait(wait) {
+    for (const receiver of this.peer.getReceivers()) {
+      if ("jitterBufferTarget" in receiver) receiver.jitterBufferTarget = Math.min(1000 * wait, MOST_SOUND_WAIT);
+    }
   }
 
   /** Whether more waits than the line takes. */
@@ -144,6 +153,11 @@ export class SelfCall {
     return soundOf(this.#far.peer);
   }
 
+  /** Sound doesn't go over the bad network, so it waits for that as well. */
+  setWait(wait) {
+    this.#far.setWait(wait + this.network.delay);
+  }
+
   say() {}
 
   get isFull() {
@@ -193,13 +207,19 @@ export class OtherCall {
     return soundOf(this.side.peer);
   }
 
+  setWait(wait) {
+    this.side.setWait(wait);
+  }
+
   close() {
     this.side.close();
   }
 }
 
-/** How many packets of sound came. */
+/** How many packets of sound came, and how many milliseconds sound waited before it was played. */
 async function soundOf(peer) {
   const stats = [...(await peer.getStats()).values()];
-  return stats.find(({ type, kind }) => type === "inbound-rtp" && kind === "audio")?.packetsReceived ?? 0;
+  const heard = stats.find(({ type, kind }) => type === "inbound-rtp" && kind === "audio");
+  const { packetsReceived = 0, jitterBufferDelay = 0, jitterBufferEmittedCount = 0 } = heard ?? {};
+  return { packets: packetsReceived, wait: Math.round((1000 * jitterBufferDelay) / Math.max(jitterBufferEmittedCount, 1)) };
 }

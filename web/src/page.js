@@ -201,6 +201,7 @@ class Telephone {
   }
 
   #beginEnds() {
+    this.#call.setWait(this.#value("wait"));
     this.#tell("begin", { format: byId("size").value, wait: this.#value("wait"), isAlone: !this.#isWithOther });
   }
 
@@ -352,7 +353,9 @@ class Telephone {
       byId(name).setAttribute("aria-valuetext", words);
     }
     for (const name of ["loss", "delay", "jitter"]) this.#network[name] = this.#value(name);
-    if (this.#call) this.#tell("wait", { wait: this.#value("wait") });
+    if (!this.#call) return;
+    this.#tell("wait", { wait: this.#value("wait") });
+    this.#call.setWait(this.#value("wait"));
   }
 
   async #listDevices() {

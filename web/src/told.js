@@ -79,14 +79,15 @@ export class Told {
     return lost ? this.text("some_exact", share, lost) : this.text("late_ones", share);
   }
 
-  /** Numbers for who wants them; `sound` is how many packets of sound came. */
+  /** Numbers for who wants them; of sound how many packets came, and how long it waited. */
   tellFigures(network, sound) {
     if (!this.counts) return;
     const { took, sent } = this.counts;
     const ms = (seconds) => (1000 * seconds).toFixed(1);
     place("figures").textContent = this.text("figures", {
       late: this.#late.length ? Math.round(1000 * middle(this.#late)) : "–",
-      planes: ms(took.planes), code: ms(took.code), rate: Math.round(this.#rate(sent.bytes)), sound,
+      planes: ms(took.planes), code: ms(took.code), rate: Math.round(this.#rate(sent.bytes)),
+      sound: sound.packets, soundWait: sound.wait,
       sent: Object.values(sent.coded).reduce((sum, count) => sum + count, 0), left: this.left,
       packets: sent.packets, lost: network?.lost ?? "–",
     });

@@ -162,8 +162,9 @@ class CallTest(unittest.TestCase):
         """At least so many of a hundred pictures are exact, where the machine has time for them."""
         page.run("document.getElementById('numbers').open = true")
         page.until(lambda: page.text("figures"))
-        planes, code = (float(it) for it in re.findall(r"([\d.]+) ms(?:, | a )", page.text("figures"))[:2])
-        if planes + code > 33:
+        sent = int(re.findall(r"(\d+) pictures sent", page.text("figures"))[0])
+        minutes, seconds = map(int, page.text("clock").split(":"))
+        if sent < 20 * (60 * minutes + seconds - 1):
             print(f"the machine is too busy to tell: {page.text('figures')}")
         else:
             self.assertGreaterEqual(page.share(), least, page.text("figures"))
