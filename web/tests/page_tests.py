@@ -56,7 +56,7 @@ class Page:
     def run(self, script: str, *words: object) -> object:
         return self.driver.execute_script(script, *words)
 
-    def until(self, test, seconds: float = 20) -> None:
+    def until(self, test, seconds: float = 60) -> None:
         WebDriverWait(self.driver, seconds, 0.2).until(lambda _: test())
 
     def press(self, name: str) -> None:
@@ -73,7 +73,7 @@ class Page:
     def fill(self, name: str, words: str) -> None:
         self.run("document.getElementById(arguments[0]).value = arguments[1]", name, words)
 
-    def begun(self, seconds: float = 20) -> None:
+    def begun(self, seconds: float = 60) -> None:
         """Until pictures come."""
         self.until(lambda: self.run("return document.getElementById('mark').dataset.mark || ''") != "", seconds)
 
