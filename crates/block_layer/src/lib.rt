@@ -11,6 +11,14 @@
 //! read_intra(&mut reader_of("11111111 100 0000011 1 111101 00000001"), true, &mut block)?;
 //! assert_eq!(rt; (block.levels[0], block.levels[1], block.levels[63]), (128, 1, 1));
 //! ```
+//!
+//! # Decisions
+//!
+//! - **Events are gathered before they are written.** The numbers of a block's events
+//!   (`event_number`) wait in 64 bits, and go out 32 at a time (`gather`): a store takes as long
+//!   for five bits as for 32. Tried, and rejected: escapes out of line, which keeps each event in
+//!   memory for them: 112,000 instructions an intra picture of grain more. One store of 56 bits
+//!   would spare some 20,000.
 #![tactic(auto)]
 
 pub mod laws;

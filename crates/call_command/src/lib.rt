@@ -11,6 +11,17 @@
 //! let terms = Terms { params, plain: true };
 //! let status = perform::<D, Call>(alloc, &terms, order, desk);
 //! ```
+//!
+//! # Decisions
+//!
+//! - **Steps of a call are defined once.** `step_by` takes what is seen of a call: by the ideal
+//!   call it defines `call`, by the run of both ends `converse`. That allocates the network itself,
+//!   so a call without memory for it still writes its head.
+//!
+//! - **Both turns of `call` read a frame.** The turn of a frame and `send_frame` have three lines
+//!   in common, through which twelve facts of desk, video and network pass. By a draft, a function
+//!   for them would add some 90 lines of contract and proof, and one more step between `main` and
+//!   `code_picture`.
 #![tactic(auto)]
 
 mod begun;

@@ -9,6 +9,12 @@
 //! // a function that owes that its packets are those of the encoding cites the law in its body
 //! call_encoding::laws::written_packets();
 //! ```
+//!
+//! # Decisions
+//!
+//! - **A frame is any picture with any messages.** So one type serves all calls. The encoding is
+//!   total: it takes any picture as one of the format, and of the messages those of its clock, four
+//!   at most. A sender asks for frames that this doesn't change (`carried_as_they_are`).
 #![tactic(auto)]
 
 pub mod laws;

@@ -12,6 +12,17 @@
 //! ring.begin();
 //! assert_eq!(rt; ring.packet(0, 0), None);
 //! ```
+//!
+//! # Decisions
+//!
+//! - **The last pictures are in circular buffers.** So are their references, and the messages of
+//!   `duplex`'s headers. Each picture's packets have a room of their own (`KeptPackets`). All rooms
+//!   are requested at the start and none is filled, so a page is touched only when bytes land on
+//!   it.
+//!
+//! - **Rooms say that a step allocates nothing.** `HasMemory` says that each room is as large as
+//!   was requested, at least, and holds no more than that. std promises that `extend_from_slice`
+//!   then succeeds, but not that the capacity stays.
 #![tactic(auto)]
 
 mod kept;

@@ -16,6 +16,19 @@
 //! write_dquant(&mut writer, -2);
 //! assert_eq!(rt; bytes, [0x40, 0x5d]);
 //! ```
+//!
+//! # Decisions
+//!
+//! - **A word with its sign, and an escape, are one element.** `element` replaces a list of 65,000
+//!   words. Every fault in it stands at its first bit, so text and faults are the same.
+//!
+//! - **Only the soundness of the look-up tables is proved.** Where neither table, of eight bits or
+//!   of twelve, names a word, an exact search decides: cut words, bad codes, a packet's last bits.
+//!   Each table has its own reader (`read_pattern` and its like).
+//!
+//! - **Events and differences are one look at 13 bits.** A word and its sign have no more; an
+//!   escape is one look at 22. All else, with a difference of 32, which has no minus
+//!   (`IsDifferenceIn`), is read field by field, which finds the fault.
 #![tactic(auto)]
 
 mod code;

@@ -11,6 +11,15 @@
 //! assert_eq!(rt; read.command(), Command::Call { params, traced: false });
 //! assert_eq!(rt; read.name(Role::Pictures), Some("out"));
 //! ```
+//!
+//! # Decisions
+//!
+//! - **Odd words.** `call "" out` fails at opening; `--trace=` names the empty file. A lone `-` is
+//!   a file's name or a value. `--lead=`, `--lead -x` and `--lead --` are Usage.
+//!
+//! - **Words are read with clap.** Each first word is one simple command, held to a definition over
+//!   the words alone (`taken`). clap's own options are off, so `--help` is unknown. A number above
+//!   255 is no value of a byte; a switch is an option with `num_args` 0.
 #![tactic(auto)]
 
 mod command;

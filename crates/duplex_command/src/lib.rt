@@ -12,6 +12,12 @@
 //! let order = &[videos[0], videos[1], (Role::Events, "trace"), pictures[0], pictures[1]];
 //! let status = perform::<D, Duplex>(alloc, &params, order, desk);
 //! ```
+//!
+//! # Decisions
+//!
+//! - **Two parties are one desk seen two ways.** For b a turn of `duplex` runs over a `Second`,
+//!   which exchanges the roles; one lemma carries the result back. A desk tells its loans, which no
+//!   call changes: else a call through a lent `Second` could replace it by one over another desk.
 #![tactic(auto)]
 
 mod begin;

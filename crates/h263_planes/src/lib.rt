@@ -12,6 +12,17 @@
 //! let seen = picture.seen();
 //! assert_eq!(rt; seen.row(Plane::Cb, 58, 47, 6), [128, 128, 1, 2, 3, 4].as_slice());
 //! ```
+//!
+//! # Decisions
+//!
+//! - **Rows and squares are set as a whole.** `set_row` copies a row of 8 or 16 bytes, `set_square`
+//!   and `copy_square` store each row by lanes. `copy_square` takes a square from the same place of
+//!   another picture of the format, as a macroblock that isn't coded does. Workaround: a part of a
+//!   loan inside a struct with an invariant has no generated proof.
+//!
+//! - **Rows are lent together.** `PictureRef::rows` lends the bytes from a block's first sample to
+//!   its last; each row stands `width` bytes after the one above it. A loop over rows goes on by an
+//!   addition, where a place worked out for each row costs a product.
 #![tactic(auto)]
 
 mod blocks;

@@ -6,6 +6,18 @@
 //! list of entries as that end by itself does.
 //!
 //! No crate can stand on a static library, so its tests are here.
+//!
+//! # Decisions
+//!
+//! - **An end for C is a slot of numbers.** A slot holds a pointer to a box, and a ghost field says
+//!   what is in it. Six functions on that pointer are proved step by step, all else like other
+//!   code. Nothing can check that C hands back the slot that it got. Workaround: an exported
+//!   function can't take a type that contains a `Vec`.
+//!
+//! - **A play that lends its picture is two exports.** `h263rps_raw_receiver_next` plays, and
+//!   `h263rps_raw_receiver_shown` writes the loan into a parameter. Workaround: a contract can
+//!   describe a lent slot only after the loan (`KeepsEnd`), and an exported function can't return a
+//!   reference.
 #![tactic(auto)]
 
 mod answers;

@@ -6,6 +6,15 @@
 //!
 //! `specs/Output` says what the words ask for and what a command makes of its inputs, and
 //! `specs/Promises` what is promised of a run.
+//!
+//! # Decisions
+//!
+//! - **`run` is in a library.** The program's crate is `main` alone (`h263rps_run` has `run`), so
+//!   tests of commands can be crates of their own and call it.
+//!
+//! - **All commands attach their roles in one order.** Video, second video, events, pictures,
+//!   second pictures, wire: those that the words name (`put_roles`). So `run` needs no list for
+//!   each command, and is one match.
 #![tactic(auto)]
 
 mod laws;

@@ -13,6 +13,15 @@
 //! luma(picture, 9, vector, 1, &mut out);
 //! assert_eq!(rt; out[0], 10);
 //! ```
+//!
+//! # Decisions
+//!
+//! - **Prediction is in lanes of eight bits.** The average of two is one instruction; that of four
+//!   is of two averages, less 1 where these rounded up more than the standard (`excess_of`). Cb and
+//!   Cr stand beside one another in sixteen lanes, since a vector leads both to the same place.
+//!   What a row and the one below it have in common is worked out once. Where a block isn't between
+//!   columns, a sample takes the place of its right neighbour, so one form serves all four cases.
+//!   Tried, and rejected: lanes of sixteen bits, where each sample is widened and narrowed.
 #![tactic(auto)]
 
 mod around;

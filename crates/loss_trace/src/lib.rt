@@ -9,6 +9,12 @@
 //! assert_eq!(rt; line(b"D 0.0"), Ok(Event::Packet { number: 0, place: 0 }));
 //! assert_eq!(rt; line(b"SS"), Err(BadLine));
 //! ```
+//!
+//! # Decisions
+//!
+//! - **Traces are read byte by byte.** Any byte may be the newline after which nothing may be
+//!   taken. `HostDesk` reads up to 4,096 bytes ahead (`input_left`); another reader of the pipe may
+//!   miss those.
 #![tactic(auto)]
 
 mod event;

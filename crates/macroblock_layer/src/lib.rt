@@ -13,6 +13,11 @@
 //! read_mb(&mut BitReader::new(&[0x80], 0, 8), Kind::P, 8, predictor, reach, &mut mb)?;
 //! assert!(rt; mb == Mb::Skip);
 //! ```
+//!
+//! # Decisions
+//!
+//! - **Vectors are handled by component.** Workaround: the checker passes a signed number as its
+//!   bits, so `moved_by` and `median` take one component.
 #![tactic(auto)]
 
 pub mod laws;

@@ -11,6 +11,36 @@
 //! let frame = PictureRef::new(Format::SubQcif, &[11; SIZE]);
 //! assert_eq!(rt; search(frame, reference, 0, 7, 0), (Vector { x: 1, y: 0 }, 0));
 //! ```
+//!
+//! # Decisions
+//!
+//! - **Sums of areas rule out most vectors.** Blocks differ by at least what the sums of their 8 x
+//!   8 quarters do together. One comparison marks which of sixteen vectors may still win. Tried,
+//!   and rejected: sums of a whole picture (200 kB) or for each vector (they cost more than they
+//!   save); areas of 4 x 4: of the vectors that pass, they rule out 61 in 100 in grain, 42 in
+//!   textures and 50 in a pan, but a test takes 22 instructions where a whole sum takes 57, and
+//!   making them more than that saves.
+//!
+//! - **Sums are kept for the next row of macroblocks.** They are made once a row, and the next row
+//!   moves up those that it needs (`KeptSums`). At the right edge the last sixteen columns stand
+//!   twice: areas that reach into the second half belong to no vector in reach.
+//!
+//! - **Rows are visited from the top down.** Each row is marked against the best cost so far.
+//!   Tried, and rejected: from the middle outwards, which left 27.3 vectors a macroblock for 27.5
+//!   at a noise of 3, and 37.9 for 34.8 at a cut.
+//!
+//! - **Vectors that remain are summed up whole.** `sad` adds the lanes of 64 samples before it sums
+//!   them up, which saves 54,000 instructions a picture in the deviations. Tried, and rejected:
+//!   early exits. Of 221,253 vectors at a noise of 3 none ended after four rows, 1,542 after eight.
+//!
+//! - **The search begins with the last macroblock's vector.** A low cost found early rules out
+//!   more: a trial in C, without sums, took 40 to 47 % less time where all moved by (6, 5), and 5
+//!   to 15 % less at (2, 1).
+//!
+//! - **A half step predicts eight neighbours in one pass.** Where all are in reach (`luma_around`),
+//!   neighbours above and below share fifteen rows, which saves 330,000 instructions of a predicted
+//!   picture of grain. Tried, and rejected: a test after each quarter of the rows, which took a
+//!   third more on a moving texture with noise.
 #![tactic(auto)]
 
 ghost use Rattle.std.specs.Prelude.{◌≡◌, ◌<◌, ◌≤◌};

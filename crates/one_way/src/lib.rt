@@ -12,6 +12,17 @@
 //! network.deliver_all(&mut receiver, number);
 //! let mark = network.play(&mut receiver).mark;
 //! ```
+//!
+//! # Decisions
+//!
+//! - **Far messages.** A far message is reported by its own number, even once it has left the ring.
+//!   In `duplex` it refuses even a packet that doesn't exist: nearness asks about the picture.
+//!
+//! - **A way has words, not a model.** Other crates speak of a `Way` and a `Network` by the words
+//!   of `one_way/specs/Way` (`kept_in`, `tally_of`, `OnlyCounts`). A model's value must map back to
+//!   the struct, so it would have the same three parts, and others would still name them. Readers
+//!   of files have two or three plain fields, and are models (`Y4mPlace`, `TracePlace`,
+//!   `LogPlace`).
 #![tactic(auto)]
 
 mod both;

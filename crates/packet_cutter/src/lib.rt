@@ -13,6 +13,11 @@
 //! cutter.finish();
 //! assert_eq!(rt; (cutter.count(), cutter.packet(0)), (1, FLAT_PACKET.as_slice()));
 //! ```
+//!
+//! # Decisions
+//!
+//! - **The cutter reserves `limit` bytes a macroblock.** That saves a bound on the sum of its
+//!   packets. Of a header the cut depends on the length alone (`HaveOneForm`).
 #![tactic(auto)]
 
 mod cutter;

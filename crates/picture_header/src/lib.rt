@@ -11,6 +11,14 @@
 //! assert_eq!(rt; header, Header::intra(Format::SubQcif, Clock::Standard, 0, 8));
 //! assert_eq!(rt; reader.at(), 67);
 //! ```
+//!
+//! # Decisions
+//!
+//! - **Headers are the same if all kept fields are.** SQUANT, GFID, CPCFC, PSUPP and the free bits
+//!   of PTYPE may differ.
+//!
+//! - **A header has a comparison of its own.** `Header::is_same` compares field by field.
+//!   Workaround: a proof can't use `==`.
 #![tactic(auto)]
 
 mod header;

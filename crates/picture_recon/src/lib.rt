@@ -11,6 +11,15 @@
 //!     assert_eq!(rt; out.seen().sample(plane, x, y), want);
 //! }
 //! ```
+//!
+//! # Decisions
+//!
+//! - **Reconstruction takes only format and rounding of a header.** So it is a function of a header
+//!   without numbers. INTRADC's (F + 4) / 8 is rounded down, which after its limit equals rounding
+//!   toward zero.
+//!
+//! - **A block with its first level alone is flat.** An intra block is INTRADC, an inter block adds
+//!   (value + 4) / 8, rounded down, with no transform.
 #![tactic(auto)]
 
 mod blocks;

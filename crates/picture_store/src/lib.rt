@@ -12,6 +12,14 @@
 //! store.finish();
 //! assert_eq!(rt; sample, 7);
 //! ```
+//!
+//! # Decisions
+//!
+//! - **Loans of a store are bytes.** A function that takes bytes makes the `PictureMut` inside, and
+//!   its caller needs no proof file. Workaround: of `pair -> (PictureRef, PictureMut)` the checker
+//!   says "the borrow checker does not cover this function yet: a type argument holds a `&mut` and
+//!   a struct that has a ghost field". It covers a struct of both, but then callers learn nothing
+//!   of what was written.
 #![tactic(auto)]
 
 ghost use Rattle.std.specs.Prelude.{◌≡◌, ◌≢◌, ◌+◌, ◌<◌, ◌≤◌, ◌↔◌, [], length, vec_len, IsSome, IfSome, IfOk};

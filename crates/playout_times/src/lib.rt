@@ -11,6 +11,11 @@
 //! times.arrived(Arrival { picture: 0, captured: 7, at: 37 });
 //! assert_eq!(rt; times.due(), Some(137));
 //! ```
+//!
+//! # Decisions
+//!
+//! - **The least way is that of three pictures.** Two would let one late picture at one a second
+//!   decide; four take a fourth picture to recover.
 #![tactic(auto)]
 
 mod arrival;

@@ -11,6 +11,13 @@
 //! assert_eq!(rt; (level_inter(8, 25), level_inter(8, -19), level_intra(8, -19)), (1, 0, -1));
 //! assert_eq!(rt; (block_place(2), zigzag_place(8)), (8, 2));
 //! ```
+//!
+//! # Decisions
+//!
+//! - **Levels are products with a factor.** A division by 2Q becomes a product with 2^(16+s) / 2Q
+//!   rounded up, 2^s being the least power of two not below Q. The factor fits 16 bits and is exact
+//!   for sizes of up to 2^15 (`factors_are_exact`). Limiting coefficients to 16 bits changes no
+//!   level (`limited_coefficients`).
 #![tactic(auto)]
 
 mod coefficients;

@@ -6,6 +6,12 @@
 //! let pace = BucketPace::new(342, 8);
 //! assert_eq!(rt; pace.quant(&[684]), 12);
 //! ```
+//!
+//! # Decisions
+//!
+//! - **Levels of a bucket have no sign.** A negative sum of size less target counts as 0
+//!   (`excess`); the level is the greatest of 0 and these sums. The law `level` says it without
+//!   that subtraction.
 #![tactic(auto)]
 
 pub mod laws;

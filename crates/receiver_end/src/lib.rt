@@ -11,6 +11,15 @@
 //! receiver.finish();
 //! assert_eq!(rt; (nothing.mark, late), (Mark::Held, Heard::Late));
 //! ```
+//!
+//! # Decisions
+//!
+//! - **A receiver has `lead + 2` work pictures.** One for each open number and one for the last
+//!   played, by number modulo `lead + 2`. A complete picture is shown from its slot, which no open
+//!   number takes before the next play.
+//!
+//! - **A repeated packet is read whole.** The first fault of its bytes comes before Late, Early and
+//!   Repeat, and may stand in its last macroblock. What was taken isn't kept as bytes to compare.
 #![tactic(auto)]
 
 mod answers;

@@ -6,6 +6,13 @@
 //! let order = &[(Role::Events, "log"), (Role::Pictures, "out"), (Role::Wire, "wire")];
 //! let status = perform::<D, Recv>(alloc, params, order, desk);
 //! ```
+//!
+//! # Decisions
+//!
+//! - **`recv --join` is a second command over the log.** `Joining` has the plain command's rules
+//!   for each packet that the joiner gives (`hears`). After a failed write the receiver still hears
+//!   the rest of that entry. A packet of 65,400 coded bytes may give 21,801, so counts have 64
+//!   bits.
 #![tactic(auto)]
 
 mod delivering;

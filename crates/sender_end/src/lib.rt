@@ -13,6 +13,17 @@
 //! assert_eq!(rt; coded.reference, Some(0));
 //! sender.finish();
 //! ```
+//!
+//! # Decisions
+//!
+//! - **A sender is one value, including its pace.** `SendPace` is a pace with a target or without.
+//!   Clauses see the packets of the last picture, not the cutter. Tried, and rejected: a machine of
+//!   `send` for any pace, which proves everything twice.
+//!
+//! - **A sender holds a run, not a list of entries.** So its pace may change with each picture. It
+//!   keeps how many pictures were coded at its last forget; a lower reference is none
+//!   (`from_floor`). Tried, and rejected: an empty list of known pictures after a forget. A late
+//!   acknowledgement makes an old one known again.
 #![tactic(auto)]
 
 mod answers;

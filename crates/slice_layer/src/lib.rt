@@ -12,6 +12,17 @@
 //! assert_eq!(rt; writer.finish(), 5);
 //! assert_eq!(rt; &bytes[..5], [0xD9, 0xE8, 0xE8, 0x00, 0xC0].as_slice());
 //! ```
+//!
+//! # Decisions
+//!
+//! - **A slice isn't a syntax of parts.** Its end depends on what is left before each macroblock.
+//!   Its text is a relation, its reading a function (`slice_at`); `exact_text` ties them.
+//!
+//! - **A `SliceWriter` keeps whole bytes.** So ending a slice writes nothing. A macroblock is
+//!   written apart, after the text's last bits, and copied if it fits. Its room is lent (`MbRoom`)
+//!   and made once a packet. Tried, and rejected: a room cleared for each macroblock, which took as
+//!   long as writing a short one. Workaround: a call can't use up a struct that holds a
+//!   `BitWriter`.
 #![tactic(auto)]
 
 mod head;

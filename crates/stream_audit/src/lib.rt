@@ -13,6 +13,16 @@
 //! let rule = Rule::Overlap;
 //! assert_eq!(rt; audit.close(), Verdict::No { number: 0, rule });
 //! ```
+//!
+//! # Decisions
+//!
+//! - **A log is audited as a stream of items.** Feedback between two packets of a picture counts as
+//!   after it, which makes no difference there. What comes back need only spell a message that was
+//!   said, not be the same bytes. A TRP equal to the picture's TR names the picture 2H before,
+//!   which is in no window.
+//!
+//! - **An audit has room for 2^24 pictures.** Each entry of a log begins at most one. A stream with
+//!   its feedback is the run of a sender that captured its pictures, so `sender_stands` applies.
 #![tactic(auto)]
 
 mod audit;

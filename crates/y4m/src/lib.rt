@@ -10,6 +10,16 @@
 //! assert_eq!(rt; reader.frame(&mut desk, &mut samples), Ok(true));
 //! assert_eq!(rt; reader.frame(&mut desk, &mut samples), Ok(false));
 //! ```
+//!
+//! # Decisions
+//!
+//! - **A Y4M line is read whole before it is checked.** Nothing after it may be taken, so the
+//!   reader takes the fewest bytes that a line can have, then one at a time. So a failed read
+//!   within a line comes before any fault of it.
+//!
+//! - **The place of NotY4m.** `place_of_not_y4m` states it without a reader, inside the first word
+//!   and just after it. Beyond, any byte may lead to a video, unless the newline is missing at byte
+//!   256 or at the end.
 #![tactic(auto)]
 
 mod fault;
