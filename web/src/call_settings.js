@@ -5,6 +5,7 @@
 
 /** Pictures a second, at the most. */
 export const RATE = 30000 / 1001;
+export const RATE_TEXT = "30000/1001";
 /** Pictures that may come before their play: those of the longest wait, and three. */
 export const LEAD = 15;
 /** Pictures that each end keeps: besides the lead, those that may be referred to while a message is on its way. */

@@ -49,13 +49,17 @@ export const ownCode = () => (location.hash.startsWith(MARK) ? location.hash.sli
  * them that nobody makes certificates until two calls have the same.
  */
 export async function digitsOf(...descriptions) {
-  const prints = descriptions.map(({ sdp }) => /^a=fingerprint:(.*)$/m.exec(sdp)?.[1].trim() ?? "").sort();
+  const prints = descriptions.map(({ sdp }) => printsOf(sdp)).sort();
   const sum = new Uint8Array(await crypto.subtle.digest("SHA-256", new TextEncoder().encode(prints.join(" "))));
   const number = sum.reduce((all, byte) => 256n * all + BigInt(byte), 0n) % 10n ** 30n;
   return String(number).padStart(30, "0").replace(/\d{5}(?=\d)/g, "$& ");
 }
 
-const cut = (name) => name.replace(/[\p{C}\s]+/gu, " ").trim().slice(0, MOST_NAME);
+/** The prints of a description's certificates, of which a call has one. */
+export const printsOf = (sdp) => [...new Set([...sdp.matchAll(/^a=fingerprint:(.*)$/gm)].map(([, it]) => it.trim()))].sort().join(" ");
+
+/** A name as it is shown: letters alone, and not too many. */
+export const cut = (name) => name.replace(/[\p{C}\s]+/gu, " ").trim().slice(0, MOST_NAME);
 
 /** What comes of data that goes through a packer or an unpacker, which may be so many bytes. */
 async function through(packer, data, most = Infinity) {

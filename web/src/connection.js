@@ -4,11 +4,20 @@
  * @module
  */
 
+import { PAYLOAD_TYPE, SSRC } from "../../library/web/h263rps.js";
+import { Budget } from "./budget.js";
+import { LONGEST_PACKET, SHORTEST_PACKET } from "./call_settings.js";
+import { MOST_WAYS, checked } from "./descriptions.js";
+
 /** Bytes that may wait to go out before pictures are left out, and before a datagram is lost, as on a full line. */
 const WAITING = 1 << 15;
 const MOST_WAITING = 1 << 18;
 /** Milliseconds that sound can be asked to wait. */
 const MOST_SOUND_WAIT = 4000;
+/** Letters of words, and how many words, packets and messages a second are taken of a side that says more. */
+const MOST_SAID = 1000;
+const WORDS_A_SECOND = 20;
+const DATAGRAMS_A_SECOND = 1500;
 
 /** One side of a connection. */
 export class Side {
@@ -16,7 +25,12 @@ export class Side {
   onWords = () => {};
   onSound = () => {};
   onState = () => {};
+  onWay = () => {};
   #sound = null;
+  #ways = 0;
+  #spoken = new Budget(WORDS_A_SECOND);
+  #packets = new Budget(DATAGRAMS_A_SECOND);
+  #messages = new Budget(DATAGRAMS_A_SECOND);
 
   constructor(servers = []) {
     this.peer = new RTCPeerConnection({ iceServers: servers });
@@ -24,8 +38,9 @@ export class Side {
     this.datagrams = this.peer.createDataChannel("pictures", { negotiated: true, id: 0, ...asDatagrams });
     this.words = this.peer.createDataChannel("words", { negotiated: true, id: 1 });
     this.datagrams.binaryType = "arraybuffer";
-    this.datagrams.onmessage = ({ data }) => data instanceof ArrayBuffer && this.onDatagram(data);
+    this.datagrams.onmessage = ({ data }) => data instanceof ArrayBuffer && this.#came(data);
     this.words.onmessage = ({ data }) => this.#heard(data);
+    this.peer.onicecandidate = ({ candidate }) => candidate?.candidate && this.onWay({ candidate: candidate.candidate, mid: candidate.sdpMid ?? "" });
     this.peer.ontrack = ({ track }) => this.onSound(new MediaStream([track]));
     this.peer.onconnectionstatechange = () => this.onState(this.peer.connectionState);
     this.isOpen = Promise.all([this.datagrams, this.words].map(opened));
@@ -54,7 +69,7 @@ export class Side {
 
   /** The answer to an offer. */
   async answer(offer) {
-    await this.peer.setRemoteDescription(offer);
+    await this.peer.setRemoteDescription(checked(offer));
     for (const transceiver of this.peer.getTransceivers()) transceiver.direction = "sendrecv";
     this.setSound(this.#sound);
     await this.peer.setLocalDescription();
@@ -62,8 +77,14 @@ export class Side {
   }
 
   async accept(answer) {
-    await this.peer.setRemoteDescription(answer);
+    await this.peer.setRemoteDescription(checked(answer));
     this.setSound(this.#sound);
+  }
+
+  /** One more way to the other side. What is none is passed over. */
+  async addWay({ candidate, mid }) {
+    if (++this.#ways > MOST_WAYS) return;
+    await this.peer.addIceCandidate({ candidate, sdpMid: mid }).catch(() => {});
   }
 
   /** What is heard on the other side: a track, or nothing. */
@@ -99,13 +120,28 @@ export class Side {
     this.peer.close();
   }
 
+  /** What is no datagram of a call, or more than a call has, is dropped here: it costs a look at twelve bytes. */
+  #came(data) {
+    const isMessage = data.byteLength < SHORTEST_PACKET;
+    if (!isMessage && !isPacket(data)) return;
+    if ((isMessage ? this.#messages : this.#packets).take()) this.onDatagram(data);
+  }
+
   #heard(data) {
+    if (typeof data !== "string" || data.length > MOST_SAID || !this.#spoken.take()) return;
     try {
       this.onWords(JSON.parse(data));
     } catch {
       // Words that are none are passed over.
     }
   }
+}
+
+/** Whether a datagram is of a length, and begins, as an RTP packet of the telephone does. */
+function isPacket(data) {
+  if (data.byteLength > LONGEST_PACKET) return false;
+  const head = new DataView(data);
+  return head.getUint8(0) === 0x80 && (head.getUint8(1) & 0x7f) === PAYLOAD_TYPE && head.getUint32(8) === SSRC;
 }
 
 function opened(channel) {

@@ -6,6 +6,7 @@
 import { BadCode, codeOf, digitsOf, linkOf, ownCode, readCode } from "./codes.js";
 import { Side } from "./connection.js";
 import { Ring } from "./ring.js";
+import { serversOf } from "./servers.js";
 
 const part = (id) => document.getElementById(id);
 /** What there is to see of an invitation, one at a time. */
@@ -19,7 +20,7 @@ export class Invitations {
 
   /**
    * It says texts by `text(name, ..words)`. `prepare()` is awaited before a side is made, and answers its sound: a
-   * browser tells its addresses once the camera is allowed. `begin({ side, name, digits })` has the call; `leave()` is
+   * browser tells its addresses once the camera is allowed. `begin({ side, name, digits, isCaller })` has the call; `leave()` is
    * told that none comes about.
    */
   constructor({ text, prepare, begin, leave }) {
@@ -60,6 +61,13 @@ export class Invitations {
     this.#tell(why);
     this.#show("someone_first");
   }
+
+  // A link is good once: no side comes back by it.
+  comesBack = false;
+  begun() {}
+  ended() {}
+  heard() {}
+  translate() {}
 
   // ---- who calls --------------------------------------------------------------------------------
 
@@ -131,7 +139,7 @@ export class Invitations {
     this.#side = null;
     const digits = await digitsOf(...descriptions);
     this.reset();
-    this.begin({ side, name, digits });
+    this.begin({ side, name, digits, isCaller: descriptions[0].type === "offer" });
   }
 
   async #copy(button, field) {
@@ -161,14 +169,4 @@ export class Invitations {
       this.#tell(`bad_code_${isOther ? fault.message : "other"}`);
     }
   }
-}
-
-/** Servers by which a way through is found: stun:HOST, or turn:USER:PASSWORD@HOST, apart by spaces. */
-function serversOf(text) {
-  const made = (word) => {
-    const [, scheme, username, credential, host] = /^(stuns?|turns?):(?:([^:@]+):([^@]+)@)?(.+)$/.exec(word) ?? [];
-    if (!host) return null;
-    return { urls: `${scheme}:${host}`, ...(username && { username, credential }) };
-  };
-  return text.split(/\s+/).map(made).filter(Boolean);
 }

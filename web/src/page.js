@@ -9,6 +9,8 @@ import { Camera, devices } from "./camera.js";
 import { OtherCall, SelfCall } from "./connection.js";
 import { Invitations } from "./invitations.js";
 import { BadNetwork } from "./network.js";
+import { roomsPath } from "./room_socket.js";
+import { Rooms } from "./rooms.js";
 import { Told } from "./told.js";
 import { hasText, otherLanguage, ownLanguage, text } from "./words.js";
 
@@ -35,10 +37,13 @@ class Telephone {
   #network = new BadNetwork();
   #told = new Told((...words) => this.#text(...words));
   #camera = new Camera((frame) => this.#give(frame), () => this.#lostCamera());
-  #invitations = new Invitations({
+  // How a call with another side comes about: by the server that serves this page, where it has rooms, or by a link.
+  #meeting = new (roomsPath() ? Rooms : Invitations)({
     text: (...words) => this.#text(...words),
     prepare: () => this.#prepare(),
     begin: (call) => this.#callOther(call),
+    end: (why) => this.#end(why),
+    gone: () => this.#tellGone(),
     leave: () => this.#call || this.#camera.stop(),
   });
   #call = null;
@@ -56,6 +61,7 @@ class Telephone {
       counts: (counts) => { this.#told.counts = counts; },
       // What a worker says is wrong is a fault of this page.
       fault: ({ words }) => this.#tellFault(this.#text("fault", words)),
+      recorded: (record) => this.#offerRecord(record),
       loaded: () => this.#loaded(),
     };
     this.#worker.onmessage = ({ data }) => heard[data.is](data);
@@ -83,8 +89,8 @@ class Telephone {
     this.#tellState("ready");
     const other = sessionStorage.getItem(KEPT_NAME);
     sessionStorage.removeItem(KEPT_NAME);
-    if (other) this.#tellNews(this.#text("loaded_anew", other));
-    this.#invitations.rings();
+    if (other && !roomsPath()) this.#tellNews(this.#text("loaded_anew", other));
+    this.#meeting.rings();
   }
 
   #listen() {
@@ -99,7 +105,7 @@ class Telephone {
     byId("full").hidden = !document.fullscreenEnabled;
     for (const name of Object.keys(SLIDERS)) byId(name).addEventListener("input", () => this.#slide());
     byId("which_camera").addEventListener("change", () => this.#call && this.#startCamera());
-    addEventListener("beforeunload", (event) => this.#isWithOther && event.preventDefault());
+    addEventListener("beforeunload", (event) => this.#isWithOther && !this.#meeting.comesBack && event.preventDefault());
   }
 
   get #isWithOther() {
@@ -120,6 +126,7 @@ class Telephone {
     for (const it of document.querySelectorAll("[data-label]")) it.ariaLabel = this.#text(it.dataset.label);
     byId("language").lang = otherLanguage(this.#language);
     this.#tellState(...this.#state);
+    this.#meeting.translate();
     this.#slide();
     this.#listDevices();
     if (this.#call) this.#tick();
@@ -151,7 +158,7 @@ class Telephone {
 
   async #callYourself() {
     if (this.#call) return;
-    this.#invitations.cancel();
+    this.#meeting.cancel();
     this.#network.sent = this.#network.lost = 0;
     const listen = (stream) => { byId("sound").srcObject = stream; };
     const call = new SelfCall(this.#network, (datagram) => this.#hear(call, datagram), listen);
@@ -163,7 +170,9 @@ class Telephone {
     this.#tellState("with_yourself");
   }
 
-  #callOther({ side, name, digits }) {
+  /** A call with another side, or one that goes on after a side was loaded anew. */
+  #callOther({ side, name, digits, isCaller }) {
+    this.#call?.close();
     this.#other = name || this.#text("other_side");
     const listen = (stream) => {
       byId("sound").srcObject = stream;
@@ -172,14 +181,15 @@ class Telephone {
     const call = new OtherCall(side, {
       hear: (datagram) => this.#hear(call, datagram),
       heard: (words) => this.#call === call && this.#heard(words),
-      lost: () => this.#call === call && this.#end("lost"),
+      lost: () => this.#call === call && (this.#meeting.comesBack ? this.#meeting.wait() : this.#end("lost")),
       listen,
     });
     sessionStorage.setItem(KEPT_NAME, this.#other);
     this.#begin(call, "with_other", this.#other);
     byId("digits").textContent = this.#text("digits", digits);
     this.#tellNone(this.#text("waiting_for", this.#other));
-    this.#beginEnds();
+    this.#beginEnds(isCaller ? { sent: 1, received: 2 } : { sent: 2, received: 1 });
+    this.#meeting.begun(call, isCaller);
     this.#tellCamera();
     this.#tellMicrophone();
     listen(call.sound);
@@ -188,6 +198,7 @@ class Telephone {
   #begin(call, ...state) {
     this.#call = call;
     this.#isOtherOff = false;
+    byId("saved").hidden = true;
     this.#tellFault("");
     this.#tellNews("");
     this.#tellNone("");
@@ -200,9 +211,27 @@ class Telephone {
     byId("hang_up").focus();
   }
 
-  #beginEnds() {
+  /** `streams` are the numbers by which a record knows what is sent and what comes: with oneself they are the same. */
+  #beginEnds(streams = { sent: 1, received: 1 }) {
+    const isAlone = !this.#isWithOther;
+    const { loss, delay, jitter } = this.#network;
+    const party = isAlone ? { party: "alone", network: { loss, burst: 1, delay, jitter } } : { party: "both", network: null };
+    const kept = byId("keep").checked ? { ...party, ...streams } : null;
     this.#call.setWait(this.#value("wait"));
-    this.#tell("begin", { format: byId("size").value, wait: this.#value("wait"), isAlone: !this.#isWithOther });
+    this.#tell("begin", { format: byId("size").value, wait: this.#value("wait"), isAlone, kept });
+    if (kept) this.#call.say({ is: "keeps" });
+  }
+
+  #offerRecord({ name, file }) {
+    URL.revokeObjectURL(byId("save").href);
+    Object.assign(byId("save"), { href: URL.createObjectURL(file), download: `${name}.tar` });
+    byId("save").textContent = this.#text("save", (file.size / 1e6).toFixed(1));
+    byId("saved").hidden = false;
+  }
+
+  #tellGone() {
+    this.#isOtherOff = true;
+    this.#tellNone(this.#text("comes_back", this.#other));
   }
 
   #hangUp() {
@@ -226,6 +255,7 @@ class Telephone {
     byId("size").disabled = false;
     byId("clock").textContent = "";
     this.#tellState("ready");
+    this.#meeting.ended();
     const ended = this.#text("ended", Math.round(seconds), share);
     this.#tellNews(why ? `${this.#text(why, this.#other)} ${ended}` : ended);
     byId("call_yourself").focus();
@@ -243,6 +273,8 @@ class Telephone {
   /** Words of the other side, which may say anything. */
   #heard(words) {
     if (words?.is === "bye") this.#end("other_hung_up");
+    if (words?.is === "secret") this.#meeting.heard(words);
+    if (words?.is === "keeps") this.#tellNews(this.#text("other_keeps", this.#other));
     if (words?.is !== "camera") return;
     this.#isOtherOff = !words.isOn;
     this.#tellNone(words.isOn ? "" : this.#text("other_camera_off", this.#other));

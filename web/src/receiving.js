@@ -19,9 +19,9 @@ export class Receiving {
   /** Datagrams that no packet of this stream can be. */
   dropped = 0;
 
-  /** With a wait in seconds. It calls `say(message)`, and `show(played, format)` for each picture. */
-  constructor(wait, say, show) {
-    Object.assign(this, { wait, say, show });
+  /** With a wait in seconds. It calls `say(message)`, and `show(played, format)` for each picture; a record may be kept. */
+  constructor(wait, say, show, record = null) {
+    Object.assign(this, { wait, say, show, record });
   }
 
   /** A packet came. What is due up to the picture before is played, the packet is heard, and then the rest is played. */
@@ -33,9 +33,15 @@ export class Receiving {
       return;
     }
     this.#playDue(time, place.number - 1);
-    const { message } = this.#receiver.packet(packet);
-    if (message.length) this.say(message);
+    this.record?.entry("recv", "K", time, packet);
+    this.#answer(this.#receiver.packet(packet).message);
     this.#playDue(time, Infinity);
+  }
+
+  #answer(message) {
+    if (!message.length) return;
+    this.record?.entry("messages", "B", now(), message);
+    this.say(message);
   }
 
   /** How long a picture waits for its packets, in seconds, from now on. */
@@ -74,6 +80,7 @@ export class Receiving {
     this.#playout = new Playout(1 / RATE, Math.max(this.wait, 0.001));
     const params = Params.of(format, { clock: CLOCKS[clock], slots: SLOTS, lead: LEAD });
     this.#receiver = new Receiver(params, start.temporalReference);
+    this.record?.receives(format, clock, start.temporalReference);
   }
 
   #playDue(time, last) {
@@ -86,10 +93,14 @@ export class Receiving {
   }
 
   #play(number) {
+    this.record?.entry("recv", "P", now());
     const played = this.#receiver.playLent();
     this.#playout.played(number);
-    if (played.message.length) this.say(played.message);
+    // What is lent is good until the next call: it is shown before anything else.
     this.show(played, this.#start.format);
+    this.record?.line("recv", `${played.number} ${played.mark}`);
+    this.record?.shown(now());
+    this.#answer(played.message);
   }
 
   /** Comes back when the next picture is due. */

@@ -24,7 +24,9 @@ export class Sending {
   /** Seconds that the last picture took to become planes, and to be coded. */
   took = { planes: 0, code: 0 };
 
-  constructor(format, target = TARGETS[format]) {
+  /** Pictures of this format, of which a record may be kept. */
+  constructor(format, record = null, target = TARGETS[format]) {
+    this.record = record;
     const [width, height] = SIZES[format];
     Object.assign(this, { width, height });
     this.#sender = new Sender(Params.of(format, { target, limit: LIMIT, slots: SLOTS, lead: LEAD }));
@@ -43,6 +45,7 @@ export class Sending {
     const coded = this.#sender.code(this.#planes);
     this.#keep(coded.number, time);
     const packets = this.#sender.packets(coded);
+    if (this.record) this.#note(coded, packets, time);
     this.took = { planes: filled - time, code: now() - filled };
     return packets.map((packet) => stamped(packet, Math.round((time - this.#began) * TICKS)));
   }
@@ -57,8 +60,15 @@ export class Sending {
     this.captured.delete(number - KEPT);
   }
 
+  #note({ number, reference }, packets, time) {
+    this.record.entry("send", "S", time);
+    for (const packet of packets) this.record.entry("packets", "K", now(), packet);
+    this.record.line("send", reference === null ? `${number} intra` : `${number} from ${reference}`);
+  }
+
   /** Takes a message of the other side. */
   feedback(message) {
+    this.record?.entry("send", "B", now(), message);
     this.#sender.feedback(message);
   }
 

@@ -5,10 +5,11 @@
  */
 
 import { load } from "../../library/web/h263rps.js";
-import { RATE, SHORTEST_PACKET, now } from "./call_settings.js";
+import { RATE, SHORTEST_PACKET, TARGETS, now } from "./call_settings.js";
 import { MadePicture } from "./made_picture.js";
 import { SIZES, covering, fillColours } from "./planes.js";
 import { Receiving } from "./receiving.js";
+import { Record } from "./record.js";
 import { Sending } from "./sending.js";
 
 /** How often the page is told the counts, in milliseconds. */
@@ -25,19 +26,24 @@ class Ends {
   #made = null;
   #timers = [];
   #isAlone = false;
+  #record = null;
 
   constructor(own, other) {
     this.#own = own.getContext("2d", { alpha: false });
     this.#other = other.getContext("2d", { alpha: false });
   }
 
-  /** Begins a call: pictures of this format go out, and what comes waits so long. With oneself it is told how late. */
-  begin({ format, wait, isAlone }) {
+  /**
+   * Begins a call: pictures of this format go out, and what comes waits so long. With oneself it is told how late.
+   * `kept` is what a record says of it, where one is kept.
+   */
+  begin({ format, wait, isAlone, kept }) {
     this.end();
     this.#isAlone = isAlone;
-    this.#sending = new Sending(format);
+    this.#record = kept ? new Record(now(), { format, wait, target: TARGETS[format], ...kept }) : null;
+    this.#sending = new Sending(format, this.#record);
     const say = (message) => tell("datagrams", { datagrams: [message] });
-    this.#receiving = new Receiving(wait, say, (played, of) => this.#show(played, of));
+    this.#receiving = new Receiving(wait, say, (played, of) => this.#show(played, of), this.#record);
     this.#timers.push(setInterval(() => this.#tellCounts(), TOLD_EACH));
   }
 
@@ -47,6 +53,16 @@ class Ends {
     this.#sending?.close();
     this.#receiving?.close();
     this.#sending = this.#receiving = null;
+    this.#handOver();
+  }
+
+  /** Gives the page what was recorded. */
+  #handOver() {
+    const record = this.#record;
+    this.#record = null;
+    if (!record || record.isEmpty) return;
+    const name = `call-${new Date().toISOString().slice(0, 19).replace(/[:T]/g, "-")}`;
+    tell("recorded", { name, file: record.file(name, Math.round(1000 * (now() - record.began)) / 1000) });
   }
 
   /** A picture of the camera, which is then let go. */

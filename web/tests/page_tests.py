@@ -5,108 +5,14 @@ import base64
 import json
 import os
 import re
-import subprocess
-import tempfile
 import time
 import unittest
 import zlib
 from pathlib import Path
 
+from browsers import PAGE, CallTest, NamespacesTest, Page
 from selenium import webdriver
-from selenium.webdriver.chrome.options import Options
-from selenium.webdriver.chrome.service import Service
 from selenium.webdriver.common.keys import Keys
-from selenium.webdriver.support.ui import WebDriverWait
-
-PAGE = Path(os.environ.get("TELEPHONE", Path(__file__).resolve().parents[1] / "telephone.html"))
-FLAGS = ("--headless=new", "--no-sandbox", "--disable-gpu", "--allow-loopback-in-peer-connection",
-         "--autoplay-policy=no-user-gesture-required")
-CAMERA = ("--use-fake-device-for-media-stream", "--use-fake-ui-for-media-stream")
-# Where the tests leave what they saw, to be looked at.
-PICTURES = os.environ.get("PICTURES")
-
-
-class Page:
-    """A browser with the page."""
-
-    def __init__(self, *flags: str, language: str = "en", address: str = "", camera: bool = True, within: str = "") -> None:
-        options = Options()
-        if within:
-            options.binary_location = browser_within(within)
-            options.add_argument("--remote-debugging-pipe")
-        for flag in (*FLAGS, *(CAMERA if camera else ()), f"--accept-lang={language}", f"--lang={language}", *flags):
-            options.add_argument(flag)
-        if "--refused" in flags:
-            kinds = ("media_stream_camera", "media_stream_mic")
-            options.add_experimental_option("prefs", {f"profile.default_content_setting_values.{it}": 2 for it in kinds})
-        options.set_capability("goog:loggingPrefs", {"browser": "ALL"})
-        self.driver = webdriver.Chrome(service=Service("/usr/bin/chromedriver"), options=options)
-        self.driver.set_window_size(1280, 1000)
-        self.driver.get(address or PAGE.as_uri())
-
-    def __enter__(self) -> "Page":
-        return self
-
-    def __exit__(self, *_: object) -> None:
-        self.driver.quit()
-
-    def text(self, name: str) -> str:
-        return self.driver.find_element("id", name).text
-
-    def run(self, script: str, *words: object) -> object:
-        return self.driver.execute_script(script, *words)
-
-    def until(self, test, seconds: float = 60) -> None:
-        WebDriverWait(self.driver, seconds, 0.2).until(lambda _: test())
-
-    def press(self, name: str) -> None:
-        self.until(lambda: self.driver.find_element("id", name).is_enabled())
-        self.driver.find_element("id", name).click()
-
-    def slide(self, name: str, value: int) -> None:
-        script = "const it = document.getElementById(arguments[0]); it.value = arguments[1]; it.dispatchEvent(new Event('input'))"
-        self.run(script, name, value)
-
-    def value(self, name: str) -> str:
-        return str(self.run("return document.getElementById(arguments[0]).value", name))
-
-    def fill(self, name: str, words: str) -> None:
-        self.run("document.getElementById(arguments[0]).value = arguments[1]", name, words)
-
-    def begun(self, seconds: float = 60) -> None:
-        """Until pictures come."""
-        self.until(lambda: self.run("return document.getElementById('mark').dataset.mark || ''") != "", seconds)
-
-    def call_yourself(self) -> None:
-        self.press("call_yourself")
-        self.begun()
-
-    def share(self) -> int:
-        """Of the last 300 pictures how many in a hundred are exact, as the page says it."""
-        return int("".join(it for it in self.text("share") if it.isdigit()))
-
-    def small(self) -> None:
-        metrics = {"width": 360, "height": 780, "deviceScaleFactor": 2, "mobile": True}
-        self.driver.execute_cdp_cmd("Emulation.setDeviceMetricsOverride", metrics)
-
-    def dark(self) -> None:
-        features = [{"name": "prefers-color-scheme", "value": "dark"}]
-        self.driver.execute_cdp_cmd("Emulation.setEmulatedMedia", {"features": features})
-
-    def picture(self, name: str) -> None:
-        if PICTURES:
-            self.driver.save_screenshot(f"{PICTURES}/{name}.png")
-
-    def complaints(self) -> list[str]:
-        return [it["message"] for it in self.driver.get_log("browser") if it["level"] in ("SEVERE", "WARNING")]
-
-
-def browser_within(name: str) -> str:
-    """A script that starts the browser in a network namespace; it is told what to do through a pipe."""
-    path = Path(tempfile.gettempdir()) / f"chromium_in_{name}"
-    path.write_text(f'#!/bin/sh\nexec ip netns exec {name} chromium "$@"\n')
-    path.chmod(0o755)
-    return str(path)
 
 
 def call_by_link(caller: Page, callee: Page, name: str = "Ada") -> None:
@@ -155,19 +61,6 @@ for (const it of document.querySelectorAll("body *")) {
 }
 return faint;
 """
-
-
-class CallTest(unittest.TestCase):
-    def assert_share(self, page: Page, least: int) -> None:
-        """At least so many of a hundred pictures are exact, where the machine has time for them."""
-        page.run("document.getElementById('numbers').open = true")
-        page.until(lambda: page.text("figures"))
-        sent = int(re.findall(r"(\d+) pictures sent", page.text("figures"))[0])
-        minutes, seconds = map(int, page.text("clock").split(":"))
-        if sent < 20 * (60 * minutes + seconds - 1):
-            print(f"the machine is too busy to tell: {page.text('figures')}")
-        else:
-            self.assertGreaterEqual(page.share(), least, page.text("figures"))
 
 
 class PageTest(CallTest):
@@ -312,32 +205,8 @@ class PageTest(CallTest):
             page.call_yourself()
 
 
-class TwoPartiesTest(CallTest):
+class TwoPartiesTest(NamespacesTest):
     """Two browsers in two network namespaces, each of which loses 5 % of the datagrams that come."""
-
-    def setUp(self) -> None:
-        self.names = [f"page{os.getpid()}{letter}" for letter in "ab"]
-        for name in self.names:
-            if subprocess.run(["ip", "netns", "add", name], capture_output=True).returncode:
-                self.skipTest("no network namespaces can be had")
-            self.addCleanup(subprocess.run, ["ip", "netns", "del", name])
-        ways = [f"{name}_way" for name in self.names]
-        self.ip("link", "add", ways[0], "netns", self.names[0], "type", "veth", "peer", "name", ways[1], "netns", self.names[1])
-        for name, device, host in zip(self.names, ways, ("192.0.2.6", "192.0.2.7")):
-            self.ip("-n", name, "addr", "add", f"{host}/24", "dev", device)
-            for it in (device, "lo"):
-                self.ip("-n", name, "link", "set", it, "up")
-            self.ip("-n", name, "route", "add", "default", "via", "192.0.2.1")
-
-    @staticmethod
-    def ip(*words: str) -> None:
-        subprocess.run(["ip", *words], check=True)
-
-    def lose(self) -> None:
-        rule = "-A INPUT -p udp -m statistic --mode random --probability 0.05 -j DROP".split()
-        for name in self.names:
-            if subprocess.run(["ip", "netns", "exec", name, "iptables", *rule], capture_output=True).returncode:
-                self.skipTest("iptables isn't there")
 
     def test_a_call_by_a_link(self) -> None:
         with Page(within=self.names[0]) as ada, Page(within=self.names[1]) as bob:
