@@ -11,15 +11,18 @@ export class BadNetwork {
   sent = 0;
   lost = 0;
 
-  /** Hands a datagram to `send`, later or never. */
+  /** Hands a datagram to `send`, later or never, and counts it. */
   carry(datagram, send) {
     this.sent++;
-    if (Math.random() < this.loss) {
-      this.lost++;
-      return;
-    }
+    if (!this.pass(() => send(datagram))) this.lost++;
+  }
+
+  /** Does what there is to do when a datagram comes, later or never; whether it comes. */
+  pass(act) {
+    if (Math.random() < this.loss) return false;
     const way = this.delay + this.jitter * Math.random();
-    if (way) setTimeout(send, 1000 * way, datagram);
-    else send(datagram);
+    if (way) setTimeout(act, 1000 * way);
+    else act();
+    return true;
   }
 }

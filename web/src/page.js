@@ -62,6 +62,9 @@ class Telephone {
       // What a worker says is wrong is a fault of this page.
       fault: ({ words }) => this.#tellFault(this.#text("fault", words)),
       recorded: (record) => this.#offerRecord(record),
+      ordinary: ({ datagrams }) => datagrams.forEach((datagram) => this.#carryOrdinary("ordinary", datagram)),
+      ordinaryAsks: () => this.#carryOrdinary("ordinaryAsked"),
+      noOrdinary: () => this.#tellFault(this.#text("no_ordinary")),
       loaded: () => this.#loaded(),
     };
     this.#worker.onmessage = ({ data }) => heard[data.is](data);
@@ -72,8 +75,8 @@ class Telephone {
   /** Hands the module and the canvases over to the worker. */
   async start(bytes) {
     const module = await WebAssembly.compile(bytes);
-    const [own, other] = ["own", "other"].map((id) => byId(id).transferControlToOffscreen());
-    this.#tell("start", { module, own, other }, [own, other]);
+    const [own, other, ordinary] = ["own", "other", "ordinary"].map((id) => byId(id).transferControlToOffscreen());
+    this.#tell("start", { module, own, other, ordinary }, [own, other, ordinary]);
   }
 
   #text(name, ...words) {
@@ -102,6 +105,7 @@ class Telephone {
     pressed("hear", () => this.#turnHearing());
     pressed("full", () => (document.fullscreenElement ? document.exitFullscreen() : byId("main").requestFullscreen()));
     pressed("language", () => this.#speak(otherLanguage(this.#language)));
+    byId("beside").addEventListener("change", () => this.#putBeside());
     byId("full").hidden = !document.fullscreenEnabled;
     for (const name of Object.keys(SLIDERS)) byId(name).addEventListener("input", () => this.#slide());
     byId("which_camera").addEventListener("change", () => this.#call && this.#startCamera());
@@ -220,6 +224,19 @@ class Telephone {
     this.#call.setWait(this.#value("wait"));
     this.#tell("begin", { format: byId("size").value, wait: this.#value("wait"), isAlone, kept });
     if (kept) this.#call.say({ is: "keeps" });
+    this.#putBeside();
+  }
+
+  /** In a call with oneself the browser's own coder goes beside ours, where that is wished for. */
+  #putBeside() {
+    const isOn = byId("beside").checked && Boolean(this.#call) && !this.#isWithOther;
+    byId("ordinary_view").hidden = !isOn;
+    this.#tell("beside", { isOn, wait: this.#value("wait") });
+  }
+
+  /** What the ordinary coder says goes over the same bad network. */
+  #carryOrdinary(is, datagram) {
+    if (this.#call && !this.#isWithOther) this.#network.pass(() => this.#tell(is, { datagram }));
   }
 
   #offerRecord({ name, file }) {

@@ -65,11 +65,18 @@ export class Told {
     const shown = counts.exact + counts.patched + counts.held;
     const share = percent(counts.exact, shown);
     place("clock").textContent = clockWords(this.seconds);
+    this.#tellOrdinary();
     place("share").textContent = shown ? this.text("share", share) : this.text("waiting");
     place("sentence").textContent = shown ? this.#sentence(share, counts.exact === shown, network) : "";
     place("strip").ariaLabel = `${this.text("line_of_time")}. ${this.text("summary", counts)}`;
     const isTime = shown && Math.floor(this.seconds) % SUMMARY_EACH === 0;
     if (isTime) place("summary").textContent = this.text("summary", counts);
+  }
+
+  /** How often the ordinary coder's picture moves, since it is there. */
+  #tellOrdinary() {
+    const { shown = 0, held = 0 } = this.counts?.ordinary ?? {};
+    place("ordinary_share").textContent = shown + held ? this.text("ordinary_share", percent(shown, shown + held)) : "";
   }
 
   #sentence(share, isAll, network) {
@@ -91,6 +98,10 @@ export class Told {
       sent: Object.values(sent.coded).reduce((sum, count) => sum + count, 0), left: this.left,
       packets: sent.packets, lost: network?.lost ?? "–",
     });
+    const { ordinary } = this.counts;
+    if (!ordinary) return;
+    const { keys, code, late } = ordinary;
+    place("figures").textContent += ` · ${this.text("ordinary_figures", { keys, code: ms(code), late: Math.round(1000 * late) })}`;
   }
 
   /** Kilobits a second that go out. */

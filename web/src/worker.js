@@ -8,6 +8,7 @@ import { load } from "../../library/web/h263rps.js";
 import { RATE, SHORTEST_PACKET, TARGETS, now } from "./call_settings.js";
 import { MadePicture } from "./made_picture.js";
 import { SIZES, covering, fillColours } from "./planes.js";
+import { Ordinary, hasOrdinary } from "./ordinary.js";
 import { Receiving } from "./receiving.js";
 import { Record } from "./record.js";
 import { Sending } from "./sending.js";
@@ -27,10 +28,15 @@ class Ends {
   #timers = [];
   #isAlone = false;
   #record = null;
+  #format = null;
+  #ordinary = null;
+  #ordinaryPen;
 
-  constructor(own, other) {
-    this.#own = own.getContext("2d", { alpha: false });
-    this.#other = other.getContext("2d", { alpha: false });
+  constructor(own, other, ordinary) {
+    const penOf = (canvas) => canvas.getContext("2d", { alpha: false });
+    this.#own = penOf(own);
+    this.#other = penOf(other);
+    this.#ordinaryPen = penOf(ordinary);
   }
 
   /**
@@ -40,6 +46,7 @@ class Ends {
   begin({ format, wait, isAlone, kept }) {
     this.end();
     this.#isAlone = isAlone;
+    this.#format = format;
     this.#record = kept ? new Record(now(), { format, wait, target: TARGETS[format], ...kept }) : null;
     this.#sending = new Sending(format, this.#record);
     const say = (message) => tell("datagrams", { datagrams: [message] });
@@ -53,6 +60,7 @@ class Ends {
     this.#sending?.close();
     this.#receiving?.close();
     this.#sending = this.#receiving = null;
+    this.#leaveOrdinary();
     this.#handOver();
   }
 
@@ -88,6 +96,41 @@ class Ends {
 
   wait({ wait }) {
     this.#receiving?.setWait(wait);
+    this.#ordinary?.setWait(wait);
+  }
+
+  /** The browser's own coder goes beside ours, or no longer. */
+  async beside({ isOn, wait }) {
+    this.#leaveOrdinary();
+    if (!isOn || !this.#sending) return;
+    if (!(await hasOrdinary(this.#format))) {
+      tell("noOrdinary");
+      return;
+    }
+    const [width, height] = SIZES[this.#format];
+    const { canvas } = this.#ordinaryPen;
+    if (canvas.width !== width) Object.assign(canvas, { width, height });
+    this.#ordinary = new Ordinary(this.#format, Math.max(wait, 0.001), {
+      send: (datagrams) => tell("ordinary", { datagrams }, datagrams.map(({ buffer }) => buffer)),
+      ask: () => tell("ordinaryAsks"),
+      show: (frame) => {
+        this.#ordinaryPen.drawImage(frame, 0, 0, width, height);
+        frame.close();
+      },
+    });
+  }
+
+  ordinary({ datagram }) {
+    this.#ordinary?.take(datagram);
+  }
+
+  ordinaryAsked() {
+    this.#ordinary?.asked();
+  }
+
+  #leaveOrdinary() {
+    this.#ordinary?.close();
+    this.#ordinary = null;
   }
 
   datagram({ datagram }) {
@@ -100,6 +143,7 @@ class Ends {
     const { width: across, height: down } = this.#own.canvas;
     this.#own.drawImage(source, ...covering(width, height, across, down), 0, 0, across, down);
     const datagrams = this.#sending?.packets(source, width, height) ?? [];
+    if (datagrams.length) this.#ordinary?.code(source, width, height);
     if (datagrams.length) tell("datagrams", { datagrams }, datagrams.map(({ buffer }) => buffer));
   }
 
@@ -117,16 +161,17 @@ class Ends {
 
   #tellCounts() {
     const { took, statistics } = this.#sending;
-    tell("counts", { took, sent: statistics, received: this.#receiving.statistics, dropped: this.#receiving.dropped });
+    const { statistics: received, dropped } = this.#receiving;
+    tell("counts", { took, sent: statistics, received, dropped, ordinary: this.#ordinary?.counts ?? null });
   }
 }
 
 let ends = null;
 
 /** The first message has the module and the canvases. What came before the module was there waits for it. */
-async function start({ module, own, other }) {
+async function start({ module, own, other, ordinary }) {
   await load(module);
-  ends = new Ends(own, other);
+  ends = new Ends(own, other, ordinary);
   tell("loaded");
 }
 

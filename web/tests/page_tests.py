@@ -90,6 +90,32 @@ class PageTest(CallTest):
             page.call_yourself()
             self.assertEqual(page.complaints(), [])
 
+    def test_an_ordinary_coder_beside_it(self) -> None:
+        """At 10 % of loss its picture stands still again and again; with none it moves."""
+        with Page() as page:
+            page.slide("loss", 10)
+            page.call_yourself()
+            page.press("beside")
+            page.run("document.getElementById('numbers').open = true")
+            time.sleep(12)
+            page.picture("beside")
+            lossy = self.moves(page)
+            print(f"10 % lost: {page.text('share')}, VP8 moves in {lossy} %; {page.text('figures')}")
+            self.assertLess(lossy, page.share())
+            self.assertRegex(page.text("figures"), r"VP8: camera to screen \d+ ms, to code [\d.]+ ms, [1-9]\d* key frames$")
+            page.slide("loss", 0)
+            page.press("beside")
+            self.assertFalse(page.driver.find_element("id", "ordinary_view").is_displayed())
+            page.press("beside")
+            time.sleep(8)
+            print(f"none lost: VP8 moves in {self.moves(page)} %; {page.text('figures')}")
+            self.assertGreater(self.moves(page), lossy)
+            self.assertEqual((page.text("fault"), page.complaints()), ("", []))
+
+    def moves(self, page: Page) -> int:
+        page.until(lambda: page.text("ordinary_share"))
+        return int(re.findall(r"\d+", page.text("ordinary_share"))[0])
+
     def test_no_camera(self) -> None:
         with Page(camera=False) as page:
             page.slide("loss", 0)
