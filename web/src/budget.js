@@ -1,5 +1,5 @@
 /**
- * So many of something a second, and as many at once: what comes from another side costs no more than a call does.
+ * So many of something a second, and so many at once: what comes from another side costs no more than a call does.
  * @module
  */
 
@@ -7,15 +7,16 @@ export class Budget {
   #left;
   #last = 0;
 
-  /** Of so many a second. */
-  constructor(rate) {
-    this.rate = this.#left = rate;
+  /** Of so many a second, and at once at the most. */
+  constructor(rate, most = rate) {
+    Object.assign(this, { rate, most });
+    this.#left = most;
   }
 
   /** Whether one more is within it. */
   take() {
     const time = performance.now();
-    this.#left = Math.min(this.rate, this.#left + ((time - this.#last) * this.rate) / 1000);
+    this.#left = Math.min(this.most, this.#left + ((time - this.#last) * this.rate) / 1000);
     this.#last = time;
     if (this.#left < 1) return false;
     this.#left--;

@@ -18,6 +18,9 @@ const MOST_SOUND_WAIT = 4000;
 const MOST_SAID = 1000;
 const WORDS_A_SECOND = 20;
 const DATAGRAMS_A_SECOND = 1500;
+/** So much may be refused of a side, at once and a second, until the connection is closed: to hear it costs a page its time. */
+const MOST_REFUSED = 4000;
+const REFUSED_A_SECOND = 200;
 
 /** One side of a connection. */
 export class Side {
@@ -26,11 +29,13 @@ export class Side {
   onSound = () => {};
   onState = () => {};
   onWay = () => {};
+  onFlood = () => {};
   #sound = null;
   #ways = 0;
   #spoken = new Budget(WORDS_A_SECOND);
   #packets = new Budget(DATAGRAMS_A_SECOND);
   #messages = new Budget(DATAGRAMS_A_SECOND);
+  #patience = new Budget(REFUSED_A_SECOND, MOST_REFUSED);
 
   constructor(servers = []) {
     this.peer = new RTCPeerConnection({ iceServers: servers });
@@ -123,12 +128,23 @@ export class Side {
   /** What is no datagram of a call, or more than a call has, is dropped here: it costs a look at twelve bytes. */
   #came(data) {
     const isMessage = data.byteLength < SHORTEST_PACKET;
-    if (!isMessage && !isPacket(data)) return;
-    if ((isMessage ? this.#messages : this.#packets).take()) this.onDatagram(data);
+    const isTaken = (isMessage || isPacket(data)) && (isMessage ? this.#messages : this.#packets).take();
+    if (isTaken) this.onDatagram(data);
+    else this.#refuse();
+  }
+
+  #refuse() {
+    if (this.#patience.take()) return;
+    this.datagrams.onmessage = this.words.onmessage = null;
+    this.close();
+    this.onFlood();
   }
 
   #heard(data) {
-    if (typeof data !== "string" || data.length > MOST_SAID || !this.#spoken.take()) return;
+    if (typeof data !== "string" || data.length > MOST_SAID || !this.#spoken.take()) {
+      this.#refuse();
+      return;
+    }
     try {
       this.onWords(JSON.parse(data));
     } catch {
@@ -208,12 +224,16 @@ export class SelfCall {
 
 /** One's own side of a call with someone else. */
 export class OtherCall {
-  /** It calls `hear(datagram)`, `heard(words)`, `listen(stream)` when there is sound, and `lost()`. */
-  constructor(side, { hear, heard, listen, lost }) {
+  /**
+   * It calls `hear(datagram)`, `heard(words)`, `listen(stream)` when there is sound, `lost()`, and `flooded()` where the
+   * other side sent so much that it was closed.
+   */
+  constructor(side, { hear, heard, listen, lost, flooded }) {
     this.side = side;
     side.onDatagram = hear;
     side.onSound = listen;
     side.onWords = heard;
+    side.onFlood = flooded;
     side.onState = (state) => state === "failed" && lost();
     side.words.addEventListener("close", lost);
   }

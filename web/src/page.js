@@ -186,6 +186,7 @@ class Telephone {
       hear: (datagram) => this.#hear(call, datagram),
       heard: (words) => this.#call === call && this.#heard(words),
       lost: () => this.#call === call && (this.#meeting.comesBack ? this.#meeting.wait() : this.#end("lost")),
+      flooded: () => this.#call === call && this.#end("flooded"),
       listen,
     });
     sessionStorage.setItem(KEPT_NAME, this.#other);

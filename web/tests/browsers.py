@@ -104,6 +104,23 @@ def browser_within(name: str) -> str:
     return str(path)
 
 
+def call_by_link(caller: Page, callee: Page, name: str = "Ada", server: str = "", seconds: float = 60) -> None:
+    """One makes a link, the other one answers it, and the answer is put in."""
+    caller.fill("name", name)
+    caller.press("invite")
+    caller.until(lambda: caller.value("link"))
+    callee.driver.get("about:blank")
+    callee.driver.get(caller.value("link"))
+    callee.until(lambda: callee.text("caller") == f"{name} calls you")
+    callee.fill("servers", server)
+    callee.press("accept")
+    callee.until(lambda: callee.value("answer"))
+    caller.fill("answer_code", callee.value("answer"))
+    caller.press("connect")
+    caller.begun(seconds)
+    callee.begun(seconds)
+
+
 class CallTest(unittest.TestCase):
     def assert_share(self, page: Page, least: int) -> None:
         """At least so many of a hundred pictures are exact, where the machine has time for them."""

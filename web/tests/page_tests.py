@@ -10,25 +10,9 @@ import unittest
 import zlib
 from pathlib import Path
 
-from browsers import PAGE, CallTest, NamespacesTest, Page
+from browsers import PAGE, CallTest, NamespacesTest, Page, call_by_link
 from selenium import webdriver
 from selenium.webdriver.common.keys import Keys
-
-
-def call_by_link(caller: Page, callee: Page, name: str = "Ada") -> None:
-    """One makes a link, the other one answers it, and the answer is put in."""
-    caller.fill("name", name)
-    caller.press("invite")
-    caller.until(lambda: caller.value("link"))
-    callee.driver.get("about:blank")
-    callee.driver.get(caller.value("link"))
-    callee.until(lambda: callee.text("caller") == f"{name} calls you")
-    callee.press("accept")
-    callee.until(lambda: callee.value("answer"))
-    caller.fill("answer_code", callee.value("answer"))
-    caller.press("connect")
-    caller.begun()
-    callee.begun()
 
 
 def code_of(**said: object) -> str:
