@@ -121,6 +121,31 @@ def call_by_link(caller: Page, callee: Page, name: str = "Ada", server: str = ""
     callee.begun(seconds)
 
 
+# What a reader of screens needs: a name for whatever is pressed or is a picture, no name twice, and headings in order.
+UNNAMED = """
+const named = (it) => it.getAttribute("aria-label") || it.textContent.trim() || it.title || it.labels?.[0]?.textContent.trim();
+const all = [...document.querySelectorAll("button, select, input, textarea, summary, [role=img]")];
+const ids = [...document.querySelectorAll("[id]")].map((it) => it.id);
+return [...all.filter((it) => !named(it)).map((it) => it.outerHTML.slice(0, 80)), ...ids.filter((it, n) => ids.indexOf(it) !== n)];
+"""
+# Contrast of each text that is seen, by WCAG's formula; below 4.5 it is hard to read.
+FAINT = """
+const linear = (c) => (c /= 255) <= 0.03928 ? c / 12.92 : ((c + 0.055) / 1.055) ** 2.4;
+const light = ([r, g, b]) => 0.2126 * linear(r) + 0.7152 * linear(g) + 0.0722 * linear(b);
+const colour = (words) => words.match(/[\\d.]+/g).map(Number);
+const ground = (it) => { for (; it; it = it.parentElement) { const c = colour(getComputedStyle(it).backgroundColor); if (c.length < 4 || c[3] > 0) return c; } return [255, 255, 255]; };
+const faint = [];
+for (const it of document.querySelectorAll("body *")) {
+  const own = [...it.childNodes].some((node) => node.nodeType === 3 && node.textContent.trim());
+  if (!own || !it.checkVisibility() || it.closest(":disabled, script, style, option")) continue;
+  const [a, b] = [light(colour(getComputedStyle(it).color)), light(ground(it))].sort((x, y) => y - x);
+  const contrast = (a + 0.05) / (b + 0.05);
+  if (contrast < 4.5) faint.push(`${it.id || it.textContent.slice(0, 20)}: ${contrast.toFixed(1)}`);
+}
+return faint;
+"""
+
+
 class CallTest(unittest.TestCase):
     def assert_share(self, page: Page, least: int) -> None:
         """At least so many of a hundred pictures are exact, where the machine has time for them."""

@@ -10,7 +10,7 @@ import unittest
 import zlib
 from pathlib import Path
 
-from browsers import PAGE, CallTest, NamespacesTest, Page, call_by_link
+from browsers import FAINT, PAGE, UNNAMED, CallTest, NamespacesTest, Page, call_by_link
 from selenium import webdriver
 from selenium.webdriver.common.keys import Keys
 
@@ -22,29 +22,8 @@ def code_of(**said: object) -> str:
     return base64.urlsafe_b64encode(packed).decode().rstrip("=")
 
 
-# What a reader of screens needs: a name for whatever is pressed or is a picture, no name twice, and headings in order.
-UNNAMED = """
-const named = (it) => it.getAttribute("aria-label") || it.textContent.trim() || it.title || it.labels?.[0]?.textContent.trim();
-const all = [...document.querySelectorAll("button, select, input, textarea, summary, [role=img]")];
-const ids = [...document.querySelectorAll("[id]")].map((it) => it.id);
-return [...all.filter((it) => !named(it)).map((it) => it.outerHTML.slice(0, 80)), ...ids.filter((it, n) => ids.indexOf(it) !== n)];
-"""
-# Contrast of each text that is seen, by WCAG's formula; below 4.5 it is hard to read.
-FAINT = """
-const linear = (c) => (c /= 255) <= 0.03928 ? c / 12.92 : ((c + 0.055) / 1.055) ** 2.4;
-const light = ([r, g, b]) => 0.2126 * linear(r) + 0.7152 * linear(g) + 0.0722 * linear(b);
-const colour = (words) => words.match(/[\\d.]+/g).map(Number);
-const ground = (it) => { for (; it; it = it.parentElement) { const c = colour(getComputedStyle(it).backgroundColor); if (c.length < 4 || c[3] > 0) return c; } return [255, 255, 255]; };
-const faint = [];
-for (const it of document.querySelectorAll("body *")) {
-  const own = [...it.childNodes].some((node) => node.nodeType === 3 && node.textContent.trim());
-  if (!own || !it.checkVisibility() || it.closest(":disabled, script, style, option")) continue;
-  const [a, b] = [light(colour(getComputedStyle(it).color)), light(ground(it))].sort((x, y) => y - x);
-  const contrast = (a + 0.05) / (b + 0.05);
-  if (contrast < 4.5) faint.push(`${it.id || it.textContent.slice(0, 20)}: ${contrast.toFixed(1)}`);
-}
-return faint;
-"""
+# A browser whose memories have 32 bits alone takes no module that asks for more.
+NO_LONG_MEMORY = "WebAssembly.validate = () => false; WebAssembly.Memory = class { constructor() { throw new TypeError(); } };"
 
 
 class PageTest(CallTest):
@@ -178,6 +157,18 @@ class PageTest(CallTest):
                 page.until(lambda: page.text("fault") == "The telephone doesn’t run inside another page. Open it by itself.")
         finally:
             outer.unlink()
+
+    def test_a_browser_without_long_memory(self) -> None:
+        """As Safari has none: the page says so in words, in its language, and nothing else goes wrong."""
+        told = {"en": "This browser has no 64-bit WebAssembly memory", "de": "Dieser Browser hat keinen 64-Bit-Speicher"}
+        for language, words in told.items():
+            with Page(language=language, address="about:blank") as page:
+                page.driver.execute_cdp_cmd("Page.addScriptToEvaluateOnNewDocument", {"source": NO_LONG_MEMORY})
+                page.driver.get(PAGE.as_uri())
+                page.until(lambda: page.text("fault").startswith(words))
+                self.assertIn("Safari", page.text("fault"))
+                page.picture(f"safari_{language}")
+                self.assertEqual(page.complaints(), [])
 
     def test_strange_codes(self) -> None:
         with Page() as page:

@@ -19,7 +19,7 @@ from pathlib import Path
 from typing import Awaitable, Callable, Iterator
 
 import aiohttp
-from browsers import PAGE, NamespacesTest, Page
+from browsers import FAINT, PAGE, UNNAMED, NamespacesTest, Page
 
 TOOLS = Path(__file__).resolve().parents[2] / "tools"
 sys.path.insert(0, str(TOOLS))
@@ -229,6 +229,50 @@ class RoomTest(NamespacesTest):
                 continue
             self.assertGreaterEqual(len(late), 6)
             self.assertLess(abs(late[len(late) // 2]), 80)
+
+
+class LookTest(unittest.TestCase):
+    """What a room looks like, on localhost over http, and on a small screen."""
+
+    def test_small_dark_and_german(self) -> None:
+        address = self.enterContext(rooms("--port", 0))
+        pages = []
+        for name, language in (("Ada", "de"), ("Bob", "en")):
+            page = self.enterContext(Page(address=address, language=language))
+            page.until(lambda: page.driver.find_element("id", "room_enter").is_enabled())
+            pages.append(page)
+        ada, bob = pages
+        ada.small()
+        ada.dark()
+        self.looks(ada, "room_small")
+        for page, name in ((ada, "Ada"), (bob, "")):
+            page.press("room_enter")
+            page.until(lambda: page.text("room_told") in ("Put in a word for the room first.", "Geben Sie zuerst ein Wort für den Raum ein."))
+            page.fill("room_name", name)
+            page.fill("room_word", "tea")
+            page.press("room_enter")
+        ada.until(lambda: ada.text("room_here") == "Jemand ist da.")
+        self.looks(ada, "room_small_in")
+        self.assertEqual((bob.run(FAINT), bob.run(UNNAMED)), ([], []))
+        bob.press("room_call")
+        ada.until(lambda: ada.text("room_caller") == "Jemand ruft an")
+        self.looks(ada, "room_small_rings")
+        ada.press("language")
+        ada.press("room_accept")
+        for page in pages:
+            page.begun()
+        self.looks(ada, "room_small_call")
+        ada.press("hang_up")
+        third = self.enterContext(Page(address=f"{address}#room=tea"))
+        third.press("room_enter")
+        third.until(lambda: third.text("room_told") == "Two are in that room already.")
+        for page in pages:
+            self.assertEqual([it for it in page.complaints() if "favicon" not in it], [])
+
+    def looks(self, page: Page, name: str) -> None:
+        page.picture(name)
+        self.assertEqual(page.run("return document.documentElement.scrollWidth - innerWidth"), 0)
+        self.assertEqual((page.run(FAINT), page.run(UNNAMED)), ([], []))
 
 
 class ServerTest(unittest.TestCase):
