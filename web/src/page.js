@@ -434,8 +434,10 @@ function moduleBytes() {
 
 /** Says the one thing that there is to say, where there is no telephone. */
 function sayOnly(name) {
+  document.documentElement.lang = ownLanguage();
   byId("fault").textContent = text(ownLanguage(), name);
   byId("fault").hidden = false;
+  byId("main").hidden = byId("language").hidden = true;
 }
 
 if (window.top !== window) sayOnly("framed");
