@@ -1,6 +1,7 @@
 """Tests of the live call: its parts by themselves, and calls of a few seconds over loopback."""
 
 import functools
+import http.client
 import json
 import os
 import random
@@ -996,6 +997,52 @@ class CallsTest(Calls):
             self.assertEqual(call.status, 1, (words, call.told))
             self.assertRegex(call.told, f"^{told}\n$")
         taken.close()
+
+    def test_metrics(self) -> None:
+        """Each line is Prometheus' text; counts agree with the call's own; other paths, hosts and ports are refused."""
+        taken = socket.create_server(("127.0.0.1", 0))
+        free = taken.getsockname()[1]
+        ends = ("--camera", "test", "--screen", "none", "--format", "sub-qcif", "--loss", 0.2, "--quiet")
+        if not shutil.which("ffmpeg"):
+            ends = ("--camera", self.video(300), *ends[2:])
+        call = self.run_call(*ends, "--metrics", free)
+        self.assertEqual(call.status, 1)
+        self.assertIn(f"--metrics: {free}: Address already in use", call.told)
+        taken.close()
+        call = self.start("--port", free_port(), *ends, "--seconds", 6, "--metrics", free)
+        self.wait_for_metrics(free)
+        with socket.create_connection(("127.0.0.1", free)) as silent:
+            answers = [self.fetched(free, *words) for words in (("/metrics", "localhost"), ("/", "127.0.0.1"), ("/metrics", "evil.example"))]
+            silent.close()
+        self.assertEqual(call.ended().status, 0, call.told)
+        self.assertEqual([status for status, _ in answers], [200, 404, 403])
+        text = answers[0][1]
+        for line in text.splitlines():
+            self.assertRegex(line, r'^(# (HELP|TYPE) h263rps_[a-z_]+ .+|h263rps_[a-z_]+({[a-z]+="[a-z ]+"})? [0-9.e+-]+)$')
+        told = dict(line.rsplit(" ", 1) for line in text.splitlines() if not line.startswith("#"))
+        self.assertGreater(float(told["h263rps_pictures_sent_total"]), 30)
+        self.assertGreater(float(told['h263rps_bits_per_second{way="out"}']), 1_000)
+        self.assertLess(float(told["h263rps_exact_ratio"]), 1)
+        self.assertIn('h263rps_pictures_shown_total{mark="held"}', told)
+
+    def wait_for_metrics(self, port: int) -> None:
+        until = time.monotonic() + 30
+        while time.monotonic() < until:
+            try:
+                told = re.search(r"^h263rps_call_seconds (\d+)", self.fetched(port, "/metrics", "localhost")[1], re.M)
+                if told and int(told[1]) >= 3:
+                    return
+            except OSError:
+                pass
+            time.sleep(0.2)
+        self.fail("no metrics come")
+
+    @staticmethod
+    def fetched(port: int, path: str, host: str) -> tuple[int, str]:
+        connection = http.client.HTTPConnection("127.0.0.1", port, timeout=10)
+        connection.request("GET", path, headers={"Host": f"{host}:{port}"})
+        answer = connection.getresponse()
+        return answer.status, answer.read().decode()
 
     def test_nobody_there(self) -> None:
         """A party that isn't there: that is told, and the call ends as asked."""

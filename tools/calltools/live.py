@@ -14,6 +14,7 @@ from .errors import BadInput
 from .live_end import CallContext
 from .live_settings import Settings
 from .loop import Loop
+from .metrics import Metrics, MetricsServer
 from .parties import Party
 from .recording import Recorder, call_facts
 from .screens import screen_of
@@ -47,6 +48,7 @@ class Asked:
     is_quiet: bool = False
     library: Optional[ModuleType] = None
     secure: Optional["Secure"] = None
+    metrics: Optional[int] = None  # a port on loopback
 
 
 @dataclass(frozen=True)
@@ -80,6 +82,8 @@ class LiveCall:
         ends = bool(asked.camera), bool(asked.screen)
         self._line = StatusLine(*ends)
         self._status = TerminalStatus(*ends, asked.settings.wait)
+        self._metrics = Metrics(asked.settings.wait)
+        self._server = MetricsServer(asked.metrics) if asked.metrics else None
         self.fault: Optional[BadInput] = None
         self._is_ending = self._is_over = False
         context = CallContext(
@@ -133,6 +137,8 @@ class LiveCall:
             self.loop.at(self._began + 1, self._tell)
         if self._asked.record:
             self.loop.at(self._began + _FLUSH, self._flush)
+        if self._server:
+            self._measure()
         self.loop.at(self._began + _ALONE, self._tell_if_nobody_is_there)
         self.loop.run(lambda: self._is_over)
         self._finish()
@@ -220,6 +226,13 @@ class LiveCall:
         if not self._is_ending:
             self.loop.at(self._began + round(second) + 1, self._tell)
 
+    def _measure(self) -> None:
+        assert self._server
+        self._count_datagrams()
+        second = self.loop.now() - self._began
+        self._server.tell(self._metrics.text(second, self.tally, self._heard()))
+        self.loop.at(self._began + round(second) + 1, self._measure)
+
     def _second(self, second: float) -> str:
         sending, receiving = self.parties[0].sending, self.parties[-1].receiving
         recent = sending.recent if sending else Recent()
@@ -229,8 +242,9 @@ class LiveCall:
 
     def _heard(self) -> Heard:
         out, reception = self.parties[0].reporting, self.parties[-1].reporting.reception
-        came = (reception.expected, reception.came) if reception else (0, 0)
-        return Heard(out.round_trip, out.loss, *came)
+        if not reception:
+            return Heard(out.round_trip, out.loss)
+        return Heard(out.round_trip, out.loss, reception.expected, reception.came, reception.jitter)
 
     def _finish(self) -> None:
         self._told.end()
@@ -247,6 +261,8 @@ class LiveCall:
         facts = {"seconds": seconds, "processor_seconds": processor, **self.tally.facts()}
         self._recorder.finish(facts)
         self._network.close()
+        if self._server:
+            self._server.close()
         for line in counts(self.tally, bool(self._asked.camera), bool(self._asked.screen)):
             self.say(line)
         if self._recorder.fault and not self.fault:

@@ -59,6 +59,11 @@ class Reception:
         self._jitter.packet(header.timestamp, int(now * CLOCK))
 
     @property
+    def jitter(self) -> float:
+        """In seconds."""
+        return self._jitter.ticks / CLOCK
+
+    @property
     def expected(self) -> int:
         """How many there should be by now, by their numbers."""
         return self._highest - self._first + 1

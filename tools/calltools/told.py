@@ -51,12 +51,13 @@ class Told:
 class Heard:
     """What is known of the network: the round trip in seconds and the share that is lost of what
     goes out, by the other party's reports; how many packets of what comes in there should be, and
-    how many there are."""
+    how many there are; and its jitter in seconds."""
 
     round_trip: Optional[float] = None
     loss: Optional[float] = None
     expected: int = 0
     came: int = 0
+    jitter: Optional[float] = None
 
 
 class TerminalStatus:
