@@ -6,6 +6,8 @@ use Rattle.stream_choice.specs.declared.trial.Trial.{Trial}
 use Rattle.stream_choice.specs.declared.streams.Streams.{Streams}
 use Rattle.stream_choice.specs.declared.streams.Run.{Run}
 use Rattle.stream_choice.specs.declared.streams.Run.TheVariants as runs
+use Rattle.stream_choice.specs.declared.streams.Turn.{Turn}
+use Rattle.stream_choice.specs.declared.streams.Turn.TheVariants as turns
 use Rattle.stream_choice.specs.declared.streams.Taker.{Taker}
 use Rattle.stream_choice.specs.declared.streams.Taker.TheVariants as takers
 
@@ -119,3 +121,35 @@ after_complete st runs.Followed now =
     record { followed = option_map (counted now) st.followed; former = st.former; tried = st.tried }
 after_complete st runs.Former now = with_former st st.former now
 after_complete st runs.Tried now = with_tried st st.tried now
+
+-- ---- runs
+
+-- the one that was followed keeps its run, and the former one doesn't
+abbrev pub is_kept : Option Stream → Option Stream → Bool
+is_kept former None = false
+is_kept None (Some f) = true
+is_kept (Some g) (Some f) = nat_lt g.pictures f.pictures
+
+abbrev pub former_turn : Streams → Option Stream → ℕ → Turn
+former_turn st None now = turns.Stays
+former_turn st (Some g) now =
+    if overtakes st.followed (counted now g) now then turns.ToFormer else turns.Stays
+
+abbrev pub tried_turn : Streams → Option Trial → ℕ → Turn
+tried_turn st None now = turns.Stays
+tried_turn st (Some t) now =
+    if is_live_one st.followed now then turns.Stays
+    else if is_kept st.former st.followed then turns.ToTried
+    else turns.ToTriedBeside
+
+-- What becomes of the runs where a picture is complete: each goes with its stream.
+abbrev pub turn_of : Streams → Run → ℕ → Turn
+turn_of st runs.Followed now = turns.Stays
+turn_of st runs.Former now = former_turn st st.former now
+turn_of st runs.Tried now = tried_turn st st.tried now
+
+-- the SSRC of the stream of a run, if it has one
+abbrev pub source_in : Streams → Run → Option ℕ
+source_in st runs.Followed = option_map (λ s. s.source) st.followed
+source_in st runs.Former = option_map (λ s. s.source) st.former
+source_in st runs.Tried = option_map (λ t. t.source) st.tried

@@ -21,4 +21,4 @@ mod streams;
 mod trial;
 
 pub use budget::Budget;
-pub use streams::{Run, Streams, Taker};
+pub use streams::{Run, Streams, Taker, Turn};

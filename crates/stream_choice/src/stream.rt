@@ -1,6 +1,7 @@
 //! A stream that is, or was, followed.
 ghost use Rattle.std.specs.Prelude.{◌≡◌};
-ghost use Rattle.stream_choice.specs.Choice.{counted, is_live, is_live_one, is_of, kept, overtakes};
+ghost use Rattle.std.specs.Option.{option_map};
+ghost use Rattle.stream_choice.specs.Choice.{counted, is_kept, is_live, is_live_one, is_of, kept, overtakes};
 
 // A stream is live for half a second after each complete picture.
 const LIVE: u64 = 500_000_000;
@@ -86,5 +87,28 @@ pub fn kept(former: Option<Stream>, followed: Option<Stream>) -> Option<Stream>
                 }
             }
         },
+    }
+}
+
+/// Whether the one that was followed keeps its run, and the former one doesn't.
+pub fn is_kept(former: Option<Stream>, followed: Option<Stream>) -> bool
+    ensures { result ≡ is_kept former followed }
+{
+    match followed {
+        None => false,
+        Some(stream) => match former {
+            None => true,
+            Some(other) => other.pictures < stream.pictures,
+        },
+    }
+}
+
+/// The SSRC of a stream, if there is one.
+pub fn source_of(stream: Option<Stream>) -> Option<u32>
+    ensures { result ≡ option_map (λ s. s.source) stream }
+{
+    match stream {
+        Some(stream) => Some(stream.source),
+        None => None,
     }
 }

@@ -1,8 +1,9 @@
 //! Which stream is followed.
 ghost use Rattle.std.specs.Prelude.{◌≡◌, None};
 ghost use Rattle.std.specs.Option.{option_map};
-ghost use Rattle.stream_choice.specs.Choice.{after_complete, after_packet, taker_of};
-ghost use Rattle.stream_choice.specs.Choice.{tried_after, with_former, with_tried};
+ghost use Rattle.stream_choice.specs.Choice.{after_complete, after_packet, is_live_one, source_in};
+ghost use Rattle.stream_choice.specs.Choice.{former_turn, taker_of, tried_after, tried_turn, turn_of};
+ghost use Rattle.stream_choice.specs.Choice.{with_former, with_tried};
 
 use crate::stream::{self, Stream};
 use crate::trial::{self, Trial};
@@ -28,6 +29,19 @@ pub enum Taker {
     Begins,
     /// None: the packet is dropped.
     NoRun,
+}
+
+/// What becomes of the runs where a picture is complete.
+#[derive(Clone, Copy, Debug, PartialEq, Eq)]
+pub enum Turn {
+    /// Each stays what it is.
+    Stays,
+    /// The former one is followed, and the one that was followed is the former one.
+    ToFormer,
+    /// The tried one is followed, and the one that was followed is the former one.
+    ToTried,
+    /// The tried one is followed, and the former one stays.
+    ToTriedBeside,
 }
 
 /// The streams that have a run. Times are nanoseconds of one clock.
@@ -84,15 +98,59 @@ impl Streams {
         Taker::NoRun
     }
 
-    /// A picture of this run is complete.
-    pub fn completed(&mut self, run: Run, now: u64)
-        ensures { self.new ≡ after_complete self.old run now }
+    /// A picture of this run is complete: what becomes of the runs.
+    pub fn completed(&mut self, run: Run, now: u64) -> Turn
+        ensures turn { result ≡ turn_of self.old run now }
+        ensures after { self.new ≡ after_complete self.old run now }
     {
+        let turn = self.turn(run, now);
         *self = match run {
             Run::Followed => self.with_followed(now),
             Run::Former => self.with_former(self.former, now),
             Run::Tried => self.with_tried(self.tried, now),
         };
+        turn
+    }
+
+    // What becomes of the runs where a picture of this one is complete.
+    fn turn(&self, run: Run, now: u64) -> Turn
+        ensures { result ≡ turn_of self.now run now }
+    {
+        match run {
+            Run::Followed => Turn::Stays,
+            Run::Former => self.former_turn(self.former, now),
+            Run::Tried => self.tried_turn(self.tried, now),
+        }
+    }
+
+    fn former_turn(&self, former: Option<Stream>, now: u64) -> Turn
+        ensures { result ≡ former_turn self.now former now }
+    {
+        let Some(stream) = former else {
+            return Turn::Stays;
+        };
+        let counted = stream.counted(now);
+        if stream::overtakes(&counted, self.followed, now) {
+            Turn::ToFormer
+        } else {
+            Turn::Stays
+        }
+    }
+
+    fn tried_turn(&self, tried: Option<Trial>, now: u64) -> Turn
+        ensures { result ≡ tried_turn self.now tried now }
+    {
+        let Some(_) = tried else {
+            return Turn::Stays;
+        };
+        if self.is_live(now) {
+            return Turn::Stays;
+        }
+        if stream::is_kept(self.former, self.followed) {
+            Turn::ToTried
+        } else {
+            Turn::ToTriedBeside
+        }
     }
 
     fn with_followed(&self, now: u64) -> Streams
@@ -153,6 +211,24 @@ impl Streams {
             }),
             former: stream::kept(self.former, self.followed),
             tried: None,
+        }
+    }
+
+    /// Whether a picture of the stream that is followed was complete in the last half second.
+    pub fn is_live(&self, now: u64) -> bool
+        ensures { result ≡ is_live_one self.now.followed now }
+    {
+        stream::is_live(self.followed, now)
+    }
+
+    /// The SSRC of the stream of this run, if it has one.
+    pub fn source(&self, run: Run) -> Option<u32>
+        ensures { result ≡ source_in self.now run }
+    {
+        match run {
+            Run::Followed => stream::source_of(self.followed),
+            Run::Former => stream::source_of(self.former),
+            Run::Tried => trial::source_of(self.tried),
         }
     }
 

@@ -1,5 +1,6 @@
 //! A stream that is tried.
 ghost use Rattle.std.specs.Prelude.{◌≡◌, ◌+◌, ◌<◌, ◌^◌};
+ghost use Rattle.std.specs.Option.{option_map};
 ghost use Rattle.stream_choice.specs.Choice.{is_over, is_tried, may_begin, touched};
 
 // A trial has a second for its first complete picture, as long as its packets are no further apart
@@ -74,6 +75,16 @@ pub fn touched(tried: Option<Trial>, now: u64) -> Option<Trial>
             began: trial.began,
             last: now,
         }),
+        None => None,
+    }
+}
+
+/// The SSRC of the stream that is tried, if there is one.
+pub fn source_of(tried: Option<Trial>) -> Option<u32>
+    ensures { result ≡ option_map (λ t. t.source) tried }
+{
+    match tried {
+        Some(trial) => Some(trial.source),
         None => None,
     }
 }
