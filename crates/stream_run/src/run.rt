@@ -59,6 +59,7 @@ impl StreamRun {
         ensures params { IfOk result (λ r. r.timed.receiver.params ≡ params.now) }
         ensures next { IfOk result (λ r. r.timed.times.next ≡ 0) }
         ensures last { IfOk result (λ r. r.timed.times.last ≡ 0) }
+        ensures wait { IfOk result (λ r. r.timed.times.wait ≡ wait) }
         ensures stands { IfOk result (λ r. RunStands r 0 []) }
     {
         let timed = TimedReceiver::start_at(alloc, params, 0, wait)?;
@@ -79,7 +80,9 @@ impl StreamRun {
         ensures run { IsRun self.new }
         ensures rate { self.new.numbers.rate ≡ rate }
         ensures params { self.new.timed.receiver.params ≡ self.old.timed.receiver.params }
+        ensures next { self.new.timed.times.next ≡ reference - 2 }
         ensures last { self.new.timed.times.last ≡ 0 }
+        ensures wait { self.new.timed.times.wait ≡ wait }
         ensures stands { RunStands self.new (reference - 2) [] }
     {
         self.numbers = Numbers::start(rate);
@@ -97,6 +100,7 @@ impl StreamRun {
         ensures params { self.new.timed.receiver.params ≡ self.old.timed.receiver.params }
         ensures next { self.new.timed.times.next ≡ self.old.timed.times.next }
         ensures last { self.new.timed.times.last ≤ now }
+        ensures wait { self.new.timed.times.wait ≡ self.old.timed.times.wait }
         ensures answer { (first : ℕ) (past : List Entry) → RunStands self.old first past
             → IsArrived self.old.timed.receiver.params first self.old.lead
             (timed_of self.old.numbers.rate first self.old.lead past)
@@ -136,6 +140,10 @@ impl StreamRun {
         ensures params { self.new.timed.receiver.params ≡ self.old.timed.receiver.params }
         ensures next { self.new.timed.times.next ≡ self.old.timed.times.next + 1 }
         ensures last { self.new.timed.times.last ≡ self.old.timed.times.last }
+        ensures wait { self.new.timed.times.wait ≡ self.old.timed.times.wait }
+        ensures number { (first : ℕ) (past : List Entry) → RunStands self.old first past
+            → result.number ≡ next_after first
+            (timed_of self.old.numbers.rate first self.old.lead past) }
         ensures told { (first : ℕ) (past : List Entry) → RunStands self.old first past
             → let entries = entries_of first (timed_of self.old.numbers.rate first self.old.lead past) in
             IsPlayed self.old.timed.receiver.params.clock result
@@ -160,7 +168,9 @@ impl StreamRun {
 
     /// The number of the next picture.
     pub fn next(&self) -> u32
-        ensures { result ≡ self.now.timed.times.next }
+        ensures count { result ≡ self.now.timed.times.next }
+        ensures run { (first : ℕ) (past : List Entry) → RunStands self.now first past
+            → result ≡ next_after first (timed_of self.now.numbers.rate first self.now.lead past) }
     {
         self.timed.next()
     }
