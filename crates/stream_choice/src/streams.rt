@@ -98,22 +98,19 @@ impl Streams {
         Taker::NoRun
     }
 
-    /// A picture of this run is complete: what becomes of the runs.
-    pub fn completed(&mut self, run: Run, now: u64) -> Turn
-        ensures turn { result ≡ turn_of self.old run now }
-        ensures after { self.new ≡ after_complete self.old run now }
+    /// A picture of this run is complete.
+    pub fn completed(&mut self, run: Run, now: u64)
+        ensures { self.new ≡ after_complete self.old run now }
     {
-        let turn = self.turn(run, now);
         *self = match run {
             Run::Followed => self.with_followed(now),
             Run::Former => self.with_former(self.former, now),
             Run::Tried => self.with_tried(self.tried, now),
         };
-        turn
     }
 
-    // What becomes of the runs where a picture of this one is complete.
-    fn turn(&self, run: Run, now: u64) -> Turn
+    /// What becomes of the runs once a picture of this one is complete.
+    pub fn turn(&self, run: Run, now: u64) -> Turn
         ensures { result ≡ turn_of self.now run now }
     {
         match run {
