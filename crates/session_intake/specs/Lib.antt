@@ -1,0 +1,4 @@
+pub mod Settings
+pub mod Datagrams
+pub mod Asked
+pub mod Counts
