@@ -31,6 +31,7 @@ fn from_digits(alloc: Global, digits: &str) -> Result<Vec<u8>, Stop> {
 }
 
 impl Pieces {
+    /// No pieces.
     pub fn new(alloc: Global) -> Pieces {
         Pieces {
             list: Vec::new(alloc),

@@ -36,6 +36,7 @@ impl<'a> Asked<'a> {
         Ok(number)
     }
 
+    /// A picture clock by its name.
     pub fn clock(&mut self) -> Result<Clock, Stop> {
         match self.word()? {
             "standard" => Ok(Clock::Standard),
@@ -46,6 +47,7 @@ impl<'a> Asked<'a> {
 }
 
 impl Answer {
+    /// An answer that says nothing so far.
     pub fn new(alloc: Global) -> Answer {
         Answer {
             words: String::new(alloc),

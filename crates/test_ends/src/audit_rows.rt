@@ -310,6 +310,7 @@ fn line(asked: &mut Asked<'_>, answer: &mut Answer) -> Result<(), Stop> {
     answer.say_line(verdict_text(&verdict).text())
 }
 
+/// Answers a row of `audit.rows`: does the call of this name by the words after it.
 pub fn answer(
     alloc: Global,
     call: &str,

@@ -42,6 +42,7 @@ fn many_messages(alloc: Global) -> Result<[bool; 5], OutOfMemory> {
     Ok([left, oldest, newest, unsaid, ring.said() == 1026])
 }
 
+/// Answers a row of `call_rings.rows`: does the call of this name by the words after it.
 pub fn answer(alloc: Global, call: &str, answer: &mut Answer) -> Result<(), Stop> {
     match call {
         "three_pictures" => answer.say(&three_pictures(alloc)?.as_slice()),

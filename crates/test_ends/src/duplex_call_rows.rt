@@ -41,6 +41,7 @@ fn carrier(asked: &mut Asked<'_>, answer: &mut Answer) -> Result<(), Stop> {
     Ok(())
 }
 
+/// A party by its letter.
 pub fn party_of(word: &str) -> Result<Party, Stop> {
     match word {
         "a" => Ok(Party::A),
@@ -94,6 +95,7 @@ fn count_all(asked: &mut Asked<'_>, answer: &mut Answer) -> Result<(), Stop> {
     Ok(())
 }
 
+/// Answers a row of `duplex_call.rows`: does the call of this name by the words after it.
 pub fn answer(
     alloc: Global,
     call: &str,

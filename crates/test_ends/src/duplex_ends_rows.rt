@@ -227,6 +227,7 @@ fn acknowledged(alloc: Global, answer: &mut Answer) -> Result<(), Stop> {
     said
 }
 
+/// Answers a row of `duplex_ends.rows`: does the call of this name by the words after it.
 pub fn answer(
     alloc: Global,
     call: &str,

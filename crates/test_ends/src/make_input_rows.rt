@@ -48,6 +48,7 @@ fn byte(
     answer.say(&bytes.get(place).copied())
 }
 
+/// Answers a row of `make_input.rows`: does the call of this name by the words after it.
 pub fn answer(
     alloc: Global,
     call: &str,

@@ -60,6 +60,7 @@ fn totals(asked: &mut Asked<'_>, answer: &mut Answer) -> Result<(), Stop> {
     answer.say_line(totals_text(&totals).text())
 }
 
+/// Answers a row of `rate_control.rows`: does the call of this name by the words after it.
 pub fn answer(call: &str, asked: &mut Asked<'_>, answer: &mut Answer) -> Result<(), Stop> {
     match call {
         "quant" => {

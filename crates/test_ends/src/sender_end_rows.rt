@@ -39,6 +39,7 @@ fn two_flat<P: Pace>(alloc: Global, pace: P, answer: &mut Answer) -> Result<(), 
     answer.say(&(before, sample))
 }
 
+/// Answers a row of `sender_end.rows`: does the call of this name by the words after it.
 pub fn answer(
     alloc: Global,
     call: &str,

@@ -17,6 +17,7 @@ pub enum Stop {
 }
 
 impl Stop {
+    /// The reason in words.
     pub fn text(self) -> &'static str {
         match self {
             Stop::OutOfMemory => "no memory",

@@ -13,6 +13,7 @@ use picture_header::Header;
 /// The bytes of a sub-QCIF picture: 128 x 96 of Y, 64 x 48 of Cb, 64 x 48 of Cr.
 pub const SIZE: usize = 18_432;
 
+/// The parameters of a sub-QCIF call where nothing else is asked for.
 pub const PARAMS: Params = Params {
     format: Format::SubQcif,
     quant: 8,
@@ -25,6 +26,7 @@ pub const PARAMS: Params = Params {
     clock: Clock::Standard,
 };
 
+/// The same of CIF.
 pub const PARAMS_OF_CIF: Params = Params {
     format: Format::Cif,
     ..PARAMS
@@ -52,11 +54,13 @@ pub const INTER: Header = Header {
     ..INTRA
 };
 
+/// Picture 0 of CIF, an I picture.
 pub const INTRA_OF_CIF: Header = Header {
     format: Format::Cif,
     ..INTRA
 };
 
+/// Picture 1 of CIF, which refers to picture 0.
 pub const INTER_OF_CIF: Header = Header {
     format: Format::Cif,
     ..INTER

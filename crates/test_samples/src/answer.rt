@@ -72,6 +72,7 @@ impl<'a> Asked<'a> {
 }
 
 impl Answer {
+    /// An answer that says nothing so far.
     pub fn new(alloc: Global) -> Answer {
         Answer {
             words: String::new(alloc),

@@ -36,6 +36,7 @@ fn set_row(answer: &mut Answer) -> Result<(), Stop> {
     answer.say(&&bytes[15_356..15_361])
 }
 
+/// Answers a row of `h263_planes.rows`: does the call of this name by the words after it.
 pub fn answer(call: &str, asked: &mut Asked<'_>, answer: &mut Answer) -> Result<(), Stop> {
     match call {
         "set" => set(asked, answer),

@@ -37,6 +37,7 @@ fn colour_samples(bytes: &[u8; SIZE], cr: bool, mb: u32, vector: Vector, roundin
     out
 }
 
+/// Answers a row of `half_sample.rows`: does the call of this name by the words after it.
 pub fn answer(call: &str, asked: &mut Asked<'_>, answer: &mut Answer) -> Result<(), Stop> {
     let bytes = picture(asked)?;
     let mb = asked.number(47)?;

@@ -69,6 +69,7 @@ fn transforms(kind: usize) -> (u32, u32, u32) {
     (a, b, c)
 }
 
+/// Answers a row of `idct8.rows`: does the call of this name by the words after it.
 pub fn answer(call: &str, asked: &mut Asked<'_>, answer: &mut Answer) -> Result<(), Stop> {
     let kind = asked.place(69)?;
     match call {

@@ -85,6 +85,7 @@ fn say_intra(mb: &Mb, answer: &mut Answer) -> Result<(), Stop> {
     Ok(())
 }
 
+/// Answers a row of `mode_choice.rows`: does the call of this name by the words after it.
 pub fn answer(call: &str, asked: &mut Asked<'_>, answer: &mut Answer) -> Result<(), Stop> {
     let frame = picture(asked)?;
     match call {

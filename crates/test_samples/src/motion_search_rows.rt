@@ -32,6 +32,7 @@ fn found(
 }
 
 // Says the vector and the cost; both searches' if the guess changes anything.
+/// Answers a row of `motion_search.rows`: does the call of this name by the words after it.
 pub fn answer(call: &str, asked: &mut Asked<'_>, answer: &mut Answer) -> Result<(), Stop> {
     if call != "search" {
         return Err(Stop::Row);

@@ -166,6 +166,7 @@ fn coded(
     Ok(())
 }
 
+/// Answers a row of `picture_coder.rows`: does the call of this name by the words after it.
 pub fn answer(
     alloc: Global,
     call: &str,

@@ -176,6 +176,7 @@ fn say_predicted(asked: &mut Asked<'_>, answer: &mut Answer) -> Result<(), Stop>
     answer.say(&sum(&bytes).wrapping_sub(128 * (18_432 - 384)))
 }
 
+/// Answers a row of `picture_recon.rows`: does the call of this name by the words after it.
 pub fn answer(call: &str, asked: &mut Asked<'_>, answer: &mut Answer) -> Result<(), Stop> {
     match call {
         "intra" => answer.say_sample(&intra(), asked),

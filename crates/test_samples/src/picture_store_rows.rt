@@ -56,6 +56,7 @@ fn lends(alloc: Global) -> Result<(u8, u8), OutOfMemory> {
     Ok((second, other))
 }
 
+/// Answers a row of `picture_store.rows`: does the call of this name by the words after it.
 pub fn answer(alloc: Global, call: &str, answer: &mut Answer) -> Result<(), Stop> {
     match call {
         "keeps" => answer.say(&keeps(alloc)?),

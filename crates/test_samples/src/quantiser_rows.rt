@@ -38,6 +38,7 @@ fn levels_of(quant: u8, coefficient: i32, answer: &mut Answer) -> Result<(), Sto
     answer.say(&level_intra(quant, coefficient))
 }
 
+/// Answers a row of `quantiser.rows`: does the call of this name by the words after it.
 pub fn answer(call: &str, asked: &mut Asked<'_>, answer: &mut Answer) -> Result<(), Stop> {
     match call {
         "value" => {

@@ -35,6 +35,7 @@ fn four(asked: &mut Asked<'_>, answer: &mut Answer) -> Result<(), Stop> {
     answer.say(&sad_of_four((&a, &b), (&c, &d), (&e, &f), (&g, &h)))
 }
 
+/// Answers a row of `sad_kernel.rows`: does the call of this name by the words after it.
 pub fn answer(call: &str, asked: &mut Asked<'_>, answer: &mut Answer) -> Result<(), Stop> {
     match call {
         "sums" => {

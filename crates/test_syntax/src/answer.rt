@@ -41,6 +41,7 @@ impl<'a> Asked<'a> {
         Ok(number)
     }
 
+    /// A picture clock by its name.
     pub fn clock(&mut self) -> Result<Clock, Stop> {
         match self.word()? {
             "standard" => Ok(Clock::Standard),
@@ -49,6 +50,7 @@ impl<'a> Asked<'a> {
         }
     }
 
+    /// A format by its name.
     pub fn format(&mut self) -> Result<Format, Stop> {
         match self.word()? {
             "sub-qcif" => Ok(Format::SubQcif),
@@ -67,6 +69,7 @@ pub fn reader_of(bytes: &[u8], from: u32, len: u32) -> BitReader<'_> {
 }
 
 impl Answer {
+    /// An answer that says nothing so far.
     pub fn new(alloc: Global) -> Answer {
         Answer {
             words: String::new(alloc),

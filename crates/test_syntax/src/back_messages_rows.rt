@@ -32,6 +32,7 @@ fn in_header(clock: Clock, bytes: &[u8], answer: &mut Answer) -> Result<(), Stop
     answer.say(&reader.at())
 }
 
+/// Answers a row of `back_messages.rows`: does the call of this name by the words after it.
 pub fn answer(call: &str, asked: &mut Asked<'_>, answer: &mut Answer) -> Result<(), Stop> {
     let clock = asked.clock()?;
     match call {

@@ -17,12 +17,14 @@ pub struct Names {
 }
 
 impl Names {
+    /// No names.
     pub fn new(alloc: Global) -> Names {
         Names {
             rows: Vec::new(alloc),
         }
     }
 
+    /// Names these bits.
     pub fn push(&mut self, name: String, bits: Bits) -> Result<(), AllocError> {
         self.rows.push((name, bits))?;
         Ok(())
@@ -39,6 +41,7 @@ impl Names {
 }
 
 impl Bits {
+    /// No bits.
     pub fn new(alloc: Global) -> Bits {
         Bits {
             bits: Vec::new(alloc),

@@ -68,6 +68,7 @@ fn block(intra: bool, coded: bool, asked: &Asked<'_>, answer: &mut Answer) -> Re
     }
 }
 
+/// Answers a row of `block_layer.rows`: does the call of this name by the words after it.
 pub fn answer(call: &str, asked: &mut Asked<'_>, answer: &mut Answer) -> Result<(), Stop> {
     match call {
         "intra" => block(true, true, asked, answer),

@@ -71,6 +71,7 @@ fn read_words(asked: &mut Asked<'_>, answer: &mut Answer) -> Result<(), Stop> {
     Ok(())
 }
 
+/// Answers a row of `code_tables.rows`: does the call of this name by the words after it.
 pub fn answer(call: &str, asked: &mut Asked<'_>, answer: &mut Answer) -> Result<(), Stop> {
     match call {
         "read" => read_words(asked, answer),

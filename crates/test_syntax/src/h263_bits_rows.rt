@@ -40,6 +40,7 @@ fn written(bytes: &mut [u8; 6]) -> u32 {
     writer.len()
 }
 
+/// Answers a row of `h263_bits.rows`: does the call of this name by the words after it.
 pub fn answer(call: &str, asked: &mut Asked<'_>, answer: &mut Answer) -> Result<(), Stop> {
     match call {
         "bits_at" => {

@@ -28,6 +28,7 @@ fn written_later() -> [u8; 11] {
     bytes
 }
 
+/// Answers a row of `h263_payload.rows`: does the call of this name by the words after it.
 pub fn answer(call: &str, asked: &mut Asked<'_>, answer: &mut Answer) -> Result<(), Stop> {
     match call {
         "read" => {

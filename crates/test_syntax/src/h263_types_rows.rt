@@ -52,6 +52,7 @@ fn marks(asked: &mut Asked<'_>, answer: &mut Answer) -> Result<(), Stop> {
     answer.say(&Block { levels }.marks())
 }
 
+/// Answers a row of `h263_types.rows`: does the call of this name by the words after it.
 pub fn answer(call: &str, asked: &mut Asked<'_>, answer: &mut Answer) -> Result<(), Stop> {
     match call {
         "format" => format(asked.format()?, answer),

@@ -102,6 +102,7 @@ fn predicted(first: u32, mb: u32) -> Vector {
     Vector::ZERO
 }
 
+/// Answers a row of `macroblock_layer.rows`: does the call of this name by the words after it.
 pub fn answer(call: &str, asked: &mut Asked<'_>, answer: &mut Answer) -> Result<(), Stop> {
     let near = Reach { left: 0, ..FAR };
     match call {

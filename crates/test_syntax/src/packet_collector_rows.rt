@@ -149,6 +149,7 @@ fn collect(
     Err(Stop::Row)
 }
 
+/// Answers a row of `packet_collector.rows`: does the call of this name by the words after it.
 pub fn answer(
     alloc: Global,
     call: &str,

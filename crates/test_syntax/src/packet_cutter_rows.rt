@@ -104,6 +104,7 @@ fn cut(
     Ok(())
 }
 
+/// Answers a row of `packet_cutter.rows`: does the call of this name by the words after it.
 pub fn answer(
     alloc: Global,
     call: &str,

@@ -4,6 +4,7 @@ use crate::packet_collector_rows::packet;
 use crate::stop::Stop;
 use packet_start::{find_start, read_start};
 
+/// Answers a row of `packet_start.rows`: does the call of this name by the words after it.
 pub fn answer(call: &str, asked: &mut Asked<'_>, answer: &mut Answer) -> Result<(), Stop> {
     match call {
         "find_start" => answer.say(&find_start(&asked.bytes)),

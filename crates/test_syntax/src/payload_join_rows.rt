@@ -47,6 +47,7 @@ fn take_all(
     Ok(())
 }
 
+/// Answers a row of `payload_join.rows`: does the call of this name by the words after it.
 pub fn answer(
     alloc: Global,
     call: &str,

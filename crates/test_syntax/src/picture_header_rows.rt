@@ -71,6 +71,7 @@ fn same(asked: &mut Asked<'_>, answer: &mut Answer) -> Result<(), Stop> {
     answer.say(&one.is_same(&other))
 }
 
+/// Answers a row of `picture_header.rows`: does the call of this name by the words after it.
 pub fn answer(call: &str, asked: &mut Asked<'_>, answer: &mut Answer) -> Result<(), Stop> {
     match call {
         "read" => {

@@ -3,6 +3,7 @@ use crate::answer::{Answer, Asked};
 use crate::stop::Stop;
 use rtp_header::{read, write};
 
+/// Answers a row of `rtp_header.rows`: does the call of this name by the words after it.
 pub fn answer(call: &str, asked: &mut Asked<'_>, answer: &mut Answer) -> Result<(), Stop> {
     match call {
         "read" => answer.say(&read(&asked.bytes)),

@@ -71,6 +71,7 @@ fn picture(asked: &Asked<'_>, answer: &mut Answer) -> Result<(), Stop> {
     Ok(())
 }
 
+/// Answers a row of `slice_layer.rows`: does the call of this name by the words after it.
 pub fn answer(call: &str, asked: &mut Asked<'_>, answer: &mut Answer) -> Result<(), Stop> {
     if call == "picture" {
         return picture(asked, answer);

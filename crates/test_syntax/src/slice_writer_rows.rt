@@ -164,6 +164,7 @@ fn write(
     Ok(())
 }
 
+/// Answers a row of `slice_writer.rows`: does the call of this name by the words after it.
 pub fn answer(call: &str, asked: &mut Asked<'_>, answer: &mut Answer) -> Result<(), Stop> {
     if call != "write" {
         return Err(Stop::Row);
