@@ -1,10 +1,11 @@
 -- What the step of whole samples knows on its way.
-use Rattle.std.specs.Prelude.{◌≡◌, ℕ, ◌+◌, ◌<◌, ◌≤◌, false}
+use Rattle.std.specs.Prelude.{◌≡◌, ℕ, ◌+◌, ◌<◌, ◌≤◌, pos, ◌≤ℤ◌, false, replicate}
 use Rattle.h263_types.specs.Sizes.{height_of}
 use Rattle.h263_types.specs.Vectors.{InReach}
 use Rattle.h263_planes.specs.Lent.{picture}
 use Rattle.motion_search.specs.declared.candidate.Candidate.{Candidate}
 use Rattle.motion_search.specs.declared.kept.KeptSums.{KeptSums}
+use Rattle.motion_search.specs.declared.strip.Leader.{Leader}
 use Rattle.motion_search.specs.declared.window.Window.{Window}
 use Rattle.motion_search.specs.Order.{before}
 use Rattle.motion_search.specs.Cost.{candidate_of, IsCost}
@@ -33,3 +34,7 @@ abbrev pub HoldsAround : Window → KeptSums → Type 0
 HoldsAround w s =
     (y : ℕ) → w.top ≤ y + w.radius → y ≤ w.top + w.radius → y + 16 ≤ height_of (picture w.reference).format
     → (s.first ≤ y) × (y + 8 < s.end)
+
+-- the limit is no less than what the best one costs, and the same in all lanes
+abbrev pub HasLimit : Leader → Type 0
+HasLimit l = (l.best.cost ≤ℤ pos l.most) × (l.limit ≡ replicate 16 l.most)

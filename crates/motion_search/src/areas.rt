@@ -1,6 +1,6 @@
 //! Sums of samples over areas of 8 x 8, by which most vectors are ruled out: two blocks differ by
 //! at least as much as the sums of their quarters do.
-ghost use Rattle.std.specs.Prelude.{◌≡◌, ℕ, ◌+◌, ◌%◌, ◌<◌, ◌≤◌, length, slice_index};
+ghost use Rattle.std.specs.Prelude.{◌≡◌, ℕ, ◌+◌, ◌%◌, ◌<◌, ◌≤◌, length, replicate, slice_index};
 ghost use Rattle.std.specs.Int.{abs_diff, bit_at};
 ghost use Rattle.motion_search.specs.Areas.{area_sum, AreBytes, AreColumns, AreQuarters, in_block, IsRow, sixteen};
 
@@ -138,15 +138,15 @@ fn sums_at(sums: &[u16], at: usize) -> u16x16
 }
 
 // Of sixteen blocks beside each other, of which is given how far the sums of their upper and of their
-// lower quarters are from those of a block, those for which that is `most` or less: bit i for the
-// one in column i.
+// lower quarters are from those of a block, those for which that is `limit` or less, the same in all
+// lanes: bit i for the one in column i.
 #[inline(always)]
-pub(crate) fn marks_of(upper: u16x16, lower: u16x16, most: u16) -> u64
-    ensures { (top bottom : ℕ → ℕ) → upper ≡ sixteen top → lower ≡ sixteen bottom
-        → ((i : ℕ) → top i + bottom i < 65536)
+pub(crate) fn marks_of(upper: u16x16, lower: u16x16, limit: u16x16) -> u64
+    ensures { (top bottom : ℕ → ℕ) (most : ℕ) → upper ≡ sixteen top → lower ≡ sixteen bottom
+        → limit ≡ replicate 16 most → ((i : ℕ) → top i + bottom i < 65536)
         → (i : ℕ) → i < 16 → bit_at result i ≡ 0 → most < top i + bottom i }
 {
-    (upper + lower).simd_le(u16x16::splat(most)).to_bitmask()
+    (upper + lower).simd_le(limit).to_bitmask()
 }
 
 // The sums of eight rows of a block from row `j` on, in its sixteen columns twice.

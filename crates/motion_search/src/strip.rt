@@ -1,13 +1,13 @@
 //! The vectors of whole samples by strips: sixteen columns of the square around zero, from its
 //! uppermost row down.
-ghost use Rattle.std.specs.Prelude.{◌≡◌, ℕ, ◌+◌, ◌*◌, ◌<◌, ◌≤◌, pos, ◌≤ℤ◌};
+ghost use Rattle.std.specs.Prelude.{◌≡◌, ℕ, ◌+◌, ◌*◌, ◌<◌, ◌≤◌, pos, ◌≤ℤ◌, replicate};
 ghost use Rattle.std.specs.Int.{bit_at};
 ghost use Rattle.h263_types.specs.Sizes.{width_of};
 ghost use Rattle.h263_planes.specs.Lent.{picture};
 ghost use Rattle.sad_kernel.specs.Differences.{differences};
 ghost use Rattle.motion_search.specs.Cost.{square, IsCost};
 ghost use Rattle.motion_search.specs.Vectors.{whole_component};
-ghost use Rattle.motion_search.specs.SoFar.{HoldsAround, IsNoBetter, IsKept, IsSoFar};
+ghost use Rattle.motion_search.specs.SoFar.{HasLimit, HoldsAround, IsNoBetter, IsKept, IsSoFar};
 ghost use Rattle.motion_search.specs.Areas.{AreQuarters, AreSumsOf, samples_from};
 
 use crate::areas::{Quarters, half_away, marks_of};
@@ -17,9 +17,45 @@ use crate::lent::better_whole;
 use crate::marks::{lowest, without};
 use crate::square::{across, down, end_in, first_in, place, whole_vector};
 use crate::window::Window;
+use std::simd::prelude::*;
+
+// The best one so far, and what the differences of a vector may be at most for it to be looked at:
+// as a number, and in each of sixteen lanes, by which vectors are ruled out.
+#[derive(Clone, Copy)]
+struct Leader {
+    best: Candidate,
+    most: u16,
+    limit: u16x16,
+}
+
+// A candidate as the best one so far.
+#[inline(always)]
+fn led_by(best: Candidate) -> Leader
+    requires cost { IsCost best.cost }
+    ensures best { result.best ≡ best }
+    ensures most { HasLimit result }
+{
+    let most = most(best);
+    Leader {
+        best,
+        most,
+        limit: u16x16::splat(most),
+    }
+}
+
+// What a candidate may cost to be looked at, at most: nothing costs less than 0 but the zero
+// vector.
+#[inline(always)]
+fn most(best: Candidate) -> u16
+    requires cost { IsCost best.cost }
+    ensures { best.cost ≤ℤ pos result }
+{
+    if best.cost < 0 { 0 } else { best.cost as u16 }
+}
 
 // Of the sixteen vectors that lead to columns `x` to `x + 15` of row `y`, those whose differences may
-// be `most` or less, by the sums of quarters: bit i for the one in column i.
+// be within the limit, which is the same in all lanes, by the sums of quarters: bit i for the one in
+// column i.
 #[inline(always)]
 fn marks_in_row(
     window: Window<'_>,
@@ -27,13 +63,13 @@ fn marks_in_row(
     sums: &KeptSums,
     x: u32,
     y: u32,
-    most: u16,
+    limit: u16x16,
 ) -> u64
     requires quarters { AreQuarters window.block.now quarters }
     requires sums { AreSumsOf (picture window.reference) sums.now }
     requires held { (sums.now.first ≤ y) × (y + 8 < sums.now.end) }
     requires across { x + 16 ≤ width_of (picture window.reference).format }
-    ensures { (i : ℕ) → i < 16 → bit_at result i ≡ 0
+    ensures { (most i : ℕ) → limit ≡ replicate 16 most → i < 16 → bit_at result i ≡ 0
         → x + i + 16 ≤ width_of (picture window.entry.reference).format
         → most < differences window.entry.block.now (square (λ k j. samples_from
         (picture window.entry.reference) x (i + k) (y + j))) }
@@ -47,7 +83,7 @@ fn marks_in_row(
         quarters.bottom_left,
         quarters.bottom_right,
     );
-    marks_of(upper, lower, most)
+    marks_of(upper, lower, limit)
 }
 
 // The first of the best one and the vector in a column and a row, where that is in the square and
@@ -110,17 +146,8 @@ fn best_of_marked(
     first
 }
 
-// What a candidate may cost to be looked at, at most: nothing costs less than 0 but the zero
-// vector.
-#[inline(always)]
-fn most(best: Candidate) -> u16
-    requires cost { IsCost best.cost }
-    ensures { best.cost ≤ℤ pos result }
-{
-    if best.cost < 0 { 0 } else { best.cost as u16 }
-}
-
-// The first of the best one and the vectors in sixteen columns of the square from `column` on.
+// The first of the best one and the vectors in sixteen columns of the square from `column` on. A row
+// without marks leaves the limit as it stands in its lanes.
 #[inline(always)]
 pub(crate) fn best_of_strip(
     window: Window<'_>,
@@ -144,11 +171,13 @@ pub(crate) fn best_of_strip(
     let x = place(window.left, column, window.radius);
     let down = down(window.reach);
     let first_row = first_in(window.radius, down);
-    let mut first = best;
+    let mut first = led_by(best);
     for row in first_row..end_in(window.radius, down) {
         let y = place(window.top, row, window.radius);
-        let marks = marks_in_row(window, quarters, sums, x, y, most(first));
-        first = best_of_marked(window, column, row, marks, first);
+        let marks = marks_in_row(window, quarters, sums, x, y, first.limit);
+        if marks != 0 {
+            first = led_by(best_of_marked(window, column, row, marks, first.best));
+        }
     }
-    first
+    first.best
 }

@@ -32,7 +32,7 @@ pub half_away-lower-requires-clause-small : goal.half_away-lower-requires-clause
 half_away-lower-requires-clause-small c = c.requires.sums.small
 
 pub returns : goal.returns
-returns c = λ i hi unmarked inside.
+returns c = λ most i limit hi unmarked inside.
     let w = c.args.window in
     let p = picture w.reference in
     let s = c.args.sums.now in
@@ -44,8 +44,8 @@ returns c = λ i hi unmarked inside.
     let small = λ (n u v : ℕ). block_area_small w.block.now n u v own.samples in
     let top = λ (k : ℕ). abs_diff (g (at + k)) q.top_left + abs_diff (g (at + 8 + k)) q.top_right in
     let bottom = λ (k : ℕ). abs_diff (g (at + 3072 + k)) q.bottom_left + abs_diff (g (at + 3072 + 8 + k)) q.bottom_right in
-    ruled_out_by_kept p s w.block.now q c.args.x c.args.y i at c.args.most are own c.requires.held.0 c.requires.held.1 inside refl
-    (c.marks_of.ensures top bottom c.half_away-upper.ensures c.half_away-lower.ensures
+    ruled_out_by_kept p s w.block.now q c.args.x c.args.y i at most are own c.requires.held.0 c.requires.held.1 inside refl
+    (c.marks_of.ensures top bottom most c.half_away-upper.ensures c.half_away-lower.ensures limit
     (λ k. omega (
       arith,
       half_small (g (at + k)) (g (at + 8 + k)) q.top_left q.top_right (are.small (at + k)) (are.small (at + 8 + k)) (small q.top_left 0 0 own.top_left) (small q.top_right 8 0 own.top_right),
