@@ -3,3 +3,4 @@ pub mod Samples
 pub mod Squares
 pub mod Shown
 pub mod Coded
+pub mod Undrawn

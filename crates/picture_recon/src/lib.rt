@@ -2,7 +2,9 @@
 //! from a reference (6.1, 6.3).
 //!
 //! [`recon_mb`] draws one macroblock into a picture that is lent, [`recon_predicted`] one whose
-//! prediction is at hand, [`recon_slice`] those of a slice.
+//! prediction is at hand, [`recon_slice`] those of a slice. [`put_undrawn`] leaves an intra
+//! macroblock's levels where its samples are to stand, and [`draw_undrawn`] draws such a picture
+//! when it is wanted.
 //!
 //! ```rust
 //! let mut out = PictureMut::new(Format::SubQcif, &mut bytes);
@@ -30,6 +32,8 @@ mod macroblocks;
 mod predicted;
 mod skipped;
 mod squares;
+mod undrawn;
 mod values;
 
 pub use macroblocks::{recon_mb, recon_predicted, recon_slice};
+pub use undrawn::{draw_undrawn, put_undrawn};

@@ -120,7 +120,7 @@ pub fn recon_predicted(
 }
 
 // Sets the samples of an intra macroblock.
-fn put_intra(
+pub(crate) fn put_intra(
     quant: u8,
     blocks: &[Block; 6],
     marks: &[u64; 6],
