@@ -2,6 +2,7 @@
 //! decoder will show it.
 //!
 //! [`code_picture`] does it, over a [`Cutter`](packet_cutter::Cutter) and a picture that are lent.
+//! [`code_undrawn`] leaves an I picture's levels in that picture, which is drawn when it is wanted.
 //!
 //! ```rust
 //! let mut cutter = Cutter::start(rt.alloc(), &PARAMS)?;
@@ -13,5 +14,7 @@
 #![tactic(auto)]
 
 mod coding;
+mod undrawn;
 
 pub use coding::code_picture;
+pub use undrawn::code_undrawn;
