@@ -8,7 +8,7 @@ use std::simd::prelude::*;
 
 /// The 64 levels of a block in zigzag order (H.263, 6.2.3), each from -127 to 127 (5.4.2). In a
 /// block of an intra macroblock place 0 is the INTRADC value, 1 to 254.
-#[derive(Clone, Copy, Debug, PartialEq, Eq)]
+#[derive(Clone, Copy, PartialEq, Eq)]
 pub struct Block {
     pub levels: [i16; 64],
 }
@@ -36,7 +36,7 @@ fn marks(levels: [i16; 64]) -> u64
 
 /// A macroblock: 16 x 16 samples of luma and 8 x 8 of each colour. Its six blocks are four of luma
 /// in reading order, Cb, Cr; `quant` is the quantiser in force in it, 1 to 31 (H.263, 5.3).
-#[derive(Clone, Copy, Debug, PartialEq, Eq)]
+#[derive(Clone, Copy, PartialEq, Eq)]
 pub enum Mb {
     /// The samples of the reference at the same place.
     Skip,

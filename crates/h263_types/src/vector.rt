@@ -15,7 +15,7 @@ impl Vector {
 
 /// The least and the greatest components, in half samples, for which each referenced sample lies in
 /// the picture.
-#[derive(Clone, Copy, Debug, PartialEq, Eq)]
+#[derive(Clone, Copy, Debug)]
 pub struct Reach {
     pub left: i8,
     pub right: i8,
