@@ -7,7 +7,7 @@ use crate::event_bits::{len_at, with_sign};
 use crate::tables::{MAGNITUDES, MAGNITUDES_FAST, MAGNITUDES_LONG};
 
 /// A difference that bits begin with, and how many of them are its own.
-#[derive(Clone, Copy, Debug)]
+#[derive(Clone, Copy)]
 pub struct SeenDifference {
     pub value: i8,
     pub len: u32,

@@ -37,7 +37,7 @@ pub fn escape_level(bits: u32) -> i8
 }
 
 /// An event that bits begin with, and how many of them are its own.
-#[derive(Clone, Copy, Debug)]
+#[derive(Clone, Copy)]
 pub struct SeenEvent {
     pub event: Coefficient,
     pub len: u32,

@@ -134,7 +134,7 @@ pub const LEVELS: [Level; 102] = levels! {
 
 /// The words of a LAST and a RUN, which stand one after another, for the sizes from 1 on: the place
 /// of the first, and how many they are.
-#[derive(Clone, Copy, Debug)]
+#[derive(Clone, Copy)]
 pub struct Row {
     pub first: u8,
     pub count: u8,

@@ -18,7 +18,7 @@ use h263_bits::{BitReader, BitWriter, Fault};
 use h263_types::Kind;
 
 /// The class of a macroblock that is coded.
-#[derive(Clone, Copy, Debug, PartialEq, Eq)]
+#[derive(Clone, Copy, Debug)]
 pub enum MbClass {
     Inter,
     InterQ,
@@ -29,7 +29,7 @@ pub enum MbClass {
 
 /// What a word of MCBPC stands for: stuffing, or a class and the pattern of the chrominance blocks,
 /// 0 to 3.
-#[derive(Clone, Copy, Debug, PartialEq, Eq)]
+#[derive(Clone, Copy, Debug)]
 pub enum Mcbpc {
     Stuffing,
     Word { class: MbClass, cbpc: u8 },

@@ -2,14 +2,14 @@
 use back_messages::Message;
 
 /// A message with the number of the picture that it is about.
-#[derive(Clone, Copy, Debug, PartialEq, Eq)]
+#[derive(Clone, Copy, Debug)]
 pub struct Carried {
     pub about: u32,
     pub message: Message,
 }
 
 /// The last four messages, at most, that were said since the load before.
-#[derive(Clone, Copy, Debug, PartialEq, Eq)]
+#[derive(Clone, Copy)]
 pub struct Carrier {
     waiting: [Option<Carried>; 4],
 }
