@@ -16,7 +16,7 @@ use reference_selector::{Selector, nearest_below};
 fn params_of(name: &str) -> Result<Params, Stop>
     ensures { IfOk result IsParams }
 {
-    let params = Params::of(Format::SubQcif);
+    let params = Params::of(Format::Qcif);
     match name {
         "window" => Ok(Params {
             slots: 4,

@@ -7,7 +7,7 @@ ghost use Rattle.packet_collector.specs.Collected.{IsInRow, IsRowFrom, first_of,
 use crate::answer::{Answer, Asked, reader_of};
 use crate::slice_layer_rows::UNTOUCHED;
 use crate::stop::Stop;
-use h263_types::{Format, Mb, OutOfMemory, SliceHead};
+use h263_types::{Format, Mb, Params, SliceHead};
 use packet_collector::{Collector, Piece, Place, read_packet};
 use picture_header::{Header, read_header};
 use std::alloc::Global;
@@ -149,6 +149,13 @@ fn collect(
     Err(Stop::Row)
 }
 
+// Says whether a new collector has anything of picture 0, and all of it.
+fn start(alloc: Global, format: Format, answer: &mut Answer) -> Result<(), Stop> {
+    let collector = Collector::start(alloc, &Params::of(format))?;
+    answer.say(&collector.any(0))?;
+    answer.say(&collector.whole(0))
+}
+
 /// Answers a row of `packet_collector.rows`: does the call of this name by the words after it.
 pub fn answer(
     alloc: Global,
@@ -158,6 +165,7 @@ pub fn answer(
 ) -> Result<(), Stop> {
     match call {
         "packet" => packet(&asked.bytes, answer),
+        "start" => start(alloc, asked.format()?, answer),
         "collect" => collect(alloc, INTRA_OF_CIF, asked, answer),
         "collect_header" => {
             let mut reader = reader_of(&asked.bytes, 0, asked.len);
