@@ -1,6 +1,7 @@
 #!/usr/bin/env python3
 """Figures of the page, which nothing checks: in a call with itself over a clean network, how long a picture takes from
-camera to screen, and how much of a processor the browser takes, in QCIF and CIF, with and without VP8 beside it.
+camera to screen, and how much of a processor the browser takes, and of it the page's worker (both ends, planes, canvases),
+in QCIF and CIF, with and without VP8 beside it, which the browser codes in threads of its own.
 
 Without a camera the page makes its picture, so that all there is to code is a moving picture with gradients."""
 
@@ -24,13 +25,16 @@ def children_of(process: int) -> list[int]:
     return found
 
 
-def spent(process: int) -> float:
-    """Seconds of a processor that they have taken."""
-    total = 0
+def spent(process: int) -> tuple[float, float]:
+    """Seconds of a processor that they have taken, and those of the page's worker."""
+    total = worker = 0
     for one in children_of(process):
-        fields = Path(f"/proc/{one}/stat").read_text().rpartition(")")[2].split()
-        total += int(fields[11]) + int(fields[12])
-    return total / TICK
+        for stat in Path(f"/proc/{one}/task").glob("*/stat"):
+            name, _, rest = stat.read_text().partition("(")[2].rpartition(")")
+            ticks = sum(map(int, rest.split()[11:13]))
+            total += ticks
+            worker += ticks if name.startswith("Dedicated") else 0
+    return total / TICK, worker / TICK
 
 
 def measured(size: str, is_beside: bool) -> str:
@@ -48,10 +52,11 @@ def measured(size: str, is_beside: bool) -> str:
         counted = lambda: int(re.findall(r"(\d+) pictures sent", page.text("figures"))[0])
         before, pictures, begin = spent(process), counted(), time.monotonic()
         time.sleep(SECONDS)
-        share = (spent(process) - before) / (time.monotonic() - begin)
-        rate = (counted() - pictures) / (time.monotonic() - begin)
+        took = time.monotonic() - begin
+        shares = [round(100 * (now - then) / took) for now, then in zip(spent(process), before)]
+        rate = (counted() - pictures) / took
         told = "VP8 beside" if is_beside else "alone"
-        return f"{size}, {told}: {100 * share:.0f} % of a processor at {rate:.1f} pictures a second; {page.text('figures')}"
+        return f"{size}, {told}: {shares[0]} % of a processor, the worker {shares[1]} %, at {rate:.1f} pictures a second; {page.text('figures')}"
 
 
 if __name__ == "__main__":

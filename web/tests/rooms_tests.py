@@ -403,18 +403,24 @@ class ServerTest(unittest.TestCase):
         self.assertEqual(len(found), 0)
 
     def test_any_words(self) -> None:
-        """100,000 texts of chance: each is read or refused, and nothing else happens."""
+        """100,000 texts, words of which a piece is changed: each is read or refused, and nothing else happens."""
         chance = random.Random(5)
-        parts = ['{', '}', '"is"', ':', '"enter"', ',', '"room"', '"name"', '"a"', '1', '[', ']', 'null', '\\ud800', '"sdp"', '"offer"', '"proof"', ' ']
+        true_ones = [json.dumps(words) for words in (
+            {"is": "enter", "room": "a", "name": "b"}, {"is": "offer", "sdp": "v=0", "proof": ""}, {"is": "leave"},
+            {"is": "candidate", "candidate": "candidate:1 1 udp 1 192.0.2.7 9 typ host", "mid": "0"},
+        )]
+        parts = ['{', '}', '"is"', ':', '"', ',', '1', '[', ']', 'null', '\\ud800', 'x', '', '\\', '1e999', '"name":"x",', '\0']
         read = 0
         for _ in range(100_000):
-            text = "".join(chance.choices(parts, k=chance.randint(0, 14)))
+            text = chance.choice(true_ones)
+            at = chance.randint(0, len(text))
+            text = text[:at] + chance.choice(parts) + text[at + chance.randint(0, 3) :]
             try:
                 logic.read_words(text)
                 read += 1
             except logic.Refused:
                 pass
-        print(f"{read} of 100,000 texts of chance were words")
+        print(f"{read} of 100,000 changed texts were words")
 
 
 if __name__ == "__main__":
