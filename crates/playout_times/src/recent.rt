@@ -6,7 +6,7 @@ ghost use Rattle.playout_times.specs.Kept.{RecentStands};
 
 /// The least ways of a quarter of a second, and of the two before. Where nothing came it is the
 /// greatest number.
-#[derive(Clone, Copy, Debug)]
+#[derive(Clone, Copy)]
 pub struct Recent {
     this: u64,
     before: u64,

@@ -6,7 +6,7 @@ ghost use Rattle.playout_times.specs.Kept.{RunsStand};
 
 /// The picture of the last run, and the least ways of that run and of the two before. Where there
 /// is none it is the greatest number.
-#[derive(Clone, Copy, Debug)]
+#[derive(Clone, Copy)]
 pub struct Runs {
     picture: u32,
     last: u64,

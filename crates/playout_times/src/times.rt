@@ -15,7 +15,7 @@ const QUARTER: u64 = 250_000_000;
 const ORIGIN: u64 = 1 << 62;
 
 /// When the next picture of a stream is due.
-#[derive(Clone, Copy, Debug)]
+#[derive(Clone, Copy)]
 pub struct Times {
     // The number of the next picture.
     next: u32,

@@ -8,7 +8,7 @@ const LIVE: u64 = 500_000_000;
 
 /// A stream that is, or was, followed: its SSRC, how many pictures of it were complete, and when
 /// the last one was.
-#[derive(Clone, Copy, Debug, PartialEq, Eq)]
+#[derive(Clone, Copy)]
 pub struct Stream {
     pub source: u32,
     pub pictures: u32,

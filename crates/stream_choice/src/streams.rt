@@ -45,7 +45,7 @@ pub enum Turn {
 }
 
 /// The streams that have a run. Times are nanoseconds of one clock.
-#[derive(Clone, Copy, Debug)]
+#[derive(Clone, Copy)]
 pub struct Streams {
     followed: Option<Stream>,
     former: Option<Stream>,

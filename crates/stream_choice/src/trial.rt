@@ -12,7 +12,7 @@ const QUIET: u64 = 500_000_000;
 const TURN: u64 = 500_000_000;
 
 /// A stream that is tried: its SSRC, when that began, and when a packet of it came last.
-#[derive(Clone, Copy, Debug, PartialEq, Eq)]
+#[derive(Clone, Copy)]
 pub struct Trial {
     pub source: u32,
     pub began: u64,
