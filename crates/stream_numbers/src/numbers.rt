@@ -8,7 +8,7 @@ use crate::rate::Rate;
 use crate::stepping::taken;
 
 /// The pictures of a stream, by its packets in any order.
-#[derive(Clone, Copy, Debug)]
+#[derive(Clone, Copy)]
 pub struct Numbers {
     rate: Rate,
     newest: Option<Newest>,

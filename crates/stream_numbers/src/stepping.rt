@@ -19,7 +19,7 @@ const PICTURES: u32 = 1 << 20;
 const TICKS: u64 = 1 << 46;
 
 /// The place of a packet, and the newest picture after it.
-#[derive(Clone, Copy, Debug)]
+#[derive(Clone, Copy)]
 pub struct Step {
     pub newest: Newest,
     pub place: Place,
