@@ -1,7 +1,7 @@
 //! What a packet says of its picture, and what that means.
 
 /// What a packet says of its picture.
-#[derive(Clone, Copy)]
+#[derive(Clone, Copy, Debug, PartialEq, Eq)]
 pub struct Packet {
     /// The temporal reference, below the period.
     pub reference: u32,
