@@ -9,14 +9,14 @@ use h263_bits::Fault;
 use rtp_header::laws as rtp_header_laws;
 
 /// A picture, or an accepted packet: its time, and its bytes so far.
-#[derive(Clone, Copy, Debug, PartialEq, Eq)]
+#[derive(Clone, Copy)]
 pub struct Picture {
     timestamp: u32,
     size: u64,
 }
 
 /// What became of a packet.
-#[derive(Clone, Copy, Debug, PartialEq, Eq)]
+#[derive(Clone, Copy, Debug)]
 pub enum Metered {
     /// It is of the picture that is going on, or of the first one.
     Same,
@@ -28,7 +28,7 @@ pub enum Metered {
 }
 
 /// What there is to say of a whole log.
-#[derive(Clone, Copy, Debug, PartialEq, Eq)]
+#[derive(Clone, Copy, Debug)]
 pub struct Totals {
     /// The number, the size and the level of the picture that was still going on; none where no
     /// packet was accepted.
@@ -45,7 +45,7 @@ pub struct Totals {
 
 /// A meter for any log of packets: it tells the pictures by their timestamps (RFC 3550, 5.1), and
 /// the level at the end of each.
-#[derive(Clone, Copy, Debug)]
+#[derive(Clone, Copy)]
 pub struct Meter {
     target: u32,
     bucket: u32,

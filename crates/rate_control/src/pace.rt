@@ -6,7 +6,7 @@ use h263_types::Pace;
 
 /// A pace that follows a target in bytes per picture: the further the level lies above an empty
 /// bucket, the coarser the quantiser.
-#[derive(Clone, Copy, Debug, PartialEq, Eq)]
+#[derive(Clone, Copy)]
 pub struct BucketPace {
     /// Bytes per picture, 1 to 999,999.
     target: u32,

@@ -6,7 +6,7 @@ use crate::pace::BucketPace;
 use h263_types::{FixedPace, Pace};
 
 /// The pace of a sender: one quantiser for all pictures, or a target that is followed.
-#[derive(Clone, Copy, Debug)]
+#[derive(Clone, Copy)]
 pub enum SendPace {
     Fixed(FixedPace),
     Bucket(BucketPace),

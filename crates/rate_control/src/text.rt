@@ -10,7 +10,7 @@ use itoa::Buffer;
 const MAX_BYTES: usize = 128;
 
 /// A line of at most 128 bytes.
-#[derive(Clone, Copy, Debug)]
+#[derive(Clone, Copy)]
 pub struct Text {
     line: ArrayString<MAX_BYTES>,
 }
