@@ -5,7 +5,7 @@ ghost use Rattle.stream_choice.specs.Granting.{BudgetStands, granted, is_granted
 const SECOND: u64 = 1_000_000_000;
 
 /// Grants so many packets in each second of the clock.
-#[derive(Clone, Copy)]
+#[derive(Clone, Copy, Debug)]
 pub struct Budget {
     most: u32,
     // When it was asked last, and how many it has granted in that second.
