@@ -34,7 +34,7 @@ use video::Video;
 
 // What is asked for: how many frames, pictures kept at each end and runs, which noise and step,
 // and a quantiser.
-#[derive(Clone, Copy, Debug, PartialEq, Eq)]
+#[derive(Clone, Copy)]
 struct Words {
     frames: u32,
     slots: u32,

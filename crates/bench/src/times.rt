@@ -8,7 +8,7 @@ use std::io;
 use std::time::Instant;
 
 /// Why a measurement ended.
-#[derive(Clone, Copy, Debug, PartialEq, Eq)]
+#[derive(Clone, Copy)]
 pub enum Stop {
     OutOfMemory,
     /// The clock or the output failed.
@@ -37,7 +37,7 @@ impl From<AllocError> for Stop {
 }
 
 /// What this many frames took, in nanoseconds, and how many bytes their packets have.
-#[derive(Clone, Copy, Debug, PartialEq, Eq)]
+#[derive(Clone, Copy)]
 pub struct Times {
     pub format: Format,
     pub frames: u32,

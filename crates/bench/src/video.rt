@@ -7,7 +7,7 @@ use h263_types::Format;
 
 /// The made video in a format, with a made noise of up to this much, 64 at most. It goes on by
 /// `step` frames from one to the next: where that is 0, the picture is still.
-#[derive(Clone, Copy, Debug, PartialEq, Eq)]
+#[derive(Clone, Copy)]
 pub struct Video {
     pub format: Format,
     pub noise: u8,

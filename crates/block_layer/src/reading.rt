@@ -11,7 +11,7 @@ use h263_bits::{BitReader, Fault, FaultKind};
 use h263_types::Block;
 
 // A level and its place.
-#[derive(Clone, Copy, Debug)]
+#[derive(Clone, Copy)]
 struct Placed {
     place: u8,
     level: i16,

@@ -37,7 +37,7 @@ pub fn is_coded_by(intra: bool, marks: u64) -> bool
 }
 
 // Bits that wait until a store has enough of them.
-#[derive(Clone, Copy, Debug)]
+#[derive(Clone, Copy)]
 struct Waiting {
     bits: u64,
     count: u32,

@@ -10,7 +10,7 @@ use itoa::Buffer;
 const MAX_BYTES: usize = 256;
 
 /// A line of the report, at most 256 bytes, that grows from left to right.
-#[derive(Clone, Copy, Debug)]
+#[derive(Clone, Copy)]
 pub struct Line {
     text: ArrayString<MAX_BYTES>,
 }

@@ -5,7 +5,7 @@ ghost use Rattle.command_words.specs.Asked.{row_named};
 ghost use Rattle.command_words.specs.Clap.{texts};
 ghost use Rattle.command_words.specs.View.{row_of};
 
-#[derive(Clone, Copy, Debug, PartialEq, Eq)]
+#[derive(Clone, Copy)]
 pub(crate) enum Form {
     Call,
     Send,

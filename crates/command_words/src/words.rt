@@ -22,7 +22,7 @@ use h263_types::{Format, Params};
 use std::alloc::Global;
 
 /// A command, and the words by which its roles are attached.
-#[derive(Debug, Drop)]
+#[derive(Drop)]
 pub struct Words<'a> {
     command: Command,
     given: ArgMatches<'a>,

@@ -44,7 +44,7 @@ pub enum End {
 }
 
 /// Which end of a call it is.
-#[derive(Clone, Copy, Debug)]
+#[derive(Clone, Copy)]
 pub enum EndKind {
     Sender,
     Receiver,

@@ -19,7 +19,7 @@ use h263_types::{Block, Kind, Mb, Reach, Vector};
 
 /// What stands first in a macroblock: Skip, or its class with the pattern of its chrominance
 /// blocks.
-#[derive(Clone, Copy, Debug, PartialEq, Eq)]
+#[derive(Clone, Copy)]
 pub enum Lead {
     Skipped,
     Coded { class: MbClass, cbpc: u8 },

@@ -5,7 +5,7 @@ ghost use Rattle.make_input.specs.Trace.{deliveries, one_or_none};
 use loss_trace::Event;
 
 /// Gives the lines of the trace of a seed, over this many frames.
-#[derive(Clone, Copy, Debug)]
+#[derive(Clone, Copy)]
 pub struct TraceMaker {
     // What the draws stand at.
     state: u64,

@@ -13,7 +13,7 @@ use quantiser::{
 };
 
 // How a block is coded: by itself, or as what a prediction leaves.
-#[derive(Clone, Copy, Debug)]
+#[derive(Clone, Copy)]
 pub(crate) enum Coding {
     Intra,
     Inter,
@@ -21,7 +21,7 @@ pub(crate) enum Coding {
 
 // What turns coefficients into levels: the quantiser, its factor, which is worked out once for a
 // macroblock, and how many places of the zigzag order are kept.
-#[derive(Clone, Copy, Debug)]
+#[derive(Clone, Copy)]
 pub(crate) struct Quantisation {
     pub(crate) quant: u8,
     pub(crate) factor: Factor,

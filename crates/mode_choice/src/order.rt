@@ -16,7 +16,7 @@ const TURNED: [u8; 64] = [
 ];
 
 // How the levels of a block stand where they are found.
-#[derive(Clone, Copy, Debug)]
+#[derive(Clone, Copy)]
 pub(crate) enum Standing {
     ByRows,
     ByColumns,

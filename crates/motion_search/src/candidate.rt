@@ -7,7 +7,7 @@ use h263_types::Vector;
 use std::cmp::Ordering;
 
 // A vector and its cost.
-#[derive(Clone, Copy, Debug, PartialEq, Eq)]
+#[derive(Clone, Copy)]
 pub(crate) struct Candidate {
     pub(crate) vector: Vector,
     pub(crate) cost: i32,

@@ -20,7 +20,7 @@ use picture_header::{Header, header_bits, laws as picture_header_laws};
 use slice_layer::{Added, MbRoom, SliceWriter};
 
 /// How many macroblocks were written, and in how many bytes.
-#[derive(Clone, Copy, Debug, PartialEq, Eq)]
+#[derive(Clone, Copy)]
 pub struct Part {
     pub count: u32,
     pub size: u32,

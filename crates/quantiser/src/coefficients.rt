@@ -9,7 +9,7 @@ ghost use Rattle.quantiser.specs.Settled.{rest_of, steps_of};
 
 /// What a size is multiplied by, and how far the product's upper 16 bits are then shifted, in the
 /// place of a division by twice the quantiser.
-#[derive(Clone, Copy, Debug)]
+#[derive(Clone, Copy)]
 pub struct Factor {
     pub number: u16,
     pub shift: u32,

@@ -9,7 +9,7 @@ use rate_control::{Meter, totals_text};
 use std::alloc::Global;
 
 /// What the log is measured against.
-#[derive(Clone, Copy, Debug, PartialEq, Eq)]
+#[derive(Clone, Copy)]
 pub struct Bucket {
     /// How many bytes run out of the bucket in a picture's time, 1 to 999,999.
     pub target: u32,

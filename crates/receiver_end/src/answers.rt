@@ -51,7 +51,7 @@ impl Heard {
 /// The answer to a packet, and the number of the picture that the packet is of: the one nearest to the
 /// play. None where the packet has a fault or is of the other picture clock, and where that would be
 /// before picture 0.
-#[derive(Clone, Copy, Debug, PartialEq, Eq)]
+#[derive(Clone, Copy, Debug)]
 pub struct Arrival {
     pub heard: Heard,
     pub number: Option<u32>,

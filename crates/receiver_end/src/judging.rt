@@ -21,7 +21,7 @@ use picture_header::Header;
 use reference_selector::nearest_below;
 
 /// A slice that may be taken: the number of its picture, and its reference, which is kept.
-#[derive(Clone, Copy, Debug, PartialEq, Eq)]
+#[derive(Clone, Copy)]
 pub struct Fresh {
     pub number: u32,
     pub reference: Option<u32>,

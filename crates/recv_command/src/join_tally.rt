@@ -6,7 +6,7 @@ use call_report::Line;
 use payload_join::Took;
 
 /// What became of a log's packets, and how many packets went out of the joiner.
-#[derive(Clone, Copy, Debug, PartialEq, Eq)]
+#[derive(Clone, Copy)]
 pub struct JoinTally {
     pub held: u64,
     pub too_old: u64,

@@ -8,7 +8,7 @@ use receiver_end::Heard;
 
 /// How many pictures were shown with each mark, and how many packets had each answer. A receiver
 /// gets fewer than 2^47 packets: one packet of a log may be joined to 43,602.
-#[derive(Clone, Copy, Debug, PartialEq, Eq)]
+#[derive(Clone, Copy)]
 pub struct Tally {
     pub exact: u64,
     pub patched: u64,

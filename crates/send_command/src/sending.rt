@@ -2,7 +2,7 @@
 use h263_types::Params;
 
 /// What a sender alone is asked for.
-#[derive(Clone, Copy, Debug, PartialEq, Eq)]
+#[derive(Clone, Copy)]
 pub struct Sending {
     pub params: Params,
     /// The bytes per picture that the quantiser is to follow, 1 to 999,999. With none it is that of

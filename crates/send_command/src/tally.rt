@@ -8,7 +8,7 @@ use call_report::Line;
 use sender_end::Feedback;
 
 /// How many pictures were sent, in how many packets, and what became of feedback.
-#[derive(Clone, Copy, Debug, PartialEq, Eq)]
+#[derive(Clone, Copy)]
 pub struct Tally {
     sent: u32,
     packets: u64,

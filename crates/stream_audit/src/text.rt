@@ -10,7 +10,7 @@ use itoa::Buffer;
 const MAX_BYTES: usize = 32;
 
 /// A line of at most 32 bytes.
-#[derive(Clone, Copy, Debug)]
+#[derive(Clone, Copy)]
 pub struct Text {
     line: ArrayString<MAX_BYTES>,
 }

@@ -19,7 +19,7 @@ pub enum Rule {
 }
 
 /// A rule that is broken, and the number of the picture at which it is.
-#[derive(Clone, Copy, Debug, PartialEq, Eq)]
+#[derive(Clone, Copy)]
 pub struct Broken {
     pub number: u32,
     pub rule: Rule,
