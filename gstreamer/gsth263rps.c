@@ -59,3 +59,10 @@ gst_h263rps_label_packet (guint8 * packet)
   memcpy (packet + 8, LIBRARY_SSRC, 4);
 }
 
+/* The id of a stream of this process: GStreamer makes none of its own for an element with two sink
+ * pads. */
+gchar *
+gst_h263rps_new_stream_id (const gchar * what)
+{
+  return g_strdup_printf ("%08x%08x%08x/%s", g_random_int (), g_random_int (), g_random_int (), what);
+}

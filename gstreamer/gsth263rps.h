@@ -54,6 +54,9 @@ const gchar * gst_h263rps_format_name    (guint format);
 G_GNUC_INTERNAL
 const gchar * gst_h263rps_mark_name      (guint mark);
 
+G_GNUC_INTERNAL
+gchar *       gst_h263rps_new_stream_id  (const gchar * what);
+
 G_END_DECLS
 
 #endif

@@ -9,7 +9,9 @@
  * It is jitter buffer, depayloader and decoder in one. Packets are decoded and acknowledged on
  * arrival, and wait as pictures; so no rtpjitterbuffer belongs before it, but srtpdec, rtpsession
  * or the network itself. Each message goes out at the pad rtcp_src, or by the session of
- * #GstH263RpsRecv:session.
+ * #GstH263RpsRecv:session. Reports (RFC 3550) go out there, too, and come at rtcp_sink: by a
+ * sender's each picture has the sender's time, as GstReferenceTimestampMeta (timestamp/x-ntp).
+ * Packets that have it from an rtpjitterbuffer tell it, too.
  *
  * Each buffer has the custom meta GstH263RpsMeta, whose structure has "mark" (exact, patched or
  * held), "number" and "ssrc"; one that isn't exact has the flag %GST_BUFFER_FLAG_CORRUPTED.
@@ -40,6 +42,7 @@
 
 #include "gsth263rpsrtcp.h"
 #include "gsth263rpsrun.h"
+#include "gsth263rpswindow.h"
 
 GST_DEBUG_CATEGORY_STATIC (h263rpsrecv_debug);
 #define GST_CAT_DEFAULT h263rpsrecv_debug
@@ -66,6 +69,8 @@ GST_DEBUG_CATEGORY_STATIC (h263rpsrecv_debug);
 #define ASK_INTERVAL (GST_SECOND / 2)
 /* Pictures that wait for what comes after; of more, the oldest is dropped. */
 #define MOST_OUT 8
+/* The greatest offset of times, either way. */
+#define MOST_OFFSET (10 * (gint64) GST_SECOND)
 /* Messages that wait to be said; a further one is dropped. */
 #define MOST_PENDING 256
 /* Runs that are recorded: whoever is followed may begin runs, and mustn't fill a disk. */
@@ -85,16 +90,21 @@ enum
   PROP_MESSAGES,
   PROP_SSRC,
   PROP_SESSION,
+  PROP_TS_OFFSET,
+  PROP_CNAME,
   PROP_RECORD_LOCATION,
   PROP_STATS
 };
 
-/* What waits to be said: a message, or with a length of 0 that an intra picture is wanted. */
+/* What waits to be said: a message, or with a length of 0 that an intra picture is wanted, or how
+ * the stream arrives. */
 typedef struct
 {
   h263rps_message message;
   guint32 about;
   guint pt;
+  gboolean is_report;
+  GstH263RpsBlock block;
 } Pending;
 
 typedef struct
@@ -108,11 +118,12 @@ struct _GstH263RpsRecv
 {
   GstElement parent;
 
-  GstPad *sinkpad, *srcpad, *rtcp_srcpad;
+  GstPad *sinkpad, *srcpad, *rtcp_srcpad, *rtcp_sinkpad;
 
   /* properties, under the object's lock */
   guint latency, slots, lead, messages, ssrc;
-  gchar *record_location;
+  gint64 ts_offset;
+  gchar *cname, *record_location;
   GObject *session;
   gulong session_handler;
 
@@ -138,6 +149,7 @@ struct _GstH263RpsRecv
   guint32 failed;
   GstClockTime failed_at;
   guint8 *room;
+  GstCaps *ntp_caps;            /* of the sender's times */
   guint recorded;
   gchar *record_fault;          /* what is to be told of the record, or NULL */
   guint32 run_fault;            /* why no run could be begun, or 0 */
@@ -158,6 +170,9 @@ struct _GstH263RpsRecv
   gboolean has_asked;
 
   Counts counts;
+  GstH263RpsReception reception;        /* of the stream that is followed */
+  GstClockTime next_report;
+  GstH263RpsMeter meter;        /* all pictures, and those that are exact */
 
   GMutex rtcp_lock;             /* one push at a time on rtcp_src */
   gboolean is_rtcp_begun;
@@ -182,6 +197,12 @@ static GstStaticPadTemplate src_template = GST_STATIC_PAD_TEMPLATE ("src",
 
 static GstStaticPadTemplate rtcp_src_template = GST_STATIC_PAD_TEMPLATE ("rtcp_src",
     GST_PAD_SRC,
+    GST_PAD_ALWAYS,
+    GST_STATIC_CAPS ("application/x-rtcp")
+    );
+
+static GstStaticPadTemplate rtcp_sink_template = GST_STATIC_PAD_TEMPLATE ("rtcp_sink",
+    GST_PAD_SINK,
     GST_PAD_ALWAYS,
     GST_STATIC_CAPS ("application/x-rtcp")
     );
@@ -225,20 +246,30 @@ wake (GstH263RpsRecv * self)
 
 /* ---- messages ---- */
 
-/* Under the lock: a message that is to be said once it is left. */
-static void
-note_message (GstH263RpsRecv * self, const GstH263RpsRun * run, const h263rps_message * message)
+/* Under the lock: room for what is to be said once it is left, or NULL where too much waits. */
+static Pending *
+new_pending (GstH263RpsRecv * self, const GstH263RpsRun * run)
 {
   Pending *pending;
 
   if (self->pending_count == MOST_PENDING) {
     self->counts.dropped_messages++;
-    return;
+    return NULL;
   }
   pending = &self->pending[self->pending_count++];
-  pending->message = *message;
+  memset (pending, 0, sizeof *pending);
   pending->about = run->ssrc;
   pending->pt = run->pt;
+  return pending;
+}
+
+static void
+note_message (GstH263RpsRecv * self, const GstH263RpsRun * run, const h263rps_message * message)
+{
+  Pending *pending = new_pending (self, run);
+
+  if (pending)
+    pending->message = *message;
 }
 
 /* Under the lock: an intra picture is wanted, as of a stream that was joined. */
@@ -255,36 +286,65 @@ note_intra (GstH263RpsRecv * self, const GstH263RpsRun * run, GstClockTime now)
   note_message (self, run, &none);
 }
 
+/* Under the lock: a report of the stream that is followed, where one is due. */
 static void
-begin_rtcp (GstH263RpsRecv * self)
+note_report (GstH263RpsRecv * self, GstClockTime now)
 {
-  GstSegment segment;
-  GstCaps *caps = gst_caps_new_empty_simple ("application/x-rtcp");
-  gchar *id = gst_pad_create_stream_id (self->rtcp_srcpad, GST_ELEMENT (self), "rtcp");
+  Pending *pending;
 
-  gst_segment_init (&segment, GST_FORMAT_TIME);
-  gst_pad_push_event (self->rtcp_srcpad, gst_event_new_stream_start (id));
-  gst_pad_push_event (self->rtcp_srcpad, gst_event_new_caps (caps));
-  gst_pad_push_event (self->rtcp_srcpad, gst_event_new_segment (&segment));
-  gst_caps_unref (caps);
-  g_free (id);
-  self->is_rtcp_begun = TRUE;
+  if (GST_CLOCK_TIME_IS_VALID (self->next_report) && now < self->next_report)
+    return;
+  self->next_report = now
+      + gst_h263rps_report_interval (gst_h263rps_meter_bitrate (&self->meter, now));
+  pending = new_pending (self, self->run);
+  if (!pending)
+    return;
+  pending->is_report = TRUE;
+  gst_h263rps_reception_block (&self->reception, &pending->block, now);
+}
+
+/* Under the lock: a packet of the stream that is followed came, and is reported on. */
+static void
+note_reception (GstH263RpsRecv * self, const GstH263RpsArrival * arrival, GstClockTime now)
+{
+  GstReferenceTimestampMeta *meta =
+      gst_buffer_get_reference_timestamp_meta (arrival->buffer, self->ntp_caps);
+
+  gst_h263rps_reception_packet (&self->reception, arrival->ssrc, arrival->sequence,
+      arrival->timestamp, now);
+  if (meta)
+    gst_h263rps_reception_time (&self->reception, arrival->timestamp, meta->timestamp);
+  gst_h263rps_meter_add (&self->meter, now, gst_buffer_get_size (arrival->buffer), 0, 0);
+  note_report (self, now);
+}
+
+static GstBuffer *
+new_rtcp (GstH263RpsRecv * self, const Pending * pending)
+{
+  GstBuffer *buffer;
+
+  if (pending->is_report) {
+    GST_OBJECT_LOCK (self);
+    buffer = gst_h263rps_rtcp_new_receiver_report (self->own_ssrc, &pending->block, self->cname);
+    GST_OBJECT_UNLOCK (self);
+    return buffer;
+  }
+  if (pending->message.length == 0)
+    return gst_h263rps_rtcp_new_pli (self->own_ssrc, pending->about);
+  return gst_h263rps_rtcp_new_rpsi (self->own_ssrc, pending->about, pending->pt,
+      &pending->message);
 }
 
 static void
 push_rtcp (GstH263RpsRecv * self, const Pending * pending)
 {
-  GstBuffer *buffer;
-
   if (!gst_pad_is_linked (self->rtcp_srcpad))
     return;
-  buffer = pending->message.length == 0
-      ? gst_h263rps_rtcp_new_pli (self->own_ssrc, pending->about)
-      : gst_h263rps_rtcp_new_rpsi (self->own_ssrc, pending->about, pending->pt, &pending->message);
   g_mutex_lock (&self->rtcp_lock);
   if (!self->is_rtcp_begun)
-    begin_rtcp (self);
-  gst_pad_push (self->rtcp_srcpad, buffer);
+    gst_h263rps_rtcp_begin (self->rtcp_srcpad);
+  self->is_rtcp_begun = TRUE;
+  gst_pad_push (self->rtcp_srcpad, new_rtcp (self, pending));
   g_mutex_unlock (&self->rtcp_lock);
 }
 
@@ -294,6 +354,9 @@ tell_session (GstH263RpsRecv * self, GObject * session, const Pending * pending)
 {
   gboolean is_taken = FALSE;
 
+  /* It reports by itself. */
+  if (pending->is_report)
+    return;
   if (pending->message.length == 0) {
     gst_pad_push_event (self->sinkpad,
         gst_video_event_new_upstream_force_key_unit (GST_CLOCK_TIME_NONE, FALSE, 0));
@@ -327,7 +390,8 @@ say_pending (GstH263RpsRecv * self)
   count = self->pending_count;
   memcpy (pending, self->pending, count * sizeof *pending);
   self->pending_count = 0;
-  self->counts.said += count;
+  for (i = 0; i < count; i++)
+    self->counts.said += !pending[i].is_report;
   g_mutex_unlock (&self->lock);
   if (count == 0)
     return;
@@ -394,16 +458,48 @@ mark_buffer (const GstH263RpsRun * run, GstBuffer * buffer, guint number, guint 
     GST_BUFFER_FLAG_SET (buffer, GST_BUFFER_FLAG_CORRUPTED);
 }
 
+/* When a picture is to be shown. What is due is shown as late as the pipeline's latency says, and a
+ * sink waits for the rest. */
+static void
+stamp_buffer (GstH263RpsRecv * self, const GstH263RpsRun * run, GstBuffer * buffer,
+    GstClockTime due)
+{
+  GstClockTime latency = self->latency * GST_MSECOND, ntp;
+  gint64 shown;
+
+  GST_OBJECT_LOCK (self);
+  shown = self->ts_offset - (gint64) latency;
+  GST_OBJECT_UNLOCK (self);
+  shown += running_time_of (self, due);
+  GST_BUFFER_PTS (buffer) = MAX (shown, 0);
+  GST_BUFFER_DURATION (buffer) = gst_util_uint64_scale (GST_SECOND, run->fps_d, run->fps_n);
+  if (self->reception.ssrc == run->ssrc
+      && gst_h263rps_reception_ntp (&self->reception, gst_h263rps_run_timestamp (run, due), &ntp))
+    gst_buffer_add_reference_timestamp_meta (buffer, self->ntp_caps, ntp, GST_CLOCK_TIME_NONE);
+}
+
+/* Pictures that may wait for what comes after: those of an offset, too. */
+static guint
+most_out (GstH263RpsRecv * self)
+{
+  gint64 offset;
+
+  GST_OBJECT_LOCK (self);
+  offset = MAX (self->ts_offset, 0);
+  GST_OBJECT_UNLOCK (self);
+  return MOST_OUT + gst_util_uint64_scale (offset, self->fps_n, self->fps_d * GST_SECOND);
+}
+
 /* A screen that lags loses pictures, the oldest first; the call doesn't wait for it. */
 static void
 queue_picture (GstH263RpsRecv * self, GstBuffer * buffer)
 {
   GList *item;
-  guint count = 0;
+  guint count = 0, most = most_out (self);
 
   for (item = self->out.head; item; item = item->next)
     count += GST_IS_BUFFER (item->data);
-  for (item = self->out.head; item && count >= MOST_OUT; item = item->next) {
+  for (item = self->out.head; item && count >= most; item = item->next) {
     if (GST_IS_BUFFER (item->data)) {
       gst_buffer_unref (item->data);
       g_queue_delete_link (&self->out, item);
@@ -426,7 +522,6 @@ play_shown (GstH263RpsRecv * self, GstClockTime due)
   GstBuffer *buffer = gst_h263rps_run_picture (run);
   GstMapInfo map;
   h263rps_answer answer = { 0 };
-  GstClockTime shown = running_time_of (self, due), latency = self->latency * GST_MSECOND;
   GstClockTime when = running_time_of (self, clock_time (self));
   guint number = run->played;
   gboolean is_played;
@@ -440,12 +535,9 @@ play_shown (GstH263RpsRecv * self, GstClockTime due)
     gst_buffer_unref (buffer);
     return;
   }
-  /* What is due is shown as late as the pipeline's latency says. */
-  GST_BUFFER_PTS (buffer) = shown + (latency - MIN (latency, run->wait));
-  GST_BUFFER_PTS (buffer) -= MIN (GST_BUFFER_PTS (buffer), latency);
-  GST_BUFFER_DURATION (buffer) =
-      gst_util_uint64_scale (GST_SECOND, run->fps_d, run->fps_n);
+  stamp_buffer (self, run, buffer, due);
   mark_buffer (run, buffer, number, answer.kind);
+  gst_h263rps_meter_add (&self->meter, clock_time (self), 0, 1, answer.kind == H263RPS_EXACT);
   self->counts.marks[answer.kind]++;
   if (answer.message.length)
     note_message (self, run, &answer.message);
@@ -513,6 +605,27 @@ tell_record_fault (GstH263RpsRecv * self)
   g_free (words);
 }
 
+/* ---- settings ---- */
+
+/* How long pictures wait before they are played. */
+static GstClockTime
+wait_of (GstH263RpsRecv * self)
+{
+  return MAX (self->latency * GST_MSECOND, LEAST_WAIT);
+}
+
+/* The sender's, by the caps or else by the properties. */
+static GstH263RpsWindow
+senders_window (GstH263RpsRecv * self)
+{
+  GstH263RpsWindow window = {
+    .slots = self->caps_slots >= 0 ? (guint) self->caps_slots : self->slots,
+    .lead = self->caps_lead >= 0 ? (guint) self->caps_lead : self->lead
+  };
+
+  return window;
+}
+
 /* Without the lock, and once: without a run there will be no picture. */
 static void
 tell_run_fault (GstH263RpsRecv * self)
@@ -524,10 +637,28 @@ tell_run_fault (GstH263RpsRecv * self)
   self->is_run_fault_told = self->run_fault != 0;
   g_mutex_unlock (&self->lock);
   if (fault)
-    GST_ELEMENT_ERROR (self, LIBRARY, SETTINGS, ("%s", h263rps_status_text (fault)),
-        ("slots and lead: %d, %d by the caps (-1: none), %u, %u by the properties",
-            self->caps_slots, self->caps_lead, self->slots, self->lead));
+    GST_ELEMENT_ERROR (self, LIBRARY, SETTINGS, ("%s", h263rps_status_text (fault)), (NULL));
 }
+
+/* Without the lock. The caps and the latency are known: whether the receiver can hold both. */
+static void
+check_window (GstH263RpsRecv * self)
+{
+  GstH263RpsWindow window;
+  gchar *fault;
+
+  g_mutex_lock (&self->lock);
+  window = senders_window (self);
+  fault = gst_h263rps_window_fault (&window, wait_of (self), self->fps_n, self->fps_d);
+  g_mutex_unlock (&self->lock);
+  if (fault)
+    GST_ELEMENT_ERROR (self, LIBRARY, SETTINGS, ("%s", fault),
+        ("slots %u, lead %u of the sender, latency %u ms", window.slots, window.lead,
+            self->latency));
+  g_free (fault);
+}
+
+/* ---- what is recorded ---- */
 
 /* What is recorded of a run waits in memory until its stream is followed. */
 static void
@@ -582,39 +713,26 @@ keep_record (GstH263RpsRecv * self, GstH263RpsRun * run)
 
 /* ---- which stream is followed, under the lock ---- */
 
-/* How long pictures wait before they are played. More than the lead holds would come early. */
-static GstClockTime
-wait_for (GstH263RpsRecv * self, guint lead)
-{
-  GstClockTime wait = MAX (self->latency * GST_MSECOND, LEAST_WAIT);
-  GstClockTime most = lead > 1
-      ? gst_util_uint64_scale (GST_SECOND, (lead - 1) * self->fps_d, self->fps_n) : 0;
-
-  most = MAX (most, LEAST_WAIT);
-  if (wait <= most)
-    return wait;
-  GST_WARNING_OBJECT (self, "a lead of %u pictures holds %" GST_TIME_FORMAT " of the latency of "
-      "%u ms: the rest is waited for with the picture", lead, GST_TIME_ARGS (most), self->latency);
-  return most;
-}
-
 static GstH263RpsRun *
 begin_run (GstH263RpsRecv * self, const GstH263RpsArrival * arrival)
 {
+  GstH263RpsWindow window = senders_window (self);
   h263rps_params params = { 0 };
   GstH263RpsRun *run;
   guint32 status = H263RPS_OK;
 
-  params.slots = self->caps_slots >= 0 ? (guint) self->caps_slots : self->slots;
-  params.lead = self->caps_lead >= 0 ? (guint) self->caps_lead : self->lead;
+  /* What can't be was told when the caps came. */
+  if (!gst_h263rps_window_own (&window, wait_of (self), self->fps_n, self->fps_d))
+    return NULL;
+  params.slots = window.slots;
+  params.lead = window.lead;
   params.messages = self->messages;
-  run = gst_h263rps_run_new (&params, self->fps_n, self->fps_d, wait_for (self, params.lead),
-      arrival, &status);
+  run = gst_h263rps_run_new (&params, self->fps_n, self->fps_d, wait_of (self), arrival, &status);
   if (!run)
     self->run_fault = status;
   else
-    GST_INFO_OBJECT (self, "a run of stream %08x from picture %" G_GINT64_FORMAT " on", run->ssrc,
-        run->first);
+    GST_INFO_OBJECT (self, "a run of stream %08x from picture %" G_GINT64_FORMAT " on, slots %u, "
+        "lead %u", run->ssrc, run->first, window.slots, window.lead);
   return run;
 }
 
@@ -777,6 +895,7 @@ take_followed (GstH263RpsRecv * self, const GstH263RpsArrival * arrival, GstCloc
   if (!give_run (self, self->run, arrival, now))
     return FALSE;
   self->last = now;
+  note_reception (self, arrival, now);
   return TRUE;
 }
 
@@ -953,6 +1072,49 @@ gst_h263rps_recv_chain (GstPad * pad, GstObject * parent, GstBuffer * buffer)
   return flow;
 }
 
+/* Under the lock: what the sender of the stream that is followed reports. */
+static void
+hear_reports (GstH263RpsRecv * self, GstRTCPBuffer * rtcp, GstClockTime now)
+{
+  GstRTCPPacket packet;
+  GstH263RpsSenderInfo info;
+  gboolean more;
+
+  for (more = gst_rtcp_buffer_get_first_packet (rtcp, &packet); more;
+      more = gst_rtcp_packet_move_to_next (&packet)) {
+    if (gst_h263rps_rtcp_read_info (&packet, &info) && self->run && info.ssrc == self->run->ssrc)
+      gst_h263rps_reception_info (&self->reception, &info, now);
+  }
+}
+
+static GstFlowReturn
+gst_h263rps_recv_rtcp_chain (GstPad * pad, GstObject * parent, GstBuffer * buffer)
+{
+  GstH263RpsRecv *self = GST_H263RPS_RECV (parent);
+  GstRTCPBuffer rtcp = GST_RTCP_BUFFER_INIT;
+  GstClockTime now = clock_time (self);
+
+  g_mutex_lock (&self->lock);
+  if (gst_buffer_get_size (buffer) > 0 && gst_rtcp_buffer_validate_reduced (buffer)
+      && gst_rtcp_buffer_map (buffer, GST_MAP_READ, &rtcp)) {
+    hear_reports (self, &rtcp, now);
+    gst_rtcp_buffer_unmap (&rtcp);
+  } else {
+    self->counts.malformed++;
+  }
+  g_mutex_unlock (&self->lock);
+  gst_buffer_unref (buffer);
+  return GST_FLOW_OK;
+}
+
+/* Nothing that is said of the reports concerns the pictures. */
+static gboolean
+gst_h263rps_recv_rtcp_event (GstPad * pad, GstObject * parent, GstEvent * event)
+{
+  gst_event_unref (event);
+  return TRUE;
+}
+
 /* ---- the task ---- */
 
 static void
@@ -963,7 +1125,7 @@ push_begin (GstH263RpsRecv * self)
   if (!self->needs_stream_start)
     return;
   self->needs_stream_start = FALSE;
-  id = gst_pad_create_stream_id (self->srcpad, GST_ELEMENT (self), "video");
+  id = gst_h263rps_new_stream_id ("video");
   gst_pad_push_event (self->srcpad, gst_event_new_stream_start (id));
   g_free (id);
 }
@@ -1178,6 +1340,7 @@ gst_h263rps_recv_sink_event (GstPad * pad, GstObject * parent, GstEvent * event)
 
       gst_event_parse_caps (event, &caps);
       read_caps (self, caps);
+      check_window (self);
       break;
     }
     case GST_EVENT_EOS:
@@ -1249,7 +1412,7 @@ gst_h263rps_recv_iterate_links (GstPad * pad, GstObject * parent)
   GstIterator *iterator;
   GValue value = G_VALUE_INIT;
 
-  if (pad == self->rtcp_srcpad)
+  if (pad == self->rtcp_srcpad || pad == self->rtcp_sinkpad)
     return gst_iterator_new_single (GST_TYPE_PAD, NULL);
   other = pad == self->sinkpad ? self->srcpad : self->sinkpad;
   g_value_init (&value, GST_TYPE_PAD);
@@ -1257,15 +1420,6 @@ gst_h263rps_recv_iterate_links (GstPad * pad, GstObject * parent)
   iterator = gst_iterator_new_single (GST_TYPE_PAD, &value);
   g_value_unset (&value);
   return iterator;
-}
-
-static gboolean
-gst_h263rps_recv_rtcp_query (GstPad * pad, GstObject * parent, GstQuery * query)
-{
-  if (GST_QUERY_TYPE (query) != GST_QUERY_LATENCY)
-    return gst_pad_query_default (pad, parent, query);
-  gst_query_set_latency (query, TRUE, 0, GST_CLOCK_TIME_NONE);
-  return TRUE;
 }
 
 static gboolean
@@ -1345,6 +1499,15 @@ gst_h263rps_recv_set_property (GObject * object, guint id, const GValue * value,
     case PROP_SSRC:
       self->ssrc = g_value_get_uint (value);
       break;
+    case PROP_TS_OFFSET:
+      self->ts_offset = g_value_get_int64 (value);
+      break;
+    case PROP_CNAME:
+      g_free (self->cname);
+      self->cname = g_value_dup_string (value);
+      if (!self->cname)
+        self->cname = gst_h263rps_rtcp_new_name ();
+      break;
     case PROP_RECORD_LOCATION:
       g_free (self->record_location);
       self->record_location = g_value_dup_string (value);
@@ -1356,17 +1519,33 @@ gst_h263rps_recv_set_property (GObject * object, guint id, const GValue * value,
   GST_OBJECT_UNLOCK (self);
 }
 
+/* Under the lock: rates, and how the stream arrives. */
+static void
+add_rates (GstH263RpsRecv * self, GstStructure * stats)
+{
+  GstClockTime now = clock_time (self);
+
+  gst_structure_set (stats,
+      "bit-rate", G_TYPE_UINT64, gst_h263rps_meter_bitrate (&self->meter, now),
+      "exact-share", G_TYPE_DOUBLE, gst_h263rps_meter_share (&self->meter, now),
+      "jitter", G_TYPE_UINT64, self->reception.begun
+      ? gst_h263rps_reception_jitter (&self->reception) : GST_CLOCK_TIME_NONE, NULL);
+}
+
 static GstStructure *
 create_stats (GstH263RpsRecv * self)
 {
+  GstStructure *stats;
   Counts counts;
   guint ssrc;
 
   g_mutex_lock (&self->lock);
   counts = self->counts;
   ssrc = self->run ? self->run->ssrc : 0;
+  stats = gst_structure_new_empty ("application/x-h263rpsrecv-stats");
+  add_rates (self, stats);
   g_mutex_unlock (&self->lock);
-  return gst_structure_new ("application/x-h263rpsrecv-stats",
+  gst_structure_set (stats,
       "ssrc", G_TYPE_UINT, ssrc,
       "exact", G_TYPE_UINT64, counts.marks[H263RPS_EXACT],
       "patched", G_TYPE_UINT64, counts.marks[H263RPS_PATCHED],
@@ -1390,6 +1569,7 @@ create_stats (GstH263RpsRecv * self)
       "dropped-messages", G_TYPE_UINT64, counts.dropped_messages,
       "intra-asked", G_TYPE_UINT64, counts.intra_asked,
       "runs", G_TYPE_UINT64, counts.runs, "trials", G_TYPE_UINT64, counts.trials, NULL);
+  return stats;
 }
 
 static void
@@ -1422,6 +1602,12 @@ gst_h263rps_recv_get_property (GObject * object, guint id, GValue * value, GPara
     case PROP_SESSION:
       g_value_set_object (value, self->session);
       break;
+    case PROP_TS_OFFSET:
+      g_value_set_int64 (value, self->ts_offset);
+      break;
+    case PROP_CNAME:
+      g_value_set_string (value, self->cname);
+      break;
     case PROP_RECORD_LOCATION:
       g_value_set_string (value, self->record_location);
       break;
@@ -1452,6 +1638,9 @@ gst_h263rps_recv_change_state (GstElement * element, GstStateChange transition)
       g_mutex_lock (&self->lock);
       memset (&self->counts, 0, sizeof self->counts);
       memset (&self->strangers_allowance, 0, sizeof self->strangers_allowance);
+      memset (&self->reception, 0, sizeof self->reception);
+      memset (&self->meter, 0, sizeof self->meter);
+      self->next_report = GST_CLOCK_TIME_NONE;
       self->has_asked = self->is_run_fault_told = FALSE;
       self->run_fault = 0;
       self->own_ssrc = self->ssrc == DEFAULT_SSRC ? g_random_int () : self->ssrc;
@@ -1506,6 +1695,8 @@ gst_h263rps_recv_finalize (GObject * object)
   g_queue_clear_full (&self->out, (GDestroyNotify) gst_mini_object_unref);
   g_queue_clear_full (&self->session_queue, g_free);
   gst_clear_caps (&self->new_caps);
+  gst_caps_unref (self->ntp_caps);
+  g_free (self->cname);
   g_free (self->record_location);
   g_free (self->record_fault);
   g_free (self->room);
@@ -1535,10 +1726,16 @@ add_pads (GstH263RpsRecv * self)
   gst_element_add_pad (element, self->srcpad);
 
   self->rtcp_srcpad = gst_pad_new_from_static_template (&rtcp_src_template, "rtcp_src");
-  gst_pad_set_query_function (self->rtcp_srcpad, gst_h263rps_recv_rtcp_query);
+  gst_pad_set_query_function (self->rtcp_srcpad, gst_h263rps_rtcp_query);
   gst_pad_set_iterate_internal_links_function (self->rtcp_srcpad, gst_h263rps_recv_iterate_links);
   gst_pad_use_fixed_caps (self->rtcp_srcpad);
   gst_element_add_pad (element, self->rtcp_srcpad);
+
+  self->rtcp_sinkpad = gst_pad_new_from_static_template (&rtcp_sink_template, "rtcp_sink");
+  gst_pad_set_chain_function (self->rtcp_sinkpad, gst_h263rps_recv_rtcp_chain);
+  gst_pad_set_event_function (self->rtcp_sinkpad, gst_h263rps_recv_rtcp_event);
+  gst_pad_set_iterate_internal_links_function (self->rtcp_sinkpad, gst_h263rps_recv_iterate_links);
+  gst_element_add_pad (element, self->rtcp_sinkpad);
 }
 
 static void
@@ -1554,6 +1751,9 @@ gst_h263rps_recv_init (GstH263RpsRecv * self)
   self->earliest = GST_CLOCK_TIME_NONE;
   self->ssrc = DEFAULT_SSRC;
   self->room = g_malloc (ROOM);
+  self->ntp_caps = gst_caps_new_empty_simple ("timestamp/x-ntp");
+  self->cname = gst_h263rps_rtcp_new_name ();
+  self->next_report = GST_CLOCK_TIME_NONE;
   g_queue_init (&self->out);
   g_queue_init (&self->session_queue);
   g_mutex_init (&self->lock);
@@ -1581,7 +1781,8 @@ gst_h263rps_recv_class_init (GstH263RpsRecvClass * klass)
    * GstH263RpsRecv:latency:
    *
    * How long after the earliest arrival a picture is played: what the network's jitter may be. The
-   * lead must hold it.
+   * receiver takes a lead that holds it, and slots for that lead and the sender's window. Where 64
+   * slots don't hold both, it posts an error as soon as the caps come.
    */
   g_object_class_install_property (object_class, PROP_LATENCY,
       g_param_spec_uint ("latency", "Latency",
@@ -1590,25 +1791,34 @@ gst_h263rps_recv_class_init (GstH263RpsRecvClass * klass)
   /**
    * GstH263RpsRecv:slots:
    *
-   * Pictures that are kept, where the caps of the packets don't say (x-slots). It must be the
-   * sender's.
+   * The sender's slots, where the caps of the packets don't say (x-slots). What counts is its
+   * window, slots less lead less 1; the receiver's own slots and lead follow from it.
    */
   g_object_class_install_property (object_class, PROP_SLOTS,
-      g_param_spec_uint ("slots", "Slots", "Pictures that are kept, where the caps don't say", 2,
+      g_param_spec_uint ("slots", "Slots", "The sender's slots, where the caps don't say", 2,
           64, DEFAULT_SLOTS, ready));
   /**
    * GstH263RpsRecv:lead:
    *
-   * Pictures that may come before their turn, where the caps of the packets don't say (x-lead). It
-   * must be the sender's.
+   * The sender's lead, where the caps of the packets don't say (x-lead).
    */
   g_object_class_install_property (object_class, PROP_LEAD,
       g_param_spec_uint ("lead", "Lead",
-          "Pictures that may come before their turn, where the caps don't say", 0, 62,
+          "The sender's lead, where the caps don't say", 0, 62,
           DEFAULT_LEAD, ready));
+  /**
+   * GstH263RpsRecv:messages:
+   *
+   * With version 2 each message also says which of the fourteen pictures after its own are complete.
+   */
   g_object_class_install_property (object_class, PROP_MESSAGES,
       g_param_spec_uint ("messages", "Messages", "The version of the messages", 1, 2,
           DEFAULT_MESSAGES, ready));
+  /**
+   * GstH263RpsRecv:ssrc:
+   *
+   * The SSRC by which this receiver speaks at rtcp_src; by a session it is the session's.
+   */
   g_object_class_install_property (object_class, PROP_SSRC,
       g_param_spec_uint ("ssrc", "SSRC", "The SSRC of the messages at rtcp_src (default == random)",
           0, G_MAXUINT32, DEFAULT_SSRC, ready));
@@ -1622,6 +1832,25 @@ gst_h263rps_recv_class_init (GstH263RpsRecvClass * klass)
   g_object_class_install_property (object_class, PROP_SESSION,
       g_param_spec_object ("session", "Session", "An inner session of RTP that sends the messages",
           G_TYPE_OBJECT, G_PARAM_READWRITE | G_PARAM_STATIC_STRINGS | GST_PARAM_MUTABLE_PLAYING));
+  /**
+   * GstH263RpsRecv:ts-offset:
+   *
+   * How much later pictures are shown, as for sound that comes later. Where a session's
+   * rtpjitterbuffer lies before this element, bind that element's ts-offset to it: by that an rtpbin
+   * or a webrtcbin plays the streams of one sender at the same time.
+   */
+  g_object_class_install_property (object_class, PROP_TS_OFFSET,
+      g_param_spec_int64 ("ts-offset", "Timestamp offset",
+          "Nanoseconds that are added to each picture's time", -MOST_OFFSET, MOST_OFFSET, 0,
+          G_PARAM_READWRITE | G_PARAM_STATIC_STRINGS | GST_PARAM_MUTABLE_PLAYING));
+  /**
+   * GstH263RpsRecv:cname:
+   *
+   * The canonical name of the receiver reports at rtcp_src (RFC 3550, 6.5.1).
+   */
+  g_object_class_install_property (object_class, PROP_CNAME,
+      g_param_spec_string ("cname", "CNAME",
+          "The canonical name of the receiver reports (default == random)", NULL, ready));
   /**
    * GstH263RpsRecv:record-location:
    *
@@ -1638,7 +1867,9 @@ gst_h263rps_recv_class_init (GstH263RpsRecvClass * klass)
    * "taken", of them "completed" (their picture was whole then), "late", "early", "repeat" and
    * "refused"; what didn't count: "malformed", "other-payload-type", "other-format",
    * "other-source", "ahead" of the clock, "too-fast", "paused"; messages "said",
-   * "session-refused" (sent later on), "dropped-messages"; "intra-asked", "runs", "trials".
+   * "session-refused" (sent later on), "dropped-messages"; "intra-asked", "runs", "trials";
+   * "bit-rate" in the last second, in bits; "exact-share" of the pictures of the last ten seconds,
+   * 0 to 1, or -1; "jitter" (RFC 3550, A.8) in ns, or %GST_CLOCK_TIME_NONE.
    */
   g_object_class_install_property (object_class, PROP_STATS,
       g_param_spec_boxed ("stats", "Statistics", "Counts of the call", GST_TYPE_STRUCTURE,
@@ -1649,6 +1880,7 @@ gst_h263rps_recv_class_init (GstH263RpsRecvClass * klass)
   gst_element_class_add_static_pad_template (element_class, &sink_template);
   gst_element_class_add_static_pad_template (element_class, &src_template);
   gst_element_class_add_static_pad_template (element_class, &rtcp_src_template);
+  gst_element_class_add_static_pad_template (element_class, &rtcp_sink_template);
   gst_element_class_set_static_metadata (element_class, "H.263 RPS receiver",
       "Codec/Decoder/Depayloader/Network/RTP",
       "Decodes RTP packets of H.263 (RFC 4629) on arrival, acknowledges pictures, shows them on time",

@@ -1,10 +1,14 @@
 #include "gsth263rpsrtcp.h"
 
+#include "gsth263rps.h"
+
 #include <gst/rtp/rtp.h>
 #include <string.h>
 
 /* Room for one packet with the longest message. */
 #define RTCP_ROOM 64
+/* ..and for a report, with a name of at most 255 bytes. */
+#define REPORT_ROOM 512
 
 static gboolean
 add_feedback (GstRTCPBuffer * rtcp, GstRTCPPacket * packet, GstRTCPFBType type, guint32 speaker,
@@ -39,6 +43,46 @@ add_rpsi (GstRTCPBuffer * rtcp, guint32 speaker, guint32 about, guint pt,
   fci[1] = pt;
   memcpy (fci + 2, message->bytes, message->length);
   return TRUE;
+}
+
+/**
+ * gst_h263rps_rtcp_begin:
+ * @pad: a source pad of RTCP
+ *
+ * Pushes what comes before the first packet.
+ */
+void
+gst_h263rps_rtcp_begin (GstPad * pad)
+{
+  GstSegment segment;
+  GstCaps *caps = gst_caps_new_empty_simple ("application/x-rtcp");
+  gchar *id = gst_h263rps_new_stream_id ("rtcp");
+
+  gst_segment_init (&segment, GST_FORMAT_TIME);
+  gst_pad_push_event (pad, gst_event_new_stream_start (id));
+  gst_pad_push_event (pad, gst_event_new_caps (caps));
+  gst_pad_push_event (pad, gst_event_new_segment (&segment));
+  gst_caps_unref (caps);
+  g_free (id);
+}
+
+/* Packets of RTCP go when they are made: they add no latency. */
+gboolean
+gst_h263rps_rtcp_query (GstPad * pad, GstObject * parent, GstQuery * query)
+{
+  if (GST_QUERY_TYPE (query) != GST_QUERY_LATENCY)
+    return gst_pad_query_default (pad, parent, query);
+  gst_query_set_latency (query, TRUE, 0, GST_CLOCK_TIME_NONE);
+  return TRUE;
+}
+
+/* A name that tells nobody anything (RFC 7022). */
+gchar *
+gst_h263rps_rtcp_new_name (void)
+{
+  guint32 words[3] = { g_random_int (), g_random_int (), g_random_int () };
+
+  return g_base64_encode ((const guchar *) words, sizeof words);
 }
 
 /**
@@ -126,4 +170,124 @@ gst_h263rps_rtcp_read_fci (h263rps_message * message, const guint8 * fci, gsize 
   memcpy (message->bytes, fci + 2, count);
   message->length = count;
   return TRUE;
+}
+
+/* ---- reports ---- */
+
+static void
+add_name (GstRTCPBuffer * rtcp, guint32 speaker, const gchar * name)
+{
+  GstRTCPPacket packet;
+
+  gst_rtcp_buffer_add_packet (rtcp, GST_RTCP_TYPE_SDES, &packet);
+  gst_rtcp_packet_sdes_add_item (&packet, speaker);
+  gst_rtcp_packet_sdes_add_entry (&packet, GST_RTCP_SDES_CNAME, MIN (strlen (name), 255),
+      (const guint8 *) name);
+}
+
+/**
+ * gst_h263rps_rtcp_new_sender_report:
+ * @info: what the report says
+ * @name: the sender's CNAME
+ *
+ * Returns: (transfer full): a compound packet
+ */
+GstBuffer *
+gst_h263rps_rtcp_new_sender_report (const GstH263RpsSenderInfo * info, const gchar * name)
+{
+  GstRTCPBuffer rtcp = GST_RTCP_BUFFER_INIT;
+  GstRTCPPacket packet;
+  GstBuffer *buffer = gst_rtcp_buffer_new (REPORT_ROOM);
+
+  gst_rtcp_buffer_map (buffer, GST_MAP_READWRITE, &rtcp);
+  gst_rtcp_buffer_add_packet (&rtcp, GST_RTCP_TYPE_SR, &packet);
+  gst_rtcp_packet_sr_set_sender_info (&packet, info->ssrc, info->ntp, info->rtp, info->packets,
+      info->octets);
+  add_name (&rtcp, info->ssrc, name);
+  gst_rtcp_buffer_unmap (&rtcp);
+  return buffer;
+}
+
+/**
+ * gst_h263rps_rtcp_new_receiver_report:
+ * @speaker: the SSRC of the receiver
+ * @block: how the stream arrives
+ * @name: the receiver's CNAME
+ *
+ * Returns: (transfer full): a compound packet
+ */
+GstBuffer *
+gst_h263rps_rtcp_new_receiver_report (guint32 speaker, const GstH263RpsBlock * block,
+    const gchar * name)
+{
+  GstRTCPBuffer rtcp = GST_RTCP_BUFFER_INIT;
+  GstRTCPPacket packet;
+  GstBuffer *buffer = gst_rtcp_buffer_new (REPORT_ROOM);
+
+  gst_rtcp_buffer_map (buffer, GST_MAP_READWRITE, &rtcp);
+  gst_rtcp_buffer_add_packet (&rtcp, GST_RTCP_TYPE_RR, &packet);
+  gst_rtcp_packet_rr_set_ssrc (&packet, speaker);
+  gst_rtcp_packet_add_rb (&packet, block->ssrc, block->fraction, block->lost, block->highest,
+      block->jitter, block->last, block->delay);
+  add_name (&rtcp, speaker, name);
+  gst_rtcp_buffer_unmap (&rtcp);
+  return buffer;
+}
+
+/* Whether a packet is a sender report; what it says. */
+gboolean
+gst_h263rps_rtcp_read_info (GstRTCPPacket * packet, GstH263RpsSenderInfo * info)
+{
+  if (gst_rtcp_packet_get_type (packet) != GST_RTCP_TYPE_SR)
+    return FALSE;
+  gst_rtcp_packet_sr_get_sender_info (packet, &info->ssrc, &info->ntp, &info->rtp, &info->packets,
+      &info->octets);
+  return TRUE;
+}
+
+/* Whether a report has a block about this stream; what it says, and who says it. */
+gboolean
+gst_h263rps_rtcp_read_block (GstRTCPPacket * packet, guint32 about, guint32 * speaker,
+    GstH263RpsBlock * block)
+{
+  GstRTCPType type = gst_rtcp_packet_get_type (packet);
+  GstH263RpsSenderInfo info;
+  guint i;
+
+  if (type == GST_RTCP_TYPE_RR)
+    *speaker = gst_rtcp_packet_rr_get_ssrc (packet);
+  else if (gst_h263rps_rtcp_read_info (packet, &info))
+    *speaker = info.ssrc;
+  else
+    return FALSE;
+  for (i = 0; i < gst_rtcp_packet_get_rb_count (packet); i++) {
+    gst_rtcp_packet_get_rb (packet, i, &block->ssrc, &block->fraction, &block->lost,
+        &block->highest, &block->jitter, &block->last, &block->delay);
+    if (block->ssrc == about)
+      return TRUE;
+  }
+  return FALSE;
+}
+
+/**
+ * gst_h263rps_rtcp_read_fir:
+ * @fci: the feedback control information of a full intra request (RFC 5104, 4.3.1)
+ * @length: its length
+ * @about: a stream
+ * @number: (out): the request's number, which a repetition has, too
+ *
+ * Returns: whether it asks for an intra picture of this stream
+ */
+gboolean
+gst_h263rps_rtcp_read_fir (const guint8 * fci, gsize length, guint32 about, guint8 * number)
+{
+  gsize at;
+
+  for (at = 0; at + 8 <= length; at += 8) {
+    if (GST_READ_UINT32_BE (fci + at) == about) {
+      *number = fci[at + 4];
+      return TRUE;
+    }
+  }
+  return FALSE;
 }

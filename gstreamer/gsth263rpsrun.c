@@ -151,6 +151,15 @@ gst_h263rps_run_due (const GstH263RpsRun * run, GstClockTime * due)
   return TRUE;
 }
 
+/* The stream's timestamp of a picture that is due then: its time of capture. */
+guint32
+gst_h263rps_run_timestamp (const GstH263RpsRun * run, GstClockTime due)
+{
+  gint64 captured = (gint64) due - run->playout.wait - run->playout.least;
+
+  return run->numbers.first + (guint32) (captured / 100000 * 9 + captured % 100000 * 9 / 100000);
+}
+
 /**
  * gst_h263rps_run_play:
  * @run: a run

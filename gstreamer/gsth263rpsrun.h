@@ -77,6 +77,9 @@ G_GNUC_INTERNAL
 gboolean        gst_h263rps_run_due     (const GstH263RpsRun * run, GstClockTime * due);
 
 G_GNUC_INTERNAL
+guint32         gst_h263rps_run_timestamp (const GstH263RpsRun * run, GstClockTime due);
+
+G_GNUC_INTERNAL
 gboolean        gst_h263rps_run_play    (GstH263RpsRun * run, guint8 * samples,
                                          h263rps_answer * answer, GstClockTime when);
 

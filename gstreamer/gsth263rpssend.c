@@ -9,11 +9,15 @@
  *
  * It is coder and payloader in one, since the coder cuts the packets and lives by what comes back:
  * a message about each picture (RPSI, RFC 4585, 6.3.3), at the pad rtcp_sink or by the session of
- * #GstH263RpsSend:session. While one receiver is heard, messages of others don't count.
+ * #GstH263RpsSend:session. While one receiver is heard, messages of others don't count. Where none
+ * comes, each picture is intra; after five seconds a warning says so.
  *
  * Pictures of 128x96, 176x144 and 352x288 are taken. Another size within a call begins a new run,
- * under a new SSRC. A GstForceKeyUnit event from either side, and a picture loss indication at
- * rtcp_sink, make the next picture intra.
+ * under a new SSRC. A GstForceKeyUnit event from either side, and a picture loss indication or a
+ * full intra request at rtcp_sink, make the next picture intra.
+ *
+ * Sender reports (RFC 3550) go out at rtcp_src, by which a receiver plays other streams of the same
+ * #GstH263RpsSend:cname at the same time; a session makes its own.
  *
  * ## Example launch line
  * |[
@@ -58,6 +62,10 @@ GST_DEBUG_CATEGORY_STATIC (h263rpssend_debug);
 
 /* Messages that may wait for the next picture; what comes then is dropped. */
 #define MOST_WAITING 256
+/* A run of which no message came back for so long (in us) has no back channel. */
+#define ALONE (5 * G_USEC_PER_SEC)
+/* The bytes of an RTP header, as the library writes it. */
+#define RTP_HEADER 12
 
 enum
 {
@@ -70,6 +78,7 @@ enum
   PROP_CUSTOM_CLOCK,
   PROP_MIN_FORCE_KEY_UNIT_INTERVAL,
   PROP_SESSION,
+  PROP_CNAME,
   PROP_RECORD_LOCATION,
   PROP_STATS
 };
@@ -85,13 +94,13 @@ struct _GstH263RpsSend
 {
   GstRTPBasePayload parent;
 
-  GstPad *rtcp_sinkpad;
+  GstPad *rtcp_sinkpad, *rtcp_srcpad;
 
   /* properties, under the object's lock */
   guint bitrate, quant, radius, slots, lead;
   gboolean custom_clock;
   guint64 min_force_key_unit_interval;
-  gchar *record_location;
+  gchar *cname, *record_location;
   GObject *session;
   gulong session_handler;
 
@@ -103,6 +112,9 @@ struct _GstH263RpsSend
   guint8 *packed;
   GstH263RpsRecord *record;
   guint recorded;
+  gint64 run_at;                /* when it began, in us; 0 once it is told that it is alone */
+  gboolean is_rtcp_begun;
+  GstClockTime next_report;     /* running time */
 
   /* what came back, for the streaming thread, and the counts: under this lock */
   GMutex lock;
@@ -114,6 +126,12 @@ struct _GstH263RpsSend
   gint64 heard;                 /* when a message of the speaker was noted, in us */
   gboolean wants_intra;
   gint64 intra_at;              /* when an intra picture was asked for last, in us */
+  gboolean has_fir;
+  guint8 fir;                   /* the number of the last full intra request */
+  gboolean has_block;
+  GstH263RpsBlock block;        /* how the stream arrives */
+  GstClockTime round_trip;
+  GstH263RpsMeter meter;
   Counts counts, begun;         /* ..and as the run began */
 };
 
@@ -136,6 +154,12 @@ static GstStaticPadTemplate src_template = GST_STATIC_PAD_TEMPLATE ("src",
 
 static GstStaticPadTemplate rtcp_sink_template = GST_STATIC_PAD_TEMPLATE ("rtcp_sink",
     GST_PAD_SINK,
+    GST_PAD_ALWAYS,
+    GST_STATIC_CAPS ("application/x-rtcp")
+    );
+
+static GstStaticPadTemplate rtcp_src_template = GST_STATIC_PAD_TEMPLATE ("rtcp_src",
+    GST_PAD_SRC,
     GST_PAD_ALWAYS,
     GST_STATIC_CAPS ("application/x-rtcp")
     );
@@ -267,11 +291,13 @@ begin_run (GstH263RpsSend * self)
   }
   self->size = h263rps_picture_size (format);
   self->packed = g_malloc (self->size);
+  self->run_at = g_get_monotonic_time ();
   begin_record (self);
 
   g_mutex_lock (&self->lock);
   self->waiting_count = 0;
-  self->has_speaker = FALSE;
+  self->has_speaker = self->has_block = self->has_fir = FALSE;
+  self->round_trip = GST_CLOCK_TIME_NONE;
   self->counts.runs++;
   self->begun = self->counts;
   g_mutex_unlock (&self->lock);
@@ -403,18 +429,46 @@ ask_for_intra (GstH263RpsSend * self)
   g_mutex_unlock (&self->lock);
 }
 
+/* Under the lock: whether what this speaker says of a stream counts, be it no message. */
+static gboolean
+counts_speaker (GstH263RpsSend * self, guint32 speaker, guint32 about)
+{
+  gboolean counts = about == self->ssrc && (!self->has_speaker || speaker == self->speaker
+      || !is_lately (self->heard));
+
+  if (about != self->ssrc)
+    self->counts.stale++;
+  else if (!counts)
+    self->counts.other_speaker++;
+  return counts;
+}
+
 static void
 hear_picture_loss (GstH263RpsSend * self, guint32 speaker, guint32 about)
 {
   gboolean counts;
 
   g_mutex_lock (&self->lock);
-  counts = about == self->ssrc && (!self->has_speaker || speaker == self->speaker
-      || !is_lately (self->heard));
-  if (about != self->ssrc)
-    self->counts.stale++;
-  else if (!counts)
-    self->counts.other_speaker++;
+  counts = counts_speaker (self, speaker, about);
+  g_mutex_unlock (&self->lock);
+  if (counts)
+    ask_for_intra (self);
+}
+
+/* A request that is repeated has its number, and is answered once. */
+static void
+hear_full_intra (GstH263RpsSend * self, guint32 speaker, const guint8 * fci, gsize length)
+{
+  guint8 number;
+  gboolean counts = FALSE;
+
+  g_mutex_lock (&self->lock);
+  if (gst_h263rps_rtcp_read_fir (fci, length, self->ssrc, &number)
+      && counts_speaker (self, speaker, self->ssrc)) {
+    counts = !self->has_fir || number != self->fir;
+    self->has_fir = TRUE;
+    self->fir = number;
+  }
   g_mutex_unlock (&self->lock);
   if (counts)
     ask_for_intra (self);
@@ -428,6 +482,8 @@ hear_feedback (GstH263RpsSend * self, guint type, guint32 speaker, guint32 about
 
   if (type == GST_RTCP_PSFB_TYPE_PLI)
     hear_picture_loss (self, speaker, about);
+  else if (type == GST_RTCP_PSFB_TYPE_FIR)
+    hear_full_intra (self, speaker, fci, length);
   else if (type == GST_RTCP_PSFB_TYPE_RPSI) {
     if (gst_h263rps_rtcp_read_fci (&message, fci, length))
       hear_message (self, speaker, about, &message);
@@ -439,6 +495,26 @@ hear_feedback (GstH263RpsSend * self, guint type, guint32 speaker, guint32 about
   }
 }
 
+/* How the stream arrives, by a report of who hears it. */
+static void
+hear_report (GstH263RpsSend * self, GstRTCPPacket * packet)
+{
+  GstH263RpsBlock block;
+  GstClockTime round_trip;
+  guint32 speaker;
+
+  g_mutex_lock (&self->lock);
+  if (gst_h263rps_rtcp_read_block (packet, self->ssrc, &speaker, &block)
+      && counts_speaker (self, speaker, self->ssrc)) {
+    self->has_block = TRUE;
+    self->block = block;
+    round_trip = gst_h263rps_round_trip (gst_h263rps_ntp_now (), &block);
+    if (GST_CLOCK_TIME_IS_VALID (round_trip))
+      self->round_trip = round_trip;
+  }
+  g_mutex_unlock (&self->lock);
+}
+
 static void
 hear_packets (GstH263RpsSend * self, GstRTCPBuffer * rtcp)
 {
@@ -447,8 +523,10 @@ hear_packets (GstH263RpsSend * self, GstRTCPBuffer * rtcp)
 
   for (more = gst_rtcp_buffer_get_first_packet (rtcp, &packet); more;
       more = gst_rtcp_packet_move_to_next (&packet)) {
-    if (gst_rtcp_packet_get_type (&packet) != GST_RTCP_TYPE_PSFB)
+    if (gst_rtcp_packet_get_type (&packet) != GST_RTCP_TYPE_PSFB) {
+      hear_report (self, &packet);
       continue;
+    }
     hear_feedback (self, gst_rtcp_packet_fb_get_type (&packet),
         gst_rtcp_packet_fb_get_sender_ssrc (&packet), gst_rtcp_packet_fb_get_media_ssrc (&packet),
         gst_rtcp_packet_fb_get_fci (&packet), 4 * gst_rtcp_packet_fb_get_fci_length (&packet));
@@ -523,8 +601,10 @@ tell_messages (GstH263RpsSend * self)
   }
 
   g_mutex_lock (&self->lock);
-  if (noted)
+  if (noted) {
     self->heard = g_get_monotonic_time ();
+    self->run_at = 0;
+  }
   self->counts.noted += noted;
   self->counts.old += old;
   self->counts.malformed += malformed;
@@ -646,6 +726,87 @@ packets_of (GstH263RpsSend * self, const h263rps_coded * coded, GstBuffer * pict
   return list;
 }
 
+/* ---- reports ---- */
+
+static gboolean
+has_session (GstH263RpsSend * self)
+{
+  gboolean has;
+
+  GST_OBJECT_LOCK (self);
+  has = self->session != NULL;
+  GST_OBJECT_UNLOCK (self);
+  return has;
+}
+
+/* What has gone out, and the time now by the stream's timestamps, as an rtpsession counts it: from
+ * those of the last picture on. */
+static void
+read_info (GstH263RpsSend * self, GstH263RpsSenderInfo * info, GstClockTime now,
+    GstClockTime captured)
+{
+  guint timestamp;
+
+  g_object_get (self, "timestamp", &timestamp, NULL);
+  info->ssrc = GST_RTP_BASE_PAYLOAD (self)->current_ssrc;
+  info->ntp = gst_h263rps_ntp_now ();
+  info->rtp = timestamp + (now > captured ? gst_util_uint64_scale (now - captured, 90000,
+          GST_SECOND) : 0);
+  g_mutex_lock (&self->lock);
+  info->packets = self->counts.packets - self->begun.packets;
+  info->octets = self->counts.bytes - self->begun.bytes - RTP_HEADER * info->packets;
+  g_mutex_unlock (&self->lock);
+}
+
+static void
+send_report (GstH263RpsSend * self, GstClockTime now, GstClockTime captured)
+{
+  GstH263RpsSenderInfo info;
+  GstBuffer *buffer;
+
+  read_info (self, &info, now, captured);
+  GST_OBJECT_LOCK (self);
+  buffer = gst_h263rps_rtcp_new_sender_report (&info, self->cname);
+  GST_OBJECT_UNLOCK (self);
+  if (!self->is_rtcp_begun)
+    gst_h263rps_rtcp_begin (self->rtcp_srcpad);
+  self->is_rtcp_begun = TRUE;
+  gst_pad_push (self->rtcp_srcpad, buffer);
+}
+
+/* After a picture: a report where one is due. A session makes its own. */
+static void
+report_picture (GstH263RpsSend * self, GstClockTime pts)
+{
+  GstSegment *segment = &GST_RTP_BASE_PAYLOAD (self)->segment;
+  GstClockTime now = running_time (self);
+  GstClockTime captured = gst_segment_to_running_time (segment, GST_FORMAT_TIME, pts);
+
+  if (!gst_pad_is_linked (self->rtcp_srcpad) || has_session (self)
+      || !GST_CLOCK_TIME_IS_VALID (captured))
+    return;
+  if (!GST_CLOCK_TIME_IS_VALID (now))
+    now = captured;
+  if (GST_CLOCK_TIME_IS_VALID (self->next_report) && now < self->next_report)
+    return;
+  send_report (self, now, captured);
+  GST_OBJECT_LOCK (self);
+  self->next_report = now + gst_h263rps_report_interval (self->bitrate);
+  GST_OBJECT_UNLOCK (self);
+}
+
+/* Once in a run: what it means that nothing comes back. */
+static void
+tell_alone (GstH263RpsSend * self)
+{
+  if (self->run_at == 0 || g_get_monotonic_time () - self->run_at < ALONE)
+    return;
+  self->run_at = 0;
+  GST_ELEMENT_WARNING (self, STREAM, ENCODE, ("No message comes back, so each picture is intra."),
+      ("Is rtcp_sink linked, or session set? Does the other side select reference pictures "
+          "(in SDP: ack rpsi, nack rpsi)?"));
+}
+
 static void
 count_picture (GstH263RpsSend * self, const h263rps_coded * coded, guint64 bytes)
 {
@@ -656,6 +817,7 @@ count_picture (GstH263RpsSend * self, const h263rps_coded * coded, guint64 bytes
     self->counts.distance += coded->number - coded->reference;
   self->counts.packets += coded->packets;
   self->counts.bytes += bytes;
+  gst_h263rps_meter_add (&self->meter, 1000 * g_get_monotonic_time (), bytes, 0, 0);
   g_mutex_unlock (&self->lock);
 }
 
@@ -666,6 +828,7 @@ gst_h263rps_send_handle_buffer (GstRTPBasePayload * payload, GstBuffer * buffer)
   GstVideoFrame frame;
   GstBufferList *list;
   h263rps_coded coded;
+  GstClockTime pts = GST_BUFFER_PTS (buffer);
   guint32 status;
   guint64 bytes;
   GstFlowReturn flow;
@@ -695,6 +858,8 @@ gst_h263rps_send_handle_buffer (GstRTPBasePayload * payload, GstBuffer * buffer)
   if (coded.number == 0 && self->record)
     record_facts (self, coded.packets);
   check_record (self);
+  report_picture (self, pts);
+  tell_alone (self);
   return flow;
 
 not_negotiated:
@@ -717,8 +882,16 @@ refused:
 static gboolean
 gst_h263rps_send_sink_event (GstRTPBasePayload * payload, GstEvent * event)
 {
+  GstH263RpsSend *self = GST_H263RPS_SEND (payload);
+
   if (gst_video_event_is_force_key_unit (event))
-    ask_for_intra (GST_H263RPS_SEND (payload));
+    ask_for_intra (self);
+  if (GST_EVENT_TYPE (event) == GST_EVENT_EOS && gst_pad_is_linked (self->rtcp_srcpad)) {
+    if (!self->is_rtcp_begun)
+      gst_h263rps_rtcp_begin (self->rtcp_srcpad);
+    self->is_rtcp_begun = TRUE;
+    gst_pad_push_event (self->rtcp_srcpad, gst_event_new_eos ());
+  }
   return GST_RTP_BASE_PAYLOAD_CLASS (parent_class)->sink_event (payload, event);
 }
 
@@ -753,7 +926,7 @@ gst_h263rps_send_iterate_links (GstPad * pad, GstObject * parent)
   GstIterator *iterator;
   GValue value = G_VALUE_INIT;
 
-  if (pad == self->rtcp_sinkpad)
+  if (pad == self->rtcp_sinkpad || pad == self->rtcp_srcpad)
     return gst_iterator_new_single (GST_TYPE_PAD, NULL);
   other = pad == payload->sinkpad ? payload->srcpad : payload->sinkpad;
   g_value_init (&value, GST_TYPE_PAD);
@@ -829,6 +1002,12 @@ gst_h263rps_send_set_property (GObject * object, guint id, const GValue * value,
     case PROP_MIN_FORCE_KEY_UNIT_INTERVAL:
       self->min_force_key_unit_interval = g_value_get_uint64 (value);
       break;
+    case PROP_CNAME:
+      g_free (self->cname);
+      self->cname = g_value_dup_string (value);
+      if (!self->cname)
+        self->cname = gst_h263rps_rtcp_new_name ();
+      break;
     case PROP_RECORD_LOCATION:
       g_free (self->record_location);
       self->record_location = g_value_dup_string (value);
@@ -838,6 +1017,37 @@ gst_h263rps_send_set_property (GObject * object, guint id, const GValue * value,
       break;
   }
   GST_OBJECT_UNLOCK (self);
+}
+
+/* How the stream arrives, by the reports that came, or by those that the session heard. */
+static void
+add_reports (GstH263RpsSend * self, GstStructure * stats)
+{
+  GstH263RpsBlock block = { 0 };
+  GstClockTime round_trip = GST_CLOCK_TIME_NONE;
+  GObject *session;
+  guint64 bitrate;
+  gboolean has_block;
+
+  GST_OBJECT_LOCK (self);
+  session = self->session ? g_object_ref (self->session) : NULL;
+  GST_OBJECT_UNLOCK (self);
+  g_mutex_lock (&self->lock);
+  has_block = self->has_block;
+  if (has_block) {
+    block = self->block;
+    round_trip = self->round_trip;
+  }
+  bitrate = gst_h263rps_meter_bitrate (&self->meter, 1000 * g_get_monotonic_time ());
+  g_mutex_unlock (&self->lock);
+  if (session)
+    has_block = gst_h263rps_session_block (session, GST_RTP_BASE_PAYLOAD (self)->current_ssrc,
+        &block, &round_trip);
+  g_clear_object (&session);
+  gst_structure_set (stats, "bit-rate", G_TYPE_UINT64, bitrate, "round-trip", G_TYPE_UINT64,
+      round_trip, "jitter", G_TYPE_UINT64, has_block
+      ? gst_util_uint64_scale (block.jitter, GST_SECOND, 90000) : GST_CLOCK_TIME_NONE,
+      "fraction-lost", G_TYPE_DOUBLE, has_block ? block.fraction / 256.0 : -1.0, NULL);
 }
 
 /* The base class's statistics and those of the call. */
@@ -874,6 +1084,7 @@ create_stats (GstH263RpsSend * self)
       "runs", G_TYPE_UINT64, counts.runs,
       "intra-asked", G_TYPE_UINT64, counts.intra_asked,
       "intra-refused", G_TYPE_UINT64, counts.intra_refused, NULL);
+  add_reports (self, stats);
   return stats;
 }
 
@@ -913,6 +1124,9 @@ gst_h263rps_send_get_property (GObject * object, guint id, GValue * value, GPara
     case PROP_SESSION:
       g_value_set_object (value, self->session);
       break;
+    case PROP_CNAME:
+      g_value_set_string (value, self->cname);
+      break;
     case PROP_RECORD_LOCATION:
       g_value_set_string (value, self->record_location);
       break;
@@ -933,9 +1147,12 @@ gst_h263rps_send_change_state (GstElement * element, GstStateChange transition)
     g_mutex_lock (&self->lock);
     memset (&self->counts, 0, sizeof self->counts);
     self->waiting_count = 0;
-    self->has_speaker = self->wants_intra = FALSE;
+    memset (&self->meter, 0, sizeof self->meter);
+    self->has_speaker = self->wants_intra = self->has_block = self->has_fir = FALSE;
     self->intra_at = 0;
     g_mutex_unlock (&self->lock);
+    self->is_rtcp_begun = FALSE;
+    self->next_report = GST_CLOCK_TIME_NONE;
   }
   result = GST_ELEMENT_CLASS (parent_class)->change_state (element, transition);
   if (transition == GST_STATE_CHANGE_PAUSED_TO_READY)
@@ -956,6 +1173,7 @@ gst_h263rps_send_finalize (GObject * object)
   GstH263RpsSend *self = GST_H263RPS_SEND (object);
 
   finish_run (self);
+  g_free (self->cname);
   g_free (self->record_location);
   g_mutex_clear (&self->lock);
   G_OBJECT_CLASS (parent_class)->finalize (object);
@@ -973,6 +1191,8 @@ gst_h263rps_send_init (GstH263RpsSend * self)
   self->lead = DEFAULT_LEAD;
   self->custom_clock = DEFAULT_CUSTOM_CLOCK;
   self->min_force_key_unit_interval = DEFAULT_MIN_FORCE_KEY_UNIT_INTERVAL;
+  self->cname = gst_h263rps_rtcp_new_name ();
+  self->next_report = self->round_trip = GST_CLOCK_TIME_NONE;
   g_mutex_init (&self->lock);
 
   self->rtcp_sinkpad = gst_pad_new_from_static_template (&rtcp_sink_template, "rtcp_sink");
@@ -982,6 +1202,12 @@ gst_h263rps_send_init (GstH263RpsSend * self)
   gst_pad_set_iterate_internal_links_function (payload->sinkpad, gst_h263rps_send_iterate_links);
   gst_pad_set_iterate_internal_links_function (payload->srcpad, gst_h263rps_send_iterate_links);
   gst_element_add_pad (GST_ELEMENT (self), self->rtcp_sinkpad);
+
+  self->rtcp_srcpad = gst_pad_new_from_static_template (&rtcp_src_template, "rtcp_src");
+  gst_pad_set_query_function (self->rtcp_srcpad, gst_h263rps_rtcp_query);
+  gst_pad_set_iterate_internal_links_function (self->rtcp_srcpad, gst_h263rps_send_iterate_links);
+  gst_pad_use_fixed_caps (self->rtcp_srcpad);
+  gst_element_add_pad (GST_ELEMENT (self), self->rtcp_srcpad);
 }
 
 static void
@@ -1019,31 +1245,47 @@ gst_h263rps_send_class_init (GstH263RpsSendClass * klass)
   g_object_class_install_property (object_class, PROP_QUANT,
       g_param_spec_uint ("quant", "Quantiser", "The first and the finest quantiser", 1, 31,
           DEFAULT_QUANT, ready));
+  /**
+   * GstH263RpsSend:radius:
+   *
+   * How far the motion search goes from the samples' own place, each way.
+   */
   g_object_class_install_property (object_class, PROP_RADIUS,
       g_param_spec_uint ("radius", "Radius", "Samples that the motion search goes, each way",
           0, 15, DEFAULT_RADIUS, ready));
   /**
    * GstH263RpsSend:slots:
    *
-   * Pictures that each end keeps. Both ends need the same: the caps of the packets, and so the
-   * SDP, tell the receiver (x-slots). References may lie slots less lead less 1 pictures back, so
-   * they must hold the round trip.
+   * Pictures that are kept. References may lie slots less lead less 1 pictures back, so they must
+   * hold the round trip. A receiver needs as wide a window: the caps of the packets, and so the SDP,
+   * tell it (x-slots).
    */
   g_object_class_install_property (object_class, PROP_SLOTS,
-      g_param_spec_uint ("slots", "Slots", "Pictures that each end keeps", 2, 64, DEFAULT_SLOTS,
+      g_param_spec_uint ("slots", "Slots", "Pictures that are kept", 2, 64, DEFAULT_SLOTS,
           ready));
   /**
    * GstH263RpsSend:lead:
    *
-   * Pictures that may come before their turn. Both ends need the same: the caps tell the receiver
-   * (x-lead). It must be one more than the pictures of the receiver's latency.
+   * Pictures that may come before their turn, which the caps tell the receiver (x-lead). It takes a
+   * greater lead of its own where its latency needs one.
    */
   g_object_class_install_property (object_class, PROP_LEAD,
       g_param_spec_uint ("lead", "Lead", "Pictures that may come before their turn", 0, 62,
           DEFAULT_LEAD, ready));
+  /**
+   * GstH263RpsSend:custom-clock:
+   *
+   * Whether temporal references have 10 bits (the custom picture clock) in place of 8. The packets
+   * tell it.
+   */
   g_object_class_install_property (object_class, PROP_CUSTOM_CLOCK,
       g_param_spec_boolean ("custom-clock", "Custom clock",
           "Number pictures by 10 bits in place of 8", DEFAULT_CUSTOM_CLOCK, ready));
+  /**
+   * GstH263RpsSend:min-force-key-unit-interval:
+   *
+   * A request for an intra picture that comes sooner after another one is counted, and does nothing.
+   */
   g_object_class_install_property (object_class, PROP_MIN_FORCE_KEY_UNIT_INTERVAL,
       g_param_spec_uint64 ("min-force-key-unit-interval", "Minimum force key unit interval",
           "Least time between intra pictures that are asked for, in nanoseconds",
@@ -1057,6 +1299,15 @@ gst_h263rps_send_class_init (GstH263RpsSendClass * klass)
   g_object_class_install_property (object_class, PROP_SESSION,
       g_param_spec_object ("session", "Session", "An inner session of RTP that hears the messages",
           G_TYPE_OBJECT, playing));
+  /**
+   * GstH263RpsSend:cname:
+   *
+   * The canonical name of the sender reports at rtcp_src (RFC 3550, 6.5.1): streams of the same name
+   * are played at the same time. Drawn at random by default.
+   */
+  g_object_class_install_property (object_class, PROP_CNAME,
+      g_param_spec_string ("cname", "CNAME", "The canonical name of the sender reports (default == random)",
+          NULL, ready));
   /**
    * GstH263RpsSend:record-location:
    *
@@ -1072,7 +1323,9 @@ gst_h263rps_send_class_init (GstH263RpsSendClass * klass)
    * Those of the base class, and of this call: pictures "coded" and of them "intra", "packets",
    * "bytes", "mean-distance" to the reference in pictures; messages "noted", "old", "malformed",
    * "stale" (about another SSRC), of an "other-speaker", and "dropped" for want of room; "runs";
-   * intra pictures "intra-asked" and "intra-refused" (too soon after another).
+   * intra pictures "intra-asked" and "intra-refused" (too soon after another); "bit-rate" in the
+   * last second, in bits. By the receiver's reports: "round-trip" and "jitter" in ns, -1 as long as
+   * none came (%GST_CLOCK_TIME_NONE), and "fraction-lost", 0 to 1, or -1.
    */
   g_object_class_install_property (object_class, PROP_STATS,
       g_param_spec_boxed ("stats", "Statistics", "Counts of the call", GST_TYPE_STRUCTURE,
@@ -1082,6 +1335,7 @@ gst_h263rps_send_class_init (GstH263RpsSendClass * klass)
   gst_element_class_add_static_pad_template (element_class, &sink_template);
   gst_element_class_add_static_pad_template (element_class, &src_template);
   gst_element_class_add_static_pad_template (element_class, &rtcp_sink_template);
+  gst_element_class_add_static_pad_template (element_class, &rtcp_src_template);
   gst_element_class_set_static_metadata (element_class, "H.263 RPS sender",
       "Codec/Encoder/Payloader/Network/RTP",
       "Codes video in H.263 from acknowledged reference pictures, as RTP packets (RFC 4629)",

@@ -5,6 +5,7 @@ What an application adds is the way of the two descriptions and of ICE's candida
 handed over in memory. Needs Debian's python3-gi, gir1.2-gst-plugins-bad-1.0 and gstreamer1.0-nice."""
 
 import argparse
+import re
 import sys
 from typing import Any, Callable, Optional
 
@@ -13,14 +14,33 @@ import gi
 gi.require_version("Gst", "1.0")
 gi.require_version("GstSdp", "1.0")
 gi.require_version("GstWebRTC", "1.0")
-from gi.repository import GLib, Gst, GstSdp, GstWebRTC  # noqa: E402, F401
+from gi.repository import GLib, GObject, Gst, GstSdp, GstWebRTC  # noqa: E402
 
 CAPS = "video/x-raw,width=176,height=144,framerate=30/1"
 # A session delays feedback by its bandwidth (RFC 4585, 3.5): ten times the stream's is enough.
 BANDWIDTH = 4_300_000.0
 MARKS = ("exact", "patched", "held")
+# What both ends do by RTCP (RFC 4585, 4.2). webrtcbin writes only the third of these lines itself.
+FEEDBACK = ("ack rpsi", "nack rpsi", "nack pli")
 # Keys are made at the start, which may take seconds.
 PATIENCE = 60
+
+
+def with_feedback(text: str) -> str:
+    """A description in which the stream of H263-2000 says that reference pictures are selected."""
+    lines = text.splitlines()
+    for line in list(lines):
+        if line.startswith("a=rtpmap:") and " H263-2000/" in line:
+            kind = line[len("a=rtpmap:") :].split()[0]
+            added = [f"a=rtcp-fb:{kind} {what}" for what in FEEDBACK]
+            at = lines.index(line) + 1
+            lines[at:at] = [it for it in added if it not in lines]
+    return "".join(f"{line}\r\n" for line in lines)
+
+
+def knows_feedback(text: str) -> bool:
+    """Whether a description says so."""
+    return all(re.search(rf"^a=rtcp-fb:(\d+|\*) {what}\s*$", text, re.MULTILINE) for what in FEEDBACK[:2])
 
 
 class Party:
@@ -31,7 +51,9 @@ class Party:
         self.send, self.rtc = pipeline.get_by_name(f"send-{name}"), pipeline.get_by_name(f"rtc-{name}")
         self.recv: Optional[Gst.Element] = None
         self._kept: list[Any] = []
+        self._buffer: Optional[Gst.Element] = None
         self.rtc.connect("pad-added", self._on_pad)
+        self.rtc.get_by_name("rtpbin").connect("new-jitterbuffer", self._on_buffer)
 
     @staticmethod
     def text(name: str, loss: float) -> str:
@@ -53,9 +75,11 @@ class Party:
 
         def made(promise: Gst.Promise, _: Any) -> None:
             reply = promise.get_reply()
-            description = reply.get_value(kind)
+            own = reply.get_value(kind)
+            _, sdp = GstSdp.SDPMessage.new_from_text(with_feedback(own.sdp.as_text()))
+            description = GstWebRTC.WebRTCSessionDescription.new(own.type, sdp)
             # pygobject frees what isn't kept.
-            self._kept += [promise, reply, description]
+            self._kept += [promise, reply, own, sdp, description]
             self.rtc.emit("set-local-description", description, Gst.Promise.new())
             self.send.set_property("session", self.session())
             then(description)
@@ -63,7 +87,9 @@ class Party:
         self.rtc.emit(f"create-{kind}", None, Gst.Promise.new_with_change_func(made, None))
 
     def take(self, description: Any) -> None:
-        """The other side's description."""
+        """The other side's description. One that doesn't select reference pictures is sent intra ones alone."""
+        if not knows_feedback(description.sdp.as_text()):
+            print(f"{self.name}: the other side doesn't say ack rpsi, nack rpsi: each picture is intra", file=sys.stderr)
         self.rtc.emit("set-remote-description", description, Gst.Promise.new())
 
     def _on_pad(self, _: Gst.Element, pad: Gst.Pad) -> None:
@@ -71,7 +97,10 @@ class Party:
             return
         self.recv = Gst.ElementFactory.make("h263rpsrecv", f"recv-{self.name}")
         self.recv.set_property("session", self.session())
+        self._sync()
         screen = Gst.parse_bin_from_description(self._sink, True)
+        # It waits for its first picture by itself, and the pipeline, which plays, doesn't for it.
+        screen.set_property("async-handling", True)
         for element in (self.recv, screen):
             self._pipeline.add(element)
         self.recv.link(screen)
@@ -79,9 +108,23 @@ class Party:
             element.sync_state_with_parent()
         pad.link(self.recv.get_static_pad("sink"))
 
+    def _on_buffer(self, _: Gst.Element, buffer: Gst.Element, session: int, source: int) -> None:
+        self._buffer = buffer
+
+    def _sync(self) -> None:
+        """The offset by which a session plays one party's streams at the same time is that of the element, too."""
+        if self._buffer:
+            self._kept.append(self._buffer.bind_property("ts-offset", self.recv, "ts-offset", GObject.BindingFlags.SYNC_CREATE))
+
     def count(self, name: str) -> int:
         """A count of what this party shows."""
         return self.recv.get_property("stats").get_value(name) if self.recv else 0
+
+    @property
+    def round_trip(self) -> str:
+        """In milliseconds, by the other side's reports; - as long as none came."""
+        trip = self.send.get_property("stats").get_value("round-trip")
+        return "-" if trip == Gst.CLOCK_TIME_NONE else f"{trip / Gst.MSECOND:.0f} ms"
 
     @property
     def shown(self) -> int:
@@ -134,7 +177,7 @@ def main(words: list[str]) -> int:
     for party in (a, b):
         state = party.rtc.get_property("ice-connection-state").value_nick
         marks = " ".join(f"{name} {party.count(name)}" for name in MARKS)
-        print(f"{party.name}: ice {state}, {marks}")
+        print(f"{party.name}: ice {state}, {marks}, round trip {party.round_trip}")
     pipeline.set_state(Gst.State.NULL)
     for fault in faults:
         print(fault, file=sys.stderr)

@@ -23,7 +23,7 @@ typedef struct
   GstElement *send, *recv;
   GstHarness *out, *back, *in, *said;
   guint captured, size;
-  gint64 origin, next;          /* in us: the zero of times, and the next picture's */
+  gint64 next;                  /* the next picture's time, in us */
 } Call;
 
 static GstHarness *
@@ -51,7 +51,6 @@ static void
 begin_call (Call * call)
 {
   memset (call, 0, sizeof *call);
-  call->origin = g_get_monotonic_time ();
   call->send = gst_element_factory_make ("h263rpssend", NULL);
   call->recv = gst_element_factory_make ("h263rpsrecv", NULL);
   fail_unless (call->send && call->recv);
@@ -90,7 +89,8 @@ picture_of (const Call * call)
   for (i = 0; i < map.size; i++)
     map.data[i] = 60 + (i / 9 + 5 * call->captured + i * i / 4099) % 90;
   gst_buffer_unmap (buffer, &map);
-  GST_BUFFER_PTS (buffer) = 1000 * (guint64) (g_get_monotonic_time () - call->origin);
+  /* A harness has no base time. */
+  GST_BUFFER_PTS (buffer) = 1000 * (guint64) g_get_monotonic_time ();
   GST_BUFFER_DURATION (buffer) = PERIOD;
   return buffer;
 }
@@ -503,6 +503,240 @@ GST_START_TEST (test_one_speaker_counts)
 }
 GST_END_TEST;
 
+static GstBuffer *
+fir_of (guint32 speaker, guint32 about, guint8 number)
+{
+  GstRTCPBuffer rtcp = GST_RTCP_BUFFER_INIT;
+  GstRTCPPacket packet;
+  GstBuffer *buffer = gst_rtcp_buffer_new (64);
+  guint8 *fci;
+
+  gst_rtcp_buffer_map (buffer, GST_MAP_READWRITE, &rtcp);
+  gst_rtcp_buffer_add_packet (&rtcp, GST_RTCP_TYPE_PSFB, &packet);
+  gst_rtcp_packet_fb_set_type (&packet, GST_RTCP_PSFB_TYPE_FIR);
+  gst_rtcp_packet_fb_set_sender_ssrc (&packet, speaker);
+  gst_rtcp_packet_fb_set_media_ssrc (&packet, 0);
+  gst_rtcp_packet_fb_set_fci_length (&packet, 2);
+  fci = gst_rtcp_packet_fb_get_fci (&packet);
+  memset (fci, 0, 8);
+  GST_WRITE_UINT32_BE (fci, about);
+  fci[4] = number;
+  gst_rtcp_buffer_unmap (&rtcp);
+  return buffer;
+}
+
+/* A full intra request is heard, its repetition isn't, nor is one about another stream. */
+GST_START_TEST (test_full_intra_request)
+{
+  Call call;
+  guint64 before;
+  guint about;
+
+  begin_call (&call);
+  g_object_set (call.send, "min-force-key-unit-interval", (guint64) 0, NULL);
+  run_call (&call, 5, 0);
+  /* What was said by then is heard. */
+  capture (&call);
+  about = ssrc_of (call.send);
+  g_usleep (600000);
+  gst_harness_push (call.back, fir_of (77, about + 1, 1));
+  assert_count (call.send, "intra-asked", 0);
+  gst_harness_push (call.back, fir_of (77, about, 1));
+  gst_harness_push (call.back, fir_of (77, about, 1));
+  assert_count (call.send, "intra-asked", 1);
+  before = count_of (call.send, "intra");
+  capture (&call);
+  assert_count (call.send, "intra", before + 1);
+  gst_harness_push (call.back, fir_of (77, about, 2));
+  assert_count (call.send, "intra-asked", 2);
+  end_call (&call);
+}
+GST_END_TEST;
+
+/* ---- reports ---- */
+
+static gdouble
+number_of (GstElement * element, const gchar * name)
+{
+  GstStructure *stats;
+  gdouble number = 0;
+
+  g_object_get (element, "stats", &stats, NULL);
+  fail_unless (gst_structure_get_double (stats, name, &number), "no %s", name);
+  gst_structure_free (stats);
+  return number;
+}
+
+/* What the sender reports goes to the receiver; whether any was a report. */
+static guint
+pass_reports (Call * call, GstHarness * reports, GstHarness * heard)
+{
+  GstBuffer *buffer;
+  guint count = 0;
+
+  while ((buffer = gst_harness_try_pull (reports))) {
+    GstRTCPBuffer rtcp = GST_RTCP_BUFFER_INIT;
+    GstRTCPPacket packet;
+
+    fail_unless (gst_rtcp_buffer_validate (buffer));
+    gst_rtcp_buffer_map (buffer, GST_MAP_READ, &rtcp);
+    fail_unless (gst_rtcp_buffer_get_first_packet (&rtcp, &packet));
+    fail_unless_equals_int (gst_rtcp_packet_get_type (&packet), GST_RTCP_TYPE_SR);
+    gst_rtcp_buffer_unmap (&rtcp);
+    count++;
+    gst_harness_push (heard, buffer);
+  }
+  return count;
+}
+
+/* The sender's times are those of the captures, to a second; how many pictures have one. */
+static guint
+assert_times (Call * call)
+{
+  GstCaps *caps = gst_caps_new_empty_simple ("timestamp/x-ntp");
+  guint64 now = (guint64) g_get_real_time () * 1000 + 2208988800 * GST_SECOND;
+  guint64 us = g_get_monotonic_time ();
+  GstBuffer *buffer;
+  guint count = 0;
+
+  while ((buffer = gst_harness_try_pull (call->in))) {
+    GstReferenceTimestampMeta *meta = gst_buffer_get_reference_timestamp_meta (buffer, caps);
+
+    if (meta) {
+      gint64 ago = (gint64) (us * 1000) - (gint64) GST_BUFFER_PTS (buffer);
+      gint64 apart = (gint64) (now - meta->timestamp) - ago;
+
+      fail_unless (ABS (apart) < 1000 * (gint64) GST_MSECOND, "%" G_GINT64_FORMAT, apart);
+      count++;
+    }
+    gst_buffer_unref (buffer);
+  }
+  gst_caps_unref (caps);
+  return count;
+}
+
+GST_START_TEST (test_reports)
+{
+  GstHarness *reports, *heard;
+  Call call;
+  guint i, count = 0;
+
+  begin_call (&call);
+  reports = quick_harness (call.send, NULL, "rtcp_src");
+  heard = quick_harness (call.recv, "rtcp_sink", NULL);
+  gst_harness_set_src_caps_str (heard, "application/x-rtcp");
+  fail_unless (number_of (call.send, "fraction-lost") < 0);
+  fail_unless (number_of (call.recv, "exact-share") < 0);
+  for (i = 0; i < 30; i++) {
+    run_call (&call, 10, 10);
+    count += pass_reports (&call, reports, heard);
+  }
+  fail_unless (count >= 2 && count <= 12, "%u reports", count);
+  fail_unless (assert_times (&call) > 50);
+  fail_unless (count_of (call.send, "round-trip") < GST_SECOND);
+  fail_unless (count_of (call.send, "jitter") < GST_SECOND);
+  fail_unless (count_of (call.recv, "jitter") < GST_SECOND);
+  fail_unless (count_of (call.recv, "bit-rate") > 10000);
+  fail_unless (count_of (call.send, "bit-rate") > 10000);
+  fail_unless (number_of (call.send, "fraction-lost") > 0.0);
+  fail_unless (number_of (call.send, "fraction-lost") < 0.5);
+  fail_unless (number_of (call.recv, "exact-share") > 0.5);
+  fail_unless (number_of (call.recv, "exact-share") < 1.0);
+  gst_harness_teardown (heard);
+  gst_harness_teardown (reports);
+  end_call (&call);
+}
+GST_END_TEST;
+
+/* Junk at the pads of reports costs a count. */
+GST_START_TEST (test_wrong_reports)
+{
+  GRand *rand = g_rand_new_with_seed (3);
+  GstHarness *heard;
+  Call call;
+  guint i;
+
+  begin_call (&call);
+  heard = quick_harness (call.recv, "rtcp_sink", NULL);
+  gst_harness_set_src_caps_str (heard, "application/x-rtcp");
+  run_call (&call, 20, 0);
+  for (i = 0; i < 4000; i++) {
+    gsize length = 4 * g_rand_int_range (rand, 0, 24), k;
+    GstBuffer *buffer = gst_buffer_new_allocate (NULL, length, NULL);
+    GstMapInfo map;
+
+    gst_buffer_map (buffer, &map, GST_MAP_WRITE);
+    for (k = 0; k < length; k++)
+      map.data[k] = g_rand_int_range (rand, 0, 256);
+    if (length >= 8) {
+      map.data[0] = 0x80 | (i % 4);
+      map.data[1] = 200 + i % 8;
+      GST_WRITE_UINT16_BE (map.data + 2, length / 4 - 1);
+      GST_WRITE_UINT32_BE (map.data + 4, ssrc_of (call.send));
+    }
+    gst_buffer_unmap (buffer, &map);
+    gst_harness_push (i % 2 ? heard : call.back, buffer);
+  }
+  run_call (&call, 30, 0);
+  drain ();
+  assert_nearly (call.recv, "exact", 50);
+  g_rand_free (rand);
+  gst_harness_teardown (heard);
+  end_call (&call);
+}
+GST_END_TEST;
+
+/* Pictures are shown later by the offset, and none is lost for it. */
+GST_START_TEST (test_ts_offset)
+{
+  GstClockTime times[2];
+  guint i;
+
+  for (i = 0; i < 2; i++) {
+    gint64 begun = g_get_monotonic_time ();
+    GstBuffer *buffer;
+    Call call;
+
+    begin_call (&call);
+    g_object_set (call.recv, "ts-offset", i * 700 * (gint64) GST_MSECOND, NULL);
+    run_call (&call, 60, 0);
+    drain ();
+    assert_nearly (call.recv, "exact", 60);
+    buffer = gst_harness_pull (call.in);
+    times[i] = GST_BUFFER_PTS (buffer) - 1000 * begun;
+    gst_buffer_unref (buffer);
+    end_call (&call);
+  }
+  fail_unless (times[1] > times[0] + 500 * GST_MSECOND && times[1] < times[0] + 1200 * GST_MSECOND,
+      "%" GST_TIME_FORMAT ", %" GST_TIME_FORMAT, GST_TIME_ARGS (times[0]), GST_TIME_ARGS (times[1]));
+}
+GST_END_TEST;
+
+/* A sender that nobody answers says so once, and sends intra pictures. */
+GST_START_TEST (test_nobody_answers)
+{
+  GstBus *bus = gst_bus_new ();
+  GstMessage *message;
+  Call call;
+  guint i;
+
+  begin_call (&call);
+  gst_element_set_bus (call.send, bus);
+  for (i = 0; i < 56; i++) {
+    capture (&call);
+    g_usleep (100000);
+  }
+  message = gst_bus_pop_filtered (bus, GST_MESSAGE_WARNING);
+  fail_unless (message != NULL);
+  gst_message_unref (message);
+  fail_unless (gst_bus_pop_filtered (bus, GST_MESSAGE_WARNING) == NULL);
+  assert_count (call.send, "intra", 56);
+  gst_element_set_bus (call.send, NULL);
+  gst_object_unref (bus);
+  end_call (&call);
+}
+GST_END_TEST;
+
 /* ---- what a network may send ---- */
 
 GST_START_TEST (test_wrong_datagrams)
@@ -783,11 +1017,70 @@ GST_START_TEST (test_a_record_without_room)
 }
 GST_END_TEST;
 
-/* A lead of 0 is one; a lead that the slots don't hold is told once. */
+static void
+assert_told (GstBus * bus, const gchar * part)
+{
+  GstMessage *message = gst_bus_pop_filtered (bus, GST_MESSAGE_ERROR);
+  GError *error = NULL;
+
+  fail_unless (message != NULL, "nothing is told of %s", part);
+  gst_message_parse_error (message, &error, NULL);
+  fail_unless (strstr (error->message, part) != NULL, "%s", error->message);
+  g_error_free (error);
+  gst_message_unref (message);
+  fail_unless (gst_bus_pop_filtered (bus, GST_MESSAGE_ERROR) == NULL);
+}
+
+/* A pair of slots and lead that can't be is told once, when the caps come, in words; as is a latency
+ * that can't be held beside the sender's window. */
+GST_START_TEST (test_an_impossible_pair)
+{
+  static const struct
+  {
+    const gchar *slots, *lead;
+    guint latency;
+    const gchar *told;
+  } rows[] = {
+    {"2", "62", 100, "slots are at least lead + 2"},
+    {"39", "38", 100, "slots are at least lead + 2"},
+    {"39", "6", 1100, "there is room for 1000 ms"},
+    {"64", "0", 100, "there is room for 0 ms"},
+    {"39", "6", 1000, NULL},
+    {"64", "62", 2000, NULL},
+    {"2", "0", 0, NULL},
+  };
+  guint i;
+
+  for (i = 0; i < G_N_ELEMENTS (rows); i++) {
+    GstBus *bus = gst_bus_new ();
+    GstElement *recv = gst_element_factory_make ("h263rpsrecv", NULL);
+    GstHarness *in;
+    gchar *caps = g_strdup_printf ("application/x-rtp, media = (string) video, "
+        "clock-rate = (int) 90000, encoding-name = (string) H263-2000, payload = (int) 96, "
+        "a-framerate = (string) 30, x-slots = (string) %s, x-lead = (string) %s", rows[i].slots,
+        rows[i].lead);
+
+    g_object_set (recv, "latency", rows[i].latency, NULL);
+    in = quick_harness (recv, "sink", "src");
+    gst_element_set_bus (recv, bus);
+    gst_harness_set_src_caps_str (in, caps);
+    if (rows[i].told)
+      assert_told (bus, rows[i].told);
+    else
+      fail_unless (gst_bus_pop_filtered (bus, GST_MESSAGE_ERROR) == NULL, "row %u", i);
+    gst_element_set_bus (recv, NULL);
+    gst_harness_teardown (in);
+    gst_object_unref (recv);
+    gst_object_unref (bus);
+    g_free (caps);
+  }
+}
+GST_END_TEST;
+
+/* A lead of 0 is one; and packets of a pair that can't be harm nothing. */
 GST_START_TEST (test_what_the_caps_say)
 {
   GstBus *bus = gst_bus_new ();
-  GstMessage *message;
   Call call;
 
   begin_call (&call);
@@ -806,12 +1099,43 @@ GST_START_TEST (test_what_the_caps_say)
       "clock-rate = (int) 90000, encoding-name = (string) H263-2000, payload = (int) 96, "
       "x-slots = (string) 2, x-lead = (string) 62");
   run_call (&call, 30, 0);
-  message = gst_bus_pop_filtered (bus, GST_MESSAGE_ERROR);
-  fail_unless (message != NULL);
-  gst_message_unref (message);
-  fail_unless (gst_bus_pop_filtered (bus, GST_MESSAGE_ERROR) == NULL);
+  assert_told (bus, "slots are at least lead + 2");
   gst_element_set_bus (call.recv, NULL);
   gst_object_unref (bus);
+  end_call (&call);
+}
+GST_END_TEST;
+
+/* The sender's lead is that of 100 ms, and every second picture comes a quarter of a second late: the
+ * receiver's own lead holds it. */
+GST_START_TEST (test_own_lead)
+{
+  GQueue sent[60];
+  GstBuffer *buffer;
+  Call call;
+  guint i;
+
+  begin_call (&call);
+  g_object_set (call.send, "slots", 39, "lead", 6, NULL);
+  set_size (&call, QCIF);
+  for (i = 0; i < G_N_ELEMENTS (sent) + 16; i++) {
+    if (i < G_N_ELEMENTS (sent)) {
+      g_queue_init (&sent[i]);
+      capture (&call);
+      if (i == 0)
+        pass_caps (&call);
+      while ((buffer = gst_harness_try_pull (call.out)))
+        g_queue_push_tail (&sent[i], buffer);
+      if (i % 2 == 0)
+        deliver (&call, &sent[i]);
+    }
+    if (i >= 16 && i % 2 == 1)
+      deliver (&call, &sent[i - 16]);
+    g_usleep (PERIOD / 1000);
+  }
+  drain ();
+  assert_count (call.recv, "early", 0);
+  assert_nearly (call.recv, "exact", 60);
   end_call (&call);
 }
 GST_END_TEST;
@@ -1020,6 +1344,11 @@ elements_suite (void)
   tcase_add_test (chain, test_force_key_unit);
   tcase_add_test (chain, test_bitrate_while_playing);
   tcase_add_test (chain, test_one_speaker_counts);
+  tcase_add_test (chain, test_full_intra_request);
+  tcase_add_test (chain, test_reports);
+  tcase_add_test (chain, test_wrong_reports);
+  tcase_add_test (chain, test_ts_offset);
+  tcase_add_test (chain, test_nobody_answers);
   tcase_add_test (chain, test_wrong_datagrams);
   tcase_add_test (chain, test_changed_packets);
   tcase_add_test (chain, test_forged_streams);
@@ -1029,6 +1358,8 @@ elements_suite (void)
   tcase_add_test (chain, test_no_latency);
   tcase_add_test (chain, test_a_record_without_room);
   tcase_add_test (chain, test_what_the_caps_say);
+  tcase_add_test (chain, test_an_impossible_pair);
+  tcase_add_test (chain, test_own_lead);
   tcase_add_test (chain, test_other_payload_type);
   tcase_add_test (chain, test_latency);
   tcase_add_test (chain, test_qos);
