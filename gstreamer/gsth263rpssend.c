@@ -21,8 +21,13 @@
  *
  * ## Example launch line
  * |[
- * gst-launch-1.0 -v videotestsrc is-live=true ! video/x-raw,width=176,height=144,framerate=30/1 \
- *     ! h263rpssend name=s ! h263rpsrecv name=r ! videoconvert ! autovideosink r.rtcp_src ! s.rtcp_sink
+ * gst-launch-1.0 videotestsrc is-live=true ! video/x-raw,width=176,height=144,framerate=30/1 \
+ *     ! h263rpssend name=s ! udpsink host=127.0.0.1 port=5004 sync=false async=false \
+ *     udpsrc port=5004 \
+ *     caps="application/x-rtp,media=video,clock-rate=90000,encoding-name=H263-2000,payload=96" \
+ *     ! h263rpsrecv name=r ! videoconvert ! autovideosink \
+ *     r.rtcp_src ! udpsink host=127.0.0.1 port=5005 sync=false async=false \
+ *     udpsrc port=5005 caps=application/x-rtcp ! s.rtcp_sink
  * ]| A call with itself.
  *
  * |[
