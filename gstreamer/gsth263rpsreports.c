@@ -14,10 +14,10 @@
 #define LEAST_INTERVAL 1
 #define MOST_INTERVAL 5
 
-static gint32
+static guint32
 ticks_of (GstClockTime time)
 {
-  return (guint32) gst_util_uint64_scale (time, TICKS, GST_SECOND);
+  return gst_util_uint64_scale (time, TICKS, GST_SECOND);
 }
 
 /**
@@ -30,7 +30,8 @@ gst_h263rps_reception_packet (GstH263RpsReception * reception, guint32 ssrc, gui
     guint32 timestamp, GstClockTime now)
 {
   /* Both differences wrap: the least one of 32 and of 16 bits is meant. */
-  gint32 transit = ticks_of (now) - (gint32) timestamp, apart;
+  guint32 transit = ticks_of (now) - timestamp;
+  gint32 apart;
   gint16 ahead;
 
   if (!reception->begun || reception->ssrc != ssrc) {
@@ -44,7 +45,7 @@ gst_h263rps_reception_packet (GstH263RpsReception * reception, guint32 ssrc, gui
   if (ahead > 0)
     reception->highest += ahead;
   reception->came++;
-  apart = (gint32) ((guint32) transit - (guint32) reception->transit);
+  apart = transit - reception->transit;
   reception->transit = transit;
   reception->jitter += (ABS ((gdouble) apart) - reception->jitter) / 16;
 }
@@ -197,11 +198,13 @@ gst_h263rps_ntp_now (void)
       | gst_util_uint64_scale (now % G_USEC_PER_SEC, G_GUINT64_CONSTANT (1) << 32, G_USEC_PER_SEC);
 }
 
-/* The time to the next report, drawn so that parties don't report at once. */
+/* The time to the next report, drawn so that parties don't report at once; of a stream whose bit
+ * rate isn't known yet (0) the least one. */
 GstClockTime
 gst_h263rps_report_interval (guint bitrate)
 {
-  gdouble mean = CLAMP ((gdouble) SHARE / MAX (bitrate, 1), LEAST_INTERVAL, MOST_INTERVAL);
+  gdouble mean = bitrate ? CLAMP ((gdouble) SHARE / bitrate, LEAST_INTERVAL, MOST_INTERVAL)
+      : LEAST_INTERVAL;
 
   return mean * g_random_double_range (0.5, 1.5) * GST_SECOND;
 }

@@ -63,7 +63,7 @@ struct _GstH263RpsReception
   guint32 ssrc;
   guint32 base, highest;
   guint64 came, came_before, expected_before;
-  gint32 transit;
+  guint32 transit;
   gdouble jitter;
   GstH263RpsSenderInfo info;
   GstClockTime info_at;
