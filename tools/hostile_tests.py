@@ -13,7 +13,7 @@ from pathlib import Path
 from typing import Any
 
 from calltools import logs, recorded, recorded_ways
-from page_tests import MARKS, Folder, Room, as_shown, frames, message, packet, whole_folder
+from page_tests import MARKS, Folder, Room, as_shown, frames, message, needs_pillow, packet, whole_folder
 from tool_modules import TOOLS
 
 MOST_MEMORY = 1 << 30
@@ -127,6 +127,7 @@ class HostileTest(Room):
                 logs.write_entry(file, logs.Entry("P"))
         return folder.shown(MARKS, as_shown(frames()[:4], MARKS)).done()
 
+    @needs_pillow
     def test_gaps_of_a_recording(self) -> None:
         """A gap is a few rows that say how many packets they stand for."""
         folder = self.one_end([n * 32_000 for n in range(200)], 100)
@@ -264,6 +265,7 @@ class HostileTest(Room):
         for data, place in ((b"x" * 9_000, "line 2"), (b"x\n" * 2_000_000, "line 100002")):
             self.refused(f"{place}: ", "chart_of_report", self.file("long", b"0 exact intra\n" + data), out)
 
+    @needs_pillow
     def test_settings_that_no_call_has(self) -> None:
         """Numbers of 400 digits, none, or a date with control characters: the page leaves them out."""
         folder = whole_folder(self.room / "call")

@@ -11,15 +11,20 @@ import socket
 import subprocess
 import tempfile
 import unittest
-import zlib
 from base64 import b64decode
 from collections import Counter
 from pathlib import Path
 from typing import Any, Optional, Sequence
 
-from calltools import errors, lanes, logs, made, program, recorded, recorded_ways, report
-from calltools import stored, traced, wavelet, way, y4m
+from calltools import errors, logs, made, program, recorded, recorded_ways, report, traced, way, y4m
 from tool_modules import TOOLS, tool
+
+try:
+    from calltools import stored
+except ImportError:
+    stored = None  # type: ignore[assignment]
+
+NO_PILLOW = "Pillow isn't there: apt install python3-pil"
 
 EXAMPLES = TOOLS.parent / "examples"
 VIDEO = EXAMPLES / "video.y4m"
@@ -31,6 +36,14 @@ SMALL = y4m.Size(*y4m.FORMATS["sub-qcif"])
 PERIOD = 1001 / 30000
 WITHOUT_END = ("meta", "link", "br", "input", "path")
 OUTSIDE = r"(?i)https?:|//[a-z]|url\(|@import|\bfetch\(|XMLHttpRequest|import\("
+
+
+def is_pillow_here() -> bool:
+    """In this Python, and in the one that tools are started with."""
+    return bool(stored) and not subprocess.run(["python3", "-c", "import PIL"], capture_output=True).returncode
+
+
+needs_pillow = unittest.skipUnless(is_pillow_here(), NO_PILLOW)
 
 
 def free_port() -> int:
@@ -78,23 +91,9 @@ def call_of(page: Path) -> dict[str, Any]:
 
 def samples_of(told: dict[str, Any]) -> list[bytes]:
     """The pictures that a page shows, decoded from its data."""
-    size = y4m.Size(told["width"], told["height"])
-    steps = stored.Steps(*told["steps"]) if told["steps"] else None
-    pictures: list[bytes] = []
-    for group in told["groups"]:
-        data = zlib.decompress(b64decode(group))
-        count = min(told["group"], told["count"] - len(pictures))
-        bits = data[1 : 1 + count * size.bytes // 8]
-        values = iter(data[1 + len(bits) :])
-        last = bytes(size.bytes)
-        for number in range(count):
-            here = bytearray()
-            for at, before in enumerate(last, number * size.bytes):
-                value = next(values) if bits[at >> 3] >> (at & 7) & 1 else 0
-                here.append((value + (before if data[0] else 0)) % 256)
-            last = bytes(here)
-            pictures.append(stored.decoded(size, last, steps))
-    return pictures
+    images = [stored.decoded(b64decode(image)) for image in told["images"]]
+    assert {len(image) for image in images} == {y4m.Size(told["width"], told["height"]).bytes}
+    return [images[number] for number in told["which"]]
 
 
 class Marks(html.parser.HTMLParser):
@@ -140,6 +139,8 @@ class Room(unittest.TestCase):
 
     def page(self, *words: object, name: str = "page.html") -> Path:
         """What the tool makes."""
+        if not stored:
+            self.skipTest(NO_PILLOW)
         page = self.room / name
         with contextlib.redirect_stderr(io.StringIO()) as told:
             tool("page_of_call").main([str(words[0]), str(page), *map(str, words[1:])])
@@ -262,7 +263,7 @@ class PageTest(Room):
         self.assertEqual((marks.names["title"], marks.names["b"], marks.names["script"]), (1, 0, 2))
         self.assertIn("<h1>A &lt;b&gt;call&lt;/b&gt; &amp; more&lt;/script&gt;</h1>", text)
         self.assertEqual(marks.attributes & {"src", "href", "style", "onclick", "onload"}, set())
-        without_data = re.sub(r'"groups":\[.*?\]|sha256-[^\']*', "", text)
+        without_data = re.sub(r'"images":\[.*?\]|sha256-[^\']*', "", text)
         self.assertNotRegex(without_data, OUTSIDE)
         self.assertIn("default-src 'none'", text)
         self.assertNotIn("{{", text)
@@ -282,15 +283,27 @@ class PageTest(Room):
 
     def test_a_page_that_cannot_fit_is_told(self) -> None:
         """It has the coarsest steps then, and the tool says how long it is."""
-        pictures = [random.Random(n).randbytes(SMALL.bytes) for n in range(20)]
-        lines = "".join(f"{number} exact intra\n" for number in range(len(pictures) * 13))
-        video = write_video(self.room / "noise.y4m", SMALL, pictures * 13)
+        pictures = [random.Random(n).randbytes(SMALL.bytes) for n in range(260)]
+        lines = "".join(f"{number} exact intra\n" for number in range(len(pictures)))
+        video = write_video(self.room / "noise.y4m", SMALL, pictures)
         report_of = self.file("report", lines.encode())
         page = self.page(report_of, "--shown", video, "--megabytes", 1)
         size = page.stat().st_size
         self.assertEqual(
             self.said, f"the page has {size:,} bytes: fewer --pictures make it shorter\n"
         )
+
+    def test_without_the_library_it_is_said_how_to_get_it(self) -> None:
+        """No page is left then; and input that is refused is so without it."""
+        (self.room / "PIL.py").write_text("raise ImportError(name='PIL')\n")
+        path = {**os.environ, "PYTHONPATH": str(self.room)}
+        page = self.room / "page.html"
+        how = "PIL: the library isn't there: apt install python3-pil, for /usr/bin/python3"
+        for call, told in ((BURST, f"page_of_call: {how}"), (VIDEO, f"{VIDEO}: line 3: it is longer than 8,192 letters")):
+            words = [TOOLS / "page_of_call", call, page, "--shown", VIDEO]
+            run = subprocess.run(words, capture_output=True, text=True, env=path)
+            self.assertEqual((run.returncode, run.stdout, run.stderr), (1, "", f"{told}\n"))
+            self.assertFalse(page.exists())
 
     def test_a_section(self) -> None:
         told = call_of(self.burst_page("--from", 5, "--pictures", 4))["ways"][0]
@@ -340,53 +353,50 @@ def contrast(one: str, other: str) -> float:
     return max(light(one), light(other)) / min(light(one), light(other))
 
 
+@unittest.skipUnless(stored, NO_PILLOW)
 class StoredTest(unittest.TestCase):
     """How pictures are stored."""
 
-    def test_the_transform_is_undone(self) -> None:
-        """Whatever the samples are: all bands together give them back."""
+    def test_what_is_exact_is_exact(self) -> None:
+        """Whatever the samples are, in each of the three formats."""
         draws = random.Random(3)
-        for width, height in ((176, 144), (88, 72), (8, 8), (16, 8)):
-            noise = bytes(draws.choices((0, 255, 128, 7), k=width * height))
-            bands = wavelet.bands_of(lanes.widened(noise, width, height, 128))
-            self.assertEqual(len(bands), len(wavelet.FINER))
-            self.assertEqual(sum(band.count for band in bands), width * height)
-            self.assertEqual(lanes.narrowed(wavelet.plane_of(bands), 128), noise)
-
-    def test_steps_round_towards_nothing(self) -> None:
-        values = list(range(-1000, 1000, 7)) + [0]
-        row = sum(lanes.BIAS + value << 16 * at for at, value in enumerate(values))
-        for steps in stored.LADDER[1:]:
-            assert steps
-            found = wavelet.in_steps(lanes.Plane(len(values), 1, row), steps.times, steps.bits)
-            sizes = [abs(value) * steps.times >> steps.bits for value in values]
-            signed = [-size if value < 0 else size for value, size in zip(values, sizes)]
-            wanted = bytes(min(max(value + 128, 0), 255) for value in signed)
-            self.assertEqual(lanes.narrowed(found, 128), wanted, steps)
+        for width, height in y4m.FORMATS.values():
+            size = y4m.Size(width, height)
+            for values in (range(256), (0, 255), (16, 128, 235)):
+                samples = bytes(draws.choices(values, k=size.bytes))
+                self.assertEqual(stored.decoded(stored.encoded(size, samples, None)), samples)
 
     def test_what_is_coarse_is_near(self) -> None:
-        (samples,) = noisy(1)
-        for bits, least in ((4, 41), (5, 37), (7, 31)):
-            steps = stored.Steps(4, bits)
-            kept = stored.stored(SMALL, [samples], steps)
-            wanted = stored.decoded(SMALL, stored.coded(SMALL, samples, steps), steps)
-            self.assertEqual(samples_of(kept.told()), [wanted])
-            self.assertGreater(kept.errors.psnr()[0], least)
+        pictures = noisy(1)
+        for quality, least in ((95, 41), (80, 37), (0, 31)):
+            kept = stored.film(SMALL, pictures).stored(quality)
+            (found,) = samples_of(kept.told())
+            errors_found = stored.errors_between(SMALL, pictures[0], found)
+            self.assertEqual(kept.errors, errors_found)
+            self.assertGreater(kept.errors.psnr()[0], least, quality)
 
-    def test_differences_are_of_bytes(self) -> None:
-        one, other = (bytes(random.Random(k).choices(range(256), k=999)) for k in (1, 2))
-        wanted = bytes((a - b) % 256 for a, b in zip(one, other))
-        self.assertEqual(stored.difference(one, other), wanted)
+    def test_the_same_picture_is_stored_once(self) -> None:
+        one, two, three = noisy(3)
+        pictures = [one, two, two, one, three, two]
+        for quality in (None, 80):
+            told = stored.film(SMALL, pictures).stored(quality).told()
+            self.assertEqual((told["which"], len(told["images"])), ([0, 1, 1, 0, 2, 1], 3))
+        self.assertEqual(samples_of(stored.film(SMALL, pictures).stored(None).told()), pictures)
 
     def test_long_calls_fit(self) -> None:
-        """With noise, which can't be foretold, the steps are as fine as the room allows."""
+        """With noise, which can't be foretold, they are as fine as the room allows."""
         pictures = noisy(40)
         for most in (600_000, 180_000, 70_000):
             videos = stored.fitting([(SMALL, pictures), (SMALL, pictures[::-1])], most)
             length = sum(video.length for video in videos)
             self.assertLessEqual(length, most)
             self.assertGreater(length, most // 3)
-            self.assertEqual(videos[0].steps, videos[1].steps)
+            self.assertEqual(videos[0].quality, videos[1].quality)
+
+    def test_where_nothing_differs_is_a_number(self) -> None:
+        """JSON has no infinite one."""
+        video = stored.Video(SMALL, 80, [], [], stored.Errors((0, 0, 0), (1, 1, 1)))
+        self.assertEqual(video.told()["psnr"], 99.0)
 
 
 class RecordedTest(Room):

@@ -3,6 +3,8 @@
 import subprocess
 import sys
 
+from .errors import BadInput
+
 # Debian's own Python, for which its packages are.
 SYSTEM = "/usr/bin/python3"
 
@@ -12,6 +14,11 @@ def help_for(module: str, package: str) -> str:
     if sys.executable != SYSTEM and _has(module):
         return f"{SYSTEM} has it: begin the line with {SYSTEM}"
     return f"apt install {package}, for {SYSTEM}"
+
+
+def refusal(what: str, fault: ImportError, module: str, package: str) -> BadInput:
+    """What is told of a tool, or of its option, that asks for a library which isn't there."""
+    return BadInput(what, fault.name or "", f"the library isn't there: {help_for(module, package)}")
 
 
 def _has(module: str) -> bool:

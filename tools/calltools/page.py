@@ -9,7 +9,7 @@ from pathlib import Path
 from typing import Optional, Sequence
 
 from . import stored, way, working
-from .quality import errors_between
+from .quality import SAME, errors_between
 from .report import MARKS
 
 WEB = Path(__file__).resolve().parent / "web"
@@ -17,9 +17,7 @@ _SCRIPTS = ("colours.js", "stored.js", "marks.js", "words.js", "timeline.js", "p
 _PLACE = re.compile(r"\{\{(\w+)\}\}")
 # What a picture's reference is where it is none, or isn't known.
 _INTRA, _UNKNOWN = -1, -2
-# Of psnr, in dB, where nothing differs.
-_SAME = 99.0
-# Bytes that the videos have in the page besides their groups.
+# Bytes that the videos have in the page besides their images.
 _MARGIN = 2_000
 
 
@@ -37,7 +35,7 @@ def _psnr(told: way.Way) -> list[float]:
     count = min(len(told.captured), len(told.shown))
     pairs = working.through(zip(told.captured, told.shown), "comparing pictures", count)
     values = (errors_between(told.size, one, other).psnr()[0] for one, other in pairs)
-    return [round(min(value, _SAME), 1) for value in values]
+    return [round(min(value, SAME), 1) for value in values]
 
 
 def _packet(packet: way.Packet) -> list[object]:

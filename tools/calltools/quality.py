@@ -15,6 +15,8 @@ except ImportError:
 
 _SQUARES = [difference * difference for difference in range(256)]
 MOST_DRAWN = 60.0
+# A PSNR in dB for where nothing differs, in a page.
+SAME = 99.0
 
 
 @dataclass(frozen=True)

@@ -212,12 +212,17 @@ function wayOf(told) {
   return way;
 }
 
+function tellFault(words) {
+  byId("fault").hidden = false;
+  byId("fault").textContent = words;
+}
+
 function start() {
-  if (typeof DecompressionStream === "undefined") {
-    byId("fault").hidden = false;
-    byId("fault").textContent = "This browser is too old: it has no DecompressionStream.";
+  if (typeof createImageBitmap === "undefined") {
+    tellFault("This browser is too old: it has no createImageBitmap.");
     return;
   }
+  if (!isReadBack()) tellFault("This browser alters the pictures that a page reads: they aren't exact here.");
   const ways = JSON.parse(byId("call").textContent).ways.map(wayOf);
   byId("choice").hidden = ways.length < 2;
   const option = (way, number) => new Option(way.name || `way ${number + 1}`, number);

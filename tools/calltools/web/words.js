@@ -69,7 +69,7 @@ function storedWords(way) {
   const both = [["captured", way.captured_video], ["shown", way.shown_video]];
   const videos = both.filter(([, video]) => video);
   if (!videos.length) return "";
-  if (!videos[0][1].steps) return "Stored exactly, sample by sample.";
+  if (videos[0][1].psnr === null) return "Stored exactly, sample by sample.";
   const psnr = videos.map(([name, video]) => `${name} ${video.psnr} dB`).join(", ");
   return `Stored at reduced precision (PSNR of Y: ${psnr}). Marks and quality are the real ones.`;
 }
