@@ -1,13 +1,83 @@
-"""Tests of the page of a call in a real browser, where Chromium is there."""
+"""Tests of the page of a call in a real browser, where Chromium and selenium are there."""
 
+import json
+import shutil
 import unittest
 from base64 import b64decode
 from collections import Counter
 from pathlib import Path
 from typing import Any
 
-from calltools.browser import Browser, chromium
 from page_tests import SMALL, Room, call_of, noisy, samples_of, whole_folder, write_video
+
+try:
+    from selenium import webdriver
+    from selenium.webdriver.chrome.options import Options
+    from selenium.webdriver.chrome.service import Service
+except ImportError:
+    webdriver = None
+
+_DRIVER = shutil.which("chromedriver")
+_FLAGS = ("--headless=new", "--no-sandbox", "--disable-gpu", "--hide-scrollbars", "--window-size=1100,900")
+# As a browser reads back who guards its reader: it changes what was drawn.
+GUARDED = """const read = CanvasRenderingContext2D.prototype.getImageData;
+CanvasRenderingContext2D.prototype.getImageData = function (...words) {
+  const image = read.apply(this, words);
+  image.data[4] ^= 1;
+  return image;
+};"""
+
+
+class Browser:
+    """A headless Chromium with one page, driven by selenium."""
+
+    def __init__(self) -> None:
+        options = Options()
+        for flag in _FLAGS:
+            options.add_argument(flag)
+        options.set_capability("goog:loggingPrefs", {"browser": "ALL", "performance": "ALL"})
+        self.driver = webdriver.Chrome(service=Service(_DRIVER), options=options)
+
+    def ask(self, method: str, **parameters: Any) -> dict[str, Any]:
+        """The answer to a command of the DevTools protocol."""
+        return self.driver.execute_cdp_cmd(method, parameters)
+
+    def value(self, script: str) -> Any:
+        """What a script, or the promise that it makes, comes to."""
+        told = self.ask("Runtime.evaluate", expression=script, awaitPromise=True, returnByValue=True)
+        if "exceptionDetails" in told:
+            raise RuntimeError(str(told["exceptionDetails"]))
+        return told["result"].get("value")
+
+    def asked_for(self) -> list[str]:
+        """What was loaded since it was asked last."""
+        events = [json.loads(row["message"])["message"] for row in self.driver.get_log("performance")]
+        return [event["params"]["request"]["url"] for event in events if event["method"] == "Network.requestWillBeSent"]
+
+    def resize(self, width: int, height: int, scale: float = 1, is_phone: bool = False) -> None:
+        """The size of the page's window."""
+        size = {"width": width, "height": height, "deviceScaleFactor": scale, "mobile": is_phone}
+        self.ask("Emulation.setDeviceMetricsOverride", **size)
+        self.ask("Emulation.setTouchEmulationEnabled", enabled=is_phone)
+
+    def scheme(self, name: str) -> None:
+        """`light` or `dark`."""
+        self.ask("Emulation.setEmulatedMedia", features=[{"name": "prefers-color-scheme", "value": name}])
+
+    def key(self, name: str, code: str = "", modifiers: int = 0) -> None:
+        """A key is pressed and let go; modifiers 8 is Shift."""
+        key = {"key": name, "code": code or name, "modifiers": modifiers}
+        text = {"text": name} if len(name) == 1 else {}
+        self.ask("Input.dispatchKeyEvent", type="keyDown", **key, **text)
+        self.ask("Input.dispatchKeyEvent", type="keyUp", **key)
+
+    def touch(self, *places: tuple[float, float]) -> None:
+        """A finger is set down at the first place, drawn over the others and lifted."""
+        for number, (x, y) in enumerate(places):
+            kind = "touchMove" if number else "touchStart"
+            self.ask("Input.dispatchTouchEvent", type=kind, touchPoints=[{"x": x, "y": y}])
+        self.ask("Input.dispatchTouchEvent", type="touchEnd", touchPoints=[])
+
 
 # A promise of the time when what the script says holds.
 UNTIL = "new Promise(done => {{ const look = () => {} ? done() : setTimeout(look, 5); look(); }})"
@@ -27,12 +97,14 @@ SMALL_TARGETS = """[...document.querySelectorAll("#transport button, #transport 
   .filter(one => one.offsetWidth < 44 || one.offsetHeight < 44).length"""
 
 
-@unittest.skipUnless(chromium(), "Chromium isn't there")
+@unittest.skipUnless(webdriver and _DRIVER, "no Chromium by selenium: apt install chromium-driver python3-selenium")
 class BrowserTest(Room):
-    def open(self, page: Path, place: str = "") -> Browser:
+    def open(self, page: Path, place: str = "", before: str = "") -> Browser:
+        """The page in a browser, in which a script may have run before."""
         browser = Browser()
-        self.addCleanup(browser.__exit__)
-        browser.open(page, place)
+        self.addCleanup(browser.driver.quit)
+        browser.ask("Page.addScriptToEvaluateOnNewDocument", source=before)
+        browser.driver.get(page.as_uri() + place)
         self.settled(browser)
         return browser
 
@@ -74,14 +146,16 @@ class BrowserTest(Room):
         browser = self.open(self.burst_page())
         browser.key("End")
         self.settled(browser)
-        events: dict[str, list[Any]] = {}
-        for event in browser.events:
-            events.setdefault(event.get("method", ""), []).append(event["params"])
-        asked = [event["request"]["url"] for event in events["Network.requestWillBeSent"]]
-        self.assertEqual([url for url in asked if not url.endswith("page.html")], [])
-        self.assertNotIn("Runtime.exceptionThrown", events)
-        self.assertNotIn("Log.entryAdded", events)
+        self.assertEqual({Path(url).name for url in browser.asked_for()}, {"page.html"})
+        self.assertEqual(browser.driver.get_log("browser"), [])
         self.assertTrue(browser.value("document.getElementById('fault').hidden"))
+
+    def test_a_browser_that_alters_what_is_read(self) -> None:
+        """It says so: its pictures aren't exact."""
+        browser = self.open(self.burst_page(), before=GUARDED)
+        told = "This browser alters the pictures that a page reads: they aren't exact here."
+        self.assertEqual(self.told(browser, "fault"), told)
+        self.assertFalse(browser.value("document.getElementById('fault').hidden"))
 
     def test_keys(self) -> None:
         browser = self.open(self.burst_page(), "#10")
