@@ -60,7 +60,7 @@ class RecordTest(unittest.TestCase):
         self.assertTrue(all(picture.captured is not None and picture.played > picture.captured for picture in way_of.pictures))
         tools = [["times_of_call", folder], ["page_of_call", folder, self.room / "page.html"], ["audit_log", folder, self.room / "audit.log"]]
         for name, *words in tools:
-            run = subprocess.run([TOP / "tools" / name, *words], capture_output=True, text=True)
+            run = subprocess.run([sys.executable, TOP / "tools" / name, *words], capture_output=True, text=True)
             self.assertEqual(run.returncode, 0, (name, run.stderr))
         if PROGRAM.exists():
             self.read_by_the_program(record)
