@@ -49,12 +49,6 @@ class BadLink:
         self._began: Optional[float] = None
         self.came = self.lost = self.twice = 0
 
-    def change(self, network: BadNetwork) -> None:
-        """From now on the way is this one. What is on it comes as it would have."""
-        if (network.loss, network.burst) != (self._network.loss, self._network.burst):
-            self._losses = GilbertElliott(network.loss, network.burst, self._draws)
-        self._network = network
-
     def take(self, data: bytes) -> None:
         """A datagram enters."""
         now = self._loop.now()

@@ -78,7 +78,6 @@ class CallNetwork(Lines):
     ) -> None:
         self._loop = loop
         self._channels: list[Channel] = []
-        self._links: list[BadLink] = []
         self.lines = [self._to(at, other)] if other else self._alone(at, network)
 
     @property
@@ -88,11 +87,6 @@ class CallNetwork(Lines):
     @property
     def long(self) -> int:
         return sum(channel.long for channel in self._channels)
-
-    def change(self, network: BadNetwork) -> None:
-        """Alone: from now on this is the network between the two parties."""
-        for link in self._links:
-            link.change(network)
 
     def close(self) -> None:
         for channel in self._channels:
@@ -120,7 +114,6 @@ class CallNetwork(Lines):
             for one, other, way in ((ends[1], ends[2], "forth"), (ends[2], ends[1], "back")):
                 link = BadLink(self._loop, network, f"{name} {way}", other.send)
                 one.on_datagram = link.take
-                self._links.append(link)
             near.append(ends[0])
             far.append(ends[3])
         return [Line(*near), Line(*far)]

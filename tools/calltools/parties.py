@@ -57,13 +57,12 @@ class Party:
         screen.on_gone, screen.on_fault = self._gone, self._fault
         self.screen, self.receiving = screen, receiving
 
-    def stop_camera(self, before: tuple[int, ...] = ()) -> None:
-        """No more pictures, and the other party is told, whichever of this side's streams it follows: this one, or one
-        from before."""
+    def stop_camera(self) -> None:
+        """No more pictures, and the other party is told."""
         if self.camera and self.sending:
             self.camera.stop()
-            for source in (*before, self.sending.source) * _BYES:
-                self._line.control.send(bye_bytes(source))
+            for _ in range(_BYES):
+                self._line.control.send(bye_bytes(self.sending.source))
 
     def stop(self) -> None:
         """Both ends finish; the receiving one plays what it has."""

@@ -184,12 +184,6 @@ class Recorder:
             run.flush()
         self._write_facts()
 
-    def stop(self) -> None:
-        """Nothing more is recorded of a call that goes on: the folder is one that was cut off here."""
-        for run in self._runs:
-            run.close()
-        self._folder = None
-
     def finish(self, counts: dict[str, Any]) -> None:
         """Closes the files, and writes what came of the call."""
         for run in self._runs:
