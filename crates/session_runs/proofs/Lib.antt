@@ -1,0 +1,5 @@
+mod Answering
+mod Configs
+mod Dues
+mod Playing
+mod Taking

@@ -1,0 +1,22 @@
+-- What the three runs of a session stand for.
+use Rattle.std.specs.Prelude.{◌≡◌, ℕ, ◌≤◌}
+use Rattle.session_intake.specs.declared.settings.Settings.{Settings}
+use Rattle.session_runs.specs.declared.three.ThreeRuns.{ThreeRuns}
+use Rattle.session_runs.specs.Kept.{HistoryStands, IsKept}
+use Rattle.session_runs.specs.Lines.{Lines}
+
+-- all have these settings, and nothing of them is later than now
+pub record AreKept (s : Settings) (now : ℕ) (t : ThreeRuns) : Type 0 where
+  pub followed : IsKept s now t.followed
+  pub former : IsKept s now t.former
+  pub tried : IsKept s now t.tried
+
+-- this came of their streams
+pub record LinesStand (t : ThreeRuns) (l : Lines) : Type 0 where
+  pub followed : HistoryStands t.followed l.followed
+  pub former : HistoryStands t.former l.former
+  pub tried : HistoryStands t.tried l.tried
+
+-- what is no later than one time is no later than a later one
+abbrev pub KeptLater : Type 0
+KeptLater = (s : Settings) (then now : ℕ) (t : ThreeRuns) → then ≤ now → AreKept s then t → AreKept s now t
