@@ -240,10 +240,10 @@ class Telephone {
     if (this.#call && !this.#isWithOther) this.#network.pass(() => this.#tell(is, { datagram }));
   }
 
-  #offerRecord({ name, file }) {
+  #offerRecord({ name, file, isCut }) {
     URL.revokeObjectURL(byId("save").href);
     Object.assign(byId("save"), { href: URL.createObjectURL(file), download: `${name}.tar` });
-    byId("save").textContent = this.#text("save", (file.size / 1e6).toFixed(1));
+    byId("save").textContent = this.#text(isCut ? "save_cut" : "save", (file.size / 1e6).toFixed(1));
     byId("saved").hidden = false;
   }
 

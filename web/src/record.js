@@ -72,6 +72,11 @@ export class Record {
     return this.#size === 0;
   }
 
+  /** Whether it was full before the call was over. */
+  get isCut() {
+    return this.#isCut;
+  }
+
   /** The folder of this name as one file (tar), after so many seconds of call. */
   file(name, seconds) {
     const files = [["call.json", [textBytes(`${JSON.stringify(this.#told(seconds), null, 1)}\n`)]], ...this.#parts];

@@ -70,7 +70,8 @@ class Ends {
     this.#record = null;
     if (!record || record.isEmpty) return;
     const name = `call-${new Date().toISOString().slice(0, 19).replace(/[:T]/g, "-")}`;
-    tell("recorded", { name, file: record.file(name, Math.round(1000 * (now() - record.began)) / 1000) });
+    const seconds = Math.round(1000 * (now() - record.began)) / 1000;
+    tell("recorded", { name, file: record.file(name, seconds), isCut: record.isCut });
   }
 
   /** A picture of the camera, which is then let go. */

@@ -1,6 +1,6 @@
 #!/usr/bin/env node
 /* A page's record that is full: the call may go on, and of what comes then nothing is kept; what was kept is cut off where
-   it was, as call.json says by having no counts. */
+   it was, as call.json says by having no counts, and the page at the call's end. */
 
 import assert from "node:assert";
 import { Record } from "../src/record.js";
@@ -16,11 +16,12 @@ async function packed(entries) {
   for (let number = 0; number < entries; number++) record.entry("recv", "K", number, body);
   record.entry("messages", "B", 1, new Uint8Array(1));
   const file = record.file("call", 1);
-  return { size: file.size, head: await file.slice(0, 4096).text() };
+  return { size: file.size, head: await file.slice(0, 4096).text(), isCut: record.isCut };
 }
 
 const small = await packed(10);
 const [full, fuller] = [await packed(4200), await packed(5000)];
+assert(!small.isCut && full.isCut && fuller.isCut);
 assert.match(small.head, /"counts"/);
 assert.doesNotMatch(full.head, /"counts"/);
 assert(full.size <= MOST && full.size > MOST - (1 << 20), `${full.size} bytes`);
