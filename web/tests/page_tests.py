@@ -5,6 +5,7 @@ import base64
 import json
 import os
 import re
+import tempfile
 import time
 import unittest
 import zlib
@@ -149,7 +150,7 @@ class PageTest(CallTest):
             blocked = page.driver.execute_async_script(
                 "const done = arguments[0]; fetch('https://example.org').then(() => done('fetched'), () => done('refused'))")
             self.assertEqual(blocked, "refused")
-        outer = PAGE.with_name("outer.html") if os.access(PAGE.parent, os.W_OK) else Path("/tmp/outer.html")
+        outer = PAGE.with_name("outer.html") if os.access(PAGE.parent, os.W_OK) else Path(tempfile.gettempdir(), "outer.html")
         outer.write_text(f"<iframe id=inner src={json.dumps(PAGE.as_uri())}></iframe>")
         try:
             with Page(address=outer.as_uri()) as page:
