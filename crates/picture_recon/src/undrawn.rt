@@ -13,7 +13,7 @@ ghost use Rattle.picture_recon.specs.Samples.{block_in, reconstruction};
 ghost use Rattle.picture_recon.specs.Undrawn.{block_of_bytes, byte_of, level_by_byte, undrawn_block, undrawn_mb, undrawn_mbs};
 
 use crate::blocks::{put_block, samples_at};
-use crate::laws::shown_one_by_one;
+use crate::laws;
 use crate::macroblocks::put_intra;
 use crate::values::marks_of_six;
 use h263_planes::{PictureMut, PictureRef, block_corner};
@@ -100,7 +100,7 @@ pub fn draw_undrawn(quant: u8, undrawn: PictureRef<'_>, out: &mut PictureMut<'_>
         ≡ reconstruction (picture undrawn.entry).format rounding reference
         (undrawn_mbs quant (picture undrawn.entry)) }
 {
-    shown_one_by_one();
+    laws::shown_one_by_one();
     out.is_picture();
     let format = undrawn.format();
     for at in 0..format.mbs() {

@@ -1,7 +1,7 @@
 //! The levels of coefficients (H.263, 6.2.1 and 6.2.2 the other way). A level is a quotient by
 //! twice the quantiser; many of one quantiser are found by a product in place of each division, in
 //! numbers of 16 bits, of which a processor's lane holds twice as many as of 32.
-ghost use Rattle.std.specs.Prelude.{◌≡◌, ℕ, ◌+◌, ◌-◌, ◌*◌, ◌/◌, ◌%◌, ◌≤◌, IsTrue, min, pos, unsigned_abs};
+ghost use Rattle.std.specs.Prelude.{◌≡◌, ℕ, ◌+◌, ◌-◌, ◌*◌, ◌/◌, ◌%◌, ◌≤◌, min, pos, unsigned_abs};
 ghost use Rattle.h263_types.specs.Blocks.{IsCoefficient, IsLevel, IsQuant};
 ghost use Rattle.quantiser.specs.Levels.{inter_level, intra_level, signed_of};
 ghost use Rattle.quantiser.specs.Factors.{IsFactor, IsShift, IsWord, limited_to_word};
@@ -160,24 +160,6 @@ pub fn level_with_rest(quant: u8, factor: Factor, half: u16, sixteenths: i16) ->
     let least = (sixteenths.unsigned_abs() + 6).saturating_sub(16 * half.min(4095));
     let (steps, rest) = steps_and_rest(quant, factor, least);
     (signed(sixteenths, steps as i16), rest)
-}
-
-/// The level of a coefficient of which sixteenths are known that are off by one and a half at most,
-/// less `half` of a step, and whether it is sure: whether the least and the most that the
-/// coefficient can be have as many steps ([`settled`](crate::laws::settled)).
-#[inline(always)]
-pub fn level_between(quant: u8, factor: Factor, half: u16, sixteenths: i16) -> (i16, bool)
-    requires quant { IsQuant quant }
-    requires factor { IsFactor quant factor }
-    requires sixteenths { IsWord sixteenths }
-    ensures level { result.0 ≡ signed_of sixteenths
-        (pos (steps_of quant ((unsigned_abs sixteenths + 6) / 16 - half))) }
-    ensures sure { IsTrue result.1 → steps_of quant ((unsigned_abs sixteenths + 6) / 16 - half)
-        ≡ steps_of quant ((unsigned_abs sixteenths + 9) / 16 - half) }
-    ensures range { IsLevel result.0 }
-{
-    let (level, rest) = level_with_rest(quant, factor, half, sixteenths);
-    (level, rest + 3 < 32 * u16::from(quant))
 }
 
 // `size`, 0 to 127, with the sign of `number`.

@@ -2,9 +2,8 @@
 //! of coefficients, and the zigzag order of a block's levels (6.2.3).
 //!
 //! [`value`] is of a level, [`level_intra`] and [`level_inter`] are of a coefficient; those
-//! `_by_factor` find many levels of one quantiser, [`level_with_rest`] and [`level_between`] are of a
-//! coefficient that is only bracketed;
-//! [`block_place`] and [`zigzag_place`] lead from one order to the other.
+//! `_by_factor` find many levels of one quantiser, [`level_with_rest`] is of a coefficient that is
+//! only bracketed; [`block_place`] and [`zigzag_place`] lead from one order to the other.
 //!
 //! ```rust
 //! assert_eq!(rt; (value(8, 1), value(5, -2), value(31, -127)), (23, -25, -2048));
@@ -29,8 +28,8 @@ ghost use Rattle.h263_types.specs.Blocks.{IsLevel, IsQuant, IsValue};
 ghost use Rattle.quantiser.specs.Levels.{value_of, value_size};
 
 pub use coefficients::{
-    Factor, factor_of, level_between, level_inter, level_inter_by_factor, level_intra,
-    level_intra_by_factor, level_with_rest, limited,
+    Factor, factor_of, level_inter, level_inter_by_factor, level_intra, level_intra_by_factor,
+    level_with_rest, limited,
 };
 pub use scan::{block_place, zigzag_place};
 
