@@ -1,0 +1,7 @@
+mod Judging
+mod Later
+mod Looking
+mod Plays
+mod Reading
+mod Rivals
+mod Settling

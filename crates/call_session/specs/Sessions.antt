@@ -1,0 +1,228 @@
+-- A session, by what came and what was played. Times are nanoseconds; lists have the newest first.
+use Rattle.std.specs.Prelude.{ℕ, max, min, Bool, true, false, List, [], ◌∷◌, Option, Some, None, Result, Ok, Err}
+use Rattle.rtp_source.specs.Source.{renamed}
+use Rattle.receiver_end.specs.Answers.{mark_of}
+use Rattle.receiver_end.specs.State.{mark_after}
+use Rattle.stream_choice.specs.declared.streams.Run.{Run}
+use Rattle.stream_choice.specs.declared.streams.Taker.{Taker}
+use Rattle.stream_choice.specs.declared.streams.Taker.TheVariants as takers
+use Rattle.stream_choice.specs.Choice as choice
+use Rattle.stream_choice.specs.Granting.{is_granted}
+use Rattle.session_intake.specs.declared.counts.Counts.{Counts}
+use Rattle.session_intake.specs.declared.seen.Seen.{Seen}
+use Rattle.session_intake.specs.declared.seen.Cause.{Cause}
+use Rattle.session_intake.specs.declared.seen.Cause.TheVariants as causes
+use Rattle.session_intake.specs.Asked.{Asked, asked_of, no_asked, with_asked}
+use Rattle.session_intake.specs.Counts as counting
+use Rattle.session_intake.specs.Datagrams.{seen_in}
+use Rattle.session_runs.specs.Histories.{Answer, Config, entries_in}
+use Rattle.session_runs.specs.Lines.{line_of, run_of}
+use Rattle.session_runs.specs.Following.{Follows, after_play_of, after_taker, answer_of, noted, run_due}
+use Rattle.session_runs.specs.Followed.{begun_follows}
+
+-- What a session is at: the time; the streams and what came of them; when packets were asked for;
+-- when another stream came beside the one that is followed; and what is counted.
+pub record State : Type 0 where
+  pub now : ℕ
+  pub follows : Follows
+  pub asked : Asked
+  pub rivals : List ℕ
+  pub counts : Counts
+
+abbrev pub started : State
+started =
+    record {
+      now = 0;
+      follows = begun_follows 0;
+      asked = no_asked;
+      rivals = [];
+      counts = counting.none;
+    }
+
+-- ---- the clock
+
+-- The clock doesn't go back: a time before the last one counts as that. It stands at 2^62 - 1.
+abbrev pub time_of : ℕ → ℕ → ℕ
+time_of last now = max last (min now 4611686018427387903)
+
+abbrev pub at : ℕ → State → State
+at now st =
+    record {
+      now = time_of st.now now;
+      follows = st.follows;
+      asked = st.asked;
+      rivals = st.rivals;
+      counts = st.counts;
+    }
+
+-- ---- datagrams
+
+-- what is said of a datagram: dropped, or taken by a run, with the SSRC of its stream and its answer
+pub data Outcome : Type 0 where
+  Dropped : (cause : Cause) → Outcome
+  Taken : (run : Run) (source : ℕ) (answer : Answer) → Outcome
+
+abbrev pub dropped : Cause → State → State
+dropped cause st =
+    record {
+      now = st.now;
+      follows = st.follows;
+      asked = st.asked;
+      rivals = st.rivals;
+      counts = counting.after_drop cause st.counts;
+    }
+
+-- A packet comes beside a stream that is live: of a stream that was followed, or that has no run.
+abbrev pub is_beside : Taker → Bool → Bool
+is_beside takers.Former live = live
+is_beside takers.NoRun live = live
+is_beside takers.Followed live = false
+is_beside takers.Tried live = false
+is_beside takers.Begins live = false
+
+abbrev pub is_rival : Taker → State → Bool
+is_rival taker st = is_beside taker (choice.is_live_one st.follows.streams.followed st.now)
+
+-- that is told once a second
+abbrev pub rivals_after : Bool → ℕ → List ℕ → List ℕ
+rivals_after false now rivals = rivals
+rivals_after true now rivals = now ∷ rivals
+
+abbrev pub is_told : Bool → ℕ → List ℕ → Bool
+is_told false now rivals = false
+is_told true now rivals = is_granted 1 now rivals
+
+abbrev pub rivals_noted : Taker → State → State
+rivals_noted taker st =
+    record {
+      now = st.now;
+      follows = st.follows;
+      asked = st.asked;
+      rivals = rivals_after (is_rival taker st) st.now st.rivals;
+      counts = st.counts;
+    }
+
+abbrev pub counts_after : Option Run → Counts → Counts
+counts_after None counts = counting.after_drop causes.OtherStream counts
+counts_after (Some run) counts = counting.after_taken counts
+
+-- a packet that is looked at
+abbrev pub after_granted : Config → Seen → Taker → List ℕ → State → State
+after_granted c seen taker own st =
+    record {
+      now = st.now;
+      follows = after_taker c taker seen.packet own st.now (noted seen.source st.now st.follows);
+      asked = st.asked;
+      rivals = rivals_after (is_rival taker st) st.now st.rivals;
+      counts = counts_after (run_of taker) st.counts;
+    }
+
+abbrev pub after_grant : Config → Seen → Taker → List ℕ → Bool → State → State
+after_grant c seen taker own true st = after_granted c seen taker own st
+after_grant c seen taker own false st = dropped causes.TooFast st
+
+-- Its budget has one more: of the stream that is followed, of the former one, or of all others.
+abbrev pub is_looked_at : Taker → State → Bool
+is_looked_at taker st = is_granted 12000 st.now (asked_of taker st.asked)
+
+abbrev pub asked_for : Taker → State → State
+asked_for taker st =
+    record {
+      now = st.now;
+      follows = st.follows;
+      asked = with_asked taker st.now st.asked;
+      rivals = st.rivals;
+      counts = st.counts;
+    }
+
+abbrev pub after_seen : Config → Seen → Taker → List ℕ → State → State
+after_seen c seen taker own st =
+    after_grant c seen taker own (is_looked_at taker st) (asked_for taker st)
+
+abbrev pub taker_in : Seen → State → Taker
+taker_in seen st = choice.taker_of st.follows.streams seen.source st.now
+
+abbrev pub after_reading : Config → Result Seen Cause → List ℕ → State → State
+after_reading c (Err cause) own st = dropped cause st
+after_reading c (Ok seen) own st = after_seen c seen (taker_in seen st) own st
+
+-- Nothing is asked of a budget before a datagram is known to be a packet of the call's pictures.
+abbrev pub after_datagram : Config → List ℕ → ℕ → State → State
+after_datagram c bytes now st =
+    after_reading c (seen_in c.params bytes) (renamed bytes) (at now st)
+
+-- ---- what is said of them
+
+abbrev pub outcome_of_run : Config → Seen → Taker → Option Run → List ℕ → State → Outcome
+outcome_of_run c seen taker None own st = Dropped causes.OtherStream
+outcome_of_run c seen taker (Some run) own st =
+    Taken run seen.source
+    (answer_of c taker run seen.packet own st.now (noted seen.source st.now st.follows))
+
+abbrev pub outcome_of_grant : Config → Seen → Taker → List ℕ → Bool → State → Outcome
+outcome_of_grant c seen taker own true st = outcome_of_run c seen taker (run_of taker) own st
+outcome_of_grant c seen taker own false st = Dropped causes.TooFast
+
+abbrev pub outcome_of_seen : Config → Seen → Taker → List ℕ → State → Outcome
+outcome_of_seen c seen taker own st =
+    outcome_of_grant c seen taker own (is_looked_at taker st) st
+
+abbrev pub outcome_of_reading : Config → Result Seen Cause → List ℕ → State → Outcome
+outcome_of_reading c (Err cause) own st = Dropped cause
+outcome_of_reading c (Ok seen) own st = outcome_of_seen c seen (taker_in seen st) own st
+
+abbrev pub outcome_of : Config → List ℕ → ℕ → State → Outcome
+outcome_of c bytes now st =
+    outcome_of_reading c (seen_in c.params bytes) (renamed bytes) (at now st)
+
+-- whether it is told, with a packet, that another stream came beside a live one
+abbrev pub told_of_grant : Taker → Bool → State → Bool
+told_of_grant taker true st = is_told (is_rival taker st) st.now st.rivals
+told_of_grant taker false st = false
+
+abbrev pub told_of_seen : Taker → State → Bool
+told_of_seen taker st = told_of_grant taker (is_looked_at taker st) st
+
+abbrev pub told_of_reading : Result Seen Cause → State → Bool
+told_of_reading (Err cause) st = false
+told_of_reading (Ok seen) st = told_of_seen (taker_in seen st) st
+
+abbrev pub told_of : Config → List ℕ → ℕ → State → Bool
+told_of c bytes now st = told_of_reading (seen_in c.params bytes) (at now st)
+
+-- ---- plays
+
+abbrev pub counts_of_play : Config → Option Run → Follows → Counts → Counts
+counts_of_play c None f counts = counts
+counts_of_play c (Some run) f counts =
+    counting.after_play run (mark_of (mark_after c.params (entries_in c (line_of run f.lines)))) counts
+
+abbrev pub after_played : Config → Option Run → State → State
+after_played c run st =
+    record {
+      now = st.now;
+      follows = after_play_of run st.now st.follows;
+      asked = st.asked;
+      rivals = st.rivals;
+      counts = counts_of_play c run st.follows st.counts;
+    }
+
+-- the run of which a picture is played, if one is due
+abbrev pub played_run : Config → State → Option Run
+played_run c st = run_due c st.now st.follows
+
+abbrev pub after_turn : Config → ℕ → State → State
+after_turn c now st = after_played c (played_run c (at now st)) (at now st)
+
+-- ---- the whole
+
+-- a datagram came then, or the next picture was to be played if it was due
+pub data Entry : Type 0 where
+  Datagram : (bytes : List ℕ) (now : ℕ) → Entry
+  Turn : (now : ℕ) → Entry
+
+-- the session after these
+abbrev pub session_run : Config → List Entry → State
+session_run c [] = started
+session_run c (Datagram bytes now ∷ past) = after_datagram c bytes now (session_run c past)
+session_run c (Turn now ∷ past) = after_turn c now (session_run c past)

@@ -1,0 +1,254 @@
+//! The rules of a session, over packets as ends read them.
+ghost use Rattle.std.specs.Prelude.{◌≡◌, ◌<◌, ◌≤◌, ◌^◌, ℕ, List, IfOk};
+ghost use Rattle.h263_planes.specs.Lent.{picture};
+ghost use Rattle.h263_planes.specs.Samples.{IsPicture};
+ghost use Rattle.receiver_end.specs.State.{run_of as receivers_run};
+ghost use Rattle.stream_choice.specs.declared.streams.Taker.{Taker};
+ghost use Rattle.stream_choice.specs.Choice.{source_in};
+ghost use Rattle.session_intake.specs.Settings.{IsSettings};
+ghost use Rattle.session_runs.specs.Histories.{entries_in};
+ghost use Rattle.session_runs.specs.Following.{due_next};
+ghost use Rattle.session_runs.specs.Lines.{run_of};
+ghost use Rattle.session_runs.specs.Kept.{config_in};
+ghost use Rattle.call_session.specs.Sessions.{State, after_granted, after_played, after_seen, at, dropped};
+ghost use Rattle.call_session.specs.Sessions.{is_beside, is_rival, is_told, outcome_of_run, outcome_of_seen};
+ghost use Rattle.call_session.specs.Sessions.{played_run, rivals_noted, started, taker_in, told_of_seen};
+ghost use Rattle.call_session.specs.Ruled.{IsRules, IsRunPlayed, IsVerdict, StateStands, verdict_dropped};
+
+use crate::verdict::{Arrived, RunPlayed, Taken, Verdict};
+use h263_planes::PictureRef;
+use h263_types::{OutOfMemory, Params};
+use session_intake::{Budgets, Cause, Counts, Seen, Settings};
+use session_runs::Following;
+use session_runs::laws::kept_later;
+use std::alloc::Global;
+use stream_choice::{Budget, Run, Taker};
+
+// The clock stands at this time.
+const LAST: u64 = (1 << 62) - 1;
+
+/// The rules of a session. They must be finished, since they have no `Drop`.
+pub struct Rules {
+    settings: Settings,
+    time: u64,
+    following: Following,
+    budgets: Budgets,
+    rivals: Budget,
+    counts: Counts,
+}
+
+// Whether a packet with this taker comes beside a stream that is live.
+fn is_beside(taker: Taker, is_live: bool) -> bool
+    ensures { result ≡ is_beside taker is_live }
+{
+    match taker {
+        Taker::Former => is_live,
+        Taker::NoRun => is_live,
+        Taker::Followed => false,
+        Taker::Tried => false,
+        Taker::Begins => false,
+    }
+}
+
+impl Rules {
+    /// Nothing came. All memory is taken here.
+    pub fn start(alloc: Global, settings: &Settings) -> Result<Rules, OutOfMemory>
+        requires { IsSettings settings.now }
+        ensures rules { IfOk result IsRules }
+        ensures settings { IfOk result (λ r. r.settings ≡ settings.now) }
+        ensures stands { IfOk result (λ r. StateStands r started) }
+    {
+        let following = Following::start(alloc, settings)?;
+        Ok(Rules {
+            settings: *settings,
+            time: 0,
+            following,
+            budgets: Budgets::new(),
+            rivals: Budget::of(1),
+            counts: Counts::none(),
+        })
+    }
+
+    /// It is so late now.
+    pub fn tick(&mut self, now: u64)
+        requires { IsRules self.old }
+        ensures rules { IsRules self.new }
+        ensures settings { self.new.settings ≡ self.old.settings }
+        ensures stands { (st : State) → StateStands self.old st → StateStands self.new (at now st) }
+    {
+        kept_later();
+        self.time = self.time.max(now.min(LAST));
+    }
+
+    /// A datagram is dropped.
+    pub fn drop_for(&mut self, cause: Cause) -> Arrived
+        requires { IsRules self.old }
+        ensures rules { IsRules self.new }
+        ensures settings { self.new.settings ≡ self.old.settings }
+        ensures answer { result ≡ verdict_dropped cause }
+        ensures stands { (st : State) → StateStands self.old st
+            → StateStands self.new (dropped cause st) }
+    {
+        self.counts.drop_for(cause);
+        Arrived {
+            verdict: Verdict::Dropped(cause),
+            is_rival: false,
+        }
+    }
+
+    // Whether it is told that another stream comes beside a live one: once a second.
+    fn tells(&mut self, taker: Taker) -> bool
+        requires { IsRules self.old }
+        ensures rules { IsRules self.new }
+        ensures settings { self.new.settings ≡ self.old.settings }
+        ensures answer { (st : State) → StateStands self.old st
+            → result ≡ is_told (is_rival taker st) st.now st.rivals }
+        ensures stands { (st : State) → StateStands self.old st
+            → StateStands self.new (rivals_noted taker st) }
+    {
+        if is_beside(taker, self.following.is_live(self.time)) {
+            self.rivals.grants(self.time)
+        } else {
+            false
+        }
+    }
+
+    // A packet with this taker is looked at.
+    fn follow_granted(&mut self, seen: &Seen, taker: Taker, own: &[u8]) -> Arrived
+        requires rules { IsRules self.old }
+        requires reference { seen.now.packet.reference < self.old.settings.rate.period }
+        ensures rules { IsRules self.new }
+        ensures settings { self.new.settings ≡ self.old.settings }
+        ensures answer { (st : State) → StateStands self.old st
+            → IsVerdict self.old.settings.params.clock result.verdict
+            (outcome_of_run (config_in self.old.settings) seen.now taker (run_of taker) own.now st) }
+        ensures told { (st : State) → StateStands self.old st
+            → result.is_rival ≡ is_told (is_rival taker st) st.now st.rivals }
+        ensures stands { (st : State) → StateStands self.old st → StateStands self.new
+            (after_granted (config_in self.old.settings) seen.now taker own.now st) }
+    {
+        let is_rival = self.tells(taker);
+        self.following.note(seen.source, self.time);
+        let taken = self
+            .following
+            .take(&self.settings, taker, &seen.packet, own, self.time);
+        match taken {
+            None => {
+                self.counts.drop_for(Cause::OtherStream);
+                Arrived {
+                    verdict: Verdict::Dropped(Cause::OtherStream),
+                    is_rival,
+                }
+            }
+            Some((run, answer)) => {
+                self.counts.take();
+                Arrived {
+                    verdict: Verdict::Taken(Taken {
+                        run,
+                        source: seen.source,
+                        answer,
+                    }),
+                    is_rival,
+                }
+            }
+        }
+    }
+
+    /// A packet of the call's pictures came, by what it says and as ends read it.
+    pub fn follow(&mut self, seen: &Seen, own: &[u8]) -> Arrived
+        requires rules { IsRules self.old }
+        requires reference { seen.now.packet.reference < self.old.settings.rate.period }
+        ensures rules { IsRules self.new }
+        ensures settings { self.new.settings ≡ self.old.settings }
+        ensures answer { (st : State) → StateStands self.old st
+            → IsVerdict self.old.settings.params.clock result.verdict
+            (outcome_of_seen (config_in self.old.settings) seen.now (taker_in seen.now st) own.now st) }
+        ensures told { (st : State) → StateStands self.old st
+            → result.is_rival ≡ told_of_seen (taker_in seen.now st) st }
+        ensures stands { (st : State) → StateStands self.old st → StateStands self.new
+            (after_seen (config_in self.old.settings) seen.now (taker_in seen.now st) own.now st) }
+    {
+        let taker = self.following.taker(seen.source, self.time);
+        if self.budgets.grants(taker, self.time) {
+            self.follow_granted(seen, taker, own)
+        } else {
+            self.drop_for(Cause::TooFast)
+        }
+    }
+
+    /// When something is due next, as far as that is known.
+    pub fn due(&self) -> Option<u64>
+        requires { IsRules self.now }
+        ensures { (st : State) → StateStands self.now st
+            → result ≡ due_next (config_in self.now.settings) st.follows }
+    {
+        self.following.due()
+    }
+
+    /// Plays the next picture that is due.
+    pub fn play(&mut self) -> Option<RunPlayed>
+        requires { IsRules self.old }
+        ensures rules { IsRules self.new }
+        ensures settings { self.new.settings ≡ self.old.settings }
+        ensures told { (st : State) → StateStands self.old st
+            → IsRunPlayed (config_in self.old.settings) st
+            (played_run (config_in self.old.settings) st) result }
+        ensures stands { (st : State) → StateStands self.old st → StateStands self.new
+            (after_played (config_in self.old.settings)
+            (played_run (config_in self.old.settings) st) st) }
+    {
+        match self.following.play(&self.settings, self.time) {
+            None => None,
+            Some((run, played)) => {
+                self.counts.play_of(run, played.mark);
+                Some(RunPlayed { run, played })
+            }
+        }
+    }
+
+    /// The SSRC of the stream of this run, if it has one.
+    pub fn source(&self, run: Run) -> Option<u32>
+        ensures { (st : State) → StateStands self.now st
+            → result ≡ source_in st.follows.streams run }
+    {
+        self.following.source(run)
+    }
+
+    /// The parameters of the call.
+    pub fn params(&self) -> Params
+        ensures { result ≡ self.now.settings.params }
+    {
+        self.settings.params
+    }
+
+    /// What was counted.
+    pub fn counts(&self) -> Counts
+        ensures { (st : State) → StateStands self.now st → result ≡ st.counts }
+    {
+        self.counts
+    }
+
+    /// The picture on the screen of the stream that is followed.
+    pub fn shown(&self) -> PictureRef<'_>
+        requires { IsRules self.now }
+        ensures run { (st : State) → StateStands self.now st → picture result
+            ≡ (receivers_run self.now.settings.params
+            (entries_in (config_in self.now.settings) st.follows.lines.followed)).screen }
+        ensures whole { IsPicture (picture result) }
+    {
+        self.following.shown()
+    }
+
+    /// Gives the memory back.
+    pub fn finish(self) {
+        let Rules {
+            settings: _,
+            time: _,
+            following,
+            budgets: _,
+            rivals: _,
+            counts: _,
+        } = self;
+        following.finish();
+    }
+}
