@@ -19,8 +19,7 @@ use crate::verdict::{Arrived, RunPlayed, Taken, Verdict};
 use h263_planes::PictureRef;
 use h263_types::{OutOfMemory, Params};
 use session_intake::{Budgets, Cause, Counts, Seen, Settings};
-use session_runs::Following;
-use session_runs::laws::kept_later;
+use session_runs::{Following, laws as session_runs_laws};
 use std::alloc::Global;
 use stream_choice::{Budget, Run, Taker};
 
@@ -76,7 +75,7 @@ impl Rules {
         ensures settings { self.new.settings ≡ self.old.settings }
         ensures stands { (st : State) → StateStands self.old st → StateStands self.new (at now st) }
     {
-        kept_later();
+        session_runs_laws::kept_later();
         self.time = self.time.max(now.min(LAST));
     }
 
