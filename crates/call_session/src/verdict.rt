@@ -3,7 +3,8 @@ use receiver_end::Played;
 use session_intake::Cause;
 use stream_choice::Run;
 
-/// A packet that a run takes: the run, the SSRC of its stream, and the answer.
+/// A packet that a run takes: the run, the SSRC of its stream, and the answer. Where its picture is
+/// complete with it, the stream of a former or a tried run may be the one that is followed after it.
 #[derive(Clone, Copy, Debug, PartialEq, Eq)]
 pub struct Taken {
     pub run: Run,
