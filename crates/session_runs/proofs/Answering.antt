@@ -14,7 +14,7 @@ use Rattle.timed_receiver.specs.Timed as timed
 use Rattle.stream_run.specs.declared.run.Arrived.{Arrived}
 use Rattle.stream_run.specs.declared.run.Arrived.TheVariants as arriveds
 use Rattle.stream_run.specs.Kept.{IsArrived}
-use Rattle.session_runs.specs.Histories.{Ahead, Answer, IsHeard, answer_at}
+use Rattle.session_runs.specs.Histories.{Ahead, IsHeard, answer_at}
 use Rattle.session_runs.specs.Kept.{IsAnswer}
 
 tests : (clock : Clock) (n : ℕ) (heard : runs.Heard Fault) (answer : Arrived) (ahead late : Bool)

@@ -1,13 +1,12 @@
 -- The settings of a run stay.
-use Rattle.std.proofs.Common.{◌≡◌, ℕ, ◌≤◌, ap, sym, ◌∙◌, arith}
+use Rattle.std.proofs.Common.{◌≡◌, ℕ, ◌≤◌, ap, ◌∙◌, arith}
 use Rattle.h263_types.specs.declared.params.Params.{Params}
 use Rattle.stream_numbers.specs.declared.rate.Rate.{Rate}
-use Rattle.stream_run.specs.declared.run.StreamRun.{StreamRun}
 use Rattle.session_intake.specs.declared.settings.Settings.{Settings}
 use Rattle.session_runs.specs.declared.kept.KeptRun.{KeptRun}
 use Rattle.session_runs.specs.declared.three.ThreeRuns.{ThreeRuns}
 use Rattle.session_runs.specs.Histories.{Config}
-use Rattle.session_runs.specs.Kept.{IsKept, config_in, config_of}
+use Rattle.session_runs.specs.Kept.{IsKept}
 use Rattle.session_runs.specs.Three.{AreKept}
 
 abbrev pub made : Params → Rate → ℕ → ℕ → Config

@@ -1,5 +1,5 @@
 -- The run of which a picture is played has one that is due.
-use Rattle.std.proofs.Common.{◌≡◌, ℕ, Bool, true, false, Option, Some, None, refl, ap, sym, subst}
+use Rattle.std.proofs.Common.{◌≡◌, ℕ, Bool, true, false, Option, Some, None, refl, sym, subst}
 use Rattle.std.specs.Prelude.{is_some, if◌then◌else◌}
 use Rattle.receiver_end.specs.declared.answers.Played.{Played}
 use Rattle.stream_choice.specs.declared.streams.Run.{Run}

@@ -1,5 +1,5 @@
 -- A packet that no run takes changes nothing.
-use Rattle.std.proofs.Common.{◌≡◌, ℕ, List, Option, Some, None, refl}
+use Rattle.std.proofs.Common.{◌≡◌, ℕ, List, None}
 use Rattle.stream_choice.specs.declared.streams.Taker.{Taker}
 use Rattle.stream_choice.specs.declared.streams.Taker.TheVariants as takers
 use Rattle.stream_numbers.specs.declared.packet.Packet.{Packet}

@@ -1,5 +1,5 @@
 -- What the three runs of a session stand for.
-use Rattle.std.specs.Prelude.{◌≡◌, ℕ, ◌≤◌}
+use Rattle.std.specs.Prelude.{ℕ, ◌≤◌}
 use Rattle.session_intake.specs.declared.settings.Settings.{Settings}
 use Rattle.session_runs.specs.declared.three.ThreeRuns.{ThreeRuns}
 use Rattle.session_runs.specs.Kept.{HistoryStands, IsKept}

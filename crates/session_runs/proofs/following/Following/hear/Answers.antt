@@ -1,10 +1,10 @@
-use Rattle.std.proofs.Common.{◌≡◌, ℕ, Bool, ap, sym, subst, ◌∙◌}
+use Rattle.std.proofs.Common.{Bool, ap, sym, subst, ◌∙◌}
 use Rattle.stream_choice.specs.declared.streams.Streams.{Streams}
 use Rattle.stream_choice.specs.declared.streams.Turn.{Turn}
 use Rattle.stream_choice.specs.Choice.{after_complete, turn_of}
 use Rattle.session_runs.specs.declared.following.Following.{Following}
 use Rattle.session_runs.specs.Histories.{after_packet, answer_in}
-use Rattle.session_runs.specs.Lines.{Lines, line_of, turned, with_line}
+use Rattle.session_runs.specs.Lines.{line_of, turned, with_line}
 use Rattle.session_runs.specs.Kept.{config_in}
 use Rattle.session_runs.specs.Three.{LinesStand}
 use Rattle.session_runs.specs.Following.{Follows, completed_if}

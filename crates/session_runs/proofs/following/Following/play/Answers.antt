@@ -1,4 +1,4 @@
-use Rattle.std.proofs.Common.{◌≡◌, ℕ, Option, Some, None, refl, subst}
+use Rattle.std.proofs.Common.{Option, None, refl, subst}
 use Rattle.stream_choice.specs.declared.streams.Run.{Run}
 use Rattle.session_runs.specs.declared.following.Following.{Following}
 use Rattle.session_runs.specs.Kept.{config_in}

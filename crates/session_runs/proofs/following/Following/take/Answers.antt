@@ -1,6 +1,5 @@
-use Rattle.std.proofs.Common.{◌≡◌, ℕ, Option, Some, None, refl, subst}
+use Rattle.std.proofs.Common.{Option, Some, None, refl, subst}
 use Rattle.stream_choice.specs.declared.streams.Run.{Run}
-use Rattle.session_runs.specs.declared.following.Following.{Following}
 use Rattle.session_runs.specs.Kept.{config_in}
 use Rattle.session_runs.specs.Following.{after_run, made_ready_for}
 use Rattle.session_runs.specs.Followed.{AreTaken, FollowsStand}

@@ -1,8 +1,8 @@
-use Rattle.std.proofs.Common.{◌≡◌, ◌≤◌, ℕ, Bool, ap, sym, subst, ◌∙◌}
+use Rattle.std.proofs.Common.{◌≤◌, ℕ, Bool, ap, sym, subst, ◌∙◌}
 use Rattle.h263_types.specs.declared.params.Params.{Params}
 use Rattle.stream_numbers.specs.Streams.{place_of}
 use Rattle.stream_run.specs.Entries.{heard_of, timed_of}
-use Rattle.session_runs.specs.Histories.{Answer, Config, answer_in, is_heard, until_after}
+use Rattle.session_runs.specs.Histories.{Config, answer_in, is_heard, until_after}
 use Rattle.session_runs.specs.Unheard.{after_heard}
 use Rattle.session_runs.specs.Kept.{IsAnswer, config_in}
 use Rattle.session_runs.proofs.Answering.{answered}
