@@ -14,12 +14,12 @@ const MILLISECOND: u64 = 1_000_000;
 
 const WAIT: u64 = 100 * MILLISECOND;
 
-// Gives a packet its SSRC, its picture's number, its own, and the time, in ticks, of a picture.
-fn put_numbers(bytes: &mut [u8], source: u8, number: u32, sequence: u32, ticks: u32)
+// Gives a packet its SSRC, its picture's number, its own, and its timestamp.
+fn put_numbers(bytes: &mut [u8], source: u8, number: u32, sequence: u32, timestamp: u32)
     requires { 16 ≤ length bytes.old }
 {
     bytes[2..4].copy_from_slice(&((sequence % 65_536) as u16).to_be_bytes());
-    bytes[4..8].copy_from_slice(&number.wrapping_mul(ticks).to_be_bytes());
+    bytes[4..8].copy_from_slice(&timestamp.to_be_bytes());
     bytes[11] = source;
     bytes[14] = 0x80 | (number % 256 / 64) as u8;
     bytes[15] = 2 | (number % 64 * 4) as u8;
@@ -28,7 +28,13 @@ fn put_numbers(bytes: &mut [u8], source: u8, number: u32, sequence: u32, ticks: 
 // A picture of one packet, at 30,000 in 1,001 seconds.
 fn flat(source: u8, number: u32) -> [u8; 342] {
     let mut bytes = FLAT_PACKET;
-    put_numbers(&mut bytes, source, number, number, 3_003);
+    put_numbers(
+        &mut bytes,
+        source,
+        number,
+        number,
+        number.wrapping_mul(3_003),
+    );
     bytes
 }
 
@@ -188,7 +194,8 @@ fn packets_too_fast(rt: HostRuntime) -> Result<(), Fail> {
 }
 
 // A way that gets longer: pictures a second; the milliseconds of the way before and after the step,
-// which comes after five seconds, of the wait, and between a picture's two packets.
+// which comes after five seconds, of the wait, and between a picture's two packets; and the ticks by
+// which the timestamp of a packet is ahead then.
 #[derive(Clone, Copy)]
 struct Step {
     rate: u32,
@@ -196,6 +203,7 @@ struct Step {
     after: u64,
     wait: u64,
     apart: u64,
+    leap: u32,
 }
 
 // When a picture's first packet comes.
@@ -224,8 +232,20 @@ fn exact_after(session: &mut Session, step: &Step) -> u32
     'pictures: for number in 0..step.rate * 15 {
         let mut first = FIRST_HALF;
         let mut second = SECOND_HALF;
-        put_numbers(&mut first, 7, number, number * 2, 90_000 / step.rate);
-        put_numbers(&mut second, 7, number, number * 2 + 1, 90_000 / step.rate);
+        let timestamp = number.wrapping_mul(90_000 / step.rate);
+        let leap = if number == step.rate * 5 {
+            step.leap
+        } else {
+            0
+        };
+        put_numbers(
+            &mut first,
+            7,
+            number,
+            number * 2,
+            timestamp.wrapping_add(leap),
+        );
+        put_numbers(&mut second, 7, number, number * 2 + 1, timestamp);
         let at = comes_at(step, number);
         let then = at + step.apart % 1_000 * MILLISECOND;
         exact = exact.saturating_add(play_all(session, at, from));
@@ -249,13 +269,14 @@ fn exact_of(rt: &HostRuntime, step: &Step) -> Result<u32, Fail>
     Ok(exact)
 }
 
-const STEPS: [Step; 4] = [
+const STEPS: [Step; 5] = [
     Step {
         rate: 5,
         before: 30,
         after: 200,
         wait: 100,
         apart: 10,
+        leap: 0,
     },
     Step {
         rate: 1,
@@ -263,6 +284,7 @@ const STEPS: [Step; 4] = [
         after: 280,
         wait: 100,
         apart: 10,
+        leap: 0,
     },
     Step {
         rate: 10,
@@ -270,6 +292,7 @@ const STEPS: [Step; 4] = [
         after: 280,
         wait: 100,
         apart: 10,
+        leap: 0,
     },
     Step {
         rate: 5,
@@ -277,12 +300,22 @@ const STEPS: [Step; 4] = [
         after: 280,
         wait: 0,
         apart: 0,
+        leap: 0,
+    },
+    Step {
+        rate: 30,
+        before: 30,
+        after: 30,
+        wait: 100,
+        apart: 10,
+        leap: 171_000,
     },
 ];
 
-// A call of few pictures is whole again within two seconds after its way got longer.
+// A call is whole again within two seconds after its way got longer, or after one packet's timestamp
+// was ahead by 1.9 seconds.
 #[test]
-fn few_pictures_and_a_longer_way(rt: HostRuntime) -> Result<(), Fail> {
+fn whole_again_after_a_step(rt: HostRuntime) -> Result<(), Fail> {
     for step in STEPS {
         assert!(rt; step.rate >= 1 && step.rate <= 30);
         let exact = exact_of(&rt, &step)?;
