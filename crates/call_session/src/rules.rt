@@ -1,5 +1,5 @@
 //! The rules of a session, over packets as ends read them.
-ghost use Rattle.std.specs.Prelude.{◌≡◌, ◌<◌, ◌≤◌, ◌^◌, ℕ, List, IfOk};
+ghost use Rattle.std.specs.Prelude.{◌≡◌, ◌<◌, IfOk};
 ghost use Rattle.h263_planes.specs.Lent.{picture};
 ghost use Rattle.h263_planes.specs.Samples.{IsPicture};
 ghost use Rattle.receiver_end.specs.State.{run_of as receivers_run};
