@@ -59,7 +59,8 @@ enum h263rps_status {
     H263RPS_NULL = 11,        /* a pointer is null */
     H263RPS_TOO_LONG = 12,    /* a length is above PTRDIFF_MAX */
     /* the library's again */
-    H263RPS_NO_START = 13     /* the bytes don't begin as a packet of any format does */
+    H263RPS_NO_START = 13,    /* the bytes don't begin as a packet of any format does */
+    H263RPS_NO_STREAM = 14    /* the session's run has no stream */
 };
 
 /* The sizes of pictures. */
@@ -89,7 +90,10 @@ enum h263rps_param {
     H263RPS_PARAM_CLOCK = 9,
     H263RPS_PARAM_TARGET = 10,
     H263RPS_PARAM_NUMBER = 11, /* h263rps_receiver_start_at() alone: above 1,048,576 */
-    H263RPS_PARAM_SIZE = 12    /* not the size of h263rps_params in a version that is known */
+    H263RPS_PARAM_SIZE = 12,   /* not the size of h263rps_params in a version that is known */
+    /* h263rps_session_start() alone */
+    H263RPS_PARAM_RATE = 13,   /* not 1 to 65,536 pictures in 1 to 4,096 seconds */
+    H263RPS_PARAM_WAIT = 14    /* more pictures come in the wait than `lead` holds */
 };
 
 /* `kind` of the answer to a packet. Only the first two change the receiver. */
@@ -182,6 +186,30 @@ enum h263rps_message_fault {
     H263RPS_MESSAGE_HIGH = 3,   /* a picture number that the clock doesn't have */
     H263RPS_MESSAGE_MARKER = 4, /* a marker bit is 0 */
     H263RPS_MESSAGE_PAIR = 5    /* an acknowledgement of two pictures */
+};
+
+/* `verdict` of a session on a datagram. */
+enum h263rps_verdict {
+    H263RPS_DROPPED = 0,  /* `cause` says why (enum h263rps_cause) */
+    H263RPS_NO_PLACE = 1, /* its picture is further ahead than the clock, or before the call */
+    H263RPS_AHEAD = 2,    /* its picture is too far ahead: play what is due, and hand it in again */
+    H263RPS_HEARD = 3     /* `answer` is the receiver's */
+};
+
+/* Why a session drops a datagram. */
+enum h263rps_cause {
+    H263RPS_LONG = 1,           /* it has more than 9,000 bytes */
+    H263RPS_MALFORMED = 2,      /* it is no packet of this profile */
+    H263RPS_OTHER_PICTURES = 3, /* it is of another format, or of the other picture clock */
+    H263RPS_TOO_FAST = 4,       /* more than 12,000 of its stream, or of all others, in a second */
+    H263RPS_OTHER_STREAM = 5    /* its stream has no run: another one is followed, or is tried */
+};
+
+/* The runs of a session: each is a receiver of one stream, which an SSRC names. */
+enum h263rps_run {
+    H263RPS_FOLLOWED = 0, /* its pictures are shown */
+    H263RPS_FORMER = 1,   /* it was followed before; it goes on, and may be followed again */
+    H263RPS_TRIED = 2     /* it is followed from its first complete picture on */
 };
 
 /* ---- structs ------------------------------------------------------------------------------- */
@@ -278,6 +306,51 @@ typedef struct h263rps_lent {
     size_t length;          /* h263rps_picture_size() */
 } h263rps_lent;
 
+/* A session: as an h263rps_end all zeros before its start and after its finish, and never copied. */
+typedef struct h263rps_session {
+    uint32_t kind; /* 0 where it is empty */
+    void *at;
+} h263rps_session;
+
+/* When a session's pictures are due: h263rps_session_start() makes it of its arguments. */
+typedef struct h263rps_timing {
+    uint32_t rate;   /* so many pictures, 1 to 65,536, */
+    uint32_t second; /* in so many seconds, 1 to 4,096 */
+    uint64_t wait;   /* nanoseconds */
+} h263rps_timing;
+
+/* A session's answer to a datagram. */
+typedef struct h263rps_arrived {
+    uint32_t verdict; /* enum h263rps_verdict */
+    uint32_t cause;   /* enum h263rps_cause where it is dropped, else 0 */
+    uint32_t run;     /* enum h263rps_run: the run that took it; 0 where it is dropped */
+    uint32_t source;  /* the SSRC of its stream; 0 where it is dropped */
+    uint32_t ahead;   /* the number of a picture that is ahead, else 0 */
+    /* 1 where another stream comes beside the followed one, whose pictures become complete: one of
+     * them is forged, and nothing here can know which. It is told once a second, else 0. */
+    uint32_t rival;
+    /* where it is heard that of h263rps_receiver_packet(), with a number of 0; else all zeros */
+    h263rps_answer answer;
+} h263rps_arrived;
+
+/* A session's answer to a play. */
+typedef struct h263rps_turn {
+    uint32_t plays;  /* 1 where a picture was played; 0 where none is due, and all else is 0 */
+    uint32_t run;    /* enum h263rps_run: whose picture it is; only the followed one's is shown */
+    uint32_t source; /* the SSRC of its stream */
+    h263rps_answer answer; /* that of h263rps_receiver_play() */
+} h263rps_turn;
+
+/* What a session has counted since its start. A count that comes to 2^64 - 1 stays there. */
+typedef struct h263rps_session_counts {
+    uint64_t taken;      /* datagrams that a run took, heard or not */
+    uint64_t dropped[6]; /* the others by enum h263rps_cause; [0] is 0 */
+    uint64_t played[3];  /* the followed run's pictures by their mark (enum h263rps_mark) */
+} h263rps_session_counts;
+
+/* What h263rps_session_due() has where nothing is known to be due. */
+#define H263RPS_NEVER UINT64_MAX
+
 /* ---- the library's own functions: pointers aren't null, also where a length is 0 ------------- */
 
 uint32_t h263rps_raw_version(void);
@@ -316,6 +389,17 @@ uint32_t h263rps_raw_sender_known(h263rps_end *end, uint32_t *count);
 uint32_t h263rps_raw_sender_statistics(h263rps_end *end, h263rps_statistics *statistics);
 uint32_t h263rps_raw_sender_finish(h263rps_end *end);
 
+uint32_t h263rps_raw_session_start(h263rps_session *session, const h263rps_params *params,
+                                   const h263rps_timing *timing, uint32_t *fault);
+uint32_t h263rps_raw_session_arrival(h263rps_session *session, const uint8_t *bytes, size_t length,
+                                     uint64_t now, h263rps_arrived *arrived);
+uint32_t h263rps_raw_session_due(h263rps_session *session, uint64_t *due);
+uint32_t h263rps_raw_session_play(h263rps_session *session, uint64_t now, h263rps_turn *turn);
+uint32_t h263rps_raw_session_shown(h263rps_session *session, h263rps_lent *lent);
+uint32_t h263rps_raw_session_source(h263rps_session *session, uint32_t run, uint32_t *source);
+uint32_t h263rps_raw_session_statistics(h263rps_session *session, h263rps_session_counts *counts);
+uint32_t h263rps_raw_session_finish(h263rps_session *session);
+
 /* ---- before the start ---------------------------------------------------------------------- */
 
 /* Why a call was refused, in a few words. Never null; the text is static. */
@@ -335,6 +419,7 @@ static inline const char *h263rps_status_text(uint32_t status) {
     case H263RPS_NULL: return "a null pointer";
     case H263RPS_TOO_LONG: return "too great a length";
     case H263RPS_NO_START: return "no start of a packet";
+    case H263RPS_NO_STREAM: return "no stream has this run";
     default: return "no status";
     }
 }
@@ -417,7 +502,21 @@ static inline const char *h263rps_param_text(uint32_t param) {
     case H263RPS_PARAM_TARGET: return "target";
     case H263RPS_PARAM_NUMBER: return "number";
     case H263RPS_PARAM_SIZE: return "size";
+    case H263RPS_PARAM_RATE: return "rate";
+    case H263RPS_PARAM_WAIT: return "wait";
     default: return "no parameter";
+    }
+}
+
+/* Why a session drops a datagram, in a few words (enum h263rps_cause). As h263rps_status_text(). */
+static inline const char *h263rps_cause_text(uint32_t cause) {
+    switch (cause) {
+    case H263RPS_LONG: return "more than 9,000 bytes";
+    case H263RPS_MALFORMED: return "no packet of this profile";
+    case H263RPS_OTHER_PICTURES: return "another format or picture clock";
+    case H263RPS_TOO_FAST: return "more than 12,000 packets in a second";
+    case H263RPS_OTHER_STREAM: return "another stream is followed";
+    default: return "no cause";
     }
 }
 
@@ -702,6 +801,136 @@ static inline uint32_t h263rps_sender_statistics(h263rps_end *end, h263rps_stati
 static inline uint32_t h263rps_sender_finish(h263rps_end *end) {
     if (!end) return H263RPS_NULL;
     return h263rps_raw_sender_finish(end);
+}
+
+/* ---- the session --------------------------------------------------------------------------- */
+
+/* A session stands between a network and a screen: which stream is followed, of which picture a
+ * packet is, when a picture is played. It owns its receivers, and has no socket and no clock.
+ * Hand it each datagram that comes, whatever it is, and let it play when something is due:
+ *
+ *     h263rps_session session = {0};
+ *     h263rps_arrived arrived;
+ *     h263rps_turn turn;
+ *     h263rps_lent shown;
+ *     uint64_t due;
+ *     h263rps_session_start(&session, &params, 30000, 1001, 60000000, NULL);  (a wait of 60 ms)
+ *     while (is_running) {
+ *         size_t length;
+ *         h263rps_session_due(&session, &due);
+ *         length = datagram_until(due, room, sizeof room);         (0: none came, it is `due` now)
+ *         do {
+ *             arrived.verdict = H263RPS_DROPPED;
+ *             if (length) {
+ *                 h263rps_session_arrival(&session, room, length, time_now(), &arrived);
+ *                 if (arrived.verdict == H263RPS_HEARD && arrived.answer.message.length)
+ *                     send_message(arrived.source, &arrived.answer.message);
+ *             }
+ *             while (!h263rps_session_play(&session, time_now(), &turn) && turn.plays) {
+ *                 if (turn.answer.message.length) send_message(turn.source, &turn.answer.message);
+ *                 if (turn.run == H263RPS_FOLLOWED) {
+ *                     h263rps_session_shown(&session, &shown);
+ *                     show(shown.samples, shown.length, turn.answer.kind);
+ *                 }
+ *             }
+ *         } while (arrived.verdict == H263RPS_AHEAD);
+ *     }
+ *     h263rps_session_finish(&session);
+ *
+ * Each time is in nanoseconds of one clock that doesn't go back, whatever its zero: one before the
+ * last counts as the last, and from 2^62 - 1 on the clock stands. A session takes one call at a
+ * time, asks for memory at its start alone, and must not be copied, as an h263rps_end. */
+
+/* Makes `session`, which is all zeros, a session: the one call of it that asks for memory. `params`
+ * are those of both ends; `rate` pictures come in `second` seconds (30000 and 1001). A picture is
+ * due `wait` nanoseconds after it would come on the shortest way of late; a wait below 1 ms counts
+ * as 1 ms. In the wait no more pictures may come than `params->lead`. `fault` is as that of
+ * h263rps_receiver_start().
+ * STARTED, BAD_PARAMS, NO_MEMORY. */
+static inline uint32_t h263rps_session_start(h263rps_session *session, const h263rps_params *params,
+                                             uint32_t rate, uint32_t second, uint64_t wait,
+                                             uint32_t *fault) {
+    uint32_t unwanted = 0;
+    h263rps_timing timing;
+    if (!session || !params) return H263RPS_NULL;
+    timing.rate = rate;
+    timing.second = second;
+    timing.wait = wait;
+    return h263rps_raw_session_start(session, params, &timing, fault ? fault : &unwanted);
+}
+
+/* Gives a datagram that came at `now` to a session, whatever it is: any bytes are an answer and no
+ * refusal. A packet may have any SSRC; one of another payload type than H263RPS_PAYLOAD_TYPE is
+ * malformed. Where arrived->answer.message.length isn't 0 send the message back at once, as one
+ * about the stream arrived->source. Where arrived->verdict is H263RPS_AHEAD play until nothing is
+ * due, and hand the datagram in again.
+ * NOT_STARTED. */
+static inline uint32_t h263rps_session_arrival(h263rps_session *session, const void *bytes,
+                                               size_t length, uint64_t now,
+                                               h263rps_arrived *arrived) {
+    uint8_t nothing = 0;
+    uint32_t status = h263rps_may_pass(bytes, length);
+    if (!session || !arrived) return H263RPS_NULL;
+    if (status) return status;
+    return h263rps_raw_session_arrival(session, length ? (const uint8_t *)bytes : &nothing, length,
+                                       now, arrived);
+}
+
+/* Writes to `due` when something is due next if no datagram comes: 0 where it is due at once, and
+ * H263RPS_NEVER where nothing is known to be due. Ask again after each arrival and each play.
+ * NOT_STARTED. */
+static inline uint32_t h263rps_session_due(h263rps_session *session, uint64_t *due) {
+    if (!session || !due) return H263RPS_NULL;
+    return h263rps_raw_session_due(session, due);
+}
+
+/* Plays the next picture that is due by `now`, one a call, the followed stream's first; ask until
+ * turn->plays is 0. Where turn->answer.message.length isn't 0 send the message back, as one about
+ * the stream turn->source. A picture of the followed run is to be shown: h263rps_session_shown()
+ * lends it.
+ * NOT_STARTED. */
+static inline uint32_t h263rps_session_play(h263rps_session *session, uint64_t now,
+                                            h263rps_turn *turn) {
+    if (!session || !turn) return H263RPS_NULL;
+    return h263rps_raw_session_play(session, now, turn);
+}
+
+/* Lends the picture of the followed stream that was played last, and before the first a grey one,
+ * as h263rps_receiver_shown() does: only read it, and only until the next call with this session.
+ * NOT_STARTED. */
+static inline uint32_t h263rps_session_shown(h263rps_session *session, h263rps_lent *lent) {
+    uint8_t nothing = 0;
+    h263rps_lent shown;
+    uint32_t status;
+    if (!session || !lent) return H263RPS_NULL;
+    shown.samples = &nothing;
+    shown.length = 0;
+    status = h263rps_raw_session_shown(session, &shown);
+    if (!status) *lent = shown;
+    return status;
+}
+
+/* Writes the SSRC of the stream that has this run (enum h263rps_run) to `source`.
+ * NOT_STARTED, NO_STREAM: none has, or it is no run. */
+static inline uint32_t h263rps_session_source(h263rps_session *session, uint32_t run,
+                                              uint32_t *source) {
+    if (!session || !source) return H263RPS_NULL;
+    return h263rps_raw_session_source(session, run, source);
+}
+
+/* Writes what a session has counted since its start to `counts`.
+ * NOT_STARTED. */
+static inline uint32_t h263rps_session_statistics(h263rps_session *session,
+                                                  h263rps_session_counts *counts) {
+    if (!session || !counts) return H263RPS_NULL;
+    return h263rps_raw_session_statistics(session, counts);
+}
+
+/* Gives a session's memory back, and leaves it all zeros, ready for a start: so it begins anew.
+ * NOT_STARTED. */
+static inline uint32_t h263rps_session_finish(h263rps_session *session) {
+    if (!session) return H263RPS_NULL;
+    return h263rps_raw_session_finish(session);
 }
 
 #ifdef __cplusplus

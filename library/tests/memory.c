@@ -50,6 +50,44 @@ static long requests_of(int receives, const h263rps_params *params) {
     }
 }
 
+/* The same of a session. */
+static long requests_of_session(const h263rps_params *params) {
+    for (refused = 0;; refused++) {
+        h263rps_session session = {0};
+        asked = held = 0;
+        uint32_t status = h263rps_session_start(&session, params, 30, 1, 100000000, NULL);
+        if (status == H263RPS_OK) {
+            h263rps_session_finish(&session);
+            return held ? -1 : asked;
+        }
+        if (status != H263RPS_NO_MEMORY || held || session.kind || session.at) return -1;
+    }
+}
+
+/* What a session asks for once it is started: 50 pictures of a sender come and are played. */
+static long later_of_session(h263rps_end *sender, const h263rps_params *params) {
+    h263rps_session session = {0};
+    h263rps_arrived arrived;
+    h263rps_turn turn;
+    h263rps_coded coded;
+    size_t count;
+    long played = 0;
+    if (h263rps_session_start(&session, params, 30, 1, 0, NULL)) return -1;
+    asked = 0;
+    for (uint64_t n = 0, now = 1; n < 50; n++, now += 33333333) {
+        uint32_t stamp = (uint32_t)(3000 * n);
+        if (h263rps_sender_code(sender, picture, sizeof picture, NULL, 0, &coded)) return -1;
+        for (uint32_t i = 0; i < coded.packets; i++) {
+            if (h263rps_sender_packet(sender, i, room, sizeof room, &count)) return -1;
+            for (int k = 0; k < 4; k++) room[4 + k] = (uint8_t)(stamp >> (24 - 8 * k));
+            if (h263rps_session_arrival(&session, room, count, now, &arrived)) return -1;
+        }
+        while (!h263rps_session_play(&session, now + 2000000, &turn) && turn.plays) played++;
+    }
+    h263rps_session_finish(&session);
+    return played < 48 ? -1 : asked;
+}
+
 /* A call of this many pictures, each shown exactly: 0, or where it went wrong. */
 static int call(h263rps_end *sender, h263rps_end *receiver, unsigned pictures) {
     h263rps_answer answer;
@@ -78,6 +116,7 @@ int main(void) {
     int status;
     h263rps_defaults(H263RPS_CIF, &params);
     long by_sender = requests_of(0, &params), by_receiver = requests_of(1, &params);
+    long by_session = requests_of_session(&params);
     refused = -1;
     if (start(0, &sender, &params) || start(1, &receiver, &params)) return 1;
     asked = 0;
@@ -87,9 +126,12 @@ int main(void) {
     status = call(&sender, &receiver, 10);
     if (status) return status;
     long later = asked;
+    if (h263rps_sender_reset(&sender, 0)) return 8;
+    long of_session = later_of_session(&sender, &params);
     h263rps_sender_finish(&sender);
     h263rps_receiver_finish(&receiver);
     printf("requests for memory: a sender's start %ld, a receiver's %ld, 50 pictures, a reset and "
-           "10 more then %ld\n", by_sender, by_receiver, later);
-    return by_sender < 1 || by_receiver < 1 || later;
+           "10 more then %ld; a session's start %ld, 50 pictures then %ld\n",
+           by_sender, by_receiver, later, by_session, of_session);
+    return by_sender < 1 || by_receiver < 1 || later || by_session < 1 || of_session;
 }

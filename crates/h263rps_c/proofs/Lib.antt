@@ -1,5 +1,7 @@
 mod LooseValues
 mod HandleValues
+mod SessionHandleValues
+mod Held
 mod MessagesRead
 mod BeforeFirst
 mod Untaken

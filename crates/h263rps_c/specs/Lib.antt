@@ -13,3 +13,9 @@ pub mod Steering
 pub mod Slots
 pub mod Ends
 pub mod Start
+pub mod Timing
+pub mod SessionNumbers
+pub mod Sessions
+pub mod SessionHolds
+pub mod SessionLending
+pub mod SessionReturned

@@ -143,8 +143,8 @@ fn is_predicted(reference: Option<u32>) -> u32
     }
 }
 
-// A picture's number, or 0 where there is none.
-fn number_or_zero(number: Option<u32>) -> u32
+/// A picture's number, or 0 where there is none.
+pub fn number_or_zero(number: Option<u32>) -> u32
     ensures { result ≡ numbers.number_or_zero number }
 {
     match number {
@@ -154,7 +154,8 @@ fn number_or_zero(number: Option<u32>) -> u32
 }
 
 impl Answer {
-    fn plain(kind: u32) -> Answer
+    /// An answer of this kind alone.
+    pub fn plain(kind: u32) -> Answer
         ensures { result ≡ numbers.plain kind }
     {
         Answer {
@@ -182,8 +183,8 @@ impl Answer {
         }
     }
 
-    // What is answered to a packet, but for the number of its picture.
-    fn heard(heard: &Heard) -> Answer
+    /// What is answered to a packet, but for the number of its picture.
+    pub fn heard(heard: &Heard) -> Answer
         ensures { result ≡ numbers.heard_answer heard.now }
     {
         match heard {

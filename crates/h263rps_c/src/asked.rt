@@ -49,7 +49,8 @@ fn clock_of(number: u32) -> Option<Clock>
     }
 }
 
-fn param_number(fault: ParamFault) -> u32
+/// The number of a parameter.
+pub fn param_number(fault: ParamFault) -> u32
     ensures { result ≡ asking.param_number fault }
 {
     match fault {

@@ -26,6 +26,7 @@ mod counting;
 mod ends;
 mod handles;
 mod joining;
+mod kept_session;
 pub mod laws;
 mod messages;
 mod receiver;
@@ -34,18 +35,27 @@ mod resetting;
 mod running;
 mod sender;
 mod sending;
+mod session;
+mod session_answers;
+mod session_slots;
+#[cfg(test)]
+mod session_tests;
 mod start;
 mod starting;
 mod statistics;
 #[cfg(test)]
 mod tests;
+mod timing;
 
 pub use answers::{Answer, CMessage, Made, Reply};
 pub use asked::Asked;
 pub use counting::Statistics;
 pub use handles::Slot;
 pub use refusals::EndRefusal;
+pub use session_answers::{CArrived, CCounts, CTurn};
+pub use session_slots::SessionSlot;
 pub use start::Start;
+pub use timing::Timing;
 
 /// The most pictures of a run.
 const MOST_PICTURES: u32 = 1_048_576;

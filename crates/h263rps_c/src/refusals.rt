@@ -27,6 +27,8 @@ pub enum EndRefusal {
     ShortRoom,
     /// The bytes don't begin as a packet of any format does.
     NoStart,
+    /// The run has no stream.
+    NoStream,
 }
 
 /// Nothing was refused.
@@ -51,6 +53,7 @@ impl EndRefusal {
             EndRefusal::ShortRoom => 10,
             // 11 and 12 are the header's own.
             EndRefusal::NoStart => 13,
+            EndRefusal::NoStream => 14,
         }
     }
 }

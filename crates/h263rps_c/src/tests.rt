@@ -14,7 +14,7 @@ use crate::statistics::*;
 use std::alloc::Global;
 use std::test::Fail;
 
-const ASKED: Asked = Asked {
+pub const ASKED: Asked = Asked {
     size: 32,
     format: 1,
     quant: 8,

@@ -1,0 +1,129 @@
+//! A session with what its calls ask for, so that C owes none of it.
+ghost use Rattle.std.specs.Prelude.{◌≡◌, ℕ, List, [], ◌∷◌, Some, IfErr, IfOk, length};
+ghost use Rattle.session_intake.specs.declared.settings.Settings.{Settings};
+ghost use Rattle.session_intake.specs.Settings.{IsSettings};
+ghost use Rattle.session_runs.specs.Following.{due_next};
+ghost use Rattle.session_runs.specs.Kept.{config_in};
+ghost use Rattle.call_session.specs.Sessions.{Datagram, Entry, Turn, at, outcome_of, played_run, told_of};
+ghost use Rattle.h263rps_c.specs.SessionNumbers.{counts_numbers, time_or_never};
+ghost use Rattle.h263rps_c.specs.Sessions.{HoldsSession, ShowsScreen, TellsOutcome, TellsTurn};
+ghost use Rattle.h263rps_c.specs.Sessions.{source_after, source_of, state_after};
+ghost use Rattle.h263rps_c.specs.declared.refusals.EndRefusal.TheVariants as refusals;
+
+use crate::answers::number_or_zero;
+use crate::refusals::EndRefusal;
+use crate::session_answers::{CArrived, CCounts, CTurn};
+use call_session::{Session, Settings};
+use h263_planes::laws;
+use std::alloc::Global;
+use std::marker::Model;
+use stream_choice::Run;
+
+/// A session whose parts fit one another.
+pub struct KeptSession {
+    session: Session,
+}
+
+impl Model for KeptSession {
+    ghost use Rattle.call_session.specs.declared.session.Session.{Session};
+    ghost use Rattle.call_session.specs.Whole.{IsSession};
+
+    ghost Value = { Session };
+
+    ghost view = { λ k. k.session };
+
+    ghost invariant = { λ k. IsSession k.session };
+}
+
+impl Drop for KeptSession {
+    fn drop(self) {
+        let KeptSession { session } = self;
+        session.finish();
+    }
+}
+
+// What is due next, as C has it.
+fn time_or_never(time: Option<u64>) -> u64
+    ensures { result ≡ time_or_never time }
+{
+    match time {
+        None => u64::MAX,
+        Some(time) => time,
+    }
+}
+
+impl KeptSession {
+    /// A session before its first datagram.
+    pub fn start(alloc: Global, settings: &Settings) -> Result<Box<KeptSession>, EndRefusal>
+        requires { IsSettings settings.now }
+        ensures memory { IfErr result (λ why. why ≡ refusals.NoMemory) }
+        ensures stands { IfOk result (λ k. HoldsSession settings.now [] (Some k.value)) }
+    {
+        let Ok(session) = Session::start(alloc, settings) else {
+            return Err(EndRefusal::NoMemory);
+        };
+        match Box::new(alloc, KeptSession { session }) {
+            Err(_) => Err(EndRefusal::NoMemory),
+            Ok(kept) => Ok(kept),
+        }
+    }
+
+    /// A datagram came.
+    pub fn arrival(&mut self, bytes: &[u8], now: u64) -> CArrived
+        ensures answer { (s : Settings) (past : List Entry) → HoldsSession s past (Some self.old)
+            → TellsOutcome s.params.clock result
+            (outcome_of (config_in s) bytes.now now (state_after s past))
+            (told_of (config_in s) bytes.now now (state_after s past)) }
+        ensures stands { (s : Settings) (past : List Entry) → HoldsSession s past (Some self.old)
+            → HoldsSession s (Datagram bytes.now now ∷ past) (Some self.new) }
+    {
+        CArrived::of(&self.session.arrival(bytes, now))
+    }
+
+    /// When something is due next.
+    pub fn due(&self) -> u64
+        ensures { (s : Settings) (past : List Entry) → HoldsSession s past (Some self.now)
+            → result ≡ time_or_never (due_next (config_in s) (state_after s past).follows) }
+    {
+        time_or_never(self.session.due())
+    }
+
+    /// Plays the next picture that is due by now.
+    pub fn play(&mut self, now: u64) -> CTurn
+        ensures answer { (s : Settings) (past : List Entry) → HoldsSession s past (Some self.old)
+            → let c = config_in s in let st = at now (state_after s past) in
+            TellsTurn c st result (played_run c st)
+            (source_of s (Turn now ∷ past) (played_run c st)) }
+        ensures stands { (s : Settings) (past : List Entry) → HoldsSession s past (Some self.old)
+            → HoldsSession s (Turn now ∷ past) (Some self.new) }
+    {
+        match self.session.play(now) {
+            None => CTurn::none(),
+            Some(turn) => CTurn::of(&turn, number_or_zero(self.session.source(turn.run))),
+        }
+    }
+
+    /// The samples of the picture on the screen.
+    pub fn shown(&self) -> &[u8]
+        ensures { ShowsScreen (Some self.now) result.now }
+    {
+        laws::planes_are_bytes();
+        self.session.shown().bytes()
+    }
+
+    /// The SSRC of the stream of this run, if it has one.
+    pub fn source(&self, run: Run) -> Option<u32>
+        ensures { (s : Settings) (past : List Entry) → HoldsSession s past (Some self.now)
+            → result ≡ source_after s past run }
+    {
+        self.session.source(run)
+    }
+
+    /// What was counted.
+    pub fn counts(&self) -> CCounts
+        ensures { (s : Settings) (past : List Entry) → HoldsSession s past (Some self.now)
+            → result ≡ counts_numbers (state_after s past).counts }
+    {
+        CCounts::of(&self.session.statistics())
+    }
+}
