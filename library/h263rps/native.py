@@ -8,7 +8,7 @@ import os
 from pathlib import Path
 from typing import TYPE_CHECKING, Union
 
-from .words import DISTANCES, GROUPS, HEARD, MARKS, NOTED
+from .words import CAUSES, DISTANCES, GROUPS, HEARD, MARKS, NOTED
 
 if TYPE_CHECKING:
     from typing import Any, Protocol
@@ -82,6 +82,40 @@ class Lent(ctypes.Structure):
     _fields_ = [("samples", ctypes.c_void_p), ("length", ctypes.c_size_t)]
 
 
+class SessionEnd(ctypes.Structure):
+    _fields_ = [("kind", ctypes.c_uint32), ("at", ctypes.c_void_p)]
+
+
+class Timing(ctypes.Structure):
+    _fields_ = [("rate", ctypes.c_uint32), ("second", ctypes.c_uint32), ("wait", ctypes.c_uint64)]
+
+
+class Arrival(ctypes.Structure):
+    _fields_ = [
+        *[
+            (name, ctypes.c_uint32)
+            for name in ("verdict", "cause", "run", "source", "ahead", "rival")
+        ],
+        ("answer", Answer),
+    ]
+
+
+class Playing(ctypes.Structure):
+    _fields_ = [
+        *[(name, ctypes.c_uint32) for name in ("plays", "run", "source")],
+        ("answer", Answer),
+    ]
+
+
+class SessionCounts(ctypes.Structure):
+    _fields_ = [
+        ("taken", ctypes.c_uint64),
+        # The first place is 0: causes are numbered from 1 on.
+        ("dropped", ctypes.c_uint64 * (1 + len(CAUSES))),
+        ("played", ctypes.c_uint64 * len(MARKS)),
+    ]
+
+
 class Noted(ctypes.Structure):
     _fields_ = [("kind", ctypes.c_uint32), ("fault", ctypes.c_uint32)]
 
@@ -141,10 +175,10 @@ def copied(data: Buffer) -> bytes:
         return ctypes.string_at(at, size)
 
 
-def counted(name: str, value: int) -> int:
-    """A number that fits into 32 bits: ctypes would cut it."""
+def counted(name: str, value: int, bits: int = 32) -> int:
+    """A number that fits into so many bits: ctypes would cut it."""
     number = operator.index(value)
-    if not 0 <= number < 1 << 32:
+    if not 0 <= number < 1 << bits:
         raise ValueError(f"{name}: {value} is out of its range")
     return number
 
@@ -164,6 +198,7 @@ def library() -> ctypes.CDLL:
     if _loaded is None:
         found = ctypes.CDLL(os.environ.get("H263RPS_LIBRARY") or _found())
         pointer, size, number = ctypes.c_void_p, ctypes.c_size_t, ctypes.c_uint32
+        time = ctypes.c_uint64
         for name, takes in {
             "version": [],
             "defaults": [number, pointer],
@@ -190,6 +225,14 @@ def library() -> ctypes.CDLL:
             "sender_known": [pointer, pointer],
             "sender_statistics": [pointer, pointer],
             "sender_finish": [pointer],
+            "session_start": [pointer, pointer, pointer, pointer],
+            "session_arrival": [pointer, pointer, size, time, pointer],
+            "session_due": [pointer, pointer],
+            "session_play": [pointer, time, pointer],
+            "session_shown": [pointer, pointer],
+            "session_source": [pointer, number, pointer],
+            "session_statistics": [pointer, pointer],
+            "session_finish": [pointer],
         }.items():
             call = getattr(found, f"h263rps_raw_{name}")
             call.argtypes, call.restype = takes, number

@@ -10,6 +10,9 @@ Clock = Literal["standard", "custom"]
 Kind = Literal["taken", "completed", "late", "early", "repeat", "refused"]
 Mark = Literal["exact", "patched", "held"]
 Note = Literal["noted", "old", "no message"]
+Verdict = Literal["dropped", "no place", "ahead", "heard"]
+Cause = Literal["long", "malformed", "other pictures", "too fast", "other stream"]
+Run = Literal["followed", "former", "tried"]
 
 FORMATS: dict[Format, int] = {"sub-qcif": 1, "qcif": 2, "cif": 3}
 CLOCKS: dict[Clock, int] = {"standard": 0, "custom": 1}
@@ -18,12 +21,17 @@ MARKS: tuple[Mark, ...] = ("exact", "patched", "held")
 GROUPS = ("bytes", "other clock", "header differs", "missing reference", "overlap")
 DISTANCES = ("intra", "1", "2", "3", "4 to 7", "8 or more")
 NOTED: tuple[Note, ...] = ("noted", "old", "no message")
+# Of a session.
+VERDICTS: tuple[Verdict, ...] = ("dropped", "no place", "ahead", "heard")
+CAUSES: tuple[Cause, ...] = ("long", "malformed", "other pictures", "too fast", "other stream")
+RUNS: tuple[Run, ...] = ("followed", "former", "tried")
 # The parameters in the order of their numbers in `enum h263rps_param`.
 PARAMS = (
     "quant", "keep", "radius", "limit", "slots", "lead", "messages", "format", "clock", "target",
 )
-# What a start names: a parameter, the number at which a receiver begins, or the struct's size.
-FAULTS = (*PARAMS, "number", "size")
+# What a start names: a parameter, the number at which a receiver begins, the struct's size, or a
+# setting of a session.
+FAULTS = (*PARAMS, "number", "size", "rate", "wait")
 
 
 class Status(str, enum.Enum):
@@ -43,6 +51,7 @@ class Status(str, enum.Enum):
     NULL = "null"
     TOO_LONG = "too long"
     NO_START = "no start"
+    NO_STREAM = "no stream"
     OTHER = "other"  # a newer library's
 
     def __str__(self) -> str:
@@ -68,6 +77,7 @@ _STATUS_TEXTS = {
     "NULL": "a null pointer",
     "TOO_LONG": "too great a length",
     "NO_START": "no start of a packet",
+    "NO_STREAM": "no stream has this run",
     "OTHER": "no status",
 }
 STATUS = tuple(Status)

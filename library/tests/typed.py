@@ -6,6 +6,7 @@ from __future__ import annotations
 import array
 
 from h263rps import (
+    Arrived,
     Fault,
     Heard,
     MessageFault,
@@ -15,8 +16,10 @@ from h263rps import (
     Receiver,
     Refused,
     Sender,
+    Session,
     Start,
     Status,
+    Turn,
     packet_start,
     picture_size,
 )
@@ -46,10 +49,27 @@ def right(picture: bytes) -> None:
             print(status is Status.BAD_PARAMS, status.text)
 
 
+def session(datagram: bytes) -> None:
+    with Session(Params.of("cif"), rate=25, wait=100_000_000) as it:
+        arrived: Arrived = it.arrival(datagram, 10**9)
+        if arrived.verdict == "dropped" and arrived.cause == "too fast":
+            print(arrived.fault.text, arrived.message)
+        due: int | None = it.due()
+        turn: Turn | None = it.play(due or 0)
+        if turn and turn.run == "followed":
+            print(turn.mark == "held", len(it.shown()), it.source("former"))
+        print(it.statistics().dropped["long"], it.statistics().played["exact"])
+
+
 def wrong(sender: Sender, receiver: Receiver, params: Params) -> None:
     Params.of("vga")  # type: ignore[arg-type]
     Params.of("qcif", qant=3)  # type: ignore[call-arg]
     Params.of("qcif", quant="3")  # type: ignore[arg-type]
+    Session(params, wait=0)  # type: ignore[call-arg]
+    with Session(params, rate=30, wait=0) as it:
+        it.arrival(b"", 0.5)  # type: ignore[arg-type]
+        it.source("best")  # type: ignore[arg-type]
+        it.play(0).mark  # type: ignore[union-attr]
     params.qant = 3  # type: ignore[attr-defined]
     params.quant = 3.5  # type: ignore[assignment]
     sender.code("text")  # type: ignore[arg-type]

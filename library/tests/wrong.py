@@ -15,6 +15,7 @@ from h263rps import (  # noqa: E402
     Receiver,
     Refused,
     Sender,
+    Session,
     label,
     packet_start,
 )
@@ -92,6 +93,32 @@ with Receiver(Params.of("qcif"), 1048576) as receiver:
     wanted("1048576", receiver.played)
     wanted("Refused: play: ended", receiver.play)
 sender.close()
+
+
+def session(**more: int) -> Session:
+    return Session(Params.of("qcif"), **{"rate": 30000, "second": 1001, "wait": 60_000_000, **more})
+
+
+for name, value in (("rate", 0), ("rate", 65537), ("second", 0), ("second", 4097)):
+    wanted("Refused: start: bad params: rate", lambda: session(**{name: value}))
+wanted("Refused: start: bad params: wait", lambda: session(wait=101_000_000))
+wanted("Refused: start: bad params: slots", lambda: Session(Params.of("qcif", slots=65), rate=1, wait=0))
+wanted("ValueError: rate: -1 is out of its range", lambda: session(rate=-1))
+wanted("ValueError: wait: 18446744073709551616 is out of its range", lambda: session(wait=1 << 64))
+with session() as it:
+    wanted("(None, None, None)", lambda: (it.due(), it.play(5), it.source()))
+    wanted("('dropped', 'malformed')", lambda: it.arrival(b"", 0)[:2])
+    wanted("('dropped', 'long')", lambda: it.arrival(bytes(9001), 0)[:2])
+    wanted("(0, 1, 1)", lambda: (it.statistics().taken, *list(it.statistics().dropped.values())[:2]))
+    wanted("ValueError: now: -1 is out of its range", lambda: it.arrival(b"", -1))
+    wanted("ValueError: there is no run best", lambda: it.source("best"))
+    wanted("TypeError: a session can't be copied or pickled", lambda: it.__reduce_ex__(2))
+    lent = it.shown()
+    wanted("(38016, 128, 128)", lambda: (len(lent), lent[0], lent[-1]))
+    wanted("None", it.due)
+    wanted("ValueError: operation forbidden on released memoryview object", lambda: lent[0])
+wanted("Refused: due: not started", it.due)
+wanted("Refused: arrival: not started", lambda: it.arrival(b"", 0))
 wanted("Refused: forget: not started", sender.forget)
 wanted("Refused: sent: not started", sender.sent)
 wanted("Refused: packet: not started", lambda: sender.packet(0))
