@@ -25,7 +25,8 @@ def library() -> ModuleType:
     module = importlib.import_module("h263rps")
     try:
         module.picture_size("qcif")
-    except OSError as fault:
+    except (AttributeError, OSError) as fault:
+        # An older library lacks functions.
         raise BadInput("--library", "no library", "make -C library makes it") from fault
     return module
 
@@ -170,7 +171,7 @@ class SendInProcess(InProcess):
 
 
 class RecvInProcess(InProcess):
-    """`recv`: its files are the log, what is shown and what goes back."""
+    """`recv`, for a record: its files are the log, what is shown and what goes back."""
 
     def _started(self, lib: ModuleType, shared: dict[str, int]) -> Any:
         self._is_headed = False

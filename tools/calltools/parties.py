@@ -1,7 +1,7 @@
 """A party of a live call: its camera and its screen, and the ends between them and the network."""
 
 from dataclasses import replace
-from typing import Callable, Optional
+from typing import Callable, Optional, Union
 
 from .call_network import Line
 from .cameras import Camera
@@ -13,6 +13,7 @@ from .reports import Report, is_description, rate_in, read_report
 from .rtcp import Bye, Feedback, bye_bytes, feedback_bytes, packets_of, read_rtcp
 from .screens import Screen
 from .sending import Sending
+from .session_receiving import SessionReceiving, receiving_end
 from .y4m import Frame
 
 # How often the end of a stream is said, since a datagram may be lost.
@@ -32,7 +33,7 @@ class Party:
         self.camera: Optional[Camera] = None
         self.screen: Optional[Screen] = None
         self.sending: Optional[Sending] = None
-        self.receiving: Optional[Receiving] = None
+        self.receiving: Union[Receiving, SessionReceiving, None] = None
         self.on_end: Callable[[str], None] = lambda _: None
         self.on_fault: Callable[[BadInput], None] = lambda _: None
         self._left = 0
@@ -48,7 +49,7 @@ class Party:
 
     def add_screen(self, screen: Screen) -> None:
         """What shows what the other party sends."""
-        receiving = Receiving(self._context)
+        receiving = receiving_end(self._context)
         receiving.on_frame = self._show
         receiving.on_feedback = self._feedback
         receiving.on_over = self._over

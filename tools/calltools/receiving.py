@@ -4,7 +4,6 @@ import random
 from typing import Callable, Optional
 
 from . import logs
-from .in_process import RecvInProcess
 from .joining import JoiningLog
 from .live_end import CallContext, LiveEnd, program_of
 from .loop import Call, Timer
@@ -152,18 +151,14 @@ class ReceivingRun:
         self.end()
 
     def _join(self, arrival: Arrival) -> None:
-        # The end is at picture 0. A stream that has been running is joined at the number that its temporal reference
-        # says: the library begins there, and `recv` comes there by as many plays. What is recorded begins after them.
+        # `recv` is at picture 0. A stream that has been running is joined at the number that its temporal reference
+        # says, by as many plays. What is recorded begins after them.
         header, start = arrival.header, arrival.start
         self._numbers = Numbers(start.period, float(self._settings.rate))
         self._source = header.source
         self.played = self._entries = joined = max(0, start.reference - _BEFORE)
         self._facts.update(source=header.source, joined=joined, first=start.reference)
-        if not joined:
-            return
-        if isinstance(self.program, RecvInProcess):
-            self.program.begin_at(joined)
-        else:
+        if joined:
             self._unseen = self._unsaid = self._unlisted = self.joining = joined
             self._log.join(joined)
 

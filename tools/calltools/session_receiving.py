@@ -1,0 +1,229 @@
+"""The receiving end of a live call by the library: a session between the network and the screen."""
+
+import random
+from collections import deque
+from typing import Any, Callable, Optional, Union
+
+from .errors import BadInput
+from .live_end import CallContext
+from .loop import Call, Timer
+from .receiving import Receiving
+from .rtcp import Bye, Feedback
+from .rtp import RtpHeader, rtp_header
+from .session_record import SessionRecord
+from .y4m import Frame
+
+SECOND = 1_000_000_000
+# What a session takes of a rate: so many pictures, and so many seconds, at most. Any rate has a near one that fits.
+_MOST_SECONDS = 500
+# The words by which a call counts what a session drops.
+_CAUSES = {
+    "long": "malformed",
+    "malformed": "malformed",
+    "other pictures": "other format or clock",
+    "too fast": "too fast",
+    "other stream": "other source",
+}
+# Datagrams that wait behind one whose picture is ahead, while those before it are played.
+_MOST_WAITING = 4_096
+# A session tells of a second stream once a second. A sender that begins anew has one beside its old one for less.
+_AGAIN = 2.0
+
+
+class SessionReceiving:
+    """Hands on what comes, shows what is played, and sends what is said. Which stream is followed, of which picture a
+    packet is and when that is played is the session's, which is proved (docs/LIVE.md, "Rules")."""
+
+    def __init__(self, context: CallContext) -> None:
+        self._context = context
+        self._loop, self._settings, self._tally = context.loop, context.settings, context.tally
+        self.on_feedback: Callable[[Feedback], None] = lambda _: None
+        self.on_frame: Callable[[Frame], None] = lambda _: None
+        self.on_hung_up: Call = lambda: None
+        self.on_over: Call = lambda: None
+        self.on_fault: Callable[[BadInput], None] = lambda _: None
+        self._session = self._started()
+        self._record = SessionRecord(context) if context.recorder.is_on else None
+        self._own_source = random.getrandbits(32)
+        self._source: Optional[int] = None
+        self._former: Optional[int] = None
+        self._sources: set[Optional[int]] = set()  # of the streams that have a run
+        self._next: Optional[int] = None  # the number of the picture that is shown next
+        # When a packet of the stream came last.
+        self.last = 0.0
+        self._waiting: deque[bytes] = deque()
+        self._rival: Optional[float] = None
+        self._told: set[object] = set()
+        self._timer = Timer(lambda: None)
+        self._is_ending = False
+
+    def _started(self) -> Any:
+        library, settings = self._context.library, self._settings
+        assert library
+        rate = settings.rate.limit_denominator(_MOST_SECONDS)
+        clock = library.CLOCKS[settings.clock]
+        words = {"slots": settings.slots, "lead": settings.lead, "messages": settings.messages}
+        try:
+            params = library.Params.of(settings.format, clock=clock, **words)
+            timing = {"rate": rate.numerator, "second": rate.denominator}
+            return library.Session(params, wait=round(SECOND * settings.wait), **timing)
+        except library.Refused as fault:
+            raise BadInput("--library", "no start", str(fault)) from fault
+
+    @property
+    def source(self) -> Optional[int]:
+        """The SSRC of the stream that is followed, or None before there is one."""
+        return self._source
+
+    def packet(self, data: bytes) -> Optional[RtpHeader]:
+        """A datagram came from the other side. Answers its header if it may be a packet of a stream."""
+        if self._is_ending:
+            return None
+        if self._waiting:
+            self._wait(data)
+            return rtp_header(data)
+        now = self._time()
+        self._wait(data)
+        verdict = self._hand_in(now)
+        self._play_due(now)
+        return None if verdict == "dropped" else rtp_header(data)
+
+    def bye(self, bye: Bye) -> None:
+        """The other side says that its stream ends."""
+        if bye.source == self._source:
+            self.on_hung_up()
+        elif self._source is not None:
+            self._tally.dropped["other source"] += 1
+
+    def end(self) -> None:
+        """No more packets. What is left is played, as many at once as are kept; then `on_over` is called."""
+        self._is_ending = True
+        self._timer.cancel()
+        for _ in range(self._settings.slots):
+            due = self._session.due()
+            if due is None:
+                if self._record:
+                    self._record.end()
+                self._session.close()
+                self.on_over()
+                return
+            self._play(max(due, self._time()))
+        self._timer = self._loop.at(self._loop.now(), self.end)
+
+    def _time(self) -> int:
+        return round(SECOND * self._loop.now())
+
+    def _wait(self, data: bytes) -> None:
+        if len(self._waiting) < _MOST_WAITING:
+            self._waiting.append(data)
+        else:
+            self._tally.dropped["too many"] += 1
+
+    def _hand_in(self, now: int) -> Optional[str]:
+        # What waits is handed in, up to one that is ahead: with those after it that one waits until what is due at once
+        # is played. Answers the last verdict.
+        verdict = None
+        while self._waiting and verdict != "ahead":
+            arrived = self._session.arrival(self._waiting[0], now)
+            verdict = arrived.verdict
+            if verdict != "ahead":
+                self._heard(self._waiting.popleft(), arrived)
+        return verdict
+
+    def _heard(self, data: bytes, arrived: Any) -> None:
+        if arrived.is_rival:
+            self._note_rival()
+        if arrived.verdict == "dropped":
+            self._drop(data, arrived.cause)
+        elif arrived.verdict == "no place":
+            self._tally.dropped["ahead of the clock"] += 1
+        else:
+            self._took(data, arrived)
+
+    def _drop(self, data: bytes, cause: str) -> None:
+        self._tally.dropped[_CAUSES[cause]] += 1
+        if cause == "other pictures":
+            self._tell_other_pictures(data)
+
+    def _tell_other_pictures(self, data: bytes) -> None:
+        assert self._context.library
+        theirs = self._context.library.packet_start(data)
+        own = self._settings
+        self._tell_once(
+            (theirs.format, theirs.clock),
+            f"the other side sends {theirs.format} in the {theirs.clock} clock, and this call is "
+            f"{own.format} in the {own.clock} clock: give both the same --format and --clock",
+        )
+
+    def _note_rival(self) -> None:
+        now, before = self._loop.now(), self._rival
+        self._rival = now
+        if before is not None and now - before <= _AGAIN:
+            words = "two streams come from the other side's address, and the one that is shown may be forged"
+            self._tell_once("rival", f"{words}: --secure of live_call keeps others out")
+
+    def _tell_once(self, about: object, words: str) -> None:
+        if about not in self._told:
+            self._told.add(about)
+            self._context.say(words)
+
+    def _took(self, data: bytes, arrived: Any) -> None:
+        now = self._loop.now()
+        self._tally.packets_in += 1
+        if arrived.kind == "completed" or arrived.source not in self._sources:
+            self._look_at_streams()
+        if self._record:
+            self._record.heard(arrived.source, data, arrived.kind, now)
+        self._say(arrived.source, arrived.message)
+        if arrived.source == self._source:
+            self.last = now
+
+    def _look_at_streams(self) -> None:
+        # Another one is tried, or comes to be followed with a complete picture.
+        source = self._session.source()
+        if source != self._source:
+            self._tally.begun_anew += self._source is not None and source != self._former
+            self._source, self._next = source, None
+        self._former = self._session.source("former")
+        self._sources = {source, self._former, self._session.source("tried")}
+        if self._record:
+            self._record.follow(source, self._sources)
+
+    def _say(self, source: int, message: bytes) -> None:
+        if message:
+            self._tally.messages_out += 1
+            self.on_feedback(Feedback(self._own_source, source, message))
+
+    def _play_due(self, now: int) -> None:
+        # At most as many at once as are kept: what is due beyond them waits for a look at the sockets.
+        for _ in range(self._settings.slots):
+            if not self._play(now) and self._hand_in(now) != "ahead":
+                break
+        self._timer.cancel()
+        due = self._session.due()
+        if due is not None:
+            self._timer = self._loop.at(due / SECOND, lambda: self._play_due(max(due, self._time())))
+
+    def _play(self, now: int) -> bool:
+        # Plays a picture that is due by then, if there is one.
+        turn = self._session.play(now)
+        if turn is None:
+            return False
+        if self._record:
+            self._record.played(turn.source, turn.number, self._loop.now())
+        if turn.run == "followed":
+            self._show(turn)
+        self._say(turn.source, turn.message)
+        return True
+
+    def _show(self, turn: Any) -> None:
+        if self._next not in (None, turn.number):
+            self._tally.begun_anew += 1
+        self._next = turn.number + 1
+        self._tally.marks[turn.mark] += 1
+        self.on_frame(Frame((f"X{turn.mark.upper()}",), bytes(self._session.shown())))
+
+
+def receiving_end(context: CallContext) -> Union[Receiving, SessionReceiving]:
+    """The receiving end of a call: by the library where the call has it, else by `recv` and its pipes."""
+    return SessionReceiving(context) if context.library else Receiving(context)
