@@ -1,0 +1,9 @@
+mod Others
+mod Own
+mod Apart
+mod Granting
+mod Newest
+mod Reaching
+mod Plays
+mod Marking
+mod Recovered

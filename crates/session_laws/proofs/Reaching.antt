@@ -1,0 +1,262 @@
+-- What is so of all that came of the streams of a session, whatever came.
+use Rattle.std.proofs.Common.{◌≡◌, ℕ, ◌+◌, ◌-◌, ◌<◌, ◌≤◌, max, Bool, true, false, cond, ltb, List, [], ◌∷◌, Option, Some, None, Result, Ok, Err, refl, ap, arith, ⊎_elim}
+use Rattle.std.specs.Option.{option_map}
+use Rattle.std.specs.List.{AllByRecursion}
+use Rattle.std.proofs.lemmas.Bool.{cases_lt, ltb-true}
+use Rattle.rtp_source.specs.Source.{renamed}
+use Rattle.call_model.specs.Receiving as receiving
+use Rattle.h263_bits.specs.declared.fault.Fault.{Fault}
+use Rattle.stream_choice.specs.declared.streams.Run.{Run}
+use Rattle.stream_choice.specs.declared.streams.Run.TheVariants as runs
+use Rattle.stream_choice.specs.declared.streams.Taker.{Taker}
+use Rattle.stream_choice.specs.declared.streams.Taker.TheVariants as takers
+use Rattle.stream_choice.specs.declared.streams.Turn.{Turn}
+use Rattle.stream_choice.specs.declared.streams.Turn.TheVariants as turns
+use Rattle.stream_choice.specs.Choice as choice
+use Rattle.stream_numbers.specs.declared.newest.Newest.{Newest}
+use Rattle.stream_numbers.specs.declared.packet.Packet.{Packet}
+use Rattle.stream_numbers.specs.declared.packet.Place.{Place}
+use Rattle.stream_numbers.specs.declared.stepping.Step.{Step}
+use Rattle.stream_numbers.specs.Placing.{step_of}
+use Rattle.stream_numbers.specs.Streams.{kept, newest_after}
+use Rattle.playout_times.specs.declared.arrival.Arrival.{Arrival}
+use Rattle.receiver_end.specs.State.{answer_after}
+use Rattle.timed_receiver.specs.Timed as timed
+use Rattle.stream_run.specs.Entries.{heard_of, with_place}
+use Rattle.session_intake.specs.Datagrams.{seen_in}
+use Rattle.session_intake.specs.declared.seen.Seen.{Seen}
+use Rattle.session_intake.specs.declared.seen.Cause.{Cause}
+use Rattle.session_runs.specs.Histories.{Ahead, Answer, Config, History, IsHeard, after_packet, after_play, answer_at, answer_in, begun, is_complete, must_begin, ready, timed_in, until_after}
+use Rattle.session_runs.specs.Lines.{Lines, line_of, made_ready, run_of, turned, with_line}
+use Rattle.session_runs.specs.Following.{Follows, after_heard, after_run, after_taker, completed_if, noted}
+use Rattle.call_session.specs.Sessions as session
+use Rattle.session_laws.specs.Bounded.{newest_number, number_of}
+use Rattle.session_laws.proofs.Newest.{Back, StepsTo, back_later, steps}
+
+-- ---- one line
+
+-- Its packets came in order; each that was heard is of a picture no newer than the newest; and what is
+-- due at once is more than the lead before that.
+pub record Fine (c : Config) (now : ℕ) (h : History) : Type 0 where
+  pub order : Back now (heard_of h.past)
+  pub heard : AllByRecursion (λ a. a.picture ≤ newest_number c h) (timed.arrivals_of (timed_in c h))
+  pub until : (n : ℕ) → n < h.until → n + c.lead < newest_number c h
+
+begun_fine : (c : Config) (now then reference : ℕ) → Fine c now (begun reference then)
+begun_fine c now then reference =
+    record { order = tt; heard = tt; until = λ n i. omega arith }
+
+fine_later : (c : Config) (then now : ℕ) (h : History) → then ≤ now → Fine c then h → Fine c now h
+fine_later c then now h i x =
+    record { order = back_later then now (heard_of h.past) i x.order; heard = x.heard; until = x.until }
+
+ready_if : (b : Bool) (c : Config) (now reference : ℕ) (h : History) → Fine c now h
+    → Fine c now (cond b (begun reference now) h)
+ready_if true c now reference h x = begun_fine c now now reference
+ready_if false c now reference h x = x
+
+ready_fine : (c : Config) (now reference : ℕ) (h : History) → Fine c now h → Fine c now (ready c reference now h)
+ready_fine c now reference h x = ready_if (must_begin c now h) c now reference h x
+
+-- ---- a packet of it
+
+abbrev AreBelow : ℕ → List Arrival → Type 0
+AreBelow n arrivals = AllByRecursion (λ a. a.picture ≤ n) arrivals
+
+more : (n m : ℕ) (arrivals : List Arrival) → n ≤ m → AreBelow n arrivals → AreBelow m arrivals
+more n m [] i x = tt
+more n m (a ∷ arrivals) i x =
+    let first = x.0 in
+    (omega arith, more n m arrivals i x.1)
+
+heard_if : (b : Bool) (n : ℕ) (bytes : List ℕ) (a : Arrival) (past : List timed.Entry) → a.picture ≤ n
+    → AreBelow n (timed.arrivals_of past)
+    → AreBelow n (timed.arrivals_of (cond b past (timed.Came bytes a ∷ past)))
+heard_if true n bytes a past i x = x
+heard_if false n bytes a past i x = (i, x)
+
+heard_after : (before : Option Newest) (s : Option Step) (first lead : ℕ) (bytes : List ℕ) (now : ℕ) (past : List timed.Entry)
+    → StepsTo before now s → AreBelow (number_of before) (timed.arrivals_of past)
+    → AreBelow (number_of (kept s before))
+    (timed.arrivals_of (with_place first lead (option_map (λ x. x.place) s) bytes now past))
+heard_after before None first lead bytes now past g x = x
+heard_after before (Some s) first lead bytes now past g x =
+    heard_if (ltb (timed.next_after first past + lead) s.place.number) s.newest.number bytes
+    (record { picture = s.place.number; captured = s.place.captured; at = now }) past g.place
+    (more (number_of before) s.newest.number (timed.arrivals_of past) g.old x)
+
+greater : (m until number lead before newest : ℕ) → (m < until → m + lead < before) → before ≤ newest → number ≤ newest
+    → m < max until (number - lead) → m + lead < newest
+greater m until number lead before newest f i j l =
+    ⊎_elim
+    (λ (h : m < until).
+    let k = f h in
+    omega (arith, k, i))
+    (λ (h : until ≤ m). omega arith)
+    (cases_lt m until)
+
+until_if : (b d : Bool) (number : ℕ) (x y : receiving.Heard Fault) (m until lead before newest : ℕ)
+    → (m < until → m + lead < before)
+    → before ≤ newest → number ≤ newest
+    → m < until_after (cond b (Ahead number) (cond d (IsHeard x) (IsHeard y))) lead until → m + lead < newest
+until_if true d number x y m until lead before newest f i j l = greater m until number lead before newest f i j l
+until_if false true number x y m until lead before newest f i j l =
+    let k = f l in
+    omega (arith, k, i)
+until_if false false number x y m until lead before newest f i j l =
+    let k = f l in
+    omega (arith, k, i)
+
+until_place : (c : Config) (before : Option Newest) (s : Option Step) (first : ℕ) (bytes : List ℕ) (now : ℕ)
+    (past : List timed.Entry) (m until : ℕ)
+    → StepsTo before now s → (m < until → m + c.lead < number_of before)
+    → m < until_after (answer_at c.params first c.lead past (option_map (λ x. x.place) s) bytes) c.lead until
+    → m + c.lead < number_of (kept s before)
+until_place c before None first bytes now past m until g f l = f l
+until_place c before (Some s) first bytes now past m until g f l =
+    until_if (ltb (timed.next_after first past + c.lead) s.place.number) (ltb s.place.number (timed.next_after first past))
+    s.place.number receiving.Late (answer_after c.params (timed.entries_of first past) bytes) m until c.lead
+    (number_of before) s.newest.number f g.old g.place l
+
+packet_fine : (c : Config) (packet : Packet) (bytes : List ℕ) (now : ℕ) (h : History) → Fine c now h
+    → Fine c now (after_packet c packet bytes now h)
+packet_fine c packet bytes now h x =
+    let before = newest_after c.rate (heard_of h.past) in
+    let s = step_of c.rate before packet now in
+    let g = steps c.rate before packet now in
+    record {
+      order = (omega arith, x.order);
+      heard = heard_after before s h.first c.lead bytes now (timed_in c h) g x.heard;
+      until = λ n i. until_place c before s h.first bytes now (timed_in c h) n h.until g (x.until n) i;
+    }
+
+play_fine : (c : Config) (now : ℕ) (h : History) → Fine c now h → Fine c now (after_play now h)
+play_fine c now h x = record { order = x.order; heard = x.heard; until = x.until }
+
+-- ---- all three
+
+pub record AreFine (c : Config) (now : ℕ) (l : Lines) : Type 0 where
+  pub followed : Fine c now l.followed
+  pub former : Fine c now l.former
+  pub tried : Fine c now l.tried
+
+lines_later : (c : Config) (then now : ℕ) (l : Lines) → then ≤ now → AreFine c then l → AreFine c now l
+lines_later c then now l i x =
+    record {
+      followed = fine_later c then now l.followed i x.followed;
+      former = fine_later c then now l.former i x.former;
+      tried = fine_later c then now l.tried i x.tried;
+    }
+
+pub line_fine : (run : Run) (c : Config) (now : ℕ) (l : Lines) → AreFine c now l → Fine c now (line_of run l)
+line_fine runs.Followed c now l x = x.followed
+line_fine runs.Former c now l x = x.former
+line_fine runs.Tried c now l x = x.tried
+
+with_fine : (run : Run) (c : Config) (now : ℕ) (h : History) (l : Lines) → Fine c now h → AreFine c now l
+    → AreFine c now (with_line run h l)
+with_fine runs.Followed c now h l i x = record { followed = i; former = x.former; tried = x.tried }
+with_fine runs.Former c now h l i x = record { followed = x.followed; former = i; tried = x.tried }
+with_fine runs.Tried c now h l i x = record { followed = x.followed; former = x.former; tried = i }
+
+turned_fine : (t : Turn) (c : Config) (now : ℕ) (l : Lines) → AreFine c now l → AreFine c now (turned t l)
+turned_fine turns.Stays c now l x = x
+turned_fine turns.ToFormer c now l x = record { followed = x.former; former = x.followed; tried = x.tried }
+turned_fine turns.ToTried c now l x = record { followed = x.tried; former = x.followed; tried = x.former }
+turned_fine turns.ToTriedBeside c now l x = record { followed = x.tried; former = x.former; tried = x.followed }
+
+made_fine : (t : Taker) (c : Config) (now reference : ℕ) (l : Lines) → AreFine c now l
+    → AreFine c now (made_ready c t reference now l)
+made_fine takers.Followed c now reference l x =
+    record { followed = ready_fine c now reference l.followed x.followed; former = x.former; tried = x.tried }
+made_fine takers.Former c now reference l x =
+    record { followed = x.followed; former = ready_fine c now reference l.former x.former; tried = x.tried }
+made_fine takers.Tried c now reference l x =
+    record { followed = x.followed; former = x.former; tried = ready_fine c now reference l.tried x.tried }
+made_fine takers.Begins c now reference l x =
+    record { followed = x.followed; former = x.former; tried = begun_fine c now now reference }
+made_fine takers.NoRun c now reference l x = x
+
+completed_fine : (k : Bool) (c : Config) (run : Run) (now : ℕ) (f : Follows) → AreFine c now f.lines
+    → AreFine c now (completed_if k run now f).lines
+completed_fine false c run now f x = x
+completed_fine true c run now f x = turned_fine (choice.turn_of f.streams run now) c now f.lines x
+
+run_fine : (o : Option Run) (c : Config) (packet : Packet) (bytes : List ℕ) (now : ℕ) (f : Follows) → AreFine c now f.lines
+    → AreFine c now (after_run c o packet bytes now f).lines
+run_fine None c packet bytes now f x = x
+run_fine (Some run) c packet bytes now f x =
+    completed_fine (is_complete (answer_in c packet bytes now (line_of run f.lines))) c run now (record {
+      streams = f.streams;
+      lines = with_line run (after_packet c packet bytes now (line_of run f.lines)) f.lines;
+    })
+    (with_fine run c now (after_packet c packet bytes now (line_of run f.lines)) f.lines
+    (packet_fine c packet bytes now (line_of run f.lines) (line_fine run c now f.lines x)) x)
+
+granted_fine : (g : Bool) (c : Config) (seen : Seen) (t : Taker) (own : List ℕ) (st : session.State)
+    → AreFine c st.now st.follows.lines
+    → AreFine c st.now (session.after_grant c seen t own g (session.asked_for t st)).follows.lines
+granted_fine false c seen t own st x = x
+granted_fine true c seen t own st x =
+    run_fine (run_of t) c seen.packet own st.now (record {
+      streams = choice.after_packet st.follows.streams seen.source st.now;
+      lines = made_ready c t seen.packet.reference st.now st.follows.lines;
+    })
+    (made_fine t c st.now seen.packet.reference st.follows.lines x)
+
+reading_fine : (r : Result Seen Cause) (c : Config) (own : List ℕ) (st : session.State) → AreFine c st.now st.follows.lines
+    → AreFine c st.now (session.after_reading c r own st).follows.lines
+reading_fine (Err cause) c own st x = x
+reading_fine (Ok seen) c own st x =
+    granted_fine (session.is_looked_at (session.taker_in seen st) st) c seen (session.taker_in seen st) own st x
+
+played_fine : (o : Option Run) (c : Config) (st : session.State) → AreFine c st.now st.follows.lines
+    → AreFine c st.now (session.after_played c o st).follows.lines
+played_fine None c st x = x
+played_fine (Some run) c st x =
+    with_fine run c st.now (after_play st.now (line_of run st.follows.lines)) st.follows.lines
+    (play_fine c st.now (line_of run st.follows.lines) (line_fine run c st.now st.follows.lines x)) x
+
+-- ---- whatever came
+
+no_later : (last now : ℕ) → last ≤ session.time_of last now
+no_later last now = omega arith
+
+granted_now : (g : Bool) (c : Config) (seen : Seen) (t : Taker) (own : List ℕ) (st : session.State)
+    → (session.after_grant c seen t own g (session.asked_for t st)).now ≡ st.now
+granted_now false c seen t own st = refl
+granted_now true c seen t own st = refl
+
+reading_now : (r : Result Seen Cause) (c : Config) (own : List ℕ) (st : session.State)
+    → (session.after_reading c r own st).now ≡ st.now
+reading_now (Err cause) c own st = refl
+reading_now (Ok seen) c own st =
+    granted_now (session.is_looked_at (session.taker_in seen st) st) c seen (session.taker_in seen st) own st
+
+pub at_fine : (c : Config) (now : ℕ) (st : session.State) → AreFine c st.now st.follows.lines
+    → AreFine c (session.time_of st.now now) st.follows.lines
+at_fine c now st x = lines_later c st.now (session.time_of st.now now) st.follows.lines (no_later st.now now) x
+
+pub lines_fine : (c : Config) (past : List session.Entry)
+    → AreFine c (session.session_run c past).now (session.session_run c past).follows.lines
+lines_fine c [] =
+    record {
+      followed = begun_fine c 0 0 0;
+      former = begun_fine c 0 0 0;
+      tried = begun_fine c 0 0 0;
+    }
+lines_fine c (session.Datagram bytes now ∷ past) =
+    let st = session.session_run c past in
+    let a = session.at now st in
+    let r = seen_in c.params bytes in
+    lines_later c a.now (session.after_reading c r (renamed bytes) a).now
+    (session.after_reading c r (renamed bytes) a).follows.lines
+    (same a.now (session.after_reading c r (renamed bytes) a).now (reading_now r c (renamed bytes) a))
+    (reading_fine r c (renamed bytes) a (at_fine c now st (lines_fine c past)))
+  where
+    same : (a b : ℕ) → b ≡ a → a ≤ b
+    same a b e = omega arith
+lines_fine c (session.Turn now ∷ past) =
+    let st = session.session_run c past in
+    let a = session.at now st in
+    played_fine (session.played_run c a) c a (at_fine c now st (lines_fine c past))

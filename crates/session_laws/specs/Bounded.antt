@@ -1,0 +1,122 @@
+-- What a session does at most, whatever comes. Lists have the newest first.
+use Rattle.std.specs.Prelude.{◌≡◌, ℕ, ◌+◌, ◌-◌, ◌*◌, ◌/◌, ◌<◌, ◌≤◌, ◌==◌, ◌⊎◌, true, List, [], ◌∷◌, ◌++◌, length, count_by, Option, Some, None}
+use Rattle.std.specs.List.{AllByRecursion}
+use Rattle.stream_choice.specs.declared.streams.Run.{Run}
+use Rattle.stream_numbers.specs.declared.newest.Newest.{Newest}
+use Rattle.stream_numbers.specs.Placing.{IsRate}
+use Rattle.stream_numbers.specs.Streams.{Heard, newest_after}
+use Rattle.playout_times.specs.declared.arrival.Arrival.{Arrival}
+use Rattle.playout_times.specs.Due.{due_of, is_due_by}
+use Rattle.playout_times.specs.Kept.{IsTimed}
+use Rattle.playout_times.specs.Laws.{Hides}
+use Rattle.playout_times.specs.Ways.{way}
+use Rattle.timed_receiver.specs.Timed.{arrivals_of}
+use Rattle.stream_run.specs.Entries.{heard_of}
+use Rattle.session_runs.specs.Histories.{Config, History, next_in, timed_in}
+use Rattle.session_runs.specs.Lines.{line_of}
+use Rattle.call_session.specs.Sessions.{Datagram, Dropped, Entry, Outcome, State, Taken, Turn, at, outcome_of, played_run, session_run, time_of}
+
+-- ---- packets
+
+abbrev pub taken_if : Outcome → ℕ → List ℕ
+taken_if (Dropped cause) now = []
+taken_if (Taken run source answer) now = now ∷ []
+
+abbrev pub taken_with : Config → Entry → State → List ℕ
+taken_with c (Datagram bytes now) st = taken_if (outcome_of c bytes now st) (time_of st.now now)
+taken_with c (Turn now) st = []
+
+-- when packets were taken by a run
+abbrev pub taken : Config → List Entry → List ℕ
+taken c [] = []
+taken c (e ∷ past) = taken_with c e (session_run c past) ++ taken c past
+
+-- Runs are given 36,000 packets at most in a second of the clock: 12,000 of the stream that is followed,
+-- as many of the former one, and as many of all others.
+abbrev pub FewAreTaken : Type 0
+FewAreTaken =
+    (c : Config) (past : List Entry) (second : ℕ)
+    → count_by (λ time. (time / 1000000000) == second) (taken c past) ≤ 36000
+
+-- ---- plays
+
+-- a play: what had come of the stream of its run, and when it was
+pub record Played : Type 0 where
+  pub line : History
+  pub now : ℕ
+
+abbrev pub played_at : Option Run → State → List Played
+played_at None st = []
+played_at (Some run) st = record { line = line_of run st.follows.lines; now = st.now } ∷ []
+
+abbrev pub played_with : Config → Entry → State → List Played
+played_with c (Datagram bytes now) st = []
+played_with c (Turn now) st = played_at (played_run c (at now st)) (at now st)
+
+abbrev pub plays : Config → List Entry → List Played
+plays c [] = []
+plays c (e ∷ past) = played_with c e (session_run c past) ++ plays c past
+
+abbrev pub turns : List Entry → ℕ
+turns [] = 0
+turns (Datagram bytes now ∷ past) = turns past
+turns (Turn now ∷ past) = turns past + 1
+
+abbrev pub number_of : Option Newest → ℕ
+number_of None = 0
+number_of (Some x) = x.number
+
+-- the greatest number of a picture of which a packet came
+abbrev pub newest_number : Config → History → ℕ
+newest_number c h = number_of (newest_after c.rate (heard_of h.past))
+
+-- when its next picture is due: at its capture, the least way and the wait, where that is known
+abbrev pub time_due : Config → History → Option ℕ
+time_due c h = due_of c.wait (next_in c h) (arrivals_of (timed_in c h))
+
+-- A packet of its picture came, or of a later one. Its picture was due by then, or a packet came of
+-- one that is more than the lead after it.
+pub record IsDue (c : Config) (p : Played) : Type 0 where
+  pub few : next_in c p.line < 1048576
+  pub came : next_in c p.line ≤ newest_number c p.line
+  pub due : (is_due_by p.now (time_due c p.line) ≡ true) ⊎ (next_in c p.line + c.lead < newest_number c p.line)
+
+-- Each play is of a picture that is due, and there is one at most for each turn.
+abbrev pub PlaysAreDue : Type 0
+PlaysAreDue =
+    (c : Config) (past : List Entry)
+    → AllByRecursion (IsDue c) (plays c past) × (length (plays c past) ≤ turns past)
+
+-- ---- waiting
+
+-- Whatever came before: once three pictures came on ways of this length or longer, it is made after
+-- each packet of its picture whose way is longer by the wait at most. No packet of its picture, or of a
+-- later one, may say that it was captured earlier; and none came of one that is more than the lead
+-- after it.
+abbrev pub HasWaited : Config → Played → Type 0
+HasWaited c p =
+    (shortest : ℕ) (packet : Arrival) (later before : List Arrival)
+    → arrivals_of (timed_in c p.line) ≡ later ++ before
+    → Hides later before
+    → AllByRecursion IsTimed later
+    → AllByRecursion (λ a. shortest ≤ way a) later
+    → AllByRecursion (λ a. packet.picture ≤ a.picture → packet.captured ≤ a.captured) (later ++ before)
+    → packet.picture ≡ next_in c p.line
+    → newest_number c p.line ≤ next_in c p.line + c.lead
+    → IsTimed packet → way packet ≤ shortest + c.wait
+    → packet.at ≤ p.now
+
+abbrev pub PlaysWait : Type 0
+PlaysWait = (c : Config) (past : List Entry) → AllByRecursion (HasWaited c) (plays c past)
+
+-- ---- numbers
+
+-- In no time do the numbers of a run go on by more pictures than are captured in that time, a tenth
+-- more, and two seconds.
+abbrev pub NeverAhead : Type 0
+NeverAhead =
+    (c : Config) (past : List Entry) (run : Run) (later before : List Heard) (x y : Newest) → IsRate c.rate
+    → let heard = heard_of (line_of run (session_run c past).follows.lines).past in
+    heard ≡ later ++ before → newest_after c.rate before ≡ Some x → newest_after c.rate heard ≡ Some y
+    → ((y.number - x.number) * (c.rate.second * 10000000000) ≤ c.rate.rate * (20000000000 + 11 * (y.at - x.at)))
+    × (y.at ≤ (session_run c past).now)

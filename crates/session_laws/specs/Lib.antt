@@ -1,0 +1,3 @@
+pub mod Undisturbed
+pub mod Bounded
+pub mod Recovering

@@ -1,0 +1,57 @@
+//! Laws of sessions, over the definitions alone.
+ghost use Rattle.session_laws.specs.Bounded.{FewAreTaken, NeverAhead, PlaysAreDue, PlaysWait};
+ghost use Rattle.session_laws.specs.Recovering.{FollowedAgain, NeverShutOut};
+ghost use Rattle.session_laws.specs.Undisturbed.{Undisturbed};
+
+/// What others send changes nothing of a followed stream of which a picture is complete every half
+/// second: what is said of its packets, and what is played of it, is as without them. Not said:
+/// what packets are counted, when others are played, and how much time others' packets cost.
+pub fn undisturbed()
+    ensures { Undisturbed }
+{}
+
+/// In no second more than 36,000 packets are given to runs. Not said: that a packet costs no more
+/// than another, and how many datagrams are read that no run is given.
+pub fn few_taken()
+    ensures { FewAreTaken }
+{
+    stream_choice::laws::never_more();
+}
+
+/// Each play is of a picture that is due, and of which a packet came, or of a later one; and there is
+/// one at most for each turn. Not said: that turns come when pictures are due.
+pub fn plays_are_due()
+    ensures { PlaysAreDue }
+{}
+
+/// From the third picture on, whatever came before, a picture is played after its packets, as long as
+/// none takes longer than the shortest way and the wait. Not said: that they are heard, which needs
+/// their numbers to be right.
+pub fn plays_wait()
+    ensures { PlaysWait }
+{
+    playout_times::laws::in_time();
+}
+
+/// The numbers of a run go on by no more pictures than are captured in the time that goes by, a
+/// tenth more, and two seconds. Not said: how often a run begins anew.
+pub fn never_ahead()
+    ensures { NeverAhead }
+{
+    stream_numbers::laws::never_ahead();
+}
+
+/// Once no packet was taken for a second and a half, the next packet of any stream is taken, unless
+/// the second's packets were taken before. Not said: that its stream completes a picture.
+pub fn never_shut_out()
+    ensures { NeverShutOut }
+{
+    stream_choice::laws::never_shut_out();
+}
+
+/// Half a second after the last packet of others, a stream is followed with its next complete picture,
+/// whatever came before, and however many pictures others had. Not said: when a picture of it is
+/// complete, which hangs on its packets.
+pub fn followed_again()
+    ensures { FollowedAgain }
+{}

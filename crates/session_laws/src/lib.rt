@@ -1,0 +1,4 @@
+//! Laws of sessions: what holds of every list of datagrams and turns, by the definitions alone.
+#![tactic(auto)]
+
+pub mod laws;
