@@ -7,3 +7,4 @@ mod Reaching
 mod Plays
 mod Marking
 mod Recovered
+mod Giving

@@ -1,3 +1,4 @@
 pub mod Undisturbed
 pub mod Bounded
 pub mod Recovering
+pub mod InTime

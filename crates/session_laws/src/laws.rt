@@ -1,7 +1,14 @@
 //! Laws of sessions, over the definitions alone.
 ghost use Rattle.session_laws.specs.Bounded.{FewAreTaken, NeverAhead, PlaysAreDue, PlaysWait};
+ghost use Rattle.session_laws.specs.InTime.{GivenInTime, InTime};
 ghost use Rattle.session_laws.specs.Recovering.{FollowedAgain, NeverShutOut};
 ghost use Rattle.session_laws.specs.Undisturbed.{Undisturbed};
+
+use call_decoding::laws::are_rules;
+use call_decoding::{Pictured, Styled};
+use h263_bits::Fault;
+use h263_types::Mb;
+use receiver_end::laws::is_decoding;
 
 /// What others send changes nothing of a followed stream of which a picture is complete every half
 /// second: what is said of its packets, and what is played of it, is as without them. Not said:
@@ -55,3 +62,20 @@ pub fn never_shut_out()
 pub fn followed_again()
     ensures { FollowedAgain }
 {}
+
+/// What comes of a picture by its number before its play is given to the receiver before that.
+/// Not said: that the number is the one that the sender meant.
+pub fn given_in_time()
+    ensures { GivenInTime }
+{}
+
+/// A picture of a sender whose pictures are sound is marked exact and is the sender's, if the run's
+/// receiver was given all its packets while it was open, and otherwise what a near call gives. Not
+/// said: that strangers' packets with the same SSRC do no harm.
+pub fn in_time()
+    ensures { InTime }
+{
+    is_decoding();
+    are_rules();
+    call_model::laws::any_sound_sender::<Styled, Mb, Pictured, Fault>();
+}
