@@ -8,3 +8,4 @@ mod Plays
 mod Marking
 mod Recovered
 mod Giving
+mod Hearing

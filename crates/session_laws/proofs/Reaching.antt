@@ -1,5 +1,5 @@
 -- What is so of all that came of the streams of a session, whatever came.
-use Rattle.std.proofs.Common.{◌≡◌, ℕ, ◌+◌, ◌-◌, ◌<◌, ◌≤◌, max, Bool, true, false, cond, ltb, List, [], ◌∷◌, Option, Some, None, Result, Ok, Err, refl, ap, arith, ⊎_elim}
+use Rattle.std.proofs.Common.{◌≡◌, ℕ, ◌+◌, ◌-◌, ◌<◌, ◌≤◌, max, Bool, true, false, cond, eqb, ltb, List, [], ◌∷◌, Option, Some, None, Result, Ok, Err, refl, ap, arith, ⊎_elim}
 use Rattle.std.specs.Option.{option_map}
 use Rattle.std.specs.List.{AllByRecursion}
 use Rattle.std.proofs.lemmas.Bool.{cases_lt, ltb-true}
@@ -26,8 +26,10 @@ use Rattle.stream_run.specs.Entries.{heard_of, with_place}
 use Rattle.session_intake.specs.Datagrams.{seen_in}
 use Rattle.session_intake.specs.declared.seen.Seen.{Seen}
 use Rattle.session_intake.specs.declared.seen.Cause.{Cause}
-use Rattle.session_runs.specs.Histories.{Ahead, Answer, Config, History, IsHeard, after_packet, after_play, answer_at, answer_in, begun, is_complete, must_begin, ready, timed_in, until_after}
+use Rattle.session_runs.specs.Histories.{Ahead, Answer, Config, History, IsHeard, after_packet, after_play, answer_at, answer_in, begun, is_complete, is_heard, must_begin, ready, timed_in, until_after}
 use Rattle.session_runs.specs.Lines.{Lines, line_of, made_ready, run_of, turned, with_line}
+use Rattle.session_runs.specs.declared.unheard.Unheard.{Unheard}
+use Rattle.session_runs.specs.Unheard.{after_heard as unheard_after}
 use Rattle.session_runs.specs.Following.{Follows, after_heard, after_run, after_taker, completed_if, noted}
 use Rattle.call_session.specs.Sessions as session
 use Rattle.session_laws.specs.Bounded.{newest_number, number_of}
@@ -41,18 +43,27 @@ pub record Fine (c : Config) (now : ℕ) (h : History) : Type 0 where
   pub order : Back now (heard_of h.past)
   pub heard : AllByRecursion (λ a. a.picture ≤ newest_number c h) (timed.arrivals_of (timed_in c h))
   pub until : (n : ℕ) → n < h.until → n + c.lead < newest_number c h
+  pub since : h.unheard.since ≤ now
 
-begun_fine : (c : Config) (now then reference : ℕ) → Fine c now (begun reference then)
-begun_fine c now then reference =
-    record { order = tt; heard = tt; until = λ n i. omega arith }
+begun_fine : (c : Config) (now then reference : ℕ) → then ≤ now → Fine c now (begun reference then)
+begun_fine c now then reference i =
+    record { order = tt; heard = tt; until = λ n j. omega arith; since = i }
 
 fine_later : (c : Config) (then now : ℕ) (h : History) → then ≤ now → Fine c then h → Fine c now h
 fine_later c then now h i x =
-    record { order = back_later then now (heard_of h.past) i x.order; heard = x.heard; until = x.until }
+    record {
+      order = back_later then now (heard_of h.past) i x.order;
+      heard = x.heard;
+      until = x.until;
+      since = over h.unheard.since then now x.since i;
+    }
+  where
+    over : (a b n : ℕ) → a ≤ b → b ≤ n → a ≤ n
+    over a b n h i = omega arith
 
 ready_if : (b : Bool) (c : Config) (now reference : ℕ) (h : History) → Fine c now h
     → Fine c now (cond b (begun reference now) h)
-ready_if true c now reference h x = begun_fine c now now reference
+ready_if true c now reference h x = begun_fine c now now reference (omega arith)
 ready_if false c now reference h x = x
 
 ready_fine : (c : Config) (now reference : ℕ) (h : History) → Fine c now h → Fine c now (ready c reference now h)
@@ -118,6 +129,14 @@ until_place c before (Some s) first bytes now past m until g f l =
     s.place.number receiving.Late (answer_after c.params (timed.entries_of first past) bytes) m until c.lead
     (number_of before) s.newest.number f g.old g.place l
 
+since_if : (b : Bool) (now since : ℕ) → since ≤ now → cond b now since ≤ now
+since_if true now since i = omega arith
+since_if false now since i = i
+
+since_after : (b : Bool) (now : ℕ) (u : Unheard) → u.since ≤ now → (unheard_after b now u).since ≤ now
+since_after true now u i = omega arith
+since_after false now u i = since_if (eqb u.packets 0) now u.since i
+
 packet_fine : (c : Config) (packet : Packet) (bytes : List ℕ) (now : ℕ) (h : History) → Fine c now h
     → Fine c now (after_packet c packet bytes now h)
 packet_fine c packet bytes now h x =
@@ -128,10 +147,11 @@ packet_fine c packet bytes now h x =
       order = (omega arith, x.order);
       heard = heard_after before s h.first c.lead bytes now (timed_in c h) g x.heard;
       until = λ n i. until_place c before s h.first bytes now (timed_in c h) n h.until g (x.until n) i;
+      since = since_after (is_heard (answer_in c packet bytes now h)) now h.unheard x.since;
     }
 
 play_fine : (c : Config) (now : ℕ) (h : History) → Fine c now h → Fine c now (after_play now h)
-play_fine c now h x = record { order = x.order; heard = x.heard; until = x.until }
+play_fine c now h x = record { order = x.order; heard = x.heard; until = x.until; since = x.since }
 
 -- ---- all three
 
@@ -174,7 +194,7 @@ made_fine takers.Former c now reference l x =
 made_fine takers.Tried c now reference l x =
     record { followed = x.followed; former = x.former; tried = ready_fine c now reference l.tried x.tried }
 made_fine takers.Begins c now reference l x =
-    record { followed = x.followed; former = x.former; tried = begun_fine c now now reference }
+    record { followed = x.followed; former = x.former; tried = begun_fine c now now reference (omega arith) }
 made_fine takers.NoRun c now reference l x = x
 
 completed_fine : (k : Bool) (c : Config) (run : Run) (now : ℕ) (f : Follows) → AreFine c now f.lines
@@ -241,9 +261,9 @@ pub lines_fine : (c : Config) (past : List session.Entry)
     → AreFine c (session.session_run c past).now (session.session_run c past).follows.lines
 lines_fine c [] =
     record {
-      followed = begun_fine c 0 0 0;
-      former = begun_fine c 0 0 0;
-      tried = begun_fine c 0 0 0;
+      followed = begun_fine c 0 0 0 (omega arith);
+      former = begun_fine c 0 0 0 (omega arith);
+      tried = begun_fine c 0 0 0 (omega arith);
     }
 lines_fine c (session.Datagram bytes now ∷ past) =
     let st = session.session_run c past in

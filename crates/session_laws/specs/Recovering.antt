@@ -1,9 +1,13 @@
 -- There is nothing from which a session doesn't recover. Lists have the newest first.
-use Rattle.std.specs.Prelude.{◌≡◌, ℕ, ◌+◌, ◌≤◌, Bool, true, false, List, [], ◌∷◌, ◌++◌}
+use Rattle.std.specs.Prelude.{◌≡◌, ℕ, ◌+◌, ◌-◌, ◌<◌, ◌≤◌, Bool, true, false, List, [], ◌∷◌, ◌++◌, length}
+use Rattle.receiver_end.specs.State.{answer_after, plays_alone}
+use Rattle.stream_choice.specs.declared.streams.Run.{Run}
 use Rattle.stream_choice.specs.Choice.{is_of}
+use Rattle.stream_numbers.specs.declared.packet.Packet.{Packet}
 use Rattle.session_intake.specs.declared.seen.Cause.TheVariants as causes
 use Rattle.session_intake.specs.Datagrams.{seen_in}
-use Rattle.session_runs.specs.Histories.{Config, is_complete}
+use Rattle.session_runs.specs.Histories.{Config, History, IsHeard, after_packet, answer_in, begun, is_complete, is_heard, must_begin, ready}
+use Rattle.session_runs.specs.Lines.{line_of}
 use Rattle.call_session.specs.Sessions.{Datagram, Dropped, Entry, Outcome, Taken, Turn, outcome_of, session_run}
 use Rattle.session_laws.specs.Undisturbed.{InOrder, is_from, is_from_other, newest_time}
 
@@ -56,3 +60,44 @@ FollowedAgain =
     → is_from source (seen_in c.params bytes) ≡ true
     → completes (outcome_of c bytes now (session_run c (es ++ before))) ≡ true
     → is_of (session_run c (Datagram bytes now ∷ (es ++ before))).follows.streams.followed source ≡ true
+
+-- ---- heard again
+
+-- packets that a run takes in a row: what each says, its bytes, and when it came
+abbrev pub Row : Type 0
+Row = List (Packet × List ℕ × ℕ)
+
+-- each begins the run anew where that is needed
+abbrev pub after_row : Config → History → Row → History
+after_row c h [] = h
+after_row c h (p ∷ ps) = after_packet c p.0 p.1 p.2 (ready c p.0.reference p.2 (after_row c h ps))
+
+-- none of them is heard
+abbrev pub NoneIsHeard : Config → History → Row → Type 0
+NoneIsHeard c h [] = Unit {0}
+NoneIsHeard c h (p ∷ ps) =
+    (is_heard (answer_in c p.0 p.1 p.2 (ready c p.0.reference p.2 (after_row c h ps))) ≡ false) × NoneIsHeard c h ps
+
+-- and none begins the run anew
+abbrev pub NoneBegins : Config → History → Row → Type 0
+NoneBegins c h [] = Unit {0}
+NoneBegins c h (p ∷ ps) = (must_begin c p.2 (after_row c h ps) ≡ false) × NoneBegins c h ps
+
+-- when the first of them came, or this time where there is none
+abbrev pub first_time : ℕ → Row → ℕ
+first_time now [] = now
+first_time now (p ∷ ps) = first_time p.2 ps
+
+-- Whatever came before, of thirty-one packets in a row of a run, over a second or longer, one is heard,
+-- or one begins the run anew. One that does is answered by a receiver that has played nothing but the
+-- pictures up to the third before it.
+abbrev pub HeardAgain : Type 0
+HeardAgain =
+    ((c : Config) (past : List Entry) (run : Run) (p : Packet × List ℕ × ℕ) (ps : Row)
+    → let h = line_of run (session_run c past).follows.lines in
+    (session_run c past).now ≤ first_time p.2 ps
+    → NoneIsHeard c h (p ∷ ps) → NoneBegins c h (p ∷ ps) → 30 ≤ length ps
+    → p.2 < first_time p.2 ps + 1000000000)
+    × ((c : Config) (packet : Packet) (bytes : List ℕ) (now : ℕ) → 2 ≤ c.lead
+    → answer_in c packet bytes now (begun packet.reference now)
+    ≡ IsHeard (answer_after c.params (plays_alone (packet.reference - 2)) bytes))

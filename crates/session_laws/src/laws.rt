@@ -1,7 +1,7 @@
 //! Laws of sessions, over the definitions alone.
 ghost use Rattle.session_laws.specs.Bounded.{FewAreTaken, NeverAhead, PlaysAreDue, PlaysWait};
 ghost use Rattle.session_laws.specs.InTime.{GivenInTime, InTime};
-ghost use Rattle.session_laws.specs.Recovering.{FollowedAgain, NeverShutOut};
+ghost use Rattle.session_laws.specs.Recovering.{FollowedAgain, HeardAgain, NeverShutOut};
 ghost use Rattle.session_laws.specs.Undisturbed.{Undisturbed};
 
 use call_decoding::laws::are_rules;
@@ -61,6 +61,13 @@ pub fn never_shut_out()
 /// complete, which hangs on its packets.
 pub fn followed_again()
     ensures { FollowedAgain }
+{}
+
+/// Of thirty-one packets in a row of a run, over a second or longer, one is heard, or one begins the
+/// run anew, and that one's picture is open. Not said: that the receiver takes it, which hangs on the
+/// pictures to which it refers.
+pub fn heard_again()
+    ensures { HeardAgain }
 {}
 
 /// What comes of a picture by its number before its play is given to the receiver before that.
