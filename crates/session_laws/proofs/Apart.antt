@@ -1,6 +1,5 @@
 -- A stream that is followed, with what others send and without.
-use Rattle.std.proofs.Common.{◌≡◌, ℕ, ◌<◌, ◌≤◌, max, min, Bool, true, false, cond, List, [], ◌∷◌, ◌++◌, filter, Option, Result, Ok, Err, refl, ap, sym, arith, subst, ◌∙◌, ⊎_elim}
-use Rattle.std.proofs.lemmas.Bool.{cases_Bool}
+use Rattle.std.proofs.Common.{◌≡◌, ℕ, ◌<◌, ◌≤◌, Bool, true, false, cond, List, [], ◌∷◌, ◌++◌, Option, Result, Ok, Err, refl, ap, sym, arith, subst, ◌∙◌}
 use Rattle.rtp_source.specs.Source.{renamed}
 use Rattle.stream_choice.specs.declared.stream.Stream.{Stream}
 use Rattle.stream_choice.specs.declared.streams.Taker.{Taker}
@@ -9,8 +8,8 @@ use Rattle.session_intake.specs.declared.seen.Seen.{Seen}
 use Rattle.session_intake.specs.declared.seen.Cause.{Cause}
 use Rattle.session_intake.specs.Datagrams.{seen_in}
 use Rattle.session_runs.specs.Histories.{Config}
-use Rattle.call_session.specs.Sessions.{Datagram, Entry, Outcome, State, Turn, after_datagram, after_grant, after_reading, after_turn, asked_for, at, is_looked_at, outcome_of, outcome_of_reading, session_run, taker_in, time_of}
-use Rattle.session_laws.specs.Undisturbed.{Followed, InOrder, IsBeside, Said, StaysLive, followed_in, is_from, is_from_other, is_own, newest_time, own_of, said_of, said_of_packet, said_with}
+use Rattle.call_session.specs.Sessions.{Datagram, Entry, State, Turn, after_datagram, after_grant, after_reading, asked_for, at, is_looked_at, outcome_of, outcome_of_reading, session_run, taker_in, time_of}
+use Rattle.session_laws.specs.Undisturbed.{Followed, InOrder, IsBeside, Said, StaysLive, followed_in, is_from, is_from_other, newest_time, own_of, said_of, said_of_packet, said_with}
 use Rattle.session_laws.proofs.Others.{by_others}
 use Rattle.session_laws.proofs.Own as own
 

@@ -7,11 +7,11 @@ use Rattle.h263_types.specs.declared.blocks.Mb.{Mb}
 use Rattle.h263_types.specs.declared.params.Params.{Params}
 use Rattle.h263_types.specs.Params.{IsParams}
 use Rattle.h263_planes.specs.Picture.{Picture}
-use Rattle.call_model.specs.Coding.{Decoding, Exact, Held, Mark, Patched, Rules, mixed}
+use Rattle.call_model.specs.Coding.{Decoding, Exact, Held, Patched, Rules, mixed}
 use Rattle.call_model.specs.CodedPictures.{Coded}
 use Rattle.call_model.specs.IdealCall.{AllMayHappenFrom, Back, Deliver, Event, Play, Send, Source, call_from, is_full}
 use Rattle.call_model.specs.Lawful.{IsDecoding, IsRules}
-use Rattle.call_model.specs.Receiving.{Packet, PlayNext, ReceiverEntry, ReceiverRun, after_packet, after_play, decoded, has_any, has_taken, is_complete, played_mark, played_picture, receiver_run}
+use Rattle.call_model.specs.Receiving.{Packet, ReceiverEntry, ReceiverRun, after_packet, after_play, decoded, has_any, has_taken, is_complete, played_mark, played_picture, receiver_run}
 use Rattle.call_model.specs.Sound.{AllSound, AnySoundSender, Packets, received}
 use Rattle.call_decoding.specs.Rules.{rules_of}
 use Rattle.call_decoding.specs.Styles.{Style}
@@ -214,9 +214,10 @@ in_time coded ruled law c h source packets count events x p may sound same sent 
     let played = played_is d rules h.first (timed_in c h) in
     let whole = ap (λ (y : ReceiverRun Style Mb Picture). is_complete rules.mbs y.taken n) (sym is_run)
     ∙ follows.state.complete n ∙ full in
-    let now = ap (is_complete rules.mbs r.taken) played ∙ whole in
-    (shown_mark d rules r now,
-    shown_picture d rules r now
-    ∙ ap (decoded d rules r.taken) played
-    ∙ ap (λ (y : ReceiverRun Style Mb Picture). decoded d rules y.taken n) (sym is_run)
-    ∙ follows.state.pictures n x sent full)
+    let now = ap (is_complete rules.mbs r.taken) played ∙ whole in (
+      shown_mark d rules r now,
+      shown_picture d rules r now
+          ∙ ap (decoded d rules r.taken) played
+          ∙ ap (λ (y : ReceiverRun Style Mb Picture). decoded d rules y.taken n) (sym is_run)
+          ∙ follows.state.pictures n x sent full,
+    )

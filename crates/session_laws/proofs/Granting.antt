@@ -1,5 +1,5 @@
 -- How many packets are given to runs.
-use Rattle.std.proofs.Common.{◌≡◌, ℕ, ◌+◌, ◌/◌, ◌≤◌, Bool, true, false, cond, eqb, List, [], ◌∷◌, ◌++◌, count_by, Option, Some, None, Result, Ok, Err, refl, ap, arith, ◌∙◌}
+use Rattle.std.proofs.Common.{◌≡◌, ℕ, ◌+◌, ◌/◌, ◌≤◌, Bool, true, false, cond, eqb, List, [], ◌∷◌, ◌++◌, count_by, Result, Ok, Err, refl, ap, arith}
 use Rattle.std.proofs.lemmas.List.Sums.{sum_by-cons}
 use Rattle.rtp_source.specs.Source.{renamed}
 use Rattle.stream_choice.specs.declared.streams.Taker.{Taker}
@@ -11,7 +11,6 @@ use Rattle.session_intake.specs.Datagrams.{seen_in}
 use Rattle.session_intake.specs.declared.seen.Seen.{Seen}
 use Rattle.session_intake.specs.declared.seen.Cause.{Cause}
 use Rattle.session_runs.specs.Histories.{Config}
-use Rattle.session_runs.specs.Lines.{run_of}
 use Rattle.call_session.specs.Sessions.{Datagram, Entry, State, Turn, after_grant, after_reading, asked_for, at, is_looked_at, outcome_of_grant, outcome_of_reading, session_run, taker_in}
 use Rattle.session_laws.specs.Bounded.{taken, taken_if}
 
@@ -33,12 +32,14 @@ grown : (p : ℕ → Bool) (n : ℕ) (ts ns : List ℕ) (k : ℕ) → count_by p
     → (count_by p ts ≤ count_by p (n ∷ ns) + k) × (count_by p (n ∷ ts) ≤ count_by p (n ∷ ns) + k)
 grown p n ts ns k h =
     let a = one_more p n ts in
-    let b = one_more p n ns in
-    (less (count_by p ts) (count_by p (n ∷ ns)) (cond (p n) 1 0) (count_by p ns) k b h,
-    both (count_by p ts) (count_by p (n ∷ ts)) (count_by p (n ∷ ns)) (cond (p n) 1 0) (count_by p ns) k a b h)
+    let b = one_more p n ns in (
+      less (count_by p ts) (count_by p (n ∷ ns)) (cond (p n) 1 0) (count_by p ns) k b h,
+      both (count_by p ts) (count_by p (n ∷ ts)) (count_by p (n ∷ ns)) (cond (p n) 1 0) (count_by p ns) k a b h,
+    )
   where
     less : (t m x n k : ℕ) → m ≡ x + n → t ≤ n + k → t ≤ m + k
     less t m x n k e h = omega arith
+
     both : (t u m x n k : ℕ) → u ≡ x + t → m ≡ x + n → t ≤ n + k → u ≤ m + k
     both t u m x n k d e h = omega arith
 

@@ -1,6 +1,6 @@
 -- Of enough packets in a row one is heard, or one begins its run anew.
 use Rattle.std.proofs.Common.{◌≡◌, ℕ, suc, ◌+◌, ◌-◌, ◌<◌, ◌≤◌, min, Bool, true, false, cond, eqb, leb, ltb, List, [], ◌∷◌, length, refl, ap, sym, arith, subst, ◌∙◌}
-use Rattle.std.proofs.lemmas.Bool.{le-leb, le-ltb, leb-false, leb-true, ne_eqb}
+use Rattle.std.proofs.lemmas.Bool.{le-leb, le-ltb, leb-false, ne_eqb}
 use Rattle.h263_bits.specs.declared.fault.Fault.{Fault}
 use Rattle.call_model.specs.Receiving as receiving
 use Rattle.receiver_end.specs.State.{answer_after, plays_alone}
@@ -8,7 +8,7 @@ use Rattle.stream_choice.specs.declared.streams.Run.{Run}
 use Rattle.stream_numbers.specs.declared.packet.Packet.{Packet}
 use Rattle.session_runs.specs.declared.unheard.Unheard.{Unheard}
 use Rattle.session_runs.specs.Unheard.{after_heard, is_lost}
-use Rattle.session_runs.specs.Histories.{Ahead, Answer, Config, History, IsHeard, after_packet, answer_in, begun, is_heard, must_begin, next_in, ready}
+use Rattle.session_runs.specs.Histories.{Ahead, Config, History, IsHeard, answer_in, begun, is_heard, must_begin, next_in, ready}
 use Rattle.session_runs.specs.Lines.{line_of}
 use Rattle.call_session.specs.Sessions.{Entry, session_run}
 use Rattle.session_laws.specs.Recovering.{NoneBegins, NoneIsHeard, Row, after_row, first_time}
@@ -62,6 +62,7 @@ next_more u now count then i x =
   where
     grown : (n k : ℕ) → min n 4294967295 ≤ k → min (suc n) 4294967295 ≤ min (k + 1) 4294967295
     grown n k h = omega arith
+
     none : (n k : ℕ) → 1 ≤ n → min n 4294967295 ≤ k → k ≡ 0 → ⊥
     none n k i h e = omega arith
 
@@ -108,6 +109,7 @@ soon c h p (q ∷ qs) i n b l =
   where
     enough : (n k : ℕ) → 30 ≤ n → min n 4294967295 ≤ k → 30 ≤ k
     enough n k h i = omega arith
+
     below : (now since first : ℕ) → now - since < 1000000000 → since ≤ first → now < first + 1000000000
     below now since first h i = omega arith
 

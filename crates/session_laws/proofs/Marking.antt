@@ -1,5 +1,5 @@
 -- What is so of the streams of a session, whatever comes.
-use Rattle.std.proofs.Common.{◌≡◌, ℕ, ◌==◌, not, Bool, true, false, cond, ltb, List, Option, Some, None, Result, Ok, Err, refl, ap, sym, subst, ◌∙◌}
+use Rattle.std.proofs.Common.{◌≡◌, ℕ, ◌==◌, not, Bool, true, false, cond, ltb, Option, Some, None, refl}
 use Rattle.std.specs.Prelude.{MatchOption}
 use Rattle.std.specs.Option.{option_map}
 use Rattle.std.proofs.lemmas.Bool.{eqb-true}
@@ -7,7 +7,6 @@ use Rattle.stream_choice.specs.declared.stream.Stream.{Stream}
 use Rattle.stream_choice.specs.declared.trial.Trial.{Trial}
 use Rattle.stream_choice.specs.declared.streams.Streams.{Streams}
 use Rattle.stream_choice.specs.declared.streams.Run.{Run}
-use Rattle.stream_choice.specs.declared.streams.Run.TheVariants as runs
 use Rattle.stream_choice.specs.declared.streams.Taker.{Taker}
 use Rattle.stream_choice.specs.declared.streams.Taker.TheVariants as takers
 use Rattle.stream_choice.specs.Choice.{after_complete, counted, is_live_one, is_of, is_over, is_tried, kept, overtakes, touched, tried_after, with_former, with_tried}

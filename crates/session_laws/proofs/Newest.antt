@@ -203,9 +203,10 @@ still_some : (r : Rate) (later before : List Heard) (x : Newest) → newest_afte
     → (w : Newest) × (newest_after r (later ++ before) ≡ Some w)
 still_some r [] before x e = (x, e)
 still_some r (h ∷ later) before x e =
-    let k = still_some r later before x e in
-    (newest_of (step_of r (Some k.0) h.0 h.1) k.0,
-    ap (λ (o : Option Newest). kept (step_of r o h.0 h.1) o) k.1 ∙ kept_some (step_of r (Some k.0) h.0 h.1) k.0)
+    let k = still_some r later before x e in (
+      newest_of (step_of r (Some k.0) h.0 h.1) k.0,
+      ap (λ (o : Option Newest). kept (step_of r o h.0 h.1) o) k.1 ∙ kept_some (step_of r (Some k.0) h.0 h.1) k.0,
+    )
 
 some_same : (x y : Newest) (o : Option Newest) → o ≡ Some x → o ≡ Some y → x ≡ y
 some_same x y o e f = inside (Some x) x y refl (sym e ∙ f)

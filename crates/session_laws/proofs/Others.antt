@@ -1,5 +1,5 @@
 -- What others send leaves all that there is of the stream that is followed.
-use Rattle.std.proofs.Common.{◌≡◌, ℕ, ◌+◌, ◌<◌, ◌≤◌, min, not, Bool, true, false, cond, eqb, ltb, List, Option, Some, None, Result, Ok, Err, refl, ap, sym, arith, subst, ◌∙◌}
+use Rattle.std.proofs.Common.{◌≡◌, ℕ, ◌+◌, ◌<◌, ◌≤◌, min, not, Bool, true, false, cond, eqb, ltb, List, Option, Some, None, Result, Ok, Err, refl, ap, sym, arith, ◌∙◌}
 use Rattle.std.proofs.lemmas.Bool.{eq-eqb, eqb-true, le-ltb, ltb-true, ne_eqb, true≢false}
 use Rattle.stream_choice.specs.declared.stream.Stream.{Stream}
 use Rattle.stream_choice.specs.declared.trial.Trial.{Trial}
@@ -18,7 +18,7 @@ use Rattle.session_runs.specs.Histories.{Config, History, after_packet, answer_i
 use Rattle.session_runs.specs.Lines.{Lines, line_of, made_ready, turned, with_line}
 use Rattle.session_runs.specs.Following.{Follows, completed_if}
 use Rattle.call_session.specs.Sessions.{State, after_grant, after_reading, after_seen, asked_for, dropped, is_looked_at, taker_in}
-use Rattle.session_laws.specs.Undisturbed.{Followed, IsBeside, followed_in, is_behind, is_from, is_from_other, is_of_former}
+use Rattle.session_laws.specs.Undisturbed.{Followed, IsBeside, followed_in, is_behind, is_from, is_from_other}
 
 -- ---- by its parts
 
@@ -56,16 +56,17 @@ stays_other false t l h = refl
 tried_case : (st : Streams) (l : Lines) (o : Option Trial) (now : ℕ) → choice.is_live_one st.followed now ≡ true
     → ((choice.with_tried st o now).followed ≡ st.followed) × ((turned (choice.tried_turn st o now) l).followed ≡ l.followed)
 tried_case st l None now h = (refl, refl)
-tried_case st l (Some t) now h =
-    (pick (choice.is_live_one st.followed now)
-    (record { followed = st.followed; former = st.former; tried = None })
-    (record {
-      followed = Some (record { source = t.source; pictures = 1; last = now });
-      former = choice.kept st.former st.followed;
-      tried = None;
-    }) h,
-    stays (choice.is_live_one st.followed now)
-    (cond (choice.is_kept st.former st.followed) turns.ToTried turns.ToTriedBeside) l h)
+tried_case st l (Some t) now h = (
+  pick (choice.is_live_one st.followed now)
+      (record { followed = st.followed; former = st.former; tried = None })
+      (record {
+        followed = Some (record { source = t.source; pictures = 1; last = now });
+        former = choice.kept st.former st.followed;
+        tried = None;
+      }) h,
+  stays (choice.is_live_one st.followed now)
+      (cond (choice.is_kept st.former st.followed) turns.ToTried turns.ToTriedBeside) l h,
+)
 
 overtaken : (o : Option Stream) (g : Stream) (now : ℕ) → choice.is_live_one o now ≡ true → is_behind (Some g) o ≡ true
     → choice.overtakes o (choice.counted now g) now ≡ false
@@ -83,11 +84,12 @@ former_case : (st : Streams) (l : Lines) (o : Option Stream) (now : ℕ) → cho
     × ((turned (choice.former_turn st o now) l).followed ≡ l.followed)
 former_case st l None now h i = (refl, refl)
 former_case st l (Some g) now h i =
-    let e = overtaken st.followed g now h i in
-    (pick_other (choice.overtakes st.followed (choice.counted now g) now)
-    (record { followed = Some (choice.counted now g); former = st.followed; tried = st.tried })
-    (record { followed = st.followed; former = Some (choice.counted now g); tried = st.tried }) e,
-    stays_other (choice.overtakes st.followed (choice.counted now g) now) turns.ToFormer l e)
+    let e = overtaken st.followed g now h i in (
+      pick_other (choice.overtakes st.followed (choice.counted now g) now)
+          (record { followed = Some (choice.counted now g); former = st.followed; tried = st.tried })
+          (record { followed = st.followed; former = Some (choice.counted now g); tried = st.tried }) e,
+      stays_other (choice.overtakes st.followed (choice.counted now g) now) turns.ToFormer l e,
+    )
 
 completed_tried : (k : Bool) (f : Follows) (now : ℕ) → choice.is_live_one f.streams.followed now ≡ true
     → ((completed_if k runs.Tried now f).streams.followed ≡ f.streams.followed)

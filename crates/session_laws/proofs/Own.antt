@@ -1,5 +1,5 @@
 -- What its own packets and the turns make of the stream that is followed.
-use Rattle.std.proofs.Common.{◌≡◌, ℕ, Bool, true, false, cond, eqb, List, [], ◌∷◌, Option, Some, None, Result, Ok, Err, refl, ap, sym, ◌∙◌}
+use Rattle.std.proofs.Common.{◌≡◌, ℕ, Bool, true, false, cond, eqb, List, [], ◌∷◌, Option, Some, None, Result, Ok, Err, refl, ap, ◌∙◌}
 use Rattle.std.specs.Prelude.{is_some}
 use Rattle.std.specs.Option.{option_map}
 use Rattle.std.proofs.lemmas.Bool.{eqb-true}
@@ -8,13 +8,11 @@ use Rattle.h263_types.specs.declared.Mark.TheVariants as marks
 use Rattle.receiver_end.specs.Answers.{mark_of}
 use Rattle.receiver_end.specs.State.{mark_after}
 use Rattle.stream_choice.specs.declared.stream.Stream.{Stream}
-use Rattle.stream_choice.specs.declared.streams.Run.{Run}
 use Rattle.stream_choice.specs.declared.streams.Run.TheVariants as runs
 use Rattle.stream_choice.specs.declared.streams.Taker.{Taker}
 use Rattle.stream_choice.specs.declared.streams.Taker.TheVariants as takers
 use Rattle.stream_choice.specs.Choice as choice
 use Rattle.stream_choice.specs.Granting.{is_granted}
-use Rattle.session_intake.specs.declared.counts.Counts.{Counts}
 use Rattle.session_intake.specs.Counts as counting
 use Rattle.session_intake.specs.declared.seen.Seen.{Seen}
 use Rattle.session_intake.specs.declared.seen.Cause.{Cause}

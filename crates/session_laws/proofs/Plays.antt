@@ -1,5 +1,5 @@
 -- Each play is of a picture that is due.
-use Rattle.std.proofs.Common.{◌≡◌, ℕ, ◌+◌, ◌-◌, ◌*◌, ◌<◌, ◌≤◌, ◌⊎◌, ◌||◌, Bool, true, false, cond, leb, ltb, List, [], ◌∷◌, ◌++◌, length, Option, Some, None, refl, ap, sym, arith, subst, ◌∙◌, inl, inr, ⊎_elim}
+use Rattle.std.proofs.Common.{◌≡◌, ℕ, ◌+◌, ◌-◌, ◌*◌, ◌<◌, ◌≤◌, ◌⊎◌, Bool, true, false, cond, leb, ltb, List, [], ◌∷◌, ◌++◌, length, Option, Some, None, refl, ap, sym, arith, subst, ◌∙◌, inl, inr, ⊎_elim}
 use Rattle.std.specs.Prelude.{is_some, IfSome}
 use Rattle.std.specs.List.{AllByRecursion}
 use Rattle.std.proofs.Math.Nat.{mul-le-mul_left}
@@ -16,10 +16,10 @@ use Rattle.playout_times.specs.Due.{captured_from, due_at, due_of, has_come, is_
 use Rattle.playout_times.specs.Laws.{InTime}
 use Rattle.timed_receiver.specs.Timed.{arrivals_of}
 use Rattle.stream_run.specs.Entries.{heard_of}
-use Rattle.session_runs.specs.Histories.{Config, History, due_in, is_due_in, next_in, timed_in}
+use Rattle.session_runs.specs.Histories.{Config, History, is_due_in, next_in, timed_in}
 use Rattle.session_runs.specs.Lines.{line_of}
 use Rattle.session_runs.specs.Following.{Follows, is_run_due, run_due}
-use Rattle.call_session.specs.Sessions.{Datagram, Entry, State, Turn, at, played_run, session_run, time_of}
+use Rattle.call_session.specs.Sessions.{Datagram, Entry, State, Turn, at, played_run, session_run}
 use Rattle.session_laws.specs.Bounded.{HasWaited, IsDue, Played, newest_number, played_at, plays, time_due, turns}
 use Rattle.session_laws.proofs.Newest.{Back, after_later, in_order, is_past, is_small, onto}
 use Rattle.session_laws.proofs.Reaching.{AreFine, Fine, at_fine, line_fine, lines_fine}
@@ -112,9 +112,11 @@ played_due : (o : Option Run) (c : Config) (st : State) (l : List Played) → Ar
     → run_due c st.now st.follows ≡ o
     → AllByRecursion (IsDue c) l → AllByRecursion (IsDue c) (played_at o st ++ l)
 played_due None c st l x e h = h
-played_due (Some run) c st l x e h =
-    (line_due c (line_of run st.follows.lines) st.now (line_fine run c st.now st.follows.lines x)
-    (is_due run c st.now st.follows e), h)
+played_due (Some run) c st l x e h = (
+  line_due c (line_of run st.follows.lines) st.now (line_fine run c st.now st.follows.lines x)
+      (is_due run c st.now st.follows e),
+  h,
+)
 
 all_due : (c : Config) (past : List Entry) → AllByRecursion (IsDue c) (plays c past)
 all_due c [] = tt
@@ -183,9 +185,10 @@ never_ahead law c past run later before x y r e f g =
     let same = after_later c.rate later before [] x y f
     (ap (newest_after c.rate) (sym e) ∙ g) in
     let k = subst (λ (z : Newest). (z.number - x.number) * (c.rate.second * 10000000000)
-    ≤ c.rate.rate * (10 * x.credit + 11 * (z.at - x.at))) same h in
-    (within (y.number - x.number) c.rate.second c.rate.rate x.credit (y.at - x.at) (is_small c.rate before x f) k,
-    is_past c.rate st.now (heard_of (line_of run st.follows.lines).past) y g order)
+    ≤ c.rate.rate * (10 * x.credit + 11 * (z.at - x.at))) same h in (
+      within (y.number - x.number) c.rate.second c.rate.rate x.credit (y.at - x.at) (is_small c.rate before x f) k,
+      is_past c.rate st.now (heard_of (line_of run st.follows.lines).past) y g order,
+    )
   where
     within : (n second rate credit time : ℕ) → credit ≤ 2000000000
         → n * (second * 10000000000) ≤ rate * (10 * credit + 11 * time)

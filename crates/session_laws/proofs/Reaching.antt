@@ -1,8 +1,8 @@
 -- What is so of all that came of the streams of a session, whatever came.
-use Rattle.std.proofs.Common.{◌≡◌, ℕ, ◌+◌, ◌-◌, ◌<◌, ◌≤◌, max, Bool, true, false, cond, eqb, ltb, List, [], ◌∷◌, Option, Some, None, Result, Ok, Err, refl, ap, arith, ⊎_elim}
+use Rattle.std.proofs.Common.{◌≡◌, ℕ, ◌+◌, ◌-◌, ◌<◌, ◌≤◌, max, Bool, true, false, cond, eqb, ltb, List, [], ◌∷◌, Option, Some, None, Result, Ok, Err, refl, arith, ⊎_elim}
 use Rattle.std.specs.Option.{option_map}
 use Rattle.std.specs.List.{AllByRecursion}
-use Rattle.std.proofs.lemmas.Bool.{cases_lt, ltb-true}
+use Rattle.std.proofs.lemmas.Bool.{cases_lt}
 use Rattle.rtp_source.specs.Source.{renamed}
 use Rattle.call_model.specs.Receiving as receiving
 use Rattle.h263_bits.specs.declared.fault.Fault.{Fault}
@@ -15,7 +15,6 @@ use Rattle.stream_choice.specs.declared.streams.Turn.TheVariants as turns
 use Rattle.stream_choice.specs.Choice as choice
 use Rattle.stream_numbers.specs.declared.newest.Newest.{Newest}
 use Rattle.stream_numbers.specs.declared.packet.Packet.{Packet}
-use Rattle.stream_numbers.specs.declared.packet.Place.{Place}
 use Rattle.stream_numbers.specs.declared.stepping.Step.{Step}
 use Rattle.stream_numbers.specs.Placing.{step_of}
 use Rattle.stream_numbers.specs.Streams.{kept, newest_after}
@@ -26,11 +25,11 @@ use Rattle.stream_run.specs.Entries.{heard_of, with_place}
 use Rattle.session_intake.specs.Datagrams.{seen_in}
 use Rattle.session_intake.specs.declared.seen.Seen.{Seen}
 use Rattle.session_intake.specs.declared.seen.Cause.{Cause}
-use Rattle.session_runs.specs.Histories.{Ahead, Answer, Config, History, IsHeard, after_packet, after_play, answer_at, answer_in, begun, is_complete, is_heard, must_begin, ready, timed_in, until_after}
+use Rattle.session_runs.specs.Histories.{Ahead, Config, History, IsHeard, after_packet, after_play, answer_at, answer_in, begun, is_complete, is_heard, must_begin, ready, timed_in, until_after}
 use Rattle.session_runs.specs.Lines.{Lines, line_of, made_ready, run_of, turned, with_line}
 use Rattle.session_runs.specs.declared.unheard.Unheard.{Unheard}
 use Rattle.session_runs.specs.Unheard.{after_heard as unheard_after}
-use Rattle.session_runs.specs.Following.{Follows, after_heard, after_run, after_taker, completed_if, noted}
+use Rattle.session_runs.specs.Following.{Follows, after_run, completed_if}
 use Rattle.call_session.specs.Sessions as session
 use Rattle.session_laws.specs.Bounded.{newest_number, number_of}
 use Rattle.session_laws.proofs.Newest.{Back, StepsTo, back_later, steps}
