@@ -9,3 +9,4 @@ mod Marking
 mod Recovered
 mod Giving
 mod Hearing
+mod Ways

@@ -1,12 +1,22 @@
 -- There is nothing from which a session doesn't recover. Lists have the newest first.
-use Rattle.std.specs.Prelude.{◌≡◌, ℕ, ◌+◌, ◌-◌, ◌<◌, ◌≤◌, Bool, true, false, List, [], ◌∷◌, ◌++◌, length}
+use Rattle.std.specs.Prelude.{◌≡◌, ℕ, ◌+◌, ◌-◌, ◌<◌, ◌≤◌, Bool, true, false, List, [], ◌∷◌, ◌++◌, length, IfSome, Some}
+use Rattle.std.specs.List.{AllByRecursion}
 use Rattle.receiver_end.specs.State.{answer_after, plays_alone}
 use Rattle.stream_choice.specs.declared.streams.Run.{Run}
 use Rattle.stream_choice.specs.Choice.{is_of}
 use Rattle.stream_numbers.specs.declared.packet.Packet.{Packet}
+use Rattle.stream_numbers.specs.declared.packet.Place.{Place}
+use Rattle.stream_numbers.specs.Streams.{place_of}
+use Rattle.playout_times.specs.declared.arrival.Arrival.{Arrival}
+use Rattle.playout_times.specs.Due.{captured_from, due_of}
+use Rattle.playout_times.specs.Kept.{IsTimed}
+use Rattle.playout_times.specs.Laws.{Hides}
+use Rattle.playout_times.specs.Ways.{way}
+use Rattle.timed_receiver.specs.Timed.{arrivals_of}
+use Rattle.stream_run.specs.Entries.{heard_of}
 use Rattle.session_intake.specs.declared.seen.Cause.TheVariants as causes
 use Rattle.session_intake.specs.Datagrams.{seen_in}
-use Rattle.session_runs.specs.Histories.{Config, History, IsHeard, after_packet, answer_in, begun, is_complete, is_heard, must_begin, ready}
+use Rattle.session_runs.specs.Histories.{Config, History, IsHeard, after_packet, answer_in, begun, is_complete, is_heard, must_begin, next_in, ready, timed_in}
 use Rattle.session_runs.specs.Lines.{line_of}
 use Rattle.call_session.specs.Sessions.{Datagram, Dropped, Entry, Outcome, Taken, Turn, outcome_of, session_run}
 use Rattle.session_laws.specs.Undisturbed.{InOrder, is_from, is_from_other, newest_time}
@@ -101,3 +111,30 @@ HeardAgain =
     × ((c : Config) (packet : Packet) (bytes : List ℕ) (now : ℕ) → 2 ≤ c.lead
     → answer_in c packet bytes now (begun packet.reference now)
     ≡ IsHeard (answer_after c.params (plays_alone (packet.reference - 2)) bytes))
+
+-- ---- in time again
+
+-- A packet that has a place, and isn't more than the lead after the next picture, counts on the ways of
+-- its run, also where it is late.
+abbrev pub EachCounts : Type 0
+EachCounts =
+    (c : Config) (h : History) (packet : Packet) (bytes : List ℕ) (now : ℕ) (place : Place)
+    → place_of c.rate (heard_of h.past) packet now ≡ Some place
+    → place.number ≤ next_in c h + c.lead
+    → arrivals_of (timed_in c (after_packet c packet bytes now h))
+    ≡ record { picture = place.number; captured = place.captured; at = now } ∷ arrivals_of (timed_in c h)
+
+-- Whatever came before: once three pictures of a run came on ways between these two, its next picture is
+-- due between its capture, these ways and the wait.
+abbrev pub DueAgain : Type 0
+DueAgain =
+    (c : Config) (past : List Entry) (run : Run) (shortest longest : ℕ) (later before : List Arrival)
+    → let h = line_of run (session_run c past).follows.lines in
+    let arrivals = arrivals_of (timed_in c h) in
+    let captured = captured_from (next_in c h) arrivals in
+    arrivals ≡ later ++ before → Hides later before
+    → AllByRecursion IsTimed later
+    → AllByRecursion (λ a. (shortest ≤ way a) × (way a ≤ longest)) later
+    → IfSome (due_of c.wait (next_in c h) arrivals)
+    (λ time. (captured + shortest + c.wait - 4611686018427387904 ≤ time)
+    × (time ≤ captured + longest + c.wait - 4611686018427387904))

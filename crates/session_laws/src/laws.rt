@@ -1,7 +1,8 @@
 //! Laws of sessions, over the definitions alone.
 ghost use Rattle.session_laws.specs.Bounded.{FewAreTaken, NeverAhead, PlaysAreDue, PlaysWait};
 ghost use Rattle.session_laws.specs.InTime.{GivenInTime, InTime};
-ghost use Rattle.session_laws.specs.Recovering.{FollowedAgain, HeardAgain, NeverShutOut};
+ghost use Rattle.session_laws.specs.Recovering.{DueAgain, EachCounts, FollowedAgain};
+ghost use Rattle.session_laws.specs.Recovering.{HeardAgain, NeverShutOut};
 ghost use Rattle.session_laws.specs.Undisturbed.{Undisturbed};
 
 use call_decoding::laws::are_rules;
@@ -69,6 +70,16 @@ pub fn followed_again()
 pub fn heard_again()
     ensures { HeardAgain }
 {}
+
+/// Each packet that has a place counts on the ways of its run, also one that is late (`counts`). So
+/// once three pictures came, whatever came before, the next is due after its capture by a way of
+/// theirs and the wait (`due`). Not said: that ways are as the sender's clock says, if it lies.
+pub fn recovers()
+    ensures counts { EachCounts }
+    ensures due { DueAgain }
+{
+    playout_times::laws::recovers();
+}
 
 /// What comes of a picture by its number before its play is given to the receiver before that.
 /// Not said: that the number is the one that the sender meant.
