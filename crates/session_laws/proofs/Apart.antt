@@ -48,12 +48,12 @@ reached c (Turn now ∷ past) o =
 
 -- ---- with and without
 
-record Goes (c : Config) (source : ℕ) (before es owns : List Entry) : Type 0 where
-  said : said_of c source before es ≡ said_of c source before owns
-  same : followed_in (session_run c (es ++ before)) ≡ followed_in (session_run c (owns ++ before))
-  source_is : is_of (session_run c (es ++ before)).follows.streams.followed source ≡ true
-  now : (session_run c (es ++ before)).now ≤ newest_time (es ++ before)
-  own_now : (session_run c (owns ++ before)).now ≤ newest_time (es ++ before)
+pub record Goes (c : Config) (source : ℕ) (before es owns : List Entry) : Type 0 where
+  pub said : said_of c source before es ≡ said_of c source before owns
+  pub same : followed_in (session_run c (es ++ before)) ≡ followed_in (session_run c (owns ++ before))
+  pub source_is : is_of (session_run c (es ++ before)).follows.streams.followed source ≡ true
+  pub now : (session_run c (es ++ before)).now ≤ newest_time (es ++ before)
+  pub own_now : (session_run c (owns ++ before)).now ≤ newest_time (es ++ before)
 
 whose : (b : Bool) (c : Config) (source : ℕ) (before : List Entry) (e : Entry) (es owns : List Entry)
     → (b ≡ true → Goes c source before (e ∷ es) (e ∷ owns)) → (b ≡ false → Goes c source before (e ∷ es) owns)
@@ -170,7 +170,7 @@ turn c source before now es owns i j k =
       own_now = to_most (time_of b.now now) now now g refl;
     }
 
-goes : (c : Config) (source : ℕ) (before es : List Entry) → is_of (session_run c before).follows.streams.followed source ≡ true
+pub goes : (c : Config) (source : ℕ) (before es : List Entry) → is_of (session_run c before).follows.streams.followed source ≡ true
     → InOrder (es ++ before) → StaysLive c source before es → Goes c source before es (own_of c source es)
 goes c source before [] h o s =
     record {

@@ -7,6 +7,7 @@ mod Reaching
 mod Plays
 mod Marking
 mod Recovered
+mod First
 mod Giving
 mod Hearing
 mod Ways

@@ -28,7 +28,7 @@ use Rattle.session_laws.proofs.Marking.{Each, Keeps, Shows, by_taker, complete_i
 
 -- ---- the streams after a packet
 
-abbrev completes_by : Config → Option Run → Seen → List ℕ → ℕ → Lines → Bool
+abbrev pub completes_by : Config → Option Run → Seen → List ℕ → ℕ → Lines → Bool
 completes_by c None seen own now l = false
 completes_by c (Some run) seen own now l = is_complete (answer_in c seen.packet own now (line_of run l))
 
@@ -47,17 +47,17 @@ run_streams (Some run) c seen own now f =
       lines = with_line run (after_packet c seen.packet own now (line_of run f.lines)) f.lines;
     })
 
-abbrev lines_for : Config → Seen → Taker → session.State → Lines
+abbrev pub lines_for : Config → Seen → Taker → session.State → Lines
 lines_for c seen t st = made_ready c t seen.packet.reference st.now st.follows.lines
 
 -- with the taker that the streams give
-abbrev streams_by : Bool → Config → Seen → Taker → List ℕ → session.State → Streams
+abbrev pub streams_by : Bool → Config → Seen → Taker → List ℕ → session.State → Streams
 streams_by true c seen t own st =
     complete_if (completes_by c (run_of t) seen own st.now (lines_for c seen t st)) (run_of t) st.now
     (noted_by t seen.source st.now st.follows.streams)
 streams_by false c seen t own st = st.follows.streams
 
-seen_streams : (g : Bool) (c : Config) (seen : Seen) (own : List ℕ) (st : session.State)
+pub seen_streams : (g : Bool) (c : Config) (seen : Seen) (own : List ℕ) (st : session.State)
     → let t = session.taker_in seen st in
     (session.after_grant c seen t own g (session.asked_for t st)).follows.streams ≡ streams_by g c seen t own st
 seen_streams false c seen own st = refl
@@ -68,7 +68,7 @@ seen_streams true c seen own st =
       lines = lines_for c seen t st;
     })
 
-shows_in : (seen : Seen) (st : session.State) → let s = st.follows.streams in
+pub shows_in : (seen : Seen) (st : session.State) → let s = st.follows.streams in
     Shows (choice.is_of s.followed seen.source) (choice.is_of s.former seen.source)
     (choice.is_tried s.tried seen.source st.now) (session.taker_in seen st)
 shows_in seen st =
@@ -98,7 +98,7 @@ module _ {P : Stream → Type 0} {Q : Trial → Type 0} where
       subst (λ (s : Streams). Each P Q s) (sym (seen_streams g c seen own st))
       (granted_each g c seen own st t (shows_in seen st) (k seen refl) x)
 
-played_streams : (o : Option Run) (c : Config) (st : session.State)
+pub played_streams : (o : Option Run) (c : Config) (st : session.State)
     → (session.after_played c o st).follows.streams ≡ st.follows.streams
 played_streams None c st = refl
 played_streams (Some run) c st = refl

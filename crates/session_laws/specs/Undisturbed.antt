@@ -159,3 +159,26 @@ Undisturbed =
     → (said_of c source before es ≡ said_of c source before (own_of c source es))
     × (followed_in (session_run c (es ++ before)) ≡ followed_in (session_run c (own_of c source es ++ before)))
     × (is_of (session_run c (es ++ before)).follows.streams.followed source ≡ true)
+
+-- ---- where there is no former stream
+
+-- whenever a packet of another stream comes, a picture of the stream was complete less than half a
+-- second ago, as its own packets alone have it
+abbrev pub IsLive : Config → ℕ → List Entry → List Entry → Type 0
+IsLive c source before [] = Unit {0}
+IsLive c source before (Turn now ∷ es) = IsLive c source before es
+IsLive c source before (Datagram bytes now ∷ es) =
+    (is_from_other source (seen_in c.params bytes) ≡ true
+    → is_live_one (session_run c (own_of c source es ++ before)).follows.streams.followed now ≡ true)
+    × IsLive c source before es
+
+-- Then that is all that is asked of it.
+abbrev pub UndisturbedFirst : Type 0
+UndisturbedFirst =
+    (c : Config) (source : ℕ) (before es : List Entry)
+    → is_of (session_run c before).follows.streams.followed source ≡ true
+    → (session_run c before).follows.streams.former ≡ None
+    → InOrder (es ++ before) → IsLive c source before es
+    → (said_of c source before es ≡ said_of c source before (own_of c source es))
+    × (followed_in (session_run c (es ++ before)) ≡ followed_in (session_run c (own_of c source es ++ before)))
+    × (is_of (session_run c (es ++ before)).follows.streams.followed source ≡ true)

@@ -3,7 +3,7 @@ ghost use Rattle.session_laws.specs.Bounded.{FewAreTaken, NeverAhead, PlaysAreDu
 ghost use Rattle.session_laws.specs.InTime.{GivenInTime, InTime};
 ghost use Rattle.session_laws.specs.Recovering.{DueAgain, EachCounts, FollowedAgain};
 ghost use Rattle.session_laws.specs.Recovering.{HeardAgain, NeverShutOut};
-ghost use Rattle.session_laws.specs.Undisturbed.{Undisturbed};
+ghost use Rattle.session_laws.specs.Undisturbed.{Undisturbed, UndisturbedFirst};
 
 use call_decoding::laws::are_rules;
 use call_decoding::{Pictured, Styled};
@@ -12,10 +12,13 @@ use h263_types::Mb;
 use receiver_end::laws::is_decoding;
 
 /// What others send changes nothing of a followed stream of which a picture is complete every half
-/// second: what is said of its packets, and what is played of it, is as without them. Not said:
-/// what packets are counted, when others are played, and how much time others' packets cost.
+/// second: what is said of its packets, and what is played of it, is as without them (`any`). Where no
+/// former stream is kept, that is asked of its own packets alone (`first`). Not said:
+/// anything of packets that are forged with its own SSRC, or of those that come between two pictures
+/// that are further apart; how packets are counted; and how much time others' packets cost.
 pub fn undisturbed()
-    ensures { Undisturbed }
+    ensures any { Undisturbed }
+    ensures first { UndisturbedFirst }
 {}
 
 /// In no second more than 36,000 packets are given to runs. Not said: that a packet costs no more
@@ -33,8 +36,8 @@ pub fn plays_are_due()
 {}
 
 /// From the third picture on, whatever came before, a picture is played after its packets, as long as
-/// none takes longer than the shortest way and the wait. Not said: that they are heard, which needs
-/// their numbers to be right.
+/// none takes longer than the shortest way and the wait, and none that came is more than the lead
+/// after it. Not said: that they are heard, which needs their numbers to be right.
 pub fn plays_wait()
     ensures { PlaysWait }
 {
@@ -87,9 +90,10 @@ pub fn given_in_time()
     ensures { GivenInTime }
 {}
 
-/// A picture of a sender whose pictures are sound is marked exact and is the sender's, if the run's
-/// receiver was given all its packets while it was open, and otherwise what a near call gives. Not
-/// said: that strangers' packets with the same SSRC do no harm.
+/// Let a run's receiver be given what that of a near call of a sender is given whose pictures are
+/// sound. A picture of which it was given all packets while it was open is marked exact, and is the
+/// sender's. Not said: anything of a receiver that was given other packets too, as one that begins in
+/// the middle of a call, or where somebody forges packets with the stream's SSRC.
 pub fn in_time()
     ensures { InTime }
 {
