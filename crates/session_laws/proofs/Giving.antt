@@ -11,7 +11,7 @@ use Rattle.call_model.specs.Coding.{Decoding, Exact, Held, Patched, Rules, mixed
 use Rattle.call_model.specs.CodedPictures.{Coded}
 use Rattle.call_model.specs.IdealCall.{AllMayHappenFrom, Back, Deliver, Event, Play, Send, Source, call_from, is_full}
 use Rattle.call_model.specs.Lawful.{IsDecoding, IsRules}
-use Rattle.call_model.specs.Receiving.{Packet, ReceiverEntry, ReceiverRun, after_packet, after_play, decoded, has_any, has_taken, is_complete, played_mark, played_picture, receiver_run}
+use Rattle.call_model.specs.Receiving.{Packet, PlayNext, ReceiverEntry, ReceiverRun, after_packet, after_play, decoded, has_any, has_taken, is_complete, played_mark, played_picture, receiver_run}
 use Rattle.call_model.specs.Sound.{AllSound, AnySoundSender, Packets, received}
 use Rattle.call_decoding.specs.Rules.{rules_of}
 use Rattle.call_decoding.specs.Styles.{Style}
@@ -26,7 +26,7 @@ use Rattle.timed_receiver.specs.Timed as timed
 use Rattle.stream_run.specs.Entries as run
 use Rattle.session_runs.specs.Histories.{Config, History, entries_in, next_in, timed_in}
 use Rattle.session_laws.specs.Undisturbed.{play_in}
-use Rattle.session_laws.specs.InTime.{HasPacket, given}
+use Rattle.session_laws.specs.InTime.{AreOfSender, Brings, HasPacket, IsPlacedAt, Plays, Sends, Step, Takes, entries_of, events_of, given}
 
 -- ---- what comes is given
 
@@ -221,3 +221,82 @@ in_time coded ruled law c h source packets count events x p may sound same sent 
           ∙ ap (λ (y : ReceiverRun Style Mb Picture). decoded d rules y.taken n) (sym is_run)
           ∙ follows.state.pictures n x sent full,
     )
+
+-- ---- of one sender alone
+
+taken_if : (b1 : Bool) (first : ℕ) (bytes : List ℕ) (a : Arrival) (past : List timed.Entry)
+    → timed.entries_of first (cond b1 past (timed.Came bytes a ∷ past))
+    ≡ cond b1 (timed.entries_of first past) (cond (ltb a.picture (timed.next_after first past))
+    (timed.entries_of first past) (Packet bytes ∷ timed.entries_of first past))
+taken_if true first bytes a past = refl
+taken_if false first bytes a past = refl
+
+taken_at : (o : Option Place) (number first lead : ℕ) (bytes : List ℕ) (now : ℕ) (past : List timed.Entry)
+    → IsPlacedAt number o
+    → timed.entries_of first (run.with_place first lead o bytes now past)
+    ≡ cond (ltb (timed.next_after first past + lead) number) (timed.entries_of first past)
+    (cond (ltb number (timed.next_after first past)) (timed.entries_of first past)
+    (Packet bytes ∷ timed.entries_of first past))
+taken_at None number first lead bytes now past e = absurd e
+taken_at (Some place) number first lead bytes now past e =
+    taken_if (ltb (timed.next_after first past + lead) place.number) first bytes
+    (record { picture = place.number; captured = place.captured; at = now }) past
+    ∙ ap (λ (n : ℕ). cond (ltb (timed.next_after first past + lead) n) (timed.entries_of first past)
+    (cond (ltb n (timed.next_after first past)) (timed.entries_of first past)
+    (Packet bytes ∷ timed.entries_of first past))) e
+
+given_if : (b1 b2 : Bool) (d : Decoding Style Mb Picture Fault) (rules : Rules) (source : Source Style Mb Picture)
+    (packets : Packets Style Mb Picture) (number place : ℕ) (bytes : List ℕ) (e : List ReceiverEntry)
+    (events : List Event)
+    → e ≡ given d rules source packets events
+    → slice_get (packets (call_from d.pictures rules source events).coded number) place ≡ Some bytes
+    → cond b1 e (cond b2 e (Packet bytes ∷ e))
+    ≡ given d rules source packets (cond b1 events (cond b2 events (Deliver number place ∷ events)))
+given_if true b2 d rules source packets number place bytes e events same sent = same
+given_if false true d rules source packets number place bytes e events same sent = same
+given_if false false d rules source packets number place bytes e events same sent =
+    ap (λ (l : List ReceiverEntry). Packet bytes ∷ l) same
+    ∙ sym (ap (λ (o : Option (List ℕ)). option_map_or (λ b. Packet b ∷ given d rules source packets events) o
+    (given d rules source packets events)) sent)
+
+same_given : (c : Config) (first : ℕ) (source : Source Style Mb Picture) (packets : Packets Style Mb Picture)
+    (begun : List Event) (steps : List Step)
+    → given (decoding c.params.format) (rules_of c.params) source packets begun ≡ plays_alone first
+    → AreOfSender c first source packets begun steps
+    → timed.entries_of first (run.timed_of c.rate first c.lead (entries_of steps))
+    ≡ given (decoding c.params.format) (rules_of c.params) source packets (events_of c first begun steps)
+same_given c first source packets begun [] b a = sym b
+same_given c first source packets begun (Sends ∷ past) b a = same_given c first source packets begun past b a
+same_given c first source packets begun (Brings message ∷ past) b a = same_given c first source packets begun past b a
+same_given c first source packets begun (Takes number place packet bytes now ∷ past) b a =
+    let t = run.timed_of c.rate first c.lead (entries_of past) in
+    taken_at (place_of c.rate (run.heard_of (entries_of past)) packet now) number first c.lead bytes now t a.1
+    ∙ given_if (ltb (timed.next_after first t + c.lead) number) (ltb number (timed.next_after first t))
+    (decoding c.params.format) (rules_of c.params) source packets number place bytes (timed.entries_of first t)
+    (events_of c first begun past) (same_given c first source packets begun past b a.2) a.0
+same_given c first source packets begun (Plays now ∷ past) b a =
+    ap (λ (l : List ReceiverEntry). PlayNext ∷ l) (same_given c first source packets begun past b a)
+
+pub of_one_sender : ((p : Params) → IsDecoding (decoding p.format) (rules_of p))
+    → ((p : Params) → IsParams p → IsRules (rules_of p))
+    → ((d : Decoding Style Mb Picture Fault) (r : Rules) → IsDecoding d r → IsRules r → AnySoundSender d r)
+    → (c : Config) (h : History) (source : Source Style Mb Picture) (packets : Packets Style Mb Picture) (count : ℕ)
+    (begun : List Event) (steps : List Step) (x : Coded Style Mb Picture)
+    → IsParams c.params
+    → h.past ≡ entries_of steps
+    → given (decoding c.params.format) (rules_of c.params) source packets begun ≡ plays_alone h.first
+    → AreOfSender c h.first source packets begun steps
+    → AllMayHappenFrom (decoding c.params.format).pictures (rules_of c.params) source count
+    (events_of c h.first begun steps)
+    → AllSound (decoding c.params.format) (rules_of c.params) source packets (events_of c h.first begun steps)
+    → slice_get (call_from (decoding c.params.format).pictures (rules_of c.params) source
+    (events_of c h.first begun steps)).coded (next_in c h) ≡ Some x
+    → is_full (call_from (decoding c.params.format).pictures (rules_of c.params) source
+    (events_of c h.first begun steps)).coded
+    (call_from (decoding c.params.format).pictures (rules_of c.params) source
+    (events_of c h.first begun steps)).arrivals (next_in c h) ≡ true
+    → ((play_in c h).mark ≡ Exact) × ((play_in c h).picture ≡ x.picture)
+of_one_sender coded ruled law c h source packets count begun steps x p past b a may sound sent full =
+    in_time coded ruled law c h source packets count (events_of c h.first begun steps) x p may sound
+    (ap (λ (l : List run.Entry). timed.entries_of h.first (run.timed_of c.rate h.first c.lead l)) past
+    ∙ same_given c h.first source packets begun steps b a) sent full

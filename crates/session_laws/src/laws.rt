@@ -1,6 +1,6 @@
 //! Laws of sessions, over the definitions alone.
 ghost use Rattle.session_laws.specs.Bounded.{FewAreTaken, NeverAhead, PlaysAreDue, PlaysWait};
-ghost use Rattle.session_laws.specs.InTime.{GivenInTime, InTime};
+ghost use Rattle.session_laws.specs.InTime.{GivenInTime, InTime, OfOneSender};
 ghost use Rattle.session_laws.specs.Recovering.{DueAgain, EachCounts, FollowedAgain};
 ghost use Rattle.session_laws.specs.Recovering.{HeardAgain, NeverShutOut};
 ghost use Rattle.session_laws.specs.Undisturbed.{Undisturbed, UndisturbedFirst};
@@ -91,11 +91,13 @@ pub fn given_in_time()
 {}
 
 /// Let a run's receiver be given what that of a near call of a sender is given whose pictures are
-/// sound. A picture of which it was given all packets while it was open is marked exact, and is the
-/// sender's. Not said: anything of a receiver that was given other packets too, as one that begins in
-/// the middle of a call, or where somebody forges packets with the stream's SSRC.
+/// sound (`given`); or let all packets that the run takes be those of such a sender, each with the
+/// number of its picture as its place (`sender`). A picture of which all packets came while it was
+/// open is marked exact, and is the sender's. Not said: anything of a run that took other packets too,
+/// as one that begins in the middle of a call, or where somebody forges packets with the stream's SSRC.
 pub fn in_time()
-    ensures { InTime }
+    ensures given { InTime }
+    ensures sender { OfOneSender }
 {
     is_decoding();
     are_rules();
