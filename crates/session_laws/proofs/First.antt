@@ -1,5 +1,5 @@
 -- While a stream is followed that is live, no other comes to be the former one.
-use Rattle.std.proofs.Common.{◌≡◌, ℕ, ◌≤◌, not, Bool, true, false, cond, eqb, List, [], ◌∷◌, ◌++◌, Option, Some, None, Result, Ok, Err, refl, ap, sym, subst, ◌∙◌}
+use Rattle.std.proofs.Common.{◌≡◌, ℕ, not, Bool, true, false, cond, eqb, List, [], ◌∷◌, ◌++◌, Option, Some, None, Result, Ok, Err, refl, ap, sym, ◌∙◌}
 use Rattle.std.proofs.lemmas.Bool.{eqb-true, true≢false}
 use Rattle.rtp_source.specs.Source.{renamed}
 use Rattle.stream_choice.specs.declared.stream.Stream.{Stream}
@@ -13,10 +13,9 @@ use Rattle.session_intake.specs.Datagrams.{seen_in}
 use Rattle.session_intake.specs.declared.seen.Seen.{Seen}
 use Rattle.session_intake.specs.declared.seen.Cause.{Cause}
 use Rattle.session_runs.specs.Histories.{Config}
-use Rattle.session_runs.specs.Lines.{run_of}
 use Rattle.call_session.specs.Sessions as session
-use Rattle.session_laws.specs.Undisturbed.{Followed, InOrder, IsBeside, IsLive, Said, StaysLive, followed_in, is_from, is_from_other, is_of_former, newest_time, own_of, said_of}
-use Rattle.session_laws.proofs.Apart.{Goes, goes, set_to, undisturbed}
+use Rattle.session_laws.specs.Undisturbed.{Followed, InOrder, IsLive, StaysLive, followed_in, is_from_other, is_of_former, newest_time, own_of, said_of}
+use Rattle.session_laws.proofs.Apart.{goes, set_to, undisturbed}
 use Rattle.session_laws.proofs.Marking.{Shows, complete_if, noted_by}
 use Rattle.session_laws.proofs.Recovered.{completes_by, lines_for, played_streams, seen_streams, shows_in, streams_by}
 
@@ -122,11 +121,12 @@ stays c source before (session.Datagram bytes now ∷ es) h n o l =
     let b = session.session_run c (own_of c source es ++ before) in
     let m = goes c source before es h o.2 k.0 in
     let now_is = set_to a.now (newest_time (es ++ before)) now m.now o.0 o.1 in
-    let same = ap (λ (v : Followed). v.stream) m.same in
-    ((λ x. record { live = l.0 x; behind = λ y. absurd (no_former a.follows.streams.former r k.1 y) }, k.0),
-    by_reading r c source (renamed bytes) (session.at now a) m.source_is k.1
-    (λ x. live_at b.follows.streams.followed a.follows.streams.followed now (session.time_of a.now now) (sym same)
-    (sym now_is) (l.0 x)))
+    let same = ap (λ (v : Followed). v.stream) m.same in (
+      (λ x. record { live = l.0 x; behind = λ y. absurd (no_former a.follows.streams.former r k.1 y) }, k.0),
+      by_reading r c source (renamed bytes) (session.at now a) m.source_is k.1
+          (λ x. live_at b.follows.streams.followed a.follows.streams.followed now (session.time_of a.now now) (sym same)
+          (sym now_is) (l.0 x)),
+    )
 
 pub undisturbed_first : (c : Config) (source : ℕ) (before es : List session.Entry)
     → choice.is_of (session.session_run c before).follows.streams.followed source ≡ true
