@@ -93,8 +93,8 @@ pub fn given_in_time()
 /// Let a run's receiver be given what that of a near call of a sender is given whose pictures are
 /// sound (`given`); or let all packets that the run takes be those of such a sender, each with the
 /// number of its picture as its place (`sender`). A picture of which all packets came while it was
-/// open is marked exact, and is the sender's. Not said: anything of a run that took other packets too,
-/// as one that begins in the middle of a call, or where somebody forges packets with the stream's SSRC.
+/// open is marked exact, and is the sender's. Not said: anything of a run that took other packets too:
+/// of pictures whose references came before it began, or forged ones with the stream's SSRC.
 pub fn in_time()
     ensures given { InTime }
     ensures sender { OfOneSender }
