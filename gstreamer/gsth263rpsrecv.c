@@ -16,10 +16,10 @@
  * Each buffer has the custom meta GstH263RpsMeta, whose structure has "mark" (exact, patched or
  * held), "number" and "ssrc"; one that isn't exact has the flag %GST_BUFFER_FLAG_CORRUPTED.
  *
- * One stream is followed while pictures of it become complete. Half a second after the last one
- * another is tried in a run of its own, once three of its packets came, and followed from its first
- * complete picture on. The former one with the most complete pictures keeps its run, and is followed
- * again from its next complete picture on. What doesn't count costs a count, and no more.
+ * Which stream is followed, which picture a packet is of, and when a picture is played, is said by the
+ * library's session (h263rps_session_start). Where another stream comes beside the one that is
+ * followed, an element message says so each second: its structure is "h263rps-rival", with "ssrc" and
+ * "rival", both guint. The first one is a warning, too.
  *
  * ## Example launch line
  * |[
@@ -40,8 +40,8 @@
 #include <stdlib.h>
 #include <string.h>
 
+#include "gsth263rpscall.h"
 #include "gsth263rpsrtcp.h"
-#include "gsth263rpsrun.h"
 #include "gsth263rpswindow.h"
 
 GST_DEBUG_CATEGORY_STATIC (h263rpsrecv_debug);
@@ -54,17 +54,6 @@ GST_DEBUG_CATEGORY_STATIC (h263rpsrecv_debug);
 /* As that of a payloader: one that is drawn at random. */
 #define DEFAULT_SSRC G_MAXUINT32
 
-/* A picture waits at least this long for the packets that were sent with its first one. */
-#define LEAST_WAIT GST_MSECOND
-/* Another stream that is tried has this long for its first complete picture, as long as its packets
- * are no further apart than that; so much of it is kept for the record. One that failed then waits
- * this long, so that another has its turn. */
-#define TRIAL GST_SECOND
-#define QUIET (GST_SECOND / 2)
-#define MOST_HELD (8 << 20)
-#define TURN (GST_SECOND / 2)
-/* After this much silence the run begins anew: numbers can't be told any more. */
-#define LOST (30 * GST_SECOND)
 /* An intra picture is asked for at most this often. */
 #define ASK_INTERVAL (GST_SECOND / 2)
 /* Pictures that wait for what comes after; of more, the oldest is dropped. */
@@ -77,6 +66,8 @@ GST_DEBUG_CATEGORY_STATIC (h263rpsrecv_debug);
 #define MOST_RECORDED 16
 /* The longest packet of UDP. */
 #define ROOM 65536
+/* Three formats, each with two clocks. */
+#define CALLS 6
 /* A picture is 12:11, as those of H.263 are. */
 #define PAR_N 12
 #define PAR_D 11
@@ -111,8 +102,19 @@ typedef struct
 {
   guint64 marks[3], heard[6], unshown;
   guint64 malformed, other_payload_type, other_format, other_source, ahead, too_fast, paused;
-  guint64 said, session_refused, dropped_messages, intra_asked, runs, trials;
+  guint64 said, session_refused, dropped_messages, intra_asked, runs, rivals;
 } Counts;
+
+/* A packet that came, with what it says of itself. The element's room has its bytes, with the payload
+ * type that the library knows. */
+typedef struct
+{
+  GstBuffer *buffer;
+  gsize length;
+  guint32 ssrc, timestamp;
+  guint16 sequence;
+  guint8 pt;
+} Arrival;
 
 struct _GstH263RpsRecv
 {
@@ -138,22 +140,17 @@ struct _GstH263RpsRecv
   guint caps_pt;
   gint fps_n, fps_d;
 
-  /* the stream that is followed, the one that is tried, the one that was followed before, and those
-   * that might be tried; of others than the first and the third so many packets are looked at */
-  GstH263RpsRun *run, *trial, *former;
-  GstClockTime trial_began, last, complete;
-  GstH263RpsProbation probation;
-  GstH263RpsAllowance strangers_allowance;
-  /* the stream whose trial ended last without a complete picture, and when */
-  gboolean has_failed;
-  guint32 failed;
-  GstClockTime failed_at;
+  /* by format and clock, those of which something came; and the one whose pictures are shown */
+  GstH263RpsCall *calls[CALLS], *shown;
+  guint pt;                     /* the last packet's that was heard */
   guint8 *room;
   GstCaps *ntp_caps;            /* of the sender's times */
   guint recorded;
   gchar *record_fault;          /* what is to be told of the record, or NULL */
-  guint32 run_fault;            /* why no run could be begun, or 0 */
-  gboolean is_run_fault_told;
+  guint32 call_fault;           /* why no session could be started, or 0 */
+  gboolean is_call_fault_told;
+  gboolean has_rival, is_rival_told;
+  guint32 rivals[2];            /* the stream that is followed, and the other one */
 
   /* pictures, with new caps before them, for the task */
   GQueue out;
@@ -248,7 +245,7 @@ wake (GstH263RpsRecv * self)
 
 /* Under the lock: room for what is to be said once it is left, or NULL where too much waits. */
 static Pending *
-new_pending (GstH263RpsRecv * self, const GstH263RpsRun * run)
+new_pending (GstH263RpsRecv * self, guint32 about)
 {
   Pending *pending;
 
@@ -258,15 +255,15 @@ new_pending (GstH263RpsRecv * self, const GstH263RpsRun * run)
   }
   pending = &self->pending[self->pending_count++];
   memset (pending, 0, sizeof *pending);
-  pending->about = run->ssrc;
-  pending->pt = run->pt;
+  pending->about = about;
+  pending->pt = self->pt;
   return pending;
 }
 
 static void
-note_message (GstH263RpsRecv * self, const GstH263RpsRun * run, const h263rps_message * message)
+note_message (GstH263RpsRecv * self, guint32 about, const h263rps_message * message)
 {
-  Pending *pending = new_pending (self, run);
+  Pending *pending = message->length ? new_pending (self, about) : NULL;
 
   if (pending)
     pending->message = *message;
@@ -274,16 +271,14 @@ note_message (GstH263RpsRecv * self, const GstH263RpsRun * run, const h263rps_me
 
 /* Under the lock: an intra picture is wanted, as of a stream that was joined. */
 static void
-note_intra (GstH263RpsRecv * self, const GstH263RpsRun * run, GstClockTime now)
+note_intra (GstH263RpsRecv * self, guint32 about, GstClockTime now)
 {
-  const h263rps_message none = { {0}, 0 };
-
   if (self->has_asked && now - self->asked < ASK_INTERVAL)
     return;
   self->has_asked = TRUE;
   self->asked = now;
   self->counts.intra_asked++;
-  note_message (self, run, &none);
+  new_pending (self, about);
 }
 
 /* Under the lock: a report of the stream that is followed, where one is due. */
@@ -296,7 +291,7 @@ note_report (GstH263RpsRecv * self, GstClockTime now)
     return;
   self->next_report = now
       + gst_h263rps_report_interval (gst_h263rps_meter_bitrate (&self->meter, now));
-  pending = new_pending (self, self->run);
+  pending = new_pending (self, self->reception.ssrc);
   if (!pending)
     return;
   pending->is_report = TRUE;
@@ -305,7 +300,7 @@ note_report (GstH263RpsRecv * self, GstClockTime now)
 
 /* Under the lock: a packet of the stream that is followed came, and is reported on. */
 static void
-note_reception (GstH263RpsRecv * self, const GstH263RpsArrival * arrival, GstClockTime now)
+note_reception (GstH263RpsRecv * self, const Arrival * arrival, GstClockTime now)
 {
   GstReferenceTimestampMeta *meta =
       gst_buffer_get_reference_timestamp_meta (arrival->buffer, self->ntp_caps);
@@ -314,7 +309,7 @@ note_reception (GstH263RpsRecv * self, const GstH263RpsArrival * arrival, GstClo
       arrival->timestamp, now);
   if (meta)
     gst_h263rps_reception_time (&self->reception, arrival->timestamp, meta->timestamp);
-  gst_h263rps_meter_add (&self->meter, now, gst_buffer_get_size (arrival->buffer), 0, 0);
+  gst_h263rps_meter_add (&self->meter, now, arrival->length, 0, 0);
   note_report (self, now);
 }
 
@@ -433,38 +428,40 @@ on_sending_rtcp (GObject * session, GstBuffer * compound, gboolean is_early, Gst
 /* ---- pictures, under the lock ---- */
 
 static GstCaps *
-caps_of (const GstH263RpsRun * run)
+caps_of (const GstH263RpsCall * call)
 {
   gint width, height;
 
-  gst_h263rps_size_of_format (run->params.format, &width, &height);
+  gst_h263rps_size_of_format (call->params.format, &width, &height);
   return gst_caps_new_simple ("video/x-raw", "format", G_TYPE_STRING, "I420",
       "width", G_TYPE_INT, width, "height", G_TYPE_INT, height,
-      "framerate", GST_TYPE_FRACTION, run->fps_n, run->fps_d,
+      "framerate", GST_TYPE_FRACTION, call->fps_n, call->fps_d,
       "interlace-mode", G_TYPE_STRING, "progressive",
       "pixel-aspect-ratio", GST_TYPE_FRACTION, PAR_N, PAR_D, NULL);
 }
 
 static void
-mark_buffer (const GstH263RpsRun * run, GstBuffer * buffer, guint number, guint mark)
+mark_buffer (GstBuffer * buffer, const h263rps_turn * turn)
 {
   GstCustomMeta *meta = gst_buffer_add_custom_meta (buffer, GST_H263RPS_META_NAME);
 
   if (meta)
     gst_structure_set (gst_custom_meta_get_structure (meta),
-        "mark", G_TYPE_STRING, gst_h263rps_mark_name (mark),
-        "number", G_TYPE_UINT, number, "ssrc", G_TYPE_UINT, run->ssrc, NULL);
-  if (mark != H263RPS_EXACT)
+        "mark", G_TYPE_STRING, gst_h263rps_mark_name (turn->answer.kind),
+        "number", G_TYPE_UINT, turn->answer.number, "ssrc", G_TYPE_UINT, turn->source, NULL);
+  if (turn->answer.kind != H263RPS_EXACT)
     GST_BUFFER_FLAG_SET (buffer, GST_BUFFER_FLAG_CORRUPTED);
+  GST_BUFFER_OFFSET (buffer) = turn->answer.number;
 }
 
 /* When a picture is to be shown. What is due is shown as late as the pipeline's latency says, and a
  * sink waits for the rest. */
 static void
-stamp_buffer (GstH263RpsRecv * self, const GstH263RpsRun * run, GstBuffer * buffer,
-    GstClockTime due)
+stamp_buffer (GstH263RpsRecv * self, GstH263RpsCall * call, GstBuffer * buffer,
+    const h263rps_turn * turn, GstClockTime due)
 {
   GstClockTime latency = self->latency * GST_MSECOND, ntp;
+  guint32 timestamp;
   gint64 shown;
 
   GST_OBJECT_LOCK (self);
@@ -472,9 +469,10 @@ stamp_buffer (GstH263RpsRecv * self, const GstH263RpsRun * run, GstBuffer * buff
   GST_OBJECT_UNLOCK (self);
   shown += running_time_of (self, due);
   GST_BUFFER_PTS (buffer) = MAX (shown, 0);
-  GST_BUFFER_DURATION (buffer) = gst_util_uint64_scale (GST_SECOND, run->fps_d, run->fps_n);
-  if (self->reception.ssrc == run->ssrc
-      && gst_h263rps_reception_ntp (&self->reception, gst_h263rps_run_timestamp (run, due), &ntp))
+  GST_BUFFER_DURATION (buffer) = gst_util_uint64_scale (GST_SECOND, call->fps_d, call->fps_n);
+  if (gst_h263rps_call_take_time (call, turn->answer.number, &timestamp)
+      && self->reception.ssrc == turn->source
+      && gst_h263rps_reception_ntp (&self->reception, timestamp, &ntp))
     gst_buffer_add_reference_timestamp_meta (buffer, self->ntp_caps, ntp, GST_CLOCK_TIME_NONE);
 }
 
@@ -514,54 +512,18 @@ queue_picture (GstH263RpsRecv * self, GstBuffer * buffer)
   g_queue_push_tail (&self->out, buffer);
 }
 
-/* Plays the next picture of the run that is followed, for the screen. */
+/* A picture of the stream that is followed was played. */
 static void
-play_shown (GstH263RpsRecv * self, GstClockTime due)
+show_picture (GstH263RpsRecv * self, GstH263RpsCall * call, const h263rps_turn * turn,
+    const h263rps_lent * shown, GstClockTime due)
 {
-  GstH263RpsRun *run = self->run;
-  GstBuffer *buffer = gst_h263rps_run_picture (run);
-  GstMapInfo map;
-  h263rps_answer answer = { 0 };
-  GstClockTime when = running_time_of (self, clock_time (self));
-  guint number = run->played;
-  gboolean is_played;
+  GstBuffer *buffer = gst_h263rps_call_picture (call, shown);
 
-  GST_BUFFER_OFFSET (buffer) = number;
-  gst_buffer_map (buffer, &map, GST_MAP_WRITE);
-  is_played = gst_h263rps_run_play (run, map.data, &answer, when);
-  gst_buffer_unmap (buffer, &map);
-  if (!is_played) {
-    GST_INFO_OBJECT (self, "the run has ended: what comes next begins anew");
-    gst_buffer_unref (buffer);
-    return;
-  }
-  stamp_buffer (self, run, buffer, due);
-  mark_buffer (run, buffer, number, answer.kind);
-  gst_h263rps_meter_add (&self->meter, clock_time (self), 0, 1, answer.kind == H263RPS_EXACT);
-  self->counts.marks[answer.kind]++;
-  if (answer.message.length)
-    note_message (self, run, &answer.message);
+  stamp_buffer (self, call, buffer, turn, due);
+  mark_buffer (buffer, turn);
+  gst_h263rps_meter_add (&self->meter, clock_time (self), 0, 1, turn->answer.kind == H263RPS_EXACT);
+  self->counts.marks[turn->answer.kind]++;
   queue_picture (self, buffer);
-}
-
-/* At most as many at once as are kept: what is due beyond them waits until the network was looked
- * at again. Nothing from picture `before` on is played; with -1 all that is due is. */
-static void
-play_due (GstH263RpsRecv * self, GstH263RpsRun * run, GstClockTime now, gint64 before)
-{
-  GstClockTime due;
-  h263rps_answer answer;
-  guint i;
-
-  for (i = 0; i < run->params.slots && run->played != before; i++) {
-    if (!gst_h263rps_run_due (run, &due) || due > now)
-      return;
-    if (run == self->run)
-      play_shown (self, due);
-    else if (gst_h263rps_run_play (run, NULL, &answer, running_time_of (self, now))
-        && answer.message.length)
-      note_message (self, run, &answer.message);
-  }
 }
 
 /* ---- the record ---- */
@@ -577,9 +539,9 @@ note_record_fault (GstH263RpsRecv * self, const gchar * words)
 
 /* Under the lock: a disk that fills up ends the recording, once, and not the call. */
 static void
-check_record (GstH263RpsRecv * self, GstH263RpsRun * run)
+check_record (GstH263RpsRecv * self, GstH263RpsTape * tape)
 {
-  gint fault = gst_h263rps_record_fault (run->record);
+  gint fault = gst_h263rps_record_fault (tape->record);
   gchar *words;
 
   if (!fault)
@@ -587,7 +549,7 @@ check_record (GstH263RpsRecv * self, GstH263RpsRun * run)
   words = g_strdup_printf ("The recording ends here: %s.", g_strerror (fault));
   note_record_fault (self, words);
   g_free (words);
-  g_clear_pointer (&run->record, gst_h263rps_record_free);
+  g_clear_pointer (&tape->record, gst_h263rps_record_free);
 }
 
 /* Without the lock. */
@@ -611,7 +573,7 @@ tell_record_fault (GstH263RpsRecv * self)
 static GstClockTime
 wait_of (GstH263RpsRecv * self)
 {
-  return MAX (self->latency * GST_MSECOND, LEAST_WAIT);
+  return self->latency * GST_MSECOND;
 }
 
 /* The sender's, by the caps or else by the properties. */
@@ -626,15 +588,15 @@ senders_window (GstH263RpsRecv * self)
   return window;
 }
 
-/* Without the lock, and once: without a run there will be no picture. */
+/* Without the lock, and once: without a session there will be no picture. */
 static void
-tell_run_fault (GstH263RpsRecv * self)
+tell_call_fault (GstH263RpsRecv * self)
 {
   guint32 fault;
 
   g_mutex_lock (&self->lock);
-  fault = self->is_run_fault_told ? 0 : self->run_fault;
-  self->is_run_fault_told = self->run_fault != 0;
+  fault = self->is_call_fault_told ? 0 : self->call_fault;
+  self->is_call_fault_told = self->call_fault != 0;
   g_mutex_unlock (&self->lock);
   if (fault)
     GST_ELEMENT_ERROR (self, LIBRARY, SETTINGS, ("%s", h263rps_status_text (fault)), (NULL));
@@ -660,371 +622,198 @@ check_window (GstH263RpsRecv * self)
 
 /* ---- what is recorded ---- */
 
-/* What is recorded of a run waits in memory until its stream is followed. */
-static void
-hold_record (GstH263RpsRecv * self, GstH263RpsRun * run)
+static gboolean
+is_recorded (GstH263RpsRecv * self)
 {
   gboolean is_wanted;
-  gint width, height;
-  gint64 i;
 
   GST_OBJECT_LOCK (self);
   is_wanted = self->record_location != NULL;
   GST_OBJECT_UNLOCK (self);
-  if (!is_wanted || self->recorded == MOST_RECORDED)
-    return;
-  run->record = gst_h263rps_record_new ("recv");
-  gst_h263rps_size_of_format (run->params.format, &width, &height);
-  gst_h263rps_record_head (run->record, width, height, run->fps_n, run->fps_d);
-  /* `recv` counts from 0: the log has the plays that the library leaves out. */
-  for (i = 0; i < run->first; i++)
-    gst_h263rps_record_entry (run->record, GST_H263RPS_RECORD_LOG, 'P', NULL, 0,
-        running_time_of (self, clock_time (self)));
+  return is_wanted;
 }
 
-/* From now on it is in the folder. Where that can't be made the call goes on. */
-static void
-keep_record (GstH263RpsRecv * self, GstH263RpsRun * run)
+/* A record of the stream that is followed, in the folder. */
+static GstH263RpsRecord *
+new_record (GstH263RpsRecv * self, const GstH263RpsCall * call)
 {
+  GstH263RpsRecord *record = gst_h263rps_record_new ("recv");
   GError *error = NULL;
-  gchar *folder;
+  gint width, height;
+  gboolean is_kept;
 
-  if (!run->record)
-    return;
+  gst_h263rps_size_of_format (call->params.format, &width, &height);
+  gst_h263rps_record_head (record, width, height, call->fps_n, call->fps_d);
   GST_OBJECT_LOCK (self);
-  folder = g_strdup (self->record_location);
+  is_kept = gst_h263rps_record_keep (record, self->record_location ? self->record_location : "",
+      ++self->recorded, &error);
   GST_OBJECT_UNLOCK (self);
-  if (!folder || self->recorded == MOST_RECORDED) {
-    g_clear_pointer (&run->record, gst_h263rps_record_free);
-  } else if (!gst_h263rps_record_keep (run->record, folder, ++self->recorded, &error)) {
+  if (!is_kept) {
     note_record_fault (self, error ? error->message : "The folder of the record can't be made.");
     g_clear_error (&error);
-    g_clear_pointer (&run->record, gst_h263rps_record_free);
-  } else {
-    gst_h263rps_record_facts (run->record, "\"format\": \"%s\", \"rate\": \"%d/%d\", "
-        "\"clock\": \"%s\", \"messages\": %u, \"slots\": %u, \"lead\": %u, \"wait\": %.6f, "
-        "\"source\": %u, \"skipped\": %" G_GINT64_FORMAT ", \"first\": %u",
-        gst_h263rps_format_name (run->params.format), run->fps_n, run->fps_d,
-        run->params.clock ? "custom" : "standard", run->params.messages, run->params.slots,
-        run->params.lead, (gdouble) run->wait / GST_SECOND, run->ssrc, run->first, run->joined);
+    g_clear_pointer (&record, gst_h263rps_record_free);
   }
-  g_free (folder);
+  return record;
 }
 
-/* ---- which stream is followed, under the lock ---- */
+/* A run begins with a play. Where its folder can't be made the call goes on. */
+static void
+begin_record (GstH263RpsRecv * self, GstH263RpsCall * call, const h263rps_turn * turn,
+    GstClockTime when)
+{
+  GstH263RpsTape *tape = call->tape;
+  GstH263RpsRecord *record = self->recorded < MOST_RECORDED ? new_record (self, call) : NULL;
 
-static GstH263RpsRun *
-begin_run (GstH263RpsRecv * self, const GstH263RpsArrival * arrival)
+  gst_h263rps_tape_begin (tape, record, turn->answer.number, when);
+  if (record)
+    gst_h263rps_record_facts (record, "\"format\": \"%s\", \"rate\": \"%d/%d\", "
+        "\"clock\": \"%s\", \"messages\": %u, \"slots\": %u, \"lead\": %u, \"wait\": %.6f, "
+        "\"source\": %u, \"skipped\": %u, \"first\": %u",
+        gst_h263rps_format_name (call->params.format), call->fps_n, call->fps_d,
+        call->params.clock ? "custom" : "standard", call->params.messages, call->params.slots,
+        call->params.lead, (gdouble) call->wait / GST_SECOND, turn->source, tape->skipped,
+        tape->joined);
+}
+
+static void
+record_play (GstH263RpsRecv * self, GstH263RpsCall * call, const h263rps_turn * turn,
+    const h263rps_lent * shown)
+{
+  GstClockTime when = running_time_of (self, clock_time (self));
+
+  if (!call->tape)
+    return;
+  if (gst_h263rps_tape_begins (call->tape, turn))
+    begin_record (self, call, turn, when);
+  gst_h263rps_tape_play (call->tape, turn, shown, when);
+  check_record (self, call->tape);
+}
+
+/* ---- sessions, under the lock ---- */
+
+static GstH263RpsCall *
+begin_call (GstH263RpsRecv * self, const h263rps_start * start)
 {
   GstH263RpsWindow window = senders_window (self);
   h263rps_params params = { 0 };
-  GstH263RpsRun *run;
-  guint32 status = H263RPS_OK;
+  GstH263RpsCall *call;
+  guint32 fault;
 
   /* What can't be was told when the caps came. */
-  if (!gst_h263rps_window_own (&window, wait_of (self), self->fps_n, self->fps_d))
+  if (!gst_h263rps_window_own (&window, wait_of (self), self->fps_n, self->fps_d)
+      || h263rps_defaults (start->format, &params) != H263RPS_OK)
     return NULL;
   params.slots = window.slots;
   params.lead = window.lead;
   params.messages = self->messages;
-  run = gst_h263rps_run_new (&params, self->fps_n, self->fps_d, wait_of (self), arrival, &status);
-  if (!run)
-    self->run_fault = status;
-  else
-    GST_INFO_OBJECT (self, "a run of stream %08x from picture %" G_GINT64_FORMAT " on, slots %u, "
-        "lead %u", run->ssrc, run->first, window.slots, window.lead);
-  return run;
+  params.clock = start->clock;
+  call = gst_h263rps_call_new (&params, self->fps_n, self->fps_d, wait_of (self), &fault);
+  if (!call) {
+    self->call_fault = fault;
+    return NULL;
+  }
+  if (is_recorded (self))
+    call->tape = gst_h263rps_tape_new ();
+  GST_INFO_OBJECT (self, "a session of format %s, slots %u, lead %u",
+      gst_h263rps_format_name (start->format), window.slots, window.lead);
+  return call;
+}
+
+static void
+forget_calls (GstH263RpsRecv * self)
+{
+  guint i;
+
+  for (i = 0; i < CALLS; i++)
+    g_clear_pointer (&self->calls[i], gst_h263rps_call_free);
+  self->shown = NULL;
 }
 
 static gboolean
 is_silent (GstH263RpsRecv * self, GstClockTime now)
 {
-  return !self->run || now - self->complete >= GST_H263RPS_SILENT;
+  return !self->shown || now - self->shown->complete >= GST_H263RPS_SILENT;
 }
 
-/* It wasn't complete in its time, or another takes its place. */
-static void
-end_trial (GstH263RpsRecv * self, GstClockTime now)
+/* The session of this format. What it chooses by among its streams holds among formats, too: none is
+ * looked at anew while pictures of the one that is shown become complete. */
+static GstH263RpsCall *
+call_of (GstH263RpsRecv * self, const h263rps_start * start, GstClockTime now)
 {
-  if (!self->trial)
-    return;
-  self->has_failed = TRUE;
-  self->failed = self->trial->ssrc;
-  self->failed_at = now;
-  g_clear_pointer (&self->trial, gst_h263rps_run_free);
+  guint which = 2 * (start->format - 1) + (start->clock == H263RPS_CUSTOM_CLOCK);
+
+  if (start->format < 1 || which >= CALLS)
+    return NULL;
+  if (!self->calls[which] && is_silent (self, now))
+    self->calls[which] = begin_call (self, start);
+  if (self->calls[which] && self->calls[which]->completed == 0 && !is_silent (self, now))
+    return NULL;
+  return self->calls[which];
 }
 
+/* A picture of a stream that its session follows is complete: it is shown, where no other format is,
+ * or where the other one has completed fewer. */
 static void
-forget_streams (GstH263RpsRecv * self)
-{
-  g_clear_pointer (&self->trial, gst_h263rps_run_free);
-  g_clear_pointer (&self->former, gst_h263rps_run_free);
-  g_clear_pointer (&self->run, gst_h263rps_run_free);
-  self->has_failed = FALSE;
-  gst_h263rps_probation_clear (&self->probation);
-}
-
-/* The run is that of the stream that is followed. What was before stays the caller's. */
-static void
-follow_run (GstH263RpsRecv * self, GstH263RpsRun * run, GstClockTime now)
-{
-  gboolean is_new = !self->run || self->run->params.format != run->params.format
-      || self->run->fps_n != run->fps_n || self->run->fps_d != run->fps_d;
-
-  self->run = run;
-  self->last = self->complete = now;
-  if (!is_new)
-    return;
-  gst_caps_replace (&self->new_caps, NULL);
-  self->new_caps = caps_of (run);
-}
-
-/* A new run is followed: that of the first stream, of one that was tried, or one that goes on. */
-static void
-begin_following (GstH263RpsRecv * self, GstH263RpsRun * run, GstClockTime now)
-{
-  follow_run (self, run, now);
-  self->counts.runs++;
-  keep_record (self, run);
-}
-
-/* Of the streams that were followed the one that has completed more keeps its run, if it isn't the
- * one that is followed now. */
-static void
-keep_beside (GstH263RpsRecv * self, GstH263RpsRun * old)
-{
-  GstH263RpsRun *less = old;
-
-  if (old->ssrc != self->run->ssrc && (!self->former || self->former->completed < old->completed)) {
-    less = self->former;
-    self->former = old;
-  }
-  g_clear_pointer (&less, gst_h263rps_run_free);
-}
-
-/* The stream that was tried, or was followed before, is followed from now on. */
-static void
-turn_to (GstH263RpsRecv * self, GstH263RpsRun * run, GstClockTime now)
-{
-  GstH263RpsRun *old = self->run;
-
-  if (run == self->trial) {
-    self->trial = NULL;
-    begin_following (self, run, now);
-  } else {
-    self->former = NULL;
-    follow_run (self, run, now);
-  }
-  keep_beside (self, old);
-  gst_h263rps_probation_clear (&self->probation);
-}
-
-static void
-note_completed (GstH263RpsRecv * self, GstH263RpsRun * run, GstClockTime now)
-{
-  gboolean is_better;
-
-  run->completed++;
-  is_better = run == self->former
-      && (is_silent (self, now) || run->completed > self->run->completed);
-  if (run == self->trial || is_better)
-    turn_to (self, run, now);
-  if (run == self->run)
-    self->complete = now;
-}
-
-/* What a packet's answer means: a message, and for a stream that isn't followed, that it is. */
-static void
-note_answer (GstH263RpsRecv * self, GstH263RpsRun * run, const h263rps_answer * answer,
+note_completed (GstH263RpsRecv * self, GstH263RpsCall * call, const h263rps_arrived * arrived,
     GstClockTime now)
 {
-  if (answer->kind == H263RPS_COMPLETED)
-    note_completed (self, run, now);
-  if (answer->kind == H263RPS_REFUSED && answer->fault == H263RPS_MISSING_REFERENCE)
-    note_intra (self, run, now);
-  if (run == self->run)
-    self->counts.heard[answer->kind]++;
-  /* Also of one that is tried, or was followed: what it lacks is to come. */
-  if (answer->message.length)
-    note_message (self, run, &answer->message);
+  guint32 source;
+
+  if (!gst_h263rps_call_followed (call, &source) || source != arrived->source)
+    return;
+  if (arrived->run != H263RPS_FOLLOWED)
+    gst_h263rps_call_turn (call, arrived->run);
+  self->counts.runs += arrived->run == H263RPS_TRIED;
+  call->completed++;
+  if (call != self->shown && (is_silent (self, now) || call->completed > self->shown->completed)) {
+    self->shown = call;
+    gst_caps_replace (&self->new_caps, NULL);
+    self->new_caps = caps_of (call);
+  }
+  call->complete = now;
 }
 
-/* Gives a run a packet of its stream. Answers whether it may be of it. */
+/* Plays the next picture, if one is due. */
 static gboolean
-give_run (GstH263RpsRecv * self, GstH263RpsRun * run, const GstH263RpsArrival * arrival,
-    GstClockTime now)
+play_next (GstH263RpsRecv * self, GstH263RpsCall * call, GstClockTime now)
 {
-  h263rps_answer answer = { 0 };
-  gsize length = gst_buffer_get_size (arrival->buffer);
-  gint64 number;
+  GstClockTime due = gst_h263rps_call_due (call);
+  h263rps_lent shown = { NULL, 0 };
+  h263rps_turn turn;
 
-  if (!gst_h263rps_run_place (run, arrival, now, &number))
+  if (!GST_CLOCK_TIME_IS_VALID (due) || due > now
+      || h263rps_session_play (&call->session, now, &turn) != H263RPS_OK || !turn.plays)
     return FALSE;
-  play_due (self, run, now, number);
-  gst_buffer_extract (arrival->buffer, 0, self->room, length);
-  gst_h263rps_run_hear (run, self->room, length, &answer, running_time_of (self, now));
-  check_record (self, run);
-  note_answer (self, run, &answer, now);
+  note_message (self, turn.source, &turn.answer.message);
+  if (turn.run == H263RPS_FOLLOWED) {
+    h263rps_session_shown (&call->session, &shown);
+    /* It began anew, in the silence before or since nothing came in time. */
+    self->counts.runs += call->next >= 0 && turn.answer.number != call->next;
+    call->next = (gint64) turn.answer.number + 1;
+    if (call == self->shown)
+      show_picture (self, call, &turn, &shown, due ? due : now);
+  }
+  record_play (self, call, &turn, &shown);
   return TRUE;
 }
 
-/* The stream goes on, and its run can't. */
+/* At most as many at once as are kept: what is due beyond them waits until the network was looked
+ * at again. */
 static void
-begin_anew (GstH263RpsRecv * self, const GstH263RpsArrival * arrival, GstClockTime now)
+play_due (GstH263RpsRecv * self, GstH263RpsCall * call, GstClockTime now)
 {
-  GstH263RpsRun *old = self->run, *run = begin_run (self, arrival);
-
-  if (!run)
-    return;
-  hold_record (self, run);
-  begin_following (self, run, now);
-  gst_h263rps_run_free (old);
-  note_intra (self, run, now);
-}
-
-/* Whether a packet of the stream that is followed is taken. */
-static gboolean
-take_followed (GstH263RpsRecv * self, const GstH263RpsArrival * arrival, GstClockTime now)
-{
-  if (now - self->last > LOST || gst_h263rps_run_is_lost (self->run, now))
-    begin_anew (self, arrival, now);
-  if (!gst_h263rps_run_is_of (self->run, arrival)) {
-    self->counts.other_format++;
-    return TRUE;
-  }
-  if (!give_run (self, self->run, arrival, now))
-    return FALSE;
-  self->last = now;
-  note_reception (self, arrival, now);
-  return TRUE;
-}
-
-/* Whether a packet is of a stream that was followed before, or of the one that is tried. */
-static gboolean
-take_beside (GstH263RpsRecv * self, const GstH263RpsArrival * arrival, GstClockTime now)
-{
-  GstH263RpsRun *trial = self->trial;
-
-  if (self->former && gst_h263rps_run_is_of (self->former, arrival)) {
-    if (self->former->is_ended || now - self->former->last > LOST)
-      g_clear_pointer (&self->former, gst_h263rps_run_free);
-    else if (give_run (self, self->former, arrival, now))
-      return TRUE;
-  }
-  if (!trial || !gst_h263rps_run_is_of (trial, arrival) || !give_run (self, trial, arrival, now))
-    return FALSE;
-  if (self->trial == trial && gst_h263rps_record_held (trial->record) > MOST_HELD)
-    end_trial (self, now);
-  return TRUE;
-}
-
-/* A stream is worth a try. The first one is followed at once: there is none to be kept. */
-static void
-try_stream (GstH263RpsRecv * self, const GstH263RpsArrival came[GST_H263RPS_PROBATION],
-    GstClockTime now)
-{
-  GstH263RpsRun *run = begin_run (self, &came[0]);
   guint i;
 
-  if (!run)
-    return;
-  end_trial (self, now);
-  hold_record (self, run);
-  if (!self->run) {
-    begin_following (self, run, now);
-  } else {
-    self->trial = run;
-    self->trial_began = now;
-    self->counts.trials++;
-  }
-  if (run->first > 0)
-    note_intra (self, run, now);
-  for (i = 0; i < GST_H263RPS_PROBATION; i++) {
-    if (gst_h263rps_run_is_of (run, &came[i]))
-      give_run (self, run, &came[i], now);
-  }
-}
-
-/* Whether this stream, or another, has its turn to be tried. */
-static gboolean
-may_try (GstH263RpsRecv * self, guint32 ssrc, GstClockTime now)
-{
-  if (self->has_failed && self->failed == ssrc && now - self->failed_at < TURN)
-    return FALSE;
-  return !self->trial || now - self->trial->last > QUIET;
-}
-
-static void
-count_unwanted (GstH263RpsRecv * self, guint32 ssrc)
-{
-  if (self->run && self->run->ssrc == ssrc)
-    self->counts.ahead++;
-  else
-    self->counts.other_source++;
-}
-
-static void
-follow (GstH263RpsRecv * self, const GstH263RpsArrival * arrival, GstClockTime now)
-{
-  GstH263RpsArrival came[GST_H263RPS_PROBATION];
-  guint i;
-
-  /* Times on another clock tell nothing of those before. */
-  if (self->is_clock_new)
-    forget_streams (self);
-  self->is_clock_new = FALSE;
-  if (self->trial && now - self->trial_began >= TRIAL)
-    end_trial (self, now);
-  if (self->run && self->run->ssrc == arrival->ssrc && take_followed (self, arrival, now))
-    return;
-  if (take_beside (self, arrival, now))
-    return;
-  if (!is_silent (self, now) || !may_try (self, arrival->ssrc, now)) {
-    count_unwanted (self, arrival->ssrc);
-    return;
-  }
-  if (!gst_h263rps_probation_add (&self->probation, arrival, came))
-    return;
-  try_stream (self, came, now);
-  for (i = 0; i < GST_H263RPS_PROBATION; i++)
-    gst_buffer_unref (came[i].buffer);
-}
-
-/* How many more packets of this stream are looked at: what others send costs a stream nothing that
- * is followed, or was. */
-static GstH263RpsAllowance *
-allowance_of (GstH263RpsRecv * self, guint32 ssrc)
-{
-  if (self->run && self->run->ssrc == ssrc)
-    return &self->run->allowance;
-  if (self->former && self->former->ssrc == ssrc)
-    return &self->former->allowance;
-  return &self->strangers_allowance;
+  for (i = 0; i < call->params.slots && play_next (self, call, now); i++);
 }
 
 /* ---- packets ---- */
 
-/* What a packet says of its picture, whatever its payload type and SSRC are. */
+/* What a packet says of itself, of whatever payload type. */
 static gboolean
-read_start (GstH263RpsRecv * self, GstH263RpsStart * start, GstBuffer * buffer)
-{
-  gsize length = gst_buffer_extract (buffer, 0, self->room, ROOM);
-  h263rps_start told;
-
-  gst_h263rps_label_packet (self->room);
-  if (h263rps_packet_start (self->room, length, &told) != H263RPS_OK)
-    return FALSE;
-  start->format = told.format;
-  start->clock = told.clock;
-  start->temporal_reference = told.temporal_reference;
-  return TRUE;
-}
-
-static gboolean
-read_arrival (GstH263RpsRecv * self, GstH263RpsArrival * arrival, GstBuffer * buffer)
+read_arrival (GstH263RpsRecv * self, Arrival * arrival, GstBuffer * buffer)
 {
   GstRTPBuffer rtp = GST_RTP_BUFFER_INIT;
-  gboolean is_read;
 
   if (gst_buffer_get_size (buffer) > ROOM || !gst_rtp_buffer_map (buffer, GST_MAP_READ, &rtp))
     return FALSE;
@@ -1033,9 +822,173 @@ read_arrival (GstH263RpsRecv * self, GstH263RpsArrival * arrival, GstBuffer * bu
   arrival->sequence = gst_rtp_buffer_get_seq (&rtp);
   arrival->timestamp = gst_rtp_buffer_get_timestamp (&rtp);
   arrival->pt = gst_rtp_buffer_get_payload_type (&rtp);
-  is_read = read_start (self, &arrival->start, buffer);
   gst_rtp_buffer_unmap (&rtp);
-  return is_read;
+  arrival->length = gst_buffer_extract (buffer, 0, self->room, ROOM);
+  h263rps_packet_label (self->room, arrival->length, arrival->ssrc, H263RPS_PAYLOAD_TYPE);
+  return TRUE;
+}
+
+/* What it says of its picture. */
+static gboolean
+read_start (GstH263RpsRecv * self, const Arrival * arrival, h263rps_start * start)
+{
+  guint32 status;
+
+  h263rps_packet_label (self->room, arrival->length, H263RPS_SSRC, H263RPS_PAYLOAD_TYPE);
+  status = h263rps_packet_start (self->room, arrival->length, start);
+  h263rps_packet_label (self->room, arrival->length, arrival->ssrc, H263RPS_PAYLOAD_TYPE);
+  return status == H263RPS_OK;
+}
+
+/* What the record and the sender's times want of a packet that was heard. */
+static void
+keep_packet (GstH263RpsRecv * self, GstH263RpsCall * call, const Arrival * arrival,
+    const h263rps_arrived * arrived, GstClockTime now)
+{
+  h263rps_start start;
+
+  if (call->tape) {
+    h263rps_packet_label (self->room, arrival->length, H263RPS_SSRC, H263RPS_PAYLOAD_TYPE);
+    gst_h263rps_tape_packet (call->tape, arrived, self->room, arrival->length, now,
+        running_time_of (self, now));
+  }
+  if (arrived->run == H263RPS_FOLLOWED && self->reception.has_info
+      && read_start (self, arrival, &start))
+    gst_h263rps_call_note_time (call, start.temporal_reference, arrival->timestamp);
+}
+
+/* A packet was heard. Also of a stream that isn't followed messages go out: what it lacks is to come. */
+static void
+note_heard (GstH263RpsRecv * self, GstH263RpsCall * call, const Arrival * arrival,
+    const h263rps_arrived * arrived, GstClockTime now)
+{
+  const h263rps_answer *answer = &arrived->answer;
+  guint32 source;
+
+  self->pt = arrival->pt;
+  keep_packet (self, call, arrival, arrived, now);
+  if (answer->kind == H263RPS_COMPLETED)
+    note_completed (self, call, arrived, now);
+  if (answer->kind == H263RPS_REFUSED && answer->fault == H263RPS_MISSING_REFERENCE)
+    note_intra (self, arrived->source, now);
+  note_message (self, arrived->source, &answer->message);
+  if (call == self->shown && gst_h263rps_call_followed (call, &source)
+      && source == arrived->source) {
+    self->counts.heard[answer->kind]++;
+    note_reception (self, arrival, now);
+  }
+  wake (self);
+}
+
+static void
+count_dropped (GstH263RpsRecv * self, guint cause)
+{
+  switch (cause) {
+    case H263RPS_OTHER_PICTURES:
+      self->counts.other_format++;
+      break;
+    case H263RPS_TOO_FAST:
+      self->counts.too_fast++;
+      break;
+    case H263RPS_OTHER_STREAM:
+      self->counts.other_source++;
+      break;
+    default:
+      self->counts.malformed++;
+      break;
+  }
+}
+
+static void
+note_rival (GstH263RpsRecv * self, GstH263RpsCall * call, guint32 rival)
+{
+  self->counts.rivals++;
+  self->has_rival = gst_h263rps_call_followed (call, &self->rivals[0]);
+  self->rivals[1] = rival;
+}
+
+static void
+note_arrived (GstH263RpsRecv * self, GstH263RpsCall * call, const Arrival * arrival,
+    const h263rps_arrived * arrived, GstClockTime now)
+{
+  if (arrived->rival)
+    note_rival (self, call, arrival->ssrc);
+  if (arrived->verdict == H263RPS_HEARD)
+    note_heard (self, call, arrival, arrived, now);
+  else if (arrived->verdict == H263RPS_DROPPED)
+    count_dropped (self, arrived->cause);
+  else
+    self->counts.ahead++;
+}
+
+/* Where its picture is too far ahead, those before it are played first. */
+static void
+hand_in (GstH263RpsRecv * self, GstH263RpsCall * call, const Arrival * arrival,
+    h263rps_arrived * arrived, GstClockTime now)
+{
+  memset (arrived, 0, sizeof *arrived);
+  h263rps_session_arrival (&call->session, self->room, arrival->length, now, arrived);
+  if (arrived->verdict != H263RPS_AHEAD)
+    return;
+  while (play_next (self, call, now));
+  h263rps_session_arrival (&call->session, self->room, arrival->length, now, arrived);
+}
+
+static void
+take_packet (GstH263RpsRecv * self, const Arrival * arrival, GstClockTime now)
+{
+  GstH263RpsCall *call;
+  h263rps_arrived arrived;
+  h263rps_start start;
+
+  /* Times on another clock tell nothing of those before. */
+  if (self->is_clock_new)
+    forget_calls (self);
+  self->is_clock_new = FALSE;
+  if (self->shown) {
+    call = self->shown;
+    hand_in (self, call, arrival, &arrived, now);
+    if (arrived.verdict != H263RPS_DROPPED || arrived.cause != H263RPS_OTHER_PICTURES) {
+      note_arrived (self, call, arrival, &arrived, now);
+      return;
+    }
+  }
+  if (!read_start (self, arrival, &start)) {
+    self->counts.malformed++;
+    return;
+  }
+  call = call_of (self, &start, now);
+  if (!call) {
+    self->counts.other_format++;
+    return;
+  }
+  hand_in (self, call, arrival, &arrived, now);
+  note_arrived (self, call, arrival, &arrived, now);
+}
+
+/* Without the lock: another stream comes beside the one that is followed. */
+static void
+tell_rival (GstH263RpsRecv * self)
+{
+  gboolean is_told, has_rival;
+  guint32 rivals[2];
+
+  g_mutex_lock (&self->lock);
+  has_rival = self->has_rival;
+  is_told = self->is_rival_told;
+  memcpy (rivals, self->rivals, sizeof rivals);
+  self->has_rival = FALSE;
+  self->is_rival_told |= has_rival;
+  g_mutex_unlock (&self->lock);
+  if (!has_rival)
+    return;
+  if (!is_told)
+    GST_ELEMENT_WARNING (self, STREAM, WRONG_TYPE,
+        ("Another stream comes beside the one that is followed: one of them is forged."),
+        ("followed %08x, the other one %08x", rivals[0], rivals[1]));
+  gst_element_post_message (GST_ELEMENT (self), gst_message_new_element (GST_OBJECT (self),
+          gst_structure_new ("h263rps-rival", "ssrc", G_TYPE_UINT, rivals[0],
+              "rival", G_TYPE_UINT, rivals[1], NULL)));
 }
 
 static GstFlowReturn
@@ -1043,7 +996,7 @@ gst_h263rps_recv_chain (GstPad * pad, GstObject * parent, GstBuffer * buffer)
 {
   GstH263RpsRecv *self = GST_H263RPS_RECV (parent);
   GstFlowReturn flow = GST_FLOW_OK;
-  GstH263RpsArrival arrival;
+  Arrival arrival;
   /* The time here, and not the buffer's: what was held up before is late all the same. */
   GstClockTime now = clock_time (self);
 
@@ -1058,17 +1011,14 @@ gst_h263rps_recv_chain (GstPad * pad, GstObject * parent, GstBuffer * buffer)
     self->counts.malformed++;
   else if (self->caps_pt && arrival.pt != self->caps_pt)
     self->counts.other_payload_type++;
-  else if (!gst_h263rps_allowance_takes (allowance_of (self, arrival.ssrc), now))
-    self->counts.too_fast++;
-  else {
-    follow (self, &arrival, now);
-    wake (self);
-  }
+  else
+    take_packet (self, &arrival, now);
   g_mutex_unlock (&self->lock);
   gst_buffer_unref (buffer);
   say_pending (self);
   tell_record_fault (self);
-  tell_run_fault (self);
+  tell_call_fault (self);
+  tell_rival (self);
   return flow;
 }
 
@@ -1078,11 +1028,14 @@ hear_reports (GstH263RpsRecv * self, GstRTCPBuffer * rtcp, GstClockTime now)
 {
   GstRTCPPacket packet;
   GstH263RpsSenderInfo info;
+  guint32 source;
   gboolean more;
 
+  if (!self->shown || !gst_h263rps_call_followed (self->shown, &source))
+    return;
   for (more = gst_rtcp_buffer_get_first_packet (rtcp, &packet); more;
       more = gst_rtcp_packet_move_to_next (&packet)) {
-    if (gst_h263rps_rtcp_read_info (&packet, &info) && self->run && info.ssrc == self->run->ssrc)
+    if (gst_h263rps_rtcp_read_info (&packet, &info) && info.ssrc == source)
       gst_h263rps_reception_info (&self->reception, &info, now);
   }
 }
@@ -1215,8 +1168,8 @@ gst_h263rps_recv_loop (gpointer data)
       g_cond_wait (&self->cond, &self->lock);
       continue;
     }
-    if (self->run)
-      play_due (self, self->run, clock_time (self), -1);
+    if (self->shown)
+      play_due (self, self->shown, clock_time (self));
     next = g_queue_pop_head (&self->out);
     if (next || self->pending_count > 0) {
       g_mutex_unlock (&self->lock);
@@ -1224,7 +1177,8 @@ gst_h263rps_recv_loop (gpointer data)
       if (next)
         flow = push_next (self, next);
       g_mutex_lock (&self->lock);
-    } else if (self->run && gst_h263rps_run_due (self->run, &due)) {
+    } else if (self->shown
+        && GST_CLOCK_TIME_IS_VALID (due = gst_h263rps_call_due (self->shown))) {
       wait_until (self, due);
     } else if (self->is_eos) {
       flow = GST_FLOW_EOS;
@@ -1252,7 +1206,7 @@ static void
 begin_task_state (GstH263RpsRecv * self)
 {
   g_mutex_lock (&self->lock);
-  forget_streams (self);
+  forget_calls (self);
   g_queue_clear_full (&self->out, (GDestroyNotify) gst_mini_object_unref);
   g_queue_clear_full (&self->session_queue, g_free);
   gst_clear_caps (&self->new_caps);
@@ -1387,13 +1341,14 @@ static gboolean
 gst_h263rps_recv_src_event (GstPad * pad, GstObject * parent, GstEvent * event)
 {
   GstH263RpsRecv *self = GST_H263RPS_RECV (parent);
+  guint32 source;
 
   if (GST_EVENT_TYPE (event) == GST_EVENT_QOS)
     return hear_qos (self, event);
   if (gst_video_event_is_force_key_unit (event)) {
     g_mutex_lock (&self->lock);
-    if (self->run)
-      note_intra (self, self->run, clock_time (self));
+    if (self->shown && gst_h263rps_call_followed (self->shown, &source))
+      note_intra (self, source, clock_time (self));
     wake (self);
     g_mutex_unlock (&self->lock);
     gst_event_unref (event);
@@ -1537,11 +1492,12 @@ create_stats (GstH263RpsRecv * self)
 {
   GstStructure *stats;
   Counts counts;
-  guint ssrc;
+  guint32 ssrc = 0;
 
   g_mutex_lock (&self->lock);
   counts = self->counts;
-  ssrc = self->run ? self->run->ssrc : 0;
+  if (self->shown)
+    gst_h263rps_call_followed (self->shown, &ssrc);
   stats = gst_structure_new_empty ("application/x-h263rpsrecv-stats");
   add_rates (self, stats);
   g_mutex_unlock (&self->lock);
@@ -1568,7 +1524,7 @@ create_stats (GstH263RpsRecv * self)
       "session-refused", G_TYPE_UINT64, counts.session_refused,
       "dropped-messages", G_TYPE_UINT64, counts.dropped_messages,
       "intra-asked", G_TYPE_UINT64, counts.intra_asked,
-      "runs", G_TYPE_UINT64, counts.runs, "trials", G_TYPE_UINT64, counts.trials, NULL);
+      "runs", G_TYPE_UINT64, counts.runs, "rivals", G_TYPE_UINT64, counts.rivals, NULL);
   return stats;
 }
 
@@ -1637,12 +1593,11 @@ gst_h263rps_recv_change_state (GstElement * element, GstStateChange transition)
     case GST_STATE_CHANGE_READY_TO_PAUSED:
       g_mutex_lock (&self->lock);
       memset (&self->counts, 0, sizeof self->counts);
-      memset (&self->strangers_allowance, 0, sizeof self->strangers_allowance);
       memset (&self->reception, 0, sizeof self->reception);
       memset (&self->meter, 0, sizeof self->meter);
       self->next_report = GST_CLOCK_TIME_NONE;
-      self->has_asked = self->is_run_fault_told = FALSE;
-      self->run_fault = 0;
+      self->has_asked = self->is_call_fault_told = self->is_rival_told = FALSE;
+      self->call_fault = 0;
       self->own_ssrc = self->ssrc == DEFAULT_SSRC ? g_random_int () : self->ssrc;
       g_mutex_unlock (&self->lock);
       set_playing (self, FALSE);
@@ -1674,7 +1629,7 @@ gst_h263rps_recv_set_clock (GstElement * element, GstClock * clock)
   GstH263RpsRecv *self = GST_H263RPS_RECV (element);
 
   g_mutex_lock (&self->lock);
-  self->is_clock_new = self->run != NULL && clock != NULL && clock != GST_ELEMENT_CLOCK (element);
+  self->is_clock_new = clock != NULL && clock != GST_ELEMENT_CLOCK (element);
   g_mutex_unlock (&self->lock);
   return GST_ELEMENT_CLASS (parent_class)->set_clock (element, clock);
 }
@@ -1691,7 +1646,7 @@ gst_h263rps_recv_finalize (GObject * object)
 {
   GstH263RpsRecv *self = GST_H263RPS_RECV (object);
 
-  forget_streams (self);
+  forget_calls (self);
   g_queue_clear_full (&self->out, (GDestroyNotify) gst_mini_object_unref);
   g_queue_clear_full (&self->session_queue, g_free);
   gst_clear_caps (&self->new_caps);
@@ -1867,7 +1822,8 @@ gst_h263rps_recv_class_init (GstH263RpsRecvClass * klass)
    * "taken", of them "completed" (their picture was whole then), "late", "early", "repeat" and
    * "refused"; what didn't count: "malformed", "other-payload-type", "other-format",
    * "other-source", "ahead" of the clock, "too-fast", "paused"; messages "said",
-   * "session-refused" (sent later on), "dropped-messages"; "intra-asked", "runs", "trials";
+   * "session-refused" (sent later on), "dropped-messages"; "intra-asked", "runs", "rivals" (another stream
+   * beside it, each second);
    * "bit-rate" in the last second, in bits; "exact-share" of the pictures of the last ten seconds,
    * 0 to 1, or -1; "jitter" (RFC 3550, A.8) in ns, or %GST_CLOCK_TIME_NONE.
    */
