@@ -910,6 +910,117 @@ GST_START_TEST (test_junk_costs_a_count)
 }
 GST_END_TEST;
 
+/* ---- two streams ---- */
+
+/* How often it was told, by warnings and by messages for a program. */
+static void
+count_told (GstBus * bus, guint * warned, guint * told)
+{
+  GstMessage *message;
+
+  *warned = *told = 0;
+  while ((message = gst_bus_pop (bus))) {
+    *warned += GST_MESSAGE_TYPE (message) == GST_MESSAGE_WARNING;
+    *told += gst_message_has_name (message, "h263rps-rival");
+    gst_message_unref (message);
+  }
+}
+
+/* A whole stream of a stranger's beside a live one isn't shown, and it is told once a second. */
+GST_START_TEST (test_a_rival_is_told)
+{
+  GstBus *bus = gst_bus_new ();
+  Call call, forged;
+  GstBuffer *buffer;
+  guint i, warned, told, ssrc;
+
+  begin_call (&call);
+  begin_call (&forged);
+  gst_element_set_bus (call.recv, bus);
+  run_call (&call, 20, 0);
+  for (i = 0; i < 150; i++) {
+    capture (&forged);
+    while ((buffer = gst_harness_try_pull (forged.out)))
+      gst_harness_push (call.in, buffer);
+    run_call (&call, 1, 0);
+  }
+  drain ();
+  count_told (bus, &warned, &told);
+  fail_unless (told >= 2 && told <= 5, "told %u times", told);
+  assert_count (call.recv, "rivals", told);
+  fail_unless_equals_int (warned, 1);
+  assert_nearly (call.recv, "exact", 170);
+  assert_count (call.recv, "runs", 1);
+  while ((buffer = gst_harness_try_pull (call.in))) {
+    gst_structure_get_uint (gst_custom_meta_get_structure (gst_buffer_get_custom_meta (buffer,
+                "GstH263RpsMeta")), "ssrc", &ssrc);
+    fail_unless_equals_int (ssrc, ssrc_of (call.send));
+    gst_buffer_unref (buffer);
+  }
+  gst_element_set_bus (call.recv, NULL);
+  gst_object_unref (bus);
+  end_call (&forged);
+  end_call (&call);
+}
+GST_END_TEST;
+
+/* Another stream's packets, and junk, by a thread of their own. */
+typedef struct
+{
+  GstHarness *in;
+  GstBuffer *packet;
+  gint is_over;
+  guint64 sent;
+} Flood;
+
+static gpointer
+flood (gpointer data)
+{
+  static const guint8 junk[12] = { 0x80, 96, 1, 2, 3 };
+  Flood *it = data;
+  guint i;
+
+  while (!g_atomic_int_get (&it->is_over)) {
+    for (i = 0; i < 50; i++) {
+      gst_harness_push (it->in, i % 2 ? gst_buffer_copy_deep (it->packet)
+          : gst_buffer_new_memdup (junk, sizeof junk));
+      it->sent++;
+    }
+    g_usleep (1000);
+  }
+  return NULL;
+}
+
+/* Some 40,000 datagrams a second, half of them packets of a stranger's stream, of which no more than
+ * 12,000 a second are looked at: none of the call's is missed. */
+GST_START_TEST (test_junk_at_a_high_rate)
+{
+  Call call, forged;
+  GThread *thread;
+  Flood it = { NULL };
+
+  begin_call (&call);
+  begin_call (&forged);
+  run_call (&call, 10, 0);
+  capture (&forged);
+  it.in = call.in;
+  it.packet = gst_harness_pull (forged.out);
+  thread = g_thread_new ("flood", flood, &it);
+  run_call (&call, 180, 0);
+  g_atomic_int_set (&it.is_over, 1);
+  g_thread_join (thread);
+  drain ();
+  fail_unless (it.sent > 30000, "%" G_GUINT64_FORMAT " datagrams", it.sent);
+  assert_count (call.recv, "malformed", it.sent / 2);
+  assert_at_least (call.recv, "too-fast", 1);
+  assert_at_least (call.recv, "exact", 181);
+  fail_unless_equals_int (ssrc_of (call.recv), ssrc_of (call.send));
+  gst_buffer_unref (it.packet);
+  end_call (&forged);
+  end_call (&call);
+}
+GST_END_TEST;
+
 static void
 deliver (Call * call, GQueue * packets)
 {
@@ -949,6 +1060,196 @@ GST_START_TEST (test_a_way_that_gets_longer)
   drain ();
   assert_at_least (call.recv, "exact", 15);
   end_call (&call);
+}
+GST_END_TEST;
+
+/* ---- a way that takes a while, and loses some ---- */
+
+#define STEP (3 * GST_SECOND / 1000)
+#define MOST 400
+
+/* What is on its way, with the time at which it comes, in us. */
+typedef struct
+{
+  GstBuffer *buffer;
+  gint64 at;
+} Sent;
+
+typedef struct
+{
+  Call call;
+  GQueue there, back;
+  guint rate;
+  gint64 delays[2], begun;      /* before and after the step, in us */
+  gdouble loss;
+  GRand *rand;
+  gboolean is_lost[MOST], is_exact[MOST];
+  gint64 captured[MOST];
+} Way;
+
+static void
+begin_way (Way * way, guint rate, guint before, guint after, gdouble loss)
+{
+  gchar *caps = g_strdup_printf ("video/x-raw, format = (string) I420, width = (int) 128, "
+      "height = (int) 96, framerate = (fraction) %u/1", rate);
+
+  memset (way, 0, sizeof *way);
+  begin_call (&way->call);
+  g_object_set (way->call.recv, "latency", 100, NULL);
+  set_size (&way->call, caps);
+  g_free (caps);
+  g_queue_init (&way->there);
+  g_queue_init (&way->back);
+  way->rate = rate;
+  way->delays[0] = 1000 * before;
+  way->delays[1] = 1000 * after;
+  way->loss = loss;
+  way->rand = g_rand_new_with_seed (5);
+  way->begun = g_get_monotonic_time ();
+}
+
+static void
+put (Way * way, GQueue * queue, GstBuffer * buffer, gint64 now)
+{
+  Sent *sent = g_new (Sent, 1);
+
+  sent->buffer = buffer;
+  sent->at = now + way->delays[now - way->begun >= STEP];
+  g_queue_push_tail (queue, sent);
+}
+
+static void
+bring (GQueue * queue, GstHarness * to, gint64 now)
+{
+  Sent *sent;
+
+  while ((sent = g_queue_peek_head (queue)) && sent->at <= now) {
+    gst_harness_push (to, sent->buffer);
+    g_free (g_queue_pop_head (queue));
+  }
+}
+
+/* The packets of a picture come together. */
+static void
+carry (Way * way)
+{
+  gint64 now = g_get_monotonic_time ();
+  GstBuffer *buffer;
+
+  while ((buffer = gst_harness_try_pull (way->call.out))) {
+    if (g_rand_double (way->rand) < way->loss) {
+      way->is_lost[way->call.captured - 1] = TRUE;
+      gst_buffer_unref (buffer);
+    } else {
+      put (way, &way->there, buffer, now);
+    }
+  }
+  bring (&way->there, way->call.in, now);
+  while ((buffer = gst_harness_try_pull (way->call.said)))
+    put (way, &way->back, buffer, now);
+  bring (&way->back, way->call.back, now);
+}
+
+static void
+drive (Way * way, guint pictures)
+{
+  guint i;
+
+  for (i = 0; i < pictures; i++) {
+    gint64 next = way->begun + (gint64) i * G_USEC_PER_SEC / way->rate;
+
+    for (; g_get_monotonic_time () < next; g_usleep (1000))
+      carry (way);
+    way->captured[i] = g_get_monotonic_time ();
+    capture (&way->call);
+    if (i == 0)
+      pass_caps (&way->call);
+    carry (way);
+  }
+  for (i = 0; i < 600; i++) {
+    carry (way);
+    g_usleep (1000);
+  }
+}
+
+/* Reads the marks of what was shown. */
+static void
+read_marks (Way * way)
+{
+  GstBuffer *buffer;
+
+  while ((buffer = gst_harness_try_pull (way->call.in))) {
+    GstStructure *structure = gst_custom_meta_get_structure (gst_buffer_get_custom_meta (buffer,
+            "GstH263RpsMeta"));
+    guint number = MOST;
+
+    gst_structure_get_uint (structure, "number", &number);
+    if (number < MOST)
+      way->is_exact[number] = g_str_equal (gst_structure_get_string (structure, "mark"), "exact");
+    gst_buffer_unref (buffer);
+  }
+}
+
+/* From then on, in us, each picture that came is exact; a busy machine makes some late. */
+static void
+assert_whole (Way * way, gint64 from)
+{
+  guint came = 0, exact = 0, i;
+
+  read_marks (way);
+  for (i = 0; i < way->call.captured; i++) {
+    if (way->captured[i] - way->begun < from || way->is_lost[i])
+      continue;
+    came++;
+    exact += way->is_exact[i];
+  }
+  fail_unless (came > 0 && exact * 20 >= came * 19 - 20, "%u of %u pictures are exact", exact, came);
+}
+
+static void
+end_way (Way * way)
+{
+  Sent *sent;
+
+  while ((sent = g_queue_pop_head (&way->there)) || (sent = g_queue_pop_head (&way->back))) {
+    gst_buffer_unref (sent->buffer);
+    g_free (sent);
+  }
+  g_rand_free (way->rand);
+  end_call (&way->call);
+}
+
+/* The way takes 250 ms from the third second on, for 30 before: two seconds later all is whole. */
+GST_START_TEST (test_a_step_of_delay)
+{
+  static const struct
+  {
+    guint rate;
+    gdouble loss;
+  } rows[] = { {5, 0}, {10, 0}, {30, 0.3} };
+  Way *way = g_new (Way, 1);
+
+  begin_way (way, rows[__i__].rate, 30, 250, rows[__i__].loss);
+  drive (way, 10 * way->rate);
+  assert_whole (way, STEP + 2 * G_USEC_PER_SEC);
+  end_way (way);
+  g_free (way);
+}
+GST_END_TEST;
+
+/* Pictures are played a millisecond after the least way. Here each has one packet, which is heard
+ * before its picture is played, however late it comes. */
+GST_START_TEST (test_no_latency_on_a_way)
+{
+  Way *way = g_new (Way, 1);
+
+  begin_way (way, 30, 30, 30, 0);
+  g_object_set (way->call.send, "bitrate", 150000, NULL);
+  g_object_set (way->call.recv, "latency", 0, NULL);
+  drive (way, 3 * way->rate);
+  assert_whole (way, G_USEC_PER_SEC);
+  end_way (way);
+  g_free (way);
 }
 GST_END_TEST;
 
@@ -1355,7 +1656,11 @@ elements_suite (void)
   tcase_add_test (chain, test_a_former_stream_is_followed_again);
   tcase_add_test (chain, test_junk_costs_a_count);
   tcase_add_test (chain, test_a_way_that_gets_longer);
+  tcase_add_loop_test (chain, test_a_step_of_delay, 0, 3);
   tcase_add_test (chain, test_no_latency);
+  tcase_add_test (chain, test_no_latency_on_a_way);
+  tcase_add_test (chain, test_a_rival_is_told);
+  tcase_add_test (chain, test_junk_at_a_high_rate);
   tcase_add_test (chain, test_a_record_without_room);
   tcase_add_test (chain, test_what_the_caps_say);
   tcase_add_test (chain, test_an_impossible_pair);
