@@ -6,22 +6,12 @@
 #include <stdlib.h>
 #include <string.h>
 
-/* A file of a record: in memory until the record is kept. */
-typedef struct
-{
-  FILE *file;
-  gchar *held;
-  size_t held_size;
-} RecordFile;
-
 struct _GstH263RpsRecord
 {
   gchar *folder, *end;
   gchar *names[GST_H263RPS_RECORD_FILES];
-  RecordFile files[GST_H263RPS_RECORD_FILES];
-  RecordFile times[GST_H263RPS_RECORD_FILES];
-  gboolean is_kept;
-  gsize held;                   /* bytes that wait in memory */
+  FILE *files[GST_H263RPS_RECORD_FILES];
+  FILE *times[GST_H263RPS_RECORD_FILES];
   gint fault;                   /* errno of the write that failed */
   gint64 flushed;               /* in us */
 };
@@ -64,149 +54,78 @@ has_times (const GstH263RpsRecord * record, gint kind)
   return g_str_equal (record->end, "send") ? kinds[kind].send_times : kinds[kind].recv_times;
 }
 
-static void
-hold_file (RecordFile * it)
-{
-  it->file = open_memstream (&it->held, &it->held_size);
-}
-
-static void
-close_file (RecordFile * it)
-{
-  if (it->file)
-    fclose (it->file);
-  it->file = NULL;
-  /* The memory of a stream of stdio is the C library's. */
-  free (it->held);
-  it->held = NULL;
-}
-
-/* A write failed, or the folder can't be made: nothing more is written, and what was stays. */
+/* A write failed: nothing more is written, and what was stays. */
 static void
 stop (GstH263RpsRecord * record, gint fault)
 {
   gint kind;
 
-  if (record->fault)
-    return;
-  record->fault = fault ? fault : EIO;
+  if (!record->fault)
+    record->fault = fault ? fault : EIO;
   for (kind = 0; kind < GST_H263RPS_RECORD_FILES; kind++) {
-    close_file (&record->files[kind]);
-    close_file (&record->times[kind]);
+    g_clear_pointer (&record->files[kind], fclose);
+    g_clear_pointer (&record->times[kind], fclose);
   }
 }
 
 static void
-check (GstH263RpsRecord * record, RecordFile * it)
+check (GstH263RpsRecord * record, FILE * file)
 {
-  if (it->file && ferror (it->file))
+  if (file && ferror (file))
     stop (record, errno);
 }
 
-/**
- * gst_h263rps_record_new:
- * @end: "send" or "recv"
- *
- * What is written waits in memory until the record is kept.
- *
- * Returns: (transfer full): a record
- */
-GstH263RpsRecord *
-gst_h263rps_record_new (const gchar * end)
-{
-  GstH263RpsRecord *record = g_new0 (GstH263RpsRecord, 1);
-  gint kind;
-
-  record->end = g_strdup (end);
-  for (kind = 0; kind < GST_H263RPS_RECORD_FILES; kind++) {
-    if (stem_of (record, kind))
-      hold_file (&record->files[kind]);
-    if (stem_of (record, kind) && has_times (record, kind))
-      hold_file (&record->times[kind]);
-  }
-  return record;
-}
-
-/* Writes what waits in memory into a file of the folder, which takes its place. */
 static gboolean
-keep_file (GstH263RpsRecord * record, RecordFile * it, const gchar * name, GError ** error)
-{
-  FILE *file;
-
-  if (!it->file)
-    return TRUE;
-  file = open_file (record, name, "wb", error);
-  if (!file)
-    return FALSE;
-  fclose (it->file);
-  fwrite (it->held, 1, it->held_size, file);
-  free (it->held);
-  it->held = NULL;
-  it->file = file;
-  check (record, it);
-  return TRUE;
-}
-
-static gboolean
-keep_kind (GstH263RpsRecord * record, gint kind, guint number, GError ** error)
+open_kind (GstH263RpsRecord * record, gint kind, guint number, GError ** error)
 {
   const gchar *stem = stem_of (record, kind);
   gchar *name, *times;
-  gboolean is_done;
 
   if (!stem)
     return TRUE;
   name = number == 1 ? g_strdup (stem) : g_strdup_printf ("%s-%u", stem, number);
   times = g_strconcat (name, ".times", NULL);
   record->names[kind] = g_strconcat (name, kinds[kind].suffix, NULL);
-  is_done = keep_file (record, &record->files[kind], record->names[kind], error)
-      && keep_file (record, &record->times[kind], times, error);
+  record->files[kind] = open_file (record, record->names[kind], "wb", error);
+  if (record->files[kind] && has_times (record, kind))
+    record->times[kind] = open_file (record, times, "wb", error);
   g_free (name);
   g_free (times);
-  return is_done;
+  return record->files[kind] && (record->times[kind] || !has_times (record, kind));
 }
 
 /**
- * gst_h263rps_record_keep:
- * @record: a record
+ * gst_h263rps_record_new:
+ * @end: "send" or "recv"
  * @folder: where the files go; it is made if it isn't there
  * @number: which run of this end in the folder, from 1
+ * @error: (out): why there is none
  *
- * From now on it is in the folder, with all that was written before.
- *
- * Returns: whether it is; with @error nothing more is written
+ * Returns: (transfer full) (nullable): a record
  */
-gboolean
-gst_h263rps_record_keep (GstH263RpsRecord * record, const gchar * folder, guint number,
-    GError ** error)
+GstH263RpsRecord *
+gst_h263rps_record_new (const gchar * end, const gchar * folder, guint number, GError ** error)
 {
+  GstH263RpsRecord *record;
   gint kind;
 
-  record->is_kept = TRUE;
-  record->held = 0;
-  record->folder = g_strdup (folder);
   if (g_mkdir_with_parents (folder, 0777) != 0) {
     gint fault = errno;
 
     g_set_error (error, G_FILE_ERROR, g_file_error_from_errno (fault), "%s: %s", folder,
         g_strerror (fault));
-    stop (record, fault);
-    return FALSE;
+    return NULL;
   }
+  record = g_new0 (GstH263RpsRecord, 1);
+  record->end = g_strdup (end);
+  record->folder = g_strdup (folder);
   for (kind = 0; kind < GST_H263RPS_RECORD_FILES; kind++) {
-    if (!keep_kind (record, kind, number, error)) {
-      stop (record, EIO);
-      return FALSE;
+    if (!open_kind (record, kind, number, error)) {
+      gst_h263rps_record_free (record);
+      return NULL;
     }
   }
-  return TRUE;
-}
-
-/* How many bytes wait in memory. */
-gsize
-gst_h263rps_record_held (const GstH263RpsRecord * record)
-{
-  return record ? record->held : 0;
+  return record;
 }
 
 /* Why nothing more is written (errno), or 0. */
@@ -221,30 +140,26 @@ gst_h263rps_record_free (GstH263RpsRecord * record)
 {
   gint kind;
 
-  for (kind = 0; kind < GST_H263RPS_RECORD_FILES; kind++) {
-    close_file (&record->files[kind]);
-    close_file (&record->times[kind]);
+  stop (record, 0);
+  for (kind = 0; kind < GST_H263RPS_RECORD_FILES; kind++)
     g_free (record->names[kind]);
-  }
   g_free (record->folder);
   g_free (record->end);
   g_free (record);
 }
 
 static void
-note_written (GstH263RpsRecord * record, gint kind, gsize bytes)
+check_kind (GstH263RpsRecord * record, gint kind)
 {
-  if (!record->is_kept)
-    record->held += bytes;
-  check (record, &record->files[kind]);
-  check (record, &record->times[kind]);
+  check (record, record->files[kind]);
+  check (record, record->times[kind]);
 }
 
 static void
 write_time (GstH263RpsRecord * record, gint kind, GstClockTime when)
 {
-  if (record->times[kind].file)
-    fprintf (record->times[kind].file, "%" G_GUINT64_FORMAT ".%06u\n", when / GST_SECOND,
+  if (record->times[kind])
+    fprintf (record->times[kind], "%" G_GUINT64_FORMAT ".%06u\n", when / GST_SECOND,
         (guint) (when % GST_SECOND / 1000));
 }
 
@@ -253,7 +168,7 @@ void
 gst_h263rps_record_entry (GstH263RpsRecord * record, GstH263RpsRecordFile file, gchar letter,
     const guint8 * body, gsize length, GstClockTime when)
 {
-  FILE *to = record ? record->files[file].file : NULL;
+  FILE *to = record ? record->files[file] : NULL;
 
   if (!to || length > G_MAXUINT16)
     return;
@@ -263,21 +178,21 @@ gst_h263rps_record_entry (GstH263RpsRecord * record, GstH263RpsRecordFile file, 
   if (length)
     fwrite (body, 1, length, to);
   write_time (record, file, when);
-  note_written (record, file, 3 + length);
+  check_kind (record, file);
 }
 
 void
 gst_h263rps_record_head (GstH263RpsRecord * record, gint width, gint height, gint fps_n, gint fps_d)
 {
-  if (record && record->files[GST_H263RPS_RECORD_VIDEO].file)
-    fprintf (record->files[GST_H263RPS_RECORD_VIDEO].file, "YUV4MPEG2 W%d H%d F%d:%d Ip C420jpeg\n",
+  if (record && record->files[GST_H263RPS_RECORD_VIDEO])
+    fprintf (record->files[GST_H263RPS_RECORD_VIDEO], "YUV4MPEG2 W%d H%d F%d:%d Ip C420jpeg\n",
         width, height, fps_n, fps_d);
 }
 
 static void
-flush (GstH263RpsRecord * record, RecordFile * it)
+flush (GstH263RpsRecord * record, FILE * file)
 {
-  if (it->file && fflush (it->file) != 0)
+  if (file && fflush (file) != 0)
     stop (record, errno);
 }
 
@@ -288,12 +203,12 @@ flush_each_second (GstH263RpsRecord * record)
   gint64 now = g_get_monotonic_time ();
   gint kind;
 
-  if (!record->is_kept || now - record->flushed < G_USEC_PER_SEC)
+  if (now - record->flushed < G_USEC_PER_SEC)
     return;
   record->flushed = now;
   for (kind = 0; kind < GST_H263RPS_RECORD_FILES; kind++) {
-    flush (record, &record->files[kind]);
-    flush (record, &record->times[kind]);
+    flush (record, record->files[kind]);
+    flush (record, record->times[kind]);
   }
 }
 
@@ -302,7 +217,7 @@ void
 gst_h263rps_record_frame (GstH263RpsRecord * record, const gchar * mark, const guint8 * samples,
     gsize size, GstClockTime when)
 {
-  FILE *file = record ? record->files[GST_H263RPS_RECORD_VIDEO].file : NULL;
+  FILE *file = record ? record->files[GST_H263RPS_RECORD_VIDEO] : NULL;
 
   if (!file)
     return;
@@ -316,7 +231,7 @@ gst_h263rps_record_frame (GstH263RpsRecord * record, const gchar * mark, const g
   }
   fwrite (samples, 1, size, file);
   write_time (record, GST_H263RPS_RECORD_VIDEO, when);
-  note_written (record, GST_H263RPS_RECORD_VIDEO, size);
+  check_kind (record, GST_H263RPS_RECORD_VIDEO);
   flush_each_second (record);
 }
 
@@ -326,13 +241,13 @@ gst_h263rps_record_line (GstH263RpsRecord * record, GstH263RpsRecordFile file,
 {
   va_list args;
 
-  if (!record || !record->files[file].file)
+  if (!record || !record->files[file])
     return;
   va_start (args, format);
-  vfprintf (record->files[file].file, format, args);
+  vfprintf (record->files[file], format, args);
   va_end (args);
-  fputc ('\n', record->files[file].file);
-  check (record, &record->files[file]);
+  fputc ('\n', record->files[file]);
+  check (record, record->files[file]);
 }
 
 /* Adds a line to the end's list of runs, which tools/record_of_elements reads: the files' names and

@@ -29,14 +29,8 @@ typedef enum
 } GstH263RpsRecordFile;
 
 G_GNUC_INTERNAL
-GstH263RpsRecord * gst_h263rps_record_new   (const gchar * end);
-
-G_GNUC_INTERNAL
-gboolean           gst_h263rps_record_keep  (GstH263RpsRecord * record, const gchar * folder,
+GstH263RpsRecord * gst_h263rps_record_new   (const gchar * end, const gchar * folder,
                                              guint number, GError ** error);
-
-G_GNUC_INTERNAL
-gsize              gst_h263rps_record_held  (const GstH263RpsRecord * record);
 
 G_GNUC_INTERNAL
 gint               gst_h263rps_record_fault (const GstH263RpsRecord * record);

@@ -633,36 +633,33 @@ is_recorded (GstH263RpsRecv * self)
   return is_wanted;
 }
 
-/* A record of the stream that is followed, in the folder. */
+/* A record of the stream that is followed. Where its folder can't be made the call goes on. */
 static GstH263RpsRecord *
 new_record (GstH263RpsRecv * self, const GstH263RpsCall * call)
 {
-  GstH263RpsRecord *record = gst_h263rps_record_new ("recv");
+  GstH263RpsRecord *record = NULL;
   GError *error = NULL;
   gint width, height;
-  gboolean is_kept;
 
+  GST_OBJECT_LOCK (self);
+  if (self->record_location && self->recorded < MOST_RECORDED)
+    record = gst_h263rps_record_new ("recv", self->record_location, ++self->recorded, &error);
+  GST_OBJECT_UNLOCK (self);
+  if (error)
+    note_record_fault (self, error->message);
+  g_clear_error (&error);
   gst_h263rps_size_of_format (call->params.format, &width, &height);
   gst_h263rps_record_head (record, width, height, call->fps_n, call->fps_d);
-  GST_OBJECT_LOCK (self);
-  is_kept = gst_h263rps_record_keep (record, self->record_location ? self->record_location : "",
-      ++self->recorded, &error);
-  GST_OBJECT_UNLOCK (self);
-  if (!is_kept) {
-    note_record_fault (self, error ? error->message : "The folder of the record can't be made.");
-    g_clear_error (&error);
-    g_clear_pointer (&record, gst_h263rps_record_free);
-  }
   return record;
 }
 
-/* A run begins with a play. Where its folder can't be made the call goes on. */
+/* A run begins with a play. */
 static void
 begin_record (GstH263RpsRecv * self, GstH263RpsCall * call, const h263rps_turn * turn,
     GstClockTime when)
 {
   GstH263RpsTape *tape = call->tape;
-  GstH263RpsRecord *record = self->recorded < MOST_RECORDED ? new_record (self, call) : NULL;
+  GstH263RpsRecord *record = new_record (self, call);
 
   gst_h263rps_tape_begin (tape, record, turn->answer.number, when);
   if (record)

@@ -240,11 +240,10 @@ begin_record (GstH263RpsSend * self)
   if (!folder)
     return;
 
-  self->record = gst_h263rps_record_new ("send");
-  if (!gst_h263rps_record_keep (self->record, folder, ++self->recorded, &error)) {
+  self->record = gst_h263rps_record_new ("send", folder, ++self->recorded, &error);
+  if (!self->record) {
     GST_ELEMENT_WARNING (self, RESOURCE, OPEN_WRITE, ("%s", error->message), (NULL));
     g_clear_error (&error);
-    g_clear_pointer (&self->record, gst_h263rps_record_free);
   }
   g_free (folder);
   gst_h263rps_record_head (self->record, self->info.width, self->info.height, self->info.fps_n,
