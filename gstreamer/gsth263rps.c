@@ -1,11 +1,5 @@
 #include "gsth263rps.h"
 
-#include <string.h>
-
-/* The one payload type and the one SSRC of the library's own packets. */
-#define LIBRARY_PT 96
-#define LIBRARY_SSRC "H263"
-
 static const struct
 {
   const gchar *name;
@@ -49,14 +43,6 @@ gst_h263rps_mark_name (guint mark)
   static const gchar *const names[] = { "exact", "patched", "held" };
 
   return mark < G_N_ELEMENTS (names) ? names[mark] : "none";
-}
-
-/* Gives a whole RTP packet the payload type and the SSRC that the library knows. */
-void
-gst_h263rps_label_packet (guint8 * packet)
-{
-  packet[1] = (packet[1] & 0x80) | LIBRARY_PT;
-  memcpy (packet + 8, LIBRARY_SSRC, 4);
 }
 
 /* The id of a stream of this process: GStreamer makes none of its own for an element with two sink

@@ -1,5 +1,4 @@
-/* What both elements share: formats, the meta on shown pictures, and what a packet says of its
- * picture. */
+/* What both elements share: formats, and the meta on shown pictures. */
 #ifndef __GST_H263RPS_H__
 #define __GST_H263RPS_H__
 
@@ -18,29 +17,8 @@ G_BEGIN_DECLS
     "application/x-rtp, media = (string) video, clock-rate = (int) 90000, " \
     "encoding-name = (string) H263-2000"
 
-/* While a speaker or a stream was heard this lately (in ns), no other counts. */
+/* While a speaker was heard this lately (in ns), or a picture of a format complete, no other counts. */
 #define GST_H263RPS_SILENT (GST_SECOND / 2)
-
-typedef struct _GstH263RpsStart GstH263RpsStart;
-
-/**
- * GstH263RpsStart:
- * @format: enum h263rps_format
- * @clock: enum h263rps_clock
- * @temporal_reference: of 8 bits, or of 10 with the custom clock
- *
- * What each packet says of its picture, in the picture header or in the extra one before a later
- * slice (RFC 4629, 5.1).
- */
-struct _GstH263RpsStart
-{
-  guint format;
-  guint clock;
-  guint temporal_reference;
-};
-
-G_GNUC_INTERNAL
-void          gst_h263rps_label_packet   (guint8 * packet);
 
 G_GNUC_INTERNAL
 guint         gst_h263rps_format_of_size (gint width, gint height);

@@ -68,6 +68,9 @@ GST_DEBUG_CATEGORY_STATIC (h263rpsrecv_debug);
 #define ROOM 65536
 /* Three formats, each with two clocks. */
 #define CALLS 6
+/* A rate of the library: so many pictures, in so many seconds. */
+#define MOST_RATE 65536
+#define MOST_SECONDS 4096
 /* A picture is 12:11, as those of H.263 are. */
 #define PAR_N 12
 #define PAR_D 11
@@ -866,7 +869,8 @@ note_heard (GstH263RpsRecv * self, GstH263RpsCall * call, const Arrival * arriva
   keep_packet (self, call, arrival, arrived, now);
   if (answer->kind == H263RPS_COMPLETED)
     note_completed (self, call, arrived, now);
-  if (answer->kind == H263RPS_REFUSED && answer->fault == H263RPS_MISSING_REFERENCE)
+  if (answer->kind == H263RPS_REFUSED && answer->fault == H263RPS_MISSING_REFERENCE
+      && (arrived->run == H263RPS_FOLLOWED || is_silent (self, now)))
     note_intra (self, arrived->source, now);
   note_message (self, arrived->source, &answer->message);
   if (call == self->shown && gst_h263rps_call_followed (call, &source)
@@ -980,8 +984,8 @@ tell_rival (GstH263RpsRecv * self)
   if (!has_rival)
     return;
   if (!is_told)
-    GST_ELEMENT_WARNING (self, STREAM, WRONG_TYPE,
-        ("Another stream comes beside the one that is followed: one of them is forged."),
+    GST_ELEMENT_WARNING (self, STREAM, FAILED,
+        ("Another stream comes beside the one that is followed, which stays on the screen."),
         ("followed %08x, the other one %08x", rivals[0], rivals[1]));
   gst_element_post_message (GST_ELEMENT (self), gst_message_new_element (GST_OBJECT (self),
           gst_structure_new ("h263rps-rival", "ssrc", G_TYPE_UINT, rivals[0],
@@ -1249,6 +1253,11 @@ read_rate (GstH263RpsRecv * self, const gchar * text)
     self->fps_d = 1001;
   } else if (ABS (rate - whole) > 0.001) {
     gst_util_double_to_fraction (rate, &self->fps_n, &self->fps_d);
+    /* As the library has it. */
+    if (self->fps_n > MOST_RATE || self->fps_d > MOST_SECONDS) {
+      self->fps_n = (gint) (rate * 500 + 0.5);
+      self->fps_d = 500;
+    }
   }
 }
 
@@ -1264,18 +1273,26 @@ number_in (const GstStructure * structure, const gchar * name, guint least, guin
   return number;
 }
 
+/* Sessions that were started with another window or rate begin anew. */
 static void
 read_caps (GstH263RpsRecv * self, GstCaps * caps)
 {
   const GstStructure *structure = gst_caps_get_structure (caps, 0);
-  gint pt = 0;
+  gint pt = 0, slots, lead, fps_n, fps_d;
 
   gst_structure_get_int (structure, "payload", &pt);
   g_mutex_lock (&self->lock);
+  slots = self->caps_slots;
+  lead = self->caps_lead;
+  fps_n = self->fps_n;
+  fps_d = self->fps_d;
   self->caps_pt = pt;
   self->caps_slots = number_in (structure, "x-slots", 2, 64);
   self->caps_lead = number_in (structure, "x-lead", 0, 62);
   read_rate (self, gst_structure_get_string (structure, "a-framerate"));
+  if (slots != self->caps_slots || lead != self->caps_lead || fps_n != self->fps_n
+      || fps_d != self->fps_d)
+    forget_calls (self);
   g_mutex_unlock (&self->lock);
 }
 
