@@ -888,6 +888,52 @@ GST_START_TEST (test_a_former_stream_is_followed_again)
 }
 GST_END_TEST;
 
+static void
+pass_forged (Call * forged, Call * call)
+{
+  GstBuffer *buffer;
+
+  capture (forged);
+  while ((buffer = gst_harness_try_pull (forged->out)))
+    gst_harness_push (call->in, buffer);
+}
+
+/* A stranger's pictures of another format are looked at in a silence alone, and shown no longer once
+ * the call is there again. */
+GST_START_TEST (test_a_forged_format)
+{
+  Call call, forged;
+  guint i;
+
+  begin_call (&call);
+  begin_call (&forged);
+  set_size (&forged, QCIF);
+  run_call (&call, 60, 0);
+  for (i = 0; i < 30; i++) {
+    pass_forged (&forged, &call);
+    run_call (&call, 1, 0);
+  }
+  assert_at_least (call.recv, "other-format", 30);
+  assert_count (call.recv, "runs", 1);
+  g_usleep (600000);
+  for (i = 0; i < 60; i++) {
+    pass_forged (&forged, &call);
+    if (i == 20)
+      fail_unless_equals_int (ssrc_of (call.recv), ssrc_of (forged.send));
+    if (i < 30)
+      g_usleep (PERIOD / 1000);
+    else
+      run_call (&call, 1, 0);
+  }
+  drain ();
+  fail_unless_equals_int (ssrc_of (call.recv), ssrc_of (call.send));
+  assert_count (call.recv, "runs", 2);
+  assert_at_least (call.recv, "exact", 90);
+  end_call (&forged);
+  end_call (&call);
+}
+GST_END_TEST;
+
 /* 60,000 datagrams of twelve bytes a second: each costs a count. */
 GST_START_TEST (test_junk_costs_a_count)
 {
@@ -1654,6 +1700,7 @@ elements_suite (void)
   tcase_add_test (chain, test_changed_packets);
   tcase_add_test (chain, test_forged_streams);
   tcase_add_test (chain, test_a_former_stream_is_followed_again);
+  tcase_add_test (chain, test_a_forged_format);
   tcase_add_test (chain, test_junk_costs_a_count);
   tcase_add_test (chain, test_a_way_that_gets_longer);
   tcase_add_loop_test (chain, test_a_step_of_delay, 0, 3);
