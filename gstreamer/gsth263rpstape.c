@@ -2,7 +2,8 @@
 
 #include <string.h>
 
-/* So many bytes of a stream that is tried wait in memory; one of more isn't recorded. */
+/* So many bytes of a stream wait in memory. One that is tried and has more isn't recorded; of one that
+ * is followed they are written then. */
 #define MOST_HELD (8 << 20)
 /* The number of the next play: of a run that begins, and of one whose beginning isn't known. */
 #define NEW_RUN -1
@@ -66,6 +67,7 @@ write_followed (GstH263RpsTape * tape, gboolean is_late)
   while ((entry = g_queue_peek_head (&tape->followed))
       && (!is_late || (entry->letter == 'K' && entry->kind == H263RPS_LATE))) {
     g_queue_pop_head (&tape->followed);
+    tape->waits -= entry->length;
     gst_h263rps_record_entry (tape->record, GST_H263RPS_RECORD_LOG, entry->letter, entry->bytes,
         entry->length, entry->when);
     if (entry->letter == 'K') {
@@ -139,6 +141,9 @@ gst_h263rps_tape_packet (GstH263RpsTape * tape, const h263rps_arrived * arrived,
 {
   if (arrived->run == H263RPS_FOLLOWED) {
     g_queue_push_tail (&tape->followed, new_entry (&arrived->answer, bytes, length, when));
+    tape->waits += length;
+    if (tape->waits > MOST_HELD)
+      write_followed (tape, FALSE);
   } else if (arrived->run == H263RPS_TRIED) {
     begin_trial_if_new (tape, arrived->source, now);
     tape->held += length;
@@ -157,6 +162,7 @@ gst_h263rps_tape_turn (GstH263RpsTape * tape, guint run)
   tape->next = UNKNOWN_RUN;
   if (run == H263RPS_TRIED && tape->held <= MOST_HELD) {
     tape->followed = tape->tried;
+    tape->waits = tape->held;
     g_queue_init (&tape->tried);
     tape->next = NEW_RUN;
   }

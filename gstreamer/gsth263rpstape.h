@@ -25,7 +25,7 @@ struct _GstH263RpsTape
   guint skipped, joined;
 
   GQueue followed, tried;
-  gsize held;
+  gsize waits, held;
   guint32 source;
   GstClockTime last;
   gint64 next;
