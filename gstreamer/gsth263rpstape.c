@@ -142,8 +142,11 @@ gst_h263rps_tape_packet (GstH263RpsTape * tape, const h263rps_arrived * arrived,
   if (arrived->run == H263RPS_FOLLOWED) {
     g_queue_push_tail (&tape->followed, new_entry (&arrived->answer, bytes, length, when));
     tape->waits += length;
-    if (tape->waits > MOST_HELD)
+    if (tape->waits > MOST_HELD) {
       write_followed (tape, FALSE);
+      if (tape->next == NEW_RUN)
+        tape->next = UNKNOWN_RUN;
+    }
   } else if (arrived->run == H263RPS_TRIED) {
     begin_trial_if_new (tape, arrived->source, now);
     tape->held += length;
