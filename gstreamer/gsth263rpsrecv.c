@@ -912,8 +912,6 @@ static void
 note_arrived (GstH263RpsRecv * self, GstH263RpsCall * call, const Arrival * arrival,
     const h263rps_arrived * arrived, GstClockTime now)
 {
-  if (arrived->rival)
-    note_rival (self, call, arrival->ssrc);
   if (arrived->verdict == H263RPS_HEARD)
     note_heard (self, call, arrival, arrived, now);
   else if (arrived->verdict == H263RPS_DROPPED)
@@ -929,6 +927,8 @@ hand_in (GstH263RpsRecv * self, GstH263RpsCall * call, const Arrival * arrival,
 {
   memset (arrived, 0, sizeof *arrived);
   h263rps_session_arrival (&call->session, self->room, arrival->length, now, arrived);
+  if (arrived->rival)
+    note_rival (self, call, arrival->ssrc);
   if (arrived->verdict != H263RPS_AHEAD)
     return;
   while (play_next (self, call, now));
