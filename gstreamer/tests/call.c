@@ -7,12 +7,14 @@
  *   d1, d2       srtpdec elements, which are given --key
  *   ssend, srecv rtpsession elements that carry the messages (--session)
  *   caps         a capsfilter (--switch)
+ *   way          netsim elements (way0, way1) whose delay changes (--step)
  *
  *   --loss SHARE --burst N --seed N   what `line` and `back` lose, after Gilbert
  *   --session              the messages go by sessions
  *   --cycles N             N times SECONDS, with a way to NULL, READY or PAUSED between
  *   --flush                a flush of the receiver at half time
  *   --switch CAPS          the capsfilter gets these caps at half time
+ *   --step MS              packets take this long on their way, both ways, from half time on
  *   --bitrate N            the sender gets this bitrate at half time
  *   --intra                an intra picture is asked for at half time, from downstream
  *   --key HEX              30 bytes
@@ -38,7 +40,7 @@ typedef struct
 } Line;
 
 static gdouble loss = 0, burst = 1;
-static gint seed = 1, cycles = 1, bitrate = 0;
+static gint seed = 1, cycles = 1, bitrate = 0, step = 0;
 static gboolean by_session, is_flushed, asks_intra, by_psnr;
 static gchar *new_caps, *key, *shown_name, *captured_name;
 
@@ -51,6 +53,7 @@ static GOptionEntry options[] = {
   {"flush", 0, 0, G_OPTION_ARG_NONE, &is_flushed, NULL, NULL},
   {"switch", 0, 0, G_OPTION_ARG_STRING, &new_caps, NULL, NULL},
   {"bitrate", 0, 0, G_OPTION_ARG_INT, &bitrate, NULL, NULL},
+  {"step", 0, 0, G_OPTION_ARG_INT, &step, NULL, NULL},
   {"intra", 0, 0, G_OPTION_ARG_NONE, &asks_intra, NULL, NULL},
   {"key", 0, 0, G_OPTION_ARG_STRING, &key, NULL, NULL},
   {"shown", 0, 0, G_OPTION_ARG_STRING, &shown_name, NULL, NULL},
@@ -333,10 +336,26 @@ ask_for_intra (void)
   gst_object_unref (element);
 }
 
+static void
+step_delay (const gchar * name)
+{
+  GstElement *element = named (name);
+
+  if (!element)
+    return;
+  g_object_set (element, "min-delay", step, "max-delay", step, NULL);
+  gst_object_unref (element);
+}
+
 static gboolean
 on_half (gpointer data)
 {
   GstElement *element;
+
+  if (step) {
+    step_delay ("way0");
+    step_delay ("way1");
+  }
 
   if (is_flushed)
     flush_receiver ();
