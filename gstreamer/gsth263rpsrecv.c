@@ -1749,9 +1749,9 @@ gst_h263rps_recv_class_init (GstH263RpsRecvClass * klass)
   /**
    * GstH263RpsRecv:latency:
    *
-   * How long after the earliest arrival a picture is played: what the network's jitter may be. The
-   * receiver takes a lead that holds it, and slots for that lead and the sender's window. Where 64
-   * slots don't hold both, it posts an error as soon as the caps come.
+   * How long after the earliest arrival a picture is played: what the network's jitter may be. One of
+   * 0 counts as 1 ms. The receiver takes a lead that holds it, and slots for that lead and the
+   * sender's window. Where 64 slots don't hold both, it posts an error as soon as the caps come.
    */
   g_object_class_install_property (object_class, PROP_LATENCY,
       g_param_spec_uint ("latency", "Latency",
