@@ -1364,6 +1364,52 @@ GST_START_TEST (test_a_record_without_room)
 }
 GST_END_TEST;
 
+static guint
+lines_of (const gchar * folder, const gchar * name)
+{
+  gchar *path = g_build_filename (folder, name, NULL), *text = NULL;
+  guint count = 0;
+  gsize i, length;
+
+  fail_unless (g_file_get_contents (path, &text, &length, NULL), "no %s", path);
+  for (i = 0; i < length; i++)
+    count += text[i] == '\n';
+  g_free (text);
+  g_free (path);
+  return count;
+}
+
+/* Each stream that is followed has a record, with a line for each of its pictures and the last one;
+ * one that is followed again has none of its pictures from then on. */
+GST_START_TEST (test_records_of_two_streams)
+{
+  gchar *folder = g_dir_make_tmp ("h263rps-XXXXXX", NULL);
+  Call call, forged;
+  guint i, first;
+
+  begin_call (&call);
+  begin_call (&forged);
+  g_object_set (call.recv, "record-location", folder, NULL);
+  run_call (&call, 90, 0);
+  g_usleep (600000);
+  for (i = 0; i < 50; i++) {
+    pass_forged (&forged, &call);
+    g_usleep (PERIOD / 1000);
+  }
+  run_call (&call, 40, 0);
+  drain ();
+  fail_unless_equals_int (ssrc_of (call.recv), ssrc_of (call.send));
+  first = lines_of (folder, "recv.txt");
+  end_call (&call);
+  end_call (&forged);
+  fail_unless (first > 60 && first <= 91, "%u lines", first);
+  fail_unless_equals_int (lines_of (folder, "recv.runs"), 2);
+  fail_unless_equals_int (lines_of (folder, "recv.txt"), first);
+  fail_unless (lines_of (folder, "recv-2.txt") >= 1);
+  g_free (folder);
+}
+GST_END_TEST;
+
 static void
 assert_told (GstBus * bus, const gchar * part)
 {
@@ -1709,6 +1755,7 @@ elements_suite (void)
   tcase_add_test (chain, test_a_rival_is_told);
   tcase_add_test (chain, test_junk_at_a_high_rate);
   tcase_add_test (chain, test_a_record_without_room);
+  tcase_add_test (chain, test_records_of_two_streams);
   tcase_add_test (chain, test_what_the_caps_say);
   tcase_add_test (chain, test_an_impossible_pair);
   tcase_add_test (chain, test_own_lead);
