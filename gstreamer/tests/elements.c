@@ -1410,6 +1410,92 @@ GST_START_TEST (test_records_of_two_streams)
 }
 GST_END_TEST;
 
+/* ---- all at once ---- */
+
+/* One packet of ten is lost, one comes twice, and one of twenty is changed in a bit. */
+static void
+pass_badly (GstHarness * in, GstBuffer * buffer, GRand * rand)
+{
+  guint drawn = g_rand_int_range (rand, 0, 100);
+  GstMapInfo map;
+
+  if (drawn < 10) {
+    gst_buffer_unref (buffer);
+    return;
+  }
+  if (drawn < 20)
+    gst_harness_push (in, gst_buffer_copy_deep (buffer));
+  if (drawn < 25) {
+    buffer = gst_buffer_make_writable (buffer);
+    gst_buffer_map (buffer, &map, GST_MAP_READWRITE);
+    map.data[g_rand_int_range (rand, 0, map.size)] ^= 1 << g_rand_int_range (rand, 0, 8);
+    gst_buffer_unmap (buffer, &map);
+  }
+  gst_harness_push (in, buffer);
+}
+
+static void
+flush (Call * call)
+{
+  GstSegment segment;
+
+  gst_harness_push_event (call->in, gst_event_new_flush_start ());
+  gst_harness_push_event (call->in, gst_event_new_flush_stop (TRUE));
+  gst_segment_init (&segment, GST_FORMAT_TIME);
+  gst_harness_push_event (call->in, gst_event_new_segment (&segment));
+}
+
+/* Three senders, one of another format, fall silent now and then, and all are heard at one receiver,
+ * which is flushed at times. What it records in the folder that RECORDS names is its library's own
+ * (tests/recipes). */
+GST_START_TEST (test_a_mixture)
+{
+  GRand *rand = g_rand_new_with_seed (77);
+  const gchar *named = g_getenv ("RECORDS");
+  gchar *folder = named ? g_strdup (named) : g_dir_make_tmp ("h263rps-XXXXXX", NULL);
+  gint64 quiet[3] = { 0 };
+  GstBuffer *buffer;
+  Call calls[3];
+  guint i, k;
+
+  for (k = 0; k < 3; k++)
+    begin_call (&calls[k]);
+  set_size (&calls[2], QCIF);
+  g_object_set (calls[0].recv, "latency", 150, "record-location", folder, NULL);
+  for (i = 0; i < 2000; i++) {
+    for (k = 0; k < 3; k++) {
+      gint64 now = g_get_monotonic_time ();
+
+      if (g_rand_int_range (rand, 0, 100) == 0)
+        quiet[k] = now + g_rand_int_range (rand, 0, 1500000);
+      if (now < quiet[k])
+        continue;
+      capture (&calls[k]);
+      if (k == 0 && calls[0].captured == 1)
+        pass_caps (&calls[0]);
+      while ((buffer = gst_harness_try_pull (calls[k].out)))
+        pass_badly (calls[0].in, buffer, rand);
+    }
+    while ((buffer = gst_harness_try_pull (calls[0].said))) {
+      for (k = 0; k < 3; k++)
+        gst_harness_push (calls[k].back, gst_buffer_ref (buffer));
+      gst_buffer_unref (buffer);
+    }
+    while ((buffer = gst_harness_try_pull (calls[0].in)))
+      gst_buffer_unref (buffer);
+    g_usleep (5000);
+    if (g_rand_int_range (rand, 0, 700) == 0)
+      flush (&calls[0]);
+  }
+  assert_at_least (calls[0].recv, "exact", 300);
+  assert_at_least (calls[0].recv, "runs", 3);
+  for (k = 0; k < 3; k++)
+    end_call (&calls[k]);
+  g_free (folder);
+  g_rand_free (rand);
+}
+GST_END_TEST;
+
 static void
 assert_told (GstBus * bus, const gchar * part)
 {
@@ -1756,6 +1842,7 @@ elements_suite (void)
   tcase_add_test (chain, test_junk_at_a_high_rate);
   tcase_add_test (chain, test_a_record_without_room);
   tcase_add_test (chain, test_records_of_two_streams);
+  tcase_add_test (chain, test_a_mixture);
   tcase_add_test (chain, test_what_the_caps_say);
   tcase_add_test (chain, test_an_impossible_pair);
   tcase_add_test (chain, test_own_lead);
