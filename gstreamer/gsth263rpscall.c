@@ -57,6 +57,7 @@ gst_h263rps_call_turn (GstH263RpsCall * call, guint run)
 {
   call->next = -1;
   memset (call->captures, 0, sizeof call->captures);
+  call->has_last = FALSE;
   if (call->tape)
     gst_h263rps_tape_turn (call->tape, run);
 }
@@ -114,14 +115,21 @@ gst_h263rps_call_note_time (GstH263RpsCall * call, guint reference, guint32 time
   call->captures[reference % GST_H263RPS_REFERENCES].is_known = TRUE;
 }
 
-/* The timestamp of a picture that is played, once: none where nothing of it came. */
+/* The timestamp of a picture that is played: where nothing of it came, by the one before. */
 gboolean
 gst_h263rps_call_take_time (GstH263RpsCall * call, guint32 number, guint32 * timestamp)
 {
   guint reference = number % (call->params.clock == H263RPS_CUSTOM_CLOCK ? 1024 : 256);
-  gboolean is_known = call->captures[reference].is_known;
+  guint32 apart = number - call->last;
 
-  *timestamp = call->captures[reference].timestamp;
-  call->captures[reference].is_known = FALSE;
-  return is_known;
+  if (call->captures[reference].is_known) {
+    call->captures[reference].is_known = FALSE;
+    call->last = number;
+    call->last_timestamp = call->captures[reference].timestamp;
+    call->has_last = TRUE;
+    apart = 0;
+  }
+  *timestamp = call->last_timestamp
+      + gst_util_uint64_scale (apart, (guint64) 90000 * call->fps_d, call->fps_n);
+  return call->has_last;
 }

@@ -44,6 +44,8 @@ struct _GstH263RpsCall
     guint32 timestamp;
     gboolean is_known;
   } captures[GST_H263RPS_REFERENCES];
+  guint32 last, last_timestamp;
+  gboolean has_last;
   GstBufferPool *pool;
 };
 

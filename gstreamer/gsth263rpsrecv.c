@@ -788,7 +788,10 @@ play_next (GstH263RpsRecv * self, GstH263RpsCall * call, GstClockTime now)
   if (turn.run == H263RPS_FOLLOWED) {
     h263rps_session_shown (&call->session, &shown);
     /* It began anew, in the silence before or since nothing came in time. */
-    self->counts.runs += call->next >= 0 && turn.answer.number != call->next;
+    if (call->next >= 0 && turn.answer.number != call->next) {
+      self->counts.runs++;
+      call->has_last = FALSE;
+    }
     call->next = (gint64) turn.answer.number + 1;
     if (call == self->shown)
       show_picture (self, call, &turn, &shown, due ? due : now);
