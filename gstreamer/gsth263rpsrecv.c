@@ -855,8 +855,8 @@ keep_packet (GstH263RpsRecv * self, GstH263RpsCall * call, const Arrival * arriv
     gst_h263rps_tape_packet (call->tape, arrived, self->room, arrival->length, now,
         running_time_of (self, now));
   }
-  if (arrived->run == H263RPS_FOLLOWED && self->reception.has_info
-      && read_start (self, arrival, &start))
+  if (arrived->run == H263RPS_FOLLOWED && arrived->answer.kind <= H263RPS_COMPLETED
+      && self->reception.has_info && read_start (self, arrival, &start))
     gst_h263rps_call_note_time (call, start.temporal_reference, arrival->timestamp);
 }
 
