@@ -866,6 +866,7 @@ note_heard (GstH263RpsRecv * self, GstH263RpsCall * call, const Arrival * arriva
     const h263rps_arrived * arrived, GstClockTime now)
 {
   const h263rps_answer *answer = &arrived->answer;
+  gboolean is_shown;
   guint32 source;
 
   self->pt = arrival->pt;
@@ -876,11 +877,12 @@ note_heard (GstH263RpsRecv * self, GstH263RpsCall * call, const Arrival * arriva
       && (arrived->run == H263RPS_FOLLOWED || is_silent (self, now)))
     note_intra (self, arrived->source, now);
   note_message (self, arrived->source, &answer->message);
-  if (call == self->shown && gst_h263rps_call_followed (call, &source)
-      && source == arrived->source) {
-    self->counts.heard[answer->kind]++;
+  is_shown = call == self->shown && gst_h263rps_call_followed (call, &source)
+      && source == arrived->source;
+  /* The first picture's packets count before anything is followed. */
+  self->counts.heard[answer->kind] += is_shown || !self->shown;
+  if (is_shown)
     note_reception (self, arrival, now);
-  }
   wake (self);
 }
 
