@@ -625,29 +625,30 @@ check_window (GstH263RpsRecv * self)
 
 /* ---- what is recorded ---- */
 
-static gboolean
-is_recorded (GstH263RpsRecv * self)
+/* The folder, or NULL. */
+static gchar *
+record_folder (GstH263RpsRecv * self)
 {
-  gboolean is_wanted;
+  gchar *folder;
 
   GST_OBJECT_LOCK (self);
-  is_wanted = self->record_location != NULL;
+  folder = g_strdup (self->record_location);
   GST_OBJECT_UNLOCK (self);
-  return is_wanted;
+  return folder;
 }
 
 /* A record of the stream that is followed. Where its folder can't be made the call goes on. */
 static GstH263RpsRecord *
 new_record (GstH263RpsRecv * self, const GstH263RpsCall * call)
 {
+  gchar *folder = record_folder (self);
   GstH263RpsRecord *record = NULL;
   GError *error = NULL;
   gint width, height;
 
-  GST_OBJECT_LOCK (self);
-  if (self->record_location && self->recorded < MOST_RECORDED)
-    record = gst_h263rps_record_new ("recv", self->record_location, ++self->recorded, &error);
-  GST_OBJECT_UNLOCK (self);
+  if (folder && self->recorded < MOST_RECORDED)
+    record = gst_h263rps_record_new ("recv", folder, ++self->recorded, &error);
+  g_free (folder);
   if (error)
     note_record_fault (self, error->message);
   g_clear_error (&error);
@@ -698,6 +699,7 @@ begin_call (GstH263RpsRecv * self, const h263rps_start * start)
   h263rps_params params = { 0 };
   GstH263RpsCall *call;
   guint32 fault;
+  gchar *folder;
 
   /* What can't be was told when the caps came. */
   if (!gst_h263rps_window_own (&window, wait_of (self), self->fps_n, self->fps_d)
@@ -712,8 +714,10 @@ begin_call (GstH263RpsRecv * self, const h263rps_start * start)
     self->call_fault = fault;
     return NULL;
   }
-  if (is_recorded (self))
+  folder = record_folder (self);
+  if (folder)
     call->tape = gst_h263rps_tape_new ();
+  g_free (folder);
   GST_INFO_OBJECT (self, "a session of format %s, slots %u, lead %u",
       gst_h263rps_format_name (start->format), window.slots, window.lead);
   return call;
