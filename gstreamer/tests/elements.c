@@ -1488,7 +1488,7 @@ GST_START_TEST (test_a_mixture)
       flush (&calls[0]);
   }
   assert_at_least (calls[0].recv, "exact", 300);
-  assert_at_least (calls[0].recv, "runs", 3);
+  assert_at_least (calls[0].recv, "runs", 2);
   for (k = 0; k < 3; k++)
     end_call (&calls[k]);
   g_free (folder);
