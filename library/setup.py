@@ -14,7 +14,7 @@ from wheel.bdist_wheel import bdist_wheel
 
 HERE = Path(__file__).resolve().parent
 CHANGELOG = HERE.parent / "CHANGELOG.md"
-LIBRARY = Path(os.environ.get("H263RPS_BUILD", HERE / "build")) / "libh263rps.so.2"
+LIBRARY = Path(os.environ.get("H263RPS_BUILD", HERE / "build")) / "libh263rps.so.3"
 UNPACKED = (HERE / "PKG-INFO").exists()
 
 

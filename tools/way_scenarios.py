@@ -1,5 +1,5 @@
 """Streams whose way to the receiver changes, in discrete time: what a rule about the times of plays has to bear.
-tools/timing_tests.py and library/tests/playout.py play them by the rules in Python and in C."""
+tools/timing_tests.py and library/tests/playout.py play them by the rules in Python and in JavaScript."""
 
 import random
 from collections import Counter

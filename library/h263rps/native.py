@@ -188,8 +188,8 @@ _loaded: ctypes.CDLL | None = None
 
 def _found() -> str:
     own = Path(__file__).resolve().parent
-    beside = (own / "libh263rps.so.2", own.parent / "build" / "libh263rps.so")
-    return next((str(it) for it in beside if it.exists()), "libh263rps.so.2")
+    beside = (own / "libh263rps.so.3", own.parent / "build" / "libh263rps.so")
+    return next((str(it) for it in beside if it.exists()), "libh263rps.so.3")
 
 
 def library() -> ctypes.CDLL:

@@ -30,7 +30,7 @@
 #include <stdint.h>
 
 /* The version of this header: 10,000 * major + 100 * minor. h263rps_version() has the library's. */
-#define H263RPS_VERSION 10400
+#define H263RPS_VERSION 20000
 
 #ifdef __cplusplus
 extern "C" {

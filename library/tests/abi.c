@@ -1,4 +1,4 @@
-/* What programs that were compiled with the header of 1.3 rely on, the first release with libh263rps.so.2: they run with
+/* What programs that were compiled with the header of 2.0 rely on, the first release with libh263rps.so.3: they run with
  * each later library of this soname. `.ci/library` compiles this file with the header of today, and asks the shared
  * library for each function named here. So a struct, a number or a function that is another one isn't compiled, or not
  * found: then the soname grows (docs/LIBRARY.md, "Versions"). At a release what is new joins the list. */
@@ -184,6 +184,58 @@ IS(H263RPS_MESSAGE_PAIR == 5);
 IS(H263RPS_SSRC == 0x48323633u);
 IS(H263RPS_PAYLOAD_TYPE == 96u);
 
+/* ---- a session ------------------------------------------------------------------------------ */
+
+AT(h263rps_session, kind, 0, 4);
+AT(h263rps_session, at, 8, 8);
+IS(sizeof(h263rps_session) == 16);
+
+AT(h263rps_timing, rate, 0, 4);
+AT(h263rps_timing, second, 4, 4);
+AT(h263rps_timing, wait, 8, 8);
+IS(sizeof(h263rps_timing) == 16);
+
+AT(h263rps_arrived, verdict, 0, 4);
+AT(h263rps_arrived, cause, 4, 4);
+AT(h263rps_arrived, run, 8, 4);
+AT(h263rps_arrived, source, 12, 4);
+AT(h263rps_arrived, ahead, 16, 4);
+AT(h263rps_arrived, rival, 20, 4);
+AT(h263rps_arrived, answer, 24, 32);
+IS(sizeof(h263rps_arrived) == 56);
+
+AT(h263rps_turn, plays, 0, 4);
+AT(h263rps_turn, run, 4, 4);
+AT(h263rps_turn, source, 8, 4);
+AT(h263rps_turn, answer, 12, 32);
+IS(sizeof(h263rps_turn) == 44);
+
+AT(h263rps_session_counts, taken, 0, 8);
+AT(h263rps_session_counts, dropped, 8, 48);
+AT(h263rps_session_counts, played, 56, 24);
+IS(sizeof(h263rps_session_counts) == 80);
+
+IS(H263RPS_NO_STREAM == 14);
+IS(H263RPS_PARAM_RATE == 13);
+IS(H263RPS_PARAM_WAIT == 14);
+
+IS(H263RPS_DROPPED == 0);
+IS(H263RPS_NO_PLACE == 1);
+IS(H263RPS_AHEAD == 2);
+IS(H263RPS_HEARD == 3);
+
+IS(H263RPS_LONG == 1);
+IS(H263RPS_MALFORMED == 2);
+IS(H263RPS_OTHER_PICTURES == 3);
+IS(H263RPS_TOO_FAST == 4);
+IS(H263RPS_OTHER_STREAM == 5);
+
+IS(H263RPS_FOLLOWED == 0);
+IS(H263RPS_FORMER == 1);
+IS(H263RPS_TRIED == 2);
+
+IS(H263RPS_NEVER == UINT64_MAX);
+
 /* ---- functions ------------------------------------------------------------------------------- */
 
 #ifdef __cplusplus
@@ -222,6 +274,16 @@ uint32_t h263rps_raw_sender_sent(h263rps_end *end, uint32_t *count);
 uint32_t h263rps_raw_sender_known(h263rps_end *end, uint32_t *count);
 uint32_t h263rps_raw_sender_statistics(h263rps_end *end, h263rps_statistics *statistics);
 uint32_t h263rps_raw_sender_finish(h263rps_end *end);
+uint32_t h263rps_raw_session_start(h263rps_session *session, const h263rps_params *params,
+                                   const h263rps_timing *timing, uint32_t *fault);
+uint32_t h263rps_raw_session_arrival(h263rps_session *session, const uint8_t *bytes, size_t length,
+                                     uint64_t now, h263rps_arrived *arrived);
+uint32_t h263rps_raw_session_due(h263rps_session *session, uint64_t *due);
+uint32_t h263rps_raw_session_play(h263rps_session *session, uint64_t now, h263rps_turn *turn);
+uint32_t h263rps_raw_session_shown(h263rps_session *session, h263rps_lent *lent);
+uint32_t h263rps_raw_session_source(h263rps_session *session, uint32_t run, uint32_t *source);
+uint32_t h263rps_raw_session_statistics(h263rps_session *session, h263rps_session_counts *counts);
+uint32_t h263rps_raw_session_finish(h263rps_session *session);
 #ifdef __cplusplus
 }
 #endif

@@ -1,6 +1,6 @@
 #!/usr/bin/env python3
-"""playout.py PROGRAM [SEEDS]: the rules of tools/calltools (numbers.py, playout.py) and those of h263rps_playout.h,
-which PROGRAM (playout.c) answers by, over the same random arrivals: the same numbers, and the same times to a
+"""playout.py PROGRAM [SEEDS]: the rules of tools/calltools (numbers.py, playout.py) and those of the page, which PROGRAM
+(web/tests/playout.mjs) answers by, over the same random arrivals: the same numbers, and the same times to a
 microsecond. And by the latter no way to the receiver freezes a call (tools/way_scenarios.py)."""
 
 import random

@@ -1,6 +1,5 @@
 #!/usr/bin/env node
-/* Answers lines of standard input by playout.js, as library/tests/playout.c does by the companion in C, for
-   library/tests/playout.py. */
+/* Answers lines of standard input by playout.js, for library/tests/playout.py. */
 
 import { createInterface } from "node:readline";
 import { Numbers, Playout } from "../src/playout.js";
