@@ -1,0 +1,46 @@
+-- What is kept of all that happened.
+use Rattle.std.specs.Prelude.{ℕ, ◌+◌, List, [], ◌∷◌, Option, Some, None}
+use Rattle.packet_gaps.specs.declared.gap.Gap.{Gap}
+use Rattle.packet_gaps.specs.declared.moment.Moment.{Moment}
+use Rattle.packet_gaps.specs.Asking.{after_asking}
+use Rattle.packet_gaps.specs.Missing.{after_packet, after_play, newest_after_packet, number_of}
+
+-- the newest packet's number, and the gaps, as `Gaps` has them
+pub record Kept : Type 0 where
+  pub newest : Option ℕ
+  pub gaps : List Gap
+
+-- a packet came of this picture; the pictures before this one were played; it was asked once what to
+-- ask for
+pub data Event : Type 0 where
+  Came : (sequence picture : ℕ) → Event
+  Played : (next : ℕ) → Event
+  Asked : (m : Moment) → Event
+
+-- as each call's contract has it
+abbrev pub after : Kept → Event → Kept
+after k (Came sequence picture) =
+    record {
+      newest = newest_after_packet k.newest sequence;
+      gaps = after_packet k.newest sequence picture k.gaps;
+    }
+after k (Played next) = record { newest = k.newest; gaps = after_play next k.gaps }
+after k (Asked m) = record { newest = k.newest; gaps = after_asking m k.newest k.gaps }
+
+-- after these events, the newest first
+abbrev pub kept_of : List Event → Kept
+kept_of [] = record { newest = None; gaps = [] }
+kept_of (e ∷ past) = after (kept_of past) e
+
+-- ---- the packets that came
+
+abbrev pub number_after : Option ℕ → ℕ → ℕ
+number_after None sequence = 65536 + sequence
+number_after (Some newest) sequence = number_of newest sequence
+
+-- their numbers, counted on
+abbrev pub came_of : List Event → List ℕ
+came_of [] = []
+came_of (Came sequence picture ∷ past) = number_after (kept_of past).newest sequence ∷ came_of past
+came_of (Played next ∷ past) = came_of past
+came_of (Asked m ∷ past) = came_of past

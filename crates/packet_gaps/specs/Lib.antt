@@ -1,0 +1,4 @@
+pub mod Missing
+pub mod Asking
+pub mod Kept
+pub mod Laws

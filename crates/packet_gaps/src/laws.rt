@@ -1,0 +1,22 @@
+//! Laws of the gaps, over the definitions alone.
+ghost use Rattle.packet_gaps.specs.Laws.{Apart, Few, InTime, Missing};
+
+/// No packet with a gap's number came, but one before it did, and one after it.
+pub fn missing()
+    ensures { Missing }
+{}
+
+/// There are 64 gaps at most.
+pub fn few()
+    ensures { Few }
+{}
+
+/// Nothing is asked for that can't come before its picture is due.
+pub fn in_time()
+    ensures { InTime }
+{}
+
+/// Nothing is asked for again within a round trip.
+pub fn apart()
+    ensures { Apart }
+{}
