@@ -6,7 +6,7 @@ use Rattle.std.proofs.lemmas.Bool.{cases_Bool, eqb-true, leb-false, leb-true, lt
 use Rattle.packet_gaps.specs.declared.gap.Gap.{Gap}
 use Rattle.packet_gaps.specs.declared.moment.Moment.{Moment}
 use Rattle.packet_gaps.specs.Asking.{due_of, has_waited, is_in_time, is_named, is_told, may_ask, told_by, told_of}
-use Rattle.packet_gaps.specs.Laws.{ComesInTime, Waited}
+use Rattle.packet_gaps.specs.Laws.{ComesInTime}
 
 three : (a b c : Bool) → cond a (cond b c false) false ≡ true → (b ≡ true) × (c ≡ true)
 three true true c e = (refl, e)
@@ -41,6 +41,11 @@ comes m g e =
       unplayed = ltb-false g.picture m.next p.0;
       comes = leb-true (m.time + m.round_trip) (due_of m g.picture) p.1;
     }
+
+-- it was asked for once at most, and then a round trip ago, or longer
+pub record Waited (m : Moment) (g : Gap) : Type 0 where
+  pub once : g.asked < 2
+  pub apart : 1 ≤ g.asked → m.round_trip ≤ m.time - g.last
 
 pub has_not : (m : Moment) (g : Gap) → has_waited m g ≡ true → Waited m g
 has_not m g e =
@@ -83,11 +88,4 @@ pub in_time : (m : Moment) (newest : Option ℕ) (gaps : List Gap)
 in_time m None gaps = tt
 in_time m (Some newest) gaps =
     told_all (ComesInTime m) m newest gaps (λ g e. comes m g (asked_parts m newest g e).1)
-    (find (may_ask m newest) gaps)
-
-pub apart : (m : Moment) (newest : Option ℕ) (gaps : List Gap)
-    → AllByRecursion (Waited m) (told_of m newest gaps)
-apart m None gaps = tt
-apart m (Some newest) gaps =
-    told_all (Waited m) m newest gaps (λ g e. has_not m g (asked_parts m newest g e).0)
     (find (may_ask m newest) gaps)

@@ -1,3 +1,4 @@
 mod Lists
 mod Choosing
 mod Past
+mod Twice

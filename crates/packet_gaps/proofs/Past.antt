@@ -286,3 +286,15 @@ missing_in came (Some newest) gs s =
 
 pub missing : (past : List Event) → AllByRecursion (λ g. IsMissing (came_of past) g.number) (kept_of past).gaps
 missing past = missing_in (came_of past) (kept_of past).newest (kept_of past).gaps (inside past)
+
+abbrev pub BelowIn : Option ℕ → List Gap → Type 0
+BelowIn None gs = gs ≡ []
+BelowIn (Some newest) gs = AllByRecursion (λ g. g.number < newest) gs
+
+below_in : (came : List ℕ) (o : Option ℕ) (gs : List Gap) → Inside came o gs → BelowIn o gs
+below_in came None gs s = s.0
+below_in came (Some newest) gs s =
+    all_with (λ g. Between came newest g.number) (λ g. g.number < newest) (λ g b. b.below) gs s.1
+
+pub below_newest : (past : List Event) → BelowIn (kept_of past).newest (kept_of past).gaps
+below_newest past = below_in (came_of past) (kept_of past).newest (kept_of past).gaps (inside past)

@@ -1,8 +1,9 @@
 -- What is kept of all that happened.
-use Rattle.std.specs.Prelude.{ℕ, ◌+◌, List, [], ◌∷◌, Option, Some, None}
+use Rattle.std.specs.Prelude.{ℕ, ◌+◌, ◌==◌, Bool, if◌then◌else◌, List, [], ◌∷◌, Option, Some, None}
+use Rattle.std.specs.List.{list_any}
 use Rattle.packet_gaps.specs.declared.gap.Gap.{Gap}
 use Rattle.packet_gaps.specs.declared.moment.Moment.{Moment}
-use Rattle.packet_gaps.specs.Asking.{after_asking}
+use Rattle.packet_gaps.specs.Asking.{after_asking, told_of}
 use Rattle.packet_gaps.specs.Missing.{after_packet, after_play, newest_after_packet, number_of}
 
 -- the newest packet's number, and the gaps, as `Gaps` has them
@@ -44,3 +45,19 @@ came_of [] = []
 came_of (Came sequence picture ∷ past) = number_after (kept_of past).newest sequence ∷ came_of past
 came_of (Played next ∷ past) = came_of past
 came_of (Asked m ∷ past) = came_of past
+
+-- ---- the packets that were asked for
+
+-- this one is among them
+abbrev pub has_number : ℕ → List Gap → Bool
+has_number number gaps = list_any (λ g. g.number == number) gaps
+
+-- when this one was asked for, the last time first
+abbrev pub asked_at : ℕ → List Event → List ℕ
+asked_at number [] = []
+asked_at number (Came sequence picture ∷ past) = asked_at number past
+asked_at number (Played next ∷ past) = asked_at number past
+asked_at number (Asked m ∷ past) =
+    if has_number number (told_of m (kept_of past).newest (kept_of past).gaps)
+    then m.time ∷ asked_at number past
+    else asked_at number past

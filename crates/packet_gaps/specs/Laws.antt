@@ -4,7 +4,7 @@ use Rattle.std.specs.List.{AllByRecursion, list_any}
 use Rattle.packet_gaps.specs.declared.gap.Gap.{Gap}
 use Rattle.packet_gaps.specs.declared.moment.Moment.{Moment}
 use Rattle.packet_gaps.specs.Asking.{due_of, told_of}
-use Rattle.packet_gaps.specs.Kept.{Event, came_of, kept_of}
+use Rattle.packet_gaps.specs.Kept.{Event, asked_at, came_of, has_number, kept_of}
 
 -- no packet with this number came, but one before it and one after it
 pub record IsMissing (came : List ℕ) (number : ℕ) : Type 0 where
@@ -31,12 +31,13 @@ InTime =
     (m : Moment) (newest : Option ℕ) (gaps : List Gap)
     → AllByRecursion (ComesInTime m) (told_of m newest gaps)
 
--- it was asked for once at most, and then a round trip ago, or longer
-pub record Waited (m : Moment) (g : Gap) : Type 0 where
-  pub once : g.asked < 2
-  pub apart : 1 ≤ g.asked → m.round_trip ≤ m.time - g.last
+-- no packet is asked for a third time
+abbrev pub Twice : Type 0
+Twice = (past : List Event) (number : ℕ) → length (asked_at number past) ≤ 2
 
+-- what is asked for was asked for a round trip ago, or longer, if it was
 abbrev pub Apart : Type 0
 Apart =
-    (m : Moment) (newest : Option ℕ) (gaps : List Gap)
-    → AllByRecursion (Waited m) (told_of m newest gaps)
+    (past : List Event) (m : Moment) (number : ℕ)
+    → has_number number (told_of m (kept_of past).newest (kept_of past).gaps) ≡ true
+    → AllByRecursion (λ time. m.round_trip ≤ m.time - time) (asked_at number past)

@@ -19,6 +19,7 @@ pub struct Nack {
 }
 
 /// The packets of a stream that are missing.
+#[derive(Drop)]
 pub struct Gaps {
     // The newest packet's number, counted on.
     newest: Option<u64>,

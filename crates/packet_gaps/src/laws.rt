@@ -1,5 +1,5 @@
 //! Laws of the gaps, over the definitions alone.
-ghost use Rattle.packet_gaps.specs.Laws.{Apart, Few, InTime, Missing};
+ghost use Rattle.packet_gaps.specs.Laws.{Apart, Few, InTime, Missing, Twice};
 
 /// No packet with a gap's number came, but one before it did, and one after it.
 pub fn missing()
@@ -16,7 +16,12 @@ pub fn in_time()
     ensures { InTime }
 {}
 
-/// Nothing is asked for again within a round trip.
+/// No packet is asked for a third time.
+pub fn twice()
+    ensures { Twice }
+{}
+
+/// No packet is asked for again within a round trip.
 pub fn apart()
     ensures { Apart }
 {}

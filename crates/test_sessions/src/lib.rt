@@ -2,6 +2,8 @@
 #![tactic(auto)]
 
 #[cfg(test)]
+mod packet_gaps_tests;
+#[cfg(test)]
 mod playout_times_tests;
 #[cfg(test)]
 mod stream_choice_tests;

@@ -1,4 +1,4 @@
-use Rattle.packet_gaps.proofs.Choosing.{apart}
+use Rattle.packet_gaps.proofs.Twice.{apart}
 use Rattle.packet_gaps.proofs.laws.apart.Goals as goal
 
 pub returns : goal.returns
