@@ -2,6 +2,8 @@
 #![tactic(auto)]
 
 #[cfg(test)]
+mod line_follower_tests;
+#[cfg(test)]
 mod packet_gaps_tests;
 #[cfg(test)]
 mod playout_times_tests;

@@ -1,0 +1,5 @@
+mod Between
+mod Debts
+mod Outliers
+mod Saying
+pub mod Targets

@@ -1,0 +1,10 @@
+pub mod Numbers
+pub mod Trending
+pub mod Losing
+pub mod Owing
+pub mod Table
+pub mod Rating
+pub mod Pacing
+pub mod Following
+pub mod Laws
+pub mod Bucket

@@ -1,0 +1,115 @@
+//! Lines that are followed, picture by picture.
+use line_follower::{Bounds, Follower};
+
+const MILLISECOND: u64 = 1_000_000;
+
+// Ten pictures a second, of 1,800 bytes at first.
+fn start() -> Follower {
+    let bounds = Bounds {
+        first: 1_800,
+        least: 60,
+        most: 999_999,
+        finest: 8,
+        period: 100_000_000,
+    };
+    Follower::start(&bounds, 0)
+}
+
+// A picture of 1,800 bytes goes out, and so many milliseconds later a message about it comes.
+fn send(follower: &mut Follower, number: u32, trip: u64, is_whole: bool) {
+    let at = number as u64 * 100 * MILLISECOND;
+    follower.sent(number, 1_800, 2, at);
+    follower.told(number, is_whole, at + trip % 1_000 * MILLISECOND);
+}
+
+// So many pictures with such a round trip, and the rate after them.
+type Row = (u32, u64, bool, u32);
+
+fn rate_after(follower: &mut Follower, first: u32, row: Row) -> u32 {
+    let (count, trip, is_whole, _) = row;
+    let mut number = first;
+    for _ in 0..count {
+        send(follower, number, trip, is_whole);
+        number = number % 1_000 + 1;
+    }
+    follower.rate()
+}
+
+// The round trip rises with each picture: the line is full, and gets 85 % of what came.
+#[test]
+fn a_full_line(rt: HostRuntime) {
+    let table: [Row; 7] = [
+        (12, 20, true, 21_948),
+        (1, 26, true, 22_466),
+        (1, 32, true, 22_997),
+        (1, 38, true, 23_540),
+        (1, 44, true, 24_096),
+        (1, 50, true, 16_867),
+        (1, 56, true, 16_867),
+    ];
+    let mut follower = start();
+    let mut number = 0;
+    for row in table {
+        assert_eq!(rt; rate_after(&mut follower, number, row), row.3, "{number}");
+        number = number % 1_000 + row.0 % 1_000;
+    }
+}
+
+// One message is late, and the rate grows on.
+#[test]
+fn one_late_message(rt: HostRuntime) {
+    let table: [Row; 4] = [
+        (12, 20, true, 21_948),
+        (2, 20, true, 22_937),
+        (1, 95, true, 23_832),
+        (2, 20, true, 24_498),
+    ];
+    let mut follower = start();
+    let mut number = 0;
+    for row in table {
+        assert_eq!(rt; rate_after(&mut follower, number, row), row.3, "{number}");
+        number = number % 1_000 + row.0 % 1_000;
+    }
+}
+
+// Of eight pictures one is whole: three eighths of the rate are left, after a pause of 200 ms.
+#[test]
+fn most_pictures_are_lost(rt: HostRuntime) {
+    let table: [Row; 3] = [
+        (2, 20, true, 18_000),
+        (6, 20, false, 18_000),
+        (1, 20, false, 6_750),
+    ];
+    let mut follower = start();
+    let mut number = 0;
+    for row in table {
+        assert_eq!(rt; rate_after(&mut follower, number, row), row.3, "{number}");
+        number = number % 1_000 + row.0 % 1_000;
+    }
+    assert!(rt; !follower.has_room(1_019 * MILLISECOND));
+    assert!(rt; follower.has_room(1_020 * MILLISECOND));
+}
+
+// Messages about pictures that weren't sent, and second ones.
+#[test]
+fn messages_that_say_nothing(rt: HostRuntime) {
+    let mut follower = start();
+    let before = rate_after(&mut follower, 0, (8, 20, true, 0));
+    for number in 0..8 {
+        follower.told(number, false, 800 * MILLISECOND);
+        follower.told(number + 256, false, 800 * MILLISECOND);
+    }
+    assert_eq!(rt; (before, follower.rate()), (20_096, 20_096));
+}
+
+// A picture that is ten times too large is made good: the next ones are to be small, and no frame
+// goes out for 0.8 s.
+#[test]
+fn a_large_picture(rt: HostRuntime) {
+    let mut follower = start();
+    follower.sent(0, 18_000, 1, 0);
+    assert_eq!(rt; (follower.size(), follower.wanted()), (1_800, 60));
+    assert_eq!(rt; (follower.quant(), follower.target()), (11, 10_285));
+    assert!(rt; !follower.has_room(801 * MILLISECOND));
+    assert!(rt; follower.has_room(802 * MILLISECOND));
+}
