@@ -8,24 +8,31 @@ export type Clock = "standard" | "custom";
 export type Kind = "taken" | "completed" | "late" | "early" | "repeat" | "refused";
 export type Mark = "exact" | "patched" | "held";
 export type Note = "noted" | "old" | "no message";
+export type Verdict = "dropped" | "no place" | "ahead" | "heard";
+export type Cause = "long" | "malformed" | "other pictures" | "too fast" | "other stream";
+export type Run = "followed" | "former" | "tried";
 export type Group = "bytes" | "other clock" | "header differs" | "missing reference" | "overlap";
 export type Distance = "intra" | "1" | "2" | "3" | "4 to 7" | "8 or more";
 export type Param =
   "quant" | "keep" | "radius" | "limit" | "slots" | "lead" | "messages" | "format" | "clock" | "target";
 export type Status =
   | "not started" | "started" | "other end" | "bad params" | "no memory" | "ended" | "wrong length"
-  | "bad messages" | "no packet" | "short room" | "null" | "too long" | "no start" | "other";
+  | "bad messages" | "no packet" | "short room" | "null" | "too long" | "no start" | "no stream" | "other";
 
 export const FORMATS: Readonly<Record<Format, number>>;
 export const CLOCKS: Readonly<Record<Clock, number>>;
 export const HEARD: readonly Kind[];
 export const MARKS: readonly Mark[];
 export const NOTED: readonly Note[];
+export const VERDICTS: readonly Verdict[];
+/** Those of a dropped datagram, from number 1 on. */
+export const CAUSES: readonly Cause[];
+export const RUNS: readonly Run[];
 export const GROUPS: readonly Group[];
 export const DISTANCES: readonly Distance[];
 export const PARAMS: readonly Param[];
-/** What a start names: a parameter, the number at which a receiver begins, or the struct's size. */
-export const FAULTS: readonly (Param | "number" | "size")[];
+/** What a start names: a parameter, the number at which a receiver begins, the struct's size, or a setting of a session. */
+export const FAULTS: readonly (Param | "number" | "size" | "rate" | "wait")[];
 /** Each status by its number; the first is "ok". */
 export const STATUS: readonly (Status | "ok")[];
 /** What a sender's packets have, and a receiver's must have. */
@@ -154,6 +161,49 @@ export interface Sent {
   noted: Record<Note, number>;
 }
 
+/** When a session's pictures are due: `rate` come in `second` seconds (1), and each waits so many nanoseconds. */
+export interface Timing {
+  rate: number;
+  second?: number;
+  wait: bigint;
+}
+
+/** A session's answer to a datagram. */
+export interface Arrived {
+  verdict: Verdict;
+  /** Why it is dropped. */
+  cause: Cause | null;
+  /** The run that took it, and the SSRC of its stream. */
+  run: Run | null;
+  source: number | null;
+  /** The number of a picture that is ahead. */
+  ahead: number | null;
+  /** Said once a second: another stream comes beside the one that is followed, so one of them is forged. */
+  isRival: boolean;
+  /** The receiver's answer where it is heard; else null, null, 0 and no bytes. */
+  kind: Kind | null;
+  fault: Fault | null;
+  at: number;
+  message: Uint8Array;
+}
+
+/** A picture that a session played. That of the followed run is shown; what else is said is a receiver's. */
+export interface Turn {
+  run: Run;
+  source: number;
+  mark: Mark;
+  message: Uint8Array;
+  number: number;
+  reference: number | null;
+}
+
+/** What a session has counted: datagrams that a run took, the others by their causes, and the followed streams' pictures. */
+export interface Followed {
+  taken: number;
+  dropped: Record<Cause, number>;
+  played: Record<Mark, number>;
+}
+
 /** What a packet says of its picture, before any end takes it. */
 export interface Start {
   format: Format;
@@ -177,7 +227,7 @@ export function packetStart(packet: Bytes): Start;
 /** An RTP packet with another SSRC and payload type, as a new one. */
 export function label(packet: Bytes, ssrc: number, payloadType: number): Uint8Array;
 
-/** An end between its start and its close. */
+/** An end, or a session, between its start and its close. */
 declare class Started {
   /** Gives the memory back. A second one does nothing. */
   close(): void;
@@ -224,4 +274,20 @@ export class Receiver extends Started {
   /** How many pictures were played, those before its start too: the number of the next one. */
   played(): number;
   statistics(): Received;
+}
+
+/** Between a network and a screen. Each time is in nanoseconds of one clock that doesn't go back, and so exact. */
+export class Session extends Started {
+  constructor(params: Params, timing: Timing);
+  /** Takes a datagram that came then, whatever it is. One that is "ahead" is handed in again once nothing is due. */
+  arrival(datagram: Bytes, now: bigint): Arrived;
+  /** When something is due next if nothing comes: 0n where it is at once, and null where nothing is known to be. */
+  due(): bigint | null;
+  /** Plays the next picture that is due by then, one a call; null where none is. */
+  play(now: bigint): Turn | null;
+  /** Lends the followed stream's picture that was played last: a view to be read until the next call of anything here. */
+  shown(): Uint8Array;
+  /** The SSRC of the stream that has this run, the followed one by default; null where none has. */
+  source(run?: Run): number | null;
+  statistics(): Followed;
 }

@@ -14,18 +14,24 @@
  *     const heard = receiver.packet(packet);   // heard.message goes back where it has bytes
  *     const played = receiver.playLent();      // played.picture, played.mark, played.message
  *
- * A picture that is lent is a view of the receiver's own, good until the next call of anything here:
+ *     const session = new Session(Params.of("qcif"), { rate: 30000, second: 1001, wait: 60_000_000n });
+ *     const arrived = session.arrival(datagram, now);   // whatever came; times are BigInts of nanoseconds
+ *     const turn = session.play(now);          // null where nothing is due; session.shown() has the picture
+ *
+ * A picture that is lent is a view of the receiver's or session's own, good until the next call of anything here:
  * read it, and don't write it. All else that a call gives is the caller's.
  * @module
  */
 
-import { Memory, SIZE, bytesOf, counted } from "./memory.js";
+import { LONGEST, Memory, SIZE, bytesOf, counted, longCounted } from "./memory.js";
 import {
-  CLOCKS, DISTANCES, FAULTS, FORMATS, Fault, GROUPS, HEARD, MARKS, MessageFault, NOTED, PARAMS, Refused, STATUS,
+  CAUSES, CLOCKS, DISTANCES, FAULTS, FORMATS, Fault, GROUPS, HEARD, MARKS, MessageFault, NOTED, PARAMS, RUNS, Refused,
+  STATUS, VERDICTS,
 } from "./words.js";
 
 export {
-  CLOCKS, DISTANCES, FAULTS, FORMATS, Fault, GROUPS, HEARD, MARKS, MessageFault, NOTED, PARAMS, Refused, STATUS,
+  CAUSES, CLOCKS, DISTANCES, FAULTS, FORMATS, Fault, GROUPS, HEARD, MARKS, MessageFault, NOTED, PARAMS, RUNS, Refused,
+  STATUS, VERDICTS,
 };
 
 /** What a sender's packets have, and a receiver's must have. */
@@ -222,11 +228,11 @@ const unclosed = new FinalizationRegistry((held) => held.finish());
 
 /** What an end has in memory. It is apart from the end, so that it can be given back without it. */
 class Held {
-  constructor(name) {
+  constructor(name, size) {
     this.name = name;
     this.memory = memory;
-    this.at = memory.taken(SIZE.end, "start");
-    memory.bytes.fill(0, this.at, this.at + SIZE.end);
+    this.at = memory.taken(size, "start");
+    memory.bytes.fill(0, this.at, this.at + size);
   }
 
   /** Ends the end, where it began, and gives all back. A second one does nothing. */
@@ -238,7 +244,7 @@ class Held {
   }
 }
 
-/** An end between its start and its close. */
+/** An end, or a session, between its start and its close. */
 class Started {
   #held;
 
@@ -246,7 +252,7 @@ class Started {
   constructor(name, start, params, ...at) {
     const { structRoom: words, answerRoom: fault } = loaded();
     Params.write(params, words);
-    this.#held = new Held(name);
+    this.#held = new Held(name, SIZE[name] ?? SIZE.end);
     memory.setNumber(fault, 0);
     const status = memory.call(`${name}_${start}`, BigInt(this.#held.at), BigInt(words), ...at, BigInt(fault));
     if (status) {
@@ -257,10 +263,15 @@ class Started {
     unclosed.register(this, this.#held, this);
   }
 
+  /** Calls a function of this end, whose status it answers. */
+  _call(call, name, ...words) {
+    if (!this.#held.at) throw new Refused(call, "not started");
+    return this.#held.memory.call(`${this.#held.name}_${name}`, BigInt(this.#held.at), ...words);
+  }
+
   /** Calls a function of this end; a refusal is thrown under the call's own name. */
   _must(call, name, ...words) {
-    if (!this.#held.at) throw new Refused(call, "not started");
-    must(call, this.#held.memory.call(`${this.#held.name}_${name}`, BigInt(this.#held.at), ...words));
+    must(call, this._call(call, name, ...words));
   }
 
   _count(name) {
@@ -398,14 +409,35 @@ function writeMessages(messages) {
 
 // ---- the receiver -----------------------------------------------------------------------------
 
-/** The end that hears packets and plays a picture at each picture's time. */
-export class Receiver extends Started {
+/** One that lends the picture that it shows. */
+class Lending extends Started {
   #size;
 
+  constructor(name, start, params, ...at) {
+    super(name, start, params, ...at);
+    this.#size = memory.call("picture_size", params.format);
+  }
+
+  /** Lends the picture that is shown: a view to be read until the next call. */
+  shown() {
+    const { answerRoom: at } = memory;
+    this._must("shown", "shown", BigInt(at));
+    const from = memory.long(at);
+    return memory.bytes.subarray(from, from + this.#size);
+  }
+}
+
+/** What a play answers of its picture, at this place. */
+function playedAt(at) {
+  const [kind, , , number, isPredicted, reference] = memory.numbers(at, 6);
+  return { mark: MARKS[kind], message: memory.message(at + 24), number, reference: isPredicted ? reference : null };
+}
+
+/** The end that hears packets and plays a picture at each picture's time. */
+export class Receiver extends Lending {
   /** A receiver whose next picture is the one of this number, up to 1,048,576. */
   constructor(params, number = 0) {
     super("receiver", "start_at", params, counted("number", number));
-    this.#size = memory.call("picture_size", params.format);
   }
 
   /**
@@ -436,17 +468,8 @@ export class Receiver extends Started {
   playLent() {
     const { answerRoom: at } = memory;
     this._must("play", "next", BigInt(at));
-    const [kind, , , number, isPredicted, reference] = memory.numbers(at, 6);
-    const message = memory.message(at + 24);
-    return { mark: MARKS[kind], picture: this.shown(), message, number, reference: isPredicted ? reference : null };
-  }
-
-  /** Lends the picture that is shown: a view to be read until the next call. */
-  shown() {
-    const { answerRoom: at } = memory;
-    this._must("shown", "shown", BigInt(at));
-    const from = memory.long(at);
-    return memory.bytes.subarray(from, from + this.#size);
+    const played = playedAt(at);
+    return { ...played, picture: this.shown() };
   }
 
   /** Begins a call anew at the picture of this number: as after its start, with nothing heard and nothing counted. */
@@ -463,5 +486,104 @@ export class Receiver extends Started {
   statistics() {
     const { packets, bytes, by } = this._counted();
     return { packets, bytes, heard: by(HEARD, 2), faults: by(GROUPS, 8), played: by(MARKS, 13) };
+  }
+}
+
+// ---- the session ------------------------------------------------------------------------------
+
+/** The number by which a refusal says that no stream has a run. */
+const NO_STREAM = STATUS.indexOf("no stream");
+
+/** Puts a session's timing after its parameters, and answers where it is. */
+function timingAt({ rate, second = 1, wait }) {
+  const at = loaded().structRoom + SIZE.params;
+  memory.setNumber(at, counted("rate", rate));
+  memory.setNumber(at + 4, counted("second", second));
+  memory.setLong(at + 8, longCounted("wait", wait));
+  return BigInt(at);
+}
+
+/**
+ * Between a network and a screen: which stream is followed, of which picture a packet is, and when a picture is played.
+ * Each time is a BigInt of nanoseconds, of one clock that doesn't go back: so it is exact, whatever the clock's zero.
+ */
+export class Session extends Lending {
+  /**
+   * With the parameters of both ends; `rate` pictures come in `second` seconds, and each is due `wait` nanoseconds after it
+   * would come on the shortest way of late.
+   * @param {Params} params
+   * @param {import("./h263rps.js").Timing} timing
+   */
+  constructor(params, timing = {}) {
+    super("session", "start", params, timingAt(timing));
+  }
+
+  /**
+   * Takes a datagram that came then, whatever it is. Where `verdict` is "ahead" play until nothing is due, and hand it in
+   * again.
+   * @param {import("./h263rps.js").Bytes} datagram
+   * @param {bigint} now
+   * @returns {import("./h263rps.js").Arrived}
+   */
+  arrival(datagram, now) {
+    const { answerRoom: to } = memory;
+    const then = longCounted("now", now);
+    const call = (at, size) => this._must("arrival", "arrival", at, size, then, BigInt(to));
+    memory.passed(bytesOf("datagram", datagram), call);
+    const [verdict, cause, run, source, ahead, rival, kind, fault, at] = memory.numbers(to, 9);
+    const is = VERDICTS[verdict];
+    const isDropped = is === "dropped";
+    return {
+      verdict: is,
+      cause: isDropped ? CAUSES[cause - 1] : null,
+      run: isDropped ? null : RUNS[run],
+      source: isDropped ? null : source,
+      ahead: is === "ahead" ? ahead : null,
+      isRival: rival !== 0,
+      kind: is === "heard" ? HEARD[kind] : null,
+      fault: Fault.of(fault),
+      at,
+      message: memory.message(to + 48),
+    };
+  }
+
+  /** When something is due next if nothing comes: 0n where it is at once, and null where nothing is known to be. */
+  due() {
+    const { answerRoom: at } = memory;
+    this._must("due", "due", BigInt(at));
+    const due = memory.exactLong(at);
+    return due === LONGEST ? null : due;
+  }
+
+  /**
+   * Plays the next picture that is due by then, one a call; null where none is. `shown` lends it.
+   * @param {bigint} now
+   * @returns {import("./h263rps.js").Turn | null}
+   */
+  play(now) {
+    const { answerRoom: at } = memory;
+    this._must("play", "play", longCounted("now", now), BigInt(at));
+    const [isPlayed, run, source] = memory.numbers(at, 3);
+    return isPlayed ? { run: RUNS[run], source, ...playedAt(at + 12) } : null;
+  }
+
+  /**
+   * The SSRC of the stream that has this run; null where none has.
+   * @param {import("./h263rps.js").Run} run
+   * @returns {number | null}
+   */
+  source(run = "followed") {
+    if (!RUNS.includes(run)) throw new RangeError(`there is no run ${String(run)}`);
+    const { answerRoom: at } = memory;
+    const status = this._call("source", "source", RUNS.indexOf(run), BigInt(at));
+    if (status === NO_STREAM) return null;
+    must("source", status);
+    return memory.number(at);
+  }
+
+  /** What it has counted since its start. */
+  statistics() {
+    const { packets: taken, by } = this._counted();
+    return { taken, dropped: by(CAUSES, 2), played: by(MARKS, 7) };
   }
 }

@@ -9,12 +9,15 @@ import { Refused } from "./words.js";
 /** How many bytes each struct of the header has. */
 export const SIZE = Object.freeze({
   end: 216, params: 32, message: 6, answer: 32, coded: 16, start: 48, lent: 16, reply: 8, statistics: 200,
+  session: 16, timing: 16, arrived: 56, turn: 44, session_counts: 80,
 });
 
 /** Room for a packet of any length that RTP over UDP can have. */
 const LEAST_ROOM = 65536;
 /** Where a struct is put that is handed over or answered: the longest one fits. */
 const STRUCT_ROOM = 256;
+/** The greatest number of 64 bits. */
+export const LONGEST = 2n ** 64n - 1n;
 
 /**
  * Which bytes these are, without a copy; the name is said where they are none.
@@ -45,6 +48,18 @@ export function counted(name, value) {
     throw new TypeError(`${name}: a whole number is wanted`);
   }
   if (value < 0 || value > 0xffffffff) throw new RangeError(`${name}: ${value} is out of its range`);
+  return value;
+}
+
+/**
+ * A whole number from 0 to 2^64 - 1, as a BigInt: the module would cut any other.
+ * @param {string} name
+ * @param {unknown} value
+ * @returns {bigint}
+ */
+export function longCounted(name, value) {
+  if (typeof value !== "bigint") throw new TypeError(`${name}: a BigInt is wanted`);
+  if (value < 0n || value > LONGEST) throw new RangeError(`${name}: ${value} is out of its range`);
   return value;
 }
 
@@ -116,11 +131,20 @@ export class Memory {
 
   /** The number of 64 bits at this place. It is exact up to 2^53. */
   long(at) {
-    return Number(this.#views().words.getBigUint64(at, true));
+    return Number(this.exactLong(at));
+  }
+
+  /** The number of 64 bits at this place, as a BigInt. */
+  exactLong(at) {
+    return this.#views().words.getBigUint64(at, true);
   }
 
   setNumber(at, value) {
     this.#views().words.setUint32(at, value, true);
+  }
+
+  setLong(at, value) {
+    this.#views().words.setBigUint64(at, value, true);
   }
 
   /** A copy of so many bytes. */

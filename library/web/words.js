@@ -24,18 +24,27 @@ export const DISTANCES = words("intra", "1", "2", "3", "4 to 7", "8 or more");
 /** The kinds of an answer to a message. */
 export const NOTED = words("noted", "old", "no message");
 
+/** A session's verdicts on a datagram. */
+export const VERDICTS = words("dropped", "no place", "ahead", "heard");
+
+/** Why a session drops a datagram, from number 1 on. */
+export const CAUSES = words("long", "malformed", "other pictures", "too fast", "other stream");
+
+/** The runs of a session: of the stream that is followed, of one that was followed before, of one that is tried. */
+export const RUNS = words("followed", "former", "tried");
+
 /** The parameters, in the order of their numbers. */
 export const PARAMS = words(
   "quant", "keep", "radius", "limit", "slots", "lead", "messages", "format", "clock", "target",
 );
 
-/** What a start names: a parameter, the number at which a receiver begins, or the struct's size. */
-export const FAULTS = words(...PARAMS, "number", "size");
+/** What a start names: a parameter, the number at which a receiver begins, the struct's size, or a setting of a session. */
+export const FAULTS = words(...PARAMS, "number", "size", "rate", "wait");
 
 /** Why a call was refused, by its number. */
 export const STATUS = words(
   "ok", "not started", "started", "other end", "bad params", "no memory", "ended", "wrong length",
-  "bad messages", "no packet", "short room", "null", "too long", "no start",
+  "bad messages", "no packet", "short room", "null", "too long", "no start", "no stream",
 );
 
 /** What a status means, where its word doesn't say it. */
@@ -52,6 +61,7 @@ export const STATUS_TEXTS = Object.freeze({
   null: "a null pointer",
   "too long": "too great a length",
   "no start": "no start of a packet",
+  "no stream": "no stream has this run",
   other: "no status",
 });
 

@@ -3,7 +3,12 @@
 
 import { createHash } from "node:crypto";
 import { readFileSync, writeSync } from "node:fs";
-import { DISTANCES, GROUPS, HEARD, MARKS, NOTED, Params, Receiver, Refused, Sender, load, packetStart } from "../h263rps.js";
+import {
+  CAUSES, DISTANCES, GROUPS, HEARD, MARKS, NOTED, Params, RUNS, Receiver, Refused, Sender, Session, label, load, packetStart,
+} from "../h263rps.js";
+
+/** The words of each table of counts, in the order of their numbers. */
+const WORDS = { coded: DISTANCES, noted: NOTED, heard: HEARD, faults: GROUPS, played: MARKS, dropped: CAUSES };
 
 const hex = (bytes) => Buffer.from(bytes).toString("hex");
 const bytesOf = (text) => new Uint8Array(Buffer.from(text, "hex"));
@@ -55,7 +60,15 @@ function edited(packet, edits) {
   return made;
 }
 
+/** The packet with another SSRC and another time. */
+function ofStream(packet, source, ticks) {
+  const named = label(packet, Number(source), 96);
+  new DataView(named.buffer).setUint32(4, Number(ticks));
+  return named;
+}
+
 class Run {
+  ends = [];
   frames = [];
   coded = 0;
   packets = [];
@@ -69,11 +82,19 @@ class Run {
   sender(rest) {
     const { format, ...params } = JSON.parse(rest);
     this.sending = new Sender(Params.of(format, params));
+    this.ends.push(this.sending);
   }
 
   receiver(rest) {
     const { format, number = 0, ...params } = JSON.parse(rest);
     this.receiving = new Receiver(Params.of(format, params), number);
+    this.ends.push(this.receiving);
+  }
+
+  session(rest) {
+    const { format, rate, second, wait, ...params } = JSON.parse(rest);
+    this.following = new Session(Params.of(format, params), { rate, second, wait: BigInt(wait) });
+    this.ends.push(this.following);
   }
 
   video(path) {
@@ -128,6 +149,50 @@ class Run {
     this.keep(played.message);
   }
 
+  come(datagram, now) {
+    for (let verdict = "ahead"; verdict === "ahead"; ) {
+      const it = this.following.arrival(datagram, now);
+      verdict = it.verdict;
+      const taken = [it.cause, it.run, it.source, it.ahead].map(orNone);
+      const heard = [orNone(it.kind), it.fault?.number ?? 0, it.at, hex(it.message)];
+      print("arrived", verdict, ...taken, Number(it.isRival), ...heard);
+      this.keep(it.message);
+      this.playDue(now);
+    }
+  }
+
+  playDue(now) {
+    for (let turn = this.following.play(now); turn; turn = this.following.play(now)) {
+      const { run, source, mark, number, reference, message } = turn;
+      print("turn", run, source, mark, number, orNone(reference), hex(message), sumOf(this.following.shown()));
+      this.keep(message);
+    }
+    print("due", ...[this.following.due(), ...RUNS.map((run) => this.following.source(run))].map(orNone));
+  }
+
+  arrive(rest) {
+    const [which, source, ticks, now] = rest.split(" ");
+    const [picture, place] = which.split(".");
+    const packets = this.packets[Number(picture) % this.packets.length];
+    const some = place === "*" ? packets : packets.slice(Number(place), Number(place) + 1);
+    for (const packet of some) this.come(ofStream(packet, source, ticks), BigInt(now));
+  }
+
+  garble(rest) {
+    const [draw, source, ticks, now, ...edits] = rest.split(" ");
+    const packets = this.packets.at(-1);
+    this.come(edited(ofStream(packets[Number(draw) % packets.length], source, ticks), edits), BigInt(now));
+  }
+
+  datagram(rest) {
+    const [now, text] = rest.split(" ");
+    this.come(bytesOf(text), BigInt(now));
+  }
+
+  turn(rest) {
+    this.playDue(BigInt(rest));
+  }
+
   back(rest) {
     this.note(this.said[Number(rest)]);
   }
@@ -161,11 +226,8 @@ class Run {
   }
 
   counts() {
-    const sent = this.sending.statistics();
-    const received = this.receiving.statistics();
-    const of = (counts, words) => words.map((word) => counts[word]);
-    print("counted", sent.packets, sent.bytes, ...of(sent.coded, DISTANCES), ...of(sent.noted, NOTED));
-    print("counted", received.packets, received.bytes, ...of(received.heard, HEARD), ...of(received.faults, GROUPS), ...of(received.played, MARKS));
+    const numbers = ([name, count]) => WORDS[name]?.map((word) => count[word]) ?? count;
+    for (const end of this.ends) print("counted", ...Object.entries(end.statistics()).flatMap(numbers));
   }
 }
 

@@ -8,7 +8,7 @@ import sys
 from pathlib import Path
 
 sys.path[:0] = [str(Path(__file__).resolve().parents[2])]
-from h263rps import Params, Receiver, Refused, Sender, packet_start  # noqa: E402
+from h263rps import RUNS, Params, Receiver, Refused, Sender, Session, label, packet_start  # noqa: E402
 
 
 def sum_of(*parts: bytes) -> str:
@@ -45,8 +45,17 @@ def or_none(number: object) -> object:
     return "none" if number is None else number
 
 
+def of_stream(packet: bytes, source: str, ticks: str) -> bytes:
+    """The packet with another SSRC and another time."""
+    named = label(packet, int(source), 96)
+    return named[:4] + int(ticks).to_bytes(4, "big") + named[8:]
+
+
 class Run:
+    ends: list[Sender | Receiver | Session]
+
     def __init__(self) -> None:
+        self.ends = []
         self.frames: list[bytes] = []
         self.coded = 0
         self.packets: list[list[bytes]] = []
@@ -59,11 +68,19 @@ class Run:
     def do_sender(self, rest: str) -> None:
         params = json.loads(rest)
         self.sender = Sender(Params.of(params.pop("format"), **params))
+        self.ends.append(self.sender)
 
     def do_receiver(self, rest: str) -> None:
         params = json.loads(rest)
         number = params.pop("number", 0)
         self.receiver = Receiver(Params.of(params.pop("format"), **params), number)
+        self.ends.append(self.receiver)
+
+    def do_session(self, rest: str) -> None:
+        params = json.loads(rest)
+        timing = {name: params.pop(name) for name in ("rate", "second", "wait")}
+        self.session = Session(Params.of(params.pop("format"), **params), **timing)
+        self.ends.append(self.session)
 
     def do_video(self, path: str) -> None:
         self.frames = frames_of(path)
@@ -109,6 +126,42 @@ class Run:
         print("played", played.mark, played.number, or_none(played.reference), played.message.hex(), sum_of(played.picture))
         self.keep(played.message)
 
+    def come(self, datagram: bytes, now: int) -> None:
+        verdict = "ahead"
+        while verdict == "ahead":
+            arrived = self.session.arrival(datagram, now)
+            verdict, heard = arrived.verdict, (or_none(arrived.kind), int(arrived.fault), arrived.at, arrived.message.hex())
+            taken = map(or_none, (arrived.cause, arrived.run, arrived.source, arrived.ahead))
+            print("arrived", verdict, *taken, int(arrived.is_rival), *heard)
+            self.keep(arrived.message)
+            self.play_due(now)
+
+    def play_due(self, now: int) -> None:
+        while turn := self.session.play(now):
+            told = (turn.run, turn.source, turn.mark, turn.number, or_none(turn.reference), turn.message.hex())
+            print("turn", *told, sum_of(bytes(self.session.shown())))
+            self.keep(turn.message)
+        print("due", *map(or_none, (self.session.due(), *map(self.session.source, RUNS))))
+
+    def do_arrive(self, rest: str) -> None:
+        which, source, ticks, now = rest.split()
+        picture, place = which.split(".")
+        packets = self.packets[int(picture) % len(self.packets)]
+        for packet in packets if place == "*" else packets[int(place) : int(place) + 1]:
+            self.come(of_stream(packet, source, ticks), int(now))
+
+    def do_garble(self, rest: str) -> None:
+        draw, source, ticks, now, *edits = rest.split()
+        packets = self.packets[-1]
+        self.come(edited(of_stream(packets[int(draw) % len(packets)], source, ticks), edits), int(now))
+
+    def do_datagram(self, rest: str) -> None:
+        now, text = rest.split(" ")
+        self.come(bytes.fromhex(text), int(now))
+
+    def do_turn(self, rest: str) -> None:
+        self.play_due(int(rest))
+
     def do_back(self, rest: str) -> None:
         self.reply(self.said[int(rest)])
 
@@ -136,8 +189,8 @@ class Run:
         self.packets.clear()
 
     def counts(self) -> None:
-        for counted in (self.sender.statistics(), self.receiver.statistics()):
-            counts = [value if isinstance(value, dict) else {"": value} for value in counted]
+        for end in self.ends:
+            counts = [value if isinstance(value, dict) else {"": value} for value in end.statistics()]
             print("counted", *(number for count in counts for number in count.values()))
 
 

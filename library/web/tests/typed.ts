@@ -1,7 +1,9 @@
 /* What TypeScript takes and refuses of the module's types: tsc --noEmit. */
 
-import { Fault, Params, Receiver, Refused, Sender, hasLongMemory, label, load, packetStart, pictureSize } from "../h263rps.js";
-import type { Coded, Format, Mark } from "../h263rps.js";
+import {
+  Fault, Params, Receiver, Refused, Sender, Session, hasLongMemory, label, load, packetStart, pictureSize,
+} from "../h263rps.js";
+import type { Cause, Coded, Format, Mark, Turn } from "../h263rps.js";
 
 export async function call(pictures: Iterable<Uint8Array>, format: Format): Promise<Record<Mark, number>> {
   if (!hasLongMemory()) throw new Error("no 64-bit memory");
@@ -26,6 +28,27 @@ export async function call(pictures: Iterable<Uint8Array>, format: Format): Prom
   return receiver.statistics().played;
 }
 
+export function follow(datagrams: Iterable<[Uint8Array, bigint]>, reply: (source: number, message: Uint8Array) => void): Record<Cause, number> {
+  const session = new Session(Params.of("cif", { lead: 4 }), { rate: 30000, second: 1001, wait: 60_000_000n });
+  for (const [datagram, now] of datagrams) {
+    const { verdict, source, message, isRival } = session.arrival(datagram, now);
+    if (source !== null && message.length && verdict === "heard" && !isRival) reply(source, message);
+    for (let turn: Turn | null = session.play(now); turn; turn = session.play(now)) {
+      if (turn.run === "followed" && turn.mark === "exact") console.log(turn.number, session.shown().length, session.source("former"));
+    }
+    const due = session.due();
+    if (due !== null) console.log(due - now);
+  }
+  session.close();
+  return session.statistics().dropped;
+}
+
+// @ts-expect-error: times are BigInts
+new Session(Params.of("cif"), { rate: 30, wait: 60 });
+// @ts-expect-error: a session wants its timing
+new Session(Params.of("cif"));
+// @ts-expect-error: there is no such run
+new Session(Params.of("cif"), { rate: 30, wait: 0n }).source("shown");
 // @ts-expect-error: there is no such format
 Params.of("vga");
 // @ts-expect-error: there is no such parameter

@@ -1,7 +1,9 @@
 #!/usr/bin/env node
 /* wrong.mjs: wrong calls of the module for JavaScript: each is an exception that names what is wrong, and never a trap. */
 
-import { Params, PAYLOAD_TYPE, Receiver, SSRC, Sender, label, load, packetStart, pictureSize, version } from "../h263rps.js";
+import {
+  Params, PAYLOAD_TYPE, Receiver, SSRC, Sender, Session, label, load, packetStart, pictureSize, version,
+} from "../h263rps.js";
 
 /** The acknowledgement of picture 0. */
 const ACK = new Uint8Array([0xc0, 0x04, 0x00]);
@@ -11,7 +13,7 @@ const bytes = (length, value = 0) => new Uint8Array(length).fill(value);
 function wanted(told, call) {
   let is;
   try {
-    is = JSON.stringify(call());
+    is = JSON.stringify(call(), (_, it) => (typeof it === "bigint" ? `${it}n` : it));
   } catch (fault) {
     if (fault instanceof WebAssembly.RuntimeError) throw fault;
     is = `${fault.name}: ${fault.message}`;
@@ -124,6 +126,59 @@ withEnds((sender, receiver) => {
 });
 wanted("Refused: play: ended", () => new Receiver(Params.of("qcif"), 1048576).play());
 
+// A session: what it is started with, times, and what comes.
+const SESSION = { rate: 30000, second: 1001, wait: 60_000_000n };
+for (const [told, timing] of [
+  ["Refused: start: bad params: rate", { rate: 0, wait: 1n }],
+  ["Refused: start: bad params: rate", { rate: 65537, wait: 1n }],
+  ["Refused: start: bad params: rate", { rate: 30, second: 4097, wait: 1n }],
+  ["Refused: start: bad params: wait", { ...SESSION, wait: 100_100_001n }],
+  ["TypeError: wait: a BigInt is wanted", { ...SESSION, wait: 60e6 }],
+  ["RangeError: wait: -1 is out of its range", { ...SESSION, wait: -1n }],
+  ["RangeError: wait: 18446744073709551616 is out of its range", { ...SESSION, wait: 2n ** 64n }],
+  ["RangeError: second: 4294967296 is out of its range", { ...SESSION, second: 2 ** 32 }],
+  ["TypeError: rate: a whole number is wanted", { ...SESSION, rate: 29.97 }],
+  ["TypeError: rate: a whole number is wanted", undefined],
+]) wanted(told, () => new Session(Params.of("qcif"), timing));
+wanted("TypeError: params: Params are wanted, as Params.of gives them", () => new Session({ format: 2 }, SESSION));
+wanted("Refused: start: bad params: slots", () => new Session(Params.of("qcif", { slots: 65 }), { rate: 0, wait: 1n }));
+withEnds((sender) => {
+  const session = new Session(Params.of("qcif"), { ...SESSION, wait: 0n });
+  wanted("TypeError: now: a BigInt is wanted", () => session.arrival(bytes(12), 5));
+  wanted("TypeError: now: a BigInt is wanted", () => session.play());
+  wanted("RangeError: now: -1 is out of its range", () => session.play(-1n));
+  wanted("TypeError: datagram: bytes are wanted: a Uint8Array, an ArrayBuffer or a view of one", () => session.arrival("abc", 0n));
+  wanted("RangeError: there is no run shown", () => session.source("shown"));
+  wanted("[null,null,null,null]", () => [session.due(), session.play(0n), session.source(), session.source("tried")]);
+  wanted('["dropped","malformed",null,null,null,null]', () => {
+    const { verdict, cause, run, source, kind, fault } = session.arrival(bytes(0), 0n);
+    return [verdict, cause, run, source, kind, fault];
+  });
+  wanted('["malformed","long"]', () => [9000, 9001].map((length) => session.arrival(bytes(length), 0n).cause));
+  wanted("[38016,128]", () => [session.shown().length, session.shown().at(-1)]);
+  const [packet] = sender.packets(sender.code(bytes(QCIF)));
+  wanted('["heard","tried",7,"completed",3]', () => {
+    const { verdict, run, source, kind, message } = session.arrival(label(packet, 7, PAYLOAD_TYPE), 10n ** 18n);
+    return [verdict, run, source, kind, message.length];
+  });
+  // From 2^62 - 1 on the clock stands; and it never goes back.
+  wanted('["1000000000001000000n",7,"exact",0]', () => {
+    const due = session.due();
+    const { source, mark, number } = session.play(2n ** 64n - 1n);
+    return [due, source, mark, number];
+  });
+  wanted('{"taken":1,"dropped":{"long":1,"malformed":2,"other pictures":0,"too fast":0,"other stream":0},"played":{"exact":1,"patched":0,"held":0}}',
+    () => session.statistics());
+  session.close();
+  session.close();
+  wanted("Refused: arrival: not started", () => session.arrival(bytes(12), 0n));
+  wanted("Refused: due: not started", () => session.due());
+  wanted("Refused: play: not started", () => session.play(0n));
+  wanted("Refused: source: not started", () => session.source());
+  wanted("Refused: shown: not started", () => session.shown());
+  wanted("Refused: statistics: not started", () => session.statistics());
+});
+
 // A header has the messages of the places that aren't empty; a picture before the last one has no packets any more.
 withEnds((sender) => {
   const [plain, empty, one] = [[], [bytes(0)], [bytes(0), ACK, bytes(0)]].map((back) => {
@@ -195,17 +250,30 @@ for (let n = 0; n < 10_000; n++) {
   for (const end of n % 2 ? [sender, receiver] : [receiver, sender]) end.close();
 }
 console.log(`10,000 senders and receivers in ${(most / 1e6).toFixed(1)} MB`);
+for (let n = 0, first = 0; n < 1000; n++) {
+  const session = new Session(Params.of(Object.keys(sizes)[n % 3]), SESSION);
+  const is = size(session);
+  if (n === 3) first = is;
+  if (n > 3) wanted(String(first), () => is);
+  session.close();
+}
 
 // No memory left: a start is refused, and so is room for a packet longer than any; all else is as it was.
 withEnds((sender, receiver) => {
   const { malloc, free } = instance.exports;
+  const some = malloc(1n << 20n);
   const taken = [];
   for (let bytes = 2 ** 30; bytes >= 16; bytes /= 2) {
     for (let at = malloc(BigInt(bytes)); at; at = malloc(BigInt(bytes))) taken.push(at);
   }
   wanted("Refused: start: no memory: 216 bytes", () => new Receiver(Params.of("cif")));
+  wanted("Refused: start: no memory: 16 bytes", () => new Session(Params.of("cif"), SESSION));
   wanted("Refused: memory: no memory: 200000 bytes", () => receiver.packet(bytes(200_000)));
   wanted("[0,\"held\"]", () => [sender.code(bytes(QCIF)).number, receiver.play().mark]);
+  // There is some again, and too little: what a start took before it found that out it has given back.
+  free(some);
+  for (let n = 0; n < 3; n++) wanted("Refused: start: no memory", () => new Session(Params.of("cif"), SESSION));
+  wanted("false", () => malloc((1n << 20n) - 64n) === 0n);
   taken.forEach(free);
 });
 withEnds((sender) => wanted("0", () => sender.code(bytes(QCIF)).number));
