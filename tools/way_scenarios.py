@@ -1,5 +1,5 @@
 """Streams whose way to the receiver changes, in discrete time: what a rule about the times of plays has to bear.
-tools/timing_tests.py and library/tests/playout.py play them by the rules in Python and in JavaScript."""
+tools/timing_tests.py plays them by the rules in Python, tools/session_tests.py by the library's session."""
 
 import random
 from collections import Counter

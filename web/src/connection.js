@@ -18,7 +18,10 @@ const MOST_SOUND_WAIT = 4000;
 const MOST_SAID = 1000;
 const WORDS_A_SECOND = 20;
 const DATAGRAMS_A_SECOND = 1500;
-/** So much may be refused of a side, at once and a second, until the connection is closed: to hear it costs a page its time. */
+/**
+ * So much may be refused of a side, at once and a second, until the connection is closed: to hear it costs a page its time.
+ * All these guard the page, where each datagram is a message to the worker; the stream is guarded by the session there.
+ */
 const MOST_REFUSED = 4000;
 const REFUSED_A_SECOND = 200;
 
@@ -153,7 +156,7 @@ export class Side {
   }
 }
 
-/** Whether a datagram is of a length, and begins, as an RTP packet of the telephone does. */
+/** Whether a datagram is of a length, and begins, as an RTP packet of the telephone does. Messages name no stream: there is one. */
 function isPacket(data) {
   if (data.byteLength > LONGEST_PACKET) return false;
   const head = new DataView(data);

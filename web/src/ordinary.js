@@ -1,12 +1,12 @@
 /**
  * An ordinary coder beside ours, over the same losses: the browser's own VP8, which predicts each picture from the one
- * before. Where one doesn't come whole, the next one that can be shown is a key frame, which is asked for at once.
+ * before. Where one doesn't come whole, the next one that can be shown is a key frame, which is asked for at once. Each of
+ * its pictures is shown when ours is, and so much later as it was coded later.
  * @module
  */
 
 import { LIMIT, RATE, TARGETS, now } from "./call_settings.js";
 import { SIZES, covering } from "./planes.js";
-import { Playout } from "./playout.js";
 
 /** What stands before a packet's bytes: picture, place, count, whether it is a key frame, and its time of capture. */
 const HEAD = 20;
@@ -32,7 +32,6 @@ export class Ordinary {
   #pen;
   #encoder;
   #decoder;
-  #playout;
   #count = 0;
   #wantsKey = true;
   #begun = new Map();
@@ -40,31 +39,28 @@ export class Ordinary {
   #next = 0;
   #isWhole = false;
   #asked = -Infinity;
-  #timer = null;
   /** Pictures that were shown and held, and the seconds from the capture of the last one to the screen. */
   counts = { shown: 0, held: 0, keys: 0, code: 0, late: 0 };
 
   /** It calls `send(datagrams)`, `ask()` for a key frame, and `show(frame)`, which closes it. */
-  constructor(format, wait, { send, ask, show }) {
+  constructor(format, { send, ask, show }) {
     Object.assign(this, { send, ask, show });
     const [width, height] = SIZES[format];
     this.#pen = new OffscreenCanvas(width, height).getContext("2d", { alpha: false });
-    this.#playout = new Playout(1 / RATE, wait);
     this.#encoder = new VideoEncoder({ output: (chunk) => this.#coded(chunk), error: () => {} });
     this.#encoder.configure(settingsOf(format));
     this.#decoder = new VideoDecoder({ output: (frame) => this.#shown(frame), error: () => {} });
     this.#decoder.configure({ codec: "vp8" });
   }
 
-  /** The picture that ours has just taken. */
-  code(source, width, height) {
+  /** The picture that ours has just taken, which was captured then. */
+  code(source, width, height, captured) {
     if (this.#encoder.state !== "configured" || this.#encoder.encodeQueueSize > 2) return;
     const { width: across, height: down } = this.#pen.canvas;
     this.#pen.drawImage(source, ...covering(width, height, across, down), 0, 0, across, down);
-    const time = now();
     const number = this.#count++;
     const frame = new VideoFrame(this.#pen.canvas, { timestamp: number });
-    this.#begun.set(number, time);
+    this.#begun.set(number, { captured, time: now() });
     this.#encoder.encode(frame, { keyFrame: this.#wantsKey });
     this.#wantsKey = false;
     frame.close();
@@ -75,19 +71,14 @@ export class Ordinary {
     this.#wantsKey = true;
   }
 
-  setWait(wait) {
-    this.#playout.wait = wait;
-  }
-
   close() {
-    clearTimeout(this.#timer);
     for (const coder of [this.#encoder, this.#decoder]) if (coder.state !== "closed") coder.close();
   }
 
   /** A picture is coded: its packets, of the same length as ours at the most. */
   #coded(chunk) {
     const number = chunk.timestamp;
-    const time = this.#begun.get(number);
+    const { captured, time } = this.#begun.get(number);
     this.#begun.delete(number);
     this.counts.code = now() - time;
     this.counts.keys += chunk.type === "key";
@@ -100,7 +91,7 @@ export class Ordinary {
       const head = new DataView(packet.buffer);
       head.setUint32(0, number);
       [place, count, Number(chunk.type === "key")].forEach((word, at) => head.setUint16(4 + 2 * at, word));
-      head.setFloat64(12, time);
+      head.setFloat64(12, captured);
       packet.set(part, HEAD);
       return packet;
     }));
@@ -120,28 +111,23 @@ export class Ordinary {
     if (!picture || picture.parts[place]) return;
     picture.parts[place] = packet.subarray(HEAD);
     picture.left--;
-    this.#playout.arrived(number, time, now());
-    this.#playDue();
   }
 
-  #playDue() {
-    clearTimeout(this.#timer);
-    for (;;) {
-      const due = this.#playout.due(this.#next);
-      if (due === null) return;
-      const left = due - now();
-      if (left > 0) {
-        this.#timer = setTimeout(() => this.#playDue(), 1000 * left);
-        return;
-      }
-      this.#play(this.#next++);
-    }
+  /** Ours of this time of capture is shown. */
+  follow(captured) {
+    setTimeout(() => this.#playUntil(captured), 1000 * this.counts.code);
+  }
+
+  /** Plays up to the last one that came of those that were captured by then. */
+  #playUntil(captured) {
+    if (this.#decoder.state !== "configured") return;
+    const due = [...this.#open].filter(([, { time }]) => time <= captured).map(([number]) => number);
+    for (const last = Math.max(...due); this.#next <= last; ) this.#play(this.#next++);
   }
 
   #play(number) {
     const picture = this.#open.get(number);
     this.#open.delete(number);
-    this.#playout.played(number);
     this.#isWhole = Boolean(picture) && picture.left === 0 && (this.#isWhole || Boolean(picture.isKey));
     if (!this.#isWhole) {
       this.counts.held++;

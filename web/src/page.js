@@ -108,6 +108,7 @@ class Telephone {
     byId("beside").addEventListener("change", () => this.#putBeside());
     byId("full").hidden = !document.fullscreenEnabled;
     for (const name of Object.keys(SLIDERS)) byId(name).addEventListener("input", () => this.#slide());
+    byId("wait").addEventListener("change", () => this.#call && this.#tell("wait", { wait: this.#value("wait") }));
     byId("which_camera").addEventListener("change", () => this.#call && this.#startCamera());
     addEventListener("beforeunload", (event) => this.#isWithOther && !this.#meeting.comesBack && event.preventDefault());
   }
@@ -232,7 +233,7 @@ class Telephone {
   #putBeside() {
     const isOn = byId("beside").checked && Boolean(this.#call) && !this.#isWithOther;
     byId("ordinary_view").hidden = !isOn;
-    this.#tell("beside", { isOn, wait: this.#value("wait") });
+    this.#tell("beside", { isOn });
   }
 
   /** What the ordinary coder says goes over the same bad network. */
@@ -403,9 +404,7 @@ class Telephone {
       byId(name).setAttribute("aria-valuetext", words);
     }
     for (const name of ["loss", "delay", "jitter"]) this.#network[name] = this.#value(name);
-    if (!this.#call) return;
-    this.#tell("wait", { wait: this.#value("wait") });
-    this.#call.setWait(this.#value("wait"));
+    this.#call?.setWait(this.#value("wait"));
   }
 
   async #listDevices() {

@@ -1,114 +1,107 @@
 /**
- * The receiving side: packets to pictures, each at its time. The times are playout.js's; here is who is asked when.
+ * The receiving side: datagrams to pictures. Of which stream and picture a packet is, and when that is played, the library's
+ * session says, which is proved; here are its clock and its timer, and who is told what.
  * @module
  */
 
-import { CLOCKS, Params, Receiver, Refused, packetStart } from "../../library/web/h263rps.js";
-import { LEAD, LONGEST_PACKET, RATE, SLOTS, now } from "./call_settings.js";
-import { Numbers, Playout } from "./playout.js";
-
-/** How many numbers each clock has. */
-const PERIODS = { standard: 256, custom: 1024 };
+import { CLOCKS, Params, Refused, Session, packetStart } from "../../library/web/h263rps.js";
+import { LEAD, RATE_OF, SLOTS, nanoseconds } from "./call_settings.js";
 
 export class Receiving {
-  #receiver = null;
+  #session = null;
   #start = null;
-  #numbers;
-  #playout;
   #timer = null;
-  /** Datagrams that no packet of this stream can be. */
+  #record;
+  /** Datagrams that weren't heard. */
   dropped = 0;
+  /** Pictures that were shown, by their marks. */
+  played = { exact: 0, patched: 0, held: 0 };
 
-  /** With a wait in seconds. It calls `say(message)`, and `show(played, format)` for each picture; a record may be kept. */
-  constructor(wait, say, show, record = null) {
-    Object.assign(this, { wait, say, show, record });
+  /**
+   * With a wait in seconds. It calls `say(message)`; `tell(turn)` for each picture of the stream that is followed; and
+   * `paint(picture, format)` for the last one of those that are due at once. A record may be kept.
+   */
+  constructor(wait, { say, tell, paint }, record = null) {
+    Object.assign(this, { wait, say, tell, paint });
+    this.#record = record;
   }
 
-  /** A packet came. What is due up to the picture before is played, the packet is heard, and then the rest is played. */
-  take(packet) {
-    const time = now();
-    const place = this.#placed(packet, time);
-    if (!place) {
+  /** A datagram came. */
+  take(datagram) {
+    if (!this.#session && !this.#begin(datagram)) {
       this.dropped++;
       return;
     }
-    this.#playDue(time, place.number - 1);
-    this.record?.entry("recv", "K", time, packet);
-    this.#answer(this.#receiver.packet(packet).message);
-    this.#playDue(time, Infinity);
+    const time = nanoseconds();
+    let verdict;
+    do {
+      const arrived = this.#session.arrival(datagram, time);
+      ({ verdict } = arrived);
+      if (verdict === "heard") this.#hear(datagram, arrived);
+      this.#playDue(time);
+    } while (verdict === "ahead");
+    this.dropped += verdict !== "heard";
   }
 
-  #answer(message) {
-    if (!message.length) return;
-    this.record?.entry("messages", "B", now(), message);
-    this.say(message);
-  }
-
-  /** How long a picture waits for its packets, in seconds, from now on. */
+  /** How long a picture waits, in seconds. A session's wait is that of its start: answers whether one began anew. */
   setWait(wait) {
+    if (wait === this.wait) return false;
     this.wait = wait;
-    if (this.#playout) this.#playout.wait = wait;
-  }
-
-  get statistics() {
-    return this.#receiver?.statistics() ?? null;
+    if (!this.#session) return false;
+    this.close();
+    this.#session = this.#started();
+    return true;
   }
 
   close() {
     clearTimeout(this.#timer);
-    this.#receiver?.close();
-    this.#receiver = null;
+    this.#record?.end();
+    this.#session?.close();
+    this.#session = null;
   }
 
-  /** The packet's picture; null where it is none of this stream, or ahead of the clock. */
-  #placed(packet, time) {
-    const start = packet.length > LONGEST_PACKET ? null : startOf(packet);
-    if (!start) return null;
-    if (!this.#start) this.#begin(start);
-    if (start.format !== this.#start.format || start.clock !== this.#start.clock) return null;
-    const head = new DataView(packet.buffer, packet.byteOffset);
-    const place = this.#numbers.place(start.temporalReference, head.getUint16(2), head.getUint32(4), time);
-    if (place) this.#playout.arrived(place.number, place.captured, time);
-    return place;
+  /** Begins in the first packet's format and clock: the other side chooses them. */
+  #begin(datagram) {
+    this.#start = startOf(datagram);
+    if (!this.#start) return false;
+    this.#record?.receives(this.#start);
+    this.#session = this.#started();
+    return true;
   }
 
-  /** Begins at the picture of the first packet, in its format. */
-  #begin(start) {
-    const { format, clock } = start;
-    this.#start = start;
-    this.#numbers = new Numbers(PERIODS[clock], RATE);
-    this.#playout = new Playout(1 / RATE, Math.max(this.wait, 0.001));
+  #started() {
+    const { format, clock } = this.#start;
     const params = Params.of(format, { clock: CLOCKS[clock], slots: SLOTS, lead: LEAD });
-    this.#receiver = new Receiver(params, start.temporalReference);
-    this.record?.receives(format, clock, start.temporalReference);
+    return new Session(params, { ...RATE_OF, wait: nanoseconds(this.wait) });
   }
 
-  #playDue(time, last) {
-    for (let next = this.#receiver.played(); next <= last; next++) {
-      const due = this.#playout.due(next);
-      if (due === null || due > time) break;
-      this.#play(next);
+  #hear(datagram, { kind, message }) {
+    this.#record?.heard(datagram, kind, message);
+    if (message.length) this.say(message);
+  }
+
+  #playDue(time) {
+    let isShown = false;
+    for (let turn = this.#session.play(time); turn; turn = this.#session.play(time)) {
+      this.#record?.played(turn);
+      if (turn.message.length) this.say(turn.message);
+      if (turn.run !== "followed") continue;
+      isShown = true;
+      this.played[turn.mark]++;
+      this.tell(turn);
     }
+    // What is lent is good until the next call: it is painted before anything else.
+    if (isShown) this.paint(this.#session.shown(), this.#start.format);
     this.#wake();
   }
 
-  #play(number) {
-    this.record?.entry("recv", "P", now());
-    const played = this.#receiver.playLent();
-    this.#playout.played(number);
-    // What is lent is good until the next call: it is shown before anything else.
-    this.show(played, this.#start.format);
-    this.record?.line("recv", `${played.number} ${played.mark}`);
-    this.record?.shown(now());
-    this.#answer(played.message);
-  }
-
-  /** Comes back when the next picture is due. */
+  /** Comes back when something is due. */
   #wake() {
     clearTimeout(this.#timer);
-    const due = this.#playout.due(this.#receiver.played());
+    const due = this.#session.due();
     if (due === null) return;
-    this.#timer = setTimeout(() => this.#playDue(now(), Infinity), Math.max(0, 1000 * (due - now())));
+    const left = Math.ceil(Number(due - nanoseconds()) / 1e6);
+    this.#timer = setTimeout(() => this.#playDue(nanoseconds()), Math.max(0, left));
   }
 }
 

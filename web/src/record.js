@@ -27,7 +27,7 @@ export class Record {
   #size = 0;
   #isCut = false;
   #facts;
-  #recv = null;
+  #recv = [];
 
   /**
    * Of a call that begins at this time. `settings` are what is said of it: party, format, wait, target, network; and
@@ -45,7 +45,7 @@ export class Record {
   /** One more entry of send, packets, recv or messages; a capture or a play has no bytes. */
   entry(log, letter, time, body = new Uint8Array()) {
     this.#add(`${log}.log`, entryOf(letter, body));
-    this.#add(`${log}.times`, textBytes(`${(time - this.began).toFixed(6)}\n`));
+    this.time(log, time);
   }
 
   /** A line of the report of send, or of recv. */
@@ -53,19 +53,24 @@ export class Record {
     this.#add(`${end}.txt`, textBytes(`${text}\n`));
   }
 
-  /** A picture left the receiver. */
-  shown(time) {
-    this.#add("shown.times", textBytes(`${(time - this.began).toFixed(6)}\n`));
+  /** The time of one more entry, or picture, of a file. */
+  time(file, time) {
+    this.#add(`${file}.times`, textBytes(`${(time - this.began).toFixed(6)}\n`));
   }
 
-  /** The receiver began, at the picture of this number. */
-  receives(format, clock, joined) {
+  /** A run of the receiver begins, at the picture of this number: answers what its files' names end in. */
+  begins(format, clock, joined) {
     this.#facts.format = format;
     this.#facts.clock = clock;
-    this.#recv = {
-      log: "recv.log", video: "shown.y4m", wire: "messages.log", report: "recv.txt", source: this.settings.received, joined,
+    const end = this.#recv.length ? `-${this.#recv.length + 1}` : "";
+    this.#recv.push({
+      log: `recv${end}.log`, video: `shown${end}.y4m`, wire: `messages${end}.log`, report: `recv${end}.txt`,
+      source: this.settings.received, joined,
       options: [`--format=${format}`, `--clock=${clock}`, `--slots=${SLOTS}`, `--lead=${LEAD}`],
-    };
+    });
+    // A run that says nothing has a file of no messages.
+    for (const file of [`messages${end}.log`, `messages${end}.times`]) this.#add(file, new Uint8Array());
+    return end;
   }
 
   get isEmpty() {
@@ -90,7 +95,7 @@ export class Record {
       first_time: 0, options: [`--format=${format}`, `--limit=${LIMIT}`, `--slots=${SLOTS}`, `--lead=${LEAD}`, `--target=${target}`],
     };
     const counts = this.#isCut ? {} : { counts: { seconds } };
-    return { ...this.#facts, send: [send], recv: this.#recv ? [this.#recv] : [], ...counts };
+    return { ...this.#facts, send: [send], recv: this.#recv, ...counts };
   }
 
   /** A record that is full is cut off here, all of it, and the call goes on. */

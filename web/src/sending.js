@@ -4,13 +4,12 @@
  */
 
 import { Params, Sender } from "../../library/web/h263rps.js";
-import { LEAD, LIMIT, RATE, SLOTS, TARGETS, now } from "./call_settings.js";
+import { LEAD, LIMIT, RATE, SLOTS, TARGETS, TICKS, now } from "./call_settings.js";
 import { SIZES, covering, fillPlanes } from "./planes.js";
-import { TICKS } from "./playout.js";
 
 /** A picture that comes sooner after the one before is left out: no stream goes on faster than at its rate. */
 const LEAST_STEP = 0.9 / RATE;
-/** Times of capture that are kept, to tell how long a picture took. */
+/** Times of capture that are kept: one for each temporal reference. */
 const KEPT = 256;
 
 export class Sending {
@@ -18,9 +17,9 @@ export class Sending {
   #planes;
   #pen;
   #began = null;
-  #last = -Infinity;
-  /** When each of the last pictures was captured, by its number. */
-  captured = new Map();
+  #captured = [];
+  /** When the last picture was captured. */
+  last = -Infinity;
   /** Seconds that the last picture took to become planes, and to be coded. */
   took = { planes: 0, code: 0 };
 
@@ -37,13 +36,13 @@ export class Sending {
   /** The packets of a picture: none where it comes too soon. */
   packets(source, width, height) {
     const time = now();
-    if (time - this.#last < LEAST_STEP) return [];
-    this.#last = time;
+    if (time - this.last < LEAST_STEP) return [];
+    this.last = time;
     this.#began ??= time;
     this.#fill(source, width, height);
     const filled = now();
     const coded = this.#sender.code(this.#planes);
-    this.#keep(coded.number, time);
+    this.#captured[coded.number % KEPT] = time;
     const packets = this.#sender.packets(coded);
     if (this.record) this.#note(coded, packets, time);
     this.took = { planes: filled - time, code: now() - filled };
@@ -55,9 +54,9 @@ export class Sending {
     fillPlanes(this.#pen.getImageData(0, 0, this.width, this.height).data, this.width, this.height, this.#planes);
   }
 
-  #keep(number, time) {
-    this.captured.set(number, time);
-    this.captured.delete(number - KEPT);
+  /** When the picture was captured that the other end knows by this number: one that joins late counts from less. */
+  captured(number) {
+    return this.#captured[number % KEPT];
   }
 
   #note({ number, reference }, packets, time) {
@@ -75,6 +74,11 @@ export class Sending {
   /** Follows this many bytes a picture. */
   target(bytes) {
     this.#sender.target(bytes);
+  }
+
+  /** The next picture refers to none before it. */
+  forget() {
+    this.#sender.forget();
   }
 
   get statistics() {

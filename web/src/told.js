@@ -55,7 +55,7 @@ export class Told {
 
   /** Of the whole call, how many of a hundred pictures were exact. */
   get share() {
-    const { exact = 0, patched = 0, held = 0 } = this.counts?.received?.played ?? {};
+    const { exact = 0, patched = 0, held = 0 } = this.counts?.played ?? {};
     return percent(exact, exact + patched + held);
   }
 

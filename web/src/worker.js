@@ -11,6 +11,7 @@ import { SIZES, covering, fillColours } from "./planes.js";
 import { Ordinary, hasOrdinary } from "./ordinary.js";
 import { Receiving } from "./receiving.js";
 import { Record } from "./record.js";
+import { RecordedRuns } from "./recorded_runs.js";
 import { Sending } from "./sending.js";
 
 /** How often the page is told the counts, in milliseconds. */
@@ -49,8 +50,12 @@ class Ends {
     this.#format = format;
     this.#record = kept ? new Record(now(), { format, wait, target: TARGETS[format], ...kept }) : null;
     this.#sending = new Sending(format, this.#record);
-    const say = (message) => tell("datagrams", { datagrams: [message] });
-    this.#receiving = new Receiving(wait, say, (played, of) => this.#show(played, of), this.#record);
+    const heard = {
+      say: (message) => tell("datagrams", { datagrams: [message] }),
+      tell: (turn) => this.#tellPlayed(turn),
+      paint: (picture, of) => this.#paint(picture, of),
+    };
+    this.#receiving = new Receiving(wait, heard, this.#record && new RecordedRuns(this.#record));
     this.#timers.push(setInterval(() => this.#tellCounts(), TOLD_EACH));
   }
 
@@ -95,13 +100,13 @@ class Ends {
     next();
   }
 
+  /** Only a call with oneself changes it. To a session that began anew the next picture says all. */
   wait({ wait }) {
-    this.#receiving?.setWait(wait);
-    this.#ordinary?.setWait(wait);
+    if (this.#receiving?.setWait(wait)) this.#sending.forget();
   }
 
   /** The browser's own coder goes beside ours, or no longer. */
-  async beside({ isOn, wait }) {
+  async beside({ isOn }) {
     this.#leaveOrdinary();
     if (!isOn || !this.#sending) return;
     if (!(await hasOrdinary(this.#format))) {
@@ -111,7 +116,7 @@ class Ends {
     const [width, height] = SIZES[this.#format];
     const { canvas } = this.#ordinaryPen;
     if (canvas.width !== width) Object.assign(canvas, { width, height });
-    this.#ordinary = new Ordinary(this.#format, Math.max(wait, 0.001), {
+    this.#ordinary = new Ordinary(this.#format, {
       send: (datagrams) => tell("ordinary", { datagrams }, datagrams.map(({ buffer }) => buffer)),
       ask: () => tell("ordinaryAsks"),
       show: (frame) => {
@@ -144,11 +149,17 @@ class Ends {
     const { width: across, height: down } = this.#own.canvas;
     this.#own.drawImage(source, ...covering(width, height, across, down), 0, 0, across, down);
     const datagrams = this.#sending?.packets(source, width, height) ?? [];
-    if (datagrams.length) this.#ordinary?.code(source, width, height);
+    if (datagrams.length) this.#ordinary?.code(source, width, height, this.#sending.last);
     if (datagrams.length) tell("datagrams", { datagrams }, datagrams.map(({ buffer }) => buffer));
   }
 
-  #show({ picture, mark, number, reference }, format) {
+  #tellPlayed({ mark, number, reference }) {
+    const captured = this.#isAlone ? this.#sending.captured(number) : undefined;
+    if (captured !== undefined) this.#ordinary?.follow(captured);
+    tell("played", { mark, number, reference, late: captured === undefined ? null : now() - captured });
+  }
+
+  #paint(picture, format) {
     const [width, height] = SIZES[format];
     if (this.#image?.width !== width) {
       Object.assign(this.#other.canvas, { width, height });
@@ -156,14 +167,12 @@ class Ends {
     }
     fillColours(picture, width, height, this.#image.data);
     this.#other.putImageData(this.#image, 0, 0);
-    const captured = this.#isAlone ? this.#sending.captured.get(number) : undefined;
-    tell("played", { mark, number, reference, late: captured === undefined ? null : now() - captured });
   }
 
   #tellCounts() {
     const { took, statistics } = this.#sending;
-    const { statistics: received, dropped } = this.#receiving;
-    tell("counts", { took, sent: statistics, received, dropped, ordinary: this.#ordinary?.counts ?? null });
+    const { played, dropped } = this.#receiving;
+    tell("counts", { took, sent: statistics, played, dropped, ordinary: this.#ordinary?.counts ?? null });
   }
 }
 

@@ -59,8 +59,9 @@ class Page:
         button.click()
 
     def slide(self, name: str, value: int) -> None:
-        script = "const it = document.getElementById(arguments[0]); it.value = arguments[1]; it.dispatchEvent(new Event('input'))"
-        self.run(script, name, value)
+        script = "const it = document.getElementById(arguments[0]); it.value = arguments[1]; it.dispatchEvent(new Event(arguments[2]))"
+        for event in ("input", "change"):
+            self.run(script, name, value, event)
 
     def value(self, name: str) -> str:
         return str(self.run("return document.getElementById(arguments[0]).value", name))

@@ -46,6 +46,12 @@ class PageTest(CallTest):
             time.sleep(14)
             print(f"none lost: {page.text('share')}")
             self.assert_share(page, 97)
+            # Another wait begins the session anew: of the last ten seconds' pictures few are lost by it.
+            page.slide("wait", 200)
+            time.sleep(12)
+            self.assertRegex(page.text("figures"), r"^Camera to screen (2[3-9]|3\d)\d ms")
+            print(f"a wait of 200 ms: {page.text('share')}; {page.text('figures')}")
+            self.assert_share(page, 97)
             page.slide("loss", 40)
             time.sleep(6)
             self.assertLess(page.share(), 90)

@@ -4,8 +4,7 @@
 
 import { readFileSync } from "node:fs";
 import { Params, Sender, load } from "../../library/web/h263rps.js";
-import { LEAD, LIMIT, RATE, SLOTS, now } from "../src/call_settings.js";
-import { TICKS } from "../src/playout.js";
+import { LEAD, LIMIT, RATE, SLOTS, TICKS, now } from "../src/call_settings.js";
 import { Receiving } from "../src/receiving.js";
 
 const SECONDS = 3;
@@ -13,8 +12,7 @@ const JUNK_EACH = Math.round(20_000 / RATE);
 
 await load(readFileSync(process.env.H263RPS_MODULE));
 const sender = new Sender(Params.of("qcif", { target: 1800, limit: LIMIT, slots: SLOTS, lead: LEAD }));
-const marks = { exact: 0, patched: 0, held: 0 };
-const receiving = new Receiving(0.1, (message) => sender.feedback(message), ({ mark }) => { marks[mark]++; });
+const receiving = new Receiving(0.1, { say: (message) => sender.feedback(message), tell: () => {}, paint: () => {} });
 const begin = now();
 const old = [];
 let spent = 0;
@@ -55,6 +53,7 @@ await new Promise((done) => {
   }, 1000 / RATE);
 });
 receiving.close();
+const { played: marks } = receiving;
 const micros = ((1000 * spent) / junk).toFixed(1);
 console.log(`${sent} pictures among ${junk} datagrams of junk, ${micros} us each: ${JSON.stringify(marks)}, ${receiving.dropped} dropped`);
 if (marks.exact < 0.9 * sent || receiving.dropped < 0.95 * junk) process.exitCode = 1;

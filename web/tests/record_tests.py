@@ -58,27 +58,38 @@ class RecordTest(unittest.TestCase):
         self.assertGreater(marks.count("exact"), len(marks) // 2)
         self.assertGreater(fates.count("taken"), fates.count("lost"))
         self.assertTrue(all(picture.captured is not None and picture.played > picture.captured for picture in way_of.pictures))
+        self.read_again(record)
+
+    def test_another_wait_is_another_run(self) -> None:
+        with Page() as page:
+            record = recorded.read_record(recorded_call(page, self.room, 8, lambda: page.slide("wait", 200)))
+            self.assertEqual(page.complaints(), [])
+        self.assertEqual([run["log"] for run in record.runs("recv")], ["recv.log", "recv-2.log"])
+        self.read_again(record)
+
+    def read_again(self, record: recorded.Record) -> None:
+        folder = record.folder
         tools = [["times_of_call", folder], ["page_of_call", folder, self.room / "page.html"], ["audit_log", folder, self.room / "audit.log"]]
         for name, *words in tools:
             run = subprocess.run([sys.executable, TOP / "tools" / name, *words], capture_output=True, text=True)
             self.assertEqual(run.returncode, 0, (name, run.stderr))
-        if PROGRAM.exists():
-            self.read_by_the_program(record)
-        else:
-            print(f"the program isn't there: {PROGRAM}")
+        for run in record.runs("recv"):
+            if PROGRAM.exists():
+                self.read_by_the_program(record, run)
+            else:
+                print(f"the program isn't there: {PROGRAM}")
 
-    def read_by_the_program(self, record: recorded.Record) -> None:
-        """`recv` over the log says the marks and the messages of the call, and makes its pictures."""
-        (run,) = record.runs("recv")
+    def read_by_the_program(self, record: recorded.Record, run: dict) -> None:
+        """`recv` over the log of a run says the marks and the messages of the call, and makes its pictures."""
         log, messages, video = (self.room / name for name in ("recv.log", "messages.log", "shown.y4m"))
         before = run["joined"] * logs.entry_bytes(logs.PLAY)
-        log.write_bytes(before + record.path("recv.log").read_bytes())
+        log.write_bytes(before + record.path(run["log"]).read_bytes())
         words = [word for option in run["options"] for word in option.split("=")]
         told = subprocess.run([PROGRAM, "recv", log, video, messages, *words], capture_output=True, text=True)
         self.assertEqual(told.returncode, 0, told.stdout[-200:] + told.stderr)
         lines = told.stdout.splitlines()[run["joined"] : -1]
-        self.assertEqual(lines, record.path("recv.txt").read_text().splitlines())
-        own, again = (list(self.entries(path)) for path in (record.path("messages.log"), messages))
+        self.assertEqual(lines, record.path(run["report"]).read_text().splitlines())
+        own, again = (list(self.entries(path)) for path in (record.path(run["wire"]), messages))
         self.assertEqual(again[len(again) - len(own) :], own)
         print(f"recv: {told.stdout.splitlines()[-1]}; {video.stat().st_size:,} bytes of pictures")
 
