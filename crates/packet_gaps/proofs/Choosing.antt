@@ -2,7 +2,7 @@
 use Rattle.std.proofs.Common.{◌≡◌, ℕ, ◌+◌, ◌-◌, ◌<◌, ◌≤◌, Bool, true, false, cond, eqb, leb, ltb, List, [], ◌∷◌, filter, Option, Some, None, refl, arith, ◌⊎◌, inl, inr, ⊎_elim}
 use Rattle.std.specs.Prelude.{find}
 use Rattle.std.specs.List.{AllByRecursion}
-use Rattle.std.proofs.lemmas.Bool.{cases_Bool, eqb-true, leb-false, leb-true, ltb-false, true≢false, false≢true}
+use Rattle.std.proofs.lemmas.Bool.{eqb-true, leb-false, leb-true, ltb-false, false≢true}
 use Rattle.packet_gaps.specs.declared.gap.Gap.{Gap}
 use Rattle.packet_gaps.specs.declared.moment.Moment.{Moment}
 use Rattle.packet_gaps.specs.Asking.{due_of, has_waited, is_in_time, is_named, is_told, may_ask, told_by, told_of}

@@ -2,3 +2,4 @@ mod Lists
 mod Choosing
 mod Past
 mod Twice
+mod Naming

@@ -1,13 +1,13 @@
 -- What is kept of what happened.
-use Rattle.std.proofs.Common.{◌≡◌, ℕ, zero, suc, ◌+◌, ◌-◌, ◌<◌, ◌≤◌, ◌==◌, not, Bool, true, false, cond, eqb, leb, ltb, ◌||◌, List, [], ◌∷◌, ◌++◌, length, map, filter, drop, Option, Some, None, refl, ap, sym, subst, arith, ◌∙◌, ⊎_elim}
-use Rattle.std.specs.Prelude.{MatchOption, find, nat_le}
+use Rattle.std.proofs.Common.{◌≡◌, ℕ, zero, suc, ◌+◌, ◌-◌, ◌<◌, ◌≤◌, not, Bool, true, false, cond, eqb, leb, ltb, ◌||◌, List, [], ◌∷◌, ◌++◌, length, map, filter, drop, Option, Some, None, refl, ap, sym, subst, arith, ◌∙◌, ⊎_elim}
+use Rattle.std.specs.Prelude.{find}
 use Rattle.std.specs.List.{AllByRecursion, list_any}
-use Rattle.std.proofs.lemmas.Bool.{cases_Bool, cases_lt, cond_both, eq-eqb, eqb-true, le-ltb, lt-ltb, ltb-false, ltb-true, or_right, or_left, false≢true}
+use Rattle.std.proofs.lemmas.Bool.{cases_Bool, cases_lt, cond_both, eq-eqb, eqb-true, le-ltb, lt-ltb, or_right, or_left, false≢true}
 use Rattle.std.proofs.lemmas.List.{length-map}
 use Rattle.packet_gaps.specs.declared.gap.Gap.{Gap}
 use Rattle.packet_gaps.specs.declared.moment.Moment.{Moment}
 use Rattle.packet_gaps.specs.Asking.{after_asking, asked_again, is_told, may_ask, told_from, when_told}
-use Rattle.packet_gaps.specs.Missing.{after_number, after_packet, after_play, gap_of, last_of, newest_after, newest_after_packet, number_of, numbers_from}
+use Rattle.packet_gaps.specs.Missing.{after_number, after_packet, gap_of, last_of, newest_after, newest_after_packet, number_of, numbers_from}
 use Rattle.packet_gaps.specs.Kept.{Event, Came, Played, Asked, came_of, kept_of, number_after}
 use Rattle.packet_gaps.specs.Laws.{IsMissing}
 
@@ -41,9 +41,10 @@ module _ (P : Gap → Type 0) where
   pub all_from : (f : ℕ → Gap) (first n : ℕ) → ((k : ℕ) → first ≤ k → k < first + n → P (f k))
       → AllByRecursion P (map f (numbers_from first n))
   all_from f first zero s = tt
-  all_from f first (suc n) s =
-      (s first (omega arith) (omega arith),
-      all_from f (first + 1) n (λ k h i. s k (omega arith) (omega arith)))
+  all_from f first (suc n) s = (
+    s first (omega arith) (omega arith),
+    all_from f (first + 1) n (λ k h i. s k (omega arith) (omega arith)),
+  )
 
 pub all_with : (P Q : Gap → Type 0) → ((g : Gap) → P g → Q g) → (gs : List Gap) → AllByRecursion P gs
     → AllByRecursion Q gs
@@ -157,8 +158,10 @@ new_one : (came : List ℕ) (newest k number : ℕ) → IsNewest came newest →
     → IsMissing (k ∷ came) number
 new_one came newest k number i h j =
     record {
-      absent = (λ e. omega arith,
-      all_since (λ n. n ≤ newest) (λ n. n ≡ number → ⊥) (λ n s e. omega arith) came i.most);
+      absent = (
+        λ e. omega arith,
+        all_since (λ n. n ≤ newest) (λ n. n ≡ number → ⊥) (λ n s e. omega arith) came i.most,
+      );
       one_before = or_right (ltb k number) (list_any (λ n. ltb n number) came)
           (any_since (λ n. eqb n newest) (λ n. ltb n number)
           (λ n e.
@@ -203,6 +206,7 @@ ahead came newest k picture gs i h s =
     older g b =
         let l = b.below in
         record { is = still came k g.number (λ e. omega (arith, l, h, e)) b.is; below = omega (arith, l, h) }
+
     newly : (n : ℕ) → newest < n → n < k → Between (k ∷ came) k n
     newly n j l = record { is = new_one came newest k n i j l; below = l }
 
@@ -237,11 +241,13 @@ by_number came newest k picture gs s =
     (cases_lt newest k)
 
 none_before : (came : List ℕ) (k : ℕ) (gs : List Gap) → gs ≡ [] → came ≡ [] → Inside (k ∷ came) (Some k) gs
-none_before came k gs e f =
-    (record {
-      is = or_left (eqb k k) (list_any (λ n. eqb n k) came) (eq-eqb k k refl);
-      most = (omega arith, subst (AllByRecursion (λ n. n ≤ k)) (sym f) tt);
-    }, subst (AllByRecursion (λ g. Between (k ∷ came) k g.number)) (sym e) tt)
+none_before came k gs e f = (
+  record {
+    is = or_left (eqb k k) (list_any (λ n. eqb n k) came) (eq-eqb k k refl);
+    most = (omega arith, subst (AllByRecursion (λ n. n ≤ k)) (sym f) tt);
+  },
+  subst (AllByRecursion (λ g. Between (k ∷ came) k g.number)) (sym e) tt,
+)
 
 by_packet : (came : List ℕ) (o : Option ℕ) (sequence picture : ℕ) (gs : List Gap) → Inside came o gs
     → Inside (number_after o sequence ∷ came) (newest_after_packet o sequence) (after_packet o sequence picture gs)
@@ -261,9 +267,11 @@ same_number m newest first g =
 by_told : (came : List ℕ) (m : Moment) (newest : ℕ) (gs : List Gap) (o : Option Gap) → Inside came (Some newest) gs
     → Inside came (Some newest) (told_from m newest gs o)
 by_told came m newest gs None s = s
-by_told came m newest gs (Some x) s =
-    (s.0, all_map (λ g. Between came newest g.number) (when_told m newest x.number)
-    (λ g b. subst (Between came newest) (sym (same_number m newest x.number g)) b) gs s.1)
+by_told came m newest gs (Some x) s = (
+  s.0,
+  all_map (λ g. Between came newest g.number) (when_told m newest x.number)
+      (λ g b. subst (Between came newest) (sym (same_number m newest x.number g)) b) gs s.1,
+)
 
 by_asking : (came : List ℕ) (m : Moment) (o : Option ℕ) (gs : List Gap) → Inside came o gs
     → Inside came o (after_asking m o gs)

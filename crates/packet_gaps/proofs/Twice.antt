@@ -1,7 +1,7 @@
 -- No packet is asked for a third time.
-use Rattle.std.proofs.Common.{◌≡◌, ℕ, zero, suc, ◌+◌, ◌-◌, ◌<◌, ◌≤◌, min, not, Bool, true, false, cond, eqb, leb, ltb, ◌||◌, List, [], ◌∷◌, ◌++◌, length, map, filter, drop, Option, Some, None, refl, ap, sym, subst, arith, ◌∙◌, ⊎_elim}
+use Rattle.std.proofs.Common.{◌≡◌, ℕ, zero, suc, ◌+◌, ◌-◌, ◌<◌, ◌≤◌, not, Bool, true, false, cond, eqb, leb, ltb, ◌||◌, List, [], ◌∷◌, ◌++◌, length, map, filter, drop, Option, Some, None, refl, ap, sym, subst, arith, ◌∙◌, ⊎_elim}
 use Rattle.std.specs.Prelude.{find}
-use Rattle.std.specs.List.{AllByRecursion, list_any}
+use Rattle.std.specs.List.{AllByRecursion}
 use Rattle.std.proofs.lemmas.Bool.{cases_Bool, cases_lt, cond_both, eqb-true, ltb-true, ne_eqb, false≢true, or_from}
 use Rattle.packet_gaps.specs.declared.gap.Gap.{Gap}
 use Rattle.packet_gaps.specs.declared.moment.Moment.{Moment}
@@ -9,7 +9,7 @@ use Rattle.packet_gaps.specs.Asking.{after_asking, asked_again, is_told, may_ask
 use Rattle.packet_gaps.specs.Missing.{after_number, after_packet, gap_of, last_of, newest_after, newest_after_packet, number_of, numbers_from}
 use Rattle.packet_gaps.specs.Kept.{Event, Came, Played, Asked, asked_at, has_number, kept_of}
 use Rattle.packet_gaps.proofs.Choosing.{Waited, asked_parts, has_not, told_may}
-use Rattle.packet_gaps.proofs.Past.{BelowIn, all_append, all_drop, all_filter, all_from, all_map, all_with, below_newest, same_number}
+use Rattle.packet_gaps.proofs.Past.{BelowIn, all_append, all_drop, all_filter, all_from, all_with, below_newest, same_number}
 
 -- ---- numbers that grow
 
@@ -33,28 +33,31 @@ grow_append : (n : ℕ) (gs hs : List Gap) → Increasing gs → Increasing hs �
     → AllByRecursion (λ h. n ≤ h.number) hs → Increasing (gs ++ hs)
 grow_append n [] hs s t b c = t
 grow_append n (g ∷ gs) hs s t b c =
-    let first = b.0 in
-    (all_append (λ h. g.number < h.number) gs hs s.0
-    (all_with (λ h. n ≤ h.number) (λ h. g.number < h.number) (λ h i. omega (arith, first, i)) hs c),
-    grow_append n gs hs s.1 t b.1 c)
+    let first = b.0 in (
+      all_append (λ h. g.number < h.number) gs hs s.0
+          (all_with (λ h. n ≤ h.number) (λ h. g.number < h.number) (λ h i. omega (arith, first, i)) hs c),
+      grow_append n gs hs s.1 t b.1 c,
+    )
 
 grow_from : (picture first n : ℕ) → Increasing (map (gap_of picture) (numbers_from first n))
 grow_from picture first zero = tt
-grow_from picture first (suc n) =
-    (all_from (λ h. first < h.number) (gap_of picture) (first + 1) n (λ k i j. omega (arith, i)),
-    grow_from picture (first + 1) n)
+grow_from picture first (suc n) = (
+  all_from (λ h. first < h.number) (gap_of picture) (first + 1) n (λ k i j. omega (arith, i)),
+  grow_from picture (first + 1) n,
+)
 
 grow_told : (m : Moment) (newest first : ℕ) (gs : List Gap) → Increasing gs
     → Increasing (map (when_told m newest first) gs)
 grow_told m newest first [] s = tt
-grow_told m newest first (g ∷ gs) s =
-    (all_map_to (λ h. g.number < h.number) (λ h. (when_told m newest first g).number < h.number)
-    (when_told m newest first)
-    (λ h i.
-    let a = same_number m newest first g in
-    let b = same_number m newest first h in
-    omega (arith, a, b, i)) gs s.0,
-    grow_told m newest first gs s.1)
+grow_told m newest first (g ∷ gs) s = (
+  all_map_to (λ h. g.number < h.number) (λ h. (when_told m newest first g).number < h.number)
+      (when_told m newest first)
+      (λ h i.
+      let a = same_number m newest first g in
+      let b = same_number m newest first h in
+      omega (arith, a, b, i)) gs s.0,
+  grow_told m newest first gs s.1,
+)
   where
     all_map_to : (P Q : Gap → Type 0) (f : Gap → Gap) → ((g : Gap) → P g → Q (f g)) → (gs : List Gap)
         → AllByRecursion P gs → AllByRecursion Q (map f gs)
@@ -103,13 +106,14 @@ no_number number (g ∷ gs) s =
 not_chosen : (number : ℕ) (p : Gap → Bool) (gs : List Gap) → Increasing gs
     → AllByRecursion (λ g. g.number ≡ number → p g ≡ false → has_number number (filter p gs) ≡ false) gs
 not_chosen number p [] s = tt
-not_chosen number p (x ∷ gs) s =
-    (λ e f.
-    ap (λ (b : Bool). has_number number (cond b (x ∷ filter p gs) (filter p gs))) f
-    ∙ no_number number (filter p gs)
-    (all_filter (λ g. g.number ≡ number → ⊥) p gs
-    (all_with (λ g. x.number < g.number) (λ g. g.number ≡ number → ⊥) (λ g i d. omega (arith, i, d, e)) gs s.0)),
-    later gs (not_chosen number p gs s.1) s.0)
+not_chosen number p (x ∷ gs) s = (
+  λ e f.
+      ap (λ (b : Bool). has_number number (cond b (x ∷ filter p gs) (filter p gs))) f
+      ∙ no_number number (filter p gs)
+      (all_filter (λ g. g.number ≡ number → ⊥) p gs
+      (all_with (λ g. x.number < g.number) (λ g. g.number ≡ number → ⊥) (λ g i d. omega (arith, i, d, e)) gs s.0)),
+  later gs (not_chosen number p gs s.1) s.0,
+)
   where
     later : (hs : List Gap)
         → AllByRecursion (λ g. g.number ≡ number → p g ≡ false → has_number number (filter p gs) ≡ false) hs
@@ -118,13 +122,14 @@ not_chosen number p (x ∷ gs) s =
         → has_number number (cond (p x) (x ∷ filter p gs) (filter p gs)) ≡ false) hs
     later [] h i = tt
     later (g ∷ hs) h i =
-        let above = i.0 in
-        (λ e f.
-        cond_both (p x) (x ∷ filter p gs) (filter p gs) (λ l. has_number number l ≡ false)
-        (λ t. or_from (eqb x.number number) (has_number number (filter p gs))
-        (ne_eqb x.number number (λ d. omega (arith, above, d, e))) (h.0 e f))
-        (λ t. h.0 e f),
-        later hs h.1 i.1)
+        let above = i.0 in (
+          λ e f.
+              cond_both (p x) (x ∷ filter p gs) (filter p gs) (λ l. has_number number l ≡ false)
+              (λ t. or_from (eqb x.number number) (has_number number (filter p gs))
+              (ne_eqb x.number number (λ d. omega (arith, above, d, e))) (h.0 e f))
+              (λ t. h.0 e f),
+          later hs h.1 i.1,
+        )
 
 -- one of those that are chosen has it
 some_chosen : (Q : Type 0) (number : ℕ) (p : Gap → Bool) (gs : List Gap)
@@ -188,8 +193,10 @@ fine_number number times newest k picture gs s =
   where
     P : Gap → Type 0
     P g = g.number ≡ number → Sound times g
+
     new : List Gap
     new = map (gap_of picture) (numbers_from (newest + 1) (k - newest - 1))
+
     less : (a b c : ℕ) → a < b → b < c → a < c
     less a b c h i = omega arith
 

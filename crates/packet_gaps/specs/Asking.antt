@@ -1,5 +1,5 @@
 -- Which packets may be asked for, and how a Generic NACK says it (RFC 4585, 6.2.1).
-use Rattle.std.specs.Prelude.{ℕ, zero, suc, ◌+◌, ◌-◌, ◌*◌, ◌%◌, min, not, ◌==◌, nat_lt, nat_le, Bool, true, false, List, [], ◌∷◌, map, filter, find, Option, Some, None, if◌then◌else◌}
+use Rattle.std.specs.Prelude.{ℕ, zero, suc, ◌+◌, ◌-◌, ◌*◌, ◌%◌, min, ◌==◌, nat_lt, nat_le, Bool, true, false, List, [], map, filter, find, Option, Some, None, if◌then◌else◌}
 use Rattle.std.specs.List.{list_any}
 use Rattle.packet_gaps.specs.declared.gap.Gap.{Gap}
 use Rattle.packet_gaps.specs.declared.gaps.Nack.{Nack}

@@ -1,9 +1,10 @@
 -- What holds of the gaps, whatever came, was played and was asked.
-use Rattle.std.specs.Prelude.{◌≡◌, ℕ, ◌+◌, ◌-◌, ◌<◌, ◌≤◌, nat_lt, true, List, length, Option}
+use Rattle.std.specs.Prelude.{◌≡◌, ℕ, zero, suc, ◌+◌, ◌-◌, ◌/◌, ◌%◌, ◌==◌, ◌<◌, ◌≤◌, nat_lt, Bool, true, List, [], filter, length, Option, Some, MatchOption}
 use Rattle.std.specs.List.{AllByRecursion, list_any}
 use Rattle.packet_gaps.specs.declared.gap.Gap.{Gap}
+use Rattle.packet_gaps.specs.declared.gaps.Nack.{Nack}
 use Rattle.packet_gaps.specs.declared.moment.Moment.{Moment}
-use Rattle.packet_gaps.specs.Asking.{due_of, told_of}
+use Rattle.packet_gaps.specs.Asking.{after_asking, due_of, may_ask, nack_of, told_of}
 use Rattle.packet_gaps.specs.Kept.{Event, asked_at, came_of, has_number, kept_of}
 
 -- no packet with this number came, but one before it and one after it
@@ -41,3 +42,32 @@ Apart =
     (past : List Event) (m : Moment) (number : ℕ)
     → has_number number (told_of m (kept_of past).newest (kept_of past).gaps) ≡ true
     → AllByRecursion (λ time. m.round_trip ≤ m.time - time) (asked_at number past)
+
+-- ---- what a field says
+
+-- bit k of a number, bit 0 being the least significant one
+abbrev pub bit_at : ℕ → ℕ → Bool
+bit_at n zero = n % 2 == 1
+bit_at n (suc k) = bit_at (n / 2) k
+
+-- the field asks for these and for no others: the packet with this number, and so many of the 16
+-- after it as bits say
+pub record Names (n : Nack) (first : ℕ) (told : List Gap) : Type 0 where
+  pub packet : n.packet ≡ first % 65536
+  pub itself : has_number first told ≡ true
+  pub following : (k : ℕ) → k < 16 → bit_at n.following k ≡ has_number (first + 1 + k) told
+  pub near : AllByRecursion (λ g. (first ≤ g.number) × (g.number ≤ first + 16)) told
+
+abbrev pub Named : Type 0
+Named =
+    (m : Moment) (newest : Option ℕ) (gaps : List Gap)
+    → MatchOption (nack_of m newest gaps) (told_of m newest gaps ≡ [])
+    (λ n. (first : ℕ) × Names n first (told_of m newest gaps))
+
+-- where the round trip isn't 0, each field leaves fewer that may be asked for
+abbrev pub Ends : Type 0
+Ends =
+    (m : Moment) (newest : ℕ) (gaps : List Gap) → 1 ≤ m.round_trip
+    → MatchOption (nack_of m (Some newest) gaps) (Unit {0})
+    (λ n. length (filter (may_ask m newest) (after_asking m (Some newest) gaps))
+    < length (filter (may_ask m newest) gaps))

@@ -1,5 +1,5 @@
 //! Laws of the gaps, over the definitions alone.
-ghost use Rattle.packet_gaps.specs.Laws.{Apart, Few, InTime, Missing, Twice};
+ghost use Rattle.packet_gaps.specs.Laws.{Apart, Ends, Few, InTime, Missing, Named, Twice};
 
 /// No packet with a gap's number came, but one before it did, and one after it.
 pub fn missing()
@@ -24,4 +24,14 @@ pub fn twice()
 /// No packet is asked for again within a round trip.
 pub fn apart()
     ensures { Apart }
+{}
+
+/// The PID and the BLP of an answer say which packets are asked for.
+pub fn named()
+    ensures { Named }
+{}
+
+/// Where the round trip isn't 0, each answer leaves fewer packets that may be asked for.
+pub fn ends()
+    ensures { Ends }
 {}

@@ -29,7 +29,6 @@ mod gap;
 mod gaps;
 mod kept;
 pub mod laws;
-
 mod moment;
 
 pub use gaps::{Gaps, Nack};

@@ -1,4 +1,4 @@
-use Rattle.std.proofs.Common.{◌<◌, length, take, get_or, Option, None, ap, sym, arith, ◌∙◌}
+use Rattle.std.proofs.Common.{◌<◌, length, take, get_or, ap, sym, arith, ◌∙◌}
 use Rattle.std.specs.Prelude.{find}
 use Rattle.std.proofs.lemmas.List.{take_more}
 use Rattle.packet_gaps.specs.declared.gap.Gap.{Gap}

@@ -1,4 +1,4 @@
-use Rattle.std.proofs.Common.{◌≡◌, ◌+◌, ◌-◌, ◌<◌, ◌≤◌, ◌^◌}
+use Rattle.std.proofs.Common.{◌≡◌, ◌-◌, ◌<◌, ◌^◌}
 use Rattle.packet_gaps.specs.Asking.{is_asked, mask_of}
 use Rattle.packet_gaps.proofs.asking.following.Given as goal
 
