@@ -3,3 +3,4 @@ mod Choosing
 mod Past
 mod Twice
 mod Naming
+mod Later

@@ -23,7 +23,7 @@ has_waited m g =
     then true
     else if nat_le 2 g.asked then false else nat_le m.round_trip (m.time - g.last)
 
--- no packet up to the newest that is less than half of 65,536 behind it has the same 16 bits
+-- it is behind the newest by less than half of 65,536: its 16 bits, counted on, are its number
 abbrev pub is_named : ℕ → Gap → Bool
 is_named newest g = nat_lt (newest - g.number) 32768
 

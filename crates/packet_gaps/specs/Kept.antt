@@ -1,5 +1,5 @@
 -- What is kept of all that happened.
-use Rattle.std.specs.Prelude.{ℕ, ◌+◌, ◌==◌, Bool, if◌then◌else◌, List, [], ◌∷◌, Option, Some, None}
+use Rattle.std.specs.Prelude.{ℕ, ◌+◌, ◌==◌, Bool, if◌then◌else◌, List, [], ◌∷◌, map, Option, Some, None}
 use Rattle.std.specs.List.{list_any}
 use Rattle.packet_gaps.specs.declared.gap.Gap.{Gap}
 use Rattle.packet_gaps.specs.declared.moment.Moment.{Moment}
@@ -39,12 +39,16 @@ abbrev pub number_after : Option ℕ → ℕ → ℕ
 number_after None sequence = 65536 + sequence
 number_after (Some newest) sequence = number_of newest sequence
 
--- their numbers, counted on
+-- each by its number, counted on, and its picture
+abbrev pub packets_of : List Event → List (ℕ × ℕ)
+packets_of [] = []
+packets_of (Came sequence picture ∷ past) =
+    (number_after (kept_of past).newest sequence, picture) ∷ packets_of past
+packets_of (Played next ∷ past) = packets_of past
+packets_of (Asked m ∷ past) = packets_of past
+
 abbrev pub came_of : List Event → List ℕ
-came_of [] = []
-came_of (Came sequence picture ∷ past) = number_after (kept_of past).newest sequence ∷ came_of past
-came_of (Played next ∷ past) = came_of past
-came_of (Asked m ∷ past) = came_of past
+came_of past = map (λ p. p.0) (packets_of past)
 
 -- ---- the packets that were asked for
 

@@ -1,11 +1,11 @@
 -- What holds of the gaps, whatever came, was played and was asked.
-use Rattle.std.specs.Prelude.{◌≡◌, ℕ, zero, suc, ◌+◌, ◌-◌, ◌/◌, ◌%◌, ◌==◌, ◌<◌, ◌≤◌, nat_lt, Bool, true, List, [], filter, length, Option, Some, MatchOption}
+use Rattle.std.specs.Prelude.{◌≡◌, ℕ, zero, suc, ◌+◌, ◌-◌, ◌/◌, ◌%◌, ◌==◌, ◌<◌, ◌≤◌, nat_lt, Bool, true, false, if◌then◌else◌, List, [], filter, length, Option, Some, MatchOption}
 use Rattle.std.specs.List.{AllByRecursion, list_any}
 use Rattle.packet_gaps.specs.declared.gap.Gap.{Gap}
 use Rattle.packet_gaps.specs.declared.gaps.Nack.{Nack}
 use Rattle.packet_gaps.specs.declared.moment.Moment.{Moment}
 use Rattle.packet_gaps.specs.Asking.{after_asking, due_of, may_ask, nack_of, told_of}
-use Rattle.packet_gaps.specs.Kept.{Event, asked_at, came_of, has_number, kept_of}
+use Rattle.packet_gaps.specs.Kept.{Event, asked_at, came_of, has_number, kept_of, packets_of}
 
 -- no packet with this number came, but one before it and one after it
 pub record IsMissing (came : List ℕ) (number : ℕ) : Type 0 where
@@ -17,6 +17,17 @@ pub record IsMissing (came : List ℕ) (number : ℕ) : Type 0 where
 abbrev pub Missing : Type 0
 Missing =
     (past : List Event) → AllByRecursion (λ g. IsMissing (came_of past) g.number) (kept_of past).gaps
+
+-- it is ahead of the gap, and of its picture
+abbrev pub is_later : Gap → ℕ × ℕ → Bool
+is_later g p = if nat_lt g.number p.0 then p.1 == g.picture else false
+
+-- a packet of each gap's picture came that is ahead of it: so its own picture is that one, or an
+-- earlier one
+abbrev pub OfLater : Type 0
+OfLater =
+    (past : List Event)
+    → AllByRecursion (λ g. list_any (is_later g) (packets_of past) ≡ true) (kept_of past).gaps
 
 abbrev pub Few : Type 0
 Few = (past : List Event) → length (kept_of past).gaps ≤ 64

@@ -1,9 +1,14 @@
 //! Laws of the gaps, over the definitions alone.
-ghost use Rattle.packet_gaps.specs.Laws.{Apart, Ends, Few, InTime, Missing, Named, Twice};
+ghost use Rattle.packet_gaps.specs.Laws.{Apart, Ends, Few, InTime, Missing, Named, OfLater, Twice};
 
 /// No packet with a gap's number came, but one before it did, and one after it.
 pub fn missing()
     ensures { Missing }
+{}
+
+/// A packet of each gap's picture came that is ahead of it.
+pub fn of_later()
+    ensures { OfLater }
 {}
 
 /// There are 64 gaps at most.

@@ -4,7 +4,7 @@
 //! [`Gaps`] is told of each packet that comes, and of each play. What it then asks for can come
 //! before its picture is due, a round trip after it was asked for; no packet is asked for a third
 //! time, or again within a round trip. It keeps 64 gaps at most, the newest, and takes no memory. A
-//! packet ahead takes up to 64 steps, one behind and a play one step for each gap, an answer 18.
+//! packet or a play takes 64 steps at most, an answer 18 times as many.
 //!
 //! ```rust
 //! let mut gaps = Gaps::new();
@@ -22,6 +22,7 @@
 //! - **Sequence numbers are counted on**, as RFC 3550 does for its reports, so that a number that
 //!   comes again after 65,536 packets is another one. A gap that is 32,768 behind or more isn't
 //!   asked for, since its 16 bits may mean another packet by then.
+//! - **The mask is looked up bit by bit**, so that it needs no order of the gaps to be right.
 #![tactic(auto)]
 
 mod asking;
