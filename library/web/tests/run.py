@@ -52,10 +52,8 @@ def of_stream(packet: bytes, source: str, ticks: str) -> bytes:
 
 
 class Run:
-    ends: list[Sender | Receiver | Session]
-
     def __init__(self) -> None:
-        self.ends = []
+        self.ends: list[Sender | Receiver | Session] = []
         self.frames: list[bytes] = []
         self.coded = 0
         self.packets: list[list[bytes]] = []
