@@ -376,8 +376,10 @@ class ServerTest(unittest.TestCase):
                 await page.send_json({"is": "enter", "room": "r", "name": ""})
                 await page.receive_json()
                 async with join() as fast:
-                    for _ in range(200):
-                        await fast.send_json({"is": "decline"})
+                    # It may be shut out before it has said all.
+                    with contextlib.suppress(ConnectionResetError):
+                        for _ in range(200):
+                            await fast.send_json({"is": "decline"})
                     self.assertEqual(await self.is_shut_out(fast), 4008)
                 socks = [socket.create_connection(("127.0.0.1", self.port)) for _ in range(600)]
                 for one in socks:
