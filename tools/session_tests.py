@@ -160,8 +160,9 @@ class SessionTest(unittest.TestCase):
         library = in_process.library()
         with library.Sender(library.Params.of("qcif", clock=library.CLOCKS["custom"])) as sender:
             packet = sender.packets(sender.code(bytes(38_016)))[0]
-        for _ in range(3):
-            self.assertIsNone(call.end.packet(packet))
+        # From a sender on the network, which has an SSRC of its own.
+        for source in (library.SSRC, 1, 0xFFFFFFFF):
+            self.assertIsNone(call.end.packet(library.label(packet, source, library.PAYLOAD_TYPE)))
         told = "the other side sends qcif in the custom clock, and this call is sub-qcif in the standard clock"
         self.assertEqual([words.split(":")[0] for words in call.said], [told])
         self.assertEqual(call.tally.dropped, {"other format or clock": 3})

@@ -146,9 +146,10 @@ class SessionReceiving:
             self._tell_other_pictures(data)
 
     def _tell_other_pictures(self, data: bytes) -> None:
-        assert self._context.library
-        theirs = self._context.library.packet_start(data)
-        own = self._settings
+        library, own = self._context.library, self._settings
+        assert library
+        # Packets on the way have any SSRC, and `packet_start` reads an end's own.
+        theirs = library.packet_start(library.label(data, library.SSRC, library.PAYLOAD_TYPE))
         self._tell_once(
             (theirs.format, theirs.clock),
             f"the other side sends {theirs.format} in the {theirs.clock} clock, and this call is "
