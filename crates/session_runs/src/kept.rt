@@ -6,13 +6,14 @@ ghost use Rattle.receiver_end.specs.State.{run_of};
 ghost use Rattle.session_intake.specs.Settings.{IsSettings};
 ghost use Rattle.session_runs.specs.Histories.{History, after_packet, after_play, answer_in, begun};
 ghost use Rattle.session_runs.specs.Histories.{after_play_if, due_in, entries_in, is_due_in};
-ghost use Rattle.session_runs.specs.Histories.{must_begin, ready};
+ghost use Rattle.session_runs.specs.Histories.{after_nack, moment_in, must_begin, nack_at, ready};
 ghost use Rattle.session_runs.specs.Kept.{ArePlays, HistoryStands, IsAnswer, IsKept, IsPlay, config_in};
 
-use crate::answers;
 use crate::unheard::Unheard;
+use crate::{answers, repair};
 use h263_planes::PictureRef;
 use h263_types::OutOfMemory;
+use packet_gaps::{Gaps, Moment, Nack};
 use receiver_end::Played;
 use session_intake::Settings;
 use std::alloc::Global;
@@ -28,6 +29,7 @@ pub struct KeptRun {
     run: StreamRun,
     until: u32,
     unheard: Unheard,
+    gaps: Gaps,
 }
 
 impl KeptRun {
@@ -42,6 +44,7 @@ impl KeptRun {
             run,
             until: 0,
             unheard: Unheard::fresh(0),
+            gaps: Gaps::new(),
         })
     }
 
@@ -56,6 +59,7 @@ impl KeptRun {
         self.run.begin(reference, settings.rate, settings.wait);
         self.until = 0;
         self.unheard = Unheard::fresh(now);
+        self.gaps = Gaps::new();
     }
 
     // Whether it begins anew at its next packet.
@@ -100,9 +104,11 @@ impl KeptRun {
         ensures stands { (h : History) → HistoryStands self.old h → HistoryStands self.new
             (after_packet (config_in settings.now) packet.now bytes.now now h) }
     {
+        let place = self.run.place(packet, now);
         let answer = self.run.arrival(packet, bytes, now);
         self.until = answers::until_after(&answer, settings.params.lead, self.until);
         self.unheard = self.unheard.after(answers::is_heard(&answer), now);
+        repair::note(&mut self.gaps, packet.sequence, place, &answer);
         answer
     }
 
@@ -130,9 +136,11 @@ impl KeptRun {
         ensures told { (h : History) → HistoryStands self.old h
             → IsPlay (config_in settings.now) h result }
         ensures stands { (h : History) → HistoryStands self.old h
-            → HistoryStands self.new (after_play now h) }
+            → HistoryStands self.new (after_play (config_in settings.now) now h) }
     {
-        self.run.play()
+        let played = self.run.play();
+        self.gaps.played(self.run.next());
+        played
     }
 
     /// Plays the next picture if it is due by now. It is on the screen then.
@@ -142,7 +150,7 @@ impl KeptRun {
         ensures told { (h : History) → HistoryStands self.old h
             → ArePlays (config_in settings.now) h (is_due_in (config_in settings.now) now h) result }
         ensures stands { (h : History) → HistoryStands self.old h → HistoryStands self.new
-            (after_play_if (is_due_in (config_in settings.now) now h) now h) }
+            (after_play_if (config_in settings.now) (is_due_in (config_in settings.now) now h) now h) }
     {
         let Some(time) = self.due() else {
             return None;
@@ -151,6 +159,45 @@ impl KeptRun {
             return None;
         }
         Some(self.play(settings, now))
+    }
+
+    // The moment at which packets may be asked for: none where it isn't known when the next picture
+    // is due, or where it is due at once.
+    fn moment(&self, settings: &Settings, round_trip: u64, now: u64) -> Option<Moment>
+        requires settings { IsSettings settings.now }
+        requires kept { IsKept settings.now now self.now }
+        ensures { (h : History) → HistoryStands self.now h
+            → result ≡ moment_in (config_in settings.now) round_trip now h }
+    {
+        let Some(due) = self.due() else {
+            return None;
+        };
+        if due == 0 {
+            return None;
+        }
+        Some(Moment {
+            time: now,
+            round_trip,
+            next: self.run.next(),
+            due,
+            period: repair::picture_period(&settings.rate),
+        })
+    }
+
+    /// The next packets of it to ask for, if there are any that can come in time.
+    pub fn missing(&mut self, settings: &Settings, round_trip: u64, now: u64) -> Option<Nack>
+        requires settings { IsSettings settings.now }
+        requires kept { IsKept settings.now now self.old }
+        ensures kept { IsKept settings.now now self.new }
+        ensures answer { (h : History) → HistoryStands self.old h
+            → result ≡ nack_at (moment_in (config_in settings.now) round_trip now h) h }
+        ensures stands { (h : History) → HistoryStands self.old h → HistoryStands self.new
+            (after_nack (moment_in (config_in settings.now) round_trip now h) h) }
+    {
+        match self.moment(settings, round_trip, now) {
+            Some(moment) => self.gaps.ask(&moment),
+            None => None,
+        }
     }
 
     /// The picture on its screen.
@@ -169,6 +216,7 @@ impl KeptRun {
             run,
             until: _,
             unheard: _,
+            gaps: _gaps,
         } = self;
         run.finish();
     }

@@ -29,6 +29,7 @@ returns-clause-stands c = λ h s.
       unheard = c.after-self.ensures
           ∙ ap (λ (b : Bool). after_heard b c.args.now c.args.self.now.unheard) (c.is_heard.ensures p.clock a is)
           ∙ ap (after_heard (is_heard a) c.args.now) s.unheard;
+      gaps = c.note.ensures p.clock a h.gaps is s.gaps;
     }
 
 pub returns-clause-kept : goal.returns-clause-kept

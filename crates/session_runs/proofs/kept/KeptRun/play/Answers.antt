@@ -6,4 +6,5 @@ returns-clause-stands c = λ h s.
       run = c.play.ensures.stands h.first c.args.now h.past s.run;
       until = s.until;
       unheard = s.unheard;
+      gaps = s.gaps;
     }
