@@ -8,7 +8,7 @@ use Rattle.session_intake.specs.declared.seen.Seen.{Seen}
 use Rattle.session_intake.specs.declared.seen.Cause.{Cause}
 use Rattle.session_intake.specs.Datagrams.{seen_in}
 use Rattle.session_runs.specs.Histories.{Config}
-use Rattle.call_session.specs.Sessions.{Anew, Asked, Datagram, DatagramOf, Ended, Entry, State, Turn, after_ended, after_grant, after_missing, after_reading, asked_for, at, is_looked_at, outcome_of_reading, seen_of_one, session_run, taker_in, time_of}
+use Rattle.call_session.specs.Sessions.{Anew, Asked, Datagram, DatagramOf, Ended, Entry, State, Turn, after_grant, after_reading, asked_for, at, is_looked_at, outcome_of_reading, seen_of_one, session_run, taker_in, time_of}
 use Rattle.session_laws.specs.Undisturbed.{Followed, InOrder, IsBeside, Said, StaysLive, followed_in, is_from, is_from_other, newest_time, own_of, said_of, said_of_packet, said_with}
 use Rattle.session_laws.proofs.Others.{by_others}
 use Rattle.session_laws.proofs.Own as own
@@ -109,8 +109,8 @@ record OwnGoes (r : Result Seen Cause) (c : Config) (source : ℕ) (bytes : List
       ≡ said_of_packet (is_from source r) (outcome_of_reading c r bytes (at now b)) ++ y
   same : followed_in (after_reading c r bytes (at now a)) ≡ followed_in (after_reading c r bytes (at now b))
   source_is : is_of (after_reading c r bytes (at now a)).follows.streams.followed source ≡ true
-  now : (after_reading c r bytes (at now a)).now ≤ now
-  own_now : (after_reading c r bytes (at now b)).now ≤ now
+  then : (after_reading c r bytes (at now a)).now ≤ now
+  own_then : (after_reading c r bytes (at now b)).now ≤ now
 
 own_goes : (r : Result Seen Cause) (c : Config) (source : ℕ) (bytes : List ℕ) (now : ℕ) (before es owns : List Entry)
     → newest_time (es ++ before) ≤ now → now < 4611686018427387904
@@ -130,8 +130,8 @@ own_goes r c source bytes now before es owns i j k e =
           (same_outcome r c source bytes now (at now a) (at now b) e f g k.same k.source_is)) k.said;
       same = same_after r c source bytes now (at now a) (at now b) e f g k.same k.source_is;
       source_is = source_after r c source bytes (at now a) e k.source_is;
-      now = with_reading r c bytes now (newest_time (es ++ before)) a k.now i j;
-      own_now = with_reading r c bytes now (newest_time (es ++ before)) b k.own_now i j;
+      then = with_reading r c bytes now (newest_time (es ++ before)) a k.now i j;
+      own_then = with_reading r c bytes now (newest_time (es ++ before)) b k.own_now i j;
     }
 
 beside_at : (r : Result Seen Cause) (n m : ℕ) (o p former : Option Stream) → n ≡ m → o ≡ p → IsBeside r n o former
@@ -147,8 +147,8 @@ record OthersGo (r : Result Seen Cause) (c : Config) (source : ℕ) (bytes : Lis
   said : said_of_packet (is_from source r) (outcome_of_reading c r bytes (at now a)) ++ x ≡ y
   same : followed_in (after_reading c r bytes (at now a)) ≡ followed_in b
   source_is : is_of (after_reading c r bytes (at now a)).follows.streams.followed source ≡ true
-  now : (after_reading c r bytes (at now a)).now ≤ now
-  own_now : b.now ≤ now
+  then : (after_reading c r bytes (at now a)).now ≤ now
+  own_then : b.now ≤ now
 
 others_go : (r : Result Seen Cause) (c : Config) (source : ℕ) (bytes : List ℕ) (now : ℕ) (before es owns : List Entry)
     → newest_time (es ++ before) ≤ now → now < 4611686018427387904
@@ -170,8 +170,8 @@ others_go r c source bytes now before es owns i j x k e =
           ∙ k.said;
       same = left ∙ k.same;
       source_is = ap (λ (v : Followed). is_of v.stream source) left ∙ k.source_is;
-      now = with_reading r c bytes now (newest_time (es ++ before)) a k.now i j;
-      own_now = le_later b.now (newest_time (es ++ before)) now k.own_now i;
+      then = with_reading r c bytes now (newest_time (es ++ before)) a k.now i j;
+      own_then = le_later b.now (newest_time (es ++ before)) now k.own_now i;
     }
 
 turn : (c : Config) (source : ℕ) (before : List Entry) (now : ℕ) (es owns : List Entry)
@@ -256,13 +256,13 @@ others_end c source before other now es owns i j k e =
     record {
       said = k.said;
       same = ap (λ (o : Option Stream). let v : Followed = record {
-            stream = o;
-            line = a.follows.lines.followed;
-            asked = a.asked.followed;
-            exact = a.counts.exact;
-            patched = a.counts.patched;
-            held = a.counts.held;
-          } in v) left ∙ k.same;
+        stream = o;
+        line = a.follows.lines.followed;
+        asked = a.asked.followed;
+        exact = a.counts.exact;
+        patched = a.counts.patched;
+        held = a.counts.held;
+      } in v) left ∙ k.same;
       source_is = ap (λ (o : Option Stream). is_of o source) left ∙ k.source_is;
       now = at_most a.now (newest_time (es ++ before)) now k.now i j;
       own_now = le_later b.now (newest_time (es ++ before)) now k.own_now i;
@@ -293,17 +293,17 @@ goes c source before (Datagram bytes now ∷ es) h o s =
     let r = seen_in c.params bytes in
     whose (is_from source r) c source before (Datagram bytes now) es (own_of c source es)
     (λ e. let g = own_goes r c source (renamed bytes) now before es (own_of c source es) o.0 o.1 k e in
-        record { said = g.said; same = g.same; source_is = g.source_is; now = g.now; own_now = g.own_now })
+    record { said = g.said; same = g.same; source_is = g.source_is; now = g.then; own_now = g.own_then })
     (λ e. let g = others_go r c source (renamed bytes) now before es (own_of c source es) o.0 o.1 s.0 k e in
-        record { said = g.said; same = g.same; source_is = g.source_is; now = g.now; own_now = g.own_now })
+    record { said = g.said; same = g.same; source_is = g.source_is; now = g.then; own_now = g.own_then })
 goes c source before (DatagramOf only bytes now ∷ es) h o s =
     let k = goes c source before es h o.2 s.1 in
     let r = seen_of_one c only bytes in
     whose (is_from source r) c source before (DatagramOf only bytes now) es (own_of c source es)
     (λ e. let g = own_goes r c source (renamed bytes) now before es (own_of c source es) o.0 o.1 k e in
-        record { said = g.said; same = g.same; source_is = g.source_is; now = g.now; own_now = g.own_now })
+    record { said = g.said; same = g.same; source_is = g.source_is; now = g.then; own_now = g.own_then })
     (λ e. let g = others_go r c source (renamed bytes) now before es (own_of c source es) o.0 o.1 s.0 k e in
-        record { said = g.said; same = g.same; source_is = g.source_is; now = g.now; own_now = g.own_now })
+    record { said = g.said; same = g.same; source_is = g.source_is; now = g.then; own_now = g.own_then })
 
 pub undisturbed : (c : Config) (source : ℕ) (before es : List Entry)
     → is_of (session_run c before).follows.streams.followed source ≡ true

@@ -100,21 +100,21 @@ module _ {P : Stream → Type 0} {Q : Trial → Type 0} where
 
 -- ---- ends
 
+ended_if : (P : Stream → Type 0) (b : Bool) (now : ℕ) (f : Stream) → P f → P (choice.ended now f)
+    → MatchOption (cond b (Some (choice.ended now f)) (Some f)) (Unit {0}) P
+ended_if P true now f h e = e
+ended_if P false now f h e = h
+
+ended_one : (P : Stream → Type 0) (o : Option Stream) (source now : ℕ) → ((f : Stream) → P f → P (choice.ended now f))
+    → MatchOption o (Unit {0}) P → MatchOption (choice.ended_if o source now) (Unit {0}) P
+ended_one P None source now k h = tt
+ended_one P (Some f) source now k h = ended_if P (eqb f.source source) now f h (k f h)
+
 module _ {P : Stream → Type 0} {Q : Trial → Type 0} where
-  ended_if : (b : Bool) (now : ℕ) (f : Stream) → P f → P (choice.ended now f)
-      → MatchOption (cond b (Some (choice.ended now f)) (Some f)) (Unit {0}) P
-  ended_if true now f h e = e
-  ended_if false now f h e = h
-
-  ended_one : (o : Option Stream) (source now : ℕ) → ((f : Stream) → P f → P (choice.ended now f))
-      → MatchOption o (Unit {0}) P → MatchOption (choice.ended_if o source now) (Unit {0}) P
-  ended_one None source now k h = tt
-  ended_one (Some f) source now k h = ended_if (eqb f.source source) now f h (k f h)
-
   ended_each : (st : Streams) (source now : ℕ) → ((f : Stream) → P f → P (choice.ended now f)) → Each P Q st
       → Each P Q (choice.after_end st source now)
   ended_each st source now k x =
-      record { followed = ended_one st.followed source now k x.followed; former = x.former; tried = x.tried }
+      record { followed = ended_one P st.followed source now k x.followed; former = x.former; tried = x.tried }
 
 pub played_streams : (o : Option Run) (c : Config) (st : session.State)
     → (session.after_played c o st).follows.streams ≡ st.follows.streams

@@ -11,11 +11,12 @@ use h263_bits::Fault;
 use h263_types::Mb;
 use receiver_end::laws::is_decoding;
 
-/// What others send changes nothing of a followed stream of which a picture is complete every half
-/// second: what is said of its packets, and what is played of it, is as without them (`any`). Where no
-/// former stream is kept, that is asked of its own packets alone (`first`). Not said:
-/// anything of packets that are forged with its own SSRC, or of those that come between two pictures
-/// that are further apart; how packets are counted; and how much time others' packets cost.
+/// What others send, ends of other streams too, changes nothing of a followed stream of which a picture
+/// is complete every half second: what is said of its packets, what is played of it, and which of its
+/// packets are asked for, is as without them (`any`). Where no former stream is kept, that is asked of
+/// its own packets alone (`first`). Not said: anything of packets or ends that are forged with its own
+/// SSRC, or of packets that come between two pictures that are further apart; how packets are counted;
+/// and how much time others' packets cost.
 pub fn undisturbed()
     ensures any { Undisturbed }
     ensures first { UndisturbedFirst }
