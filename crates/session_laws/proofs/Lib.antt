@@ -11,3 +11,4 @@ mod First
 mod Giving
 mod Hearing
 mod Ways
+mod AskedAgain

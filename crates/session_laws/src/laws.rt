@@ -1,4 +1,5 @@
 //! Laws of sessions, over the definitions alone.
+ghost use Rattle.session_laws.specs.AskingAgain.{AskedByName, AskedInTime, AskedTwice};
 ghost use Rattle.session_laws.specs.Bounded.{FewAreTaken, NeverAhead, PlaysAreDue, PlaysWait};
 ghost use Rattle.session_laws.specs.InTime.{GivenInTime, InTime, OfOneSender};
 ghost use Rattle.session_laws.specs.Recovering.{DueAgain, EachCounts, FollowedAgain};
@@ -103,4 +104,19 @@ pub fn in_time()
     is_decoding();
     are_rules();
     call_model::laws::any_sound_sender::<Styled, Mb, Pictured, Fault>();
+}
+
+/// Nothing is asked for again that can't come before its picture is due (`time`), an answer names what
+/// is (`name`), and of a run no packet is asked for a third time, or again within a round trip
+/// (`twice`). Not said: that an answer takes no longer than the caller says, or that all that is missing
+/// is asked for: of more than 64 packets the oldest aren't.
+pub fn asked_in_time()
+    ensures time { AskedInTime }
+    ensures name { AskedByName }
+    ensures twice { AskedTwice }
+{
+    packet_gaps::laws::in_time();
+    packet_gaps::laws::named();
+    packet_gaps::laws::twice();
+    packet_gaps::laws::apart();
 }
