@@ -9,6 +9,11 @@
 //! It is looked at twice then, and pays its budget twice. Budgets go by role: the stream that is
 //! followed has one, the former one has another, and all others together have a third.
 //!
+//! Packets of the stream that is followed that are missing are asked for again, as
+//! [`Session::missing`] says, by Generic NACKs: where the sender sends them again, their repeats are
+//! handed in as any datagram. [`Session::bye`] says that a stream has ended, and [`Session::reset`] that
+//! the call begins anew, as with another party.
+//!
 //! ```rust
 //! let mut session = Session::start(rt.alloc(), &settings)?;
 //! let arrived = session.arrival(&FLAT_PACKET, 30 * MILLISECOND);

@@ -12,7 +12,8 @@ pub enum Cause {
     OtherPictures,
     /// More than 12,000 packets of its stream, or of all strangers together, came in this second.
     TooFast,
-    /// Its stream has no run: another is followed, or is tried.
+    /// Its stream has no run, since another is followed, or is tried; or packets of another one alone
+    /// are looked at.
     OtherStream,
 }
 

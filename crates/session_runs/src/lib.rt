@@ -9,6 +9,9 @@
 //! second, of which none could be heard; and after 2^20 pictures. A packet that is ahead isn't
 //! heard: the pictures before it are due at once, and it is to be handed in again after their plays.
 //!
+//! Each run knows which packets are missing. Those of the stream that is followed are asked for again
+//! where they can come in time.
+//!
 //! ```rust
 //! let taker = following.taker(seen.source, now);
 //! following.note(seen.source, now);

@@ -3,8 +3,8 @@
 //!
 //! [`Streams`] says of each packet, by its SSRC, which run of a receiver takes it ([`Taker`]). A
 //! stream is followed from its first complete picture on, as long as no half second goes by without
-//! one; another is tried beside it then. Of those that were followed before one keeps its run. A
-//! [`Budget`] grants so many packets in each second.
+//! one, or until it ends; another is tried beside it then. Of those that were followed before one keeps
+//! its run. A [`Budget`] grants so many packets in each second.
 //!
 //! ```rust
 //! let mut streams = Streams::new();
