@@ -1,5 +1,6 @@
-/* A session: the layout of its structs, wrong calls, each refused by its number, and a call in made
- * time with a loss, a repeat, a pause, a stranger and junk. */
+/* A session: the layout of its structs, wrong calls, each refused by its number, and calls in made
+ * time: with a loss, a repeat, a pause, a stranger and junk, and with a loss that comes again, a
+ * stream that ends, and a beginning anew. */
 #include "h263rps.h"
 
 #include <stddef.h>
@@ -21,6 +22,7 @@ static uint8_t picture[SIZE], room[9001];
 static h263rps_params params;
 static h263rps_arrived arrived;
 static h263rps_turn turn;
+static h263rps_nack nack;
 static h263rps_session_counts counts;
 static uint64_t due;
 
@@ -33,6 +35,8 @@ static void layout(void) {
     want("size of the answer to a play", sizeof(h263rps_turn), 44);
     want("its answer", offsetof(h263rps_turn, answer), 12);
     want("size of the counts", sizeof(h263rps_session_counts), 10 * 8);
+    want("size of what is asked for", sizeof(h263rps_nack), 8);
+    want("its mask", offsetof(h263rps_nack, following), 6);
 }
 
 static void starts(void) {
@@ -64,7 +68,13 @@ static void refusals(h263rps_session *it, uint32_t why) {
     uint32_t source = 5;
     memset(&arrived, 0xAA, sizeof arrived);
     want("arrival", h263rps_session_arrival(it, room, 9, 0, &arrived), why);
+    want("arrival", h263rps_session_arrival_of(it, 7, room, 9, 0, &arrived), why);
     want("nothing is said", arrived.verdict, 0xAAAAAAAA);
+    nack.asks = 5;
+    want("missing", h263rps_session_missing(it, 0, 0, &nack), why);
+    want("nothing is asked for", nack.asks, 5);
+    want("bye", h263rps_session_bye(it, 7, 0), why);
+    want("reset", h263rps_session_reset(it, 0), why);
     want("play", h263rps_session_play(it, 0, &turn), why);
     want("due", h263rps_session_due(it, &due), why);
     want("shown", h263rps_session_shown(it, &lent), why);
@@ -83,6 +93,14 @@ static void nulls(void) {
     want("null", h263rps_session_arrival(&it, room, 1, 0, NULL), H263RPS_NULL);
     want("long", h263rps_session_arrival(&it, room, (size_t)PTRDIFF_MAX + 1, 0, &arrived),
          H263RPS_TOO_LONG);
+    want("null", h263rps_session_arrival_of(&it, 7, NULL, 1, 0, &arrived), H263RPS_NULL);
+    want("null", h263rps_session_arrival_of(&it, 7, room, 1, 0, NULL), H263RPS_NULL);
+    want("long", h263rps_session_arrival_of(&it, 7, room, (size_t)PTRDIFF_MAX + 1, 0, &arrived),
+         H263RPS_TOO_LONG);
+    want("null", h263rps_session_missing(&it, 0, 0, NULL), H263RPS_NULL);
+    want("null", h263rps_session_missing(NULL, 0, 0, &nack), H263RPS_NULL);
+    want("null", h263rps_session_bye(NULL, 7, 0), H263RPS_NULL);
+    want("null", h263rps_session_reset(NULL, 0), H263RPS_NULL);
     want("null", h263rps_session_play(&it, 0, NULL), H263RPS_NULL);
     want("null", h263rps_session_due(&it, NULL), H263RPS_NULL);
     want("null", h263rps_session_shown(&it, NULL), H263RPS_NULL);
