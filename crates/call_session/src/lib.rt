@@ -22,6 +22,7 @@ mod rules;
 mod session;
 mod verdict;
 
+pub use packet_gaps::Nack;
 pub use session::Session;
 pub use session_intake::{Cause, Counts, SettingFault, Settings};
 pub use verdict::{Arrived, RunPlayed, Taken, Verdict};

@@ -18,6 +18,7 @@ ghost use Rattle.call_session.specs.Ruled.{IsRules, IsRunPlayed, IsVerdict, Stat
 use crate::verdict::{Arrived, RunPlayed, Taken, Verdict};
 use h263_planes::PictureRef;
 use h263_types::{OutOfMemory, Params};
+use packet_gaps::Nack;
 use session_intake::{Budgets, Cause, Counts, Seen, Settings};
 use session_runs::{Following, laws as session_runs_laws};
 use std::alloc::Global;
@@ -203,6 +204,21 @@ impl Rules {
                 Some(RunPlayed { run, played })
             }
         }
+    }
+
+    /// The next packets to ask for of the stream that is followed.
+    pub fn missing(&mut self, round_trip: u64) -> Option<Nack> {
+        self.following.missing(&self.settings, round_trip, self.time)
+    }
+
+    /// The stream with this SSRC has ended.
+    pub fn ended(&mut self, source: u32) {
+        self.following.ended(source, self.time);
+    }
+
+    /// No stream has a run any more.
+    pub fn begin(&mut self) {
+        self.following.begin(&self.settings, self.time);
     }
 
     /// The SSRC of the stream of this run, if it has one.

@@ -17,7 +17,8 @@ use crate::rules::Rules;
 use crate::verdict::{Arrived, RunPlayed};
 use h263_planes::PictureRef;
 use h263_types::OutOfMemory;
-use session_intake::{Counts, Settings, read};
+use packet_gaps::Nack;
+use session_intake::{Cause, Counts, Settings, read};
 use std::alloc::Global;
 use std::boxed::BoxedSlice;
 use stream_choice::Run;
@@ -67,6 +68,22 @@ impl Session {
         }
     }
 
+    /// A datagram came of a call in which only the stream with this SSRC is looked at: a packet of
+    /// another one is dropped as [`Cause::OtherStream`], and costs no budget.
+    pub fn arrival_of(&mut self, source: u32, bytes: &[u8], now: u64) -> Arrived {
+        self.rules.tick(now);
+        match read(&self.rules.params(), bytes, &mut self.room) {
+            Err(cause) => self.rules.drop_for(cause),
+            Ok(seen) => {
+                if seen.source == source {
+                    self.rules.follow(&seen, &self.room[..bytes.len()])
+                } else {
+                    self.rules.drop_for(Cause::OtherStream)
+                }
+            }
+        }
+    }
+
     /// When something is due next, as far as that is known, without another packet: 0 where it is
     /// due at once.
     pub fn due(&self) -> Option<u64>
@@ -91,6 +108,31 @@ impl Session {
     {
         self.rules.tick(now);
         self.rules.play()
+    }
+
+    /// The next packets to ask for again (RFC 4585, 6.2.1), of the stream that is followed, that can
+    /// come before their pictures are due if the answer takes so long. They count as asked for then:
+    /// no packet is asked for a third time, or again within a round trip. It is called until there
+    /// are none. Nothing is asked for where it isn't known when the next picture is due, or where it
+    /// is due at once.
+    pub fn missing(&mut self, round_trip: u64, now: u64) -> Option<Nack> {
+        self.rules.tick(now);
+        self.rules.missing(round_trip)
+    }
+
+    /// The stream with this SSRC has ended (an RTCP BYE). If it is the one that is followed, it is
+    /// live no longer, so that another may be followed at once. A stream of which a trial failed
+    /// waits as long as before.
+    pub fn bye(&mut self, source: u32, now: u64) {
+        self.rules.tick(now);
+        self.rules.ended(source);
+    }
+
+    /// The call begins anew: no stream has a run any more. The clock, the budgets and what was counted
+    /// stay.
+    pub fn reset(&mut self, now: u64) {
+        self.rules.tick(now);
+        self.rules.begin();
     }
 
     /// The picture on the screen: the one of the stream that is followed that was played last. Before

@@ -17,6 +17,7 @@ use crate::answers;
 use crate::three::ThreeRuns;
 use h263_planes::PictureRef;
 use h263_types::OutOfMemory;
+use packet_gaps::Nack;
 use receiver_end::Played;
 use session_intake::Settings;
 use std::alloc::Global;
@@ -221,6 +222,26 @@ impl Following {
             return None;
         };
         Some((run, played))
+    }
+
+    /// The next packets to ask for of the stream that is followed, if there are any that can come in
+    /// time.
+    pub fn missing(&mut self, settings: &Settings, round_trip: u64, now: u64) -> Option<Nack> {
+        match self.streams.source(Run::Followed) {
+            Some(_) => self.runs.missing(settings, round_trip, now),
+            None => None,
+        }
+    }
+
+    /// The stream with this SSRC has ended.
+    pub fn ended(&mut self, source: u32, now: u64) {
+        self.streams.ended(source, now);
+    }
+
+    /// No stream has a run any more.
+    pub fn begin(&mut self, settings: &Settings, now: u64) {
+        self.streams = Streams::new();
+        self.runs.begin(settings, now);
     }
 
     /// The picture on the screen of the stream that is followed.

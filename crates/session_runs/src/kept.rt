@@ -10,9 +10,11 @@ ghost use Rattle.session_runs.specs.Histories.{must_begin, ready};
 ghost use Rattle.session_runs.specs.Kept.{ArePlays, HistoryStands, IsAnswer, IsKept, IsPlay, config_in};
 
 use crate::answers;
+use crate::repair;
 use crate::unheard::Unheard;
 use h263_planes::PictureRef;
 use h263_types::OutOfMemory;
+use packet_gaps::{Gaps, Moment, Nack};
 use receiver_end::Played;
 use session_intake::Settings;
 use std::alloc::Global;
@@ -28,6 +30,7 @@ pub struct KeptRun {
     run: StreamRun,
     until: u32,
     unheard: Unheard,
+    gaps: Gaps,
 }
 
 impl KeptRun {
@@ -42,6 +45,7 @@ impl KeptRun {
             run,
             until: 0,
             unheard: Unheard::fresh(0),
+            gaps: Gaps::new(),
         })
     }
 
@@ -56,6 +60,7 @@ impl KeptRun {
         self.run.begin(reference, settings.rate, settings.wait);
         self.until = 0;
         self.unheard = Unheard::fresh(now);
+        self.gaps = Gaps::new();
     }
 
     // Whether it begins anew at its next packet.
@@ -100,9 +105,11 @@ impl KeptRun {
         ensures stands { (h : History) → HistoryStands self.old h → HistoryStands self.new
             (after_packet (config_in settings.now) packet.now bytes.now now h) }
     {
+        let place = self.run.place(packet, now);
         let answer = self.run.arrival(packet, bytes, now);
         self.until = answers::until_after(&answer, settings.params.lead, self.until);
         self.unheard = self.unheard.after(answers::is_heard(&answer), now);
+        repair::note(&mut self.gaps, packet.sequence, place, &answer);
         answer
     }
 
@@ -132,7 +139,9 @@ impl KeptRun {
         ensures stands { (h : History) → HistoryStands self.old h
             → HistoryStands self.new (after_play now h) }
     {
-        self.run.play()
+        let played = self.run.play();
+        self.gaps.played(self.run.next());
+        played
     }
 
     /// Plays the next picture if it is due by now. It is on the screen then.
@@ -153,6 +162,32 @@ impl KeptRun {
         Some(self.play(settings, now))
     }
 
+    // The moment at which packets may be asked for: none where it isn't known when the next picture
+    // is due, or where it is due at once.
+    fn moment(&self, settings: &Settings, round_trip: u64, now: u64) -> Option<Moment> {
+        let Some(due) = self.due() else {
+            return None;
+        };
+        if due == 0 {
+            return None;
+        }
+        Some(Moment {
+            time: now,
+            round_trip,
+            next: self.run.next(),
+            due,
+            period: repair::picture_period(&settings.rate),
+        })
+    }
+
+    /// The next packets of it to ask for, if there are any that can come in time.
+    pub fn missing(&mut self, settings: &Settings, round_trip: u64, now: u64) -> Option<Nack> {
+        match self.moment(settings, round_trip, now) {
+            Some(moment) => self.gaps.ask(&moment),
+            None => None,
+        }
+    }
+
     /// The picture on its screen.
     pub fn shown(&self) -> PictureRef<'_>
         ensures run { (s : Settings) (now : ℕ) (h : History) → IsKept s now self.now
@@ -169,6 +204,7 @@ impl KeptRun {
             run,
             until: _,
             unheard: _,
+            gaps: _gaps,
         } = self;
         run.finish();
     }

@@ -23,6 +23,7 @@ mod answers;
 mod following;
 mod kept;
 pub mod laws;
+mod repair;
 mod three;
 mod unheard;
 

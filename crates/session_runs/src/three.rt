@@ -14,6 +14,7 @@ ghost use Rattle.session_runs.specs.Three.{AreKept, LinesStand};
 use crate::kept::KeptRun;
 use h263_planes::PictureRef;
 use h263_types::OutOfMemory;
+use packet_gaps::Nack;
 use receiver_end::Played;
 use session_intake::Settings;
 use std::alloc::Global;
@@ -146,6 +147,18 @@ impl ThreeRuns {
             Run::Former => self.former.play_due(settings, now),
             Run::Tried => self.tried.play_due(settings, now),
         }
+    }
+
+    /// The next packets to ask for of the stream that is followed.
+    pub fn missing(&mut self, settings: &Settings, round_trip: u64, now: u64) -> Option<Nack> {
+        self.followed.missing(settings, round_trip, now)
+    }
+
+    /// All begin anew.
+    pub fn begin(&mut self, settings: &Settings, now: u64) {
+        self.followed.begin(settings, 0, now);
+        self.former.begin(settings, 0, now);
+        self.tried.begin(settings, 0, now);
     }
 
     /// The picture on the screen of the stream that is followed.

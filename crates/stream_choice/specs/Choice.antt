@@ -29,6 +29,16 @@ is_of (Some s) source = s.source == source
 abbrev pub counted : ℕ → Stream → Stream
 counted now s = record { source = s.source; pictures = min (s.pictures + 1) 4294967295; last = now }
 
+-- It has ended: its last picture counts as one of half a second ago, unless it is older.
+abbrev pub ended : ℕ → Stream → Stream
+ended now s =
+    record { source = s.source; pictures = s.pictures; last = min s.last (now - 500000000) }
+
+-- what is left of a stream where the one with this SSRC has ended
+abbrev pub ended_if : Option Stream → ℕ → ℕ → Option Stream
+ended_if None source now = None
+ended_if (Some s) source now = if s.source == source then Some (ended now s) else Some s
+
 -- ---- trials
 
 -- A trial is over for so long: it has a second for its first complete picture, as long as its
@@ -80,6 +90,12 @@ after_packet st source now =
       former = st.former;
       tried = tried_after (taker_of st source now) st.tried source now;
     }
+
+-- The stream with this SSRC has ended. Trials and the former stream stay: a trial that failed has the
+-- same wait after it.
+abbrev pub after_end : Streams → ℕ → ℕ → Streams
+after_end st source now =
+    record { followed = ended_if st.followed source now; former = st.former; tried = st.tried }
 
 -- ---- complete pictures
 

@@ -1,7 +1,7 @@
 //! A stream that is, or was, followed.
 ghost use Rattle.std.specs.Prelude.{◌≡◌};
 ghost use Rattle.std.specs.Option.{option_map};
-ghost use Rattle.stream_choice.specs.Choice.{counted, is_kept, is_live, is_live_one, is_of, kept, overtakes};
+ghost use Rattle.stream_choice.specs.Choice.{counted, ended, ended_if, is_kept, is_live, is_live_one, is_of, kept, overtakes};
 
 // A stream is live for half a second after each complete picture.
 const LIVE: u64 = 500_000_000;
@@ -27,6 +27,18 @@ impl Stream {
         }
     }
 
+    /// The same where it has ended: it is live no longer, half a second after the clock began or
+    /// later.
+    pub fn ended(&self, now: u64) -> Stream
+        ensures { result ≡ ended now self.now }
+    {
+        Stream {
+            source: self.source,
+            pictures: self.pictures,
+            last: self.last.min(now.saturating_sub(LIVE)),
+        }
+    }
+
     /// Whether a picture of it was complete in the last half second.
     pub fn is_live(&self, now: u64) -> bool
         ensures { result ≡ is_live now self.now }
@@ -42,6 +54,22 @@ pub fn is_of(stream: Option<Stream>, source: u32) -> bool
     match stream {
         Some(stream) => stream.source == source,
         None => false,
+    }
+}
+
+/// What is left of a stream where the one with this SSRC has ended.
+pub fn ended_if(stream: Option<Stream>, source: u32, now: u64) -> Option<Stream>
+    ensures { result ≡ ended_if stream source now }
+{
+    match stream {
+        Some(stream) => {
+            if stream.source == source {
+                Some(stream.ended(now))
+            } else {
+                Some(stream)
+            }
+        }
+        None => None,
     }
 }
 

@@ -1,7 +1,7 @@
 //! Which stream is followed.
 ghost use Rattle.std.specs.Prelude.{◌≡◌, None};
 ghost use Rattle.std.specs.Option.{option_map};
-ghost use Rattle.stream_choice.specs.Choice.{after_complete, after_packet, is_live_one, source_in};
+ghost use Rattle.stream_choice.specs.Choice.{after_complete, after_end, after_packet, is_live_one, source_in};
 ghost use Rattle.stream_choice.specs.Choice.{former_turn, taker_of, tried_after, tried_turn, turn_of};
 ghost use Rattle.stream_choice.specs.Choice.{with_former, with_tried};
 
@@ -107,6 +107,15 @@ impl Streams {
             Run::Former => self.with_former(self.former, now),
             Run::Tried => self.with_tried(self.tried, now),
         };
+    }
+
+    /// The stream with this SSRC has ended. If it is followed, it is live no longer, so that another
+    /// may be tried; it stays followed until a picture of another is complete. Trials stay as they
+    /// are, so that none begins sooner after one that failed.
+    pub fn ended(&mut self, source: u32, now: u64)
+        ensures { self.new ≡ after_end self.old source now }
+    {
+        self.followed = stream::ended_if(self.followed, source, now);
     }
 
     /// What becomes of the runs once a picture of this one is complete.

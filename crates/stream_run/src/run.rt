@@ -17,7 +17,7 @@ use h263_types::{OutOfMemory, Params};
 use playout_times::Arrival;
 use receiver_end::{Heard, Played};
 use std::alloc::Global;
-use stream_numbers::{Numbers, Packet, Rate};
+use stream_numbers::{Numbers, Packet, Place, Rate};
 use timed_receiver::TimedReceiver;
 
 // Pictures that are open before the first one that came, for packets out of order at the start.
@@ -87,6 +87,17 @@ impl StreamRun {
     {
         self.numbers = Numbers::start(rate);
         self.timed.restart(reference.saturating_sub(BEFORE), wait);
+    }
+
+    /// The place that this packet has if it comes now, if it has one.
+    pub fn place(&self, packet: &Packet, now: u64) -> Option<Place>
+        requires reference { packet.now.reference < self.now.numbers.rate.period }
+        requires now { now < 2 ^ 62 }
+        ensures { (first : ℕ) (past : List Entry) → RunStands self.now first past
+            → result ≡ place_of self.now.numbers.rate (heard_of past) packet.now now }
+    {
+        let mut numbers = self.numbers;
+        numbers.place(packet, now)
     }
 
     /// A packet came, no earlier than the one before.
