@@ -88,6 +88,34 @@ pub extern "C" fn h263rps_raw_session_arrival(
     OK
 }
 
+/// Gives a datagram that came then to a session that takes those of one stream alone.
+#[unsafe(no_mangle)]
+pub extern "C" fn h263rps_raw_session_arrival_of(
+    slot: &mut SessionSlot,
+    source: u32,
+    bytes: &[u8],
+    now: u64,
+    arrived: &mut CArrived,
+) -> u32
+    ensures result { result ≡ status_of (unless_started slot.old.handle.inside) }
+    ensures same { result ≢ 0 → slot.new.handle.inside ≡ slot.old.handle.inside }
+    ensures unanswered { result ≢ 0 → arrived.new ≡ arrived.old }
+    ensures stands { (s : Settings) (past : List Entry)
+        → HoldsSession s past slot.old.handle.inside
+        → HoldsSession s (DatagramOf source bytes.now now ∷ past) slot.new.handle.inside }
+    ensures answer { (s : Settings) (past : List Entry)
+        → HoldsSession s past slot.old.handle.inside
+        → TellsOutcome s.params.clock arrived.new
+        (outcome_of_one (config_in s) source bytes.now now (state_after s past))
+        (told_of_one (config_in s) source bytes.now now (state_after s past)) }
+{
+    if !slot.is_started() {
+        return EndRefusal::NotStarted.number();
+    }
+    *arrived = slot.handle.session_mut().arrival_of(source, bytes, now);
+    OK
+}
+
 /// When something is due next in a session: 0 where it is at once, and the greatest number where
 /// nothing is known to be.
 #[unsafe(no_mangle)]
