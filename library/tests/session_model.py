@@ -435,7 +435,7 @@ class Model:
         now = self._tick(now)
         followed = self._streams[FOLLOWED]
         if followed and followed.source == source:
-            self._streams[FOLLOWED] = Stream(source, followed.pictures, followed.last - SECOND // 2)
+            self._streams[FOLLOWED] = Stream(source, followed.pictures, min(followed.last, max(0, now - SECOND // 2)))
 
     def reset(self, now: int) -> None:
         """Begins anew: no stream has a run any more."""
