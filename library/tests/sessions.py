@@ -281,7 +281,7 @@ class Call:
             return
         asked = self._pair.missing(chance.choice((self._trip, self._trip, chance.getrandbits(64))), now)
         source = self._pair.model.source(FOLLOWED)
-        sent = next((camera.sent for camera in self._cameras if camera.source == source), {})
+        sent: dict[int, bytes] = next((it.sent for it in self._cameras if it.source == source), {})
         for packet, following in asked:
             for number in [packet, *(packet + bit + 1 for bit in range(16) if following >> bit & 1)]:
                 again = sent.get(number % 65536)
