@@ -116,6 +116,13 @@ class SessionCounts(ctypes.Structure):
     ]
 
 
+class Nack(ctypes.Structure):
+    _fields_ = [
+        ("asks", ctypes.c_uint32),
+        *[(name, ctypes.c_uint16) for name in ("packet", "following")],
+    ]
+
+
 class Noted(ctypes.Structure):
     _fields_ = [("kind", ctypes.c_uint32), ("fault", ctypes.c_uint32)]
 
@@ -227,6 +234,10 @@ def library() -> ctypes.CDLL:
             "sender_finish": [pointer],
             "session_start": [pointer, pointer, pointer, pointer],
             "session_arrival": [pointer, pointer, size, time, pointer],
+            "session_arrival_of": [pointer, number, pointer, size, time, pointer],
+            "session_missing": [pointer, time, time, pointer],
+            "session_bye": [pointer, number, time],
+            "session_reset": [pointer, time],
             "session_due": [pointer, pointer],
             "session_play": [pointer, time, pointer],
             "session_shown": [pointer, pointer],

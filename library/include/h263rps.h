@@ -30,7 +30,7 @@
 #include <stdint.h>
 
 /* The version of this header: 10,000 * major + 100 * minor. h263rps_version() has the library's. */
-#define H263RPS_VERSION 20000
+#define H263RPS_VERSION 20100
 
 #ifdef __cplusplus
 extern "C" {
@@ -348,6 +348,13 @@ typedef struct h263rps_session_counts {
     uint64_t played[3];  /* the followed run's pictures by their mark (enum h263rps_mark) */
 } h263rps_session_counts;
 
+/* Packets that a session asks for again: the field of a Generic NACK (RFC 4585, 6.2.1). */
+typedef struct h263rps_nack {
+    uint32_t asks;      /* 1 where something is asked for; else 0, and all else is 0 */
+    uint16_t packet;    /* PID: the sequence number of a packet */
+    uint16_t following; /* BLP: bit i, from 1 at the least significant one, asks for the one i on */
+} h263rps_nack;
+
 /* What h263rps_session_due() has where nothing is known to be due. */
 #define H263RPS_NEVER UINT64_MAX
 
@@ -393,6 +400,13 @@ uint32_t h263rps_raw_session_start(h263rps_session *session, const h263rps_param
                                    const h263rps_timing *timing, uint32_t *fault);
 uint32_t h263rps_raw_session_arrival(h263rps_session *session, const uint8_t *bytes, size_t length,
                                      uint64_t now, h263rps_arrived *arrived);
+uint32_t h263rps_raw_session_arrival_of(h263rps_session *session, uint32_t source,
+                                        const uint8_t *bytes, size_t length, uint64_t now,
+                                        h263rps_arrived *arrived);
+uint32_t h263rps_raw_session_missing(h263rps_session *session, uint64_t round_trip, uint64_t now,
+                                     h263rps_nack *nack);
+uint32_t h263rps_raw_session_bye(h263rps_session *session, uint32_t source, uint64_t now);
+uint32_t h263rps_raw_session_reset(h263rps_session *session, uint64_t now);
 uint32_t h263rps_raw_session_due(h263rps_session *session, uint64_t *due);
 uint32_t h263rps_raw_session_play(h263rps_session *session, uint64_t now, h263rps_turn *turn);
 uint32_t h263rps_raw_session_shown(h263rps_session *session, h263rps_lent *lent);
@@ -812,6 +826,7 @@ static inline uint32_t h263rps_sender_finish(h263rps_end *end) {
  *     h263rps_session session = {0};
  *     h263rps_arrived arrived;
  *     h263rps_turn turn;
+ *     h263rps_nack nack;
  *     h263rps_lent shown;
  *     uint64_t due;
  *     h263rps_session_start(&session, &params, 30000, 1001, 60000000, NULL);  (a wait of 60 ms)
@@ -834,6 +849,8 @@ static inline uint32_t h263rps_sender_finish(h263rps_end *end) {
  *                 }
  *             }
  *         } while (arrived.verdict == H263RPS_AHEAD);
+ *         while (!h263rps_session_missing(&session, round_trip, time_now(), &nack) && nack.asks)
+ *             send_nack(nack.packet, nack.following);              (where the other side repeats)
  *     }
  *     h263rps_session_finish(&session);
  *
@@ -874,6 +891,54 @@ static inline uint32_t h263rps_session_arrival(h263rps_session *session, const v
     if (status) return status;
     return h263rps_raw_session_arrival(session, length ? (const uint8_t *)bytes : &nothing, length,
                                        now, arrived);
+}
+
+/* The same, of the stream with this SSRC alone, where a signal or a handshake has said which it is:
+ * a packet of the call's pictures with another SSRC is dropped as one of H263RPS_OTHER_STREAM, and
+ * costs the streams' budgets nothing.
+ * NOT_STARTED. */
+static inline uint32_t h263rps_session_arrival_of(h263rps_session *session, uint32_t source,
+                                                  const void *bytes, size_t length, uint64_t now,
+                                                  h263rps_arrived *arrived) {
+    uint8_t nothing = 0;
+    uint32_t status = h263rps_may_pass(bytes, length);
+    if (!session || !arrived) return H263RPS_NULL;
+    if (status) return status;
+    return h263rps_raw_session_arrival_of(session, source,
+                                          length ? (const uint8_t *)bytes : &nothing, length, now,
+                                          arrived);
+}
+
+/* Writes to `nack` the next packets of the followed stream that are missing and could still come
+ * before their pictures are due, `round_trip` nanoseconds after they are asked for: send it as a
+ * Generic NACK about h263rps_session_source() of H263RPS_FOLLOWED, and ask until nack->asks is 0.
+ * They count as asked for then: none is a third time, or again within a round trip. Nothing is
+ * asked for while it isn't known when the next picture is due, or it is due at once. A packet that
+ * comes again is handed in as any other.
+ * NOT_STARTED. */
+static inline uint32_t h263rps_session_missing(h263rps_session *session, uint64_t round_trip,
+                                               uint64_t now, h263rps_nack *nack) {
+    if (!session || !nack) return H263RPS_NULL;
+    return h263rps_raw_session_missing(session, round_trip, now, nack);
+}
+
+/* The stream with this SSRC has ended, as a BYE (RFC 3550, 6.6) says: if it is the followed one,
+ * another may be tried at once, not only half a second after its last picture. It stays followed
+ * until a picture of that one is complete. Of any other stream it changes nothing.
+ * NOT_STARTED. */
+static inline uint32_t h263rps_session_bye(h263rps_session *session, uint32_t source,
+                                           uint64_t now) {
+    if (!session) return H263RPS_NULL;
+    return h263rps_raw_session_bye(session, source, now);
+}
+
+/* A session begins anew, in the memory that it has, as with another party: no stream has a run any
+ * more, and a grey picture is shown. Its clock goes on, and so do its counts, and how many packets
+ * it has looked at in this second.
+ * NOT_STARTED. */
+static inline uint32_t h263rps_session_reset(h263rps_session *session, uint64_t now) {
+    if (!session) return H263RPS_NULL;
+    return h263rps_raw_session_reset(session, now);
 }
 
 /* Writes to `due` when something is due next if no datagram comes: 0 where it is due at once, and
@@ -926,7 +991,7 @@ static inline uint32_t h263rps_session_statistics(h263rps_session *session,
     return h263rps_raw_session_statistics(session, counts);
 }
 
-/* Gives a session's memory back, and leaves it all zeros, ready for a start: so it begins anew.
+/* Gives a session's memory back, and leaves it all zeros, ready for a start.
  * NOT_STARTED. */
 static inline uint32_t h263rps_session_finish(h263rps_session *session) {
     if (!session) return H263RPS_NULL;

@@ -1,7 +1,8 @@
-/* What programs that were compiled with the header of 2.0 rely on, the first release with libh263rps.so.3: they run with
- * each later library of this soname. `.ci/library` compiles this file with the header of today, and asks the shared
- * library for each function named here. So a struct, a number or a function that is another one isn't compiled, or not
- * found: then the soname grows (docs/LIBRARY.md, "Versions"). At a release what is new joins the list. */
+/* What programs rely on that were compiled with the header of 2.0, the first release with libh263rps.so.3, or of 2.1:
+ * they run with each later library of this soname. `.ci/library` compiles this file with the header of today, and asks
+ * the shared library for each function named here. So a struct, a number or a function that is another one isn't
+ * compiled, or not found: then the soname grows (docs/LIBRARY.md, "Versions"). At a release what is new joins the
+ * list. */
 #include "h263rps.h"
 
 #ifdef __cplusplus
@@ -215,6 +216,11 @@ AT(h263rps_session_counts, dropped, 8, 48);
 AT(h263rps_session_counts, played, 56, 24);
 IS(sizeof(h263rps_session_counts) == 80);
 
+AT(h263rps_nack, asks, 0, 4);
+AT(h263rps_nack, packet, 4, 2);
+AT(h263rps_nack, following, 6, 2);
+IS(sizeof(h263rps_nack) == 8);
+
 IS(H263RPS_NO_STREAM == 14);
 IS(H263RPS_PARAM_RATE == 13);
 IS(H263RPS_PARAM_WAIT == 14);
@@ -278,6 +284,13 @@ uint32_t h263rps_raw_session_start(h263rps_session *session, const h263rps_param
                                    const h263rps_timing *timing, uint32_t *fault);
 uint32_t h263rps_raw_session_arrival(h263rps_session *session, const uint8_t *bytes, size_t length,
                                      uint64_t now, h263rps_arrived *arrived);
+uint32_t h263rps_raw_session_arrival_of(h263rps_session *session, uint32_t source,
+                                        const uint8_t *bytes, size_t length, uint64_t now,
+                                        h263rps_arrived *arrived);
+uint32_t h263rps_raw_session_missing(h263rps_session *session, uint64_t round_trip, uint64_t now,
+                                     h263rps_nack *nack);
+uint32_t h263rps_raw_session_bye(h263rps_session *session, uint32_t source, uint64_t now);
+uint32_t h263rps_raw_session_reset(h263rps_session *session, uint64_t now);
 uint32_t h263rps_raw_session_due(h263rps_session *session, uint64_t *due);
 uint32_t h263rps_raw_session_play(h263rps_session *session, uint64_t now, h263rps_turn *turn);
 uint32_t h263rps_raw_session_shown(h263rps_session *session, h263rps_lent *lent);

@@ -83,6 +83,72 @@ class Numbers:
         return number, stamp * 100_000 // 9
 
 
+@dataclass
+class Missing:
+    """A packet that is missing: the picture of the packet after it, and when it was asked for."""
+
+    picture: int
+    asked: list[int]
+
+
+@dataclass(frozen=True)
+class Moment:
+    """A moment at which packets may be asked for: the round trip, the next picture, when it is due, and the period."""
+
+    now: int
+    round_trip: int
+    next: int
+    due: int
+    period: int
+
+    def is_in_time(self, picture: int) -> bool:
+        """Whether what is asked for now comes before this picture is due."""
+        due = self.due + (picture - self.next) * self.period
+        return picture >= self.next and self.now + self.round_trip <= due
+
+
+class Gaps:
+    """The packets that are missing, by their sequence numbers, counted on: the newest 64."""
+
+    def __init__(self) -> None:
+        self._newest: Optional[int] = None
+        self._missing: dict[int, Missing] = {}
+
+    def came(self, sequence: int, picture: int) -> None:
+        """A packet of this picture came."""
+        if self._newest is None:
+            self._newest = 65_536 + sequence
+            return
+        number = nearest(self._newest, sequence, 65_536)
+        assert number is not None
+        for between in range(self._newest + 1, number):
+            self._missing[between] = Missing(picture, [])
+        self._newest = max(self._newest, number)
+        self._missing.pop(number, None)
+        self._missing = dict(sorted(self._missing.items())[-64:])
+
+    def played(self, next: int) -> None:
+        """The pictures before this one were played."""
+        self._missing = {number: it for number, it in self._missing.items() if it.picture >= next}
+
+    def asked(self, moment: Moment) -> list[tuple[int, int]]:
+        """What is asked for now, as PID and BLP of Generic NACKs."""
+        fields = []
+        while some := [number for number, it in self._missing.items() if self._may_ask(number, it, moment)]:
+            first = some[0]
+            near = [number for number in some if number - first <= 16]
+            fields.append((first % 65_536, sum(1 << number - first - 1 for number in near[1:])))
+            for number in near:
+                self._missing[number].asked.append(moment.now)
+        return fields
+
+    def _may_ask(self, number: int, it: Missing, moment: Moment) -> bool:
+        assert self._newest is not None
+        if self._newest - number >= 32_768 or len(it.asked) > 1 or not moment.is_in_time(it.picture):
+            return False
+        return all(moment.now - then >= moment.round_trip for then in it.asked)
+
+
 @dataclass(frozen=True)
 class Answer:
     """What becomes of a packet that a run takes: "no place", "ahead", or "heard" with the receiver's answer."""
@@ -127,6 +193,7 @@ class History:
         self._room = 1_000
         self._until = 0
         self._last, self._unheard, self._since = now, 0, now
+        self._gaps = Gaps()
         self.receiver = h263rps.Receiver(model.params, self.next)
 
     def must_begin(self, now: int) -> bool:
@@ -154,6 +221,7 @@ class History:
         if number > self.next + self._model.lead:
             self._until = max(self._until, number - self._model.lead)
             return Answer("ahead", ahead=number)
+        self._gaps.came(packet.sequence, number)
         self._arrivals.append(Arrival(number, captured, now))
         if len(self._arrivals) > self._room:
             # What will never count again goes.
@@ -180,7 +248,13 @@ class History:
     def play(self) -> h263rps.Played:
         """Plays its next picture."""
         self.next += 1
+        self._gaps.played(self.next)
         return self.receiver.play()
+
+    def missing(self, round_trip: int, now: int) -> list[tuple[int, int]]:
+        """What of it is asked for: nothing where it isn't known when the next picture is due, or it is at once."""
+        due, (rate, second) = self.due(), self._model.rate
+        return self._gaps.asked(Moment(now, round_trip, self.next, due, second * SECOND // rate)) if due else []
 
 
 @dataclass
@@ -246,7 +320,7 @@ class Taken:
 
 
 class Model:
-    """A session (rules 3, 5, 6, 10, 11 and 13). Runs stand by their places: followed, former, tried."""
+    """A session (rules 3, 5, 6, 10, 11 and 13), and what it asks for. Runs stand by their places: followed, former, tried."""
 
     def __init__(self, params: h263rps.Params, rate: int, second: int, wait: int) -> None:
         self.params, self.rate = params, (rate, second)
@@ -283,12 +357,14 @@ class Model:
         sequence, timestamp = number(datagram[2:4], "big"), number(datagram[4:8], "big")
         return Packet(number(datagram[8:12], "big"), start.temporal_reference, sequence, timestamp, own)
 
-    def arrival(self, datagram: bytes, now: int) -> "Taken | Dropped":
-        """What becomes of a datagram."""
+    def arrival(self, datagram: bytes, now: int, source: Optional[int] = None) -> "Taken | Dropped":
+        """What becomes of a datagram; with a source, where only that stream's are taken."""
         now = self._tick(now)
         packet = self.seen(datagram)
         if isinstance(packet, str):
             return self._drop(packet)
+        if source not in (None, packet.source):
+            return self._drop("other stream")
         place, is_new = self._taker(packet.source, now)
         budget = self._budgets[place if place in (FOLLOWED, FORMER) else TRIED]
         if not budget.grants(now):
@@ -354,6 +430,18 @@ class Model:
                 self._runs = [tried, two, one]
             self._streams = [Stream(trial.source, 1, now), former]
 
+    def bye(self, source: int, now: int) -> None:
+        """The stream with this SSRC has ended: if it is the one that is followed, it is live no longer."""
+        now = self._tick(now)
+        followed = self._streams[FOLLOWED]
+        if followed and followed.source == source:
+            self._streams[FOLLOWED] = Stream(source, followed.pictures, min(followed.last, max(0, now - SECOND // 2)))
+
+    def reset(self, now: int) -> None:
+        """Begins anew: no stream has a run any more."""
+        self._tick(now)
+        self._streams, self._trial, self._runs = [None, None], None, [None, None, None]
+
     # ---- plays
 
     def _has_stream(self, place: int) -> bool:
@@ -383,6 +471,11 @@ class Model:
                     self.played[played.mark] += 1
                 return place, played
         return None
+
+    def missing(self, round_trip: int, now: int) -> list[tuple[int, int]]:
+        """What is asked for again of the stream that is followed."""
+        now, run = self._tick(now), self._runs[FOLLOWED]
+        return run.missing(round_trip, now) if run and self._streams[FOLLOWED] else []
 
     def shown(self) -> bytes:
         """The picture on the screen."""

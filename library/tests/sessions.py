@@ -4,7 +4,7 @@ answer.
 
 A call has up to four streams of real senders, over ways that lose, delay, repeat and change packets; cameras that pause
 or hurry, leaps of timestamps and of the clock, junk, floods; plays when they are due, late, or not at all. What the
-session says goes back to the senders. Ends with status 1 at the first difference, with the seed that makes it again.
+session says goes back to the senders, and what it asks for comes again; streams end, and calls begin anew. Ends with status 1 at the first difference, with the seed that makes it again.
 """
 
 import heapq
@@ -43,9 +43,11 @@ class Pair:
         self.session = h263rps.Session(params, rate=rate[0], second=rate[1], wait=wait)
         self.model = Model(params, *rate, wait)
 
-    def arrival(self, datagram: bytes, now: int, is_last: bool = True) -> "Taken | Dropped":
+    def arrival(
+        self, datagram: bytes, now: int, source: Optional[int] = None, is_last: bool = True
+    ) -> "Taken | Dropped":
         """Hands both a datagram. Within a flood it isn't asked what is due."""
-        has, wanted = self.session.arrival(datagram, now), self.model.arrival(datagram, now)
+        has, wanted = self.session.arrival(datagram, now, source), self.model.arrival(datagram, now, source)
         if isinstance(wanted, Dropped):
             self._seen[wanted.cause] += 1
             same("a drop", (has.cause, has.is_rival), (wanted.cause, wanted.rival))
@@ -77,8 +79,36 @@ class Pair:
         self._same_after()
         return wanted
 
+    def missing(self, round_trip: int, now: int) -> list[tuple[int, int]]:
+        """Asks both what is missing."""
+        has, wanted = self.session.missing(round_trip, now), self.model.missing(round_trip, now)
+        same("what is asked for", has, wanted)
+        self._seen["asked for"] += sum(1 + bin(following).count("1") for _, following in wanted)
+        return wanted
+
+    def bye(self, source: int, now: int) -> None:
+        """Tells both that a stream has ended."""
+        self._seen["bye"] += 1
+        self._seen["bye of the followed stream"] += self.model.source(FOLLOWED) == source
+        self.session.bye(source, now)
+        self.model.bye(source, now)
+        self._same_after()
+
+    def reset(self, now: int) -> None:
+        """Begins both anew."""
+        self._seen["reset"] += 1
+        self.session.reset(now)
+        self.model.reset(now)
+        self._same_after()
+        self._same_streams()
+
     def _same_after(self) -> None:
         same("what is due", self.session.due(), self.model.due())
+
+    def _same_streams(self) -> None:
+        for place, run in enumerate(h263rps.RUNS):
+            same(f"the {run} stream", self.session.source(run), self.model.source(place))
+        same("the screen", bytes(self.session.shown()) == self.model.shown(), True)
 
     def end(self) -> None:
         """Compares what both have counted, their streams and their screens."""
@@ -86,9 +116,7 @@ class Pair:
         same("taken", counts.taken, self.model.taken)
         same("dropped", counts.dropped, self.model.dropped)
         same("played", counts.played, self.model.played)
-        for place, run in enumerate(h263rps.RUNS):
-            same(f"the {run} stream", self.session.source(run), self.model.source(place))
-        same("the screen", bytes(self.session.shown()) == self.model.shown(), True)
+        self._same_streams()
         self.session.close()
 
 
@@ -98,6 +126,7 @@ class Camera:
     def __init__(self, chance: random.Random, params: h263rps.Params, rate: tuple[int, int], source: int) -> None:
         self._chance, self._rate = chance, rate
         self.source, self.sender = source, h263rps.Sender(params)
+        self.sent: dict[int, bytes] = {}
         self._size = h263rps.picture_size("sub-qcif")
         self._offset = chance.choice((0, 1, (1 << 32) - 90_000, chance.getrandbits(32)))
         self._sequence, self._first = chance.choice((0, 65_500, chance.getrandbits(16))), 0
@@ -142,6 +171,7 @@ class Camera:
         comes = []
         for packet in packets:
             packet = self._labelled(packet, now)
+            self.sent[int.from_bytes(packet[2:4], "big")] = packet
             if chance.random() < self.loss:
                 continue
             for _ in range(chance.choice((1, 1, 1, 1, 1, 2))):
@@ -207,6 +237,9 @@ class Call:
         self._plays = chance.choice((0, 0, 0, 0.05, 0.5))
         self._junk = chance.choice((0, 0, 0.02, 0.3))
         self._floods = chance.choice((0, 0, 0, 0, 0, 0.002))
+        self._asks, self._trip = chance.choice((0, 0, 0.1, 1)), chance.choice((0, 1, 20, 100, 1_000)) * MILLI
+        self._ends, self._resets = chance.choice((0, 0, 0.01, 0.1)), chance.choice((0, 0, 0, 0.01))
+        self._of = chance.choice((0, 0, 0, 0.1, 1))
         self._events: list[tuple[int, int, Callable[[int], None]]] = []
         self._numbers = count()
 
@@ -242,8 +275,29 @@ class Call:
     def _hear(self, camera: Camera, message: bytes, _: int) -> None:
         camera.sender.feedback(message)
 
+    def _ask(self, now: int) -> None:
+        chance = self._chance
+        if chance.random() >= self._asks:
+            return
+        asked = self._pair.missing(chance.choice((self._trip, self._trip, chance.getrandbits(64))), now)
+        source = self._pair.model.source(FOLLOWED)
+        sent: dict[int, bytes] = next((it.sent for it in self._cameras if it.source == source), {})
+        for packet, following in asked:
+            for number in [packet, *(packet + bit + 1 for bit in range(16) if following >> bit & 1)]:
+                again = sent.get(number % 65536)
+                if again and chance.random() < 0.9:
+                    self._at(now + self._trip, partial(self._come, again))
+
+    def _steer(self, camera: Camera, now: int) -> None:
+        chance = self._chance
+        if chance.random() < self._ends:
+            self._pair.bye(chance.choice((camera.source, chance.choice(self._cameras).source, 7)), now)
+        if chance.random() < self._resets:
+            self._pair.reset(now)
+
     def _capture(self, camera: Camera, now: int) -> None:
         chance = self._chance
+        self._steer(camera, now)
         for time, packet in camera.picture(now):
             self._at(time, partial(self._come, packet))
             if chance.random() < self._junk:
@@ -262,8 +316,10 @@ class Call:
         chance = self._chance
         if chance.random() < 0.002:
             now = chance.choice((0, now // 2))
+        of = chance.choice(self._cameras).source if chance.random() < self._of else None
+        self._ask(now)
         for _ in range(4):
-            taken = self._pair.arrival(datagram, now)
+            taken = self._pair.arrival(datagram, now, of)
             if isinstance(taken, Dropped):
                 return
             self._tell(taken.source, taken.answer.message, now)

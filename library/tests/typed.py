@@ -59,6 +59,12 @@ def session(datagram: bytes) -> None:
         if turn and turn.run == "followed":
             print(turn.mark == "held", len(it.shown()), it.source("former"))
         print(it.statistics().dropped["long"], it.statistics().played["exact"])
+        asked: list[tuple[int, int]] = it.missing(50_000_000, 10**9)
+        for packet, following in asked:
+            print(packet + following)
+        it.bye(7, 10**9)
+        it.reset(10**9)
+        print(it.arrival(datagram, 10**9, source=it.source()).run)
 
 
 def wrong(sender: Sender, receiver: Receiver, params: Params) -> None:
@@ -70,6 +76,9 @@ def wrong(sender: Sender, receiver: Receiver, params: Params) -> None:
         it.arrival(b"", 0.5)  # type: ignore[arg-type]
         it.source("best")  # type: ignore[arg-type]
         it.play(0).mark  # type: ignore[union-attr]
+        it.missing(0.05, 0)  # type: ignore[arg-type]
+        it.arrival(b"", 0, source="7")  # type: ignore[arg-type]
+        it.bye(7)  # type: ignore[call-arg]
     params.qant = 3  # type: ignore[attr-defined]
     params.quant = 3.5  # type: ignore[assignment]
     sender.code("text")  # type: ignore[arg-type]

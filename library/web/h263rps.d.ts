@@ -197,6 +197,12 @@ export interface Turn {
   reference: number | null;
 }
 
+/** The field of a Generic NACK (RFC 4585, 6.2.1): PID, a packet's sequence number, and BLP, a bit for each of the 16 after it. */
+export interface Nack {
+  packet: number;
+  following: number;
+}
+
 /** What a session has counted: datagrams that a run took, the others by their causes, and the followed streams' pictures. */
 export interface Followed {
   taken: number;
@@ -281,12 +287,20 @@ export class Session extends Started {
   constructor(params: Params, timing: Timing);
   /** Takes a datagram that came then, whatever it is. One that is "ahead" is handed in again once nothing is due. */
   arrival(datagram: Bytes, now: bigint): Arrived;
+  /** The same, of the stream with this SSRC alone. */
+  arrivalOf(source: number, datagram: Bytes, now: bigint): Arrived;
   /** When something is due next if nothing comes: 0n where it is at once, and null where nothing is known to be. */
   due(): bigint | null;
   /** Plays the next picture that is due by then, one a call; null where none is. */
   play(now: bigint): Turn | null;
   /** Lends the followed stream's picture that was played last: a view to be read until the next call of anything here. */
   shown(): Uint8Array;
+  /** What to ask for of the followed stream, if repeats take so many nanoseconds. It counts as asked for then. */
+  missing(roundTrip: bigint, now: bigint): Nack[];
+  /** The stream with this SSRC has ended: if it is the followed one, another may be followed at once. */
+  bye(source: number, now: bigint): void;
+  /** Begins anew, as with another party; the clock and what was counted stay. */
+  reset(now: bigint): void;
   /** The SSRC of the stream that has this run, the followed one by default; null where none has. */
   source(run?: Run): number | null;
   statistics(): Followed;

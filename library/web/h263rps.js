@@ -17,6 +17,7 @@
  *     const session = new Session(Params.of("qcif"), { rate: 30000, second: 1001, wait: 60_000_000n });
  *     const arrived = session.arrival(datagram, now);   // whatever came; times are BigInts of nanoseconds
  *     const turn = session.play(now);          // null where nothing is due; session.shown() has the picture
+ *     const asked = session.missing(roundTrip, now);    // what to send as Generic NACKs, where it is repeated
  *
  * A picture that is lent is a view of the receiver's or session's own, good until the next call of anything here:
  * read it, and don't write it. All else that a call gives is the caller's.
@@ -526,9 +527,24 @@ export class Session extends Lending {
    * @returns {import("./h263rps.js").Arrived}
    */
   arrival(datagram, now) {
+    return this.#arrival("arrival", [], datagram, now);
+  }
+
+  /**
+   * The same, of the stream with this SSRC alone: another one's packets are dropped, as of an "other stream".
+   * @param {number} source
+   * @param {import("./h263rps.js").Bytes} datagram
+   * @param {bigint} now
+   * @returns {import("./h263rps.js").Arrived}
+   */
+  arrivalOf(source, datagram, now) {
+    return this.#arrival("arrival_of", [counted("source", source)], datagram, now);
+  }
+
+  #arrival(name, of, datagram, now) {
     const { answerRoom: to } = memory;
     const then = longCounted("now", now);
-    const call = (at, size) => this._must("arrival", "arrival", at, size, then, BigInt(to));
+    const call = (at, size) => this._must("arrival", name, ...of, at, size, then, BigInt(to));
     memory.passed(bytesOf("datagram", datagram), call);
     const [verdict, cause, run, source, ahead, rival, kind, fault, at] = memory.numbers(to, 9);
     const is = VERDICTS[verdict];
@@ -565,6 +581,35 @@ export class Session extends Lending {
     this._must("play", "play", longCounted("now", now), BigInt(at));
     const [isPlayed, run, source] = memory.numbers(at, 3);
     return isPlayed ? { run: RUNS[run], source, ...playedAt(at + 12) } : null;
+  }
+
+  /**
+   * The packets of the followed stream that are missing and could still come in time, if their repeats take so many
+   * nanoseconds: PID and BLP of Generic NACKs (RFC 4585, 6.2.1) about `source()`. They count as asked for then.
+   * @param {bigint} roundTrip
+   * @param {bigint} now
+   * @returns {import("./h263rps.js").Nack[]}
+   */
+  missing(roundTrip, now) {
+    const { answerRoom: at } = memory;
+    const times = [longCounted("roundTrip", roundTrip), longCounted("now", now)];
+    const asked = [];
+    for (;;) {
+      this._must("missing", "missing", ...times, BigInt(at));
+      const [asks, field] = memory.numbers(at, 2);
+      if (!asks) return asked;
+      asked.push({ packet: field & 0xffff, following: field >>> 16 });
+    }
+  }
+
+  /** The stream with this SSRC has ended, as an RTCP BYE says: if it is the followed one, another may be followed at once. */
+  bye(source, now) {
+    this._must("bye", "bye", counted("source", source), longCounted("now", now));
+  }
+
+  /** Begins anew, as with another party: no stream has a run any more. The clock and what was counted stay. */
+  reset(now) {
+    this._must("reset", "reset", longCounted("now", now));
   }
 
   /**

@@ -9,7 +9,7 @@ import { Refused } from "./words.js";
 /** How many bytes each struct of the header has. */
 export const SIZE = Object.freeze({
   end: 216, params: 32, message: 6, answer: 32, coded: 16, start: 48, lent: 16, reply: 8, statistics: 200,
-  session: 16, timing: 16, arrived: 56, turn: 44, session_counts: 80,
+  session: 16, timing: 16, arrived: 56, turn: 44, session_counts: 80, nack: 8,
 });
 
 /** Room for a packet of any length that RTP over UDP can have. */

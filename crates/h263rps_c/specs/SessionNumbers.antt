@@ -2,6 +2,7 @@
 use Rattle.std.specs.Prelude.{ℕ, ◌==◌, [], ◌∷◌, Bool, true, false, Option, Some, None, if◌then◌else◌}
 use Rattle.stream_choice.specs.declared.streams.Run.{Run}
 use Rattle.stream_choice.specs.declared.streams.Run.TheVariants as runs
+use Rattle.packet_gaps.specs.declared.gaps.Nack.{Nack}
 use Rattle.stream_run.specs.declared.run.Arrived as run_answers
 use Rattle.stream_run.specs.declared.run.Arrived.TheVariants as run_variants
 use Rattle.session_intake.specs.declared.seen.Cause.{Cause}
@@ -16,6 +17,7 @@ use Rattle.h263rps_c.specs.declared.answers.Answer.{Answer}
 use Rattle.h263rps_c.specs.declared.session_answers.CArrived.{CArrived}
 use Rattle.h263rps_c.specs.declared.session_answers.CTurn.{CTurn}
 use Rattle.h263rps_c.specs.declared.session_answers.CCounts.{CCounts}
+use Rattle.h263rps_c.specs.declared.session_answers.CNack.{CNack}
 use Rattle.h263rps_c.specs.Numbers.{heard_answer, plain, played_answer}
 
 abbrev pub bit : Bool → ℕ
@@ -105,6 +107,15 @@ turn_numbers p source =
       source = source;
       answer = played_answer p.played;
     }
+
+-- ---- what is asked for again
+
+abbrev pub nothing_asked : CNack
+nothing_asked = record { asks = 0; packet = 0; following = 0 }
+
+abbrev pub nack_numbers : Option Nack → CNack
+nack_numbers None = nothing_asked
+nack_numbers (Some n) = record { asks = 1; packet = n.packet; following = n.following }
 
 -- ---- times and counts
 

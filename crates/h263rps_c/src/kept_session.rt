@@ -4,15 +4,17 @@ ghost use Rattle.session_intake.specs.declared.settings.Settings.{Settings};
 ghost use Rattle.session_intake.specs.Settings.{IsSettings};
 ghost use Rattle.session_runs.specs.Following.{due_next};
 ghost use Rattle.session_runs.specs.Kept.{config_in};
-ghost use Rattle.call_session.specs.Sessions.{Datagram, Entry, Turn, at, outcome_of, played_run, told_of};
-ghost use Rattle.h263rps_c.specs.SessionNumbers.{counts_numbers, time_or_never};
+ghost use Rattle.call_session.specs.Sessions.{Anew, Asked, Datagram, DatagramOf, Ended, Entry, Turn, at};
+ghost use Rattle.call_session.specs.Sessions.{missing_at, outcome_of, outcome_of_one, played_run};
+ghost use Rattle.call_session.specs.Sessions.{told_of, told_of_one};
+ghost use Rattle.h263rps_c.specs.SessionNumbers.{counts_numbers, nack_numbers, time_or_never};
 ghost use Rattle.h263rps_c.specs.Sessions.{HoldsSession, ShowsScreen, TellsOutcome, TellsTurn};
 ghost use Rattle.h263rps_c.specs.Sessions.{source_after, source_of, state_after};
 ghost use Rattle.h263rps_c.specs.declared.refusals.EndRefusal.TheVariants as refusals;
 
 use crate::answers::number_or_zero;
 use crate::refusals::EndRefusal;
-use crate::session_answers::{CArrived, CCounts, CTurn};
+use crate::session_answers::{CArrived, CCounts, CNack, CTurn};
 use call_session::{Session, Settings};
 use h263_planes::laws;
 use std::alloc::Global;
@@ -78,6 +80,45 @@ impl KeptSession {
             → HoldsSession s (Datagram bytes.now now ∷ past) (Some self.new) }
     {
         CArrived::of(&self.session.arrival(bytes, now))
+    }
+
+    /// A datagram came, where those of one stream alone are taken.
+    pub fn arrival_of(&mut self, source: u32, bytes: &[u8], now: u64) -> CArrived
+        ensures answer { (s : Settings) (past : List Entry) → HoldsSession s past (Some self.old)
+            → TellsOutcome s.params.clock result
+            (outcome_of_one (config_in s) source bytes.now now (state_after s past))
+            (told_of_one (config_in s) source bytes.now now (state_after s past)) }
+        ensures stands { (s : Settings) (past : List Entry) → HoldsSession s past (Some self.old)
+            → HoldsSession s (DatagramOf source bytes.now now ∷ past) (Some self.new) }
+    {
+        CArrived::of(&self.session.arrival_of(source, bytes, now))
+    }
+
+    /// The next packets to ask for again.
+    pub fn missing(&mut self, round_trip: u64, now: u64) -> CNack
+        ensures answer { (s : Settings) (past : List Entry) → HoldsSession s past (Some self.old)
+            → result ≡ nack_numbers
+            (missing_at (config_in s) round_trip (at now (state_after s past))) }
+        ensures stands { (s : Settings) (past : List Entry) → HoldsSession s past (Some self.old)
+            → HoldsSession s (Asked round_trip now ∷ past) (Some self.new) }
+    {
+        CNack::of(self.session.missing(round_trip, now))
+    }
+
+    /// A stream has ended.
+    pub fn bye(&mut self, source: u32, now: u64)
+        ensures { (s : Settings) (past : List Entry) → HoldsSession s past (Some self.old)
+            → HoldsSession s (Ended source now ∷ past) (Some self.new) }
+    {
+        self.session.bye(source, now);
+    }
+
+    /// No stream has a run any more.
+    pub fn reset(&mut self, now: u64)
+        ensures { (s : Settings) (past : List Entry) → HoldsSession s past (Some self.old)
+            → HoldsSession s (Anew now ∷ past) (Some self.new) }
+    {
+        self.session.reset(now);
     }
 
     /// When something is due next.

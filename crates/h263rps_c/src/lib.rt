@@ -37,6 +37,7 @@ mod sender;
 mod sending;
 mod session;
 mod session_answers;
+mod session_repair;
 mod session_slots;
 #[cfg(test)]
 mod session_tests;
@@ -52,7 +53,7 @@ pub use asked::Asked;
 pub use counting::Statistics;
 pub use handles::Slot;
 pub use refusals::EndRefusal;
-pub use session_answers::{CArrived, CCounts, CTurn};
+pub use session_answers::{CArrived, CCounts, CNack, CTurn};
 pub use session_slots::SessionSlot;
 pub use start::Start;
 pub use timing::Timing;

@@ -3,7 +3,8 @@ ghost use Rattle.std.specs.Prelude.{◌≡◌, ◌≢◌, List, [], ◌∷◌, N
 ghost use Rattle.session_intake.specs.declared.settings.Settings.{Settings};
 ghost use Rattle.session_runs.specs.Following.{due_next};
 ghost use Rattle.session_runs.specs.Kept.{config_in};
-ghost use Rattle.call_session.specs.Sessions.{Datagram, Entry, Turn, at, outcome_of, played_run, told_of};
+ghost use Rattle.call_session.specs.Sessions.{Datagram, DatagramOf, Entry, Turn, at, outcome_of};
+ghost use Rattle.call_session.specs.Sessions.{outcome_of_one, played_run, told_of, told_of_one};
 ghost use Rattle.std.specs.Borrow.{sem};
 ghost use Rattle.h263rps_c.specs.Asked.{params_of};
 ghost use Rattle.h263rps_c.specs.Refusals.{refusal_in, refusal_number, status_of};
@@ -85,6 +86,34 @@ pub extern "C" fn h263rps_raw_session_arrival(
         return EndRefusal::NotStarted.number();
     }
     *arrived = slot.handle.session_mut().arrival(bytes, now);
+    OK
+}
+
+/// Gives a datagram that came then to a session that takes those of one stream alone.
+#[unsafe(no_mangle)]
+pub extern "C" fn h263rps_raw_session_arrival_of(
+    slot: &mut SessionSlot,
+    source: u32,
+    bytes: &[u8],
+    now: u64,
+    arrived: &mut CArrived,
+) -> u32
+    ensures result { result ≡ status_of (unless_started slot.old.handle.inside) }
+    ensures same { result ≢ 0 → slot.new.handle.inside ≡ slot.old.handle.inside }
+    ensures unanswered { result ≢ 0 → arrived.new ≡ arrived.old }
+    ensures stands { (s : Settings) (past : List Entry)
+        → HoldsSession s past slot.old.handle.inside
+        → HoldsSession s (DatagramOf source bytes.now now ∷ past) slot.new.handle.inside }
+    ensures answer { (s : Settings) (past : List Entry)
+        → HoldsSession s past slot.old.handle.inside
+        → TellsOutcome s.params.clock arrived.new
+        (outcome_of_one (config_in s) source bytes.now now (state_after s past))
+        (told_of_one (config_in s) source bytes.now now (state_after s past)) }
+{
+    if !slot.is_started() {
+        return EndRefusal::NotStarted.number();
+    }
+    *arrived = slot.handle.session_mut().arrival_of(source, bytes, now);
     OK
 }
 

@@ -3,7 +3,7 @@ ghost use Rattle.std.specs.Prelude.{◌≡◌};
 ghost use Rattle.h263rps_c.specs.SessionNumbers as numbers;
 
 use crate::answers::Answer;
-use call_session::{Arrived, Cause, Counts, RunPlayed, Taken, Verdict};
+use call_session::{Arrived, Cause, Counts, Nack, RunPlayed, Taken, Verdict};
 use stream_choice::Run;
 use stream_run::Arrived as RunAnswer;
 
@@ -38,6 +38,18 @@ pub struct CTurn {
     /// The SSRC of its stream.
     pub source: u32,
     pub answer: Answer,
+}
+
+/// Packets that a session asks for again.
+#[repr(C)]
+#[derive(Clone, Copy)]
+pub struct CNack {
+    /// 1 where something is asked for; else all is 0.
+    pub asks: u32,
+    /// The sequence number of a packet.
+    pub packet: u16,
+    /// A bit for each of the 16 after it, from the least significant one on.
+    pub following: u16,
 }
 
 /// What a session has counted since its start.
@@ -189,6 +201,26 @@ impl CTurn {
             run: run_number(turn.run),
             source,
             answer: Answer::played(&turn.played),
+        }
+    }
+}
+
+impl CNack {
+    /// What is asked for, if anything is.
+    pub fn of(nack: Option<Nack>) -> CNack
+        ensures { result ≡ numbers.nack_numbers nack }
+    {
+        match nack {
+            None => CNack {
+                asks: 0,
+                packet: 0,
+                following: 0,
+            },
+            Some(nack) => CNack {
+                asks: 1,
+                packet: nack.packet,
+                following: nack.following,
+            },
         }
     }
 }
