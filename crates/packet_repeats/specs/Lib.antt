@@ -1,2 +1,2 @@
-pub mod Repeats
-pub mod Laws
+pub mod Sent
+pub mod Keeping
