@@ -1,5 +1,5 @@
 -- Which packets are kept, and which of them is found.
-use Rattle.std.specs.Prelude.{◌≡◌, ℕ, ◌+◌, ◌*◌, ◌%◌, ◌==◌, ◌<◌, ◌≤◌, nat_le, Bool, false, if◌then◌else◌, List, length, slice_index_or, Option, Some, None, Vec}
+use Rattle.std.specs.Prelude.{ℕ, ◌+◌, ◌*◌, ◌%◌, ◌==◌, ◌<◌, ◌≤◌, nat_le, Bool, false, if◌then◌else◌, List, length, slice_index_or, Option, Some, None, Vec}
 use Rattle.std.specs.Int.{IsPowerOfTwo}
 use Rattle.std.specs.List.{find}
 use Rattle.std.specs.Vec.{vec_capacity}

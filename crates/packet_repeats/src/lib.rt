@@ -19,6 +19,7 @@
 //!   were asked for, and fewer than twice as many.
 #![tactic(auto)]
 
+pub mod laws;
 mod repeats;
 
 pub use repeats::Repeats;

@@ -77,11 +77,7 @@ impl Repeats {
 }
 
 // So many places, with room for the longest packet each.
-fn empty_places(
-    alloc: Global,
-    count: usize,
-    longest: usize,
-) -> Result<Vec<Vec<u8>>, AllocError>
+fn empty_places(alloc: Global, count: usize, longest: usize) -> Result<Vec<Vec<u8>>, AllocError>
     ensures count { IfOk result (λ v. length v.items ≡ count) }
     ensures rooms { IfOk result (λ v. All (HasPlaceFor longest) v.items) }
     ensures empty { IfOk result (λ v. All (λ place. place.items ≡ []) v.items) }

@@ -1,6 +1,6 @@
-use Rattle.std.proofs.Common.{◌≡◌, ℕ, ◌%◌, ◌<◌, List, length, Option, Some, None, sym, ap, ◌∙◌, arith, rules, cond}
+use Rattle.std.proofs.Common.{◌≡◌, ℕ, ◌%◌, ◌<◌, length, Some, None, sym, ap, ◌∙◌, arith, rules}
 use Rattle.std.proofs.lemmas.Bool.{cond-false}
-use Rattle.packet_repeats.specs.Sent.{if_numbered, last_at}
+use Rattle.packet_repeats.specs.Sent.{last_at}
 use Rattle.packet_repeats.specs.Keeping.{packet_bytes}
 use Rattle.packet_repeats.proofs.Places.{bytes_read, place_told}
 use Rattle.packet_repeats.proofs.repeats.Repeats.find.Goals as goal

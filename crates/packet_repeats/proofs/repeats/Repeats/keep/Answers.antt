@@ -1,5 +1,4 @@
-use Rattle.std.proofs.Common.{◌≡◌, ℕ, ◌%◌, ◌<◌, ◌≤◌, nat_le, true, false, length, length-set, ap, sym, arith, ◌∙◌, rules}
-use Rattle.std.proofs.lemmas.Bool.{le-leb}
+use Rattle.std.proofs.Common.{◌≡◌, ℕ, ◌%◌, ◌<◌, ◌≤◌, true, length, length-set, ap, arith, ◌∙◌, rules}
 use Rattle.packet_repeats.specs.Sent.{sequence_of, is_kept}
 use Rattle.packet_repeats.proofs.Places.{put_each, kept_is}
 use Rattle.packet_repeats.proofs.repeats.Repeats.keep.Goals as goal

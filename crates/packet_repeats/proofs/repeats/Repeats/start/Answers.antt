@@ -7,13 +7,17 @@ returns c =
     let made = c.in_ok-places.ensures in
     let n = c.next_power_of_two in
     record {
-      none = (n.result, record {
-        power = n.ensures.power;
-        enough = n.ensures.lower_bound;
-        few = fewer c.args.count n.result c.requires.some n.ensures.upper_bound;
-      }, record {
-        most = refl;
-        count = made.count;
-        each = none_each c.in_ok-places.places.items n.result c.args.longest made.count made.empty;
-      });
+      none = (
+        n.result,
+        record {
+          power = n.ensures.power;
+          enough = n.ensures.lower_bound;
+          few = fewer c.args.count n.result c.requires.some n.ensures.upper_bound;
+        },
+        record {
+          most = refl;
+          count = made.count;
+          each = none_each c.in_ok-places.places.items n.result c.args.longest made.count made.empty;
+        },
+      );
     }
