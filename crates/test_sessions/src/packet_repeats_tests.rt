@@ -1,6 +1,7 @@
 //! Packets that are kept, and what is found of them.
 use packet_repeats::{Repeats, laws};
-use std::error::Error;
+use std::process::Abort;
+use std::test::Fail;
 
 // A packet of 13 bytes, with this sequence number and this last byte.
 fn packet(sequence: u16, last: u8) -> [u8; 13] {
@@ -19,7 +20,7 @@ fn last(repeats: &Repeats, sequence: u16) -> u8 {
 // Three are asked for, so four are kept: also where the numbers begin again. A packet that comes
 // again takes the place of the one before.
 #[test]
-fn the_last_four(rt: HostRuntime) -> Result<(), Error> {
+fn the_last_four(rt: HostRuntime) -> Result<(), Fail> {
     laws::newest();
     laws::sent();
     laws::kept();
@@ -47,7 +48,7 @@ fn the_last_four(rt: HostRuntime) -> Result<(), Error> {
 
 // A packet has 12 bytes at least, and here 13 at most.
 #[test]
-fn short_and_long_ones_are_not_kept(rt: HostRuntime) -> Result<(), Error> {
+fn short_and_long_ones_are_not_kept(rt: HostRuntime) -> Result<(), Fail> {
     let mut repeats = Repeats::start(rt.alloc(), 1, 13)?;
     let long: [u8; 14] = [128, 96, 0, 8, 0, 0, 0, 0, 72, 50, 54, 51, 9, 9];
     repeats.keep(&packet(7, 1));
