@@ -71,6 +71,3 @@ TellsShare shares.Rate f n = n ≡ f.line.rate
 TellsShare shares.Wanted f n = n ≡ wanted_by f
 TellsShare shares.Target f n = IsLineTarget f n
 TellsShare shares.Quant f n = n ≡ nearest_quant f.pace
-
-abbrev pub bit_of : Bool → ℕ
-bit_of is = if is then 1 else 0

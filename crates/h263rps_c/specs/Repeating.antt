@@ -1,7 +1,7 @@
 -- The packets that a slot keeps, and where it refuses to.
 use Rattle.std.specs.Prelude.{◌≡◌, ℕ, nat_le, Bool, false, if◌then◌else◌, List, Option, Some, None}
-use Rattle.packet_repeats.specs.Sent.{found}
-use Rattle.packet_repeats.specs.Keeping.{KeepsSent, packet_bytes}
+use Rattle.packet_repeats.specs.Sent.{found_packet}
+use Rattle.packet_repeats.specs.Keeping.{KeepsSent, bytes_or_none}
 use Rattle.h263rps_c.specs.declared.ends.End.{End}
 use Rattle.h263rps_c.specs.declared.ends.End.TheVariants.{Line, Receiving, Repeats, Sending}
 use Rattle.h263rps_c.specs.declared.refusals.EndRefusal.{EndRefusal}
@@ -19,7 +19,7 @@ HoldsRepeats places longest sent (Some (Line f)) = ⊥
 abbrev pub FindsPacket : ℕ → Option End → List ℕ → Type 0
 FindsPacket sequence inside bytes =
     (places longest : ℕ) (sent : List (List ℕ)) → HoldsRepeats places longest sent inside
-    → bytes ≡ packet_bytes (found places longest sequence sent)
+    → bytes ≡ bytes_or_none (found_packet places longest sequence sent)
 
 -- up to as many packets as there are sequence numbers, of at least a header, and of no more bytes
 -- than UDP carries over IPv4

@@ -3,9 +3,10 @@ ghost use Rattle.std.specs.Prelude.{◌≡◌, ◌≢◌, ◌≤◌, None, Some,
 ghost use Rattle.line_follower.specs.declared.follower.Follower.{Follower};
 ghost use Rattle.line_follower.specs.Following.{after_sent, after_told, has_room, started};
 ghost use Rattle.h263rps_c.specs.Counting as counts;
-ghost use Rattle.h263rps_c.specs.Lines.{HoldsLine, TellsShare, are_bounds, are_sizes, bit_of, bounds_in};
+ghost use Rattle.h263rps_c.specs.Lines.{HoldsLine, TellsShare, are_bounds, are_sizes, bounds_in};
 ghost use Rattle.h263rps_c.specs.Lines.{line_refusal, says_whole};
 ghost use Rattle.h263rps_c.specs.Refusals.{refusal_in, refusal_number, status_of};
+ghost use Rattle.h263rps_c.specs.SessionNumbers.{bit};
 ghost use Rattle.h263rps_c.specs.Slots.{for_line};
 ghost use Rattle.h263rps_c.specs.Stays.{Stays};
 ghost use Rattle.h263rps_c.specs.declared.lining.Share.TheVariants as shares;
@@ -207,7 +208,7 @@ fn note_share(slot: &mut Slot, share: Share, number: &mut u32) -> u32
 }
 
 fn bit_of(is_so: bool) -> u32
-    ensures { result ≡ bit_of is_so }
+    ensures { result ≡ bit is_so }
 {
     if is_so { 1 } else { 0 }
 }
@@ -299,7 +300,7 @@ pub extern "C" fn h263rps_raw_line_has_room(slot: &mut Slot, now: u64, has: &mut
     ensures same { Stays slot.old slot.new }
     ensures untold { result ≢ 0 → has.new ≡ has.old }
     ensures told { (f : Follower) → HoldsLine f slot.old.handle.inside → result ≡ 0
-        → has.new ≡ bit_of (has_room now f) }
+        → has.new ≡ bit (has_room now f) }
 {
     if !slot.is_started() {
         return EndRefusal::NotStarted.number();

@@ -1,8 +1,8 @@
 //! The packets that a sender sent last, for C.
 ghost use Rattle.std.specs.Prelude.{◌≡◌, ◌≢◌, ◌≤◌, ℕ, List, [], ◌∷◌, None, Ok, Some, IfErr, IfOk};
 ghost use Rattle.std.specs.Borrow.{sem};
-ghost use Rattle.packet_repeats.specs.Sent.{ArePlaces, found};
-ghost use Rattle.packet_repeats.specs.Keeping.{KeepsSent, packet_bytes};
+ghost use Rattle.packet_repeats.specs.Sent.{ArePlaces, found_packet};
+ghost use Rattle.packet_repeats.specs.Keeping.{KeepsSent, bytes_or_none};
 ghost use Rattle.h263rps_c.specs.Counting as counts;
 ghost use Rattle.h263rps_c.specs.Refusals.{refusal_in, refusal_number, status_of};
 ghost use Rattle.h263rps_c.specs.Repeating.{FindsPacket, HoldsRepeats, is_between, may_keep, repeats_refusal};
@@ -47,7 +47,7 @@ fn may_keep(count: u32, longest: u32) -> bool
 fn bytes_of(repeats: &Repeats, sequence: u16) -> &[u8]
     ensures { (places longest : ℕ) (sent : List (List ℕ))
         → KeepsSent places longest sent repeats.now
-        → result.now ≡ packet_bytes (found places longest sequence sent) }
+        → result.now ≡ bytes_or_none (found_packet places longest sequence sent) }
 {
     match repeats.find(sequence) {
         None => &[],

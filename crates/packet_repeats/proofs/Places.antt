@@ -3,8 +3,8 @@ use Rattle.std.proofs.Common.{◌≡◌, ◌≢◌, ℕ, ◌*◌, ◌/◌, ◌%�
 use Rattle.std.specs.List.{find}
 use Rattle.std.proofs.lemmas.Bool.{cases_Bool, cases_eq, cond-true, cond-false, eq-eqb, ne_eqb, le-leb}
 use Rattle.std.proofs.lemmas.List.{map-set, length-map, get_or-map}
-use Rattle.packet_repeats.specs.Sent.{sequence_of, is_kept, is_kept_at, last_at, if_numbered}
-use Rattle.packet_repeats.specs.Keeping.{packet_bytes}
+use Rattle.packet_repeats.specs.Sent.{sequence_number_of, may_stay, may_stay_at, last_at, if_numbered}
+use Rattle.packet_repeats.specs.Keeping.{bytes_or_none}
 
 -- ---- what is found
 
@@ -14,42 +14,42 @@ find_passes p [] x e = absurd cc
 find_passes p (y ∷ ys) x e =
     elim (cases_Bool (p y)) [
       | inl yes_it ↦
-          let same : y ≡ x = ap packet_bytes (sym (cond-true (p y) (Some y) (find p ys) yes_it) ∙ e) in
+          let same : y ≡ x = ap bytes_or_none (sym (cond-true (p y) (Some y) (find p ys) yes_it) ∙ e) in
           subst (λ (z : List ℕ). p z ≡ true) same yes_it
       | inr not_it ↦ find_passes p ys x (sym (cond-false (p y) (Some y) (find p ys) not_it) ∙ e)
     ]
 
 -- a packet that is kept has a header
-pub kept_long : (longest : ℕ) (x : List ℕ) → is_kept longest x ≡ true → nat_le 12 (length x) ≡ true
+pub kept_long : (longest : ℕ) (x : List ℕ) → may_stay longest x ≡ true → nat_le 12 (length x) ≡ true
 kept_long longest x e =
     elim (cases_Bool (nat_le 12 (length x))) [
       | inl long ↦ long
       | inr short ↦ absurd cc
     ]
 
-pub kept_at : (places longest remainder : ℕ) (x : List ℕ) → is_kept_at places longest remainder x ≡ true → is_kept longest x ≡ true
+pub kept_at : (places longest remainder : ℕ) (x : List ℕ) → may_stay_at places longest remainder x ≡ true → may_stay longest x ≡ true
 kept_at places longest remainder x e =
-    elim (cases_Bool (is_kept longest x)) [
+    elim (cases_Bool (may_stay longest x)) [
       | inl is ↦ is
       | inr not ↦ absurd cc
     ]
 
 abbrev numbered : ℕ → List ℕ → Bool
-numbered sequence packet = cond (nat_le 12 (length packet)) (sequence_of packet == sequence) false
+numbered sequence packet = cond (nat_le 12 (length packet)) (sequence_number_of packet == sequence) false
 
 told : (sequence : ℕ) (o : Option (List ℕ)) → ((x : List ℕ) → o ≡ Some x → nat_le 12 (length x) ≡ true)
-    → if_numbered sequence o ≡ cond (numbered sequence (packet_bytes o)) (Some (packet_bytes o)) None
+    → if_numbered sequence o ≡ cond (numbered sequence (bytes_or_none o)) (Some (bytes_or_none o)) None
 told sequence None long = refl
-told sequence (Some x) long = ap (λ (b : Bool). cond (cond b (sequence_of x == sequence) false) (Some x) None) (sym (long x refl))
+told sequence (Some x) long = ap (λ (b : Bool). cond (cond b (sequence_number_of x == sequence) false) (Some x) None) (sym (long x refl))
 
 -- what a place has is found where it has the number
 pub place_told : (places longest remainder sequence : ℕ) (sent : List (List ℕ)) (packet : List ℕ)
-    → packet ≡ packet_bytes (last_at places longest remainder sent)
+    → packet ≡ bytes_or_none (last_at places longest remainder sent)
     → if_numbered sequence (last_at places longest remainder sent) ≡ cond (numbered sequence packet) (Some packet) None
 place_told places longest remainder sequence sent packet is =
     let o = last_at places longest remainder sent in
     told sequence o
-    (λ x e. kept_long longest x (kept_at places longest remainder x (find_passes (is_kept_at places longest remainder) sent x e)))
+    (λ x e. kept_long longest x (kept_at places longest remainder x (find_passes (may_stay_at places longest remainder) sent x e)))
     ∙ ap (λ (b : List ℕ). cond (numbered sequence b) (Some b) None) (sym is)
 
 -- ---- one more
@@ -76,25 +76,25 @@ bytes_other items i j v other =
 
 -- each place has the last packet, with one more in the place of its number
 pub put_each : (items : List (Vec ℕ Global)) (places longest place : ℕ) (packet : List ℕ) (sent : List (List ℕ)) (v : Vec ℕ Global)
-    → length items ≡ places → place < places → place ≡ sequence_of packet % places → is_kept longest packet ≡ true → v.items ≡ packet
-    → ((i : ℕ) → i < places → bytes_of items i ≡ packet_bytes (last_at places longest i sent))
-    → (i : ℕ) → i < places → bytes_of (set items place v) i ≡ packet_bytes (last_at places longest i (packet ∷ sent))
+    → length items ≡ places → place < places → place ≡ sequence_number_of packet % places → may_stay longest packet ≡ true → v.items ≡ packet
+    → ((i : ℕ) → i < places → bytes_of items i ≡ bytes_or_none (last_at places longest i sent))
+    → (i : ℕ) → i < places → bytes_of (set items place v) i ≡ bytes_or_none (last_at places longest i (packet ∷ sent))
 put_each items places longest place packet sent v count low is kept bytes each i lt =
     let rest = last_at places longest i sent in
     elim (cases_eq i place) [
       | inl same ↦
-          let at : is_kept_at places longest i packet ≡ true =
-          cond-true (is_kept longest packet) (sequence_of packet % places == i) false kept ∙ eq-eqb (sequence_of packet % places) i (sym is ∙ sym same) in
+          let at : may_stay_at places longest i packet ≡ true =
+          cond-true (may_stay longest packet) (sequence_number_of packet % places == i) false kept ∙ eq-eqb (sequence_number_of packet % places) i (sym is ∙ sym same) in
           ap (bytes_of (set items place v)) same ∙ bytes_here items place v (omega (arith, count)) ∙ bytes
-          ∙ sym (ap packet_bytes (cond-true (is_kept_at places longest i packet) (Some packet) rest at))
+          ∙ sym (ap bytes_or_none (cond-true (may_stay_at places longest i packet) (Some packet) rest at))
       | inr other ↦
-          let at : is_kept_at places longest i packet ≡ false =
-          cond-true (is_kept longest packet) (sequence_of packet % places == i) false kept ∙ ne_eqb (sequence_of packet % places) i (λ e. other (sym e ∙ sym is)) in
+          let at : may_stay_at places longest i packet ≡ false =
+          cond-true (may_stay longest packet) (sequence_number_of packet % places == i) false kept ∙ ne_eqb (sequence_number_of packet % places) i (λ e. other (sym e ∙ sym is)) in
           bytes_other items place i v other ∙ each i lt
-          ∙ sym (ap packet_bytes (cond-false (is_kept_at places longest i packet) (Some packet) rest at))
+          ∙ sym (ap bytes_or_none (cond-false (may_stay_at places longest i packet) (Some packet) rest at))
     ]
 
-pub kept_is : (longest : ℕ) (packet : List ℕ) → 12 ≤ length packet → length packet ≤ longest → is_kept longest packet ≡ true
+pub kept_is : (longest : ℕ) (packet : List ℕ) → 12 ≤ length packet → length packet ≤ longest → may_stay longest packet ≡ true
 kept_is longest packet long short =
     cond-true (nat_le 12 (length packet)) (nat_le (length packet) longest) false (le-leb 12 (length packet) long) ∙ le-leb (length packet) longest short
 
@@ -107,7 +107,7 @@ none_of (v ∷ vs) i lt empty =
     get_or-map bytes (v ∷ vs) i v [] lt ∙ empty i v lt
 
 pub none_each : (items : List (Vec ℕ Global)) (places longest : ℕ) → length items ≡ places → All (λ place. place.items ≡ []) items
-    → (i : ℕ) → i < places → bytes_of items i ≡ packet_bytes (last_at places longest i [])
+    → (i : ℕ) → i < places → bytes_of items i ≡ bytes_or_none (last_at places longest i [])
 none_each items places longest count empty i lt =
     none_of items i (omega (arith, count, lt)) empty
 

@@ -6,31 +6,31 @@ use Rattle.std.specs.Vec.{vec_capacity}
 use Rattle.std.specs.declared.alloc.Global.{Global}
 
 -- the sequence number of a packet: its third and its fourth byte (RFC 3550, 5.1)
-abbrev pub sequence_of : List ℕ → ℕ
-sequence_of packet = 256 * slice_index_or packet 2 0 + slice_index_or packet 3 0
+abbrev pub sequence_number_of : List ℕ → ℕ
+sequence_number_of packet = 256 * slice_index_or packet 2 0 + slice_index_or packet 3 0
 
 -- a packet has a header of 12 bytes at least (RFC 3550, 5.1), and no more bytes than the longest
-abbrev pub is_kept : ℕ → List ℕ → Bool
-is_kept longest packet =
+abbrev pub may_stay : ℕ → List ℕ → Bool
+may_stay longest packet =
     if nat_le 12 (length packet) then nat_le (length packet) longest else false
 
 -- it is kept, and its sequence number has this remainder
-abbrev pub is_kept_at : ℕ → ℕ → ℕ → List ℕ → Bool
-is_kept_at places longest remainder packet =
-    if is_kept longest packet then sequence_of packet % places == remainder else false
+abbrev pub may_stay_at : ℕ → ℕ → ℕ → List ℕ → Bool
+may_stay_at places longest remainder packet =
+    if may_stay longest packet then sequence_number_of packet % places == remainder else false
 
 -- the last packet whose number has this remainder, of those that were sent, the newest first
 abbrev pub last_at : ℕ → ℕ → ℕ → List (List ℕ) → Option (List ℕ)
-last_at places longest remainder sent = find (is_kept_at places longest remainder) sent
+last_at places longest remainder sent = find (may_stay_at places longest remainder) sent
 
 abbrev pub if_numbered : ℕ → Option (List ℕ) → Option (List ℕ)
 if_numbered sequence None = None
-if_numbered sequence (Some packet) = if sequence_of packet == sequence then Some packet else None
+if_numbered sequence (Some packet) = if sequence_number_of packet == sequence then Some packet else None
 
 -- The packet with this sequence number: the last one whose number has its remainder, where that one
 -- has the number itself.
-abbrev pub found : ℕ → ℕ → ℕ → List (List ℕ) → Option (List ℕ)
-found places longest sequence sent =
+abbrev pub found_packet : ℕ → ℕ → ℕ → List (List ℕ) → Option (List ℕ)
+found_packet places longest sequence sent =
     if_numbered sequence (last_at places longest (sequence % places) sent)
 
 -- ---- what keeps them

@@ -1,5 +1,5 @@
 //! Laws of the packets that are found, over the definitions alone.
-ghost use Rattle.packet_repeats.specs.Laws.{Bounded, Kept, Newest, Sent};
+ghost use Rattle.packet_repeats.specs.Laws.{Bounded, Newest, Sent, StillKept};
 
 /// What is found is the newest packet with its number.
 pub fn newest()
@@ -13,7 +13,7 @@ pub fn sent()
 
 /// Of packets with numbers that follow one another each is found while it is among the last `count`.
 pub fn kept()
-    ensures { Kept }
+    ensures { StillKept }
 {}
 
 /// There are no more places than numbers.

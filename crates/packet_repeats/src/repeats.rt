@@ -3,7 +3,7 @@ ghost use Rattle.std.specs.Prelude.{◌≡◌, ◌==◌, ◌^◌, ◌<◌, ◌�
 ghost use Rattle.std.specs.Prelude.{nat_le, false, if◌then◌else◌};
 ghost use Rattle.std.specs.Option.{option_map};
 ghost use Rattle.std.specs.Vec.{vec_capacity};
-ghost use Rattle.packet_repeats.specs.Sent.{HasPlaceFor, sequence_of};
+ghost use Rattle.packet_repeats.specs.Sent.{HasPlaceFor, sequence_number_of};
 
 use h263_types::OutOfMemory;
 use std::alloc::{AllocError, Global};
@@ -22,7 +22,7 @@ pub struct Repeats {
 }
 
 impl Repeats {
-    ghost use Rattle.packet_repeats.specs.Sent.{ArePlaces, found};
+    ghost use Rattle.packet_repeats.specs.Sent.{ArePlaces, found_packet};
     ghost use Rattle.packet_repeats.specs.Keeping.{KeepsSent};
 
     /// No packet yet, and room for at least the last `count` packets, of at most `longest` bytes
@@ -57,7 +57,7 @@ impl Repeats {
     pub fn find(&self, sequence: u16) -> Option<&[u8]>
         ensures { (places longest : ℕ) (sent : List (List ℕ))
             → KeepsSent places longest sent self.now
-            → option_map (λ packet. packet.now) result ≡ found places longest sequence sent }
+            → option_map (λ packet. packet.now) result ≡ found_packet places longest sequence sent }
     {
         let packet: &[u8] = &self.places[sequence as usize % self.places.len()];
         if is_numbered(packet, sequence) {
@@ -101,7 +101,7 @@ fn put(place: &mut Vec<u8>, packet: &[u8])
 
 fn sequence_of(packet: &[u8]) -> u16
     requires { 4 ≤ length packet.now }
-    ensures { result ≡ sequence_of packet.now }
+    ensures { result ≡ sequence_number_of packet.now }
 {
     256 * packet[2] as u16 + packet[3] as u16
 }
@@ -109,7 +109,7 @@ fn sequence_of(packet: &[u8]) -> u16
 // Whether there is a packet, and it has this sequence number.
 fn is_numbered(packet: &[u8], sequence: u16) -> bool
     ensures { result
-        ≡ (if nat_le 12 (length packet.now) then sequence_of packet.now == sequence else false) }
+        ≡ (if nat_le 12 (length packet.now) then sequence_number_of packet.now == sequence else false) }
 {
     if packet.len() < HEADER {
         return false;
