@@ -22,6 +22,8 @@
 
 mod answers;
 mod asked;
+#[cfg(test)]
+mod beside_tests;
 mod counting;
 mod datagram;
 mod ends;
