@@ -47,7 +47,7 @@ enum h263rps_status {
     H263RPS_OK = 0,
     H263RPS_NOT_STARTED = 1,  /* the end is empty */
     H263RPS_STARTED = 2,      /* a start: the end isn't empty */
-    H263RPS_OTHER_END = 3,    /* a sender was handed to a receiver's function, or the other way */
+    H263RPS_OTHER_END = 3,    /* it is another end, as a sender for a function of receivers */
     H263RPS_BAD_PARAMS = 4,   /* a parameter is out of its range: `fault` says which */
     H263RPS_NO_MEMORY = 5,    /* a start: nothing is kept */
     H263RPS_ENDED = 6,        /* 1,048,576 pictures were coded or played: a reset begins anew */
