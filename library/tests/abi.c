@@ -185,6 +185,21 @@ IS(H263RPS_MESSAGE_PAIR == 5);
 IS(H263RPS_SSRC == 0x48323633u);
 IS(H263RPS_PAYLOAD_TYPE == 96u);
 
+/* ---- beside a sender: of 2.1 ---------------------------------------------------------------- */
+
+AT(h263rps_repeats, end, 0, 216);
+IS(sizeof(h263rps_repeats) == 216);
+
+AT(h263rps_line, end, 0, 216);
+IS(sizeof(h263rps_line) == 216);
+
+AT(h263rps_bounds, first, 0, 4);
+AT(h263rps_bounds, least, 4, 4);
+AT(h263rps_bounds, most, 8, 4);
+AT(h263rps_bounds, finest, 12, 4);
+AT(h263rps_bounds, period, 16, 4);
+IS(sizeof(h263rps_bounds) == 20);
+
 /* ---- a session ------------------------------------------------------------------------------ */
 
 AT(h263rps_session, kind, 0, 4);
@@ -251,6 +266,7 @@ uint32_t h263rps_raw_version(void);
 uint32_t h263rps_raw_defaults(uint32_t format, h263rps_params *params);
 uint32_t h263rps_raw_picture_size(uint32_t format);
 uint32_t h263rps_raw_packet_start(const uint8_t *bytes, size_t length, h263rps_start *start);
+uint32_t h263rps_raw_datagram_start(const uint8_t *bytes, size_t length, h263rps_start *start);
 uint32_t h263rps_raw_receiver_start(h263rps_end *end, const h263rps_params *params,
                                     uint32_t *fault);
 uint32_t h263rps_raw_receiver_start_at(h263rps_end *end, const h263rps_params *params,
@@ -280,6 +296,20 @@ uint32_t h263rps_raw_sender_sent(h263rps_end *end, uint32_t *count);
 uint32_t h263rps_raw_sender_known(h263rps_end *end, uint32_t *count);
 uint32_t h263rps_raw_sender_statistics(h263rps_end *end, h263rps_statistics *statistics);
 uint32_t h263rps_raw_sender_finish(h263rps_end *end);
+uint32_t h263rps_raw_repeats_start(h263rps_end *end, uint32_t count, uint32_t longest);
+uint32_t h263rps_raw_repeats_keep(h263rps_end *end, const uint8_t *packet, size_t length);
+uint32_t h263rps_raw_repeats_find(h263rps_end *end, uint16_t sequence, h263rps_lent *lent);
+uint32_t h263rps_raw_repeats_finish(h263rps_end *end);
+uint32_t h263rps_raw_line_start(h263rps_end *end, const h263rps_bounds *bounds, uint64_t now);
+uint32_t h263rps_raw_line_sent(h263rps_end *end, uint32_t number, uint32_t bytes, uint16_t packets,
+                               uint64_t now);
+uint32_t h263rps_raw_line_told(h263rps_end *end, uint32_t number, uint32_t whole, uint64_t now);
+uint32_t h263rps_raw_line_has_room(h263rps_end *end, uint64_t now, uint32_t *has);
+uint32_t h263rps_raw_line_rate(h263rps_end *end, uint32_t *rate);
+uint32_t h263rps_raw_line_wanted(h263rps_end *end, uint32_t *bytes);
+uint32_t h263rps_raw_line_target(h263rps_end *end, uint32_t *bytes);
+uint32_t h263rps_raw_line_quant(h263rps_end *end, uint32_t *quant);
+uint32_t h263rps_raw_line_finish(h263rps_end *end);
 uint32_t h263rps_raw_session_start(h263rps_session *session, const h263rps_params *params,
                                    const h263rps_timing *timing, uint32_t *fault);
 uint32_t h263rps_raw_session_arrival(h263rps_session *session, const uint8_t *bytes, size_t length,

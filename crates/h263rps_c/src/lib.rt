@@ -22,15 +22,20 @@
 
 mod answers;
 mod asked;
+#[cfg(test)]
+mod beside_tests;
 mod counting;
+mod datagram;
 mod ends;
 mod handles;
 mod joining;
 mod kept_session;
 pub mod laws;
+mod lining;
 mod messages;
 mod receiver;
 mod refusals;
+mod repeating;
 mod resetting;
 mod running;
 mod sender;
@@ -52,6 +57,7 @@ pub use answers::{Answer, CMessage, Made, Reply};
 pub use asked::Asked;
 pub use counting::Statistics;
 pub use handles::Slot;
+pub use lining::CBounds;
 pub use refusals::EndRefusal;
 pub use session_answers::{CArrived, CCounts, CNack, CTurn};
 pub use session_slots::SessionSlot;
