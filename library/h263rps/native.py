@@ -82,6 +82,13 @@ class Lent(ctypes.Structure):
     _fields_ = [("samples", ctypes.c_void_p), ("length", ctypes.c_size_t)]
 
 
+class FitPace(ctypes.Structure):
+    _fields_ = [
+        *[(name, ctypes.c_uint32) for name in ("target", "room")],
+        *[(name, ctypes.c_uint64) for name in ("level", "intra", "predicted")],
+    ]
+
+
 class SessionEnd(ctypes.Structure):
     _fields_ = [("kind", ctypes.c_uint32), ("at", ctypes.c_void_p)]
 
@@ -219,12 +226,16 @@ def library() -> ctypes.CDLL:
             "sender_packet": [pointer, number, pointer, size, pointer],
             "sender_feedback": [pointer, pointer, size, pointer],
             "sender_target": [pointer, number],
+            "sender_quant": [pointer, ctypes.c_uint8],
             "sender_forget": [pointer],
             "sender_reset": [pointer, number],
             "sender_sent": [pointer, pointer],
             "sender_known": [pointer, pointer],
             "sender_statistics": [pointer, pointer],
             "sender_finish": [pointer],
+            "pace_start": [pointer, number, number, number],
+            "pace_redirect": [pointer, number, number],
+            "pace_quant": [pointer, number],
             "session_start": [pointer, pointer, pointer, pointer],
             "session_arrival": [pointer, pointer, size, time, pointer],
             "session_due": [pointer, pointer],
@@ -236,5 +247,7 @@ def library() -> ctypes.CDLL:
         }.items():
             call = getattr(found, f"h263rps_raw_{name}")
             call.argtypes, call.restype = takes, number
+        coded = found.h263rps_raw_pace_coded
+        coded.argtypes, coded.restype = [pointer, number, ctypes.c_uint8, number], None
         _loaded = found
     return _loaded

@@ -29,6 +29,7 @@ mod joining;
 mod kept_session;
 pub mod laws;
 mod messages;
+mod pacing;
 mod receiver;
 mod refusals;
 mod resetting;

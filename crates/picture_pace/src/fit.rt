@@ -15,6 +15,7 @@ const LEAST: u64 = 4;
 
 /// Fits the pictures of a stream to a target in bytes a picture, which their sum may exceed by a
 /// room.
+#[repr(C)]
 #[derive(Clone, Copy, Debug)]
 pub struct FitPace {
     // Bytes a picture, and bytes.
