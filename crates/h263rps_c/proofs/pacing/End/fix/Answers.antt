@@ -1,8 +1,0 @@
-use Rattle.std.proofs.Common.{Some, subst}
-use Rattle.h263rps_c.specs.declared.ends.End.{End}
-use Rattle.h263rps_c.specs.Ends.{HoldsSteered}
-use Rattle.h263rps_c.proofs.pacing.End.fix.Goals as goal
-
-pub returns-in-Sending-clause-steers : goal.returns-in-Sending-clause-steers
-returns-in-Sending-clause-steers c = λ p first past before ok.
-    c.fix.ensures.steers p first past (subst (λ (e : End). HoldsSteered p first past (Some e)) c.in-Sending.is before) ok
