@@ -1,7 +1,7 @@
 /* What TypeScript takes and refuses of the module's types: tsc --noEmit. */
 
 import {
-  Fault, Line, Params, Receiver, Refused, Repeats, Sender, Session, datagramStart, hasLongMemory, label, load, packetStart,
+  Fault, Line, Pace, Params, Receiver, Refused, Repeats, Sender, Session, datagramStart, hasLongMemory, label, load, packetStart,
   pictureSize,
 } from "../h263rps.js";
 import type { Cause, Coded, Format, Mark, Turn } from "../h263rps.js";
@@ -21,6 +21,9 @@ export async function call(pictures: Iterable<Uint8Array>, format: Format): Prom
     const { picture: shown, reference } = receiver.playLent();
     if (reference !== null && shown.length !== pictureSize(format)) throw new RangeError();
   }
+  const pace = new Pace(format, { target: 1000, room: 20_000 });
+  const quant: number = pace.next(sender);
+  sender.quant(quant + pace.level);
   try {
     sender.target(-1);
   } catch (fault) {

@@ -2,7 +2,7 @@
 /* wrong.mjs: wrong calls of the module for JavaScript: each is an exception that names what is wrong, and never a trap. */
 
 import {
-  Line, Params, PAYLOAD_TYPE, Receiver, Repeats, SSRC, Sender, Session, datagramStart, label, load, packetStart, pictureSize,
+  Line, Pace, Params, PAYLOAD_TYPE, Receiver, Repeats, SSRC, Sender, Session, datagramStart, label, load, packetStart, pictureSize,
   version,
 } from "../h263rps.js";
 
@@ -87,6 +87,9 @@ withEnds((sender, receiver) => {
   wanted("Refused: target: bad params", () => sender.target(1000000));
   wanted("RangeError: target: 4294967296 is out of its range", () => sender.target(2 ** 32));
   wanted("TypeError: target: a whole number is wanted", () => sender.target(NaN));
+  wanted("Refused: quant: bad params", () => sender.quant(0));
+  wanted("Refused: quant: bad params", () => sender.quant(288));
+  wanted("TypeError: quant: a whole number is wanted", () => sender.quant(8.5));
   wanted("Refused: reset: bad params", () => sender.reset(1000000));
   wanted("Refused: reset: bad params", () => receiver.reset(1048577));
   wanted("RangeError: number: -1 is out of its range", () => receiver.reset(-1));
@@ -326,6 +329,25 @@ for (let n = 0, first = 0; n < 1000; n++) {
   if (n > 3) wanted(String(first), () => is);
   session.close();
 }
+
+// A pace.
+wanted("Refused: start: bad params", () => new Pace("qcif", { target: 0, room: 8000 }));
+wanted("Refused: start: bad params", () => new Pace("qcif", { target: 1000000, room: 8000 }));
+wanted("RangeError: there is no format vga", () => new Pace("vga", { target: 1000, room: 8000 }));
+wanted("TypeError: room: a whole number is wanted", () => new Pace("qcif", { target: 1000 }));
+wanted("TypeError: target: a whole number is wanted", () => new Pace("qcif"));
+withEnds((sender) => {
+  const pace = new Pace("qcif", { target: 1000, room: 8000 });
+  wanted("9", () => pace.next(sender));
+  const coded = sender.code(bytes(QCIF));
+  pace.coded(coded, 9, 3000);
+  wanted("[2000,15]", () => [pace.level, pace.next(sender)]);
+  wanted("RangeError: quant: 256 is out of its range", () => pace.coded(coded, 256, 3000));
+  wanted("RangeError: size: -1 is out of its range", () => pace.coded(coded, 9, -1));
+  wanted("Refused: target: bad params", () => pace.target(0, 8000));
+  pace.target(500, 1000);
+  wanted("[2000,31]", () => [pace.level, pace.next(sender)]);
+});
 
 // No memory left: a start is refused, and so is room for a packet longer than any; all else is as it was.
 withEnds((sender, receiver) => {
