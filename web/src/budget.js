@@ -13,13 +13,13 @@ export class Budget {
     this.#left = most;
   }
 
-  /** Whether one more is within it. */
-  take() {
+  /** Whether so many more are within it. */
+  take(count = 1) {
     const time = performance.now();
     this.#left = Math.min(this.most, this.#left + ((time - this.#last) * this.rate) / 1000);
     this.#last = time;
-    if (this.#left < 1) return false;
-    this.#left--;
+    if (this.#left < count) return false;
+    this.#left -= count;
     return true;
   }
 }

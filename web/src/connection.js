@@ -8,6 +8,7 @@ import { PAYLOAD_TYPE, SSRC } from "../../library/web/h263rps.js";
 import { Budget } from "./budget.js";
 import { LONGEST_PACKET, SHORTEST_PACKET } from "./call_settings.js";
 import { MOST_WAYS, checked } from "./descriptions.js";
+import { isNack } from "./repair.js";
 
 /** Bytes that may wait to go out before pictures are left out, and before a datagram is lost, as on a full line. */
 const WAITING = 1 << 15;
@@ -130,8 +131,8 @@ export class Side {
 
   /** What is no datagram of a call, or more than a call has, is dropped here: it costs a look at twelve bytes. */
   #came(data) {
-    const isMessage = data.byteLength < SHORTEST_PACKET;
-    const isTaken = (isMessage || isPacket(data)) && (isMessage ? this.#messages : this.#packets).take();
+    const isBack = goesBack(data);
+    const isTaken = (isBack || isPacket(data)) && (isBack ? this.#messages : this.#packets).take();
     if (isTaken) this.onDatagram(data);
     else this.#refuse();
   }
@@ -154,6 +155,11 @@ export class Side {
       // Words that are none are passed over.
     }
   }
+}
+
+/** Whether a datagram goes from a receiving side to a sending one: a message, or what asks for packets again. */
+export function goesBack(data) {
+  return data.byteLength < SHORTEST_PACKET || isNack(new DataView(data));
 }
 
 /** Whether a datagram is of a length, and begins, as an RTP packet of the telephone does. Messages name no stream: there is one. */
@@ -193,9 +199,9 @@ export class SelfCall {
     return isOpen;
   }
 
-  /** A packet goes out on the near side, a message on the far one. */
-  send(datagram, isMessage) {
-    const side = isMessage ? this.#far : this.#near;
+  /** A packet goes out on the near side, and what goes back on the far one. */
+  send(datagram) {
+    const side = goesBack(datagram.buffer) ? this.#far : this.#near;
     const out = (bytes) => (this.#isDirect ? this.hear(bytes.buffer) : side.send(bytes));
     this.network.carry(datagram, out);
   }

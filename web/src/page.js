@@ -4,7 +4,6 @@
  */
 
 import { hasLongMemory } from "../../library/web/h263rps.js";
-import { SHORTEST_PACKET } from "./call_settings.js";
 import { Camera, devices } from "./camera.js";
 import { OtherCall, SelfCall } from "./connection.js";
 import { Invitations } from "./invitations.js";
@@ -281,7 +280,7 @@ class Telephone {
   }
 
   #send(datagram) {
-    this.#call?.send(datagram, datagram.length < SHORTEST_PACKET);
+    this.#call?.send(datagram);
   }
 
   /** A datagram came; one of a call that is over counts no more. */

@@ -5,20 +5,22 @@
  */
 
 import { CLOCKS, Params, Refused, Session, packetStart } from "../../library/web/h263rps.js";
-import { LEAD, RATE_OF, SLOTS, nanoseconds } from "./call_settings.js";
+import { LEAD, RATE_OF, SLOTS, nanoseconds, now } from "./call_settings.js";
+import { RepairTrip, nackOf } from "./repair.js";
 
 export class Receiving {
   #session = null;
   #start = null;
   #timer = null;
   #record;
+  #trip = new RepairTrip();
   /** Datagrams that weren't heard. */
   dropped = 0;
   /** Pictures that were shown, by their marks. */
   played = { exact: 0, patched: 0, held: 0 };
 
   /**
-   * With a wait in seconds. It calls `say(message)`; `tell(turn)` for each picture of the stream that is followed; and
+   * With a wait in seconds. It calls `say(bytes)` with a message, or what asks for packets again; `tell(turn)` for each picture of the stream that is followed; and
    * `paint(picture, format)` for the last one of those that are due at once. A record may be kept.
    */
   constructor(wait, { say, tell, paint }, record = null) {
@@ -32,7 +34,8 @@ export class Receiving {
       this.dropped++;
       return;
     }
-    const time = nanoseconds();
+    const seconds = now();
+    const time = nanoseconds(seconds);
     let verdict;
     do {
       const arrived = this.#session.arrival(datagram, time);
@@ -41,6 +44,7 @@ export class Receiving {
       this.#playDue(time);
     } while (verdict === "ahead");
     this.dropped += verdict !== "heard";
+    if (verdict === "heard") this.#repair(datagram, seconds);
   }
 
   /** How long a picture waits, in seconds. A session's wait is that of its start: answers whether one began anew. */
@@ -78,6 +82,16 @@ export class Receiving {
   #hear(datagram, { kind, message }) {
     this.#record?.heard(datagram, kind, message);
     if (message.length) this.say(message);
+  }
+
+  /** Asks for what is missing and can still come in time. */
+  #repair(datagram, seconds) {
+    this.#trip.came((datagram[2] << 8) | datagram[3], seconds);
+    const roundTrip = nanoseconds(this.#trip.seconds(seconds));
+    const fields = this.#session.missing(roundTrip, nanoseconds(seconds));
+    if (!fields.length) return;
+    this.#trip.asked(fields, seconds);
+    this.say(nackOf(fields));
   }
 
   #playDue(time) {

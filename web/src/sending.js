@@ -6,6 +6,7 @@
 import { Params, Sender } from "../../library/web/h263rps.js";
 import { LEAD, LIMIT, RATE, SLOTS, TARGETS, TICKS, now } from "./call_settings.js";
 import { SIZES, covering, fillPlanes } from "./planes.js";
+import { SentPackets } from "./repair.js";
 
 /** A picture that comes sooner after the one before is left out: no stream goes on faster than at its rate. */
 const LEAST_STEP = 0.9 / RATE;
@@ -18,6 +19,7 @@ export class Sending {
   #pen;
   #began = null;
   #captured = [];
+  #sent;
   /** When the last picture was captured. */
   last = -Infinity;
   /** Seconds that the last picture took to become planes, and to be coded. */
@@ -29,6 +31,7 @@ export class Sending {
     const [width, height] = SIZES[format];
     Object.assign(this, { width, height });
     this.#sender = new Sender(Params.of(format, { target, limit: LIMIT, slots: SLOTS, lead: LEAD }));
+    this.#sent = new SentPackets(target * RATE);
     this.#planes = new Uint8Array((width * height * 3) / 2);
     this.#pen = new OffscreenCanvas(width, height).getContext("2d", { alpha: false, willReadFrequently: true });
   }
@@ -46,7 +49,18 @@ export class Sending {
     const packets = this.#sender.packets(coded);
     if (this.record) this.#note(coded, packets, time);
     this.took = { planes: filled - time, code: now() - filled };
-    return packets.map((packet) => stamped(packet, Math.round((time - this.#began) * TICKS)));
+    const ticks = Math.round((time - this.#began) * TICKS);
+    return packets.map((packet) => this.#kept(stamped(packet, ticks)));
+  }
+
+  #kept(packet) {
+    this.#sent.keep(packet);
+    return packet;
+  }
+
+  /** The packets that a Generic NACK asks for. */
+  repeats(nack) {
+    return this.#sent.asked(nack);
   }
 
   #fill(source, width, height) {
@@ -82,11 +96,12 @@ export class Sending {
   }
 
   get statistics() {
-    return this.#sender.statistics();
+    return { ...this.#sender.statistics(), again: this.#sent.again };
   }
 
   close() {
     this.#sender.close();
+    this.#sent.close();
   }
 }
 

@@ -96,7 +96,7 @@ export class Told {
       planes: ms(took.planes), code: ms(took.code), rate: Math.round(this.#rate(sent.bytes)),
       sound: sound.packets, soundWait: sound.wait,
       sent: Object.values(sent.coded).reduce((sum, count) => sum + count, 0), left: this.left,
-      packets: sent.packets, lost: network?.lost ?? "–",
+      packets: sent.packets, again: sent.again, lost: network?.lost ?? "–",
     });
     const { ordinary } = this.counts;
     if (!ordinary) return;

@@ -12,6 +12,7 @@ import { Ordinary, hasOrdinary } from "./ordinary.js";
 import { Receiving } from "./receiving.js";
 import { Record } from "./record.js";
 import { RecordedRuns } from "./recorded_runs.js";
+import { isNack } from "./repair.js";
 import { Sending } from "./sending.js";
 
 /** How often the page is told the counts, in milliseconds. */
@@ -142,7 +143,12 @@ class Ends {
   datagram({ datagram }) {
     const bytes = new Uint8Array(datagram);
     if (bytes.length < SHORTEST_PACKET) this.#sending?.feedback(bytes);
+    else if (isNack(new DataView(datagram))) this.#sendOut(this.#sending?.repeats(new DataView(datagram)) ?? []);
     else this.#receiving?.take(bytes);
+  }
+
+  #sendOut(datagrams) {
+    if (datagrams.length) tell("datagrams", { datagrams }, datagrams.map(({ buffer }) => buffer));
   }
 
   #send(source, width, height) {
@@ -150,7 +156,7 @@ class Ends {
     this.#own.drawImage(source, ...covering(width, height, across, down), 0, 0, across, down);
     const datagrams = this.#sending?.packets(source, width, height) ?? [];
     if (datagrams.length) this.#ordinary?.code(source, width, height, this.#sending.last);
-    if (datagrams.length) tell("datagrams", { datagrams }, datagrams.map(({ buffer }) => buffer));
+    this.#sendOut(datagrams);
   }
 
   #tellPlayed({ mark, number, reference }) {

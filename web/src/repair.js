@@ -1,0 +1,123 @@
+/**
+ * Packets that were lost: asked for in a Generic NACK (RFC 4585, 6.2.1), which goes back as messages do, and sent again.
+ * @module
+ */
+
+import { Repeats, SSRC } from "../../library/web/h263rps.js";
+import { Budget } from "./budget.js";
+import { LIMIT } from "./call_settings.js";
+
+/** The first two bytes of such a packet: version 2, format 1, transport feedback. No RTP packet of a call begins so. */
+const NACK = 0x81cd;
+/** Bytes before its fields, and of a field; and the most fields: what a session can ask for at once, and one more. */
+const NACK_HEAD = 12;
+const NACK_FIELD = 4;
+const MOST_FIELDS = 65;
+/** Packets that the sending side keeps: of the largest pictures those of a second and more. */
+const KEPT_PACKETS = 512;
+/** Seconds that a packet takes that is asked for, before the first one came. */
+const FIRST_TRIP = 0.02;
+/** So many seconds after the last one came a trip counts half, so that a shorter way is found again. */
+const OLD_TRIP = 2;
+/** A request that is so many seconds old is forgotten. */
+const OLD_REQUEST = 4;
+
+/** A Generic NACK with these fields. */
+export function nackOf(fields) {
+  const bytes = new Uint8Array(NACK_HEAD + NACK_FIELD * fields.length);
+  const view = new DataView(bytes.buffer);
+  view.setUint16(0, NACK);
+  view.setUint16(2, bytes.length / 4 - 1);
+  view.setUint32(4, SSRC);
+  view.setUint32(8, SSRC);
+  fields.forEach(({ packet, following }, n) => {
+    view.setUint16(NACK_HEAD + NACK_FIELD * n, packet);
+    view.setUint16(NACK_HEAD + NACK_FIELD * n + 2, following);
+  });
+  return bytes;
+}
+
+/** Whether this is a Generic NACK of the call's stream, by a DataView of all its bytes. */
+export function isNack(view) {
+  const fields = (view.byteLength - NACK_HEAD) / NACK_FIELD;
+  if (!Number.isInteger(fields) || fields < 1 || fields > MOST_FIELDS) return false;
+  return view.getUint16(0) === NACK && view.getUint16(2) === view.byteLength / 4 - 1 && view.getUint32(8) === SSRC;
+}
+
+/** The sequence numbers for which a field asks. */
+function sequencesOf({ packet, following }) {
+  const after = Array.from({ length: 16 }, (_, n) => n).filter((n) => following & (1 << n));
+  return [packet, ...after.map((n) => (packet + n + 1) % 65536)];
+}
+
+/** The sequence numbers for which a Generic NACK asks. */
+function askedIn(view) {
+  const places = Array.from({ length: (view.byteLength - NACK_HEAD) / NACK_FIELD }, (_, n) => NACK_HEAD + NACK_FIELD * n);
+  return places.flatMap((at) => sequencesOf({ packet: view.getUint16(at), following: view.getUint16(at + 2) }));
+}
+
+/** The packets that went out last. Those that are sent again have no more bytes a second than the stream may have. */
+export class SentPackets {
+  #repeats = new Repeats({ count: KEPT_PACKETS, longest: LIMIT });
+  #budget;
+  /** How many were sent again. */
+  again = 0;
+
+  /** Of a stream that has so many bytes a second. */
+  constructor(rate) {
+    this.#budget = new Budget(rate);
+  }
+
+  keep(packet) {
+    this.#repeats.keep(packet);
+  }
+
+  /** The packets for which a Generic NACK asks, as far as they are kept. */
+  asked(view) {
+    const kept = askedIn(view).map((sequence) => this.#repeats.find(sequence));
+    const packets = kept.filter((packet) => packet && this.#budget.take(packet.length));
+    this.again += packets.length;
+    return packets;
+  }
+
+  close() {
+    this.#repeats.close();
+  }
+}
+
+/** How long it takes until a packet comes that is asked for. */
+export class RepairTrip {
+  #asked = new Map();
+  #mean = FIRST_TRIP;
+  #last = null;
+
+  /** It is asked for packets, at this time in seconds. */
+  asked(fields, time) {
+    for (const [sequence, { since }] of this.#asked) {
+      if (time - since > OLD_REQUEST) this.#asked.delete(sequence);
+    }
+    this.#last ??= time;
+    for (const sequence of fields.flatMap(sequencesOf)) {
+      this.#asked.set(sequence, { since: time, isAgain: this.#asked.has(sequence) });
+    }
+  }
+
+  /** A packet came. Of one that was asked for twice it isn't known which request it answers (RFC 6298, 3). */
+  came(sequence, time) {
+    const request = this.#asked.get(sequence);
+    if (!request) return;
+    this.#asked.delete(sequence);
+    if (request.isAgain) return;
+    this.#mean += (time - request.since - this.#mean) / 8;
+    this.#last = time;
+  }
+
+  /** Seconds, at this time. */
+  seconds(time) {
+    if (this.#last !== null && time - this.#last > OLD_TRIP) {
+      this.#mean /= 2;
+      this.#last = time;
+    }
+    return this.#mean;
+  }
+}

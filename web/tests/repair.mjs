@@ -1,0 +1,130 @@
+#!/usr/bin/env node
+/* Lost packets that are asked for and sent again, in made time: a minute of pictures over a way that loses 5 %, there and
+   back. Where the round trip fits into the wait nearly all pictures are exact; where it doesn't nothing changes. */
+
+import { readFileSync } from "node:fs";
+import { Params, Sender, load } from "../../library/web/h263rps.js";
+import { LEAD, LIMIT, RATE, SHORTEST_PACKET, SLOTS, TICKS, now } from "../src/call_settings.js";
+import { Receiving } from "../src/receiving.js";
+import { SentPackets, isNack } from "../src/repair.js";
+
+const SECONDS = 60;
+const LOSS = 0.05;
+const WAIT = 0.1;
+const TARGET = 1800;
+
+/** The time that is made: what is to be done when, the next one first. */
+const made = { time: 0, next: 1, acts: [] };
+performance.now = () => made.time;
+globalThis.setTimeout = (act, wait = 0) => {
+  const id = made.next++;
+  made.acts.push({ id, act, at: made.time + wait });
+  return id;
+};
+globalThis.clearTimeout = (id) => {
+  made.acts = made.acts.filter((it) => it.id !== id);
+};
+
+/** Lets time pass until there is nothing left to do. */
+function pass() {
+  while (made.acts.length) {
+    const next = made.acts.reduce((first, it) => (it.at < first.at || (it.at === first.at && it.id < first.id) ? it : first));
+    made.acts.splice(made.acts.indexOf(next), 1);
+    made.time = Math.max(made.time, next.at);
+    next.act();
+  }
+}
+
+/** Numbers of chance, the same each time. */
+function chanceOf(seed) {
+  let state = seed;
+  return () => {
+    state = (Math.imul(state, 1664525) + 1013904223) >>> 0;
+    return state / 2 ** 32;
+  };
+}
+
+class Call {
+  #chance = chanceOf(7);
+  #sender = new Sender(Params.of("qcif", { target: TARGET, limit: LIMIT, slots: SLOTS, lead: LEAD }));
+  #sent = new SentPackets(TARGET * RATE);
+  #receiving;
+  asked = 0;
+  bytes = 0;
+
+  constructor(way, isRepaired) {
+    Object.assign(this, { way, isRepaired, begin: now() });
+    const say = (bytes) => this.#carry(bytes, () => this.#heard(bytes));
+    this.#receiving = new Receiving(WAIT, { say, tell: () => {}, paint: () => {} });
+  }
+
+  /** Takes bytes over the way, if they aren't lost. */
+  #carry(bytes, act) {
+    if (this.#chance() < LOSS) return;
+    setTimeout(act, 1000 * this.way);
+  }
+
+  #send(packets) {
+    for (const packet of packets) {
+      this.bytes += packet.length;
+      this.#carry(packet, () => this.#receiving.take(packet));
+    }
+  }
+
+  #heard(bytes) {
+    const view = new DataView(bytes.buffer);
+    if (bytes.length < SHORTEST_PACKET) this.#sender.feedback(bytes);
+    else if (!isNack(view)) throw new Error("neither a message nor what asks for packets");
+    else if (this.isRepaired) this.#send(this.#sent.asked(view));
+  }
+
+  picture(number) {
+    const picture = new Uint8Array(38016).map((_, at) => (at + 3 * number) & 127);
+    const packets = this.#sender.packets(this.#sender.code(picture));
+    for (const packet of packets) {
+      new DataView(packet.buffer).setUint32(4, Math.round((now() - this.begin) * TICKS));
+      this.#sent.keep(packet);
+    }
+    this.#send(packets);
+  }
+
+  /** What became of the pictures. */
+  end() {
+    const { exact, patched, held } = this.#receiving.played;
+    const share = (100 * exact) / (exact + patched + held);
+    const { bytes } = this;
+    const { again } = this.#sent;
+    this.#receiving.close();
+    this.#sent.close();
+    this.#sender.close();
+    return { share, again, bytes };
+  }
+}
+
+function called(way, isRepaired) {
+  const call = new Call(way, isRepaired);
+  const begin = made.time;
+  const pictures = Math.round(SECONDS * RATE);
+  for (let number = 0; number < pictures; number++) {
+    made.acts.push({ id: made.next++, act: () => call.picture(number), at: begin + (1000 * number) / RATE });
+  }
+  pass();
+  const ended = call.end();
+  const { share, again, bytes } = ended;
+  const words = isRepaired ? `${again} packets sent again` : "without repair";
+  console.log(`round trip ${Math.round(2000 * way)} ms, wait ${1000 * WAIT} ms: ${share.toFixed(1)} % exact, ${words}, ${bytes} bytes`);
+  return ended;
+}
+
+function must(isSo, words) {
+  if (isSo) return;
+  console.error(words);
+  process.exitCode = 1;
+}
+
+await load(readFileSync(process.env.H263RPS_MODULE));
+const [near, nearAlone, far, farAlone] = [[0.025, true], [0.025, false], [0.15, true], [0.15, false]].map((it) => called(...it));
+must(near.share >= 99, "a round trip of 50 ms: at least 99 % are wanted");
+must(nearAlone.share < 96, "without repair fewer must be exact, or this shows nothing");
+must(Math.abs(far.share - farAlone.share) < 1, "a round trip beyond the wait: repair must change nothing");
+must(far.again < 0.01 * (far.bytes / LIMIT), "a round trip beyond the wait: hardly a packet may be sent again");
