@@ -38,7 +38,7 @@ export class Record {
     const { party, format, wait, target, network } = settings;
     this.#facts = {
       version: 1, began: new Date().toISOString().replace("Z", "+00:00"), party, format, rate: RATE_TEXT,
-      clock: "standard", messages: 1, wait, lead: LEAD, slots: SLOTS, target, adapts: false, network,
+      clock: "standard", messages: 1, wait, lead: LEAD, slots: SLOTS, target, adapts: true, network,
     };
   }
 
@@ -91,7 +91,7 @@ export class Record {
   #told(seconds) {
     const { format, target, sent } = this.settings;
     const send = {
-      video: "captured.y4m", log: "send.log", wire: "packets.log", report: "send.txt", source: sent, first_sequence: 0,
+      video: "captured.y4m", log: "send.log", wire: "packets.log", report: "send.txt", targets: "targets.txt", source: sent, first_sequence: 0,
       first_time: 0, options: [`--format=${format}`, `--limit=${LIMIT}`, `--slots=${SLOTS}`, `--lead=${LEAD}`, `--target=${target}`],
     };
     const counts = this.#isCut ? {} : { counts: { seconds } };

@@ -5,6 +5,7 @@
 
 import { Params, Sender } from "../../library/web/h263rps.js";
 import { LEAD, LIMIT, RATE, SLOTS, TARGETS, TICKS, now } from "./call_settings.js";
+import { LineRate } from "./line_rate.js";
 import { SIZES, covering, fillPlanes } from "./planes.js";
 import { SentPackets } from "./repair.js";
 
@@ -20,34 +21,40 @@ export class Sending {
   #began = null;
   #captured = [];
   #sent;
+  #rate;
   /** When the last picture was captured. */
   last = -Infinity;
   /** Seconds that the last picture took to become planes, and to be coded. */
   took = { planes: 0, code: 0 };
 
-  /** Pictures of this format, of which a record may be kept. */
+  /** Pictures of this format, of so many bytes at the most, of which a record may be kept. */
   constructor(format, record = null, target = TARGETS[format]) {
     this.record = record;
     const [width, height] = SIZES[format];
     Object.assign(this, { width, height });
-    this.#sender = new Sender(Params.of(format, { target, limit: LIMIT, slots: SLOTS, lead: LEAD }));
+    const params = Params.of(format, { target, limit: LIMIT, slots: SLOTS, lead: LEAD });
+    this.#sender = new Sender(params);
+    this.#rate = new LineRate(target, params.quant);
     this.#sent = new SentPackets(target * RATE);
     this.#planes = new Uint8Array((width * height * 3) / 2);
     this.#pen = new OffscreenCanvas(width, height).getContext("2d", { alpha: false, willReadFrequently: true });
   }
 
-  /** The packets of a picture: none where it comes too soon. */
+  /** The packets of a picture: none where it comes too soon, or where the line has no room for it. */
   packets(source, width, height) {
     const time = now();
-    if (time - this.last < LEAST_STEP) return [];
+    if (time - this.last < LEAST_STEP || !this.#rate.hasRoom) return [];
     this.last = time;
     this.#began ??= time;
     this.#fill(source, width, height);
     const filled = now();
+    const { target } = this.#rate;
+    this.#sender.target(target);
     const coded = this.#sender.code(this.#planes);
     this.#captured[coded.number % KEPT] = time;
     const packets = this.#sender.packets(coded);
-    if (this.record) this.#note(coded, packets, time);
+    this.#rate.sent(coded.number, packets);
+    if (this.record) this.#note(coded, packets, time, target);
     this.took = { planes: filled - time, code: now() - filled };
     const ticks = Math.round((time - this.#began) * TICKS);
     return packets.map((packet) => this.#kept(stamped(packet, ticks)));
@@ -73,7 +80,8 @@ export class Sending {
     return this.#captured[number % KEPT];
   }
 
-  #note({ number, reference }, packets, time) {
+  #note({ number, reference }, packets, time, target) {
+    this.record.line("targets", `${target} ${this.#rate.kbits.toFixed(0)}`);
     this.record.entry("send", "S", time);
     for (const packet of packets) this.record.entry("packets", "K", now(), packet);
     this.record.line("send", reference === null ? `${number} intra` : `${number} from ${reference}`);
@@ -83,11 +91,7 @@ export class Sending {
   feedback(message) {
     this.record?.entry("send", "B", now(), message);
     this.#sender.feedback(message);
-  }
-
-  /** Follows this many bytes a picture. */
-  target(bytes) {
-    this.#sender.target(bytes);
+    this.#rate.told(message);
   }
 
   /** The next picture refers to none before it. */
@@ -102,6 +106,7 @@ export class Sending {
   close() {
     this.#sender.close();
     this.#sent.close();
+    this.#rate.close();
   }
 }
 
