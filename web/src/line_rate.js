@@ -6,7 +6,7 @@
 import { Line } from "../../library/web/h263rps.js";
 import { RATE, nanoseconds } from "./call_settings.js";
 
-/** The least rate is so many times less than the most. */
+/** The least pictures are so many times smaller than the largest. */
 const FLOOR = 30;
 /** After so many pictures a temporal reference comes again. */
 const REFERENCES = 256;
@@ -20,9 +20,8 @@ export class LineRate {
 
   /** Of pictures of so many bytes at the most, with which it begins, and with this finest quantiser. */
   constructor(target, finest) {
-    const most = Math.round(target * RATE);
-    const period = Math.round(1e9 / RATE);
-    this.#line = new Line({ first: most, least: Math.round(most / FLOOR), most, finest, period, now: nanoseconds() });
+    const bounds = { first: target, least: Math.ceil(target / FLOOR), most: target, finest };
+    this.#line = new Line({ ...bounds, period: Math.round(1e9 / RATE), now: nanoseconds() });
   }
 
   /** Whether the next frame may go out. */

@@ -225,6 +225,7 @@ class Telephone {
     this.#call.setWait(this.#value("wait"));
     this.#tell("begin", { format: byId("size").value, wait: this.#value("wait"), isAlone, kept });
     if (kept) this.#call.say({ is: "keeps" });
+    this.#call.say({ is: "hears_headers" });
     this.#putBeside();
   }
 
@@ -293,6 +294,7 @@ class Telephone {
     if (words?.is === "bye") this.#end("other_hung_up");
     if (words?.is === "secret") this.#meeting.heard(words);
     if (words?.is === "keeps") this.#tellNews(this.#text("other_keeps", this.#other));
+    if (words?.is === "hears_headers") this.#tell("carry");
     if (words?.is !== "camera") return;
     this.#isOtherOff = !words.isOn;
     this.#tellNone(words.isOn ? "" : this.#text("other_camera_off", this.#other));

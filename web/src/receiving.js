@@ -14,17 +14,19 @@ export class Receiving {
   #timer = null;
   #record;
   #trip = new RepairTrip();
+  #carriedOf = null;
   /** Datagrams that weren't heard. */
   dropped = 0;
   /** Pictures that were shown, by their marks. */
   played = { exact: 0, patched: 0, held: 0 };
 
   /**
-   * With a wait in seconds. It calls `say(bytes)` with a message, or what asks for packets again; `tell(turn)` for each picture of the stream that is followed; and
+   * With a wait in seconds. It calls `say(message)`; `ask(nack)`, which asks for packets again; `carried(message)` for what
+   * pictures that come have in their headers; `tell(turn)` for each picture of the stream that is followed; and
    * `paint(picture, format)` for the last one of those that are due at once. A record may be kept.
    */
-  constructor(wait, { say, tell, paint }, record = null) {
-    Object.assign(this, { wait, say, tell, paint });
+  constructor(wait, { say, ask, carried, tell, paint }, record = null) {
+    Object.assign(this, { wait, say, ask, carried, tell, paint });
     this.#record = record;
   }
 
@@ -79,9 +81,17 @@ export class Receiving {
     return new Session(params, { ...RATE_OF, wait: nanoseconds(this.wait) });
   }
 
-  #hear(datagram, { kind, message }) {
+  #hear(datagram, { run, kind, message }) {
     this.#record?.heard(datagram, kind, message);
     if (message.length) this.say(message);
+    if (run === "followed") this.#takeCarried(packetStart(datagram));
+  }
+
+  /** Each packet of a picture has its messages: they are taken once. */
+  #takeCarried({ temporalReference, messages }) {
+    if (temporalReference === this.#carriedOf) return;
+    this.#carriedOf = temporalReference;
+    messages.forEach((message) => this.carried(message));
   }
 
   /** Asks for what is missing and can still come in time. */
@@ -91,7 +101,7 @@ export class Receiving {
     const fields = this.#session.missing(roundTrip, nanoseconds(seconds));
     if (!fields.length) return;
     this.#trip.asked(fields, seconds);
-    this.say(nackOf(fields));
+    this.ask(nackOf(fields));
   }
 
   #playDue(time) {

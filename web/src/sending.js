@@ -40,8 +40,10 @@ export class Sending {
     this.#pen = new OffscreenCanvas(width, height).getContext("2d", { alpha: false, willReadFrequently: true });
   }
 
-  /** The packets of a picture: none where it comes too soon, or where the line has no room for it. */
-  packets(source, width, height) {
+  /**
+   * The packets of a picture, with messages in its header: none where it comes too soon, or where the line has no room for it.
+   */
+  packets(source, width, height, messages = () => []) {
     const time = now();
     if (time - this.last < LEAST_STEP || !this.#rate.hasRoom) return [];
     this.last = time;
@@ -50,7 +52,7 @@ export class Sending {
     const filled = now();
     const { target } = this.#rate;
     this.#sender.target(target);
-    const coded = this.#sender.code(this.#planes);
+    const coded = this.#sender.code(this.#planes, messages());
     this.#captured[coded.number % KEPT] = time;
     const packets = this.#sender.packets(coded);
     this.#rate.sent(coded.number, packets);
@@ -73,6 +75,11 @@ export class Sending {
   #fill(source, width, height) {
     this.#pen.drawImage(source, ...covering(width, height, this.width, this.height), 0, 0, this.width, this.height);
     fillPlanes(this.#pen.getImageData(0, 0, this.width, this.height).data, this.width, this.height, this.#planes);
+  }
+
+  /** In how many seconds the next picture comes, if the camera keeps to its rate. */
+  get untilNext() {
+    return this.last + 1 / RATE - now();
   }
 
   /** When the picture was captured that the other end knows by this number: one that joins late counts from less. */

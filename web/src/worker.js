@@ -6,6 +6,7 @@
 
 import { load } from "../../library/web/h263rps.js";
 import { RATE, SHORTEST_PACKET, TARGETS, now } from "./call_settings.js";
+import { Carried } from "./carried.js";
 import { MadePicture } from "./made_picture.js";
 import { SIZES, covering, fillColours } from "./planes.js";
 import { Ordinary, hasOrdinary } from "./ordinary.js";
@@ -26,6 +27,7 @@ class Ends {
   #image = null;
   #sending = null;
   #receiving = null;
+  #carried = null;
   #made = null;
   #timers = [];
   #isAlone = false;
@@ -52,7 +54,9 @@ class Ends {
     this.#record = kept ? new Record(now(), { format, wait, target: TARGETS[format], ...kept }) : null;
     this.#sending = new Sending(format, this.#record);
     const heard = {
-      say: (message) => tell("datagrams", { datagrams: [message] }),
+      say: (message) => this.#say(message),
+      ask: (nack) => this.#sendOut([nack]),
+      carried: (message) => this.#sending.feedback(message),
       tell: (turn) => this.#tellPlayed(turn),
       paint: (picture, of) => this.#paint(picture, of),
     };
@@ -60,12 +64,18 @@ class Ends {
     this.#timers.push(setInterval(() => this.#tellCounts(), TOLD_EACH));
   }
 
+  /** The other side hears what stands in pictures' headers. A log of captures has no messages, so a record has none there. */
+  carry() {
+    if (!this.#record) this.#carried ??= new Carried((message) => this.#sendOut([message]));
+  }
+
   end() {
     this.#timers.forEach(clearInterval);
     this.#timers = [];
     this.#sending?.close();
     this.#receiving?.close();
-    this.#sending = this.#receiving = null;
+    this.#carried?.close();
+    this.#sending = this.#receiving = this.#carried = null;
     this.#leaveOrdinary();
     this.#handOver();
   }
@@ -147,6 +157,11 @@ class Ends {
     else this.#receiving?.take(bytes);
   }
 
+  #say(message) {
+    if (this.#carried) this.#carried.say(message, this.#sending.untilNext);
+    else this.#sendOut([message]);
+  }
+
   #sendOut(datagrams) {
     if (datagrams.length) tell("datagrams", { datagrams }, datagrams.map(({ buffer }) => buffer));
   }
@@ -154,7 +169,7 @@ class Ends {
   #send(source, width, height) {
     const { width: across, height: down } = this.#own.canvas;
     this.#own.drawImage(source, ...covering(width, height, across, down), 0, 0, across, down);
-    const datagrams = this.#sending?.packets(source, width, height) ?? [];
+    const datagrams = this.#sending?.packets(source, width, height, () => this.#carried?.take() ?? []) ?? [];
     if (datagrams.length) this.#ordinary?.code(source, width, height, this.#sending.last);
     this.#sendOut(datagrams);
   }

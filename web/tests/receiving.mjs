@@ -12,7 +12,9 @@ const JUNK_EACH = Math.round(20_000 / RATE);
 
 await load(readFileSync(process.env.H263RPS_MODULE));
 const sender = new Sender(Params.of("qcif", { target: 1800, limit: LIMIT, slots: SLOTS, lead: LEAD }));
-const receiving = new Receiving(0.1, { say: (message) => sender.feedback(message), tell: () => {}, paint: () => {} });
+const receiving = new Receiving(0.1, {
+  say: (message) => sender.feedback(message), ask: () => {}, carried: () => {}, tell: () => {}, paint: () => {},
+});
 const begin = now();
 const old = [];
 let spent = 0;

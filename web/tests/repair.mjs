@@ -55,7 +55,7 @@ class Call {
   constructor(way, isRepaired) {
     Object.assign(this, { way, isRepaired, begin: now() });
     const say = (bytes) => this.#carry(bytes, () => this.#heard(bytes));
-    this.#receiving = new Receiving(WAIT, { say, tell: () => {}, paint: () => {} });
+    this.#receiving = new Receiving(WAIT, { say, ask: say, carried: () => {}, tell: () => {}, paint: () => {} });
   }
 
   /** Takes bytes over the way, if they aren't lost. */
