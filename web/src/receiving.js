@@ -6,7 +6,7 @@
 
 import { CLOCKS, Params, Refused, Session, packetStart } from "../../library/web/h263rps.js";
 import { LEAD, RATE_OF, SLOTS, nanoseconds, now } from "./call_settings.js";
-import { RepairTrip, nackOf } from "./repair.js";
+import { ASKED_TWICE, RepairTrip, nackOf } from "./repair.js";
 
 export class Receiving {
   #session = null;
@@ -101,7 +101,9 @@ export class Receiving {
     const fields = this.#session.missing(roundTrip, nanoseconds(seconds));
     if (!fields.length) return;
     this.#trip.asked(fields, seconds);
-    this.ask(nackOf(fields));
+    const nack = nackOf(fields);
+    this.ask(nack.slice());
+    setTimeout(() => this.#session && this.ask(nack), ASKED_TWICE);
   }
 
   #playDue(time) {

@@ -15,9 +15,15 @@ const NACK_FIELD = 4;
 const MOST_FIELDS = 65;
 /** Packets that the sending side keeps: of the largest pictures those of a second and more. */
 const KEPT_PACKETS = 512;
+/** So many milliseconds later it is asked a second time, since what asks may be lost, too. */
+export const ASKED_TWICE = 5;
+/** Within so many seconds a packet is sent again once. */
+const ANSWERED = 0.02;
 /** Seconds that a packet takes that is asked for, before the first one came. */
 const FIRST_TRIP = 0.02;
-/** So many seconds after the last one came a trip counts half, so that a shorter way is found again. */
+/** So many trips are compared. */
+const TRIPS = 8;
+/** A trip that was measured so many seconds ago is old. */
 const OLD_TRIP = 2;
 /** A request that is so many seconds old is forgotten. */
 const OLD_REQUEST = 4;
@@ -60,6 +66,7 @@ function askedIn(view) {
 export class SentPackets {
   #repeats = new Repeats({ count: KEPT_PACKETS, longest: LIMIT });
   #budget;
+  #answered = new Map();
   /** How many were sent again. */
   again = 0;
 
@@ -72,12 +79,22 @@ export class SentPackets {
     this.#repeats.keep(packet);
   }
 
-  /** The packets for which a Generic NACK asks, as far as they are kept. */
-  asked(view) {
-    const kept = askedIn(view).map((sequence) => this.#repeats.find(sequence));
-    const packets = kept.filter((packet) => packet && this.#budget.take(packet.length));
+  /** The packets for which a Generic NACK asks at this time, as far as they are kept. */
+  asked(view, time) {
+    for (const [sequence, when] of this.#answered) {
+      if (time - when > ANSWERED) this.#answered.delete(sequence);
+    }
+    const packets = askedIn(view).map((sequence) => this.#again(sequence, time)).filter((packet) => packet);
     this.again += packets.length;
     return packets;
+  }
+
+  #again(sequence, time) {
+    if (this.#answered.has(sequence)) return null;
+    const packet = this.#repeats.find(sequence);
+    if (!packet || !this.#budget.take(packet.length)) return null;
+    this.#answered.set(sequence, time);
+    return packet;
   }
 
   close() {
@@ -88,36 +105,34 @@ export class SentPackets {
 /** How long it takes until a packet comes that is asked for. */
 export class RepairTrip {
   #asked = new Map();
-  #mean = FIRST_TRIP;
+  #trips = [];
   #last = null;
 
   /** It is asked for packets, at this time in seconds. */
   asked(fields, time) {
-    for (const [sequence, { since }] of this.#asked) {
+    for (const [sequence, since] of this.#asked) {
       if (time - since > OLD_REQUEST) this.#asked.delete(sequence);
     }
-    this.#last ??= time;
     for (const sequence of fields.flatMap(sequencesOf)) {
-      this.#asked.set(sequence, { since: time, isAgain: this.#asked.has(sequence) });
+      if (!this.#asked.has(sequence)) this.#asked.set(sequence, time);
     }
   }
 
-  /** A packet came. Of one that was asked for twice it isn't known which request it answers (RFC 6298, 3). */
+  /** A packet came. Which request it answers isn't known where it was asked for twice: the first one counts. */
   came(sequence, time) {
-    const request = this.#asked.get(sequence);
-    if (!request) return;
+    const since = this.#asked.get(sequence);
+    if (since === undefined) return;
     this.#asked.delete(sequence);
-    if (request.isAgain) return;
-    this.#mean += (time - request.since - this.#mean) / 8;
+    this.#trips = [...this.#trips.slice(1 - TRIPS), time - since];
     this.#last = time;
   }
 
-  /** Seconds, at this time. */
+  /**
+   * Seconds, at this time: the least of the last ones, since the others may have been asked for twice. Of an old one half,
+   * and half again as it grows older, so that a shorter way is found.
+   */
   seconds(time) {
-    if (this.#last !== null && time - this.#last > OLD_TRIP) {
-      this.#mean /= 2;
-      this.#last = time;
-    }
-    return this.#mean;
+    if (!this.#trips.length) return FIRST_TRIP;
+    return Math.min(...this.#trips) / 2 ** Math.floor((time - this.#last) / OLD_TRIP);
   }
 }

@@ -69,7 +69,7 @@ export class Sending {
 
   /** The packets that a Generic NACK asks for. */
   repeats(nack) {
-    return this.#sent.asked(nack);
+    return this.#sent.asked(nack, now());
   }
 
   #fill(source, width, height) {

@@ -1,5 +1,5 @@
 #!/usr/bin/env node
-/* Lost packets that are asked for and sent again, in made time: a minute of pictures over a way that loses 5 %, there and
+/* Lost packets that are asked for and sent again, in made time: half a minute of pictures over a way that loses 5 %, there and
    back. Where the round trip fits into the wait nearly all pictures are exact; where it doesn't nothing changes. */
 
 import { readFileSync } from "node:fs";
@@ -8,7 +8,7 @@ import { LEAD, LIMIT, RATE, SHORTEST_PACKET, SLOTS, TICKS, now } from "../src/ca
 import { Receiving } from "../src/receiving.js";
 import { SentPackets, isNack } from "../src/repair.js";
 
-const SECONDS = 60;
+const SECONDS = 30;
 const LOSS = 0.05;
 const WAIT = 0.1;
 const TARGET = 1800;
@@ -45,7 +45,9 @@ function chanceOf(seed) {
 }
 
 class Call {
+  // What is lost at first is the same in each call.
   #chance = chanceOf(7);
+  #other = chanceOf(8);
   #sender = new Sender(Params.of("qcif", { target: TARGET, limit: LIMIT, slots: SLOTS, lead: LEAD }));
   #sent = new SentPackets(TARGET * RATE);
   #receiving;
@@ -54,20 +56,19 @@ class Call {
 
   constructor(way, isRepaired) {
     Object.assign(this, { way, isRepaired, begin: now() });
-    const say = (bytes) => this.#carry(bytes, () => this.#heard(bytes));
+    const say = (bytes) => this.#carry(this.#other, () => this.#heard(bytes));
     this.#receiving = new Receiving(WAIT, { say, ask: say, carried: () => {}, tell: () => {}, paint: () => {} });
   }
 
-  /** Takes bytes over the way, if they aren't lost. */
-  #carry(bytes, act) {
-    if (this.#chance() < LOSS) return;
-    setTimeout(act, 1000 * this.way);
+  /** Something goes over the way, if it isn't lost. */
+  #carry(chance, act) {
+    if (chance() >= LOSS) setTimeout(act, 1000 * this.way);
   }
 
-  #send(packets) {
+  #send(packets, chance) {
     for (const packet of packets) {
       this.bytes += packet.length;
-      this.#carry(packet, () => this.#receiving.take(packet));
+      this.#carry(chance, () => this.#receiving.take(packet));
     }
   }
 
@@ -75,7 +76,7 @@ class Call {
     const view = new DataView(bytes.buffer);
     if (bytes.length < SHORTEST_PACKET) this.#sender.feedback(bytes);
     else if (!isNack(view)) throw new Error("neither a message nor what asks for packets");
-    else if (this.isRepaired) this.#send(this.#sent.asked(view));
+    else if (this.isRepaired) this.#send(this.#sent.asked(view, now()), this.#other);
   }
 
   picture(number) {
@@ -85,7 +86,7 @@ class Call {
       new DataView(packet.buffer).setUint32(4, Math.round((now() - this.begin) * TICKS));
       this.#sent.keep(packet);
     }
-    this.#send(packets);
+    this.#send(packets, this.#chance);
   }
 
   /** What became of the pictures. */
