@@ -5,8 +5,8 @@ use Rattle.std.specs.Prelude.{◌≢◌, IfOk, Ok, Result}
 use mir.Syntax.{named, w16}
 use base.Logic.{emp, id⊢}
 use base.Fml.{Lft, ftrue, flft}
-use types.Kit.{‵, raw, ◌⊛◌, some, later, ◌$◌, ◌∵◌, !, qed, by, move, keep, drop, use0, use1, use2, split, join, pick, await}
-use types.Run.{enter, addr, of_opd, stop, no_more, and_then, returns}
+use types.Kit.{‵, raw, ◌⊛◌, some, later, ◌$◌, ◌∵◌, !, qed, by, move, keep, drop, use0, use1, use2, split, join, fjoin, pick, await}
+use types.Run.{enter, addr, stop, no_more, and_then, returns}
 use types.ByLocal.{alloc_all, pass_all, free_all, look_at, get, through, sets, lands_as}
 use contract.Monad.{fact, fact_i}
 use contract.Running.{tables}
@@ -91,7 +91,7 @@ h263rps_raw_repeats_find_spec 𝓤 𝓛 𝓜 𝓡 wired =
     let F = triple_of 𝓛 f.signature (f.spec 𝓛 𝓜.mem 𝓡.returns) in let G = triple_of 𝓛 g.signature (g.spec 𝓛 𝓜.mem 𝓡.returns) in
     qed 𝓛 (((‵ (flft κ q) ⊛ ‵ (flft κ' q') ⊛ ‵ ftrue) ⊛ own_slot ⊛ own_number ⊛ own_lent ⊛ ‵ ftrue) ∷ ‵ ftrue ∷ []) ∵
     split ! $ split ! $ move ! (1 ∷ []) $ split ! $ move ! (3 ∷ []) $ split ! $ move ! (1 ∷ []) $ split ! $ move ! (1 ∷ []) $ split ! $ keep ! (3 ∷ 2 ∷ 0 ∷ 6 ∷ 4 ∷ []) $
-    enter ! _ _ _ _ _ $ alloc_all ! (λ l. pass_all ! refl ((tt, tt), ((tt, record { fits = fits }), ((tt, tt), tt))) $ sets ! (addr ! (through ! refl (stop !))) refl (tt, tt) $ sets ! (of_opd ! (get ! refl)) refl (tt, record { fits = fits }) $
+    enter ! _ _ _ _ _ $ alloc_all ! (λ l. pass_all ! refl ((tt, tt), ((tt, record { fits = fits }), ((tt, tt), tt))) $ sets ! (addr ! (through ! refl (stop !))) refl (tt, tt) $
     -- [slot; the number; lent; the token of κ; the token of κ']
     let x : F.Ghost = (((κ, tt), (q, tt), tt, (slot, (sequence, tt)), (mut_vals slot, (uint_vals w16 sequence, tt))), tt) in
     nothing ! $ move ! (2 ∷ 0 ∷ []) $ join ! $ move ! (1 ∷ 0 ∷ []) $ join ! $ nothing ! $ move ! (3 ∷ 0 ∷ []) $ join ! $ join ! $ nothing ! $ move ! (1 ∷ 0 ∷ []) $ use2 𝓛 (raw (F.pre x)) (id⊢ 𝓤 _) $
@@ -116,5 +116,5 @@ h263rps_raw_repeats_find_spec 𝓤 𝓛 𝓜 𝓡 wired =
     move ! (3 ∷ []) $ use0 𝓛 (raw (fact 𝓤 (n ≡ 0 → FindsPacket sequence inside last.samples.now))) (fact_i 𝓤 _ (emp 𝓤) (λ zero. subst (λ (s : Packet). IfOk s (λ s. FindsPacket sequence inside s.now)) (noted zero) shown)) $ join ! $
     use0 𝓛 (raw (fact 𝓤 (n ≢ 0 → last ≡ lent.now))) (fact_i 𝓤 _ (emp 𝓤) unlent) $ join ! $
     use0 𝓛 (raw (fact 𝓤 (n ≡ status_of (for_repeats inside)))) (fact_i 𝓤 _ (emp 𝓤) (told ∙ ap status_of refused)) $ join ! $
-    move ! (1 ∷ 0 ∷ []) $ join ! $ move ! (1 ∷ 0 ∷ []) $ join ! $ move ! (1 ∷ 0 ∷ []) $
+    move ! (1 ∷ 0 ∷ []) $ join ! $ move ! (1 ∷ 0 ∷ []) $ nothing ! $ fjoin ! $ join ! $ move ! (1 ∷ 0 ∷ []) $
     by ! (leaves 𝓛 ended stayed c ((κs, qs, bounds, a, (mut_vals slot, (uint_vals w16 sequence, (mut_vals lent, tt)))), tt) v n (tt, (tt, (last, tt))) (tt, (tt, (tt, tt)))))))))))))))))))
