@@ -1,0 +1,4 @@
+//! One sender for up to 16 receivers.
+#![tactic(auto)]
+
+mod member;
