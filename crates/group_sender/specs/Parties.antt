@@ -1,5 +1,5 @@
 -- The receivers of a group, as its sender sees them.
-use Rattle.std.specs.Prelude.{ℕ, Bool, true, false, not, ◌||◌, ◌&&◌, nat_le, List, [], ◌∷◌, ◌++◌, if◌then◌else◌}
+use Rattle.std.specs.Prelude.{ℕ, Bool, true, false, not, ◌||◌, ◌&&◌, nat_le, List, [], ◌∷◌, ◌++◌, slice_index_or, slice_set, replicate, if◌then◌else◌}
 use Rattle.std.specs.List.{list_all}
 use Rattle.call_model.specs.CodedPictures.{is_among}
 
@@ -38,3 +38,15 @@ party_left party = record party { present = false }
 abbrev pub party_after_saying : List ℕ → Party → Party
 party_after_saying numbers party =
     if party.present then record party { told = numbers ++ party.told } else party
+
+-- the receiver at place k
+abbrev pub party_at : List Party → ℕ → Party
+party_at parties k = slice_index_or parties k nobody
+
+-- the receivers with another one at place k
+abbrev pub with_party : ℕ → Party → List Party → List Party
+with_party k party parties = slice_set parties k party
+
+-- 16 places, and nobody is there
+abbrev pub nobodies : List Party
+nobodies = replicate 16 nobody

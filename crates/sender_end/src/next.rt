@@ -86,16 +86,15 @@ fn below_limit(m: u32, depth: u8) -> Next
     ensures reference { result.reference ≡ (if nat_lt depth 131 then Some m else None) }
     ensures depth { result.depth ≡ option_map_or (λ k. depth + 1) result.reference 0 }
 {
-    if depth < CHAIN {
-        Next {
-            reference: Some(m),
-            depth: depth + 1,
-        }
-    } else {
-        Next {
+    if depth >= CHAIN {
+        return Next {
             reference: None,
             depth: 0,
-        }
+        };
+    }
+    Next {
+        reference: Some(m),
+        depth: depth + 1,
     }
 }
 
