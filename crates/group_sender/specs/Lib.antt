@@ -1,3 +1,4 @@
 pub mod Parties
-pub mod Standing
 pub mod Running
+pub mod Standing
+pub mod Holding

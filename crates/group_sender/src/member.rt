@@ -1,9 +1,9 @@
 //! A receiver's place in a group.
-ghost use Rattle.std.specs.Prelude.{◌≡◌, ◌^◌, ◌<◌, ◌≤◌, ◌+◌, ℕ, true, false, Some};
+ghost use Rattle.std.specs.Prelude.{◌≡◌, ◌^◌, ◌<◌, ◌≤◌, ◌+◌, ℕ, true, false, Some, is_some};
 ghost use Rattle.h263_types.specs.Clocks.{half_of};
 ghost use Rattle.h263_types.specs.Params.{IsParams};
 ghost use Rattle.call_model.specs.Coding.{Rules};
-ghost use Rattle.call_model.specs.Sending.{known_by_feedback};
+ghost use Rattle.call_model.specs.Sending.{known_by_feedback, made_known};
 ghost use Rattle.reference_selector.specs.Messages.{message_of};
 ghost use Rattle.group_sender.specs.Parties.{Party, may_go_by, nobody, party_after_saying};
 ghost use Rattle.group_sender.specs.Parties.{party_joined, party_left};
@@ -70,6 +70,8 @@ impl Member {
     pub fn note(&mut self, message: &Message, sent: u32) -> bool
         requires small { sent < 2 ^ 30 }
         requires present { self.old.present ≡ true }
+        ensures answer { (rules : Rules) (party : Party) → MemberStands rules self.old sent party
+            → result ≡ is_some (made_known rules sent (message_of message.now)) }
         ensures old { result ≡ false → self.new ≡ self.old }
         ensures said { (rules : Rules) (party : Party) → MemberStands rules self.old sent party
             → MemberStands rules self.new sent (party_after_saying
