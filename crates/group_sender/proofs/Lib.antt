@@ -1,2 +1,5 @@
 pub mod Saying
 pub mod Places
+pub mod Grouping
+pub mod Lawful
+pub mod OneReceiver

@@ -2,3 +2,4 @@ pub mod Parties
 pub mod Running
 pub mod Standing
 pub mod Holding
+pub mod Laws

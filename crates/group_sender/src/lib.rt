@@ -2,6 +2,7 @@
 #![tactic(auto)]
 
 mod group;
+pub mod laws;
 mod member;
 mod members;
 
