@@ -3,3 +3,4 @@ pub mod Places
 pub mod Grouping
 pub mod Lawful
 pub mod OneReceiver
+pub mod FirstLate

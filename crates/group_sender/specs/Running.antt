@@ -1,11 +1,12 @@
 -- What a group has coded, and what its receivers are known to have.
-use Rattle.std.specs.Prelude.{ℕ, ◌+◌, Bool, ◌&&◌, nat_le, List, [], ◌∷◌, ◌++◌, length, Option}
+use Rattle.std.specs.Prelude.{ℕ, ◌+◌, Bool, ◌&&◌, not, nat_le, is_some, List, [], ◌∷◌, ◌++◌, length, Option}
+use Rattle.std.specs.List.{position}
 use Rattle.std.specs.Result.{result_ok}
 use Rattle.call_model.specs.Numbers.{greatest}
 use Rattle.call_model.specs.Coding.{Rules, window, Pictures, Encoding}
 use Rattle.call_model.specs.CodedPictures.{Coded, depth_at, reference_for, capture}
 use Rattle.call_model.specs.Sending.{known_by_feedback, last_sizes}
-use Rattle.group_sender.specs.Parties.{Party, all_have, nobodies, party_after_saying, party_at, party_joined, party_left, with_party}
+use Rattle.group_sender.specs.Parties.{Party, all_have, nobodies, party_after_saying, party_at, party_has, party_joined, party_left, with_party}
 
 -- the pictures, oldest first, and the receivers by their places
 pub record GroupRun (Style Mb Picture : Type 0) : Type 0 where
@@ -35,6 +36,16 @@ module _ {Style Mb Picture : Type 0} where
   abbrev pub newest_of_all : Rules → GroupRun Style Mb Picture → Option ℕ
   newest_of_all rules run =
       greatest (λ m. all_have run.parties m && nat_le (length run.coded) (m + window rules)) (length run.coded)
+
+-- The receiver is there, and is known to have none of the pictures in the window of picture n. While
+-- there is one, each picture is coded by itself.
+abbrev pub is_waited_for : Rules → ℕ → Party → Bool
+is_waited_for rules n party =
+    party.present && not (is_some (greatest (λ m. party_has party m && nat_le n (m + window rules)) n))
+
+-- the first receiver of which that is so
+abbrev pub waited_for : {Style Mb Picture : Type 0} → Rules → GroupRun Style Mb Picture → Option ℕ
+waited_for rules run = position (is_waited_for rules (length run.coded)) run.parties
 
 module _ {Frame Style Mb Picture MessageFault : Type 0} (pictures : Pictures Style Mb Picture)
     (encoding : Encoding Frame Style Mb Picture MessageFault) (rules : Rules) where

@@ -8,6 +8,7 @@ ghost use Rattle.h263_planes.specs.Samples.{IsPicture};
 ghost use Rattle.picture_header.specs.Ranges.{AreMessages};
 ghost use Rattle.call_model.specs.CodedPictures.{picture_at};
 ghost use Rattle.call_model.specs.Coding.{Rules};
+ghost use Rattle.call_decoding.specs.Rules.{rules_of};
 ghost use Rattle.sender_end.specs.Stands.{Describes, reply_of};
 ghost use Rattle.sender_end.specs.declared.answers.Feedback.TheVariants.{Noted, Old, Refused};
 ghost use Rattle.group_sender.specs.Parties.{Party, party_at};
@@ -15,6 +16,7 @@ ghost use Rattle.group_sender.specs.Standing.{MembersStand};
 
 use crate::member::Member;
 use crate::members::{join_at, leave_at, newest_for_all, note_at, places, tell_coded};
+use crate::waiting::first_late;
 use back_messages::{Message, MessageFault, read};
 use h263_planes::PictureRef;
 use h263_types::{OutOfMemory, Pace, Params};
@@ -61,7 +63,7 @@ fn refused(members: &[Member], place: usize, fault: MessageFault) -> Option<Feed
 }
 
 impl<P: Pace> Group<P> {
-    ghost use Rattle.group_sender.specs.Running.{after_join, after_leave, no_group};
+    ghost use Rattle.group_sender.specs.Running.{after_join, after_leave, no_group, waited_for};
     ghost use Rattle.group_sender.specs.Holding.{Groups, HoldsGroup, answer_to, group_after_code};
     ghost use Rattle.group_sender.specs.Holding.{group_after_saying, group_packets, next_of_group};
 
@@ -185,6 +187,16 @@ impl<P: Pace> Group<P> {
                 Some(noted(answer))
             }
         }
+    }
+
+    /// The first receiver that isn't known to have any picture in the window. While there is one, each
+    /// picture is coded by itself, for all: the caller may have it leave, and join again.
+    pub fn waiting_for(&self) -> Option<u32>
+        ensures { (run : Groups) → HoldsGroup self.now run
+            → result ≡ waited_for (rules_of self.now.params) run }
+    {
+        let window = self.params.slots - self.params.lead - 1;
+        first_late(self.members.as_slice(), self.sender.sent(), window)
     }
 
     /// Takes another pace, which gives the quantisers from the next picture on.

@@ -5,5 +5,6 @@ mod group;
 pub mod laws;
 mod member;
 mod members;
+mod waiting;
 
 pub use group::Group;
