@@ -90,45 +90,115 @@ fn turn(
 
 // Whether the receiver at this place loses this picture.
 fn loses(place: u32, number: u32) -> bool
-    requires { number ≤ 100 }
+    requires number { number ≤ 100 }
     requires few { place ≤ 2 }
 {
     (number + 3 * place) % 7 == 2 || number % 11 == 9
 }
 
-// Each of the pictures is coded, and each receiver that is there has its turn. How many went as
-// wanted, and how many were predicted.
-fn pass_all(group: &mut Group<FixedPace>, three: &mut Three) -> (u32, u32)
+// A picture is coded, and each receiver that is there has its turn. Whether all went as wanted.
+fn is_right(group: &mut Group<FixedPace>, three: &mut Three, number: u32) -> bool
+    requires number { number < 24 }
+    requires format { group.old.params.format ≡ SubQcif }
+    requires sent { group.old.sender.sent < 1000 }
+    requires first { three.old.first.played < 1000 }
+    requires second { three.old.second.played < 1000 }
+    requires third { three.old.third.played < 1000 }
+    ensures format { group.new.params.format ≡ SubQcif }
+    ensures sent { group.new.sender.sent ≤ group.old.sender.sent + 1 }
+    ensures first { three.new.first.played ≤ three.old.first.played + 1 }
+    ensures second { three.new.second.played ≤ three.old.second.played + 1 }
+    ensures third { three.new.third.played ≤ three.old.third.played + 1 }
+{
+    let frame = [100 + 5 * number as u8; 18_432];
+    let coded = group.code(PictureRef::new(Format::SubQcif, &frame), &[]);
+    let first = turn(group, 0, &mut three.first, coded.packets, loses(0, number));
+    let second = turn(group, 1, &mut three.second, coded.packets, loses(1, number));
+    if number < LATER {
+        return first && second;
+    }
+    let third = turn(group, 2, &mut three.third, coded.packets, loses(2, number));
+    first && second && third
+}
+
+// The first picture of which something went otherwise.
+fn first_wrong(group: &mut Group<FixedPace>, three: &mut Three) -> Option<u32>
     requires format { group.old.params.format ≡ SubQcif }
     requires sent { group.old.sender.sent ≡ 0 }
     requires first { three.old.first.played ≡ 0 }
     requires second { three.old.second.played ≡ 0 }
     requires third { three.old.third.played ≡ 5 }
 {
-    let mut right = 0;
-    let mut predicted = 0;
     group.join(0);
     group.join(1);
     'pictures: for number in 0..PICTURES {
         if number == LATER {
             group.join(2);
         }
-        let frame = [100 + 5 * number as u8; 18_432];
-        let coded = group.code(PictureRef::new(Format::SubQcif, &frame), &[]);
-        if coded.reference.is_some() {
-            predicted += 1;
-        }
-        if turn(group, 0, &mut three.first, coded.packets, loses(0, number)) {
-            right += 1;
-        }
-        if turn(group, 1, &mut three.second, coded.packets, loses(1, number)) {
-            right += 1;
-        }
-        if number >= LATER {
-            if turn(group, 2, &mut three.third, coded.packets, loses(2, number)) {
-                right += 1;
-            }
+        if !is_right(group, three, number) {
+            return Some(number);
         }
     }
-    (right, predicted)
+    None
+}
+
+impl Three {
+    // The third one joins later.
+    fn start(alloc: Global) -> Result<Three, OutOfMemory>
+        ensures first { IfOk result (λ three. three.first.played ≡ 0) }
+        ensures second { IfOk result (λ three. three.second.played ≡ 0) }
+        ensures third { IfOk result (λ three. three.third.played ≡ 5) }
+    {
+        let first = Receiver::start(alloc, &PARAMS)?;
+        match Receiver::start(alloc, &PARAMS) {
+            Err(OutOfMemory) => {
+                first.finish();
+                Err(OutOfMemory)
+            }
+            Ok(second) => match Receiver::start_at(alloc, &PARAMS, LATER) {
+                Err(OutOfMemory) => {
+                    first.finish();
+                    second.finish();
+                    Err(OutOfMemory)
+                }
+                Ok(third) => Ok(Three {
+                    first,
+                    second,
+                    third,
+                }),
+            },
+        }
+    }
+
+    fn finish(self) {
+        let Three {
+            first,
+            second,
+            third,
+        } = self;
+        first.finish();
+        second.finish();
+        third.finish();
+    }
+}
+
+// The answer of a whole call.
+fn pass(alloc: Global, three: &mut Three) -> Result<Option<u32>, OutOfMemory>
+    requires first { three.old.first.played ≡ 0 }
+    requires second { three.old.second.played ≡ 0 }
+    requires third { three.old.third.played ≡ 5 }
+{
+    let mut group = Group::start(alloc, &PARAMS, FixedPace { quant: 8 })?;
+    let wrong = first_wrong(&mut group, three);
+    group.finish();
+    Ok(wrong)
+}
+
+#[test]
+fn each_shows_what_it_got(rt: HostRuntime) -> Result<(), Fail> {
+    let mut three = Three::start(rt.alloc())?;
+    let wrong = pass(rt.alloc(), &mut three);
+    three.finish();
+    assert_eq!(rt; wrong?, None);
+    Ok(())
 }
