@@ -8,28 +8,22 @@ use Rattle.call_model.specs.Coding.{reconstruction}
 use Rattle.call_model.specs.CodedPictures.{Coded, reference_for}
 use Rattle.call_model.specs.Sending.{header_of}
 use Rattle.call_model.specs.Stands.{Sender}
-use Rattle.call_model.specs.SenderStanding.{IsAfterCapture, reference_by_kept}
-use Rattle.call_model.specs.Steering.{from_floor, made_by_kept, next_above}
+use Rattle.call_model.specs.SenderStanding.{reference_by_kept}
+use Rattle.call_model.specs.Steering.{made_by_kept, next_above}
 use Rattle.call_decoding.specs.Rules.{rules_of}
 use Rattle.call_decoding.specs.Samples.{pictures}
 use Rattle.call_decoding.specs.Styles.{Style}
 use Rattle.call_encoding.specs.Encoding.{encoding}
 use Rattle.call_encoding.specs.Frames.{Frame, style_with}
-use Rattle.sender_end.specs.declared.answers.Coded.{Coded as Answer}
 use Rattle.sender_end.specs.Headers.{numbered}
-use Rattle.sender_end.specs.Stands.{Describes, IsSeen}
-use Rattle.sender_end.specs.State.{SenderState}
 
 -- the next picture of a sender, with this floor
 abbrev pub next : Params → (List ℕ → ℕ) → ℕ → Frame → Sender Picture → Coded Style Mb Picture
 next p pace floor frame s = next_above (pictures p.format) (encoding p) (rules_of p) pace frame floor s
 
--- this picture was coded, with this answer
-pub record IsCodedNext {P : Type 0} (p : Params) (pace : List ℕ → ℕ) (floor : ℕ) (frame : Frame) (s : Sender Picture) (new : SenderState P) (answer : Answer) : Type 0 where
-  pub t : Sender Picture
-  pub seen : IsSeen new t
-  pub after : IsAfterCapture (pictures p.format) (encoding p) (rules_of p) s t (next p pace floor frame s)
-  pub tells : Describes s.sent (next p pace floor frame s) answer
+-- a picture of this frame, quantiser and reference, by what a sender keeps
+abbrev pub with_kept : Params → ℕ → Frame → Sender Picture → Option ℕ → Coded Style Mb Picture
+with_kept p quant frame s reference = made_by_kept (pictures p.format) (encoding p) (rules_of p) quant frame s reference
 
 -- the rule of references for picture n, by what a sender keeps
 abbrev pub reference_at : Params → Sender Picture → ℕ → Option ℕ
@@ -42,16 +36,15 @@ made p frame reference depth quant before =
     let mbs = (encoding p).choice frame before style in
     record { reference = reference; depth = depth; style = style; slices = (encoding p).cut style mbs; picture = reconstruction (pictures p.format) style before mbs }
 
--- it is the next one, if all these are what is kept
-pub made_is_next : (p : Params) (pace : List ℕ → ℕ) (floor : ℕ) (frame : Frame) (s : Sender Picture) (reference : Option ℕ) (depth quant : ℕ) (before : Option Picture)
-    → reference ≡ from_floor floor (reference_by_kept (rules_of p) s) → depth ≡ option_map_or (λ m. s.depth (m % p.slots) + 1) reference 0 → quant ≡ pace s.sizes
-    → before ≡ option_map (λ m. s.picture (m % p.slots)) reference → made p frame reference depth quant before ≡ next p pace floor frame s
+-- it is made by what is kept, if all these are so
+pub made_is_kept : (p : Params) (kept : ℕ) (frame : Frame) (s : Sender Picture) (reference : Option ℕ) (depth quant : ℕ) (before : Option Picture)
+    → depth ≡ option_map_or (λ m. s.depth (m % p.slots) + 1) reference 0 → quant ≡ kept
+    → before ≡ option_map (λ m. s.picture (m % p.slots)) reference → made p frame reference depth quant before ≡ with_kept p kept frame s reference
 unfolding made_by_kept
-made_is_next p pace floor frame s reference depth quant before reference_is depth_is quant_is before_is =
+made_is_kept p kept frame s reference depth quant before depth_is quant_is before_is =
     ap (λ (d : ℕ). made p frame reference d quant before) depth_is
     ∙ ap (λ (q : ℕ). made p frame reference (option_map_or (λ m. s.depth (m % p.slots) + 1) reference 0) q before) quant_is
-    ∙ ap (λ (b : Option Picture). made p frame reference (option_map_or (λ m. s.depth (m % p.slots) + 1) reference 0) (pace s.sizes) b) before_is
-    ∙ ap (λ (r : Option ℕ). made p frame r (option_map_or (λ m. s.depth (m % p.slots) + 1) r 0) (pace s.sizes) (option_map (λ m. s.picture (m % p.slots)) r)) reference_is
+    ∙ ap (λ (b : Option Picture). made p frame reference (option_map_or (λ m. s.depth (m % p.slots) + 1) reference 0) kept b) before_is
 
 -- the packets of the next picture
 pub packets_are : (p : Params) (s : Sender Picture) (n sequence : ℕ) (x : Coded Style Mb Picture) (packets : List (List ℕ)) → s.sent ≡ n → s.sequence ≡ sequence

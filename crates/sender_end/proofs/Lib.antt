@@ -6,3 +6,4 @@ pub mod Captured
 pub mod Noted
 pub mod Counted
 pub mod Beginning
+pub mod Stepping

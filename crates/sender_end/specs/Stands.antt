@@ -1,16 +1,17 @@
 -- The entries that a sender stands for.
-use Rattle.std.specs.Prelude.{◌≡◌, ℕ, ◌-◌, ◌%◌, ◌<◌, List, length}
+use Rattle.std.specs.Prelude.{◌≡◌, ℕ, ◌-◌, ◌%◌, ◌<◌, List, length, Option}
 use Rattle.h263_types.specs.declared.blocks.Mb.{Mb}
 use Rattle.h263_types.specs.declared.params.Params.{Params}
 use Rattle.h263_planes.specs.Picture.{Picture}
 use Rattle.back_messages.specs.declared.message.MessageFault.{MessageFault}
 use Rattle.picture_store.specs.Pictures.{picture_in}
 use Rattle.reference_selector.specs.Stands.{SelectorStands}
-use Rattle.call_model.specs.CodedPictures.{Coded as CodedPicture}
-use Rattle.call_model.specs.Sending.{SenderEntry, SenderRun, Reply, RefusedMessage, Old, Noted, next_coded, sender_run}
+use Rattle.call_model.specs.CodedPictures.{Coded as CodedPicture, capture, depth_at}
+use Rattle.call_model.specs.Sending.{SenderEntry, SenderRun, Reply, RefusedMessage, Old, Noted, last_sizes, next_coded, sender_run}
 use Rattle.call_model.specs.Sending as call
+use Rattle.call_model.specs.SenderStanding.{IsAfterCapture}
 use Rattle.call_model.specs.Stands.{Sender, SenderStands}
-use Rattle.call_model.specs.Steering.{SteeredRun, SenderHolds, next_steered, steered_capture, steered_feedback}
+use Rattle.call_model.specs.Steering.{SteeredRun, SenderHolds, made_by_kept, next_steered, steered_capture, steered_feedback, with_picture}
 use Rattle.call_decoding.specs.Rules.{rules_of}
 use Rattle.call_decoding.specs.Samples.{pictures}
 use Rattle.call_decoding.specs.Styles.{Style}
@@ -19,6 +20,7 @@ use Rattle.call_encoding.specs.Encoding.{encoding}
 use Rattle.sender_end.specs.declared.answers.Coded.{Coded}
 use Rattle.sender_end.specs.declared.answers.Feedback.{Feedback}
 use Rattle.sender_end.specs.declared.answers.Feedback.TheVariants as answers
+use Rattle.sender_end.specs.Selecting.{within_chain}
 use Rattle.sender_end.specs.State.{SenderState}
 
 -- the state, seen as `call_model` sees a sender
@@ -83,6 +85,18 @@ abbrev pub after_code : Params → (List ℕ → ℕ) → Frame → Run → Run
 after_code p pace frame run =
     steered_capture (pictures p.format) (encoding p) (rules_of p) pace frame run
 
+-- the next picture of a run, with a reference that was given
+abbrev pub next_with : Params → (List ℕ → ℕ) → Option ℕ → Frame → Run → CodedPicture Style Mb Picture
+next_with p pace reference frame run =
+    let coded = run.run.coded in
+    capture (pictures p.format) (encoding p) (pace (last_sizes (encoding p) (rules_of p) coded)) frame coded
+    (within_chain (rules_of p) (depth_at coded) reference)
+
+-- the run with that picture
+abbrev pub after_code_from : Params → (List ℕ → ℕ) → Option ℕ → Frame → Run → Run
+after_code_from p pace reference frame run =
+    record run { run = with_picture (next_with p pace reference frame run) run.run }
+
 -- the run with what a message makes known
 abbrev pub after_message : Params → List ℕ → Run → Run
 after_message p bytes run =
@@ -100,6 +114,16 @@ pub record Describes (number : ℕ) (x : CodedPicture Style Mb Picture) (answer 
   pub number_is : answer.number ≡ number
   pub reference : answer.reference ≡ x.reference
   pub packets : answer.packets ≡ length x.slices
+
+-- the frame was coded with this quantiser and this reference, by what the sender kept
+pub record IsCodedWith {P : Type 0} (p : Params) (quant : ℕ) (frame : Frame) (reference : Option ℕ)
+    (s : Sender Picture) (new : SenderState P) (answer : Coded) : Type 0 where
+  pub t : Sender Picture
+  pub seen : IsSeen new t
+  pub after : IsAfterCapture (pictures p.format) (encoding p) (rules_of p) s t
+      (made_by_kept (pictures p.format) (encoding p) (rules_of p) quant frame s reference)
+  pub tells : Describes s.sent
+      (made_by_kept (pictures p.format) (encoding p) (rules_of p) quant frame s reference) answer
 
 -- the answer to feedback, as `call_model` has it
 abbrev pub reply_of : Feedback → Reply MessageFault

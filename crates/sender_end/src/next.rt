@@ -1,15 +1,18 @@
 //! The reference of the next picture.
-ghost use Rattle.std.specs.Prelude.{◌≡◌, ◌+◌, ◌-◌, ◌^◌, ◌&&◌, ◌<◌, ◌≤◌, ℕ, Bool, IfSome, nat_le, if◌then◌else◌};
+ghost use Rattle.std.specs.Prelude.{◌≡◌, ◌+◌, ◌-◌, ◌^◌, ◌&&◌, ◌<◌, ◌≤◌, ℕ, Bool, Some, None, IfSome, nat_le, nat_lt, if◌then◌else◌};
 ghost use Rattle.std.specs.Option.{option_map_or};
 ghost use Rattle.reference_selector.specs.Stands.{SelectorStands};
 ghost use Rattle.call_model.specs.Coding.{Rules};
 ghost use Rattle.call_model.specs.CodedPictures.{reference_for};
 ghost use Rattle.call_model.specs.Steering.{from_floor};
 ghost use Rattle.sender_end.specs.Known.{count_below};
-ghost use Rattle.sender_end.specs.Selecting.{IsSelecting};
+ghost use Rattle.sender_end.specs.Selecting.{IsSelecting, within_chain};
 
 use call_model::laws as call_model_laws;
 use reference_selector::Selector;
+
+// The longest chain of predicted pictures, as a selector has it.
+const CHAIN: u8 = 131;
 
 /// The reference of the next picture, and its depth.
 #[derive(Clone, Copy)]
@@ -52,6 +55,46 @@ pub fn next_from(pictures: &Selector, number: u32, floor: u32) -> Next
             reference: Some(m),
             depth: pictures.depth(m) + 1,
         },
+    }
+}
+
+/// The reference that was given, of the last `slots` pictures before `number`, and the depth of that
+/// picture. Without a reference, or where its chain may not grow, there is none.
+pub fn next_given(pictures: &Selector, reference: Option<u32>, number: u32) -> Next
+    requires selects { IsSelecting pictures.now number }
+    requires recent { IfSome reference (λ m. (m < number) × (number ≤ m + pictures.now.slots)) }
+    ensures reference { (rules : Rules) (depth : ℕ → ℕ) (known : ℕ → Bool)
+        → SelectorStands rules pictures.now number depth known
+        → result.reference ≡ within_chain rules depth reference }
+    ensures depth { (rules : Rules) (depth : ℕ → ℕ) (known : ℕ → Bool)
+        → SelectorStands rules pictures.now number depth known
+        → result.depth ≡ option_map_or (λ m. depth m + 1) result.reference 0 }
+    ensures recent { IfSome result.reference
+        (λ m. (m < number) × (number ≤ m + pictures.now.slots)) }
+{
+    match reference {
+        None => Next {
+            reference: None,
+            depth: 0,
+        },
+        Some(m) => below_limit(m, pictures.depth(m)),
+    }
+}
+
+// The reference of this depth, unless its chain may not grow.
+fn below_limit(m: u32, depth: u8) -> Next
+    ensures reference { result.reference ≡ (if nat_lt depth 131 then Some m else None) }
+    ensures depth { result.depth ≡ option_map_or (λ k. depth + 1) result.reference 0 }
+{
+    if depth >= CHAIN {
+        return Next {
+            reference: None,
+            depth: 0,
+        };
+    }
+    Next {
+        reference: Some(m),
+        depth: depth + 1,
     }
 }
 

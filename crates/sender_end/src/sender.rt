@@ -1,15 +1,19 @@
 //! The sender of a call.
-ghost use Rattle.std.specs.Prelude.{◌≡◌, ◌+◌, ◌-◌, ◌<◌, ◌≤◌, false, Some, List, [], ◌∷◌, length};
-ghost use Rattle.std.specs.Prelude.{slice_index_or, All, IfOk};
+ghost use Rattle.std.specs.Prelude.{◌≡◌, ◌+◌, ◌-◌, ◌%◌, ◌<◌, ◌≤◌, false, Some, List, [], ◌∷◌, length};
+ghost use Rattle.std.specs.Prelude.{slice_index_or, All, IfOk, IfSome};
+ghost use Rattle.std.specs.Option.{option_map_or};
 ghost use Rattle.h263_types.specs.Params.{IsParams};
 ghost use Rattle.picture_store.specs.Pictures.{room_for};
 ghost use Rattle.h263_planes.specs.Lent.{picture};
+ghost use Rattle.h263_planes.specs.Picture.{Picture};
 ghost use Rattle.h263_planes.specs.Samples.{IsPicture};
 ghost use Rattle.picture_header.specs.Ranges.{AreMessages};
+ghost use Rattle.call_model.specs.Coding.{window};
 ghost use Rattle.call_model.specs.CodedPictures.{picture_at};
 ghost use Rattle.call_model.specs.Sending as call;
 ghost use Rattle.call_model.specs.Sending.{SenderEntry, Capture, feedback_answer};
 ghost use Rattle.call_model.specs.SenderStanding.{is_noted};
+ghost use Rattle.call_model.specs.Stands.{Sender as CallSender};
 ghost use Rattle.call_model.specs.Steering.{after_forget, nothing_done};
 ghost use Rattle.call_decoding.specs.Rules.{rules_of};
 ghost use Rattle.call_encoding.specs.Frames.{Frame};
@@ -18,7 +22,7 @@ ghost use Rattle.call_encoding.specs.Messages.{read_message};
 use crate::answers::{Coded, Feedback};
 use crate::coding::{code_in_store, push_size, size_of};
 use crate::headers::header_of;
-use crate::next::{Next, known_from, next_from};
+use crate::next::{Next, known_from, next_from, next_given};
 use arrayvec::ArrayVec;
 use back_messages::{Message, MessageFault, read};
 use call_decoding::{Pictured, Styled, laws as call_decoding_laws};
@@ -65,6 +69,7 @@ impl<P: Pace> Sender<P> {
     ghost use Rattle.sender_end.specs.Stands.{reply_of, run_of};
     ghost use Rattle.sender_end.specs.Stands.{Holds, Run, after_code, after_message, next_in};
     ghost use Rattle.sender_end.specs.Stands.{packets_after};
+    ghost use Rattle.sender_end.specs.Stands.{IsCodedWith, IsSeen, after_code_from, next_with};
     ghost use Rattle.sender_end.specs.Known.{known_in};
 
     /// A sender before its first picture.
@@ -148,32 +153,95 @@ impl<P: Pace> Sender<P> {
     {
         call_model_laws::sender_stands::<Framed, Styled, Mb, Pictured, MessageFault>();
         call_model_laws::sender_holds::<Framed, Styled, Mb, Pictured, MessageFault>();
-        call_model_laws::searches();
         call_encoding_laws::is_encoding();
+        call_decoding_laws::are_rules();
+        let next = next_from(&self.selector, self.sent, self.since);
+        self.code_next(next, frame, back)
+    }
+
+    /// Captures the next picture as `code` does, with this reference: a picture in the window that
+    /// was chosen elsewhere. At the chain limit it is coded by itself.
+    pub fn code_from(
+        &mut self,
+        reference: Option<u32>,
+        frame: PictureRef<'_>,
+        back: &[Message],
+    ) -> Coded
+        requires recent { IfSome reference (λ m. (m < self.old.sent)
+            × (self.old.sent ≤ m + window (rules_of self.old.params))) }
+        requires frame { (picture frame).format ≡ self.old.params.format }
+        requires few { length back.now ≤ 4 }
+        requires back { AreMessages self.old.params.clock back.now }
+        requires left { self.old.sent < 1048576 }
+        ensures params { self.new.params ≡ self.old.params }
+        ensures sent { self.new.sent ≡ self.old.sent + 1 }
+        ensures pace { self.new.pace ≡ self.old.pace }
+        ensures count { result.packets ≡ length self.new.packets }
+        ensures limit { All (λ packet. length packet ≤ self.new.params.limit) self.new.packets }
+        ensures holds { (run : Run) → Holds self.old run → Holds self.new
+            (after_code_from self.old.params (P.quant_of self.old.pace) reference
+            (record { picture = picture frame.entry; messages = back.now }) run) }
+        ensures makes { (run : Run) → Holds self.old run → Describes (length run.run.coded)
+            (next_with self.old.params (P.quant_of self.old.pace) reference
+            (record { picture = picture frame.entry; messages = back.now }) run) result }
+    {
+        call_model_laws::sender_holds::<Framed, Styled, Mb, Pictured, MessageFault>();
+        call_encoding_laws::is_encoding();
+        call_decoding_laws::are_rules();
+        let next = next_given(&self.selector, reference, self.sent);
+        self.code_next(next, frame, back)
+    }
+
+    // Codes the next picture, with this reference and depth.
+    fn code_next(&mut self, next: Next, frame: PictureRef<'_>, back: &[Message]) -> Coded
+        requires recent { IfSome next.reference (λ m. (m < self.old.sent)
+            × (self.old.sent ≤ m + self.old.params.slots)) }
+        requires frame { (picture frame).format ≡ self.old.params.format }
+        requires few { length back.now ≤ 4 }
+        requires back { AreMessages self.old.params.clock back.now }
+        requires left { self.old.sent < 1048576 }
+        ensures params { self.new.params ≡ self.old.params }
+        ensures sent { self.new.sent ≡ self.old.sent + 1 }
+        ensures pace { self.new.pace ≡ self.old.pace }
+        ensures since { self.new.since ≡ self.old.since }
+        ensures count { result.packets ≡ length self.new.packets }
+        ensures limit { All (λ packet. length packet ≤ self.new.params.limit) self.new.packets }
+        ensures made { (s : CallSender Picture) → IsSeen self.old s
+            → next.depth ≡ option_map_or (λ m. s.depth (m % self.old.params.slots) + 1) next.reference 0
+            → IsCodedWith self.old.params (P.quant_of self.old.pace s.sizes)
+            (record { picture = picture frame.entry; messages = back.now }) next.reference s
+            self.new result }
+    {
+        call_model_laws::searches();
         call_encoding_laws::written_packets();
         call_encoding_laws::carried_as_they_are();
         call_decoding_laws::are_pictures();
-        call_decoding_laws::are_rules();
         let quant = self.pace.quant(self.sizes.as_slice());
         let number = self.sent;
-        let Next { reference, depth } = next_from(&self.selector, number, self.since);
-        let header = header_of(&self.params, number, reference, depth, quant, back);
+        let header = header_of(
+            &self.params,
+            number,
+            next.reference,
+            next.depth,
+            quant,
+            back,
+        );
         code_in_store(
             &mut self.store,
             &mut self.cutter,
             &self.params,
             frame,
-            reference,
+            next.reference,
             number,
             &header,
         );
         self.store.keep(number, 0);
-        self.selector.coded(number, depth);
+        self.selector.coded(number, next.depth);
         push_size(&mut self.sizes, size_of(&self.cutter));
         self.sent = number + 1;
         Coded {
             number,
-            reference,
+            reference: next.reference,
             packets: self.cutter.count(),
         }
     }

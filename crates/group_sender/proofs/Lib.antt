@@ -1,0 +1,6 @@
+pub mod Saying
+pub mod Places
+pub mod Grouping
+pub mod Lawful
+pub mod OneReceiver
+pub mod FirstLate

@@ -1,0 +1,5 @@
+pub mod Parties
+pub mod Running
+pub mod Standing
+pub mod Holding
+pub mod Laws
