@@ -1,6 +1,7 @@
 //! A pace that fits pictures to a target.
 ghost use Rattle.std.specs.Prelude.{◌≡◌, ◌≤◌};
-ghost use Rattle.picture_pace.specs.Fitting.{after_coded, difficulty_of, fitting, learnt, poured_into, fitting_quant, redirected, pace_at_start, bytes_wanted};
+ghost use Rattle.picture_pace.specs.Fitting.{after_coded, bytes_wanted, difficulty_of, fitting, fitting_quant};
+ghost use Rattle.picture_pace.specs.Fitting.{learnt, pace_at_start, poured_into, redirected};
 
 use h263_types::{Format, Kind};
 
