@@ -14,14 +14,14 @@ use Rattle.call_encoding.specs.Frames.{Frame}
 use Rattle.sender_end.specs.Stands as senders
 use Rattle.rate_control.specs.Pace.{quant_after_sizes}
 use Rattle.h263rps_c.specs.Pace.{pace_of, target_in}
-use Rattle.h263rps_c.specs.Steering.{Steering, Capture, Feedback, Target, Quant, Forget, target_after, first_after, pace_after, run_after, next_after, plain, QuantiserIs, ForgetIsIntra, ForgetIsForGood, PlainIsRun}
+use Rattle.h263rps_c.specs.Steering.{Steering, Capture, Feedback, Target, Quant, Forget, target_after, first_after, pace_in_force, run_after, next_after, plain, QuantiserIs, ForgetIsIntra, ForgetIsForGood, PlainIsRun}
 
 pub quantiser_is : QuantiserIs
 unfolding capture
 quantiser_is p first frame past = refl
 
 pub forget_is_intra : ((p : Params) → models.ForgetIsIntra (pictures p.format) (encoding p) (rules_of p)) → ForgetIsIntra
-forget_is_intra law p first frame past = law p (pace_after p first past) frame (run_after p first past)
+forget_is_intra law p first frame past = law p (pace_in_force p first past) frame (run_after p first past)
 
 -- what was forgotten stays below the floor, which is no picture ahead
 below_floor : (p : Params) (first : Option ℕ) (later past : List Steering) →
@@ -42,7 +42,7 @@ below_floor p first (Forget ∷ later) past = let before = below_floor p first l
 pub forget_is_for_good : ((p : Params) → models.NeverBelow (pictures p.format) (encoding p) (rules_of p)) → ForgetIsForGood
 forget_is_for_good law p first frame later past m is =
     let all = later ++ Forget ∷ past in
-    let low = law p (pace_after p first all) frame (run_after p first all) m is in
+    let low = law p (pace_in_force p first all) frame (run_after p first all) m is in
     let floor = below_floor p first later past in
     omega (arith, floor.0, low)
 

@@ -11,11 +11,11 @@ use Rattle.h263rps_c.specs.declared.refusals.EndRefusal.TheVariants.{BadParams}
 abbrev pub kind_in : ℕ → Kind
 kind_in intra = if intra == 0 then kinds.P else kinds.I
 
-abbrev pub in_format : Option Format → ℕ → Option EndRefusal
-in_format None target = Some BadParams
-in_format (Some f) target =
+abbrev pub target_refused : Option Format → ℕ → Option EndRefusal
+target_refused None target = Some BadParams
+target_refused (Some f) target =
     if target == 0 then Some BadParams else if nat_lt 999999 target then Some BadParams else None
 
 -- the number of a format, and a target of 1 to 999,999 bytes a picture
 abbrev pub pacing_refusal : ℕ → ℕ → Option EndRefusal
-pacing_refusal format target = in_format (format_in format) target
+pacing_refusal format target = target_refused (format_in format) target

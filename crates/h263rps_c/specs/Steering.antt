@@ -45,14 +45,14 @@ first_after quant (Feedback bytes ∷ past) = first_after quant past
 first_after quant (Forget ∷ past) = first_after quant past
 
 -- the pace in force
-abbrev pub pace_after : Params → Option ℕ → List Steering → List ℕ → ℕ
-pace_after p first past = quant_after_sizes (target_after first past) (first_after p.quant past)
+abbrev pub pace_in_force : Params → Option ℕ → List Steering → List ℕ → ℕ
+pace_in_force p first past = quant_after_sizes (target_after first past) (first_after p.quant past)
 
 -- what it has done: each picture is coded by the pace that was in force then
 abbrev pub run_after : Params → Option ℕ → List Steering → senders.Run
 run_after p first [] = nothing_done
 run_after p first (Capture frame ∷ past) =
-    senders.after_code p (pace_after p first past) frame (run_after p first past)
+    senders.after_code p (pace_in_force p first past) frame (run_after p first past)
 run_after p first (Feedback bytes ∷ past) = senders.after_message p bytes (run_after p first past)
 run_after p first (Target target ∷ past) = run_after p first past
 run_after p first (Quant quant ∷ past) = run_after p first past
@@ -61,7 +61,7 @@ run_after p first (Forget ∷ past) = after_forget (run_after p first past)
 -- its next picture, of this frame
 abbrev pub next_after : Params → Option ℕ → Frame → List Steering → Coded Style Mb Picture
 next_after p first frame past =
-    senders.next_in p (pace_after p first past) frame (run_after p first past)
+    senders.next_in p (pace_in_force p first past) frame (run_after p first past)
 
 -- a sender with these parameters and this first target, after all this, the newest first
 pub record Steers (p : Params) (first : ℕ) (past : List Steering) (s : SenderState SendPace) : Type 0 where

@@ -2,7 +2,7 @@
 ghost use Rattle.std.specs.Prelude.{◌≡◌, ◌≢◌, ◌≤◌, ℕ, List, ◌∷◌, IfErr, IfSome, IsOk, Ok, Some};
 ghost use Rattle.h263_types.specs.declared.format.Format.{Format};
 ghost use Rattle.h263_types.specs.declared.params.Params.{Params};
-ghost use Rattle.picture_pace.specs.Fitting.{after_coded, quant_for, redirected, started};
+ghost use Rattle.picture_pace.specs.Fitting.{after_coded, fitting_quant, redirected, pace_at_start};
 ghost use Rattle.h263rps_c.specs.Asked.{format_in};
 ghost use Rattle.h263rps_c.specs.Ends.{HoldsSteered, packets_in};
 ghost use Rattle.h263rps_c.specs.Pacing.{kind_in, pacing_refusal};
@@ -55,7 +55,7 @@ pub extern "C" fn h263rps_raw_pace_start(
     ensures result { result ≡ status_of (pacing_refusal format target) }
     ensures same { result ≢ 0 → pace.new ≡ pace.old }
     ensures value { result ≡ 0 → IfSome (format_in format) (λ f.
-        pace.new ≡ started f target room) }
+        pace.new ≡ pace_at_start f target room) }
 {
     match paced(format, target) {
         Err(refusal) => refusal.number(),
@@ -85,7 +85,7 @@ pub extern "C" fn h263rps_raw_pace_redirect(pace: &mut FitPace, target: u32, roo
 /// The quantiser for the next picture, which is intra or, where that is 0, predicted.
 #[unsafe(no_mangle)]
 pub extern "C" fn h263rps_raw_pace_quant(pace: &FitPace, intra: u32) -> u32
-    ensures value { result ≡ quant_for (kind_in intra) pace.now }
+    ensures value { result ≡ fitting_quant (kind_in intra) pace.now }
     ensures low { 1 ≤ result }
     ensures high { result ≤ 31 }
 {

@@ -1,7 +1,7 @@
 -- The quantiser against what is wanted.
 use Rattle.std.proofs.Common.{◌≡◌, ℕ, ◌+◌, ◌*◌, ◌/◌, ◌<◌, ◌≤◌, Bool, true, false, cond, ltb, arith, true≢false, mul_comm, div-mul-le_self, div-lt_iff_lt-mul, le-ltb}
 use Rattle.std.proofs.lemmas.Nat.{mul-le}
-use Rattle.picture_pace.specs.Fitting.{difficulty_of, fitting, wanted_of}
+use Rattle.picture_pace.specs.Fitting.{difficulty_of, fitting, bytes_wanted}
 use Rattle.picture_pace.specs.Laws.{FinestThatFits}
 
 next_above : (d w : ℕ) → 1 ≤ w → d < (d / w + 1) * w
@@ -26,7 +26,7 @@ no_finer false d w r e two less =
 
 pub fits : FinestThatFits
 fits kind p = (
-  fewer (ltb p.room p.level) (difficulty_of kind p) (wanted_of p) (omega arith),
-  λ calm r two less. no_finer (ltb p.room p.level) (difficulty_of kind p) (wanted_of p) r
+  fewer (ltb p.room p.level) (difficulty_of kind p) (bytes_wanted p) (omega arith),
+  λ calm r two less. no_finer (ltb p.room p.level) (difficulty_of kind p) (bytes_wanted p) r
       (le-ltb p.room p.level calm) two less,
 )

@@ -6,7 +6,7 @@ use Rattle.h263_types.specs.declared.Kind.{Kind}
 use Rattle.h263_types.specs.declared.Kind.TheVariants.{I, P}
 use Rattle.h263_types.specs.Sizes.{mbs_of}
 use Rattle.picture_pace.specs.declared.fit.FitPace.{FitPace}
-use Rattle.picture_pace.specs.Fitting.{after_coded, difficulty_of, fitting, quant_for, started, wanted_of}
+use Rattle.picture_pace.specs.Fitting.{after_coded, difficulty_of, fitting, fitting_quant, pace_at_start, bytes_wanted}
 use Rattle.picture_pace.specs.Laws.{IsNoSmaller, LargerIsCoarser, MoreIsFiner, Shot, after_shots}
 
 -- the first has at least as much to give, and owes no more
@@ -70,10 +70,10 @@ full p q h e =
     let b = h.level in
     lt-ltb q.room q.level (omega (arith, over, a, b))
 
-quant_less : (kind : Kind) (p q : FitPace) → IsFiner p q → quant_for kind p ≤ quant_for kind q
+quant_less : (kind : Kind) (p q : FitPace) → IsFiner p q → fitting_quant kind p ≤ fitting_quant kind q
 quant_less kind p q h =
     no_coarser (ltb p.room p.level) (ltb q.room q.level) (difficulty_of kind p) (difficulty_of kind q)
-    (wanted_of q) (wanted_of p) (full p q h) (difficulty_less kind p q h) (omega arith)
+    (bytes_wanted q) (bytes_wanted p) (full p q h) (difficulty_less kind p q h) (omega arith)
     (wants_less q.target p.target q.room p.room q.level p.level h.target h.room h.level)
 
 -- ---- a picture was coded
@@ -128,8 +128,8 @@ other_shots p q (x ∷ xs) (y ∷ ys) all h =
 
 pub more_is_finer : MoreIsFiner
 more_is_finer f target more room more_room xs kind h i =
-    quant_less kind (after_shots (started f more more_room) xs) (after_shots (started f target room) xs)
-    (same_shots (started f more more_room) (started f target room) xs
+    quant_less kind (after_shots (pace_at_start f more more_room) xs) (after_shots (pace_at_start f target room) xs)
+    (same_shots (pace_at_start f more more_room) (pace_at_start f target room) xs
     (record {
       target = h;
       room = i;
@@ -140,8 +140,8 @@ more_is_finer f target more room more_room xs kind h i =
 
 pub larger_is_coarser : LargerIsCoarser
 larger_is_coarser f target room xs ys kind all =
-    quant_less kind (after_shots (started f target room) xs) (after_shots (started f target room) ys)
-    (other_shots (started f target room) (started f target room) xs ys all
+    quant_less kind (after_shots (pace_at_start f target room) xs) (after_shots (pace_at_start f target room) ys)
+    (other_shots (pace_at_start f target room) (pace_at_start f target room) xs ys all
     (record {
       target = le_refl target;
       room = le_refl room;

@@ -7,8 +7,8 @@ use Rattle.h263_types.specs.Sizes.{mbs_of}
 use Rattle.picture_pace.specs.declared.fit.FitPace.{FitPace}
 
 -- before the first picture a macroblock's difficulty is taken for this much
-abbrev pub started : Format → ℕ → ℕ → FitPace
-started f target room =
+abbrev pub pace_at_start : Format → ℕ → ℕ → FitPace
+pace_at_start f target room =
     record {
       target = target;
       room = room;
@@ -28,8 +28,8 @@ difficulty_of P p = p.predicted
 
 -- What the next picture may have: the target, and a third of what the level is below half of the
 -- room, or less a third of what it is above; but a quarter of the target at least.
-abbrev pub wanted_of : FitPace → ℕ
-wanted_of p =
+abbrev pub bytes_wanted : FitPace → ℕ
+bytes_wanted p =
     let aim = p.room / 2 in
     max (max (p.target + (aim - p.level) / 3 - (p.level - aim) / 3) (p.target / 4)) 1
 
@@ -38,9 +38,9 @@ abbrev pub fitting : ℕ → ℕ → ℕ
 fitting difficulty wanted = min (max (difficulty / wanted) 1) 30 + 1
 
 -- where the bucket holds more than the room it is 31
-abbrev pub quant_for : Kind → FitPace → ℕ
-quant_for kind p =
-    if nat_lt p.room p.level then 31 else fitting (difficulty_of kind p) (wanted_of p)
+abbrev pub fitting_quant : Kind → FitPace → ℕ
+fitting_quant kind p =
+    if nat_lt p.room p.level then 31 else fitting (difficulty_of kind p) (bytes_wanted p)
 
 -- ---- a picture was coded
 

@@ -4,12 +4,12 @@ use Rattle.std.specs.List.{AllZip}
 use Rattle.h263_types.specs.declared.format.Format.{Format}
 use Rattle.h263_types.specs.declared.Kind.{Kind}
 use Rattle.picture_pace.specs.declared.fit.FitPace.{FitPace}
-use Rattle.picture_pace.specs.Fitting.{after_coded, difficulty_of, quant_for, started, wanted_of}
+use Rattle.picture_pace.specs.Fitting.{after_coded, difficulty_of, fitting_quant, pace_at_start, bytes_wanted}
 
 -- ---- one quantiser
 
 abbrev pub InRange : Type 0
-InRange = (kind : Kind) (p : FitPace) → (2 ≤ quant_for kind p) × (quant_for kind p ≤ 31)
+InRange = (kind : Kind) (p : FitPace) → (2 ≤ fitting_quant kind p) × (fitting_quant kind p ≤ 31)
 
 -- Below 31 the picture is expected to have fewer bytes than are wanted, since its difficulty is less
 -- than they times the quantiser. With each finer one it isn't, but where the bucket holds more than
@@ -17,9 +17,9 @@ InRange = (kind : Kind) (p : FitPace) → (2 ≤ quant_for kind p) × (quant_for
 abbrev pub FinestThatFits : Type 0
 FinestThatFits =
     (kind : Kind) (p : FitPace)
-    → (quant_for kind p < 31 → difficulty_of kind p < wanted_of p * quant_for kind p)
-    × (p.level ≤ p.room → (finer : ℕ) → 2 ≤ finer → finer < quant_for kind p
-    → wanted_of p * finer ≤ difficulty_of kind p)
+    → (fitting_quant kind p < 31 → difficulty_of kind p < bytes_wanted p * fitting_quant kind p)
+    × (p.level ≤ p.room → (finer : ℕ) → 2 ≤ finer → finer < fitting_quant kind p
+    → bytes_wanted p * finer ≤ difficulty_of kind p)
 
 -- ---- what was coded
 
@@ -39,8 +39,8 @@ abbrev pub MoreIsFiner : Type 0
 MoreIsFiner =
     (f : Format) (target more room more_room : ℕ) (xs : List Shot) (kind : Kind)
     → target ≤ more → room ≤ more_room
-    → quant_for kind (after_shots (started f more more_room) xs)
-    ≤ quant_for kind (after_shots (started f target room) xs)
+    → fitting_quant kind (after_shots (pace_at_start f more more_room) xs)
+    ≤ fitting_quant kind (after_shots (pace_at_start f target room) xs)
 
 -- of the same kind, and no smaller
 pub record IsNoSmaller (x y : Shot) : Type 0 where
@@ -52,43 +52,43 @@ pub record IsNoSmaller (x y : Shot) : Type 0 where
 abbrev pub LargerIsCoarser : Type 0
 LargerIsCoarser =
     (f : Format) (target room : ℕ) (xs ys : List Shot) (kind : Kind) → AllZip IsNoSmaller xs ys
-    → quant_for kind (after_shots (started f target room) xs)
-    ≤ quant_for kind (after_shots (started f target room) ys)
+    → fitting_quant kind (after_shots (pace_at_start f target room) xs)
+    ≤ fitting_quant kind (after_shots (pace_at_start f target room) ys)
 
 -- ---- where it is followed
 
 -- a picture that was coded as it says: its kind and its bytes
-pub record Followed : Type 0 where
+pub record PacedPicture : Type 0 where
   pub kind : Kind
   pub bytes : ℕ
 
-abbrev pub after_followed : FitPace → Followed → FitPace
-after_followed p x = after_coded x.kind (quant_for x.kind p) x.bytes p
+abbrev pub after_followed : FitPace → PacedPicture → FitPace
+after_followed p x = after_coded x.kind (fitting_quant x.kind p) x.bytes p
 
 -- the oldest first
-abbrev pub after_all : FitPace → List Followed → FitPace
-after_all p [] = p
-after_all p (x ∷ xs) = after_all (after_followed p x) xs
+abbrev pub after_pictures : FitPace → List PacedPicture → FitPace
+after_pictures p [] = p
+after_pictures p (x ∷ xs) = after_pictures (after_followed p x) xs
 
 -- No picture has more bytes than the most, and one that is coded with 31 none above the target.
-abbrev pub Keeps : ℕ → FitPace → List Followed → Type 0
-Keeps most p [] = Unit {0}
-Keeps most p (x ∷ xs) =
-    (x.bytes ≤ most) × (quant_for x.kind p ≡ 31 → x.bytes ≤ p.target)
-    × Keeps most (after_followed p x) xs
+abbrev pub KeepsTo : ℕ → FitPace → List PacedPicture → Type 0
+KeepsTo most p [] = Unit {0}
+KeepsTo most p (x ∷ xs) =
+    (x.bytes ≤ most) × (fitting_quant x.kind p ≡ 31 → x.bytes ≤ p.target)
+    × KeepsTo most (after_followed p x) xs
 
 -- The level stays below the room and one picture's most.
 abbrev pub LevelStays : Type 0
 LevelStays =
-    (f : Format) (target room most : ℕ) (xs : List Followed)
-    → Keeps most (started f target room) xs
-    → (after_all (started f target room) xs).level ≤ room + most
+    (f : Format) (target room most : ℕ) (xs : List PacedPicture)
+    → KeepsTo most (pace_at_start f target room) xs
+    → (after_pictures (pace_at_start f target room) xs).level ≤ room + most
 
 -- So pictures in a row exceed their targets by no more, wherever they stand. (Room and most are
 -- numbers of 32 bits.)
 abbrev pub SumStays : Type 0
 SumStays =
-    (f : Format) (target room most : ℕ) (front back : List Followed)
+    (f : Format) (target room most : ℕ) (front back : List PacedPicture)
     → room ≤ 4294967295 → most ≤ 4294967295
-    → Keeps most (started f target room) (front ++ back)
+    → KeepsTo most (pace_at_start f target room) (front ++ back)
     → sum (map (λ x. x.bytes) back) ≤ length back * target + (room + most)

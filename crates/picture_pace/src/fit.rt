@@ -1,6 +1,7 @@
 //! A pace that fits pictures to a target.
 ghost use Rattle.std.specs.Prelude.{◌≡◌, ◌≤◌};
-ghost use Rattle.picture_pace.specs.Fitting.{after_coded, difficulty_of, fitting, learnt, poured_into, quant_for, redirected, started, wanted_of};
+ghost use Rattle.picture_pace.specs.Fitting.{after_coded, bytes_wanted, difficulty_of, fitting, fitting_quant};
+ghost use Rattle.picture_pace.specs.Fitting.{learnt, pace_at_start, poured_into, redirected};
 
 use h263_types::{Format, Kind};
 
@@ -32,7 +33,7 @@ impl FitPace {
     /// Before the first picture: this many bytes a picture, and this many that their sum may exceed
     /// it by.
     pub fn start(format: Format, target: u32, room: u32) -> FitPace
-        ensures { result ≡ started format target room }
+        ensures { result ≡ pace_at_start format target room }
     {
         FitPace {
             target,
@@ -53,7 +54,7 @@ impl FitPace {
 
     /// The quantiser for the next picture, where it is of this kind.
     pub fn quant(&self, kind: Kind) -> u8
-        ensures value { result ≡ quant_for kind self.now }
+        ensures value { result ≡ fitting_quant kind self.now }
         ensures low { 1 ≤ result }
         ensures high { result ≤ 31 }
     {
@@ -83,7 +84,7 @@ impl FitPace {
 
     /// Bytes that the next picture may have, unless the bucket is full.
     pub fn wanted(&self) -> u64
-        ensures value { result ≡ wanted_of self.now }
+        ensures value { result ≡ bytes_wanted self.now }
         ensures some { 1 ≤ result }
     {
         let aim = self.room as u64 / 2;
