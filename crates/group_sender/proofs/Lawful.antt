@@ -89,10 +89,11 @@ module _ {Frame Style Mb Picture MessageFault : Type 0} (pictures : Pictures Sty
 
       here : IsNewestOfAll rules run m → depth_at run.coded m < rules.chain → option_and_then grows (greatest test n) ≡ Some m
       here newest low =
-          let is : greatest test n ≡ Some m = (greatest_is test n m).1
-          (and_from (all_have run.parties m) (leb n (m + window rules)) newest.all (le-leb n (m + window rules) newest.near),
-          newest.sent,
-          λ j later below. and_left (all_have run.parties j) (leb n (j + window rules)) (newest.newest j later below))
+          let is : greatest test n ≡ Some m = (greatest_is test n m).1 (
+            and_from (all_have run.parties m) (leb n (m + window rules)) newest.all (le-leb n (m + window rules) newest.near),
+            newest.sent,
+            λ j later below. and_left (all_have run.parties j) (leb n (j + window rules)) (newest.newest j later below),
+          )
           in
           ap (option_and_then grows) is ∙ ap (λ (b : Bool). if b then Some m else None) (lt-ltb (depth_at run.coded m) rules.chain low)
 

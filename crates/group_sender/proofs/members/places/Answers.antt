@@ -15,19 +15,20 @@ places-preserved c =
     let before = c.places.members.items in
     let one = c.start.result in
     let items = c.push_reserved.ensures.items in
-    let long : length c.push_reserved.new.self.items ≡ length before + 1 = ap (λ (l : List Member). length l) items ∙ length-append before (one ∷ []) in
-    (omega (arith, long, c.places.invariant.0),
-    omega (arith, c.push_reserved.ensures.len, c.places.invariant.1),
-    c.push_reserved.ensures.capacity ∙ c.places.invariant.2,
-    λ rules slots lead half chain j other below.
-        subst (λ (l : List Member). MemberStands rules (get_or l j other) 0 nobody) (sym items)
-        (elim (cases_lt j (length before)) [
-          | inl early ↦ subst (λ (x : Member). MemberStands rules x 0 nobody) (sym (get_or_append_left before (one ∷ []) other j early)) (c.places.invariant.3 rules slots lead half chain j other early)
-          | inr late ↦
-              let last : j ≡ length before = omega (arith, below, late, long) in
-              subst (λ (i : ℕ). MemberStands rules (get_or (before ++ one ∷ []) i other) 0 nobody) (sym last)
-              (subst (λ (x : Member). MemberStands rules x 0 nobody) (sym (get_or_seam before one other)) (c.start.ensures rules slots lead half chain))
-        ]))
+    let long : length c.push_reserved.new.self.items ≡ length before + 1 = ap (λ (l : List Member). length l) items ∙ length-append before (one ∷ []) in (
+      omega (arith, long, c.places.invariant.0),
+      omega (arith, c.push_reserved.ensures.len, c.places.invariant.1),
+      c.push_reserved.ensures.capacity ∙ c.places.invariant.2,
+      λ rules slots lead half chain j other below.
+          subst (λ (l : List Member). MemberStands rules (get_or l j other) 0 nobody) (sym items)
+          (elim (cases_lt j (length before)) [
+            | inl early ↦ subst (λ (x : Member). MemberStands rules x 0 nobody) (sym (get_or_append_left before (one ∷ []) other j early)) (c.places.invariant.3 rules slots lead half chain j other early)
+            | inr late ↦
+                let last : j ≡ length before = omega (arith, below, late, long) in
+                subst (λ (i : ℕ). MemberStands rules (get_or (before ++ one ∷ []) i other) 0 nobody) (sym last)
+                (subst (λ (x : Member). MemberStands rules x 0 nobody) (sym (get_or_seam before one other)) (c.start.ensures rules slots lead half chain))
+          ]),
+    )
 
 pub returns-clause-stands : goal.returns-clause-stands
 returns-clause-stands c = λ rules slots lead half chain.

@@ -10,12 +10,13 @@ pub places-preserved : goal.places-preserved
 places-preserved c =
     let k = c.places.k in
     let members = c.places.members in
-    let one = c.index-members-k.result in
-    (length-set members k c.coded.new.self ∙ c.places.invariant.0,
-    λ rules parties stand.
-        let told = c.places.invariant.1 rules parties stand in
-        let here = told.left k one (omega arith) (omega (arith, c.places-test.true, c.places.invariant.0)) in
-        told_one rules members c.args.number k parties c.coded.new.self (omega (arith, c.places-test.true, c.places.invariant.0)) told (c.coded.ensures rules (party_at parties k) here))
+    let one = c.index-members-k.result in (
+      length-set members k c.coded.new.self ∙ c.places.invariant.0,
+      λ rules parties stand.
+          let told = c.places.invariant.1 rules parties stand in
+          let here = told.left k one (omega arith) (omega (arith, c.places-test.true, c.places.invariant.0)) in
+          told_one rules members c.args.number k parties c.coded.new.self (omega (arith, c.places-test.true, c.places.invariant.0)) told (c.coded.ensures rules (party_at parties k) here),
+    )
 
 pub returns-clause-stands : goal.returns-clause-stands
 returns-clause-stands c = λ rules parties stand.
