@@ -271,7 +271,7 @@ by_end other st = refl
 
 -- its SSRC stays
 ended_source : (b : Bool) (f : Stream) (now source : ℕ)
-    → choice.is_of (cond b (Some (choice.ended now f)) (Some f)) source ≡ eqb f.source source
+    → choice.is_of (cond b (Some (choice.ended_at now f)) (Some f)) source ≡ eqb f.source source
 ended_source true f now source = refl
 ended_source false f now source = refl
 
@@ -282,7 +282,7 @@ of_end (Some f) other now source = ended_source (eqb f.source other) f now sourc
 
 -- an end of another stream leaves it
 others_end : (b : Bool) (f : Stream) (other now : ℕ) → (b ≡ true → f.source ≡ other) → (f.source ≡ other → ⊥)
-    → cond b (Some (choice.ended now f)) (Some f) ≡ Some f
+    → cond b (Some (choice.ended_at now f)) (Some f) ≡ Some f
 others_end false f other now e n = refl
 others_end true f other now e n = absurd (n (e refl))
 

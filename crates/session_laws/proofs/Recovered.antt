@@ -100,18 +100,18 @@ module _ {P : Stream → Type 0} {Q : Trial → Type 0} where
 
 -- ---- ends
 
-ended_if : (P : Stream → Type 0) (b : Bool) (now : ℕ) (f : Stream) → P f → P (choice.ended now f)
-    → MatchOption (cond b (Some (choice.ended now f)) (Some f)) (Unit {0}) P
+ended_if : (P : Stream → Type 0) (b : Bool) (now : ℕ) (f : Stream) → P f → P (choice.ended_at now f)
+    → MatchOption (cond b (Some (choice.ended_at now f)) (Some f)) (Unit {0}) P
 ended_if P true now f h e = e
 ended_if P false now f h e = h
 
-ended_one : (P : Stream → Type 0) (o : Option Stream) (source now : ℕ) → ((f : Stream) → P f → P (choice.ended now f))
+ended_one : (P : Stream → Type 0) (o : Option Stream) (source now : ℕ) → ((f : Stream) → P f → P (choice.ended_at now f))
     → MatchOption o (Unit {0}) P → MatchOption (choice.ended_if o source now) (Unit {0}) P
 ended_one P None source now k h = tt
 ended_one P (Some f) source now k h = ended_if P (eqb f.source source) now f h (k f h)
 
 module _ {P : Stream → Type 0} {Q : Trial → Type 0} where
-  ended_each : (st : Streams) (source now : ℕ) → ((f : Stream) → P f → P (choice.ended now f)) → Each P Q st
+  ended_each : (st : Streams) (source now : ℕ) → ((f : Stream) → P f → P (choice.ended_at now f)) → Each P Q st
       → Each P Q (choice.after_end st source now)
   ended_each st source now k x =
       record { followed = ended_one P st.followed source now k x.followed; former = x.former; tried = x.tried }
@@ -157,7 +157,7 @@ each_later st then now i x =
       tried = began_later st.tried then now i x.tried;
     }
 
-ended_last : (then now : ℕ) (f : Stream) → Last then f → Last then (choice.ended now f)
+ended_last : (then now : ℕ) (f : Stream) → Last then f → Last then (choice.ended_at now f)
 ended_last then now f h = omega arith
 
 all_past : (c : Config) (past : List session.Entry) → InOrder past
@@ -319,7 +319,7 @@ alone_source r source seen f e =
     eqb-true seen.source source (not-false (eqb seen.source source)
     (sym (ap (λ (x : Result Seen Cause). is_from_other source x) e) ∙ f))
 
-ended_old : (source then now : ℕ) (f : Stream) → Old source then f → Old source then (choice.ended now f)
+ended_old : (source then now : ℕ) (f : Stream) → Old source then f → Old source then (choice.ended_at now f)
 ended_old source then now f h =
     ⊎_elim
     (λ (e : f.source ≡ source). inl e)

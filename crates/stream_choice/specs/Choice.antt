@@ -30,14 +30,14 @@ abbrev pub counted : ℕ → Stream → Stream
 counted now s = record { source = s.source; pictures = min (s.pictures + 1) 4294967295; last = now }
 
 -- It has ended: its last picture counts as one of half a second ago, unless it is older.
-abbrev pub ended : ℕ → Stream → Stream
-ended now s =
+abbrev pub ended_at : ℕ → Stream → Stream
+ended_at now s =
     record { source = s.source; pictures = s.pictures; last = min s.last (now - 500000000) }
 
 -- what is left of a stream where the one with this SSRC has ended
 abbrev pub ended_if : Option Stream → ℕ → ℕ → Option Stream
 ended_if None source now = None
-ended_if (Some s) source now = if s.source == source then Some (ended now s) else Some s
+ended_if (Some s) source now = if s.source == source then Some (ended_at now s) else Some s
 
 -- ---- trials
 

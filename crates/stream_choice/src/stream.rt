@@ -1,7 +1,7 @@
 //! A stream that is, or was, followed.
 ghost use Rattle.std.specs.Prelude.{◌≡◌};
 ghost use Rattle.std.specs.Option.{option_map};
-ghost use Rattle.stream_choice.specs.Choice.{counted, ended, ended_if, is_kept, is_live, is_live_one, is_of, kept, overtakes};
+ghost use Rattle.stream_choice.specs.Choice.{counted, ended_at, ended_if, is_kept, is_live, is_live_one, is_of, kept, overtakes};
 
 // A stream is live for half a second after each complete picture.
 const LIVE: u64 = 500_000_000;
@@ -30,7 +30,7 @@ impl Stream {
     /// The same where it has ended: it is live no longer, half a second after the clock began or
     /// later.
     pub fn ended(&self, now: u64) -> Stream
-        ensures { result ≡ ended now self.now }
+        ensures { result ≡ ended_at now self.now }
     {
         Stream {
             source: self.source,

@@ -334,7 +334,7 @@ fn lost_packet_comes_again(rt: HostRuntime) -> Result<(), Fail> {
     let round_trip = 50 * MILLISECOND;
     let nothing = session.missing(round_trip, 0);
     let mut exact = 0u32;
-    'before: for number in [0u32, 1, 2, 4] {
+    'early: for number in [0u32, 1, 2, 4] {
         exact = exact.saturating_add(play_all(&mut session, captured_at(number), 0));
         come(&mut session, number);
     }
@@ -344,7 +344,7 @@ fn lost_packet_comes_again(rt: HostRuntime) -> Result<(), Fail> {
     let asked = session.missing(round_trip, then);
     let all_told = session.missing(round_trip, then);
     let _repeat = session.arrival(&flat(7, 3), then + round_trip);
-    'after: for number in 5..10u32 {
+    'later: for number in 5..10u32 {
         exact = exact.saturating_add(play_all(&mut session, captured_at(number), 0));
         come(&mut session, number);
     }
