@@ -279,7 +279,10 @@ class Call:
         chance = self._chance
         if chance.random() >= self._asks:
             return
-        asked = self._pair.missing(chance.choice((self._trip, self._trip, chance.getrandbits(64))), now)
+        # Also just in time for one of the next pictures, or just too late.
+        then, periods = self._pair.model.due() or now, chance.randrange(5) * self._cameras[0].period
+        just = max(0, then + periods - now + chance.choice((-1, 0, 1)))
+        asked = self._pair.missing(chance.choice((self._trip, self._trip, just, chance.getrandbits(64))), now)
         source = self._pair.model.source(FOLLOWED)
         sent: dict[int, bytes] = next((it.sent for it in self._cameras if it.source == source), {})
         for packet, following in asked:
