@@ -312,7 +312,10 @@ class Call:
         self._at(now + step, partial(self._capture, camera))
 
     def _flood(self, datagram: bytes, now: int) -> None:
+        anew = self._chance.choice((0, 0, 6_000))
         for more in range(12_200):
+            if anew and more == anew:
+                self._pair.reset(now + more * 50_000)
             self._pair.arrival(datagram, now + more * 50_000, is_last=more == 12_199)
 
     def _come(self, datagram: bytes, now: int) -> None:
