@@ -279,7 +279,10 @@ class Call:
         chance = self._chance
         if chance.random() >= self._asks:
             return
-        asked = self._pair.missing(chance.choice((self._trip, self._trip, chance.getrandbits(64))), now)
+        # Also just in time for one of the next pictures, or just too late.
+        then, periods = self._pair.model.due() or now, chance.randrange(5) * self._cameras[0].period
+        just = max(0, then + periods - now + chance.choice((-1, 0, 1)))
+        asked = self._pair.missing(chance.choice((self._trip, self._trip, just, chance.getrandbits(64))), now)
         source = self._pair.model.source(FOLLOWED)
         sent: dict[int, bytes] = next((it.sent for it in self._cameras if it.source == source), {})
         for packet, following in asked:
@@ -309,7 +312,10 @@ class Call:
         self._at(now + step, partial(self._capture, camera))
 
     def _flood(self, datagram: bytes, now: int) -> None:
+        anew = self._chance.choice((0, 0, 6_000))
         for more in range(12_200):
+            if anew and more == anew:
+                self._pair.reset(now + more * 50_000)
             self._pair.arrival(datagram, now + more * 50_000, is_last=more == 12_199)
 
     def _come(self, datagram: bytes, now: int) -> None:
