@@ -82,6 +82,12 @@ class Lent(ctypes.Structure):
     _fields_ = [("samples", ctypes.c_void_p), ("length", ctypes.c_size_t)]
 
 
+class Bounds(ctypes.Structure):
+    _fields_ = [
+        (name, ctypes.c_uint32) for name in ("first", "least", "most", "finest", "period")
+    ]
+
+
 class SessionEnd(ctypes.Structure):
     _fields_ = [("kind", ctypes.c_uint32), ("at", ctypes.c_void_p)]
 
@@ -232,6 +238,19 @@ def library() -> ctypes.CDLL:
             "sender_known": [pointer, pointer],
             "sender_statistics": [pointer, pointer],
             "sender_finish": [pointer],
+            "repeats_start": [pointer, number, number],
+            "repeats_keep": [pointer, pointer, size],
+            "repeats_find": [pointer, ctypes.c_uint16, pointer],
+            "repeats_finish": [pointer],
+            "line_start": [pointer, pointer, time],
+            "line_sent": [pointer, number, number, ctypes.c_uint16, time],
+            "line_told": [pointer, number, number, time],
+            "line_has_room": [pointer, time, pointer],
+            "line_rate": [pointer, pointer],
+            "line_wanted": [pointer, pointer],
+            "line_target": [pointer, pointer],
+            "line_quant": [pointer, pointer],
+            "line_finish": [pointer],
             "session_start": [pointer, pointer, pointer, pointer],
             "session_arrival": [pointer, pointer, size, time, pointer],
             "session_arrival_of": [pointer, number, pointer, size, time, pointer],

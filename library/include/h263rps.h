@@ -306,6 +306,26 @@ typedef struct h263rps_lent {
     size_t length;          /* h263rps_picture_size() */
 } h263rps_lent;
 
+/* Packets that were sent, and what follows a line: each as an h263rps_end all zeros before its start
+ * and after its finish, and never copied. */
+typedef struct h263rps_repeats {
+    h263rps_end end;
+} h263rps_repeats;
+
+typedef struct h263rps_line {
+    h263rps_end end;
+} h263rps_line;
+
+/* Where a line begins, and between which its rate stays. */
+typedef struct h263rps_bounds {
+    /* bytes a picture, with 1 <= least <= first <= most <= 999,999 */
+    uint32_t first;
+    uint32_t least;
+    uint32_t most;
+    uint32_t finest; /* the finest quantiser, 1 to 31 */
+    uint32_t period; /* the time of a picture in nanoseconds, at least 1 */
+} h263rps_bounds;
+
 /* A session: as an h263rps_end all zeros before its start and after its finish, and never copied. */
 typedef struct h263rps_session {
     uint32_t kind; /* 0 where it is empty */
@@ -395,6 +415,22 @@ uint32_t h263rps_raw_sender_sent(h263rps_end *end, uint32_t *count);
 uint32_t h263rps_raw_sender_known(h263rps_end *end, uint32_t *count);
 uint32_t h263rps_raw_sender_statistics(h263rps_end *end, h263rps_statistics *statistics);
 uint32_t h263rps_raw_sender_finish(h263rps_end *end);
+
+uint32_t h263rps_raw_repeats_start(h263rps_end *end, uint32_t count, uint32_t longest);
+uint32_t h263rps_raw_repeats_keep(h263rps_end *end, const uint8_t *packet, size_t length);
+uint32_t h263rps_raw_repeats_find(h263rps_end *end, uint16_t sequence, h263rps_lent *lent);
+uint32_t h263rps_raw_repeats_finish(h263rps_end *end);
+
+uint32_t h263rps_raw_line_start(h263rps_end *end, const h263rps_bounds *bounds, uint64_t now);
+uint32_t h263rps_raw_line_sent(h263rps_end *end, uint32_t number, uint32_t bytes, uint16_t packets,
+                               uint64_t now);
+uint32_t h263rps_raw_line_told(h263rps_end *end, uint32_t number, uint32_t whole, uint64_t now);
+uint32_t h263rps_raw_line_has_room(h263rps_end *end, uint64_t now, uint32_t *has);
+uint32_t h263rps_raw_line_rate(h263rps_end *end, uint32_t *rate);
+uint32_t h263rps_raw_line_wanted(h263rps_end *end, uint32_t *bytes);
+uint32_t h263rps_raw_line_target(h263rps_end *end, uint32_t *bytes);
+uint32_t h263rps_raw_line_quant(h263rps_end *end, uint32_t *quant);
+uint32_t h263rps_raw_line_finish(h263rps_end *end);
 
 uint32_t h263rps_raw_session_start(h263rps_session *session, const h263rps_params *params,
                                    const h263rps_timing *timing, uint32_t *fault);
@@ -815,6 +851,165 @@ static inline uint32_t h263rps_sender_statistics(h263rps_end *end, h263rps_stati
 static inline uint32_t h263rps_sender_finish(h263rps_end *end) {
     if (!end) return H263RPS_NULL;
     return h263rps_raw_sender_finish(end);
+}
+
+/* ---- repeats ------------------------------------------------------------------------------- */
+
+/* The packets that a sender sent last, so that those are sent again for which a receiver asks, by a
+ * Generic NACK (RFC 4585, 6.2.1):
+ *
+ *     h263rps_repeats repeats = {0};
+ *     h263rps_lent packet;
+ *     h263rps_repeats_start(&repeats, 512, 1500);
+ *     send_packet(room, length);                               (each packet, as it goes out)
+ *     h263rps_repeats_keep(&repeats, room, length);
+ *     h263rps_repeats_find(&repeats, sequence, &packet);       (each one that is asked for)
+ *     if (packet.length) send_packet(packet.samples, packet.length);
+ *     h263rps_repeats_finish(&repeats);
+ *
+ * It takes one call at a time, and asks for memory at its start alone. */
+
+/* Makes `repeats`, which is all zeros, one with no packet. Of packets with sequence numbers that
+ * follow one another it keeps at least the last `count`, 1 to 65,536, and fewer than twice as many:
+ * their number is a power of two. A packet has at most `longest` bytes, 12 to 65,507. It takes
+ * `longest` bytes for each packet.
+ * STARTED, BAD_PARAMS, NO_MEMORY. */
+static inline uint32_t h263rps_repeats_start(h263rps_repeats *repeats, uint32_t count,
+                                             uint32_t longest) {
+    if (!repeats) return H263RPS_NULL;
+    return h263rps_raw_repeats_start(&repeats->end, count, longest);
+}
+
+/* Keeps an RTP packet that was sent, in place of an older one. What is shorter than 12 bytes or
+ * longer than `longest` isn't kept.
+ * NOT_STARTED, OTHER_END. */
+static inline uint32_t h263rps_repeats_keep(h263rps_repeats *repeats, const void *packet,
+                                            size_t length) {
+    uint8_t nothing = 0;
+    uint32_t status = h263rps_may_pass(packet, length);
+    if (!repeats) return H263RPS_NULL;
+    if (status) return status;
+    return h263rps_raw_repeats_keep(&repeats->end, length ? (const uint8_t *)packet : &nothing,
+                                    length);
+}
+
+/* Lends the newest packet with this sequence number, byte for byte, until the next call with these
+ * repeats: only read it. lent->length is 0 where it isn't kept any more, or never was.
+ * NOT_STARTED, OTHER_END. */
+static inline uint32_t h263rps_repeats_find(h263rps_repeats *repeats, uint16_t sequence,
+                                            h263rps_lent *lent) {
+    uint8_t nothing = 0;
+    h263rps_lent found;
+    uint32_t status;
+    if (!repeats || !lent) return H263RPS_NULL;
+    found.samples = &nothing;
+    found.length = 0;
+    status = h263rps_raw_repeats_find(&repeats->end, sequence, &found);
+    if (!status) *lent = found;
+    return status;
+}
+
+/* Gives the memory back, and leaves `repeats` all zeros, ready for a start.
+ * NOT_STARTED, OTHER_END. */
+static inline uint32_t h263rps_repeats_finish(h263rps_repeats *repeats) {
+    if (!repeats) return H263RPS_NULL;
+    return h263rps_raw_repeats_finish(&repeats->end);
+}
+
+/* ---- the line ------------------------------------------------------------------------------ */
+
+/* The rate that a line carries, by what the messages of the other side tell: congestion control for
+ * a sender. Tell it of each picture that goes out and of each message that comes back; it says how
+ * many bytes the next picture may have, and whether a frame is to be left out:
+ *
+ *     h263rps_line line = {0};
+ *     h263rps_bounds bounds = {900, 300, 3600, 4, 33366667};      (29.97 pictures a second)
+ *     uint32_t has, target;
+ *     h263rps_line_start(&line, &bounds, time_now());
+ *     h263rps_line_has_room(&line, time_now(), &has);             (each frame)
+ *     if (has) {
+ *         h263rps_line_target(&line, &target);
+ *         h263rps_sender_target(&sender, target);
+ *         h263rps_sender_code(&sender, picture, size, NULL, 0, &coded);
+ *         (send its packets, and add up their bytes)
+ *         h263rps_line_sent(&line, coded.number, bytes, coded.packets, time_now());
+ *     }
+ *     h263rps_line_told(&line, number, is_ack, time_now());       (each message about a picture)
+ *     h263rps_line_finish(&line);
+ *
+ * Each time is in nanoseconds of one clock. It takes one call at a time, and asks for memory at its
+ * start alone. */
+
+/* Makes `line`, which is all zeros, one on which nothing was sent.
+ * STARTED, BAD_PARAMS: a bound is out of its range. NO_MEMORY. */
+static inline uint32_t h263rps_line_start(h263rps_line *line, const h263rps_bounds *bounds,
+                                          uint64_t now) {
+    if (!line || !bounds) return H263RPS_NULL;
+    return h263rps_raw_line_start(&line->end, bounds, now);
+}
+
+/* Picture `number` of the sender went out at `now`, with this many bytes in so many packets.
+ * NOT_STARTED, OTHER_END, BAD_PARAMS: more than 65,535 packets. */
+static inline uint32_t h263rps_line_sent(h263rps_line *line, uint32_t number, uint32_t bytes,
+                                         uint32_t packets, uint64_t now) {
+    if (!line) return H263RPS_NULL;
+    if (packets > 65535) return H263RPS_BAD_PARAMS;
+    return h263rps_raw_line_sent(&line->end, number, bytes, (uint16_t)packets, now);
+}
+
+/* A message about picture `number` came at `now`: it is whole at the other side, or, where
+ * `is_whole` is 0, it isn't. One about a picture that wasn't sent, or about which something was
+ * told before, changes nothing. 256 pictures are remembered.
+ * NOT_STARTED, OTHER_END. */
+static inline uint32_t h263rps_line_told(h263rps_line *line, uint32_t number, uint32_t is_whole,
+                                         uint64_t now) {
+    if (!line) return H263RPS_NULL;
+    return h263rps_raw_line_told(&line->end, number, is_whole, now);
+}
+
+/* Writes to `has` 1 where the next frame may go out at `now`, and 0 where it is to be left out: the
+ * pictures before are more than the line carries, or most of them were lost.
+ * NOT_STARTED, OTHER_END. */
+static inline uint32_t h263rps_line_has_room(h263rps_line *line, uint64_t now, uint32_t *has) {
+    if (!line || !has) return H263RPS_NULL;
+    return h263rps_raw_line_has_room(&line->end, now, has);
+}
+
+/* Writes the bytes a second that the line carries to `rate`, with the heads of IP and UDP.
+ * NOT_STARTED, OTHER_END. */
+static inline uint32_t h263rps_line_rate(h263rps_line *line, uint32_t *rate) {
+    if (!line || !rate) return H263RPS_NULL;
+    return h263rps_raw_line_rate(&line->end, rate);
+}
+
+/* Writes the bytes that the next picture may have, without heads, to `bytes`.
+ * NOT_STARTED, OTHER_END. */
+static inline uint32_t h263rps_line_wanted(h263rps_line *line, uint32_t *bytes) {
+    if (!line || !bytes) return H263RPS_NULL;
+    return h263rps_raw_line_wanted(&line->end, bytes);
+}
+
+/* Writes the next picture's target for h263rps_sender_target() to `bytes`: the greatest at which a
+ * sender takes the quantiser that h263rps_line_quant() has, and what is wanted where each one does.
+ * NOT_STARTED, OTHER_END. */
+static inline uint32_t h263rps_line_target(h263rps_line *line, uint32_t *bytes) {
+    if (!line || !bytes) return H263RPS_NULL;
+    return h263rps_raw_line_target(&line->end, bytes);
+}
+
+/* Writes the quantiser at which the next picture would have about the bytes that it may have to
+ * `quant`.
+ * NOT_STARTED, OTHER_END. */
+static inline uint32_t h263rps_line_quant(h263rps_line *line, uint32_t *quant) {
+    if (!line || !quant) return H263RPS_NULL;
+    return h263rps_raw_line_quant(&line->end, quant);
+}
+
+/* Gives the memory back, and leaves `line` all zeros, ready for a start.
+ * NOT_STARTED, OTHER_END. */
+static inline uint32_t h263rps_line_finish(h263rps_line *line) {
+    if (!line) return H263RPS_NULL;
+    return h263rps_raw_line_finish(&line->end);
 }
 
 /* ---- the session --------------------------------------------------------------------------- */

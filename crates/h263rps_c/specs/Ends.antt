@@ -29,7 +29,7 @@ use Rattle.sender_end.specs.Stands as senders
 use Rattle.h263rps_c.specs.declared.answers.Answer.{Answer}
 use Rattle.h263rps_c.specs.declared.answers.Made.{Made}
 use Rattle.h263rps_c.specs.declared.ends.End.{End}
-use Rattle.h263rps_c.specs.declared.ends.End.TheVariants.{Receiving, Sending}
+use Rattle.h263rps_c.specs.declared.ends.End.TheVariants.{Line, Receiving, Repeats, Sending}
 use Rattle.h263rps_c.specs.Numbers.{arrived_answer, made_of, played_answer, reply_of}
 
 -- ---- a receiver
@@ -39,6 +39,8 @@ abbrev pub HoldsReceiver : Params → List ReceiverEntry → Option End → Type
 HoldsReceiver p past None = ⊥
 HoldsReceiver p past (Some (Sending s)) = ⊥
 HoldsReceiver p past (Some (Receiving r)) = (r.params ≡ p) × receivers.Stands r past
+HoldsReceiver p past (Some (Repeats r)) = ⊥
+HoldsReceiver p past (Some (Line f)) = ⊥
 
 -- these bytes are the picture that a receiver inside shows, and exactly as many as its format has
 abbrev pub ShowsPicture : Option End → List ℕ → Type 0
@@ -69,12 +71,16 @@ abbrev pub HoldsSender : Params → ℕ → List (SenderEntry Frame) → Option 
 HoldsSender p target entries None = ⊥
 HoldsSender p target entries (Some (Sending s)) = IsSender p target entries s
 HoldsSender p target entries (Some (Receiving r)) = ⊥
+HoldsSender p target entries (Some (Repeats r)) = ⊥
+HoldsSender p target entries (Some (Line f)) = ⊥
 
 -- the same of a sender that may be steered
 abbrev pub HoldsSteered : Params → ℕ → List Steering → Option End → Type 0
 HoldsSteered p first past None = ⊥
 HoldsSteered p first past (Some (Sending s)) = Steers p first past s
 HoldsSteered p first past (Some (Receiving r)) = ⊥
+HoldsSteered p first past (Some (Repeats r)) = ⊥
+HoldsSteered p first past (Some (Line f)) = ⊥
 
 -- the picture with this number is told in numbers
 pub record TellsCoded (number : ℕ) (x : CodedPicture Style Mb Picture) (made : Made) : Type 0 where
@@ -87,6 +93,8 @@ abbrev pub packets_in : Option End → List (List ℕ)
 packets_in None = []
 packets_in (Some (Sending s)) = s.packets
 packets_in (Some (Receiving r)) = []
+packets_in (Some (Repeats r)) = []
+packets_in (Some (Line f)) = []
 
 -- the answer to a message is this one, in numbers
 pub record TellsReply (answer : Reply) (reply : call.Reply MessageFault) : Type 0 where

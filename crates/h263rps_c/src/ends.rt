@@ -33,21 +33,29 @@ use crate::refusals::EndRefusal;
 use crate::sending::Sending;
 use h263_planes::laws;
 use h263_types::Params;
+use line_follower::Follower;
+use packet_repeats::Repeats;
 use receiver_end::{Arrival, Played, Receiver};
 use sender_end::{Coded, Feedback};
 use std::alloc::Global;
 
-/// An end of a call.
+/// An end of a call, or what a sender has beside it.
 pub enum End {
     Sending(Sending),
     Receiving(Receiver),
+    /// The packets that it sent last.
+    Repeats(Repeats),
+    /// What follows its line.
+    Line(Follower),
 }
 
-/// Which end of a call it is.
+/// Which of them it is.
 #[derive(Clone, Copy)]
 pub enum EndKind {
     Sender,
     Receiver,
+    Repeats,
+    Line,
 }
 
 impl Drop for End {
@@ -55,6 +63,8 @@ impl Drop for End {
         match self {
             End::Sending(sending) => sending.finish(),
             End::Receiving(receiver) => receiver.finish(),
+            End::Repeats(repeats) => repeats.finish(),
+            End::Line(_) => {}
         }
     }
 }
@@ -187,6 +197,8 @@ impl End {
         match self {
             End::Sending(_) => matches!(kind, EndKind::Sender),
             End::Receiving(_) => matches!(kind, EndKind::Receiver),
+            End::Repeats(_) => matches!(kind, EndKind::Repeats),
+            End::Line(_) => matches!(kind, EndKind::Line),
         }
     }
 
@@ -208,6 +220,8 @@ impl End {
         match self {
             End::Sending(_) => Err(EndRefusal::OtherEnd),
             End::Receiving(receiver) => Ok(receiver.arrival(bytes)),
+            End::Repeats(_) => Err(EndRefusal::OtherEnd),
+            End::Line(_) => Err(EndRefusal::OtherEnd),
         }
     }
 
@@ -231,6 +245,8 @@ impl End {
         match self {
             End::Sending(_) => Err(EndRefusal::OtherEnd),
             End::Receiving(receiver) => play_next(receiver),
+            End::Repeats(_) => Err(EndRefusal::OtherEnd),
+            End::Line(_) => Err(EndRefusal::OtherEnd),
         }
     }
 
@@ -242,6 +258,8 @@ impl End {
         match self {
             End::Sending(_) => Err(EndRefusal::OtherEnd),
             End::Receiving(receiver) => Ok(samples_of(receiver)),
+            End::Repeats(_) => Err(EndRefusal::OtherEnd),
+            End::Line(_) => Err(EndRefusal::OtherEnd),
         }
     }
 
@@ -270,6 +288,8 @@ impl End {
         match self {
             End::Sending(_) => Err(EndRefusal::OtherEnd),
             End::Receiving(receiver) => play_into(receiver, picture),
+            End::Repeats(_) => Err(EndRefusal::OtherEnd),
+            End::Line(_) => Err(EndRefusal::OtherEnd),
         }
     }
 
@@ -304,6 +324,8 @@ impl End {
         match self {
             End::Sending(sending) => sending.code(bytes, back),
             End::Receiving(_) => Err(EndRefusal::OtherEnd),
+            End::Repeats(_) => Err(EndRefusal::OtherEnd),
+            End::Line(_) => Err(EndRefusal::OtherEnd),
         }
     }
 
@@ -332,6 +354,8 @@ impl End {
         match self {
             End::Sending(sending) => sending.packet(i, room),
             End::Receiving(_) => Err(EndRefusal::OtherEnd),
+            End::Repeats(_) => Err(EndRefusal::OtherEnd),
+            End::Line(_) => Err(EndRefusal::OtherEnd),
         }
     }
 
@@ -362,6 +386,8 @@ impl End {
         match self {
             End::Sending(sending) => Ok(sending.feedback(bytes)),
             End::Receiving(_) => Err(EndRefusal::OtherEnd),
+            End::Repeats(_) => Err(EndRefusal::OtherEnd),
+            End::Line(_) => Err(EndRefusal::OtherEnd),
         }
     }
 
@@ -377,6 +403,8 @@ impl End {
         match self {
             End::Sending(sending) => sending.follow(target),
             End::Receiving(_) => Err(EndRefusal::OtherEnd),
+            End::Repeats(_) => Err(EndRefusal::OtherEnd),
+            End::Line(_) => Err(EndRefusal::OtherEnd),
         }
     }
 
@@ -395,6 +423,8 @@ impl End {
                 Ok(())
             }
             End::Receiving(_) => Err(EndRefusal::OtherEnd),
+            End::Repeats(_) => Err(EndRefusal::OtherEnd),
+            End::Line(_) => Err(EndRefusal::OtherEnd),
         }
     }
 
@@ -408,6 +438,8 @@ impl End {
         match self {
             End::Sending(sending) => Ok(sending.sent()),
             End::Receiving(_) => Err(EndRefusal::OtherEnd),
+            End::Repeats(_) => Err(EndRefusal::OtherEnd),
+            End::Line(_) => Err(EndRefusal::OtherEnd),
         }
     }
 
@@ -421,6 +453,8 @@ impl End {
         match self {
             End::Sending(sending) => Ok(sending.known()),
             End::Receiving(_) => Err(EndRefusal::OtherEnd),
+            End::Repeats(_) => Err(EndRefusal::OtherEnd),
+            End::Line(_) => Err(EndRefusal::OtherEnd),
         }
     }
 
@@ -434,6 +468,8 @@ impl End {
         match self {
             End::Sending(_) => Err(EndRefusal::OtherEnd),
             End::Receiving(receiver) => Ok(receiver.played()),
+            End::Repeats(_) => Err(EndRefusal::OtherEnd),
+            End::Line(_) => Err(EndRefusal::OtherEnd),
         }
     }
 }

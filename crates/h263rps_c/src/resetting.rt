@@ -46,6 +46,8 @@ impl End {
         match self {
             End::Sending(_) => Err(EndRefusal::OtherEnd),
             End::Receiving(receiver) => restart_at(receiver, number),
+            End::Repeats(_) => Err(EndRefusal::OtherEnd),
+            End::Line(_) => Err(EndRefusal::OtherEnd),
         }
     }
 
@@ -64,6 +66,8 @@ impl End {
         match self {
             End::Sending(sending) => sending.restart(target),
             End::Receiving(_) => Err(EndRefusal::OtherEnd),
+            End::Repeats(_) => Err(EndRefusal::OtherEnd),
+            End::Line(_) => Err(EndRefusal::OtherEnd),
         }
     }
 }
