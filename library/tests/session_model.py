@@ -108,7 +108,7 @@ class Moment:
 
 
 class Gaps:
-    """The packets that are missing, by their sequence numbers, counted on (rule 14): the newest 64."""
+    """The packets that are missing, by their sequence numbers, counted on: the newest 64."""
 
     def __init__(self) -> None:
         self._newest: Optional[int] = None
@@ -320,7 +320,7 @@ class Taken:
 
 
 class Model:
-    """A session (rules 3, 5, 6, 10, 11, 13 and 14). Runs stand by their places: followed, former, tried."""
+    """A session (rules 3, 5, 6, 10, 11 and 13), and what it asks for. Runs stand by their places: followed, former, tried."""
 
     def __init__(self, params: h263rps.Params, rate: int, second: int, wait: int) -> None:
         self.params, self.rate = params, (rate, second)

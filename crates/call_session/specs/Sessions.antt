@@ -1,5 +1,5 @@
 -- A session, by what came and what was played. Times are nanoseconds; lists have the newest first.
-use Rattle.std.specs.Prelude.{ℕ, max, min, Bool, true, false, List, [], ◌∷◌, Option, Some, None, Result, Ok, Err}
+use Rattle.std.specs.Prelude.{ℕ, ◌==◌, max, min, Bool, true, false, List, [], ◌∷◌, Option, Some, None, Result, Ok, Err, if◌then◌else◌}
 use Rattle.rtp_source.specs.Source.{renamed}
 use Rattle.receiver_end.specs.Answers.{mark_of}
 use Rattle.receiver_end.specs.State.{mark_after}
@@ -12,12 +12,14 @@ use Rattle.session_intake.specs.declared.counts.Counts.{Counts}
 use Rattle.session_intake.specs.declared.seen.Seen.{Seen}
 use Rattle.session_intake.specs.declared.seen.Cause.{Cause}
 use Rattle.session_intake.specs.declared.seen.Cause.TheVariants as causes
-use Rattle.session_intake.specs.Asked.{Asked, asked_of, no_asked, with_asked}
+use Rattle.session_intake.specs.Asked as budgets
+use Rattle.session_intake.specs.Asked.{asked_of, no_asked, with_asked}
 use Rattle.session_intake.specs.Counts as counting
 use Rattle.session_intake.specs.Datagrams.{seen_in}
 use Rattle.session_runs.specs.Histories.{Answer, Config, entries_in}
 use Rattle.session_runs.specs.Lines.{line_of, run_of}
-use Rattle.session_runs.specs.Following.{Follows, after_play_of, after_taker, answer_of, noted, run_due}
+use Rattle.packet_gaps.specs.declared.gaps.Nack.{Nack}
+use Rattle.session_runs.specs.Following.{Follows, after_asked, after_bye, after_play_of, after_taker, answer_of, nack_of_followed, noted, run_due}
 use Rattle.session_runs.specs.Followed.{begun_follows}
 
 -- What a session is at: the time; the streams and what came of them; when packets were asked for;
@@ -25,7 +27,7 @@ use Rattle.session_runs.specs.Followed.{begun_follows}
 pub record State : Type 0 where
   pub now : ℕ
   pub follows : Follows
-  pub asked : Asked
+  pub asked : budgets.Asked
   pub rivals : List ℕ
   pub counts : Counts
 
@@ -151,6 +153,19 @@ abbrev pub after_datagram : Config → List ℕ → ℕ → State → State
 after_datagram c bytes now st =
     after_reading c (seen_in c.params bytes) (renamed bytes) (at now st)
 
+-- Where packets of one stream alone are looked at, a packet of another is dropped.
+abbrev pub only_of : ℕ → Result Seen Cause → Result Seen Cause
+only_of source (Err cause) = Err cause
+only_of source (Ok seen) = if seen.source == source then Ok seen else Err causes.OtherStream
+
+-- what a datagram says then
+abbrev pub seen_of_one : Config → ℕ → List ℕ → Result Seen Cause
+seen_of_one c source bytes = only_of source (seen_in c.params bytes)
+
+abbrev pub after_datagram_of : Config → ℕ → List ℕ → ℕ → State → State
+after_datagram_of c source bytes now st =
+    after_reading c (seen_of_one c source bytes) (renamed bytes) (at now st)
+
 -- ---- what is said of them
 
 abbrev pub outcome_of_run : Config → Seen → Taker → Option Run → List ℕ → State → Outcome
@@ -175,6 +190,10 @@ abbrev pub outcome_of : Config → List ℕ → ℕ → State → Outcome
 outcome_of c bytes now st =
     outcome_of_reading c (seen_in c.params bytes) (renamed bytes) (at now st)
 
+abbrev pub outcome_of_one : Config → ℕ → List ℕ → ℕ → State → Outcome
+outcome_of_one c source bytes now st =
+    outcome_of_reading c (seen_of_one c source bytes) (renamed bytes) (at now st)
+
 -- whether it is told, with a packet, that another stream came beside a live one
 abbrev pub told_of_grant : Taker → Bool → State → Bool
 told_of_grant taker true st = is_told (is_rival taker st) st.now st.rivals
@@ -190,6 +209,9 @@ told_of_reading (Ok seen) st = told_of_seen (taker_in seen st) st
 abbrev pub told_of : Config → List ℕ → ℕ → State → Bool
 told_of c bytes now st = told_of_reading (seen_in c.params bytes) (at now st)
 
+abbrev pub told_of_one : Config → ℕ → List ℕ → ℕ → State → Bool
+told_of_one c source bytes now st = told_of_reading (seen_of_one c source bytes) (at now st)
+
 -- ---- plays
 
 abbrev pub counts_of_play : Config → Option Run → Follows → Counts → Counts
@@ -201,7 +223,7 @@ abbrev pub after_played : Config → Option Run → State → State
 after_played c run st =
     record {
       now = st.now;
-      follows = after_play_of run st.now st.follows;
+      follows = after_play_of c run st.now st.follows;
       asked = st.asked;
       rivals = st.rivals;
       counts = counts_of_play c run st.follows st.counts;
@@ -214,15 +236,54 @@ played_run c st = run_due c st.now st.follows
 abbrev pub after_turn : Config → ℕ → State → State
 after_turn c now st = after_played c (played_run c (at now st)) (at now st)
 
+-- ---- asking again, ends, and calls that begin anew
+
+abbrev pub with_follows : Follows → State → State
+with_follows f st =
+    record {
+      now = st.now;
+      follows = f;
+      asked = st.asked;
+      rivals = st.rivals;
+      counts = st.counts;
+    }
+
+-- The next packets that are asked for are those of the stream that is followed.
+abbrev pub missing_at : Config → ℕ → State → Option Nack
+missing_at c round_trip st = nack_of_followed c round_trip st.now st.follows
+
+abbrev pub after_missing : Config → ℕ → State → State
+after_missing c round_trip st = with_follows (after_asked c round_trip st.now st.follows) st
+
+-- the stream with this SSRC has ended
+abbrev pub after_ended : ℕ → State → State
+after_ended source st = with_follows (after_bye source st.now st.follows) st
+
+-- No stream has a run any more. Clock, budgets, what was told and what was counted stay.
+abbrev pub after_anew : State → State
+after_anew st = with_follows (begun_follows st.now) st
+
 -- ---- the whole
 
--- a datagram came then, or the next picture was to be played if it was due
+-- A datagram came then, or one of a call in which packets of one stream alone are looked at; or the
+-- next picture was to be played if it was due; or it was asked once which packets to ask for again,
+-- where the answer takes so long; or the stream with this SSRC had ended; or the call began anew.
 pub data Entry : Type 0 where
   Datagram : (bytes : List ℕ) (now : ℕ) → Entry
+  DatagramOf : (source : ℕ) (bytes : List ℕ) (now : ℕ) → Entry
   Turn : (now : ℕ) → Entry
+  Asked : (round_trip now : ℕ) → Entry
+  Ended : (source now : ℕ) → Entry
+  Anew : (now : ℕ) → Entry
 
 -- the session after these
 abbrev pub session_run : Config → List Entry → State
 session_run c [] = started
 session_run c (Datagram bytes now ∷ past) = after_datagram c bytes now (session_run c past)
+session_run c (DatagramOf source bytes now ∷ past) =
+    after_datagram_of c source bytes now (session_run c past)
 session_run c (Turn now ∷ past) = after_turn c now (session_run c past)
+session_run c (Asked round_trip now ∷ past) =
+    after_missing c round_trip (at now (session_run c past))
+session_run c (Ended source now ∷ past) = after_ended source (at now (session_run c past))
+session_run c (Anew now ∷ past) = after_anew (at now (session_run c past))

@@ -10,7 +10,8 @@ ghost use Rattle.session_runs.specs.Histories.{entries_in};
 ghost use Rattle.session_runs.specs.Following.{due_next};
 ghost use Rattle.session_runs.specs.Lines.{run_of};
 ghost use Rattle.session_runs.specs.Kept.{config_in};
-ghost use Rattle.call_session.specs.Sessions.{State, after_granted, after_played, after_seen, at, dropped};
+ghost use Rattle.call_session.specs.Sessions.{State, after_anew, after_ended, after_granted, after_missing};
+ghost use Rattle.call_session.specs.Sessions.{after_played, after_seen, at, dropped, missing_at};
 ghost use Rattle.call_session.specs.Sessions.{is_beside, is_rival, is_told, outcome_of_run, outcome_of_seen};
 ghost use Rattle.call_session.specs.Sessions.{played_run, rivals_noted, started, taker_in, told_of_seen};
 ghost use Rattle.call_session.specs.Ruled.{IsRules, IsRunPlayed, IsVerdict, StateStands, verdict_dropped};
@@ -207,17 +208,38 @@ impl Rules {
     }
 
     /// The next packets to ask for of the stream that is followed.
-    pub fn missing(&mut self, round_trip: u64) -> Option<Nack> {
-        self.following.missing(&self.settings, round_trip, self.time)
+    pub fn missing(&mut self, round_trip: u64) -> Option<Nack>
+        requires { IsRules self.old }
+        ensures rules { IsRules self.new }
+        ensures settings { self.new.settings ≡ self.old.settings }
+        ensures answer { (st : State) → StateStands self.old st
+            → result ≡ missing_at (config_in self.old.settings) round_trip st }
+        ensures stands { (st : State) → StateStands self.old st → StateStands self.new
+            (after_missing (config_in self.old.settings) round_trip st) }
+    {
+        self.following
+            .missing(&self.settings, round_trip, self.time)
     }
 
     /// The stream with this SSRC has ended.
-    pub fn ended(&mut self, source: u32) {
+    pub fn ended(&mut self, source: u32)
+        requires { IsRules self.old }
+        ensures rules { IsRules self.new }
+        ensures settings { self.new.settings ≡ self.old.settings }
+        ensures stands { (st : State) → StateStands self.old st
+            → StateStands self.new (after_ended source st) }
+    {
         self.following.ended(source, self.time);
     }
 
     /// No stream has a run any more.
-    pub fn begin(&mut self) {
+    pub fn begin(&mut self)
+        requires { IsRules self.old }
+        ensures rules { IsRules self.new }
+        ensures settings { self.new.settings ≡ self.old.settings }
+        ensures stands { (st : State) → StateStands self.old st
+            → StateStands self.new (after_anew st) }
+    {
         self.following.begin(&self.settings, self.time);
     }
 

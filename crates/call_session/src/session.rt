@@ -8,8 +8,9 @@ ghost use Rattle.session_intake.specs.Settings.{IsSettings};
 ghost use Rattle.session_runs.specs.Histories.{entries_in};
 ghost use Rattle.session_runs.specs.Following.{due_next};
 ghost use Rattle.session_runs.specs.Kept.{config_in};
-ghost use Rattle.call_session.specs.Sessions.{Datagram, Entry, Turn, at, outcome_of, played_run};
-ghost use Rattle.call_session.specs.Sessions.{session_run, told_of};
+ghost use Rattle.call_session.specs.Sessions.{Anew, Asked, Datagram, DatagramOf, Ended, Entry, Turn, at};
+ghost use Rattle.call_session.specs.Sessions.{missing_at, outcome_of, outcome_of_one, played_run};
+ghost use Rattle.call_session.specs.Sessions.{session_run, told_of, told_of_one};
 ghost use Rattle.call_session.specs.Ruled.{IsRunPlayed, IsVerdict};
 ghost use Rattle.call_session.specs.Whole.{IsSession, Stands};
 
@@ -70,7 +71,19 @@ impl Session {
 
     /// A datagram came of a call in which only the stream with this SSRC is looked at: a packet of
     /// another one is dropped as [`Cause::OtherStream`], and costs no budget.
-    pub fn arrival_of(&mut self, source: u32, bytes: &[u8], now: u64) -> Arrived {
+    pub fn arrival_of(&mut self, source: u32, bytes: &[u8], now: u64) -> Arrived
+        requires { IsSession self.old }
+        ensures session { IsSession self.new }
+        ensures settings { self.new.rules.settings ≡ self.old.rules.settings }
+        ensures answer { (past : List Entry) → Stands self.old past
+            → let c = config_in self.old.rules.settings in IsVerdict c.params.clock result.verdict
+            (outcome_of_one c source bytes.now now (session_run c past)) }
+        ensures told { (past : List Entry) → Stands self.old past
+            → let c = config_in self.old.rules.settings in
+            result.is_rival ≡ told_of_one c source bytes.now now (session_run c past) }
+        ensures stands { (past : List Entry) → Stands self.old past
+            → Stands self.new (DatagramOf source bytes.now now ∷ past) }
+    {
         self.rules.tick(now);
         match read(&self.rules.params(), bytes, &mut self.room) {
             Err(cause) => self.rules.drop_for(cause),
@@ -115,7 +128,16 @@ impl Session {
     /// no packet is asked for a third time, or again within a round trip. It is called until there
     /// are none. Nothing is asked for where it isn't known when the next picture is due, or where it
     /// is due at once.
-    pub fn missing(&mut self, round_trip: u64, now: u64) -> Option<Nack> {
+    pub fn missing(&mut self, round_trip: u64, now: u64) -> Option<Nack>
+        requires { IsSession self.old }
+        ensures session { IsSession self.new }
+        ensures settings { self.new.rules.settings ≡ self.old.rules.settings }
+        ensures answer { (past : List Entry) → Stands self.old past
+            → let c = config_in self.old.rules.settings in
+            result ≡ missing_at c round_trip (at now (session_run c past)) }
+        ensures stands { (past : List Entry) → Stands self.old past
+            → Stands self.new (Asked round_trip now ∷ past) }
+    {
         self.rules.tick(now);
         self.rules.missing(round_trip)
     }
@@ -123,14 +145,26 @@ impl Session {
     /// The stream with this SSRC has ended (an RTCP BYE). If it is the one that is followed, it is
     /// live no longer, so that another may be followed at once. A stream of which a trial failed
     /// waits as long as before.
-    pub fn bye(&mut self, source: u32, now: u64) {
+    pub fn bye(&mut self, source: u32, now: u64)
+        requires { IsSession self.old }
+        ensures session { IsSession self.new }
+        ensures settings { self.new.rules.settings ≡ self.old.rules.settings }
+        ensures stands { (past : List Entry) → Stands self.old past
+            → Stands self.new (Ended source now ∷ past) }
+    {
         self.rules.tick(now);
         self.rules.ended(source);
     }
 
     /// The call begins anew: no stream has a run any more. The clock, the budgets and what was counted
     /// stay.
-    pub fn reset(&mut self, now: u64) {
+    pub fn reset(&mut self, now: u64)
+        requires { IsSession self.old }
+        ensures session { IsSession self.new }
+        ensures settings { self.new.rules.settings ≡ self.old.rules.settings }
+        ensures stands { (past : List Entry) → Stands self.old past
+            → Stands self.new (Anew now ∷ past) }
+    {
         self.rules.tick(now);
         self.rules.begin();
     }

@@ -4,8 +4,10 @@ ghost use Rattle.session_intake.specs.declared.settings.Settings.{Settings};
 ghost use Rattle.session_intake.specs.Settings.{IsSettings};
 ghost use Rattle.session_runs.specs.Following.{due_next};
 ghost use Rattle.session_runs.specs.Kept.{config_in};
-ghost use Rattle.call_session.specs.Sessions.{Datagram, Entry, Turn, at, outcome_of, played_run, told_of};
-ghost use Rattle.h263rps_c.specs.SessionNumbers.{counts_numbers, time_or_never};
+ghost use Rattle.call_session.specs.Sessions.{Anew, Asked, Datagram, DatagramOf, Ended, Entry, Turn, at};
+ghost use Rattle.call_session.specs.Sessions.{missing_at, outcome_of, outcome_of_one, played_run};
+ghost use Rattle.call_session.specs.Sessions.{told_of, told_of_one};
+ghost use Rattle.h263rps_c.specs.SessionNumbers.{counts_numbers, nack_numbers, time_or_never};
 ghost use Rattle.h263rps_c.specs.Sessions.{HoldsSession, ShowsScreen, TellsOutcome, TellsTurn};
 ghost use Rattle.h263rps_c.specs.Sessions.{source_after, source_of, state_after};
 ghost use Rattle.h263rps_c.specs.declared.refusals.EndRefusal.TheVariants as refusals;
@@ -95,7 +97,8 @@ impl KeptSession {
     /// The next packets to ask for again.
     pub fn missing(&mut self, round_trip: u64, now: u64) -> CNack
         ensures answer { (s : Settings) (past : List Entry) → HoldsSession s past (Some self.old)
-            → result ≡ nack_numbers (nack_after (config_in s) round_trip now (state_after s past)) }
+            → result ≡ nack_numbers
+            (missing_at (config_in s) round_trip (at now (state_after s past))) }
         ensures stands { (s : Settings) (past : List Entry) → HoldsSession s past (Some self.old)
             → HoldsSession s (Asked round_trip now ∷ past) (Some self.new) }
     {

@@ -3,7 +3,8 @@ ghost use Rattle.std.specs.Prelude.{◌≡◌, ◌≢◌, List, [], ◌∷◌, N
 ghost use Rattle.session_intake.specs.declared.settings.Settings.{Settings};
 ghost use Rattle.session_runs.specs.Following.{due_next};
 ghost use Rattle.session_runs.specs.Kept.{config_in};
-ghost use Rattle.call_session.specs.Sessions.{Datagram, Entry, Turn, at, outcome_of, played_run, told_of};
+ghost use Rattle.call_session.specs.Sessions.{Datagram, DatagramOf, Entry, Turn, at, outcome_of};
+ghost use Rattle.call_session.specs.Sessions.{outcome_of_one, played_run, told_of, told_of_one};
 ghost use Rattle.std.specs.Borrow.{sem};
 ghost use Rattle.h263rps_c.specs.Asked.{params_of};
 ghost use Rattle.h263rps_c.specs.Refusals.{refusal_in, refusal_number, status_of};

@@ -2,7 +2,7 @@
 ghost use Rattle.std.specs.Prelude.{◌≡◌, ◌≢◌, List, ◌∷◌};
 ghost use Rattle.session_intake.specs.declared.settings.Settings.{Settings};
 ghost use Rattle.session_runs.specs.Kept.{config_in};
-ghost use Rattle.call_session.specs.Sessions.{Anew, Asked, Ended, Entry, nack_after};
+ghost use Rattle.call_session.specs.Sessions.{Anew, Asked, Ended, Entry, at, missing_at};
 ghost use Rattle.h263rps_c.specs.Refusals.{status_of};
 ghost use Rattle.h263rps_c.specs.SessionNumbers.{nack_numbers};
 ghost use Rattle.h263rps_c.specs.Sessions.{HoldsSession, state_after, unless_started};
@@ -27,7 +27,8 @@ pub extern "C" fn h263rps_raw_session_missing(
         → HoldsSession s (Asked round_trip now ∷ past) slot.new.handle.inside }
     ensures answer { (s : Settings) (past : List Entry)
         → HoldsSession s past slot.old.handle.inside
-        → nack.new ≡ nack_numbers (nack_after (config_in s) round_trip now (state_after s past)) }
+        → nack.new ≡ nack_numbers
+        (missing_at (config_in s) round_trip (at now (state_after s past))) }
 {
     if !slot.is_started() {
         return EndRefusal::NotStarted.number();

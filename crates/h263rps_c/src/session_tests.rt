@@ -2,7 +2,8 @@
 use crate::answers::{Answer, CMessage};
 use crate::receiver::Lent;
 use crate::session::*;
-use crate::session_answers::{CArrived, CCounts, CTurn};
+use crate::session_answers::{CArrived, CCounts, CNack, CTurn};
+use crate::session_repair::*;
 use crate::session_slots::SessionSlot;
 use crate::tests::ASKED;
 use crate::timing::Timing;
@@ -53,6 +54,34 @@ fn play(slot: &mut SessionSlot) -> [u32; 2] {
     [status, turn.plays]
 }
 
+// What is answered to three bytes where one stream alone is taken: the status and the cause.
+fn arrival_of(slot: &mut SessionSlot) -> [u32; 2] {
+    let mut arrived = CArrived {
+        verdict: 77,
+        cause: 77,
+        run: 77,
+        source: 77,
+        ahead: 77,
+        rival: 77,
+        answer: NOTHING,
+    };
+    let status = h263rps_raw_session_arrival_of(slot, 7, &[1, 2, 3], 6, &mut arrived);
+    [status, arrived.cause]
+}
+
+// What is answered to what is missing, an end, and a beginning anew.
+fn repairs(slot: &mut SessionSlot) -> [u32; 4] {
+    let mut nack = CNack {
+        asks: 77,
+        packet: 77,
+        following: 77,
+    };
+    let missing = h263rps_raw_session_missing(slot, 50, 6, &mut nack);
+    let bye = h263rps_raw_session_bye(slot, 7, 6);
+    let reset = h263rps_raw_session_reset(slot, 6);
+    [missing, nack.asks, bye, reset]
+}
+
 // What is answered to the other questions.
 fn questions(slot: &mut SessionSlot) -> [u32; 5] {
     let mut due = 77;
@@ -81,6 +110,8 @@ fn an_empty_slot_has_no_session(rt: HostRuntime) {
     let mut slot = SessionSlot::vacant(rt.alloc());
     assert_eq!(rt; arrival(&mut slot), [1, 77, 77]);
     assert_eq!(rt; play(&mut slot), [1, 77]);
+    assert_eq!(rt; arrival_of(&mut slot), [1, 77]);
+    assert_eq!(rt; repairs(&mut slot), [1, 77, 1, 1]);
     assert_eq!(rt; questions(&mut slot), [1, 1, 1, 1, 77]);
     assert_eq!(rt; lent(&mut slot), (1, 1));
     assert_eq!(rt; h263rps_raw_session_finish(rt.alloc(), &mut slot), 1);
@@ -104,6 +135,8 @@ fn a_session_in_a_slot(rt: HostRuntime) {
     assert_eq!(rt; (status, fault), (0, 14));
     assert_eq!(rt; arrival(&mut slot), [0, 0, 2]);
     assert_eq!(rt; play(&mut slot), [0, 0]);
+    assert_eq!(rt; arrival_of(&mut slot), [0, 2]);
+    assert_eq!(rt; repairs(&mut slot), [0, 0, 0, 0]);
     assert_eq!(rt; questions(&mut slot), [0, 14, 14, 0, 77]);
     assert_eq!(rt; lent(&mut slot), (0, 18_432));
     let status = h263rps_raw_session_start(rt.alloc(), &mut slot, &ASKED, &TIMING, &mut fault);

@@ -1,9 +1,11 @@
 -- What is kept of all that happened.
-use Rattle.std.specs.Prelude.{ℕ, ◌+◌, ◌==◌, Bool, if◌then◌else◌, List, [], ◌∷◌, map, Option, Some, None}
+use Rattle.std.specs.Prelude.{◌≡◌, ℕ, ◌+◌, ◌==◌, Bool, if◌then◌else◌, List, [], ◌∷◌, map, Option, Some, None}
 use Rattle.std.specs.List.{list_any}
 use Rattle.packet_gaps.specs.declared.gap.Gap.{Gap}
+use Rattle.packet_gaps.specs.declared.gaps.Gaps.{Gaps}
+use Rattle.packet_gaps.specs.declared.gaps.Nack.{Nack}
 use Rattle.packet_gaps.specs.declared.moment.Moment.{Moment}
-use Rattle.packet_gaps.specs.Asking.{after_asking, told_of}
+use Rattle.packet_gaps.specs.Asking.{after_asking, nack_of, told_of}
 use Rattle.packet_gaps.specs.Missing.{after_packet, after_play, newest_after_packet, number_of}
 
 -- the newest packet's number, and the gaps, as `Gaps` has them
@@ -32,6 +34,15 @@ after k (Asked m) = record { newest = k.newest; gaps = after_asking m k.newest k
 abbrev pub kept_of : List Event → Kept
 kept_of [] = record { newest = None; gaps = [] }
 kept_of (e ∷ past) = after (kept_of past) e
+
+-- these events came of it, the newest first
+pub record GapsStand (g : Gaps) (past : List Event) : Type 0 where
+  pub newest : g.newest ≡ (kept_of past).newest
+  pub gaps : g.gaps.items ≡ (kept_of past).gaps
+
+-- what it asks for, then
+abbrev pub asks : Moment → List Event → Option Nack
+asks m past = nack_of m (kept_of past).newest (kept_of past).gaps
 
 -- ---- the packets that came
 

@@ -1,6 +1,7 @@
 //! The packets that are missing.
-ghost use Rattle.std.specs.Prelude.{◌≡◌, [], None};
+ghost use Rattle.std.specs.Prelude.{◌≡◌, ◌∷◌, List, [], None};
 ghost use Rattle.packet_gaps.specs.Asking.{after_asking, nack_of};
+ghost use Rattle.packet_gaps.specs.Kept.{Asked, Came, Event, GapsStand, Played, asks};
 ghost use Rattle.packet_gaps.specs.Missing.{after_packet, after_play, newest_after_packet};
 
 use crate::asking::{first_of, following, told};
@@ -32,6 +33,7 @@ impl Gaps {
     pub fn new() -> Gaps
         ensures newest { result.newest ≡ None }
         ensures gaps { result.gaps.items ≡ [] }
+        ensures stands { GapsStand result [] }
     {
         Gaps {
             newest: None,
@@ -44,6 +46,8 @@ impl Gaps {
         ensures newest { self.new.newest ≡ newest_after_packet self.old.newest sequence }
         ensures gaps { self.new.gaps.items
             ≡ after_packet self.old.newest sequence picture self.old.gaps.items }
+        ensures stands { (past : List Event) → GapsStand self.old past
+            → GapsStand self.new (Came sequence picture ∷ past) }
     {
         let Some(newest) = self.newest else {
             self.newest = Some(65_536 + sequence as u64);
@@ -62,6 +66,8 @@ impl Gaps {
     pub fn played(&mut self, next: u32)
         ensures newest { self.new.newest ≡ self.old.newest }
         ensures gaps { self.new.gaps.items ≡ after_play next self.old.gaps.items }
+        ensures stands { (past : List Event) → GapsStand self.old past
+            → GapsStand self.new (Played next ∷ past) }
     {
         self.gaps = played(self.gaps.as_slice(), next);
     }
@@ -73,6 +79,9 @@ impl Gaps {
         ensures nack { result ≡ nack_of moment.now self.old.newest self.old.gaps.items }
         ensures gaps { self.new.gaps.items
             ≡ after_asking moment.now self.old.newest self.old.gaps.items }
+        ensures answer { (past : List Event) → GapsStand self.old past → result ≡ asks moment.now past }
+        ensures stands { (past : List Event) → GapsStand self.old past
+            → GapsStand self.new (Asked moment.now ∷ past) }
     {
         let newest = self.newest?;
         let first = first_of(self.gaps.as_slice(), moment, newest)?;

@@ -1,5 +1,5 @@
 -- A stream that is followed, with what others send and without.
-use Rattle.std.proofs.Common.{◌≡◌, ℕ, ◌<◌, ◌≤◌, Bool, true, false, cond, List, [], ◌∷◌, ◌++◌, Option, Result, Ok, Err, refl, ap, sym, arith, subst, ◌∙◌}
+use Rattle.std.proofs.Common.{◌≡◌, ℕ, ◌<◌, ◌≤◌, Bool, true, false, cond, eqb, List, [], ◌∷◌, ◌++◌, Option, Result, Ok, Err, refl, ap, sym, arith, subst, ◌∙◌}
 use Rattle.rtp_source.specs.Source.{renamed}
 use Rattle.stream_choice.specs.declared.stream.Stream.{Stream}
 use Rattle.stream_choice.specs.declared.streams.Taker.{Taker}
@@ -8,7 +8,7 @@ use Rattle.session_intake.specs.declared.seen.Seen.{Seen}
 use Rattle.session_intake.specs.declared.seen.Cause.{Cause}
 use Rattle.session_intake.specs.Datagrams.{seen_in}
 use Rattle.session_runs.specs.Histories.{Config}
-use Rattle.call_session.specs.Sessions.{Datagram, Entry, State, Turn, after_datagram, after_grant, after_reading, asked_for, at, is_looked_at, outcome_of, outcome_of_reading, session_run, taker_in, time_of}
+use Rattle.call_session.specs.Sessions.{Anew, Asked, Datagram, DatagramOf, Ended, Entry, State, Turn, after_ended, after_grant, after_missing, after_reading, asked_for, at, is_looked_at, outcome_of_reading, seen_of_one, session_run, taker_in, time_of}
 use Rattle.session_laws.specs.Undisturbed.{Followed, InOrder, IsBeside, Said, StaysLive, followed_in, is_from, is_from_other, newest_time, own_of, said_of, said_of_packet, said_with}
 use Rattle.session_laws.proofs.Others.{by_others}
 use Rattle.session_laws.proofs.Own as own
@@ -32,19 +32,31 @@ set_to last newest now h i j = omega arith
 to_most : (a b n : ℕ) → a ≡ b → b ≡ n → a ≤ n
 to_most a b n e f = omega arith
 
-pub with_datagram : (c : Config) (bytes : List ℕ) (now newest : ℕ) (st : State) → st.now ≤ newest → newest ≤ now
-    → now < 4611686018427387904 → (after_datagram c bytes now st).now ≤ now
-with_datagram c bytes now newest st h i j =
-    to_most (after_datagram c bytes now st).now (time_of st.now now) now
-    (reading_now (seen_in c.params bytes) c (renamed bytes) (at now st)) (set_to st.now newest now h i j)
+with_reading : (r : Result Seen Cause) (c : Config) (bytes : List ℕ) (now newest : ℕ) (st : State) → st.now ≤ newest
+    → newest ≤ now → now < 4611686018427387904 → (after_reading c r bytes (at now st)).now ≤ now
+with_reading r c bytes now newest st h i j =
+    to_most (after_reading c r bytes (at now st)).now (time_of st.now now) now
+    (reading_now r c bytes (at now st)) (set_to st.now newest now h i j)
+
+at_most : (last newest now : ℕ) → last ≤ newest → newest ≤ now → now < 4611686018427387904 → time_of last now ≤ now
+at_most last newest now h i j = omega arith
 
 pub reached : (c : Config) (past : List Entry) → InOrder past → (session_run c past).now ≤ newest_time past
 reached c [] o = omega arith
 reached c (Datagram bytes now ∷ past) o =
-    with_datagram c bytes now (newest_time past) (session_run c past) (reached c past o.2) o.0 o.1
+    with_reading (seen_in c.params bytes) c (renamed bytes) now (newest_time past) (session_run c past)
+    (reached c past o.2) o.0 o.1
+reached c (DatagramOf only bytes now ∷ past) o =
+    with_reading (seen_of_one c only bytes) c (renamed bytes) now (newest_time past) (session_run c past)
+    (reached c past o.2) o.0 o.1
 reached c (Turn now ∷ past) o =
-    to_most (time_of (session_run c past).now now) now now
-    (set_to (session_run c past).now (newest_time past) now (reached c past o.2) o.0 o.1) refl
+    at_most (session_run c past).now (newest_time past) now (reached c past o.2) o.0 o.1
+reached c (Asked round_trip now ∷ past) o =
+    at_most (session_run c past).now (newest_time past) now (reached c past o.2) o.0 o.1
+reached c (Ended source now ∷ past) o =
+    at_most (session_run c past).now (newest_time past) now (reached c past o.2) o.0 o.1
+reached c (Anew now ∷ past) o =
+    at_most (session_run c past).now (newest_time past) now (reached c past o.2) o.0 o.1
 
 -- ---- with and without
 
@@ -91,26 +103,35 @@ source_after r c source bytes a e h =
 said_both : (x y : List Said) (a b : List Said) → x ≡ y → a ≡ b → x ++ a ≡ y ++ b
 said_both x y a b e f = ap (λ (l : List Said). l ++ a) e ∙ ap (λ (l : List Said). y ++ l) f
 
-own_packet : (c : Config) (source : ℕ) (before : List Entry) (bytes : List ℕ) (now : ℕ) (es owns : List Entry)
+-- what a packet of it gives, at this time, after what came with others' and without
+record OwnGoes (r : Result Seen Cause) (c : Config) (source : ℕ) (bytes : List ℕ) (now : ℕ) (a b : State) (x y : List Said) : Type 0 where
+  said : said_of_packet (is_from source r) (outcome_of_reading c r bytes (at now a)) ++ x
+      ≡ said_of_packet (is_from source r) (outcome_of_reading c r bytes (at now b)) ++ y
+  same : followed_in (after_reading c r bytes (at now a)) ≡ followed_in (after_reading c r bytes (at now b))
+  source_is : is_of (after_reading c r bytes (at now a)).follows.streams.followed source ≡ true
+  now : (after_reading c r bytes (at now a)).now ≤ now
+  own_now : (after_reading c r bytes (at now b)).now ≤ now
+
+own_goes : (r : Result Seen Cause) (c : Config) (source : ℕ) (bytes : List ℕ) (now : ℕ) (before es owns : List Entry)
     → newest_time (es ++ before) ≤ now → now < 4611686018427387904
-    → Goes c source before es owns → is_from source (seen_in c.params bytes) ≡ true
-    → Goes c source before (Datagram bytes now ∷ es) (Datagram bytes now ∷ owns)
-own_packet c source before bytes now es owns i j k e =
+    → Goes c source before es owns → is_from source r ≡ true
+    → OwnGoes r c source bytes now (session_run c (es ++ before)) (session_run c (owns ++ before))
+    (said_of c source before es) (said_of c source before owns)
+own_goes r c source bytes now before es owns i j k e =
     let a = session_run c (es ++ before) in
     let b = session_run c (owns ++ before) in
-    let r = seen_in c.params bytes in
     let f = set_to a.now (newest_time (es ++ before)) now k.now i j in
     let g = set_to b.now (newest_time (es ++ before)) now k.own_now i j in
     record {
-      said = said_both (said_of_packet (is_from source r) (outcome_of c bytes now a))
-          (said_of_packet (is_from source r) (outcome_of c bytes now b))
+      said = said_both (said_of_packet (is_from source r) (outcome_of_reading c r bytes (at now a)))
+          (said_of_packet (is_from source r) (outcome_of_reading c r bytes (at now b)))
           (said_of c source before es) (said_of c source before owns)
           (ap (said_of_packet (is_from source r))
-          (same_outcome r c source (renamed bytes) now (at now a) (at now b) e f g k.same k.source_is)) k.said;
-      same = same_after r c source (renamed bytes) now (at now a) (at now b) e f g k.same k.source_is;
-      source_is = source_after r c source (renamed bytes) (at now a) e k.source_is;
-      now = with_datagram c bytes now (newest_time (es ++ before)) a k.now i j;
-      own_now = with_datagram c bytes now (newest_time (es ++ before)) b k.own_now i j;
+          (same_outcome r c source bytes now (at now a) (at now b) e f g k.same k.source_is)) k.said;
+      same = same_after r c source bytes now (at now a) (at now b) e f g k.same k.source_is;
+      source_is = source_after r c source bytes (at now a) e k.source_is;
+      now = with_reading r c bytes now (newest_time (es ++ before)) a k.now i j;
+      own_now = with_reading r c bytes now (newest_time (es ++ before)) b k.own_now i j;
     }
 
 beside_at : (r : Result Seen Cause) (n m : ℕ) (o p former : Option Stream) → n ≡ m → o ≡ p → IsBeside r n o former
@@ -118,31 +139,40 @@ beside_at : (r : Result Seen Cause) (n m : ℕ) (o p former : Option Stream) →
 beside_at r n m o p former e f x =
     subst (λ (k : ℕ). IsBeside r k p former) e (subst (λ (q : Option Stream). IsBeside r n q former) f x)
 
-others_packet : (c : Config) (source : ℕ) (before : List Entry) (bytes : List ℕ) (now : ℕ) (es owns : List Entry)
+le_later : (a b n : ℕ) → a ≤ b → b ≤ n → a ≤ n
+le_later a b n h i = omega arith
+
+-- and one of others
+record OthersGo (r : Result Seen Cause) (c : Config) (source : ℕ) (bytes : List ℕ) (now : ℕ) (a b : State) (x y : List Said) : Type 0 where
+  said : said_of_packet (is_from source r) (outcome_of_reading c r bytes (at now a)) ++ x ≡ y
+  same : followed_in (after_reading c r bytes (at now a)) ≡ followed_in b
+  source_is : is_of (after_reading c r bytes (at now a)).follows.streams.followed source ≡ true
+  now : (after_reading c r bytes (at now a)).now ≤ now
+  own_now : b.now ≤ now
+
+others_go : (r : Result Seen Cause) (c : Config) (source : ℕ) (bytes : List ℕ) (now : ℕ) (before es owns : List Entry)
     → newest_time (es ++ before) ≤ now → now < 4611686018427387904
-    → (is_from_other source (seen_in c.params bytes) ≡ true
-    → IsBeside (seen_in c.params bytes) now (session_run c (owns ++ before)).follows.streams.followed
+    → (is_from_other source r ≡ true
+    → IsBeside r now (session_run c (owns ++ before)).follows.streams.followed
     (session_run c (es ++ before)).follows.streams.former)
-    → Goes c source before es owns → is_from source (seen_in c.params bytes) ≡ false
-    → Goes c source before (Datagram bytes now ∷ es) owns
-others_packet c source before bytes now es owns i j x k e =
+    → Goes c source before es owns → is_from source r ≡ false
+    → OthersGo r c source bytes now (session_run c (es ++ before)) (session_run c (owns ++ before))
+    (said_of c source before es) (said_of c source before owns)
+others_go r c source bytes now before es owns i j x k e =
     let a = session_run c (es ++ before) in
     let b = session_run c (owns ++ before) in
-    let r = seen_in c.params bytes in
     let f = set_to a.now (newest_time (es ++ before)) now k.now i j in
-    let left = by_others r c source (renamed bytes) (at now a) e k.source_is (λ y.
+    let left = by_others r c source bytes (at now a) e k.source_is (λ y.
     beside_at r now (time_of a.now now) b.follows.streams.followed a.follows.streams.followed a.follows.streams.former
     (sym f) (sym (ap (λ (v : Followed). v.stream) k.same)) (x y)) in
     record {
-      said = ap (λ (y : Bool). said_of_packet y (outcome_of c bytes now a) ++ said_of c source before es) e ∙ k.said;
+      said = ap (λ (y : Bool). said_of_packet y (outcome_of_reading c r bytes (at now a)) ++ said_of c source before es) e
+          ∙ k.said;
       same = left ∙ k.same;
       source_is = ap (λ (v : Followed). is_of v.stream source) left ∙ k.source_is;
-      now = with_datagram c bytes now (newest_time (es ++ before)) a k.now i j;
+      now = with_reading r c bytes now (newest_time (es ++ before)) a k.now i j;
       own_now = le_later b.now (newest_time (es ++ before)) now k.own_now i;
     }
-  where
-    le_later : (a b n : ℕ) → a ≤ b → b ≤ n → a ≤ n
-    le_later a b n h i = omega arith
 
 turn : (c : Config) (source : ℕ) (before : List Entry) (now : ℕ) (es owns : List Entry)
     → newest_time (es ++ before) ≤ now → now < 4611686018427387904
@@ -170,6 +200,74 @@ turn c source before now es owns i j k =
       own_now = to_most (time_of b.now now) now now g refl;
     }
 
+asked : (c : Config) (source : ℕ) (before : List Entry) (round_trip now : ℕ) (es owns : List Entry)
+    → newest_time (es ++ before) ≤ now → now < 4611686018427387904
+    → Goes c source before es owns
+    → Goes c source before (Asked round_trip now ∷ es) (Asked round_trip now ∷ owns)
+asked c source before round_trip now es owns i j k =
+    let a = session_run c (es ++ before) in
+    let b = session_run c (owns ++ before) in
+    let f = set_to a.now (newest_time (es ++ before)) now k.now i j in
+    let g = set_to b.now (newest_time (es ++ before)) now k.own_now i j in
+    record {
+      said = said_both (said_with c source (Asked round_trip now) a) (said_with c source (Asked round_trip now) b)
+          (said_of c source before es) (said_of c source before owns)
+          (own.said_at_asked c round_trip (at now a)
+          ∙ ap (λ (n : ℕ). own.asked c round_trip n (followed_in a)) (f ∙ sym g)
+          ∙ ap (own.asked c round_trip (time_of b.now now)) k.same
+          ∙ sym (own.said_at_asked c round_trip (at now b))) k.said;
+      same = own.by_asked c round_trip (at now a)
+          ∙ ap (λ (n : ℕ). own.after_asked c round_trip n (followed_in a)) (f ∙ sym g)
+          ∙ ap (own.after_asked c round_trip (time_of b.now now)) k.same
+          ∙ sym (own.by_asked c round_trip (at now b));
+      source_is = k.source_is;
+      now = to_most (time_of a.now now) now now f refl;
+      own_now = to_most (time_of b.now now) now now g refl;
+    }
+
+own_end : (c : Config) (source : ℕ) (before : List Entry) (other now : ℕ) (es owns : List Entry)
+    → newest_time (es ++ before) ≤ now → now < 4611686018427387904
+    → Goes c source before es owns
+    → Goes c source before (Ended other now ∷ es) (Ended other now ∷ owns)
+own_end c source before other now es owns i j k =
+    let a = session_run c (es ++ before) in
+    let b = session_run c (owns ++ before) in
+    let f = set_to a.now (newest_time (es ++ before)) now k.now i j in
+    let g = set_to b.now (newest_time (es ++ before)) now k.own_now i j in
+    record {
+      said = k.said;
+      same = own.by_end other (at now a)
+          ∙ ap (λ (n : ℕ). own.after_end other n (followed_in a)) (f ∙ sym g)
+          ∙ ap (own.after_end other (time_of b.now now)) k.same
+          ∙ sym (own.by_end other (at now b));
+      source_is = own.of_end a.follows.streams.followed other (time_of a.now now) source ∙ k.source_is;
+      now = to_most (time_of a.now now) now now f refl;
+      own_now = to_most (time_of b.now now) now now g refl;
+    }
+
+others_end : (c : Config) (source : ℕ) (before : List Entry) (other now : ℕ) (es owns : List Entry)
+    → newest_time (es ++ before) ≤ now → now < 4611686018427387904
+    → Goes c source before es owns → eqb other source ≡ false
+    → Goes c source before (Ended other now ∷ es) owns
+others_end c source before other now es owns i j k e =
+    let a = session_run c (es ++ before) in
+    let b = session_run c (owns ++ before) in
+    let left = own.left_by_end a.follows.streams.followed other (time_of a.now now) source k.source_is e in
+    record {
+      said = k.said;
+      same = ap (λ (o : Option Stream). let v : Followed = record {
+            stream = o;
+            line = a.follows.lines.followed;
+            asked = a.asked.followed;
+            exact = a.counts.exact;
+            patched = a.counts.patched;
+            held = a.counts.held;
+          } in v) left ∙ k.same;
+      source_is = ap (λ (o : Option Stream). is_of o source) left ∙ k.source_is;
+      now = at_most a.now (newest_time (es ++ before)) now k.now i j;
+      own_now = le_later b.now (newest_time (es ++ before)) now k.own_now i;
+    }
+
 pub goes : (c : Config) (source : ℕ) (before es : List Entry) → is_of (session_run c before).follows.streams.followed source ≡ true
     → InOrder (es ++ before) → StaysLive c source before es → Goes c source before es (own_of c source es)
 goes c source before [] h o s =
@@ -182,11 +280,30 @@ goes c source before [] h o s =
     }
 goes c source before (Turn now ∷ es) h o s =
     turn c source before now es (own_of c source es) o.0 o.1 (goes c source before es h o.2 s)
+goes c source before (Asked round_trip now ∷ es) h o s =
+    asked c source before round_trip now es (own_of c source es) o.0 o.1 (goes c source before es h o.2 s)
+goes c source before (Ended other now ∷ es) h o s =
+    let k = goes c source before es h o.2 s in
+    whose (eqb other source) c source before (Ended other now) es (own_of c source es)
+    (λ e. own_end c source before other now es (own_of c source es) o.0 o.1 k)
+    (others_end c source before other now es (own_of c source es) o.0 o.1 k)
+goes c source before (Anew now ∷ es) h o s = absurd s
 goes c source before (Datagram bytes now ∷ es) h o s =
     let k = goes c source before es h o.2 s.1 in
-    whose (is_from source (seen_in c.params bytes)) c source before (Datagram bytes now) es (own_of c source es)
-    (own_packet c source before bytes now es (own_of c source es) o.0 o.1 k)
-    (others_packet c source before bytes now es (own_of c source es) o.0 o.1 s.0 k)
+    let r = seen_in c.params bytes in
+    whose (is_from source r) c source before (Datagram bytes now) es (own_of c source es)
+    (λ e. let g = own_goes r c source (renamed bytes) now before es (own_of c source es) o.0 o.1 k e in
+        record { said = g.said; same = g.same; source_is = g.source_is; now = g.now; own_now = g.own_now })
+    (λ e. let g = others_go r c source (renamed bytes) now before es (own_of c source es) o.0 o.1 s.0 k e in
+        record { said = g.said; same = g.same; source_is = g.source_is; now = g.now; own_now = g.own_now })
+goes c source before (DatagramOf only bytes now ∷ es) h o s =
+    let k = goes c source before es h o.2 s.1 in
+    let r = seen_of_one c only bytes in
+    whose (is_from source r) c source before (DatagramOf only bytes now) es (own_of c source es)
+    (λ e. let g = own_goes r c source (renamed bytes) now before es (own_of c source es) o.0 o.1 k e in
+        record { said = g.said; same = g.same; source_is = g.source_is; now = g.now; own_now = g.own_now })
+    (λ e. let g = others_go r c source (renamed bytes) now before es (own_of c source es) o.0 o.1 s.0 k e in
+        record { said = g.said; same = g.same; source_is = g.source_is; now = g.now; own_now = g.own_now })
 
 pub undisturbed : (c : Config) (source : ℕ) (before es : List Entry)
     → is_of (session_run c before).follows.streams.followed source ≡ true

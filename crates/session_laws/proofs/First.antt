@@ -1,5 +1,5 @@
 -- While a stream is followed that is live, no other comes to be the former one.
-use Rattle.std.proofs.Common.{◌≡◌, ℕ, not, Bool, true, false, cond, eqb, List, [], ◌∷◌, ◌++◌, Option, Some, None, Result, Ok, Err, refl, ap, sym, ◌∙◌}
+use Rattle.std.proofs.Common.{◌≡◌, ℕ, ◌<◌, ◌≤◌, not, Bool, true, false, cond, eqb, List, [], ◌∷◌, ◌++◌, Option, Some, None, Result, Ok, Err, refl, ap, sym, ◌∙◌}
 use Rattle.std.proofs.lemmas.Bool.{eqb-true, true≢false}
 use Rattle.rtp_source.specs.Source.{renamed}
 use Rattle.stream_choice.specs.declared.stream.Stream.{Stream}
@@ -14,7 +14,7 @@ use Rattle.session_intake.specs.declared.seen.Seen.{Seen}
 use Rattle.session_intake.specs.declared.seen.Cause.{Cause}
 use Rattle.session_runs.specs.Histories.{Config}
 use Rattle.call_session.specs.Sessions as session
-use Rattle.session_laws.specs.Undisturbed.{Followed, InOrder, IsLive, StaysLive, followed_in, is_from_other, is_of_former, newest_time, own_of, said_of}
+use Rattle.session_laws.specs.Undisturbed.{Followed, InOrder, IsBeside, IsLive, StaysLive, followed_in, is_from_other, is_of_former, newest_time, own_of, said_of}
 use Rattle.session_laws.proofs.Apart.{goes, set_to, undisturbed}
 use Rattle.session_laws.proofs.Marking.{Shows, complete_if, noted_by}
 use Rattle.session_laws.proofs.Recovered.{completes_by, lines_for, played_streams, seen_streams, shows_in, streams_by}
@@ -104,6 +104,28 @@ live_at : (o p : Option Stream) (n m : ℕ) → o ≡ p → n ≡ m → choice.i
 live_at o p n m e f h =
     sym (ap (λ (x : Option Stream). choice.is_live_one x m) e) ∙ sym (ap (choice.is_live_one o) f) ∙ h
 
+packet : (r : Result Seen Cause) (c : Config) (source : ℕ) (bytes : List ℕ) (now : ℕ) (before es : List session.Entry)
+    → choice.is_of (session.session_run c before).follows.streams.followed source ≡ true
+    → newest_time (es ++ before) ≤ now → now < 4611686018427387904 → InOrder (es ++ before)
+    → StaysLive c source before es × ((session.session_run c (es ++ before)).follows.streams.former ≡ None)
+    → (is_from_other source r ≡ true
+    → choice.is_live_one (session.session_run c (own_of c source es ++ before)).follows.streams.followed now ≡ true)
+    → (is_from_other source r ≡ true
+    → IsBeside r now (session.session_run c (own_of c source es ++ before)).follows.streams.followed
+    (session.session_run c (es ++ before)).follows.streams.former)
+    × ((session.after_reading c r bytes (session.at now (session.session_run c (es ++ before)))).follows.streams.former ≡ None)
+packet r c source bytes now before es h i j o k l =
+    let a = session.session_run c (es ++ before) in
+    let b = session.session_run c (own_of c source es ++ before) in
+    let m = goes c source before es h o k.0 in
+    let now_is = set_to a.now (newest_time (es ++ before)) now m.now i j in
+    let same = ap (λ (v : Followed). v.stream) m.same in (
+      λ x. record { live = l x; behind = λ y. absurd (no_former a.follows.streams.former r k.1 y) },
+      by_reading r c source bytes (session.at now a) m.source_is k.1
+          (λ x. live_at b.follows.streams.followed a.follows.streams.followed now (session.time_of a.now now) (sym same)
+          (sym now_is) (l x)),
+    )
+
 stays : (c : Config) (source : ℕ) (before es : List session.Entry)
     → choice.is_of (session.session_run c before).follows.streams.followed source ≡ true
     → (session.session_run c before).follows.streams.former ≡ None
@@ -114,19 +136,17 @@ stays c source before (session.Turn now ∷ es) h n o l =
     let k = stays c source before es h n o.2 l in
     let a = session.at now (session.session_run c (es ++ before)) in
     (k.0, ap (λ (s : Streams). s.former) (played_streams (session.played_run c a) c a) ∙ k.1)
+stays c source before (session.Asked round_trip now ∷ es) h n o l = stays c source before es h n o.2 l
+stays c source before (session.Ended other now ∷ es) h n o l = stays c source before es h n o.2 l
+stays c source before (session.Anew now ∷ es) h n o l = absurd l
 stays c source before (session.Datagram bytes now ∷ es) h n o l =
     let k = stays c source before es h n o.2 l.1 in
-    let r = seen_in c.params bytes in
-    let a = session.session_run c (es ++ before) in
-    let b = session.session_run c (own_of c source es ++ before) in
-    let m = goes c source before es h o.2 k.0 in
-    let now_is = set_to a.now (newest_time (es ++ before)) now m.now o.0 o.1 in
-    let same = ap (λ (v : Followed). v.stream) m.same in (
-      (λ x. record { live = l.0 x; behind = λ y. absurd (no_former a.follows.streams.former r k.1 y) }, k.0),
-      by_reading r c source (renamed bytes) (session.at now a) m.source_is k.1
-          (λ x. live_at b.follows.streams.followed a.follows.streams.followed now (session.time_of a.now now) (sym same)
-          (sym now_is) (l.0 x)),
-    )
+    let g = packet (seen_in c.params bytes) c source (renamed bytes) now before es h o.0 o.1 o.2 k l.0 in
+    ((g.0, k.0), g.1)
+stays c source before (session.DatagramOf only bytes now ∷ es) h n o l =
+    let k = stays c source before es h n o.2 l.1 in
+    let g = packet (session.seen_of_one c only bytes) c source (renamed bytes) now before es h o.0 o.1 o.2 k l.0 in
+    ((g.0, k.0), g.1)
 
 pub undisturbed_first : (c : Config) (source : ℕ) (before es : List session.Entry)
     → choice.is_of (session.session_run c before).follows.streams.followed source ≡ true

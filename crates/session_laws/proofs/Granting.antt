@@ -6,12 +6,12 @@ use Rattle.stream_choice.specs.declared.streams.Taker.{Taker}
 use Rattle.stream_choice.specs.declared.streams.Taker.TheVariants as takers
 use Rattle.stream_choice.specs.Granting.{granted}
 use Rattle.stream_choice.specs.Laws.{NeverMore}
-use Rattle.session_intake.specs.Asked.{Asked}
+use Rattle.session_intake.specs.Asked as budgets
 use Rattle.session_intake.specs.Datagrams.{seen_in}
 use Rattle.session_intake.specs.declared.seen.Seen.{Seen}
 use Rattle.session_intake.specs.declared.seen.Cause.{Cause}
 use Rattle.session_runs.specs.Histories.{Config}
-use Rattle.call_session.specs.Sessions.{Datagram, Entry, State, Turn, after_grant, after_reading, asked_for, at, is_looked_at, outcome_of_grant, outcome_of_reading, session_run, taker_in}
+use Rattle.call_session.specs.Sessions.{Anew, Asked, Datagram, DatagramOf, Ended, Entry, State, Turn, after_grant, after_reading, asked_for, at, is_looked_at, outcome_of_grant, outcome_of_reading, seen_of_one, session_run, taker_in}
 use Rattle.session_laws.specs.Bounded.{taken, taken_if}
 
 abbrev in_second : ℕ → ℕ → Bool
@@ -21,7 +21,7 @@ abbrev few : (ℕ → Bool) → List ℕ → ℕ
 few p asked = count_by p (granted 12000 asked)
 
 -- those that were granted of all three budgets
-abbrev all_few : (ℕ → Bool) → Asked → ℕ
+abbrev all_few : (ℕ → Bool) → budgets.Asked → ℕ
 all_few p a = few p a.followed + few p a.former + few p a.others
 
 one_more : (p : ℕ → Bool) (n : ℕ) (ns : List ℕ) → count_by p (n ∷ ns) ≡ cond (p n) 1 0 + count_by p ns
@@ -54,7 +54,7 @@ by_grant true takers.Tried p c seen own st ts ns k h = (grown p st.now ts ns k h
 by_grant true takers.Begins p c seen own st ts ns k h = (grown p st.now ts ns k h).1
 by_grant true takers.NoRun p c seen own st ts ns k h = (grown p st.now ts ns k h).0
 
-abbrev Bound : (ℕ → Bool) → List ℕ → Asked → Type 0
+abbrev Bound : (ℕ → Bool) → List ℕ → budgets.Asked → Type 0
 Bound p ts a = count_by p ts ≤ all_few p a
 
 same_bound : (a b c d e : ℕ) → a ≤ b + c → b + c ≡ d → a ≤ d
@@ -108,7 +108,12 @@ bound : (p : ℕ → Bool) (c : Config) (past : List Entry) → Bound p (taken c
 bound p c [] = omega arith
 bound p c (Datagram bytes now ∷ past) =
     by_reading (seen_in c.params bytes) p c (renamed bytes) (at now (session_run c past)) (taken c past) (bound p c past)
+bound p c (DatagramOf only bytes now ∷ past) =
+    by_reading (seen_of_one c only bytes) p c (renamed bytes) (at now (session_run c past)) (taken c past) (bound p c past)
 bound p c (Turn now ∷ past) = bound p c past
+bound p c (Asked round_trip now ∷ past) = bound p c past
+bound p c (Ended source now ∷ past) = bound p c past
+bound p c (Anew now ∷ past) = bound p c past
 
 pub few_taken : NeverMore → (c : Config) (past : List Entry) (second : ℕ)
     → count_by (λ time. eqb (time / 1000000000) second) (taken c past) ≤ 36000

@@ -1,8 +1,8 @@
 -- What its own packets and the turns make of the stream that is followed.
-use Rattle.std.proofs.Common.{◌≡◌, ℕ, Bool, true, false, cond, eqb, List, [], ◌∷◌, Option, Some, None, Result, Ok, Err, refl, ap, ◌∙◌}
+use Rattle.std.proofs.Common.{◌≡◌, ℕ, Bool, true, false, cond, eqb, List, [], ◌∷◌, Option, Some, None, Result, Ok, Err, refl, ap, sym, ◌∙◌}
 use Rattle.std.specs.Prelude.{is_some}
 use Rattle.std.specs.Option.{option_map}
-use Rattle.std.proofs.lemmas.Bool.{eqb-true}
+use Rattle.std.proofs.lemmas.Bool.{eq-eqb, eqb-true, true≢false}
 use Rattle.h263_types.specs.declared.Mark.{Mark}
 use Rattle.h263_types.specs.declared.Mark.TheVariants as marks
 use Rattle.receiver_end.specs.Answers.{mark_of}
@@ -13,14 +13,15 @@ use Rattle.stream_choice.specs.declared.streams.Taker.{Taker}
 use Rattle.stream_choice.specs.declared.streams.Taker.TheVariants as takers
 use Rattle.stream_choice.specs.Choice as choice
 use Rattle.stream_choice.specs.Granting.{is_granted}
+use Rattle.packet_gaps.specs.declared.moment.Moment.{Moment}
 use Rattle.session_intake.specs.Counts as counting
 use Rattle.session_intake.specs.declared.seen.Seen.{Seen}
 use Rattle.session_intake.specs.declared.seen.Cause.{Cause}
 use Rattle.session_intake.specs.declared.seen.Cause.TheVariants as causes
-use Rattle.session_runs.specs.Histories.{Config, History, after_packet, after_play, answer_in, entries_in, is_complete, is_due_in, ready}
+use Rattle.session_runs.specs.Histories.{Config, History, after_nack, after_packet, after_play, answer_in, entries_in, is_complete, is_due_in, moment_in, nack_at, ready}
 use Rattle.session_runs.specs.Following.{Follows, completed_if, is_run_due}
-use Rattle.call_session.specs.Sessions.{Dropped, Outcome, State, Taken, after_grant, after_played, after_reading, after_seen, asked_for, is_looked_at, outcome_of_grant, outcome_of_reading, outcome_of_seen, played_run, taker_in}
-use Rattle.session_laws.specs.Undisturbed.{Followed, OfPlay, Said, followed_in, is_from, play_in, said_of_play}
+use Rattle.call_session.specs.Sessions.{Dropped, Outcome, State, Taken, after_ended, after_grant, after_missing, after_played, after_reading, after_seen, asked_for, is_looked_at, missing_at, outcome_of_grant, outcome_of_reading, outcome_of_seen, played_run, taker_in}
+use Rattle.session_laws.specs.Undisturbed.{Followed, OfNack, OfPlay, Said, followed_in, is_from, play_in, said_of_play}
 use Rattle.session_laws.proofs.Others.{same_parts}
 
 -- ---- its packets
@@ -160,7 +161,7 @@ with_line line v =
 abbrev shown : Bool → Config → ℕ → Followed → Followed
 shown false c now v = v
 shown true c now v =
-    marked (mark_of (mark_after c.params (entries_in c v.line))) (with_line (after_play now v.line) v)
+    marked (mark_of (mark_after c.params (entries_in c v.line))) (with_line (after_play c now v.line) v)
 
 -- by what there is of it alone
 abbrev pub after_turn : Config → ℕ → Followed → Followed
@@ -191,7 +192,7 @@ by_due : (b1 b2 b3 : Bool) (c : Config) (st : State)
     ≡ shown b1 c st.now (followed_in st)
 by_due true b2 b3 c st =
     counts_marked (mark_of (mark_after c.params (entries_in c st.follows.lines.followed)))
-    (after_play st.now st.follows.lines.followed) st
+    (after_play c st.now st.follows.lines.followed) st
 by_due false b2 b3 c st = rest_kept b2 b3 c st
 
 pub by_turn : (c : Config) (st : State)
@@ -208,7 +209,7 @@ marked_of marks.Held v = refl
 shown_of : (d : Bool) (c : Config) (now : ℕ) (v : Followed) → (shown d c now v).stream ≡ v.stream
 shown_of false c now v = refl
 shown_of true c now v =
-    marked_of (mark_of (mark_after c.params (entries_in c v.line))) (with_line (after_play now v.line) v)
+    marked_of (mark_of (mark_after c.params (entries_in c v.line))) (with_line (after_play c now v.line) v)
 
 pub of_turn : (c : Config) (now : ℕ) (v : Followed) → (after_turn c now v).stream ≡ v.stream
 of_turn c now v = shown_of (due c now v) c now v
@@ -229,3 +230,65 @@ pub said_at_turn : (c : Config) (st : State) → said_of_play c (played_run c st
 said_at_turn c st =
     said_by (is_run_due c runs.Followed st.now st.follows) (is_run_due c runs.Former st.now st.follows)
     (is_run_due c runs.Tried st.now st.follows) c st
+
+-- ---- what is asked for of it
+
+abbrev moment : Config → ℕ → ℕ → Followed → Option Moment
+moment c round_trip now v =
+    cond (is_some (option_map (λ s. s.source) v.stream)) (moment_in c round_trip now v.line) None
+
+abbrev pub asked : Config → ℕ → ℕ → Followed → List Said
+asked c round_trip now v = OfNack (nack_at (moment c round_trip now v) v.line) ∷ []
+
+-- by what there is of it alone
+abbrev pub after_asked : Config → ℕ → ℕ → Followed → Followed
+after_asked c round_trip now v = with_line (after_nack (moment c round_trip now v) v.line) v
+
+pub by_asked : (c : Config) (round_trip : ℕ) (st : State)
+    → followed_in (after_missing c round_trip st) ≡ after_asked c round_trip st.now (followed_in st)
+by_asked c round_trip st = refl
+
+pub said_at_asked : (c : Config) (round_trip : ℕ) (st : State)
+    → OfNack (missing_at c round_trip st) ∷ [] ≡ asked c round_trip st.now (followed_in st)
+said_at_asked c round_trip st = refl
+
+-- ---- ends
+
+-- by what there is of it alone
+abbrev pub after_end : ℕ → ℕ → Followed → Followed
+after_end other now v =
+    record {
+      stream = choice.ended_if v.stream other now;
+      line = v.line;
+      asked = v.asked;
+      exact = v.exact;
+      patched = v.patched;
+      held = v.held;
+    }
+
+pub by_end : (other : ℕ) (st : State) → followed_in (after_ended other st) ≡ after_end other st.now (followed_in st)
+by_end other st = refl
+
+-- its SSRC stays
+ended_source : (b : Bool) (f : Stream) (now source : ℕ)
+    → choice.is_of (cond b (Some (choice.ended now f)) (Some f)) source ≡ eqb f.source source
+ended_source true f now source = refl
+ended_source false f now source = refl
+
+pub of_end : (o : Option Stream) (other now source : ℕ)
+    → choice.is_of (choice.ended_if o other now) source ≡ choice.is_of o source
+of_end None other now source = refl
+of_end (Some f) other now source = ended_source (eqb f.source other) f now source
+
+-- an end of another stream leaves it
+others_end : (b : Bool) (f : Stream) (other now : ℕ) → (b ≡ true → f.source ≡ other) → (f.source ≡ other → ⊥)
+    → cond b (Some (choice.ended now f)) (Some f) ≡ Some f
+others_end false f other now e n = refl
+others_end true f other now e n = absurd (n (e refl))
+
+pub left_by_end : (o : Option Stream) (other now source : ℕ) → choice.is_of o source ≡ true → eqb other source ≡ false
+    → choice.ended_if o other now ≡ o
+left_by_end None other now source h e = refl
+left_by_end (Some f) other now source h e =
+    others_end (eqb f.source other) f other now (eqb-true f.source other)
+    (λ same. true≢false (sym (eq-eqb other source (sym same ∙ eqb-true f.source source h)) ∙ e))

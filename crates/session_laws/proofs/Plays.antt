@@ -19,7 +19,7 @@ use Rattle.stream_run.specs.Entries.{heard_of}
 use Rattle.session_runs.specs.Histories.{Config, History, is_due_in, next_in, timed_in}
 use Rattle.session_runs.specs.Lines.{line_of}
 use Rattle.session_runs.specs.Following.{Follows, is_run_due, run_due}
-use Rattle.call_session.specs.Sessions.{Datagram, Entry, State, Turn, at, played_run, session_run}
+use Rattle.call_session.specs.Sessions.{Anew, Asked, Datagram, DatagramOf, Ended, Entry, State, Turn, at, played_run, session_run}
 use Rattle.session_laws.specs.Bounded.{HasWaited, IsDue, Played, newest_number, played_at, plays, time_due, turns}
 use Rattle.session_laws.proofs.Newest.{Back, after_later, in_order, is_past, is_small, onto}
 use Rattle.session_laws.proofs.Reaching.{AreFine, Fine, at_fine, line_fine, lines_fine}
@@ -121,6 +121,10 @@ played_due (Some run) c st l x e h = (
 all_due : (c : Config) (past : List Entry) → AllByRecursion (IsDue c) (plays c past)
 all_due c [] = tt
 all_due c (Datagram bytes now ∷ past) = all_due c past
+all_due c (DatagramOf only bytes now ∷ past) = all_due c past
+all_due c (Asked round_trip now ∷ past) = all_due c past
+all_due c (Ended source now ∷ past) = all_due c past
+all_due c (Anew now ∷ past) = all_due c past
 all_due c (Turn now ∷ past) =
     let st = session_run c past in
     let a = at now st in
@@ -133,6 +137,10 @@ one_each (Some run) st l n h = omega arith
 no_more : (c : Config) (past : List Entry) → length (plays c past) ≤ turns past
 no_more c [] = omega arith
 no_more c (Datagram bytes now ∷ past) = no_more c past
+no_more c (DatagramOf only bytes now ∷ past) = no_more c past
+no_more c (Asked round_trip now ∷ past) = no_more c past
+no_more c (Ended source now ∷ past) = no_more c past
+no_more c (Anew now ∷ past) = no_more c past
 no_more c (Turn now ∷ past) =
     let a = at now (session_run c past) in
     one_each (played_run c a) a (plays c past) (turns past) (no_more c past)

@@ -18,6 +18,7 @@ use Rattle.stream_numbers.specs.declared.packet.Packet.{Packet}
 use Rattle.stream_numbers.specs.declared.stepping.Step.{Step}
 use Rattle.stream_numbers.specs.Placing.{step_of}
 use Rattle.stream_numbers.specs.Streams.{kept, newest_after}
+use Rattle.packet_gaps.specs.declared.moment.Moment.{Moment}
 use Rattle.playout_times.specs.declared.arrival.Arrival.{Arrival}
 use Rattle.receiver_end.specs.State.{answer_after}
 use Rattle.timed_receiver.specs.Timed as timed
@@ -25,11 +26,11 @@ use Rattle.stream_run.specs.Entries.{heard_of, with_place}
 use Rattle.session_intake.specs.Datagrams.{seen_in}
 use Rattle.session_intake.specs.declared.seen.Seen.{Seen}
 use Rattle.session_intake.specs.declared.seen.Cause.{Cause}
-use Rattle.session_runs.specs.Histories.{Ahead, Config, History, IsHeard, after_packet, after_play, answer_at, answer_in, begun, is_complete, is_heard, must_begin, ready, timed_in, until_after}
-use Rattle.session_runs.specs.Lines.{Lines, line_of, made_ready, run_of, turned, with_line}
+use Rattle.session_runs.specs.Histories.{Ahead, Config, History, IsHeard, after_nack, after_packet, after_play, answer_at, answer_in, begun, is_complete, is_heard, must_begin, ready, timed_in, until_after}
+use Rattle.session_runs.specs.Lines.{Lines, begun_lines, line_of, made_ready, run_of, turned, with_line}
 use Rattle.session_runs.specs.declared.unheard.Unheard.{Unheard}
 use Rattle.session_runs.specs.Unheard.{after_heard as unheard_after}
-use Rattle.session_runs.specs.Following.{Follows, after_run, completed_if}
+use Rattle.session_runs.specs.Following.{Follows, after_run, completed_if, moment_of}
 use Rattle.call_session.specs.Sessions as session
 use Rattle.session_laws.specs.Bounded.{newest_number, number_of}
 use Rattle.session_laws.proofs.Newest.{Back, StepsTo, back_later, steps}
@@ -149,8 +150,13 @@ packet_fine c packet bytes now h x =
       since = since_after (is_heard (answer_in c packet bytes now h)) now h.unheard x.since;
     }
 
-play_fine : (c : Config) (now : ℕ) (h : History) → Fine c now h → Fine c now (after_play now h)
+play_fine : (c : Config) (now : ℕ) (h : History) → Fine c now h → Fine c now (after_play c now h)
 play_fine c now h x = record { order = x.order; heard = x.heard; until = x.until; since = x.since }
+
+-- asking for its packets changes nothing of it
+nack_fine : (o : Option Moment) (c : Config) (now : ℕ) (h : History) → Fine c now h → Fine c now (after_nack o h)
+nack_fine None c now h x = x
+nack_fine (Some m) c now h x = record { order = x.order; heard = x.heard; until = x.until; since = x.since }
 
 -- ---- all three
 
@@ -233,8 +239,23 @@ played_fine : (o : Option Run) (c : Config) (st : session.State) → AreFine c s
     → AreFine c st.now (session.after_played c o st).follows.lines
 played_fine None c st x = x
 played_fine (Some run) c st x =
-    with_fine run c st.now (after_play st.now (line_of run st.follows.lines)) st.follows.lines
+    with_fine run c st.now (after_play c st.now (line_of run st.follows.lines)) st.follows.lines
     (play_fine c st.now (line_of run st.follows.lines) (line_fine run c st.now st.follows.lines x)) x
+
+anew_fine : (c : Config) (now : ℕ) → AreFine c now (begun_lines now)
+anew_fine c now =
+    record {
+      followed = begun_fine c now now 0 (omega arith);
+      former = begun_fine c now now 0 (omega arith);
+      tried = begun_fine c now now 0 (omega arith);
+    }
+
+missing_fine : (c : Config) (round_trip : ℕ) (st : session.State) → AreFine c st.now st.follows.lines
+    → AreFine c st.now (session.after_missing c round_trip st).follows.lines
+missing_fine c round_trip st x =
+    with_fine runs.Followed c st.now (after_nack (moment_of c round_trip st.now st.follows) st.follows.lines.followed)
+    st.follows.lines
+    (nack_fine (moment_of c round_trip st.now st.follows) c st.now st.follows.lines.followed x.followed) x
 
 -- ---- whatever came
 
@@ -256,6 +277,15 @@ pub at_fine : (c : Config) (now : ℕ) (st : session.State) → AreFine c st.now
     → AreFine c (session.time_of st.now now) st.follows.lines
 at_fine c now st x = lines_later c st.now (session.time_of st.now now) st.follows.lines (no_later st.now now) x
 
+datagram_fine : (r : Result Seen Cause) (c : Config) (own : List ℕ) (a : session.State) → AreFine c a.now a.follows.lines
+    → AreFine c (session.after_reading c r own a).now (session.after_reading c r own a).follows.lines
+datagram_fine r c own a x =
+    lines_later c a.now (session.after_reading c r own a).now (session.after_reading c r own a).follows.lines
+    (same a.now (session.after_reading c r own a).now (reading_now r c own a)) (reading_fine r c own a x)
+  where
+    same : (a b : ℕ) → b ≡ a → a ≤ b
+    same a b e = omega arith
+
 pub lines_fine : (c : Config) (past : List session.Entry)
     → AreFine c (session.session_run c past).now (session.session_run c past).follows.lines
 lines_fine c [] =
@@ -266,16 +296,17 @@ lines_fine c [] =
     }
 lines_fine c (session.Datagram bytes now ∷ past) =
     let st = session.session_run c past in
-    let a = session.at now st in
-    let r = seen_in c.params bytes in
-    lines_later c a.now (session.after_reading c r (renamed bytes) a).now
-    (session.after_reading c r (renamed bytes) a).follows.lines
-    (same a.now (session.after_reading c r (renamed bytes) a).now (reading_now r c (renamed bytes) a))
-    (reading_fine r c (renamed bytes) a (at_fine c now st (lines_fine c past)))
-  where
-    same : (a b : ℕ) → b ≡ a → a ≤ b
-    same a b e = omega arith
+    datagram_fine (seen_in c.params bytes) c (renamed bytes) (session.at now st) (at_fine c now st (lines_fine c past))
+lines_fine c (session.DatagramOf only bytes now ∷ past) =
+    let st = session.session_run c past in
+    datagram_fine (session.seen_of_one c only bytes) c (renamed bytes) (session.at now st)
+    (at_fine c now st (lines_fine c past))
 lines_fine c (session.Turn now ∷ past) =
     let st = session.session_run c past in
     let a = session.at now st in
     played_fine (session.played_run c a) c a (at_fine c now st (lines_fine c past))
+lines_fine c (session.Asked round_trip now ∷ past) =
+    let st = session.session_run c past in
+    missing_fine c round_trip (session.at now st) (at_fine c now st (lines_fine c past))
+lines_fine c (session.Ended source now ∷ past) = at_fine c now (session.session_run c past) (lines_fine c past)
+lines_fine c (session.Anew now ∷ past) = anew_fine c (session.time_of (session.session_run c past).now now)

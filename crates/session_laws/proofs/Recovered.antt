@@ -98,6 +98,24 @@ module _ {P : Stream → Type 0} {Q : Trial → Type 0} where
       subst (λ (s : Streams). Each P Q s) (sym (seen_streams g c seen own st))
       (granted_each g c seen own st t (shows_in seen st) (k seen refl) x)
 
+-- ---- ends
+
+module _ {P : Stream → Type 0} {Q : Trial → Type 0} where
+  ended_if : (b : Bool) (now : ℕ) (f : Stream) → P f → P (choice.ended now f)
+      → MatchOption (cond b (Some (choice.ended now f)) (Some f)) (Unit {0}) P
+  ended_if true now f h e = e
+  ended_if false now f h e = h
+
+  ended_one : (o : Option Stream) (source now : ℕ) → ((f : Stream) → P f → P (choice.ended now f))
+      → MatchOption o (Unit {0}) P → MatchOption (choice.ended_if o source now) (Unit {0}) P
+  ended_one None source now k h = tt
+  ended_one (Some f) source now k h = ended_if (eqb f.source source) now f h (k f h)
+
+  ended_each : (st : Streams) (source now : ℕ) → ((f : Stream) → P f → P (choice.ended now f)) → Each P Q st
+      → Each P Q (choice.after_end st source now)
+  ended_each st source now k x =
+      record { followed = ended_one st.followed source now k x.followed; former = x.former; tried = x.tried }
+
 pub played_streams : (o : Option Run) (c : Config) (st : session.State)
     → (session.after_played c o st).follows.streams ≡ st.follows.streams
 played_streams None c st = refl
@@ -139,6 +157,9 @@ each_later st then now i x =
       tried = began_later st.tried then now i x.tried;
     }
 
+ended_last : (then now : ℕ) (f : Stream) → Last then f → Last then (choice.ended now f)
+ended_last then now f h = omega arith
+
 all_past : (c : Config) (past : List session.Entry) → InOrder past
     → Each (Last (newest_time past)) (Began (newest_time past)) (session.session_run c past).follows.streams
 all_past c [] o = record { followed = tt; former = tt; tried = tt }
@@ -148,6 +169,20 @@ all_past c (session.Datagram bytes now ∷ past) o =
     reading_each (seen_in c.params bytes) c (renamed bytes) (session.at now st)
     (λ seen f. subst (λ (n : ℕ). Keeps (Last now) (Began now) seen.source n) (sym e) (keeps_last seen.source now))
     (each_later st.follows.streams (newest_time past) now o.0 (all_past c past o.2))
+all_past c (session.DatagramOf only bytes now ∷ past) o =
+    let st = session.session_run c past in
+    let e = set_to st.now (newest_time past) now (reached c past o.2) o.0 o.1 in
+    reading_each (session.seen_of_one c only bytes) c (renamed bytes) (session.at now st)
+    (λ seen f. subst (λ (n : ℕ). Keeps (Last now) (Began now) seen.source n) (sym e) (keeps_last seen.source now))
+    (each_later st.follows.streams (newest_time past) now o.0 (all_past c past o.2))
+all_past c (session.Asked round_trip now ∷ past) o =
+    let st = session.session_run c past in
+    each_later st.follows.streams (newest_time past) now o.0 (all_past c past o.2)
+all_past c (session.Ended source now ∷ past) o =
+    let st = session.session_run c past in
+    ended_each st.follows.streams source (session.time_of st.now now) (ended_last now (session.time_of st.now now))
+    (each_later st.follows.streams (newest_time past) now o.0 (all_past c past o.2))
+all_past c (session.Anew now ∷ past) o = record { followed = tt; former = tt; tried = tt }
 all_past c (session.Turn now ∷ past) o =
     let st = session.session_run c past in
     subst (λ (s : Streams). Each (Last now) (Began now) s)
@@ -175,15 +210,29 @@ quiet (Ok seen) c own st e =
     let g = session.is_looked_at t st in
     seen_streams g c seen own st ∙ quiet_by t g c seen own st e
 
-all_quiet : (c : Config) (before es : List session.Entry) → NoneTaken c before es
-    → (session.session_run c (es ++ before)).follows.streams ≡ (session.session_run c before).follows.streams
-all_quiet c before [] q = refl
-all_quiet c before (session.Datagram bytes now ∷ es) q =
-    quiet (seen_in c.params bytes) c (renamed bytes) (session.at now (session.session_run c (es ++ before))) q.0
-    ∙ all_quiet c before es q.1
-all_quiet c before (session.Turn now ∷ es) q =
+quiet_each : (c : Config) (then : ℕ) (before es : List session.Entry)
+    → Each (Last then) (Began then) (session.session_run c before).follows.streams → NoneTaken c before es
+    → Each (Last then) (Began then) (session.session_run c (es ++ before)).follows.streams
+quiet_each c then before [] x q = x
+quiet_each c then before (session.Datagram bytes now ∷ es) x q =
+    subst (λ (s : Streams). Each (Last then) (Began then) s)
+    (sym (quiet (seen_in c.params bytes) c (renamed bytes) (session.at now (session.session_run c (es ++ before))) q.0))
+    (quiet_each c then before es x q.1)
+quiet_each c then before (session.DatagramOf only bytes now ∷ es) x q =
+    subst (λ (s : Streams). Each (Last then) (Began then) s)
+    (sym (quiet (session.seen_of_one c only bytes) c (renamed bytes)
+    (session.at now (session.session_run c (es ++ before))) q.0))
+    (quiet_each c then before es x q.1)
+quiet_each c then before (session.Turn now ∷ es) x q =
     let a = session.at now (session.session_run c (es ++ before)) in
-    played_streams (session.played_run c a) c a ∙ all_quiet c before es q
+    subst (λ (s : Streams). Each (Last then) (Began then) s) (sym (played_streams (session.played_run c a) c a))
+    (quiet_each c then before es x q)
+quiet_each c then before (session.Asked round_trip now ∷ es) x q = quiet_each c then before es x q
+quiet_each c then before (session.Ended source now ∷ es) x q =
+    let st = session.session_run c (es ++ before) in
+    ended_each st.follows.streams source (session.time_of st.now now) (ended_last then (session.time_of st.now now))
+    (quiet_each c then before es x q)
+quiet_each c then before (session.Anew now ∷ es) x q = record { followed = tt; former = tt; tried = tt }
 
 dropped_by : (t : Taker) (g : Bool) (c : Config) (seen : Seen) (own : List ℕ) (st : session.State)
     → session.outcome_of_grant c seen t own g st ≡ session.Dropped causes.OtherStream → t ≡ takers.NoRun
@@ -235,8 +284,7 @@ never_shut_out law c source before es bytes now o q i f e =
     let st = session.session_run c (es ++ before) in
     shut_by law (seen_in c.params bytes) c source (newest_time before) now (renamed bytes) (session.at now st) f
     (set_to st.now (newest_time (es ++ before)) now (reached c (es ++ before) o.2) o.0 o.1) i
-    (subst (λ (s : Streams). Each (Last (newest_time before)) (Began (newest_time before)) s)
-    (sym (all_quiet c before es q)) (all_past c before (order_of es before o.2))) e
+    (quiet_each c (newest_time before) before es (all_past c before (order_of es before o.2)) q) e
 
 -- ---- followed again
 
@@ -271,6 +319,13 @@ alone_source r source seen f e =
     eqb-true seen.source source (not-false (eqb seen.source source)
     (sym (ap (λ (x : Result Seen Cause). is_from_other source x) e) ∙ f))
 
+ended_old : (source then now : ℕ) (f : Stream) → Old source then f → Old source then (choice.ended now f)
+ended_old source then now f h =
+    ⊎_elim
+    (λ (e : f.source ≡ source). inl e)
+    (λ (i : f.last ≤ then). inr (ended_last then now f i))
+    h
+
 all_old : (c : Config) (source : ℕ) (before es : List session.Entry) → InOrder before → IsAlone c source es
     → Each (Old source (newest_time before)) Any (session.session_run c (es ++ before)).follows.streams
 all_old c source before [] o a =
@@ -287,6 +342,18 @@ all_old c source before (session.Datagram bytes now ∷ es) o a =
     (λ seen e. keeps_old source seen.source (newest_time before) st.now
     (alone_source (seen_in c.params bytes) source seen a.0 e))
     (all_old c source before es o a.1)
+all_old c source before (session.DatagramOf only bytes now ∷ es) o a =
+    let st = session.at now (session.session_run c (es ++ before)) in
+    reading_each (session.seen_of_one c only bytes) c (renamed bytes) st
+    (λ seen e. keeps_old source seen.source (newest_time before) st.now
+    (alone_source (session.seen_of_one c only bytes) source seen a.0 e))
+    (all_old c source before es o a.1)
+all_old c source before (session.Asked round_trip now ∷ es) o a = all_old c source before es o a
+all_old c source before (session.Ended other now ∷ es) o a =
+    let st = session.session_run c (es ++ before) in
+    ended_each st.follows.streams other (session.time_of st.now now)
+    (ended_old source (newest_time before) (session.time_of st.now now)) (all_old c source before es o a)
+all_old c source before (session.Anew now ∷ es) o a = record { followed = tt; former = tt; tried = tt }
 all_old c source before (session.Turn now ∷ es) o a =
     let st = session.at now (session.session_run c (es ++ before)) in
     subst (λ (s : Streams). Each (Old source (newest_time before)) Any s)

@@ -14,7 +14,7 @@ use Rattle.timed_receiver.specs.Timed.{arrivals_of}
 use Rattle.stream_run.specs.Entries.{heard_of}
 use Rattle.session_runs.specs.Histories.{Config, History, next_in, timed_in}
 use Rattle.session_runs.specs.Lines.{line_of}
-use Rattle.call_session.specs.Sessions.{Datagram, Dropped, Entry, Outcome, State, Taken, Turn, at, outcome_of, played_run, session_run, time_of}
+use Rattle.call_session.specs.Sessions.{Anew, Asked, Datagram, DatagramOf, Dropped, Ended, Entry, Outcome, State, Taken, Turn, at, outcome_of, outcome_of_one, played_run, session_run, time_of}
 
 -- ---- packets
 
@@ -24,7 +24,12 @@ taken_if (Taken run source answer) now = now ∷ []
 
 abbrev pub taken_with : Config → Entry → State → List ℕ
 taken_with c (Datagram bytes now) st = taken_if (outcome_of c bytes now st) (time_of st.now now)
+taken_with c (DatagramOf source bytes now) st =
+    taken_if (outcome_of_one c source bytes now st) (time_of st.now now)
 taken_with c (Turn now) st = []
+taken_with c (Asked round_trip now) st = []
+taken_with c (Ended source now) st = []
+taken_with c (Anew now) st = []
 
 -- when packets were taken by a run
 abbrev pub taken : Config → List Entry → List ℕ
@@ -50,8 +55,12 @@ played_at None st = []
 played_at (Some run) st = record { line = line_of run st.follows.lines; now = st.now } ∷ []
 
 abbrev pub played_with : Config → Entry → State → List Played
-played_with c (Datagram bytes now) st = []
 played_with c (Turn now) st = played_at (played_run c (at now st)) (at now st)
+played_with c (Datagram bytes now) st = []
+played_with c (DatagramOf source bytes now) st = []
+played_with c (Asked round_trip now) st = []
+played_with c (Ended source now) st = []
+played_with c (Anew now) st = []
 
 abbrev pub plays : Config → List Entry → List Played
 plays c [] = []
@@ -59,8 +68,12 @@ plays c (e ∷ past) = played_with c e (session_run c past) ++ plays c past
 
 abbrev pub turns : List Entry → ℕ
 turns [] = 0
-turns (Datagram bytes now ∷ past) = turns past
 turns (Turn now ∷ past) = turns past + 1
+turns (Datagram bytes now ∷ past) = turns past
+turns (DatagramOf source bytes now ∷ past) = turns past
+turns (Asked round_trip now ∷ past) = turns past
+turns (Ended source now ∷ past) = turns past
+turns (Anew now ∷ past) = turns past
 
 abbrev pub number_of : Option Newest → ℕ
 number_of None = 0

@@ -18,7 +18,7 @@ use Rattle.session_intake.specs.declared.seen.Cause.TheVariants as causes
 use Rattle.session_intake.specs.Datagrams.{seen_in}
 use Rattle.session_runs.specs.Histories.{Config, History, IsHeard, after_packet, answer_in, begun, is_complete, is_heard, must_begin, next_in, ready, timed_in}
 use Rattle.session_runs.specs.Lines.{line_of}
-use Rattle.call_session.specs.Sessions.{Datagram, Dropped, Entry, Outcome, Taken, Turn, outcome_of, session_run}
+use Rattle.call_session.specs.Sessions.{Anew, Asked, Datagram, DatagramOf, Dropped, Ended, Entry, Outcome, Taken, Turn, outcome_of, outcome_of_one, seen_of_one, session_run}
 use Rattle.session_laws.specs.Undisturbed.{InOrder, is_from, is_from_other, newest_time}
 
 -- ---- taken again
@@ -32,7 +32,12 @@ abbrev pub NoneTaken : Config → List Entry → List Entry → Type 0
 NoneTaken c before [] = Unit {0}
 NoneTaken c before (Datagram bytes now ∷ es) =
     (is_taken (outcome_of c bytes now (session_run c (es ++ before))) ≡ false) × NoneTaken c before es
+NoneTaken c before (DatagramOf only bytes now ∷ es) =
+    (is_taken (outcome_of_one c only bytes now (session_run c (es ++ before))) ≡ false) × NoneTaken c before es
 NoneTaken c before (Turn now ∷ es) = NoneTaken c before es
+NoneTaken c before (Asked round_trip now ∷ es) = NoneTaken c before es
+NoneTaken c before (Ended source now ∷ es) = NoneTaken c before es
+NoneTaken c before (Anew now ∷ es) = NoneTaken c before es
 
 -- Whatever came before: once no packet was taken for a second and a half, the next packet of any stream
 -- isn't dropped for another's sake.
@@ -52,7 +57,12 @@ abbrev pub IsAlone : Config → ℕ → List Entry → Type 0
 IsAlone c source [] = Unit {0}
 IsAlone c source (Datagram bytes now ∷ es) =
     (is_from_other source (seen_in c.params bytes) ≡ false) × IsAlone c source es
+IsAlone c source (DatagramOf only bytes now ∷ es) =
+    (is_from_other source (seen_of_one c only bytes) ≡ false) × IsAlone c source es
 IsAlone c source (Turn now ∷ es) = IsAlone c source es
+IsAlone c source (Asked round_trip now ∷ es) = IsAlone c source es
+IsAlone c source (Ended other now ∷ es) = IsAlone c source es
+IsAlone c source (Anew now ∷ es) = IsAlone c source es
 
 -- with this packet a picture of its run is complete
 abbrev pub completes : Outcome → Bool

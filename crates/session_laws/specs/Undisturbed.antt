@@ -12,13 +12,18 @@ use Rattle.session_intake.specs.declared.seen.Seen.{Seen}
 use Rattle.session_intake.specs.declared.seen.Cause.{Cause}
 use Rattle.session_intake.specs.Datagrams.{seen_in}
 use Rattle.session_runs.specs.Histories.{Config, History, entries_in, next_in}
-use Rattle.call_session.specs.Sessions.{Datagram, Entry, Outcome, State, Turn, at, outcome_of, played_run, session_run}
+use Rattle.packet_gaps.specs.declared.gaps.Nack.{Nack}
+use Rattle.call_session.specs.Sessions.{Anew, Asked, Datagram, DatagramOf, Ended, Entry, Outcome, State, Turn, at, missing_at, outcome_of, outcome_of_one, played_run, seen_of_one, session_run}
 
 -- ---- the caller's clock
 
 abbrev pub time_in : Entry → ℕ
 time_in (Datagram bytes now) = now
+time_in (DatagramOf source bytes now) = now
 time_in (Turn now) = now
+time_in (Asked round_trip now) = now
+time_in (Ended source now) = now
+time_in (Anew now) = now
 
 abbrev pub newest_time : List Entry → ℕ
 newest_time [] = 0
@@ -41,13 +46,17 @@ abbrev pub is_from_other : ℕ → Result Seen Cause → Bool
 is_from_other source (Err cause) = false
 is_from_other source (Ok seen) = not (seen.source == source)
 
--- of this stream, or a turn, which is nobody's
+-- of this stream, or the caller's own
 abbrev pub is_own : Config → ℕ → Entry → Bool
 is_own c source (Datagram bytes now) = is_from source (seen_in c.params bytes)
+is_own c source (DatagramOf only bytes now) = is_from source (seen_of_one c only bytes)
 is_own c source (Turn now) = true
+is_own c source (Asked round_trip now) = true
+is_own c source (Ended other now) = other == source
+is_own c source (Anew now) = true
 
--- what is left without what others send: packets of other streams, and what is no packet of the
--- call's pictures
+-- what is left without what others send: packets and ends of other streams, and what is no packet of
+-- the call's pictures
 abbrev pub own_of : Config → ℕ → List Entry → List Entry
 own_of c source es = filter (is_own c source) es
 
@@ -69,10 +78,11 @@ play_in c h =
       picture = (run_of c.params (PlayNext ∷ entries_in c h)).screen;
     }
 
--- of a packet of it, whether it is taken and what it is answered; or a play
+-- of a packet of it, whether it is taken and what it is answered; or a play; or what is asked for
 pub data Said : Type 0 where
   OfPacket : (outcome : Outcome) → Said
   OfPlay : (play : Play) → Said
+  OfNack : (nack : Option Nack) → Said
 
 abbrev pub said_of_packet : Bool → Outcome → List Said
 said_of_packet true outcome = OfPacket outcome ∷ []
@@ -87,10 +97,15 @@ said_of_play c (Some runs.Tried) st = []
 abbrev pub said_with : Config → ℕ → Entry → State → List Said
 said_with c source (Datagram bytes now) st =
     said_of_packet (is_from source (seen_in c.params bytes)) (outcome_of c bytes now st)
+said_with c source (DatagramOf only bytes now) st =
+    said_of_packet (is_from source (seen_of_one c only bytes)) (outcome_of_one c only bytes now st)
 said_with c source (Turn now) st = said_of_play c (played_run c (at now st)) (at now st)
+said_with c source (Asked round_trip now) st = OfNack (missing_at c round_trip (at now st)) ∷ []
+said_with c source (Ended other now) st = []
+said_with c source (Anew now) st = []
 
--- All that is said of packets of this stream, and of plays of the stream that is followed, with these
--- entries after those before.
+-- All that is said of packets of this stream, of plays of the stream that is followed, and of its
+-- packets that are asked for, with these entries after those before.
 abbrev pub said_of : Config → ℕ → List Entry → List Entry → List Said
 said_of c source before [] = []
 said_of c source before (e ∷ es) =
@@ -137,10 +152,19 @@ pub record IsBeside (seen : Result Seen Cause) (now : ℕ) (followed former : Op
   pub behind : is_of_former former seen ≡ true → is_behind former followed ≡ true
 
 -- So it is whenever a packet of another stream comes: the followed stream as its own packets alone
--- have it.
+-- have it. The call doesn't begin anew.
 abbrev pub StaysLive : Config → ℕ → List Entry → List Entry → Type 0
 StaysLive c source before [] = Unit {0}
 StaysLive c source before (Turn now ∷ es) = StaysLive c source before es
+StaysLive c source before (Asked round_trip now ∷ es) = StaysLive c source before es
+StaysLive c source before (Ended other now ∷ es) = StaysLive c source before es
+StaysLive c source before (Anew now ∷ es) = ⊥
+StaysLive c source before (DatagramOf only bytes now ∷ es) =
+    (is_from_other source (seen_of_one c only bytes) ≡ true
+    → IsBeside (seen_of_one c only bytes) now
+    (session_run c (own_of c source es ++ before)).follows.streams.followed
+    (session_run c (es ++ before)).follows.streams.former)
+    × StaysLive c source before es
 StaysLive c source before (Datagram bytes now ∷ es) =
     (is_from_other source (seen_in c.params bytes) ≡ true
     → IsBeside (seen_in c.params bytes) now
@@ -163,10 +187,17 @@ Undisturbed =
 -- ---- where there is no former stream
 
 -- whenever a packet of another stream comes, a picture of the stream was complete less than half a
--- second ago, as its own packets alone have it
+-- second ago, as its own packets alone have it; and the call doesn't begin anew
 abbrev pub IsLive : Config → ℕ → List Entry → List Entry → Type 0
 IsLive c source before [] = Unit {0}
 IsLive c source before (Turn now ∷ es) = IsLive c source before es
+IsLive c source before (Asked round_trip now ∷ es) = IsLive c source before es
+IsLive c source before (Ended other now ∷ es) = IsLive c source before es
+IsLive c source before (Anew now ∷ es) = ⊥
+IsLive c source before (DatagramOf only bytes now ∷ es) =
+    (is_from_other source (seen_of_one c only bytes) ≡ true
+    → is_live_one (session_run c (own_of c source es ++ before)).follows.streams.followed now ≡ true)
+    × IsLive c source before es
 IsLive c source before (Datagram bytes now ∷ es) =
     (is_from_other source (seen_in c.params bytes) ≡ true
     → is_live_one (session_run c (own_of c source es ++ before)).follows.streams.followed now ≡ true)

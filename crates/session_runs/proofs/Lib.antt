@@ -1,5 +1,6 @@
 mod Answering
 mod Configs
 mod Dues
+mod Moments
 mod Playing
 mod Taking

@@ -70,8 +70,8 @@ not_none c f run now e a =
 
 pub after : (t : ThreeRuns) (c : Config) (f : Follows) (run : Run) (now : ℕ) → Some run ≡ run_due c now f
     → LinesStand t
-    (with_line run (after_play_if (is_due_in c now (line_of run f.lines)) now (line_of run f.lines)) f.lines)
-    → LinesStand t (with_line run (after_play now (line_of run f.lines)) f.lines)
+    (with_line run (after_play_if c (is_due_in c now (line_of run f.lines)) now (line_of run f.lines)) f.lines)
+    → LinesStand t (with_line run (after_play c now (line_of run f.lines)) f.lines)
 after t c f run now e l =
-    subst (λ (x : Bool). LinesStand t (with_line run (after_play_if x now (line_of run f.lines)) f.lines))
+    subst (λ (x : Bool). LinesStand t (with_line run (after_play_if c x now (line_of run f.lines)) f.lines))
     (is_due c run now f (sym e)) l

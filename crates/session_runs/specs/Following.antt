@@ -6,7 +6,9 @@ use Rattle.stream_choice.specs.declared.streams.Run.TheVariants as runs
 use Rattle.stream_choice.specs.declared.streams.Taker.{Taker}
 use Rattle.stream_choice.specs.Choice as choice
 use Rattle.stream_numbers.specs.declared.packet.Packet.{Packet}
-use Rattle.session_runs.specs.Histories.{Answer, Config, after_packet, after_play, answer_in, due_in, is_complete, is_due_in}
+use Rattle.packet_gaps.specs.declared.gaps.Nack.{Nack}
+use Rattle.packet_gaps.specs.declared.moment.Moment.{Moment}
+use Rattle.session_runs.specs.Histories.{Answer, Config, after_nack, after_packet, after_play, answer_in, due_in, is_complete, is_due_in, moment_in, nack_at}
 use Rattle.session_runs.specs.Lines.{Lines, line_of, made_ready, run_of, turned, with_line}
 
 pub record Follows : Type 0 where
@@ -85,10 +87,36 @@ run_due c now f =
     else if is_run_due c runs.Tried now f then Some runs.Tried
     else None
 
-abbrev pub after_play_of : Option Run → ℕ → Follows → Follows
-after_play_of None now f = f
-after_play_of (Some run) now f =
+abbrev pub after_play_of : Config → Option Run → ℕ → Follows → Follows
+after_play_of c None now f = f
+after_play_of c (Some run) now f =
     record {
       streams = f.streams;
-      lines = with_line run (after_play now (line_of run f.lines)) f.lines;
+      lines = with_line run (after_play c now (line_of run f.lines)) f.lines;
     }
+
+-- ---- asking again
+
+-- Packets are asked for of the stream that is followed alone.
+abbrev pub moment_of : Config → ℕ → ℕ → Follows → Option Moment
+moment_of c round_trip now f =
+    if is_some (choice.source_in f.streams runs.Followed)
+    then moment_in c round_trip now f.lines.followed
+    else None
+
+abbrev pub nack_of_followed : Config → ℕ → ℕ → Follows → Option Nack
+nack_of_followed c round_trip now f = nack_at (moment_of c round_trip now f) f.lines.followed
+
+abbrev pub after_asked : Config → ℕ → ℕ → Follows → Follows
+after_asked c round_trip now f =
+    record {
+      streams = f.streams;
+      lines = with_line runs.Followed (after_nack (moment_of c round_trip now f) f.lines.followed) f.lines;
+    }
+
+-- ---- ends
+
+-- the stream with this SSRC has ended
+abbrev pub after_bye : ℕ → ℕ → Follows → Follows
+after_bye source now f =
+    record { streams = choice.after_end f.streams source now; lines = f.lines }

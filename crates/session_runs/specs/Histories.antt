@@ -1,5 +1,5 @@
 -- What came of one stream, and what that gives. Times are nanoseconds.
-use Rattle.std.specs.Prelude.{ℕ, ◌-◌, ◌+◌, max, nat_le, nat_lt, Bool, true, false, List, [], ◌∷◌, Option, Some, None, if◌then◌else◌}
+use Rattle.std.specs.Prelude.{ℕ, ◌-◌, ◌+◌, ◌*◌, ◌/◌, ◌==◌, max, nat_le, nat_lt, Bool, true, false, List, [], ◌∷◌, Option, Some, None, if◌then◌else◌}
 use Rattle.h263_bits.specs.declared.fault.Fault.{Fault}
 use Rattle.h263_types.specs.declared.params.Params.{Params}
 use Rattle.call_model.specs.Receiving.{Completed, Heard, Late, ReceiverEntry}
@@ -10,6 +10,9 @@ use Rattle.stream_numbers.specs.Streams.{place_of}
 use Rattle.playout_times.specs.Due.{due_of, is_due_by}
 use Rattle.receiver_end.specs.State.{answer_after}
 use Rattle.timed_receiver.specs.Timed as timed
+use Rattle.packet_gaps.specs.declared.gaps.Nack.{Nack}
+use Rattle.packet_gaps.specs.declared.moment.Moment.{Moment}
+use Rattle.packet_gaps.specs.Kept as packets
 use Rattle.stream_run.specs.Entries.{Came, Entry, Shown, heard_of, timed_of}
 use Rattle.session_runs.specs.declared.unheard.Unheard.{Unheard}
 use Rattle.session_runs.specs.Unheard.{after_heard, fresh, is_lost}
@@ -22,19 +25,21 @@ pub record Config : Type 0 where
   pub wait : ℕ
 
 -- What came of a stream since its run began, from the first picture's number on; the pictures before
--- this one are due at once, since a packet came that is more than the lead after them; and what of
--- it could not be heard.
+-- this one are due at once, since a packet came that is more than the lead after them; what of it
+-- could not be heard; and what its missing packets are told by: the packets that came, what was
+-- played, and what was asked for.
 pub record History : Type 0 where
   pub first : ℕ
   pub past : List Entry
   pub until : ℕ
   pub unheard : Unheard
+  pub gaps : List packets.Event
 
 -- Nothing came of it but a packet, then, with this temporal reference: two pictures are open before
 -- that one, for packets out of order at the start.
 abbrev pub begun : ℕ → ℕ → History
 begun reference now =
-    record { first = reference - 2; past = []; until = 0; unheard = fresh now }
+    record { first = reference - 2; past = []; until = 0; unheard = fresh now; gaps = [] }
 
 abbrev pub timed_in : Config → History → List timed.Entry
 timed_in c h = timed_of c.rate h.first c.lead h.past
@@ -86,6 +91,14 @@ until_after (Ahead number) lead until = max until (number - lead)
 until_after NoPlace lead until = until
 until_after (IsHeard heard) lead until = until
 
+-- A packet with this place, this sequence number and this answer counts as come where it is heard,
+-- also where it is late.
+abbrev pub gaps_after : Answer → Option Place → ℕ → List packets.Event → List packets.Event
+gaps_after NoPlace place sequence past = past
+gaps_after (Ahead number) place sequence past = past
+gaps_after (IsHeard heard) None sequence past = past
+gaps_after (IsHeard heard) (Some place) sequence past = packets.Came sequence place.number ∷ past
+
 -- A run begins anew where its packets would never be heard again, and where all 2^20 pictures that
 -- there can be were played.
 abbrev pub must_begin : Config → ℕ → History → Bool
@@ -101,6 +114,7 @@ after_answer c answer packet bytes now h =
       past = Came packet bytes now ∷ h.past;
       until = until_after answer c.lead h.until;
       unheard = after_heard (is_heard answer) now h.unheard;
+      gaps = gaps_after answer (place_of c.rate (heard_of h.past) packet now) packet.sequence h.gaps;
     }
 
 -- after a packet of it
@@ -117,15 +131,62 @@ due_in c h =
     else due_of c.wait (next_in c h) (timed.arrivals_of (timed_in c h))
 
 -- after a play of its next picture
-abbrev pub after_play : ℕ → History → History
-after_play now h =
-    record { first = h.first; past = Shown now ∷ h.past; until = h.until; unheard = h.unheard }
+abbrev pub after_play : Config → ℕ → History → History
+after_play c now h =
+    record {
+      first = h.first;
+      past = Shown now ∷ h.past;
+      until = h.until;
+      unheard = h.unheard;
+      gaps = packets.Played (next_in c h + 1) ∷ h.gaps;
+    }
 
 -- it is due by now
 abbrev pub is_due_in : Config → ℕ → History → Bool
 is_due_in c now h = is_due_by now (due_in c h)
 
 -- after a play of its next picture, if that is due
-abbrev pub after_play_if : Bool → ℕ → History → History
-after_play_if false now h = h
-after_play_if true now h = after_play now h
+abbrev pub after_play_if : Config → Bool → ℕ → History → History
+after_play_if c false now h = h
+after_play_if c true now h = after_play c now h
+
+-- ---- asking again
+
+-- how long after a picture the next one is due
+abbrev pub picture_period : Rate → ℕ
+picture_period r = r.second * 1000000000 / r.rate
+
+-- The moment at which its packets may be asked for again, where the answer takes so long. There is
+-- none where it isn't known when its next picture is due, or where that is due at once.
+abbrev pub moment_at : Config → ℕ → ℕ → ℕ → Option ℕ → Option Moment
+moment_at c round_trip now next None = None
+moment_at c round_trip now next (Some due) =
+    if due == 0
+    then None
+    else Some (record {
+      time = now;
+      round_trip = round_trip;
+      next = next;
+      due = due;
+      period = picture_period c.rate;
+    })
+
+abbrev pub moment_in : Config → ℕ → ℕ → History → Option Moment
+moment_in c round_trip now h = moment_at c round_trip now (next_in c h) (due_in c h)
+
+-- the next packets of it that are asked for at this moment, if there is one
+abbrev pub nack_at : Option Moment → History → Option Nack
+nack_at None h = None
+nack_at (Some m) h = packets.asks m h.gaps
+
+-- and what is left then
+abbrev pub after_nack : Option Moment → History → History
+after_nack None h = h
+after_nack (Some m) h =
+    record {
+      first = h.first;
+      past = h.past;
+      until = h.until;
+      unheard = h.unheard;
+      gaps = packets.Asked m ∷ h.gaps;
+    }

@@ -9,6 +9,7 @@ use Rattle.stream_run.specs.declared.run.StreamRun.{StreamRun}
 use Rattle.stream_run.specs.declared.run.Arrived.{Arrived}
 use Rattle.stream_run.specs.declared.run.Arrived.TheVariants as arriveds
 use Rattle.stream_run.specs.Kept.{IsRun, RunStands}
+use Rattle.packet_gaps.specs.Kept.{GapsStand}
 use Rattle.session_intake.specs.declared.settings.Settings.{Settings}
 use Rattle.session_runs.specs.declared.kept.KeptRun.{KeptRun}
 use Rattle.session_runs.specs.Histories.{Ahead, Answer, Config, History, IsHeard, NoPlace, entries_in, next_in}
@@ -37,6 +38,7 @@ pub record HistoryStands (k : KeptRun) (h : History) : Type 0 where
   pub run : RunStands k.run h.first h.past
   pub until : k.until ≡ h.until
   pub unheard : k.unheard ≡ h.unheard
+  pub gaps : GapsStand k.gaps h.gaps
 
 -- the answer of a run is this one
 abbrev pub IsAnswer : Clock → Arrived → Answer → Type 0

@@ -9,7 +9,8 @@ ghost use Rattle.session_runs.specs.Histories.{answer_in, entries_in};
 ghost use Rattle.session_runs.specs.Lines.{Lines, begun_lines, line_of, run_of};
 ghost use Rattle.session_runs.specs.Kept.{IsAnswer, config_in};
 ghost use Rattle.session_runs.specs.Three.{AreKept};
-ghost use Rattle.session_runs.specs.Following.{Follows, after_heard, after_play_of, after_run, after_taker};
+ghost use Rattle.session_runs.specs.Following.{Follows, after_asked, after_bye, after_heard, after_play_of};
+ghost use Rattle.session_runs.specs.Following.{after_run, after_taker, nack_of_followed};
 ghost use Rattle.session_runs.specs.Following.{due_next, due_of_run, earlier, is_run_due, noted, run_due};
 ghost use Rattle.session_runs.specs.Followed.{ArePlayed, AreTaken, FollowsStand, begun_follows};
 
@@ -213,7 +214,7 @@ impl Following {
         ensures told { (f : Follows) → FollowsStand self.old f → ArePlayed (config_in settings.now) f
             (run_due (config_in settings.now) now f) result }
         ensures stands { (f : Follows) → FollowsStand self.old f → FollowsStand self.new
-            (after_play_of (run_due (config_in settings.now) now f) now f) }
+            (after_play_of (config_in settings.now) (run_due (config_in settings.now) now f) now f) }
     {
         let Some(run) = self.run_due(now) else {
             return None;
@@ -226,7 +227,15 @@ impl Following {
 
     /// The next packets to ask for of the stream that is followed, if there are any that can come in
     /// time.
-    pub fn missing(&mut self, settings: &Settings, round_trip: u64, now: u64) -> Option<Nack> {
+    pub fn missing(&mut self, settings: &Settings, round_trip: u64, now: u64) -> Option<Nack>
+        requires settings { IsSettings settings.now }
+        requires kept { AreKept settings.now now self.old.runs }
+        ensures kept { AreKept settings.now now self.new.runs }
+        ensures answer { (f : Follows) → FollowsStand self.old f
+            → result ≡ nack_of_followed (config_in settings.now) round_trip now f }
+        ensures stands { (f : Follows) → FollowsStand self.old f
+            → FollowsStand self.new (after_asked (config_in settings.now) round_trip now f) }
+    {
         match self.streams.source(Run::Followed) {
             Some(_) => self.runs.missing(settings, round_trip, now),
             None => None,
@@ -234,12 +243,21 @@ impl Following {
     }
 
     /// The stream with this SSRC has ended.
-    pub fn ended(&mut self, source: u32, now: u64) {
+    pub fn ended(&mut self, source: u32, now: u64)
+        ensures runs { self.new.runs ≡ self.old.runs }
+        ensures stands { (f : Follows) → FollowsStand self.old f
+            → FollowsStand self.new (after_bye source now f) }
+    {
         self.streams.ended(source, now);
     }
 
     /// No stream has a run any more.
-    pub fn begin(&mut self, settings: &Settings, now: u64) {
+    pub fn begin(&mut self, settings: &Settings, now: u64)
+        requires settings { IsSettings settings.now }
+        requires kept { AreKept settings.now now self.old.runs }
+        ensures kept { AreKept settings.now now self.new.runs }
+        ensures stands { FollowsStand self.new (begun_follows now) }
+    {
         self.streams = Streams::new();
         self.runs.begin(settings, now);
     }

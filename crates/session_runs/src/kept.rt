@@ -6,12 +6,11 @@ ghost use Rattle.receiver_end.specs.State.{run_of};
 ghost use Rattle.session_intake.specs.Settings.{IsSettings};
 ghost use Rattle.session_runs.specs.Histories.{History, after_packet, after_play, answer_in, begun};
 ghost use Rattle.session_runs.specs.Histories.{after_play_if, due_in, entries_in, is_due_in};
-ghost use Rattle.session_runs.specs.Histories.{must_begin, ready};
+ghost use Rattle.session_runs.specs.Histories.{after_nack, moment_in, must_begin, nack_at, ready};
 ghost use Rattle.session_runs.specs.Kept.{ArePlays, HistoryStands, IsAnswer, IsKept, IsPlay, config_in};
 
-use crate::answers;
-use crate::repair;
 use crate::unheard::Unheard;
+use crate::{answers, repair};
 use h263_planes::PictureRef;
 use h263_types::OutOfMemory;
 use packet_gaps::{Gaps, Moment, Nack};
@@ -137,7 +136,7 @@ impl KeptRun {
         ensures told { (h : History) → HistoryStands self.old h
             → IsPlay (config_in settings.now) h result }
         ensures stands { (h : History) → HistoryStands self.old h
-            → HistoryStands self.new (after_play now h) }
+            → HistoryStands self.new (after_play (config_in settings.now) now h) }
     {
         let played = self.run.play();
         self.gaps.played(self.run.next());
@@ -151,7 +150,7 @@ impl KeptRun {
         ensures told { (h : History) → HistoryStands self.old h
             → ArePlays (config_in settings.now) h (is_due_in (config_in settings.now) now h) result }
         ensures stands { (h : History) → HistoryStands self.old h → HistoryStands self.new
-            (after_play_if (is_due_in (config_in settings.now) now h) now h) }
+            (after_play_if (config_in settings.now) (is_due_in (config_in settings.now) now h) now h) }
     {
         let Some(time) = self.due() else {
             return None;
@@ -164,7 +163,12 @@ impl KeptRun {
 
     // The moment at which packets may be asked for: none where it isn't known when the next picture
     // is due, or where it is due at once.
-    fn moment(&self, settings: &Settings, round_trip: u64, now: u64) -> Option<Moment> {
+    fn moment(&self, settings: &Settings, round_trip: u64, now: u64) -> Option<Moment>
+        requires settings { IsSettings settings.now }
+        requires kept { IsKept settings.now now self.now }
+        ensures { (h : History) → HistoryStands self.now h
+            → result ≡ moment_in (config_in settings.now) round_trip now h }
+    {
         let Some(due) = self.due() else {
             return None;
         };
@@ -181,7 +185,15 @@ impl KeptRun {
     }
 
     /// The next packets of it to ask for, if there are any that can come in time.
-    pub fn missing(&mut self, settings: &Settings, round_trip: u64, now: u64) -> Option<Nack> {
+    pub fn missing(&mut self, settings: &Settings, round_trip: u64, now: u64) -> Option<Nack>
+        requires settings { IsSettings settings.now }
+        requires kept { IsKept settings.now now self.old }
+        ensures kept { IsKept settings.now now self.new }
+        ensures answer { (h : History) → HistoryStands self.old h
+            → result ≡ nack_at (moment_in (config_in settings.now) round_trip now h) h }
+        ensures stands { (h : History) → HistoryStands self.old h → HistoryStands self.new
+            (after_nack (moment_in (config_in settings.now) round_trip now h) h) }
+    {
         match self.moment(settings, round_trip, now) {
             Some(moment) => self.gaps.ask(&moment),
             None => None,

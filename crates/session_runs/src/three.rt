@@ -6,7 +6,7 @@ ghost use Rattle.receiver_end.specs.State.{run_of};
 ghost use Rattle.stream_choice.specs.declared.streams.Taker.{Taker};
 ghost use Rattle.session_intake.specs.Settings.{IsSettings};
 ghost use Rattle.session_runs.specs.Histories.{after_packet, after_play_if, answer_in, due_in};
-ghost use Rattle.session_runs.specs.Histories.{entries_in, is_due_in};
+ghost use Rattle.session_runs.specs.Histories.{after_nack, entries_in, is_due_in, moment_in, nack_at};
 ghost use Rattle.session_runs.specs.Lines.{Lines, begun_lines, line_of, made_ready, turned, with_line};
 ghost use Rattle.session_runs.specs.Kept.{ArePlays, IsAnswer, config_in};
 ghost use Rattle.session_runs.specs.Three.{AreKept, LinesStand};
@@ -139,8 +139,8 @@ impl ThreeRuns {
         ensures told { (l : Lines) → LinesStand self.old l → ArePlays (config_in settings.now)
             (line_of run l) (is_due_in (config_in settings.now) now (line_of run l)) result }
         ensures stands { (l : Lines) → LinesStand self.old l → LinesStand self.new (with_line run
-            (after_play_if (is_due_in (config_in settings.now) now (line_of run l)) now (line_of run l))
-            l) }
+            (after_play_if (config_in settings.now)
+            (is_due_in (config_in settings.now) now (line_of run l)) now (line_of run l)) l) }
     {
         match run {
             Run::Followed => self.followed.play_due(settings, now),
@@ -150,12 +150,25 @@ impl ThreeRuns {
     }
 
     /// The next packets to ask for of the stream that is followed.
-    pub fn missing(&mut self, settings: &Settings, round_trip: u64, now: u64) -> Option<Nack> {
+    pub fn missing(&mut self, settings: &Settings, round_trip: u64, now: u64) -> Option<Nack>
+        requires settings { IsSettings settings.now }
+        requires kept { AreKept settings.now now self.old }
+        ensures kept { AreKept settings.now now self.new }
+        ensures answer { (l : Lines) → LinesStand self.old l → result
+            ≡ nack_at (moment_in (config_in settings.now) round_trip now l.followed) l.followed }
+        ensures stands { (l : Lines) → LinesStand self.old l → LinesStand self.new (with_line Run.Followed
+            (after_nack (moment_in (config_in settings.now) round_trip now l.followed) l.followed) l) }
+    {
         self.followed.missing(settings, round_trip, now)
     }
 
     /// All begin anew.
-    pub fn begin(&mut self, settings: &Settings, now: u64) {
+    pub fn begin(&mut self, settings: &Settings, now: u64)
+        requires settings { IsSettings settings.now }
+        requires kept { AreKept settings.now now self.old }
+        ensures kept { AreKept settings.now now self.new }
+        ensures stands { LinesStand self.new (begun_lines now) }
+    {
         self.followed.begin(settings, 0, now);
         self.former.begin(settings, 0, now);
         self.tried.begin(settings, 0, now);

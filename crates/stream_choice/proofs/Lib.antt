@@ -1,2 +1,3 @@
 mod Grants
 mod Beside
+mod Ending

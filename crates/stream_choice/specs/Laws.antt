@@ -5,7 +5,7 @@ use Rattle.stream_choice.specs.declared.streams.Streams.{Streams}
 use Rattle.stream_choice.specs.declared.streams.Run.{Run}
 use Rattle.stream_choice.specs.declared.streams.Run.TheVariants as runs
 use Rattle.stream_choice.specs.declared.streams.Taker.TheVariants as takers
-use Rattle.stream_choice.specs.Choice.{after_complete, after_packet, counted, is_live_one, taker_of}
+use Rattle.stream_choice.specs.Choice.{after_complete, after_end, after_packet, counted, is_live_one, is_of, taker_of}
 use Rattle.stream_choice.specs.Granting.{granted}
 
 -- ---- budgets
@@ -61,6 +61,15 @@ Undisturbed =
     → MatchOption st.former (Unit {0}) (λ g. g.pictures ≤ n) → StaysLive n f es
     → ((after_all st es).followed ≡ (after_all (alone f) (filter (is_own f.source) es)).followed)
     × ((now : ℕ) → taker_of (after_all st es) f.source now ≡ takers.Followed)
+
+-- Where the stream that is followed has ended, it isn't live, half a second after the clock began or
+-- later; an end of another stream changes nothing.
+abbrev pub EndsLife : Type 0
+EndsLife =
+    (st : Streams) (source now : ℕ)
+    → (is_of st.followed source ≡ true → (time : ℕ) → 500000000 ≤ now → now ≤ time
+    → is_live_one (after_end st source now).followed time ≡ false)
+    × (is_of st.followed source ≡ false → after_end st source now ≡ st)
 
 -- No stream is shut out: where none that is followed is live, a packet is taken, a second and a half
 -- after the last trial began at the latest.

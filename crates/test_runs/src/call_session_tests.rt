@@ -3,7 +3,7 @@ ghost use Rattle.std.specs.Prelude.{◌≤◌, length};
 ghost use Rattle.call_session.specs.Whole.{IsSession};
 
 use crate::halves::{FIRST_HALF, SECOND_HALF};
-use call_session::{Cause, Session, SettingFault, Settings, Verdict};
+use call_session::{Cause, Nack, Session, SettingFault, Settings, Verdict};
 use h263_types::{Format, Mark, Params};
 use std::process::Abort;
 use std::test::Fail;
@@ -321,5 +321,103 @@ fn whole_again_after_a_step(rt: HostRuntime) -> Result<(), Fail> {
         let exact = exact_of(&rt, &step)?;
         assert_eq!(rt; exact, step.rate * 8, "{} {}", step.rate, step.after);
     }
+    Ok(())
+}
+
+// Of ten pictures the fourth one's packet is lost. It is asked for once the fifth one's has come, comes
+// again a round trip later, and all are exact.
+#[test]
+fn lost_packet_comes_again(rt: HostRuntime) -> Result<(), Fail> {
+    let params = Params::of(Format::SubQcif);
+    let settings = Settings::new(&params, 30_000, 1_001, WAIT)?;
+    let mut session = Session::start(rt.alloc(), &settings)?;
+    let round_trip = 50 * MILLISECOND;
+    let nothing = session.missing(round_trip, 0);
+    let mut exact = 0u32;
+    for number in [0u32, 1, 2, 4] {
+        exact = exact.saturating_add(play_all(&mut session, captured_at(number), 0));
+        come(&mut session, number);
+    }
+    let then = captured_at(4) + 30 * MILLISECOND;
+    exact = exact.saturating_add(play_all(&mut session, then, 0));
+    let too_late = session.missing(150 * MILLISECOND, then);
+    let asked = session.missing(round_trip, then);
+    let all_told = session.missing(round_trip, then);
+    let _repeat = session.arrival(&flat(7, 3), then + round_trip);
+    for number in 5..10u32 {
+        exact = exact.saturating_add(play_all(&mut session, captured_at(number), 0));
+        come(&mut session, number);
+    }
+    let all_there = session.missing(round_trip, captured_at(9) + 30 * MILLISECOND);
+    exact = exact.saturating_add(play_all(&mut session, captured_at(20), 0));
+    session.finish();
+    assert_eq!(rt;
+        (nothing, too_late, all_told, all_there),
+        (None, None, None, None)
+    );
+    assert_eq!(rt;
+        asked,
+        Some(Nack {
+            packet: 3,
+            following: 0
+        })
+    );
+    assert_eq!(rt; exact, 10);
+    Ok(())
+}
+
+// A stream that has ended makes way at once for another. An end of another stream changes nothing.
+#[test]
+fn end_of_a_stream(rt: HostRuntime) -> Result<(), Fail> {
+    let params = Params::of(Format::SubQcif);
+    let settings = Settings::new(&params, 30_000, 1_001, WAIT)?;
+    let mut session = Session::start(rt.alloc(), &settings)?;
+    let _first = session.arrival(&flat(7, 0), 1_000 * MILLISECOND);
+    session.bye(0x4832_3609, 1_001 * MILLISECOND);
+    let stranger = session.arrival(&flat(9, 0), 1_002 * MILLISECOND);
+    session.bye(0x4832_3607, 1_003 * MILLISECOND);
+    let still = session.source(Run::Followed);
+    let other = session.arrival(&flat(9, 0), 1_004 * MILLISECOND);
+    let now = session.source(Run::Followed);
+    session.finish();
+    assert_eq!(rt; stranger.verdict, Verdict::Dropped(Cause::OtherStream));
+    assert!(rt; matches!(other.verdict, Verdict::Taken(_)));
+    assert_eq!(rt; (still, now), (Some(0x4832_3607), Some(0x4832_3609)));
+    Ok(())
+}
+
+// A call that begins anew follows whoever comes first. What was counted stays.
+#[test]
+fn call_begins_anew(rt: HostRuntime) -> Result<(), Fail> {
+    let params = Params::of(Format::SubQcif);
+    let settings = Settings::new(&params, 30_000, 1_001, WAIT)?;
+    let mut session = Session::start(rt.alloc(), &settings)?;
+    let _first = session.arrival(&flat(7, 40), 1_000 * MILLISECOND);
+    session.reset(1_001 * MILLISECOND);
+    let nobody = session.source(Run::Followed);
+    let due = session.due();
+    let other = session.arrival(&flat(9, 2), 1_002 * MILLISECOND);
+    let now = session.source(Run::Followed);
+    let counts = session.statistics();
+    session.finish();
+    assert_eq!(rt; (nobody, due), (None, None));
+    assert!(rt; matches!(other.verdict, Verdict::Taken(_)));
+    assert_eq!(rt; (now, counts.taken), (Some(0x4832_3609), 2));
+    Ok(())
+}
+
+// Where packets of one stream alone are looked at, another's is dropped, also before there is one.
+#[test]
+fn packets_of_one_stream(rt: HostRuntime) -> Result<(), Fail> {
+    let params = Params::of(Format::SubQcif);
+    let settings = Settings::new(&params, 30_000, 1_001, WAIT)?;
+    let mut session = Session::start(rt.alloc(), &settings)?;
+    let other = session.arrival_of(0x4832_3607, &flat(9, 0), 0);
+    let own = session.arrival_of(0x4832_3607, &flat(7, 0), 1);
+    let source = session.source(Run::Followed);
+    session.finish();
+    assert_eq!(rt; other.verdict, Verdict::Dropped(Cause::OtherStream));
+    assert!(rt; matches!(own.verdict, Verdict::Taken(_)));
+    assert_eq!(rt; source, Some(0x4832_3607));
     Ok(())
 }

@@ -4,11 +4,12 @@ use stream_choice::{Budget, Run, Streams, Taker};
 
 const MILLISECOND: u64 = 1_000_000;
 
-// What comes: a packet of a stream, and which run takes it; or a complete picture.
+// What comes: a packet of a stream, and which run takes it; a complete picture; or a stream's end.
 #[derive(Clone, Copy)]
 enum Event {
     Packet(u32, Taker),
     Complete(Run),
+    Ended(u32),
 }
 
 fn happen(rt: &impl Abort, streams: &mut Streams, event: Event, at: u64) {
@@ -19,6 +20,7 @@ fn happen(rt: &impl Abort, streams: &mut Streams, event: Event, at: u64) {
             assert_eq!(rt; taken, taker, "{at}");
         }
         Event::Complete(run) => streams.completed(run, now),
+        Event::Ended(source) => streams.ended(source, now),
     }
 }
 
@@ -38,6 +40,31 @@ fn a_stranger_in_a_silence(rt: HostRuntime) {
         (700, Event::Packet(7, Taker::Former)),
         (701, Event::Complete(Run::Former)),
         (702, Event::Packet(9, Taker::Former)),
+    ];
+    let mut streams = Streams::new();
+    for (at, event) in events {
+        happen(&rt, &mut streams, event, at);
+    }
+    assert_eq!(rt; streams.followed(), Some(7));
+}
+
+// A stream that has ended makes way at once. After a trial that failed its stream waits as long with
+// ends as without.
+#[test]
+fn ends_of_streams(rt: HostRuntime) {
+    let events: [(u64, Event); 12] = [
+        (1_000, Event::Packet(7, Taker::Begins)),
+        (1_001, Event::Complete(Run::Tried)),
+        (1_010, Event::Ended(9)),
+        (1_011, Event::Packet(9, Taker::NoRun)),
+        (1_012, Event::Ended(7)),
+        (1_013, Event::Packet(9, Taker::Begins)),
+        (1_014, Event::Packet(7, Taker::Followed)),
+        (1_600, Event::Ended(9)),
+        (1_601, Event::Ended(7)),
+        (1_602, Event::Packet(9, Taker::NoRun)),
+        (2_012, Event::Packet(9, Taker::NoRun)),
+        (2_013, Event::Packet(9, Taker::Begins)),
     ];
     let mut streams = Streams::new();
     for (at, event) in events {

@@ -73,6 +73,7 @@ class Run {
   coded = 0;
   packets = [];
   said = [];
+  source = 0;
 
   step(line) {
     const [name, ...rest] = line.split(" ");
@@ -151,7 +152,9 @@ class Run {
 
   come(datagram, now) {
     for (let verdict = "ahead"; verdict === "ahead"; ) {
-      const it = this.following.arrival(datagram, now);
+      const it = this.source
+        ? this.following.arrivalOf(this.source, datagram, now)
+        : this.following.arrival(datagram, now);
       verdict = it.verdict;
       const taken = [it.cause, it.run, it.source, it.ahead].map(orNone);
       const heard = [orNone(it.kind), it.fault?.number ?? 0, it.at, hex(it.message)];
@@ -189,8 +192,29 @@ class Run {
     this.come(bytesOf(text), BigInt(now));
   }
 
+  only(rest) {
+    this.source = Number(rest);
+  }
+
   turn(rest) {
     this.playDue(BigInt(rest));
+  }
+
+  ask(rest) {
+    const [trip, now] = rest.split(" ").map(BigInt);
+    print("asked", ...this.following.missing(trip, now).flatMap(({ packet, following }) => [packet, following]));
+  }
+
+  bye(rest) {
+    const [source, now] = rest.split(" ");
+    this.following.bye(Number(source), BigInt(now));
+    this.playDue(BigInt(now));
+  }
+
+  anew(rest) {
+    this.following.reset(BigInt(rest));
+    this.playDue(BigInt(rest));
+    print("shown", sumOf(this.following.shown()));
   }
 
   back(rest) {

@@ -58,6 +58,7 @@ class Run:
         self.coded = 0
         self.packets: list[list[bytes]] = []
         self.said: list[bytes] = []
+        self.source: int | None = None
 
     def step(self, line: str) -> None:
         name, _, rest = line.partition(" ")
@@ -127,7 +128,7 @@ class Run:
     def come(self, datagram: bytes, now: int) -> None:
         verdict = "ahead"
         while verdict == "ahead":
-            arrived = self.session.arrival(datagram, now)
+            arrived = self.session.arrival(datagram, now, self.source)
             verdict, heard = arrived.verdict, (or_none(arrived.kind), int(arrived.fault), arrived.at, arrived.message.hex())
             taken = map(or_none, (arrived.cause, arrived.run, arrived.source, arrived.ahead))
             print("arrived", verdict, *taken, int(arrived.is_rival), *heard)
@@ -157,8 +158,24 @@ class Run:
         now, text = rest.split(" ")
         self.come(bytes.fromhex(text), int(now))
 
+    def do_only(self, rest: str) -> None:
+        self.source = int(rest) or None
+
     def do_turn(self, rest: str) -> None:
         self.play_due(int(rest))
+
+    def do_ask(self, rest: str) -> None:
+        print("asked", *(number for field in self.session.missing(*map(int, rest.split())) for number in field))
+
+    def do_bye(self, rest: str) -> None:
+        source, now = map(int, rest.split())
+        self.session.bye(source, now)
+        self.play_due(now)
+
+    def do_anew(self, rest: str) -> None:
+        self.session.reset(int(rest))
+        self.play_due(int(rest))
+        print("shown", sum_of(bytes(self.session.shown())))
 
     def do_back(self, rest: str) -> None:
         self.reply(self.said[int(rest)])

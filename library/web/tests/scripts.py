@@ -17,7 +17,10 @@ A script has a step a line:
     garble DRAW SSRC TICKS NOW EDIT ..
                                  likewise packet DRAW of the picture that was coded last, after edits
     datagram NOW HEX             these bytes come to it
+    only SSRC                    from now on it takes this stream alone; with 0 any
     turn NOW                     it plays what is due
+    ask TRIP NOW                 it asks for what is missing and could come within so many nanoseconds
+    bye SSRC NOW, anew NOW       a stream has ended; it begins anew
     back K, last K, reply HEX    the sender takes message K of those said, or the one that was said K before the last, or
                                  these bytes
     target N, forget, reset N    steers the sender; a reset begins both anew
@@ -116,10 +119,16 @@ class SessionScript:
             way = 0.03 + (more.get("step", 0.0) if captured > (begin + end) / 2 else 0.0)
             self.at(captured, "code")
             for place in range(5):
-                if draws.random() >= loss:
-                    when = captured + way + more.get("jitter", 0.0) * draws.random()
-                    ahead = more.get("ahead", 0.0) * (draws.random() < 0.02)
-                    self.at(when, f"arrive {number}.{place} {source} {round(TICKS * (captured + ahead))} NOW")
+                when = captured + way + more.get("jitter", 0.0) * draws.random()
+                if draws.random() < loss:
+                    if draws.random() >= more.get("again", 0.0):
+                        continue
+                    # It comes again after it was asked for.
+                    when += 0.05
+                ahead = more.get("ahead", 0.0) * (draws.random() < 0.02)
+                self.at(when, f"arrive {number}.{place} {source} {round(TICKS * (captured + ahead))} NOW")
+                if "again" in more:
+                    self.at(when, f"ask {draws.choice([0, 20_000_000, 2**64 - 1])} NOW")
             if draws.random() >= loss:
                 self.at(captured + way + 0.03, "last 0")
         return number + 1
@@ -147,6 +156,7 @@ def sessions(draws: random.Random, folder: Path) -> dict[str, list[str]]:
     few = {"format": "sub-qcif", "slots": 24, "lead": 12}
     for name, rate, second, wait, more in [
         ("few_and_longer", 5, 1, 0.1, {"step": 0.22}), ("lost_and_longer", 30000, 1001, 0.1, {"step": 0.22, "loss": 0.3}),
+        ("lost_and_again", 30000, 1001, 0.1, {"loss": 0.2, "again": 0.8, "jitter": 0.02}),
         ("ahead", 30000, 1001, 0.1, {"ahead": 1.9}), ("jitter", 25, 1, 0.06, {"jitter": 0.2, "loss": 0.05}),
         ("no_wait", 10, 1, 0.0, {"step": 0.25, "jitter": 0.01}),
     ]:
@@ -159,7 +169,11 @@ def sessions(draws: random.Random, folder: Path) -> dict[str, list[str]]:
             number = script.stream(100.0, 102.0, 30.0, 0, loss=0.05, jitter=0.1)
             # Two streams, one after the other and side by side, a silence after which the run begins anew, and junk.
             number = script.stream(102.0, 103.2, 30.0, number, OTHER)
-            number = script.stream(103.2, 104.0, 30.0, number, jitter=0.1)
+            script.at(103.15, f"bye {OTHER} NOW")
+            number = script.stream(103.2, 104.0, 30.0, number, jitter=0.1, again=0.5, loss=0.1)
+            script.at(103.7, f"only {OWN}")
+            script.at(104.0, "only 0")
+            script.at(146.0, "anew NOW")
             number = script.stream(145.0, 146.5, 30.0, number, OTHER, loss=0.1)
             words = {"quant": 10, "limit": 1200}
             script.at(146.55, f"sender {json.dumps(script.params | words)}")

@@ -38,7 +38,10 @@ export function follow(datagrams: Iterable<[Uint8Array, bigint]>, reply: (source
     }
     const due = session.due();
     if (due !== null) console.log(due - now);
+    for (const { packet, following } of session.missing(50_000_000n, now)) console.log(packet + following);
+    if (source !== null && session.arrivalOf(source, datagram, now).cause === "other stream") session.bye(source, now);
   }
+  session.reset(0n);
   session.close();
   return session.statistics().dropped;
 }
@@ -49,6 +52,8 @@ new Session(Params.of("cif"), { rate: 30, wait: 60 });
 new Session(Params.of("cif"));
 // @ts-expect-error: there is no such run
 new Session(Params.of("cif"), { rate: 30, wait: 0n }).source("shown");
+// @ts-expect-error: a round trip is a BigInt
+new Session(Params.of("cif"), { rate: 30, wait: 0n }).missing(0.05, 0n);
 // @ts-expect-error: there is no such format
 Params.of("vga");
 // @ts-expect-error: there is no such parameter

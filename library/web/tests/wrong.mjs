@@ -155,6 +155,16 @@ withEnds((sender) => {
     return [verdict, cause, run, source, kind, fault];
   });
   wanted('["malformed","long"]', () => [9000, 9001].map((length) => session.arrival(bytes(length), 0n).cause));
+  wanted('["dropped","malformed"]', () => Object.values(session.arrivalOf(7, bytes(0), 0n)).slice(0, 2));
+  wanted("RangeError: source: -1 is out of its range", () => session.arrivalOf(-1, bytes(0), 0n));
+  wanted("TypeError: source: a whole number is wanted", () => session.arrivalOf(bytes(0), 0n));
+  wanted("[]", () => session.missing(0n, 0n));
+  wanted("TypeError: roundTrip: a BigInt is wanted", () => session.missing(50e6, 0n));
+  wanted("RangeError: now: -1 is out of its range", () => session.missing(0n, -1n));
+  wanted("TypeError: now: a BigInt is wanted", () => session.bye(7));
+  wanted("RangeError: source: 4294967296 is out of its range", () => session.bye(2 ** 32, 0n));
+  wanted("TypeError: now: a BigInt is wanted", () => session.reset());
+  wanted("[null,null]", () => [session.bye(7, 0n), session.reset(0n)].map((it) => it ?? null));
   wanted("[38016,128]", () => [session.shown().length, session.shown().at(-1)]);
   const [packet] = sender.packets(sender.code(bytes(QCIF)));
   wanted('["heard","tried",7,"completed",3]', () => {
@@ -167,11 +177,15 @@ withEnds((sender) => {
     const { source, mark, number } = session.play(2n ** 64n - 1n);
     return [due, source, mark, number];
   });
-  wanted('{"taken":1,"dropped":{"long":1,"malformed":2,"other pictures":0,"too fast":0,"other stream":0},"played":{"exact":1,"patched":0,"held":0}}',
+  wanted('{"taken":1,"dropped":{"long":1,"malformed":3,"other pictures":0,"too fast":0,"other stream":0},"played":{"exact":1,"patched":0,"held":0}}',
     () => session.statistics());
   session.close();
   session.close();
   wanted("Refused: arrival: not started", () => session.arrival(bytes(12), 0n));
+  wanted("Refused: arrival: not started", () => session.arrivalOf(7, bytes(12), 0n));
+  wanted("Refused: missing: not started", () => session.missing(0n, 0n));
+  wanted("Refused: bye: not started", () => session.bye(7, 0n));
+  wanted("Refused: reset: not started", () => session.reset(0n));
   wanted("Refused: due: not started", () => session.due());
   wanted("Refused: play: not started", () => session.play(0n));
   wanted("Refused: source: not started", () => session.source());

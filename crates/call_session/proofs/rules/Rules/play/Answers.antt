@@ -21,7 +21,7 @@ returns-in-None-clause-stands c = λ st s.
     (c.in-None.ensures.told st.follows s.follows) in
     record {
       time = s.time;
-      follows = subst (λ (n : ℕ). FollowsStand c.play.new.self (after_play_of (run_due k n st.follows) n st.follows))
+      follows = subst (λ (n : ℕ). FollowsStand c.play.new.self (after_play_of k (run_due k n st.follows) n st.follows))
           s.time (c.in-None.ensures.stands st.follows s.follows);
       asked = s.asked;
       rivals = s.rivals;
@@ -43,7 +43,7 @@ returns-in-Some-clause-stands c = λ st s.
     s.time (c.in-Some.ensures.told st.follows s.follows) in
     record {
       time = s.time;
-      follows = subst (λ (n : ℕ). FollowsStand c.play.new.self (after_play_of (run_due k n st.follows) n st.follows))
+      follows = subst (λ (n : ℕ). FollowsStand c.play.new.self (after_play_of k (run_due k n st.follows) n st.follows))
           s.time (c.in-Some.ensures.stands st.follows s.follows);
       asked = s.asked;
       rivals = s.rivals;

@@ -14,7 +14,7 @@ returns-in_default-clause-told c = λ f s.
 
 pub returns-in_default-clause-stands : goal.returns-in_default-clause-stands
 returns-in_default-clause-stands c = λ f s.
-    subst (λ (x : Option Run). FollowsStand c.args.self.now (after_play_of x c.args.now f))
+    subst (λ (x : Option Run). FollowsStand c.args.self.now (after_play_of (config_in c.args.settings.now) x c.args.now f))
     (c.in_default.ensures c.args.settings.now c.args.now f c.requires.kept s) s
 
 pub returns-in_default-play_due-clause-told : goal.returns-in_default-play_due-clause-told
@@ -40,7 +40,7 @@ returns-clause-stands c = λ f s.
     let k = config_in c.args.settings.now in let t = c.play_due.new.self in
     let e = c.in-Some.ensures c.args.settings.now c.args.now f c.requires.kept s in
     let g : Following = record { streams = c.args.self.now.streams; runs = t } in
-    subst (λ (x : Option Run). FollowsStand g (after_play_of x c.args.now f)) e
+    subst (λ (x : Option Run). FollowsStand g (after_play_of k x c.args.now f)) e
     (record {
       streams = s.streams;
       lines = after t k f c.in-Some.run' c.args.now e (c.in-Some-play_due.ensures.stands f.lines s.lines);

@@ -1,8 +1,10 @@
-use Rattle.std.proofs.Common.{◌≤◌, ℕ, Bool, ap, sym, subst, ◌∙◌}
+use Rattle.std.proofs.Common.{◌≤◌, ℕ, Bool, Option, ap, sym, subst, ◌∙◌}
 use Rattle.h263_types.specs.declared.params.Params.{Params}
+use Rattle.packet_gaps.specs.Kept.{GapsStand}
+use Rattle.stream_numbers.specs.declared.packet.Place.{Place}
 use Rattle.stream_numbers.specs.Streams.{place_of}
 use Rattle.stream_run.specs.Entries.{heard_of, timed_of}
-use Rattle.session_runs.specs.Histories.{Config, answer_in, is_heard, until_after}
+use Rattle.session_runs.specs.Histories.{Config, answer_in, gaps_after, is_heard, until_after}
 use Rattle.session_runs.specs.Unheard.{after_heard}
 use Rattle.session_runs.specs.Kept.{IsAnswer, config_in}
 use Rattle.session_runs.proofs.Answering.{answered}
@@ -29,6 +31,10 @@ returns-clause-stands c = λ h s.
       unheard = c.after-self.ensures
           ∙ ap (λ (b : Bool). after_heard b c.args.now c.args.self.now.unheard) (c.is_heard.ensures p.clock a is)
           ∙ ap (after_heard (is_heard a) c.args.now) s.unheard;
+      gaps = subst (λ (o : Option Place). GapsStand c.note.new.gaps (gaps_after a o c.args.packet.now.sequence h.gaps))
+          (c.place-place.ensures h.first h.past s.run
+          ∙ ap (λ (k : Config). place_of k.rate (heard_of h.past) c.args.packet.now c.args.now) c.requires.kept.config)
+          (c.note.ensures p.clock a h.gaps is s.gaps);
     }
 
 pub returns-clause-kept : goal.returns-clause-kept

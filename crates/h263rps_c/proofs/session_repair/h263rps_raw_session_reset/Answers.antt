@@ -1,0 +1,8 @@
+use Rattle.std.proofs.Common.{Option, subst}
+use Rattle.call_session.specs.declared.session.Session.{Session}
+use Rattle.h263rps_c.specs.Sessions.{HoldsSession}
+use Rattle.h263rps_c.proofs.session_repair.h263rps_raw_session_reset.Goals as goal
+
+pub returns-clause-stands : goal.returns-clause-stands
+returns-clause-stands c = λ s past held.
+    c.reset.ensures s past (subst (λ (o : Option Session). HoldsSession s past o) c.session_mut.ensures.value held)
