@@ -217,6 +217,7 @@ def library() -> ctypes.CDLL:
             "defaults": [number, pointer],
             "picture_size": [number],
             "packet_start": [pointer, size, pointer],
+            "datagram_start": [pointer, size, pointer],
             "receiver_start": [pointer, pointer, pointer],
             "receiver_start_at": [pointer, pointer, number, pointer],
             "receiver_packet": [pointer, pointer, size, pointer],

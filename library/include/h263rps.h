@@ -384,6 +384,7 @@ uint32_t h263rps_raw_version(void);
 uint32_t h263rps_raw_defaults(uint32_t format, h263rps_params *params);
 uint32_t h263rps_raw_picture_size(uint32_t format);
 uint32_t h263rps_raw_packet_start(const uint8_t *bytes, size_t length, h263rps_start *start);
+uint32_t h263rps_raw_datagram_start(const uint8_t *bytes, size_t length, h263rps_start *start);
 
 uint32_t h263rps_raw_receiver_start(h263rps_end *end, const h263rps_params *params,
                                     uint32_t *fault);
@@ -608,6 +609,19 @@ static inline uint32_t h263rps_packet_start(const void *bytes, size_t length,
     if (!start) return H263RPS_NULL;
     if (status) return status;
     return h263rps_raw_packet_start(length ? (const uint8_t *)bytes : &nothing, length, start);
+}
+
+/* The same of a datagram whose SSRC may be any, as a session takes it: of at most 9,000 bytes, with
+ * payload type H263RPS_PAYLOAD_TYPE. Give your sender the messages of those alone that the session
+ * heard (H263RPS_HEARD) in its followed run (H263RPS_FOLLOWED): any datagram may carry some.
+ * NO_START. */
+static inline uint32_t h263rps_datagram_start(const void *bytes, size_t length,
+                                              h263rps_start *start) {
+    uint8_t nothing = 0;
+    uint32_t status = h263rps_may_pass(bytes, length);
+    if (!start) return H263RPS_NULL;
+    if (status) return status;
+    return h263rps_raw_datagram_start(length ? (const uint8_t *)bytes : &nothing, length, start);
 }
 
 /* ---- the receiver -------------------------------------------------------------------------- */

@@ -12,6 +12,8 @@ pub mod Sending
 pub mod Steering
 pub mod Slots
 pub mod Ends
+pub mod Repeating
+pub mod Lines
 pub mod Start
 pub mod Timing
 pub mod SessionNumbers

@@ -1,10 +1,12 @@
 -- The start of a packet as C has it.
-use Rattle.std.specs.Prelude.{◌≡◌, ℕ, ◌*◌, List, [], ◌∷◌, drop, length, Option, Some, None}
+use Rattle.std.specs.Prelude.{◌≡◌, ℕ, ◌*◌, List, [], ◌∷◌, drop, length, nat_lt, Option, Some, None, if◌then◌else◌}
 use Rattle.h263_bits.specs.Bits.{bits_of}
 use Rattle.back_messages.specs.declared.message.Message.{Message}
 use Rattle.back_messages.specs.Text.{message_bits, message_text}
 use Rattle.picture_header.specs.declared.header.Header.{Header}
 use Rattle.picture_header.specs.Ranges.{messages_in}
+use Rattle.packet_start.specs.Start.{start_in}
+use Rattle.rtp_source.specs.Source.{renamed, source_in}
 use Rattle.h263rps_c.specs.declared.answers.CMessage.{CMessage}
 use Rattle.h263rps_c.specs.declared.start.Start.{Start}
 use Rattle.h263rps_c.specs.declared.refusals.EndRefusal.{EndRefusal}
@@ -17,6 +19,16 @@ use Rattle.h263rps_c.specs.Numbers.{no_message}
 abbrev pub start_refusal : Option Header → Option EndRefusal
 start_refusal None = Some NoStart
 start_refusal (Some h) = None
+
+abbrev pub if_headed : Option ℕ → Option Header → Option Header
+if_headed None start = None
+if_headed (Some source) start = start
+
+-- The header of a datagram that a session takes: it has at most 9,000 bytes, and any SSRC.
+abbrev pub datagram_start : List ℕ → Option Header
+datagram_start bytes =
+    if nat_lt 9000 (length bytes) then None
+    else if_headed (source_in bytes) (start_in (renamed bytes))
 
 -- 0 and the reference, or 1 where a picture is coded by itself
 abbrev pub Refers : ℕ → ℕ → Option ℕ → Type 0

@@ -23,6 +23,7 @@
 mod answers;
 mod asked;
 mod counting;
+mod datagram;
 mod ends;
 mod handles;
 mod joining;

@@ -91,8 +91,8 @@ fn count_at(place: &Option<Message>) -> u32
 }
 
 impl Start {
-    // What a header says.
-    fn of(header: &Header) -> Start
+    /// What a header says.
+    pub fn of(header: &Header) -> Start
         requires { IsHeader header.now }
         ensures { IsStart result header.now }
     {
