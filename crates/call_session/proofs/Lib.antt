@@ -5,3 +5,4 @@ mod Plays
 mod Reading
 mod Rivals
 mod Settling
+mod Only
