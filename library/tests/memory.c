@@ -64,6 +64,48 @@ static long requests_of_session(const h263rps_params *params) {
     }
 }
 
+/* The same of repeats, and of a line; and -1 where a later call makes one. */
+static long requests_of_repeats(void) {
+    for (refused = 0;; refused++) {
+        h263rps_repeats repeats = {0};
+        h263rps_lent lent;
+        asked = held = 0;
+        uint32_t status = h263rps_repeats_start(&repeats, 5, 1400);
+        if (status == H263RPS_OK) {
+            long made = asked;
+            for (unsigned n = 0; n < 100; n++) {
+                room[3] = (uint8_t)n;
+                if (h263rps_repeats_keep(&repeats, room, 1400 - n)) return -1;
+                if (h263rps_repeats_find(&repeats, (uint16_t)n, &lent) || !lent.length) return -1;
+            }
+            h263rps_repeats_finish(&repeats);
+            return held || asked != made ? -1 : made;
+        }
+        if (status != H263RPS_NO_MEMORY || held || repeats.end.kind || repeats.end.at) return -1;
+    }
+}
+
+static long requests_of_line(void) {
+    const h263rps_bounds bounds = {1800, 60, 9000, 8, 33366667};
+    for (refused = 0;; refused++) {
+        h263rps_line line = {0};
+        uint32_t target;
+        asked = held = 0;
+        uint32_t status = h263rps_line_start(&line, &bounds, 0);
+        if (status == H263RPS_OK) {
+            long made = asked;
+            for (uint32_t n = 0; n < 1000; n++) {
+                if (h263rps_line_sent(&line, n, 900 + n, 2, n * 33366667ull)) return -1;
+                if (h263rps_line_told(&line, n, n % 9, n * 33366667ull + 30000000)) return -1;
+                if (h263rps_line_target(&line, &target)) return -1;
+            }
+            h263rps_line_finish(&line);
+            return held || asked != made ? -1 : made;
+        }
+        if (status != H263RPS_NO_MEMORY || held || line.end.kind || line.end.at) return -1;
+    }
+}
+
 /* What a session asks for once it is started: 50 pictures of a sender come and are played. */
 static long later_of_session(h263rps_end *sender, const h263rps_params *params) {
     h263rps_session session = {0};
@@ -117,6 +159,7 @@ int main(void) {
     h263rps_defaults(H263RPS_CIF, &params);
     long by_sender = requests_of(0, &params), by_receiver = requests_of(1, &params);
     long by_session = requests_of_session(&params);
+    long by_repeats = requests_of_repeats(), by_line = requests_of_line();
     refused = -1;
     if (start(0, &sender, &params) || start(1, &receiver, &params)) return 1;
     asked = 0;
@@ -131,7 +174,9 @@ int main(void) {
     h263rps_sender_finish(&sender);
     h263rps_receiver_finish(&receiver);
     printf("requests for memory: a sender's start %ld, a receiver's %ld, 50 pictures, a reset and "
-           "10 more then %ld; a session's start %ld, 50 pictures then %ld\n",
-           by_sender, by_receiver, later, by_session, of_session);
+           "10 more then %ld; a session's start %ld, 50 pictures then %ld; of repeats %ld, of a "
+           "line %ld\n",
+           by_sender, by_receiver, later, by_session, of_session, by_repeats, by_line);
+    if (by_repeats < 1 || by_line < 1) return 9;
     return by_sender < 1 || by_receiver < 1 || later || by_session < 1 || of_session;
 }

@@ -9,17 +9,20 @@ from h263rps import (
     Arrived,
     Fault,
     Heard,
+    Line,
     MessageFault,
     Params,
     Played,
     PlayedLent,
     Receiver,
     Refused,
+    Repeats,
     Sender,
     Session,
     Start,
     Status,
     Turn,
+    datagram_start,
     packet_start,
     picture_size,
 )
@@ -47,6 +50,19 @@ def right(picture: bytes) -> None:
         except Refused as refused:
             status: Status = refused.status
             print(status is Status.BAD_PARAMS, status.text)
+
+
+def beside(packet: bytes, now: int) -> None:
+    with Repeats(512, 1500) as repeats:
+        repeats.keep(packet)
+        again: bytes | None = repeats.find(7)
+        print(again or b"", datagram_start(packet).messages)
+    with Line(first=900, least=300, most=3600, finest=4, period=33_366_667, now=now) as line:
+        line.sent(0, len(packet), 1, now)
+        line.told(0, True, now)
+        room: bool = line.has_room(now)
+        sum_of: int = line.rate + line.wanted + line.target + line.quant
+        print(room, sum_of)
 
 
 def session(datagram: bytes) -> None:

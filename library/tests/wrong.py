@@ -11,11 +11,14 @@ sys.path[:0] = [str(Path(__file__).resolve().parent.parent)]
 from h263rps import (  # noqa: E402
     PAYLOAD_TYPE,
     SSRC,
+    Line,
     Params,
     Receiver,
     Refused,
+    Repeats,
     Sender,
     Session,
+    datagram_start,
     label,
     packet_start,
 )
@@ -133,6 +136,59 @@ wanted("Refused: reset: not started", lambda: it.reset(0))
 wanted("Refused: forget: not started", sender.forget)
 wanted("Refused: sent: not started", sender.sent)
 wanted("Refused: packet: not started", lambda: sender.packet(0))
+
+# Packets that were sent.
+for words in ({"count": 0}, {"count": 65537}, {"longest": 11}, {"longest": 65508}):
+    wanted("Refused: start: bad params", lambda: Repeats(**words))
+wanted("ValueError: count: -1 is out of its range", lambda: Repeats(-1))
+with Repeats(4, 20) as repeats:
+    wanted("None", lambda: repeats.find(7))
+    for n in (65534, 65535, 0, 1, 2):
+        repeats.keep(bytes((128, 96, n >> 8, n & 255)) + bytes(9))
+    numbers = (65534, 65535, 0, 1, 2)
+    wanted("[0, 13, 13, 13, 13]", lambda: [len(repeats.find(n) or b"") for n in numbers])
+    repeats.keep(bytearray((128, 96, 0, 2)) + bytes(17))
+    repeats.keep(bytes((128, 96, 0, 2)) + bytes(7))
+    wanted("True", lambda: repeats.find(2) == bytes((128, 96, 0, 2)) + bytes(9))
+    wanted("ValueError: sequence: 65536 is out of its range", lambda: repeats.find(65536))
+    wanted("TypeError: a repeats can't be copied or pickled", lambda: repeats.__reduce_ex__(2))
+wanted("Refused: find: not started", lambda: repeats.find(1))
+wanted("Refused: keep: not started", lambda: repeats.keep(bytes(12)))
+
+
+# A line: of eight pictures one is whole, so that three eighths of its rate are left.
+def line(**more: int) -> Line:
+    asked = {"first": 1800, "least": 60, "most": 999999, "finest": 8, "period": 100_000_000}
+    return Line(**{**asked, "now": 0, **more})
+
+
+for name, value in (
+    *(("least", 0), ("first", 59), ("most", 1799), ("most", 1000000)),
+    *(("finest", 0), ("finest", 32), ("period", 0)),
+):
+    wanted("Refused: start: bad params", lambda: line(**{name: value}))
+wanted("ValueError: now: -1 is out of its range", lambda: line(now=-1))
+with line() as followed:
+    told = (followed.rate, followed.wanted, followed.target, followed.quant)
+    wanted("(18000, 1800, 1800, 8)", lambda: told)
+    for n in range(9):
+        followed.sent(n, 1800, 2, n * 100_000_000)
+        followed.told(n, n < 2, n * 100_000_000 + 20_000_000)
+    wanted("6750", lambda: followed.rate)
+    wanted("[False, True]", lambda: [followed.has_room(n * 1_000_000) for n in (1019, 1020)])
+    wanted("ValueError: packets: 65536 is out of its range", lambda: followed.sent(9, 1, 65536, 0))
+    wanted("ValueError: number: -1 is out of its range", lambda: followed.told(-1, True, 0))
+wanted("Refused: rate: not started", lambda: followed.rate)
+wanted("Refused: has_room: not started", lambda: followed.has_room(0))
+
+# The messages of a packet with any SSRC.
+with Sender(Params.of("qcif")) as sender:
+    packet = label(sender.packets(sender.code(bytes(38016), [ACK]))[0], 7, PAYLOAD_TYPE)
+    wanted("Refused: packet start: no start", lambda: packet_start(packet))
+    wanted("True", lambda: datagram_start(packet).messages == (ACK,))
+    wanted("Refused: datagram start: no start", lambda: datagram_start(label(packet, 7, 97)))
+    wanted("Refused: datagram start: no start", lambda: datagram_start(bytes(9001)))
+    wanted("Refused: datagram start: no start", lambda: datagram_start(b""))
 
 # A header has the messages of the places that aren't empty.
 with Sender(Params.of("qcif")) as sender:

@@ -230,10 +230,25 @@ export function version(): number;
 export function pictureSize(format: Format): number;
 /** What a packet says of its picture; bytes that begin as no packet are Refused. */
 export function packetStart(packet: Bytes): Start;
+/** The same of one whose SSRC may be any, as a session takes it: for a sender where it was heard, in the followed run. */
+export function datagramStart(datagram: Bytes): Start;
 /** An RTP packet with another SSRC and payload type, as a new one. */
 export function label(packet: Bytes, ssrc: number, payloadType: number): Uint8Array;
 
-/** An end, or a session, between its start and its close. */
+/** Where a line begins, between which its rate stays, and when: a BigInt of nanoseconds. */
+export interface Bounds {
+  /** Bytes a picture, with 1 <= least <= first <= most <= 999,999. */
+  first: number;
+  least: number;
+  most: number;
+  /** The finest quantiser, 1 to 31. */
+  finest: number;
+  /** The time of a picture, in nanoseconds. */
+  period: number;
+  now: bigint;
+}
+
+/** An end, or what stands beside one, between its start and its close. */
 declare class Started {
   /** Gives the memory back. A second one does nothing. */
   close(): void;
@@ -261,6 +276,35 @@ export class Sender extends Started {
   /** How many pictures it knows to be complete on the other side, of those to which its next one may refer. */
   known(): number;
   statistics(): Sent;
+}
+
+/** The packets that were sent last, so that those can be sent again for which a receiver asks. */
+export class Repeats extends Started {
+  /** At least the last `count` packets (512), of at most `longest` bytes (1,500). */
+  constructor(size?: { count?: number; longest?: number });
+  /** Keeps an RTP packet that was sent; not one that is longer than `longest`, or too short. */
+  keep(packet: Bytes): void;
+  /** A copy of the newest packet with this sequence number; null where it isn't kept. */
+  find(sequence: number): Uint8Array | null;
+}
+
+/** The rate that a line carries, by what the messages of the other side tell. */
+export class Line extends Started {
+  constructor(bounds: Bounds);
+  /** The picture of this number went out, with `size` bytes in so many packets. */
+  sent(number: number, size: number, packets: number, now: bigint): void;
+  /** A message came about this picture: it is whole at the other side, or it isn't. */
+  told(number: number, isWhole: boolean, now: bigint): void;
+  /** Whether the next frame may go out; else it is to be left out. */
+  hasRoom(now: bigint): boolean;
+  /** Bytes a second that the line carries, with the heads of IP and UDP. */
+  readonly rate: number;
+  /** Bytes that the next picture may have. */
+  readonly wanted: number;
+  /** The next picture's target, for `target` of a sender. */
+  readonly target: number;
+  /** The quantiser at which the next picture would have about the bytes that it may have. */
+  readonly quant: number;
 }
 
 /** The end that hears packets and plays a picture at each picture's time. */

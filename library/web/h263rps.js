@@ -19,6 +19,15 @@
  *     const turn = session.play(now);          // null where nothing is due; session.shown() has the picture
  *     const asked = session.missing(roundTrip, now);    // what to send as Generic NACKs, where it is repeated
  *
+ *     const repeats = new Repeats({ count: 512, longest: 1500 });   // the packets that were sent last
+ *     repeats.keep(packet);
+ *     const again = repeats.find(sequence);    // null where it isn't kept
+ *
+ *     const line = new Line({ first: 900, least: 300, most: 3600, finest: 4, period: 33_366_667, now });
+ *     if (line.hasRoom(now)) ...               // code a picture of about line.wanted bytes, and then:
+ *     line.sent(coded.number, size, coded.packets, now);
+ *     line.told(number, true, now);            // of each message about a picture
+ *
  * A picture that is lent is a view of the receiver's or session's own, good until the next call of anything here:
  * read it, and don't write it. All else that a call gives is the caller's.
  * @module
@@ -209,9 +218,23 @@ export function label(packet, ssrc, payloadType) {
  * @returns {import("./h263rps.js").Start}
  */
 export function packetStart(packet) {
+  return startOf("packet", packet);
+}
+
+/**
+ * The same of one whose SSRC may be any, as a session takes it. Its messages are for one's own sender where the session
+ * heard it, in the followed run: any datagram may carry some.
+ * @param {import("./h263rps.js").Bytes} datagram
+ * @returns {import("./h263rps.js").Start}
+ */
+export function datagramStart(datagram) {
+  return startOf("datagram", datagram);
+}
+
+function startOf(name, packet) {
   const { answerRoom: to } = loaded();
-  const call = (at, size) => memory.call("packet_start", at, size, BigInt(to));
-  must("packet start", memory.passed(bytesOf("packet", packet), call));
+  const call = (at, size) => memory.call(`${name}_start`, at, size, BigInt(to));
+  must(`${name} start`, memory.passed(bytesOf(name, packet), call));
   const [format, clock, temporalReference, isIntra, reference, count] = memory.numbers(to, 6);
   return {
     format: wordOf(FORMATS, format),
@@ -245,17 +268,22 @@ class Held {
   }
 }
 
-/** An end, or a session, between its start and its close. */
+/** What starts without the parameters of a call, and so tells of no fault of theirs. */
+const NO_PARAMS = Symbol("no parameters");
+
+/** An end, or what stands beside one, between its start and its close. */
 class Started {
   #held;
 
-  /** `at` are words between the parameters and the fault. */
-  constructor(name, start, params, ...at) {
+  /** `more` are words between the parameters and the fault. */
+  constructor(name, start, params, ...more) {
     const { structRoom: words, answerRoom: fault } = loaded();
-    Params.write(params, words);
+    const has = params !== NO_PARAMS;
+    if (has) Params.write(params, words);
     this.#held = new Held(name, SIZE[name] ?? SIZE.end);
     memory.setNumber(fault, 0);
-    const status = memory.call(`${name}_${start}`, BigInt(this.#held.at), BigInt(words), ...at, BigInt(fault));
+    const all = has ? [BigInt(words), ...more, BigInt(fault)] : more;
+    const status = memory.call(`${name}_${start}`, BigInt(this.#held.at), ...all);
     if (status) {
       const detail = FAULTS[memory.number(fault) - 1];
       this.#held.finish();
@@ -406,6 +434,107 @@ function writeMessages(messages) {
     memory.bytes[at + MESSAGE] = Math.min(messages[n].length, 255);
   }
   return count;
+}
+
+// ---- repeats and the line ---------------------------------------------------------------------
+
+/** A whole number from 0 to 2^16 - 1: the module would cut any other. */
+function shortCounted(name, value) {
+  if (counted(name, value) > 0xffff) throw new RangeError(`${name}: ${value} is out of its range`);
+  return value;
+}
+
+/** The packets that were sent last, so that those can be sent again for which a receiver asks. */
+export class Repeats extends Started {
+  /**
+   * Of packets with sequence numbers that follow one another it keeps the last `count`, 1 to 65,536, or somewhat more; each
+   * has at most `longest` bytes, 12 to 65,507.
+   * @param {{ count?: number, longest?: number }} size
+   */
+  constructor({ count = 512, longest = 1500 } = {}) {
+    super("repeats", "start", NO_PARAMS, counted("count", count), counted("longest", longest));
+  }
+
+  /**
+   * Keeps an RTP packet that was sent; not one that is longer than `longest`, or too short.
+   * @param {import("./h263rps.js").Bytes} packet
+   */
+  keep(packet) {
+    memory.passed(bytesOf("packet", packet), (at, size) => this._must("keep", "keep", at, size));
+  }
+
+  /**
+   * A copy of the newest packet with this sequence number; null where it isn't kept.
+   * @param {number} sequence
+   * @returns {Uint8Array | null}
+   */
+  find(sequence) {
+    const { answerRoom: at } = memory;
+    this._must("find", "find", shortCounted("sequence", sequence), BigInt(at));
+    const length = memory.long(at + 8);
+    return length ? memory.copied(memory.long(at), length) : null;
+  }
+}
+
+/** Puts a line's bounds where its start finds them, and answers where that is. */
+function boundsAt({ first, least, most, finest, period }) {
+  const { structRoom: at } = loaded();
+  const bounds = Object.entries({ first, least, most, finest, period });
+  for (const [n, [name, value]] of bounds.entries()) memory.setNumber(at + 4 * n, counted(name, value));
+  return BigInt(at);
+}
+
+/**
+ * The rate that a line carries, by what the messages of the other side tell. Each time is a BigInt of nanoseconds, of one
+ * clock.
+ */
+export class Line extends Started {
+  /**
+   * It begins at `first` bytes a picture and stays between `least` and `most`; `finest` is the finest quantiser, and a
+   * picture comes each `period` nanoseconds.
+   * @param {import("./h263rps.js").Bounds} bounds
+   */
+  constructor(bounds = {}) {
+    super("line", "start", NO_PARAMS, boundsAt(bounds), longCounted("now", bounds.now));
+  }
+
+  /** The picture of this number went out, with `size` bytes in so many packets. */
+  sent(number, size, packets, now) {
+    const words = [counted("number", number), counted("size", size), shortCounted("packets", packets)];
+    this._must("sent", "sent", ...words, longCounted("now", now));
+  }
+
+  /** A message came about this picture: it is whole at the other side, or it isn't. */
+  told(number, isWhole, now) {
+    this._must("told", "told", counted("number", number), isWhole ? 1 : 0, longCounted("now", now));
+  }
+
+  /** Whether the next frame may go out; else it is to be left out. */
+  hasRoom(now) {
+    const { answerRoom: at } = memory;
+    this._must("hasRoom", "has_room", longCounted("now", now), BigInt(at));
+    return memory.number(at) !== 0;
+  }
+
+  /** Bytes a second that the line carries, with the heads of IP and UDP. */
+  get rate() {
+    return this._count("rate");
+  }
+
+  /** Bytes that the next picture may have. */
+  get wanted() {
+    return this._count("wanted");
+  }
+
+  /** The next picture's target, for `target` of a sender. */
+  get target() {
+    return this._count("target");
+  }
+
+  /** The quantiser at which the next picture would have about the bytes that it may have. */
+  get quant() {
+    return this._count("quant");
+  }
 }
 
 // ---- the receiver -----------------------------------------------------------------------------

@@ -6,6 +6,8 @@ mod line_follower_tests;
 #[cfg(test)]
 mod packet_gaps_tests;
 #[cfg(test)]
+mod packet_repeats_tests;
+#[cfg(test)]
 mod playout_times_tests;
 #[cfg(test)]
 mod stream_choice_tests;

@@ -1,7 +1,8 @@
 /* What TypeScript takes and refuses of the module's types: tsc --noEmit. */
 
 import {
-  Fault, Params, Receiver, Refused, Sender, Session, hasLongMemory, label, load, packetStart, pictureSize,
+  Fault, Line, Params, Receiver, Refused, Repeats, Sender, Session, datagramStart, hasLongMemory, label, load, packetStart,
+  pictureSize,
 } from "../h263rps.js";
 import type { Cause, Coded, Format, Mark, Turn } from "../h263rps.js";
 
@@ -46,6 +47,19 @@ export function follow(datagrams: Iterable<[Uint8Array, bigint]>, reply: (source
   return session.statistics().dropped;
 }
 
+export function beside(packet: Uint8Array, now: bigint): Uint8Array | null {
+  const line = new Line({ first: 900, least: 300, most: 3600, finest: 4, period: 33_366_667, now });
+  if (line.hasRoom(now)) line.sent(0, packet.length, 1, now);
+  line.told(0, datagramStart(packet).messages.length > 0, now);
+  console.log(line.rate + line.wanted + line.target + line.quant);
+  line.close();
+  const repeats = new Repeats({ count: 512 });
+  repeats.keep(packet);
+  return repeats.find(7);
+}
+
+// @ts-expect-error: a line wants the time
+new Line({ first: 900, least: 300, most: 3600, finest: 4, period: 33_366_667 });
 // @ts-expect-error: times are BigInts
 new Session(Params.of("cif"), { rate: 30, wait: 60 });
 // @ts-expect-error: a session wants its timing

@@ -2,7 +2,8 @@
 /* wrong.mjs: wrong calls of the module for JavaScript: each is an exception that names what is wrong, and never a trap. */
 
 import {
-  Params, PAYLOAD_TYPE, Receiver, SSRC, Sender, Session, label, load, packetStart, pictureSize, version,
+  Line, Params, PAYLOAD_TYPE, Receiver, Repeats, SSRC, Sender, Session, datagramStart, label, load, packetStart, pictureSize,
+  version,
 } from "../h263rps.js";
 
 /** The acknowledgement of picture 0. */
@@ -243,6 +244,60 @@ withEnds((sender) => {
 });
 await load(process.env.H263RPS_MODULE ? new URL(process.env.H263RPS_MODULE, "file:") : undefined);
 withEnds((sender) => wanted("0", () => sender.code(bytes(QCIF)).number));
+
+// Packets that were sent.
+for (const size of [{ count: 0 }, { count: 65537 }, { longest: 11 }, { longest: 65508 }]) {
+  wanted("Refused: start: bad params", () => new Repeats(size));
+}
+wanted("TypeError: count: a whole number is wanted", () => new Repeats({ count: "9" }));
+{
+  const repeats = new Repeats({ count: 4, longest: 20 });
+  const packet = (n, length) => Uint8Array.from({ length }, (_, at) => [128, 96, n >> 8, n & 255][at] ?? n % 251);
+  const numbers = [65534, 65535, 0, 1, 2];
+  for (const n of numbers) repeats.keep(packet(n, 13));
+  wanted("[null,13,13,13,13]", () => numbers.map((n) => repeats.find(n)?.length ?? null));
+  wanted(JSON.stringify(Array.from(packet(2, 13))), () => Array.from(repeats.find(2)));
+  repeats.keep(packet(2, 21));
+  repeats.keep(packet(2, 11));
+  wanted("13", () => repeats.find(2).length);
+  wanted("RangeError: sequence: 65536 is out of its range", () => repeats.find(65536));
+  wanted("TypeError: packet: bytes are wanted: a Uint8Array, an ArrayBuffer or a view of one", () => repeats.keep("a"));
+  repeats.close();
+  wanted("Refused: find: not started", () => repeats.find(1));
+  wanted("Refused: keep: not started", () => repeats.keep(packet(2, 13)));
+}
+
+// A line: of eight pictures one is whole, so that three eighths of its rate are left.
+const BOUNDS = { first: 1800, least: 60, most: 999_999, finest: 8, period: 100_000_000, now: 0n };
+for (const more of [{ least: 0 }, { first: 59 }, { most: 1799 }, { most: 1e6 }, { finest: 0 }, { finest: 32 }, { period: 0 }]) {
+  wanted("Refused: start: bad params", () => new Line({ ...BOUNDS, ...more }));
+}
+wanted("TypeError: first: a whole number is wanted", () => new Line());
+wanted("TypeError: now: a BigInt is wanted", () => new Line({ ...BOUNDS, now: 0 }));
+{
+  const line = new Line(BOUNDS);
+  wanted("[18000,1800,1800,8]", () => [line.rate, line.wanted, line.target, line.quant]);
+  for (let n = 0; n < 9; n++) {
+    line.sent(n, 1800, 2, BigInt(n) * 100_000_000n);
+    line.told(n, n < 2, BigInt(n) * 100_000_000n + 20_000_000n);
+  }
+  wanted("6750", () => line.rate);
+  wanted("[false,true]", () => [line.hasRoom(1_019_000_000n), line.hasRoom(1_020_000_000n)]);
+  wanted("RangeError: packets: 65536 is out of its range", () => line.sent(9, 1, 65536, 0n));
+  wanted("TypeError: now: a BigInt is wanted", () => line.hasRoom(5));
+  line.close();
+  wanted("Refused: rate: not started", () => line.rate);
+  wanted("Refused: hasRoom: not started", () => line.hasRoom(0n));
+}
+
+// The messages of a packet with any SSRC.
+withEnds((sender) => {
+  const packet = label(sender.packets(sender.code(bytes(QCIF), [ACK]))[0], 7, PAYLOAD_TYPE);
+  wanted("Refused: packet start: no start", () => packetStart(packet));
+  wanted("[[192,4,0]]", () => datagramStart(packet).messages.map((message) => Array.from(message)));
+  wanted("Refused: datagram start: no start", () => datagramStart(label(packet, 7, 97)));
+  wanted("Refused: datagram start: no start", () => datagramStart(bytes(9001)));
+});
 
 // Ends that are started and finished again and again take no more memory than those that are open at once.
 const sizes = { "sub-qcif": 18432, qcif: QCIF, cif: 152064 };
