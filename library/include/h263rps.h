@@ -1132,8 +1132,8 @@ static inline uint32_t h263rps_session_missing(h263rps_session *session, uint64_
 }
 
 /* The stream with this SSRC has ended, as a BYE (RFC 3550, 6.6) says: if it is the followed one,
- * another may be followed at once, not only half a second after its last picture. Its pictures that
- * came are played still. Of any other stream it changes nothing.
+ * another may be tried at once, not only half a second after its last picture. It stays followed
+ * until a picture of that one is complete. Of any other stream it changes nothing.
  * NOT_STARTED. */
 static inline uint32_t h263rps_session_bye(h263rps_session *session, uint32_t source,
                                            uint64_t now) {

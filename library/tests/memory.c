@@ -111,6 +111,7 @@ static long later_of_session(h263rps_end *sender, const h263rps_params *params) 
     h263rps_session session = {0};
     h263rps_arrived arrived;
     h263rps_turn turn;
+    h263rps_nack nack;
     h263rps_coded coded;
     size_t count;
     long played = 0;
@@ -124,8 +125,11 @@ static long later_of_session(h263rps_end *sender, const h263rps_params *params) 
             for (int k = 0; k < 4; k++) room[4 + k] = (uint8_t)(stamp >> (24 - 8 * k));
             if (h263rps_session_arrival(&session, room, count, now, &arrived)) return -1;
         }
+        if (h263rps_session_missing(&session, 0, now, &nack)) return -1;
         while (!h263rps_session_play(&session, now + 2000000, &turn) && turn.plays) played++;
+        if (n == 48 && h263rps_session_bye(&session, H263RPS_SSRC, now)) return -1;
     }
+    if (h263rps_session_reset(&session, 0)) return -1;
     h263rps_session_finish(&session);
     return played < 48 ? -1 : asked;
 }
