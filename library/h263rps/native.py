@@ -88,6 +88,13 @@ class Bounds(ctypes.Structure):
     ]
 
 
+class FitPace(ctypes.Structure):
+    _fields_ = [
+        *[(name, ctypes.c_uint32) for name in ("target", "room")],
+        *[(name, ctypes.c_uint64) for name in ("level", "intra", "predicted")],
+    ]
+
+
 class SessionEnd(ctypes.Structure):
     _fields_ = [("kind", ctypes.c_uint32), ("at", ctypes.c_void_p)]
 
@@ -233,6 +240,7 @@ def library() -> ctypes.CDLL:
             "sender_packet": [pointer, number, pointer, size, pointer],
             "sender_feedback": [pointer, pointer, size, pointer],
             "sender_target": [pointer, number],
+            "sender_quant": [pointer, ctypes.c_uint8],
             "sender_forget": [pointer],
             "sender_reset": [pointer, number],
             "sender_sent": [pointer, pointer],
@@ -252,6 +260,9 @@ def library() -> ctypes.CDLL:
             "line_target": [pointer, pointer],
             "line_quant": [pointer, pointer],
             "line_finish": [pointer],
+            "pace_start": [pointer, number, number, number],
+            "pace_redirect": [pointer, number, number],
+            "pace_quant": [pointer, number],
             "session_start": [pointer, pointer, pointer, pointer],
             "session_arrival": [pointer, pointer, size, time, pointer],
             "session_arrival_of": [pointer, number, pointer, size, time, pointer],
@@ -267,5 +278,7 @@ def library() -> ctypes.CDLL:
         }.items():
             call = getattr(found, f"h263rps_raw_{name}")
             call.argtypes, call.restype = takes, number
+        coded = found.h263rps_raw_pace_coded
+        coded.argtypes, coded.restype = [pointer, number, ctypes.c_uint8, number], None
         _loaded = found
     return _loaded

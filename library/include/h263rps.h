@@ -283,6 +283,16 @@ typedef struct h263rps_coded {
     uint32_t reference; /* the number of the picture that it is predicted from, else 0 */
 } h263rps_coded;
 
+/* A pace, which fits a sender's pictures to a target in bytes a picture: a struct of numbers, which
+ * may be copied. h263rps_pace_start() sets it, and the functions of a pace write it. */
+typedef struct h263rps_pace {
+    uint32_t target;    /* bytes a picture, 1 to 999,999 */
+    uint32_t room;      /* bytes by which their sum may exceed it */
+    uint64_t level;     /* bytes by which the pictures exceed the target now */
+    uint64_t intra;     /* of a picture that is coded by itself: its bytes times its quantiser */
+    uint64_t predicted; /* the same of one that is predicted */
+} h263rps_pace;
+
 /* A sender's answer to a message. */
 typedef struct h263rps_reply {
     uint32_t kind;  /* enum h263rps_noted */
@@ -410,6 +420,7 @@ uint32_t h263rps_raw_sender_packet(h263rps_end *end, uint32_t number, uint8_t *r
 uint32_t h263rps_raw_sender_feedback(h263rps_end *end, const uint8_t *message, size_t length,
                                      h263rps_reply *reply);
 uint32_t h263rps_raw_sender_target(h263rps_end *end, uint32_t bytes);
+uint32_t h263rps_raw_sender_quant(h263rps_end *end, uint8_t quant);
 uint32_t h263rps_raw_sender_forget(h263rps_end *end);
 uint32_t h263rps_raw_sender_reset(h263rps_end *end, uint32_t bytes);
 uint32_t h263rps_raw_sender_sent(h263rps_end *end, uint32_t *count);
@@ -432,6 +443,12 @@ uint32_t h263rps_raw_line_wanted(h263rps_end *end, uint32_t *bytes);
 uint32_t h263rps_raw_line_target(h263rps_end *end, uint32_t *bytes);
 uint32_t h263rps_raw_line_quant(h263rps_end *end, uint32_t *quant);
 uint32_t h263rps_raw_line_finish(h263rps_end *end);
+
+uint32_t h263rps_raw_pace_start(h263rps_pace *pace, uint32_t format, uint32_t target,
+                                uint32_t room);
+uint32_t h263rps_raw_pace_redirect(h263rps_pace *pace, uint32_t target, uint32_t room);
+uint32_t h263rps_raw_pace_quant(const h263rps_pace *pace, uint32_t intra);
+void h263rps_raw_pace_coded(h263rps_pace *pace, uint32_t intra, uint8_t quant, uint32_t bytes);
 
 uint32_t h263rps_raw_session_start(h263rps_session *session, const h263rps_params *params,
                                    const h263rps_timing *timing, uint32_t *fault);
@@ -818,6 +835,14 @@ static inline uint32_t h263rps_sender_target(h263rps_end *end, uint32_t bytes) {
     return h263rps_raw_sender_target(end, bytes);
 }
 
+/* A sender codes with this quantiser, 1 fine to 31 coarse, from its next picture on, and follows no
+ * target; h263rps_sender_target() ends that.
+ * NOT_STARTED, OTHER_END, BAD_PARAMS. */
+static inline uint32_t h263rps_sender_quant(h263rps_end *end, uint32_t quant) {
+    if (!end) return H263RPS_NULL;
+    return h263rps_raw_sender_quant(end, (uint8_t)(quant > 31 ? 0 : quant));
+}
+
 /* A sender forgets the pictures that it coded: none of them is a reference any more, however late
  * it is acknowledged. So the next picture is intra, as a picture loss indication, a full intra
  * request or a new viewer asks for, and those after it as well until one of them is acknowledged.
@@ -1024,6 +1049,60 @@ static inline uint32_t h263rps_line_quant(h263rps_line *line, uint32_t *quant) {
 static inline uint32_t h263rps_line_finish(h263rps_line *line) {
     if (!line) return H263RPS_NULL;
     return h263rps_raw_line_finish(&line->end);
+}
+
+/* ---- a pace -------------------------------------------------------------------------------- */
+
+/* Sets a pace before its first picture: of a format, with a target of 1 to 999,999 bytes a picture,
+ * which their sum may exceed by `room` bytes. A room of 20 to 30 targets leaves the first pictures,
+ * which are intra, fine enough; a smaller one keeps nearer to the target.
+ *
+ *     h263rps_pace pace;
+ *     h263rps_pace_start(&pace, H263RPS_QCIF, 1000, 30000);
+ *     ...                                        // of each picture:
+ *     h263rps_pace_next(&pace, &sender, &quant); // sets the sender's quantiser
+ *     h263rps_sender_code(&sender, picture, length, NULL, 0, &coded);
+ *     ...                                        // its packets have `bytes` bytes together
+ *     h263rps_pace_coded(&pace, &coded, quant, bytes);
+ *
+ * BAD_PARAMS. */
+static inline uint32_t h263rps_pace_start(h263rps_pace *pace, uint32_t format, uint32_t target,
+                                          uint32_t room) {
+    if (!pace) return H263RPS_NULL;
+    return h263rps_raw_pace_start(pace, format, target, room);
+}
+
+/* A pace follows another target, with another room, from its next picture on. What was sent beyond
+ * the target stays counted.
+ * BAD_PARAMS. */
+static inline uint32_t h263rps_pace_target(h263rps_pace *pace, uint32_t target, uint32_t room) {
+    if (!pace) return H263RPS_NULL;
+    return h263rps_raw_pace_redirect(pace, target, room);
+}
+
+/* Gives a sender the quantiser with which its next picture is to be coded, 2 to 31, and writes it to
+ * `quant`. It is coarser where the pictures of its kind before were larger, and 31 where what was
+ * sent exceeds the target by more than the room.
+ * NOT_STARTED, OTHER_END. */
+static inline uint32_t h263rps_pace_next(const h263rps_pace *pace, h263rps_end *end,
+                                         uint32_t *quant) {
+    uint32_t known = 0, status, chosen;
+    if (!pace || !end || !quant) return H263RPS_NULL;
+    status = h263rps_raw_sender_known(end, &known);
+    if (status) return status;
+    chosen = h263rps_raw_pace_quant(pace, known == 0);
+    status = h263rps_raw_sender_quant(end, (uint8_t)chosen);
+    if (!status) *quant = chosen;
+    return status;
+}
+
+/* Tells a pace of the picture that was coded: with this quantiser, and so many bytes of its packets
+ * together. Tell it of each one. */
+static inline uint32_t h263rps_pace_coded(h263rps_pace *pace, const h263rps_coded *coded,
+                                          uint32_t quant, uint32_t bytes) {
+    if (!pace || !coded) return H263RPS_NULL;
+    h263rps_raw_pace_coded(pace, coded->intra, (uint8_t)(quant > 31 ? 31 : quant), bytes);
+    return H263RPS_OK;
 }
 
 /* ---- the session --------------------------------------------------------------------------- */

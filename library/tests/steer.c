@@ -180,6 +180,60 @@ static void pass(h263rps_end *sender, h263rps_end *receiver, uint32_t number, st
     want("its reference", answer.reference, made->coded.reference);
 }
 
+/* A quantiser that is told is that of the parameters, byte for byte, and a target ends it. */
+static void told_quantiser(void) {
+    static struct made one, other;
+    h263rps_params with = params;
+    h263rps_end first = {0}, second = {0};
+    with.quant = 20;
+    want("start", h263rps_sender_start(&first, &with, NULL), 0);
+    want("start", h263rps_sender_start(&second, &params, NULL), 0);
+    want("quantiser", h263rps_sender_quant(&second, 20), 0);
+    for (uint32_t number = 0; number < 4; number++) {
+        code(&first, number, &one);
+        code(&second, number, &other);
+        want("the same packets", memcmp(one.packets, other.packets, sizeof one.packets), 0);
+    }
+    want("quantiser", h263rps_sender_quant(&first, params.quant), 0);
+    want("target", h263rps_sender_target(&second, 0), 0);
+    code(&first, 4, &one);
+    code(&second, 4, &other);
+    want("the parameters' again", memcmp(one.packets, other.packets, sizeof one.packets), 0);
+    want("finish", h263rps_sender_finish(&first), 0);
+    want("finish", h263rps_sender_finish(&second), 0);
+}
+
+/* Pictures of a pace keep to its target once the first ones are made good, by a number of bytes that
+ * is less than a picture's; with a greater target they are finer. */
+static void fitting(void) {
+    enum { PICTURES = 40, FIRST = 10 };
+    static struct made made;
+    uint32_t coarse = 0;
+    for (uint32_t target = 800; target <= 3200; target *= 2) {
+        h263rps_end sender = {0};
+        h263rps_pace pace;
+        uint32_t quant = 0, all = 0, quants = 0;
+        want("start", h263rps_sender_start(&sender, &params, NULL), 0);
+        want("pace", h263rps_pace_start(&pace, params.format, target, 4 * target), 0);
+        for (uint32_t number = 0; number < PICTURES; number++) {
+            want("next", h263rps_pace_next(&pace, &sender, &quant), 0);
+            code(&sender, number, &made);
+            want("coded", h263rps_pace_coded(&pace, &made.coded, quant, (uint32_t)made.bytes), 0);
+            acknowledge(&sender, number);
+            if (number < FIRST) continue;
+            all += (uint32_t)made.bytes;
+            quants += quant;
+        }
+        printf("target %u: %u bytes a picture, quantiser %u\n", (unsigned)target,
+               (unsigned)(all / (PICTURES - FIRST)), (unsigned)(quants / (PICTURES - FIRST)));
+        want("no more", all < (PICTURES - FIRST + 1) * target, 1);
+        want("no less", all > (PICTURES - FIRST - 1) * target, 1);
+        want("finer", coarse == 0 || quants < coarse, 1);
+        coarse = quants;
+        want("finish", h263rps_sender_finish(&sender), 0);
+    }
+}
+
 /* A call that begins anew has the packets of the first one, byte for byte, and its counts begin at
  * 0; a number or a target out of its range changes nothing. */
 static void beginning_anew(void) {
@@ -217,6 +271,8 @@ int main(void) {
     forgetting();
     same_target();
     later_target();
+    told_quantiser();
+    fitting();
     joining();
     beginning_anew();
     if (!wrong) printf("a sender is steered, a receiver joins, and a call begins anew\n");

@@ -117,6 +117,8 @@ static void receiver_calls(h263rps_end *end, uint32_t status) {
     want("nothing is lent", lent.samples == room && lent.length == 77, 1);
 }
 
+static const h263rps_pace paced = {1000, 8000, 0, 1000, 1000};
+
 static void sender_calls(h263rps_end *end, uint32_t status) {
     memset(&coded, 0xAA, sizeof coded);
     memset(&reply, 0xAA, sizeof reply);
@@ -127,6 +129,8 @@ static void sender_calls(h263rps_end *end, uint32_t status) {
     want("packet", h263rps_sender_packet(end, 0, room, sizeof room, &count), status);
     want("feedback", h263rps_sender_feedback(end, "abc", 3, &reply), status);
     want("target", h263rps_sender_target(end, 1000000), status);
+    want("quantiser", h263rps_sender_quant(end, 32), status);
+    want("pace", h263rps_pace_next(&paced, end, &pictures), status);
     want("forget", h263rps_sender_forget(end), status);
     want("reset", h263rps_sender_reset(end, 1000000), status);
     want("sent", h263rps_sender_sent(end, &pictures), status);
@@ -283,6 +287,7 @@ static void labels(void) {
 }
 
 static void sender(void) {
+    uint32_t quant = 77;
     h263rps_end end = {0};
     h263rps_message back[5] = {{{0xC0, 0x04, 0x00, 0, 0}, 3}};
     sender_calls(&end, H263RPS_NOT_STARTED);
@@ -320,12 +325,40 @@ static void sender(void) {
     want("too great a target", h263rps_sender_target(&end, 1000000), H263RPS_BAD_PARAMS);
     want("the greatest", h263rps_sender_target(&end, 999999), H263RPS_OK);
     want("null", h263rps_sender_target(NULL, 0), H263RPS_NULL);
+    want("no quantiser", h263rps_sender_quant(&end, 0), H263RPS_BAD_PARAMS);
+    want("too coarse", h263rps_sender_quant(&end, 32), H263RPS_BAD_PARAMS);
+    want("far too coarse", h263rps_sender_quant(&end, 257), H263RPS_BAD_PARAMS);
+    want("the coarsest", h263rps_sender_quant(&end, 31), H263RPS_OK);
+    want("null", h263rps_sender_quant(NULL, 8), H263RPS_NULL);
+    want("null", h263rps_pace_next(NULL, &end, &quant), H263RPS_NULL);
+    want("null", h263rps_pace_next(&paced, NULL, &quant), H263RPS_NULL);
+    want("null", h263rps_pace_next(&paced, &end, NULL), H263RPS_NULL);
+    want("nothing is written", quant, 77);
+    want("pace", h263rps_pace_next(&paced, &end, &quant), H263RPS_OK);
+    want("the finest", quant, 2);
     want("null", h263rps_sender_forget(NULL), H263RPS_NULL);
     want("null", h263rps_sender_reset(NULL, 0), H263RPS_NULL);
     want("null", h263rps_sender_sent(&end, NULL), H263RPS_NULL);
     want("null", h263rps_sender_known(&end, NULL), H263RPS_NULL);
     want("finish", h263rps_sender_finish(&end), H263RPS_OK);
     sender_calls(&end, H263RPS_NOT_STARTED);
+}
+
+/* A pace that is refused stays as it is. */
+static void paces(void) {
+    h263rps_pace pace = paced;
+    want("no format", h263rps_pace_start(&pace, 0, 1000, 8000), H263RPS_BAD_PARAMS);
+    want("no target", h263rps_pace_start(&pace, H263RPS_CIF, 0, 8000), H263RPS_BAD_PARAMS);
+    want("great", h263rps_pace_start(&pace, H263RPS_CIF, 1000000, 8000), H263RPS_BAD_PARAMS);
+    want("no target", h263rps_pace_target(&pace, 0, 8000), H263RPS_BAD_PARAMS);
+    want("great", h263rps_pace_target(&pace, 1000000, 8000), H263RPS_BAD_PARAMS);
+    want("as it was", memcmp(&pace, &paced, sizeof pace), 0);
+    want("null", h263rps_pace_start(NULL, H263RPS_CIF, 1000, 8000), H263RPS_NULL);
+    want("null", h263rps_pace_target(NULL, 1000, 8000), H263RPS_NULL);
+    want("null", h263rps_pace_coded(NULL, &coded, 8, 1000), H263RPS_NULL);
+    want("null", h263rps_pace_coded(&pace, NULL, 8, 1000), H263RPS_NULL);
+    want("the greatest", h263rps_pace_start(&pace, H263RPS_CIF, 999999, UINT32_MAX), H263RPS_OK);
+    want("as asked", pace.target == 999999 && pace.room == UINT32_MAX && pace.level == 0, 1);
 }
 
 int main(void) {
@@ -337,6 +370,7 @@ int main(void) {
     receiver();
     joining();
     sender();
+    paces();
     messages();
     labels();
     if (!wrong) printf("each wrong call is refused by its number\n");

@@ -75,6 +75,10 @@ with Sender(Params.of("qcif")) as sender, Receiver(Params.of("qcif")) as receive
     wanted("Refused: reset: bad params", lambda: receiver.reset(1048577))
     wanted("ValueError: number: -1 is out of its range", lambda: receiver.reset(-1))
     wanted("None", lambda: (sender.target(999999), sender.forget())[1])
+    wanted("Refused: quant: bad params", lambda: sender.quant(0))
+    wanted("Refused: quant: bad params", lambda: sender.quant(288))
+    wanted("ValueError: quant: -1 is out of its range", lambda: sender.quant(-1))
+    wanted("None", lambda: sender.quant(31))
     wanted("(0, 0, 0)", lambda: (sender.sent(), sender.known(), receiver.played()))
     wanted("0", lambda: sum(sender.statistics().coded.values()))
     told = "Reply(kind='no message', fault=<MessageFault.LENGTH: 1>)"

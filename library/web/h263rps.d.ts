@@ -267,6 +267,8 @@ export class Sender extends Started {
   feedback(message: Bytes): Reply;
   /** Follows this many bytes a picture from the next picture on, or none where it is 0. */
   target(size: number): void;
+  /** Codes with this quantiser, 1 to 31, from the next picture on, and follows no target. */
+  quant(quant: number): void;
   /** Takes no earlier picture as a reference again: the next one is intra. */
   forget(): void;
   /** Begins a call anew, with this target. */
@@ -305,6 +307,19 @@ export class Line extends Started {
   readonly target: number;
   /** The quantiser at which the next picture would have about the bytes that it may have. */
   readonly quant: number;
+}
+
+/** Fits the pictures of a sender to a target in bytes a picture, which their sum may exceed by a room. */
+export class Pace {
+  constructor(format: Format, bytes: { target: number; room: number });
+  /** Follows these from the next picture on. What was sent beyond the target stays counted. */
+  target(target: number, room: number): void;
+  /** The quantiser for the sender's next picture, 2 to 31, which the sender codes with. */
+  next(sender: Sender): number;
+  /** The picture was coded with this quantiser, and its packets have so many bytes together. */
+  coded(coded: Coded, quant: number, size: number): void;
+  /** Bytes by which the pictures exceed the target. */
+  readonly level: number;
 }
 
 /** The end that hears packets and plays a picture at each picture's time. */

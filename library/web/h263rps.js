@@ -10,6 +10,10 @@
  *     for (const packet of sender.packets(coded)) ...
  *     const reply = sender.feedback(message);
  *
+ *     const pace = new Pace("qcif", { target: 1000, room: 20_000 });
+ *     const quant = pace.next(sender);         // before each picture: the sender codes with it
+ *     pace.coded(coded, quant, size);          // after it: the bytes of its packets together
+ *
  *     const receiver = new Receiver(Params.of("qcif"));
  *     const heard = receiver.packet(packet);   // heard.message goes back where it has bytes
  *     const played = receiver.playLent();      // played.picture, played.mark, played.message
@@ -123,6 +127,9 @@ function formatNumber(format) {
 function wordOf(table, number) {
   return Object.keys(table).find((word) => table[word] === number);
 }
+
+/** The bytes of a pace's struct. */
+const PACE_SIZE = 32;
 
 /** Where each parameter stands in its struct, and how many bits it has. */
 const PLACES = Object.freeze({
@@ -397,6 +404,11 @@ export class Sender extends Started {
     this._must("target", "target", counted("target", size));
   }
 
+  /** Codes with this quantiser, 1 to 31, from the next picture on, and follows no target. */
+  quant(quant) {
+    this._must("quant", "quant", counted("quant", quant) < 32 ? quant : 0);
+  }
+
   /** Takes no earlier picture as a reference again: the next one is intra. */
   forget() {
     this._must("forget", "forget");
@@ -534,6 +546,63 @@ export class Line extends Started {
   /** The quantiser at which the next picture would have about the bytes that it may have. */
   get quant() {
     return this._count("quant");
+  }
+}
+
+// ---- a pace -----------------------------------------------------------------------------------
+
+/**
+ * Fits the pictures of a sender to a target in bytes a picture, which their sum may exceed by a room: of some 20 targets, so
+ * that the first pictures, which are intra, are fine enough.
+ */
+export class Pace {
+  // The library's struct, which stands in the module's memory for a call alone.
+  #words = new Uint8Array(PACE_SIZE);
+
+  /**
+   * @param {import("./h263rps.js").Format} format
+   * @param {{ target: number, room: number }} bytes
+   */
+  constructor(format, { target, room } = {}) {
+    loaded();
+    const words = [formatNumber(format), counted("target", target), counted("room", room)];
+    must("start", this.#call("start", ...words));
+  }
+
+  #call(name, ...words) {
+    const { structRoom: at } = memory;
+    memory.bytes.set(this.#words, at);
+    const answer = memory.call(`pace_${name}`, BigInt(at), ...words);
+    this.#words = memory.copied(at, PACE_SIZE);
+    return answer;
+  }
+
+  /** Follows these from the next picture on. What was sent beyond the target stays counted. */
+  target(target, room) {
+    must("target", this.#call("redirect", counted("target", target), counted("room", room)));
+  }
+
+  /** The quantiser for the sender's next picture, 2 to 31, which the sender codes with. */
+  next(sender) {
+    const quant = this.#call("quant", sender.known() ? 0 : 1);
+    sender.quant(quant);
+    return quant;
+  }
+
+  /**
+   * The picture was coded with this quantiser, and its packets have so many bytes together.
+   * @param {import("./h263rps.js").Coded} coded
+   * @param {number} quant
+   * @param {number} size
+   */
+  coded(coded, quant, size) {
+    if (counted("quant", quant) > 0xff) throw new RangeError(`quant: ${quant} is out of its range`);
+    this.#call("coded", coded.reference === null ? 1 : 0, quant, counted("size", size));
+  }
+
+  /** Bytes by which the pictures exceed the target. */
+  get level() {
+    return Number(new DataView(this.#words.buffer).getBigUint64(8, true));
   }
 }
 

@@ -3,6 +3,7 @@ pub mod Lending
 pub mod Stays
 pub mod Returned
 pub mod Pace
+pub mod Pacing
 pub mod Asked
 pub mod Numbers
 pub mod Counting

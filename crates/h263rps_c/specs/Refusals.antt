@@ -67,6 +67,10 @@ reset_refusal number r = if nat_lt 1048576 number then Some BadParams else None
 abbrev pub target_refusal : ℕ → SenderState SendPace → Option EndRefusal
 target_refusal target s = if nat_lt 999999 target then Some BadParams else None
 
+-- a quantiser
+abbrev pub quant_refusal : ℕ → SenderState SendPace → Option EndRefusal
+quant_refusal quant s = if quant == 0 then Some BadParams else if nat_lt 31 quant then Some BadParams else None
+
 -- packet i into room for `count` bytes
 abbrev pub packet_refusal : ℕ → ℕ → SenderState SendPace → Option EndRefusal
 packet_refusal i count s =

@@ -31,6 +31,7 @@ mod kept_session;
 pub mod laws;
 mod lining;
 mod messages;
+mod pacing;
 mod receiver;
 mod refusals;
 mod repeating;

@@ -17,7 +17,7 @@ ghost use Rattle.h263rps_c.specs.Steering as steering;
 ghost use Rattle.h263rps_c.specs.declared.refusals.EndRefusal.TheVariants as refusals;
 ghost use Rattle.h263rps_c.specs.Messages.{messages_of};
 ghost use Rattle.h263rps_c.specs.Pace.{pace_of, target_in};
-ghost use Rattle.h263rps_c.specs.Refusals.{refusal_in, capture_refusal, packet_refusal, target_refusal};
+ghost use Rattle.h263rps_c.specs.Refusals.{refusal_in, capture_refusal, packet_refusal, quant_refusal, target_refusal};
 
 use crate::MOST_PICTURES;
 use crate::answers::CMessage;
@@ -200,6 +200,25 @@ impl Sending {
         }
         self.sender
             .set_pace(SendPace::choose(followed(target), self.params.quant));
+        Ok(())
+    }
+
+    /// Codes with this quantiser from the next picture on, and follows no target.
+    pub fn fix(&mut self, quant: u8) -> Result<(), EndRefusal>
+        ensures refusal { refusal_in result ≡ quant_refusal quant self.old }
+        ensures same { IfErr result (λ why. self.new ≡ self.old) }
+        ensures packets { self.new.packets ≡ self.old.packets }
+        ensures steers { (p : Params) (first : ℕ) (past : List Steering)
+            → Steers p first past self.old → IsOk result
+            → Steers p first (steering.Quant quant ∷ past) self.new }
+    {
+        if quant == 0 {
+            return Err(EndRefusal::BadParams);
+        }
+        if quant > 31 {
+            return Err(EndRefusal::BadParams);
+        }
+        self.sender.set_pace(SendPace::choose(None, quant));
         Ok(())
     }
 

@@ -8,6 +8,8 @@ mod packet_gaps_tests;
 #[cfg(test)]
 mod packet_repeats_tests;
 #[cfg(test)]
+mod picture_pace_tests;
+#[cfg(test)]
 mod playout_times_tests;
 #[cfg(test)]
 mod stream_choice_tests;
