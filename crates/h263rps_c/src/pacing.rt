@@ -113,6 +113,8 @@ impl End {
         match self {
             End::Sending(sending) => sending.fix(quant),
             End::Receiving(_) => Err(EndRefusal::OtherEnd),
+            End::Repeats(_) => Err(EndRefusal::OtherEnd),
+            End::Line(_) => Err(EndRefusal::OtherEnd),
         }
     }
 }
