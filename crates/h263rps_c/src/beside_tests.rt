@@ -43,7 +43,10 @@ fn packets_in_a_slot(rt: HostRuntime) {
     assert_eq!(rt; h263rps_raw_repeats_keep(&mut slot, &PACKET), 1);
     assert_eq!(rt; found(&mut slot, 65_535), (1, 1));
     assert_eq!(rt; h263rps_raw_repeats_start(rt.alloc(), &mut slot, 0, 13), 4);
-    assert_eq!(rt; h263rps_raw_repeats_start(rt.alloc(), &mut slot, 3, 65_508), 4);
+    assert_eq!(rt;
+        h263rps_raw_repeats_start(rt.alloc(), &mut slot, 3, 65_508),
+        4
+    );
     assert_eq!(rt; h263rps_raw_repeats_start(rt.alloc(), &mut slot, 3, 13), 0);
     assert_eq!(rt; h263rps_raw_repeats_start(rt.alloc(), &mut slot, 3, 13), 2);
     assert_eq!(rt; h263rps_raw_repeats_keep(&mut slot, &PACKET), 0);
@@ -59,10 +62,16 @@ fn packets_in_a_slot(rt: HostRuntime) {
 #[test]
 fn a_line_in_a_slot(rt: HostRuntime) {
     let mut slot = Slot::vacant(rt.alloc());
-    let still = CBounds { period: 0, ..BOUNDS };
+    let still = CBounds {
+        period: 0,
+        ..BOUNDS
+    };
     assert_eq!(rt; said(&mut slot), [1, 77, 77, 77, 77, 77]);
     assert_eq!(rt; h263rps_raw_line_start(rt.alloc(), &mut slot, &still, 0), 4);
-    assert_eq!(rt; h263rps_raw_line_start(rt.alloc(), &mut slot, &BOUNDS, 0), 0);
+    assert_eq!(rt;
+        h263rps_raw_line_start(rt.alloc(), &mut slot, &BOUNDS, 0),
+        0
+    );
     assert_eq!(rt; said(&mut slot), [0, 18_000, 1_800, 1_800, 8, 1]);
     assert_eq!(rt; h263rps_raw_line_sent(&mut slot, 0, 18_000, 1, 0), 0);
     assert_eq!(rt; h263rps_raw_line_told(&mut slot, 1, 1, 4), 0);

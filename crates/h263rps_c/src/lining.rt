@@ -272,12 +272,7 @@ pub extern "C" fn h263rps_raw_line_sent(
 /// A message came about a picture that went out on a line: it is whole at the other side, or, where
 /// `whole` is 0, it isn't.
 #[unsafe(no_mangle)]
-pub extern "C" fn h263rps_raw_line_told(
-    slot: &mut Slot,
-    number: u32,
-    whole: u32,
-    now: u64,
-) -> u32
+pub extern "C" fn h263rps_raw_line_told(slot: &mut Slot, number: u32, whole: u32, now: u64) -> u32
     ensures result { result ≡ status_of (for_line slot.old.handle.inside) }
     ensures same { result ≢ 0 → Stays slot.old slot.new }
     ensures counts { slot.new.counted ≡ slot.old.counted }

@@ -54,7 +54,10 @@ fn short_and_long_ones_are_not_kept(rt: HostRuntime) -> Result<(), Fail> {
     repeats.keep(&packet(7, 1));
     repeats.keep(&packet(9, 2)[..11]);
     repeats.keep(&long);
-    assert_eq!(rt; (last(&repeats, 7), last(&repeats, 8), last(&repeats, 9)), (1, 0, 0));
+    assert_eq!(rt;
+        (last(&repeats, 7), last(&repeats, 8), last(&repeats, 9)),
+        (1, 0, 0)
+    );
     repeats.keep(&packet(9, 3)[..12]);
     assert!(rt; repeats.find(7).is_none());
     let short: Option<&[u8]> = Some(&[128, 96, 0, 9, 0, 0, 0, 0, 72, 50, 54, 51]);
