@@ -310,10 +310,11 @@ typedef struct h263rps_start {
     h263rps_message messages[4]; /* these, and none in the places after them */
 } h263rps_start;
 
-/* A picture in its place: Y, then Cb, then Cr, each by rows from the top. */
+/* A picture in its place: Y, then Cb, then Cr, each by rows from the top. From
+ * h263rps_repeats_find() the bytes of a packet. */
 typedef struct h263rps_lent {
     const uint8_t *samples; /* for the raw call: not null, also before it */
-    size_t length;          /* h263rps_picture_size() */
+    size_t length;          /* h263rps_picture_size(); of a packet its own, 0 where it isn't kept */
 } h263rps_lent;
 
 /* Packets that were sent, and what follows a line: each as an h263rps_end all zeros before its start
