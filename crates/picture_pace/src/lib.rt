@@ -18,11 +18,11 @@
 //! - **Bytes fall as 1/Q.** Of five contents they fell by the power of 0.7 to 1.6. What the model
 //!   lacks the next picture makes good.
 //! - **A third of what the level is off is made good with each picture.** All of it makes the
-//!   quantiser swing; an eighth leaves a second 4 % off.
+//!   quantiser swing; an eighth leaves seconds 4 to 7 % off.
 //! - **A difficulty is the mean of the last one and the new one.** A reference that lies further
 //!   back is so felt within two pictures; which one it will be isn't known before a picture is coded.
 //! - **Never finer than 2.** A level reaches to 127 (H.263, 5.4.2), so quantiser 1 can't carry the
-//!   coefficients of a sharp edge: in three of five contents it was worse than 2 by 5 to 7 dB.
+//!   coefficients of a sharp edge: in QCIF it was worse than 2 by 3 to 6 dB in four of six contents.
 //! - **A full bucket takes 31**, whatever the difficulty. So its level has a bound.
 //!
 //! # Measured
