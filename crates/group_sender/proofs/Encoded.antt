@@ -1,7 +1,7 @@
 -- The pictures that an encoder makes are sound, whatever picture of samples each refers to.
-use Rattle.std.proofs.Common.{Ok, ◌≡◌, ℕ, zero, suc, ◌+◌, ◌-◌, ◌%◌, ◌<◌, ◌≤◌, Bool, true, false, refl, sym, ap, ◌∙◌, subst, arith, inl, inr, ◌⊎◌, Option, Some, None, List, [], ◌∷◌, ◌++◌, length}
+use Rattle.std.proofs.Common.{Ok, ◌≡◌, ℕ, zero, suc, ◌%◌, ◌<◌, Bool, true, false, refl, sym, ap, ◌∙◌, subst, arith, inl, inr, ◌⊎◌, Option, Some, None, List, [], ◌∷◌, ◌++◌, length}
 use Rattle.std.specs.Prelude.{if◌then◌else◌, slice_get, slice_index_or, is_some, take}
-use Rattle.std.specs.Option.{option_map, option_map_or}
+use Rattle.std.specs.Option.{option_map}
 use Rattle.std.proofs.lemmas.Bool.{eq-eqb, eqb-true}
 use Rattle.std.proofs.lemmas.Option.{slice_get_cases}
 use Rattle.std.proofs.Math.Nat.{mod-lt}
@@ -9,7 +9,7 @@ use Rattle.call_model.specs.Coding.{Rules, period, Slice, has_mb, mb_at, Picture
 use Rattle.call_model.specs.CodedPictures.{Coded}
 use Rattle.call_model.specs.Sending.{header_of, packets_of, packets_before}
 use Rattle.call_model.specs.Sound.{IsPacket}
-use Rattle.call_model.specs.Lawful.{Covers, Divides, IsMade, IsChosen, IsPictures, IsCoding, IsRules, FitsHeader}
+use Rattle.call_model.specs.Lawful.{Divides, IsMade, IsChosen, IsPictures, IsCoding, IsRules, FitsHeader}
 
 -- ---- lists
 

@@ -1,5 +1,5 @@
 -- Each receiver of a group follows it, from its joining on.
-use Rattle.std.proofs.Common.{Ok, ◌≡◌, ℕ, zero, suc, ◌+◌, ◌-◌, ◌<◌, ◌≤◌, Bool, true, false, ◌&&◌, ◌||◌, refl, sym, ap, ◌∙◌, subst, arith, inl, inr, Option, Some, None, List, [], ◌∷◌, ◌++◌, length, eqb, leb, ltb, get_or, set}
+use Rattle.std.proofs.Common.{Ok, ◌≡◌, ℕ, zero, suc, ◌+◌, ◌-◌, ◌<◌, ◌≤◌, Bool, true, false, ◌&&◌, ◌||◌, refl, sym, ap, ◌∙◌, subst, arith, inl, inr, Option, Some, None, List, [], ◌∷◌, ◌++◌, length, eqb, leb}
 use Rattle.std.specs.Prelude.{if◌then◌else◌, slice_get, option_and_then, is_some}
 use Rattle.std.specs.Option.{option_map, option_map_or}
 use Rattle.std.specs.Result.{result_ok}
@@ -9,16 +9,16 @@ use Rattle.std.proofs.lemmas.List.Folds.{list_any-append}
 use Rattle.std.proofs.lemmas.List.FromFn.{length-map-range_with_len}
 use Rattle.std.proofs.lemmas.Option.{slice_get_cases, slice_get_past, slice_get_within}
 use Rattle.call_model.specs.Numbers.{GreatestIs}
-use Rattle.call_model.specs.Coding.{Rules, Coding, Message, Pictures, pictures_of, reconstruction_of_slices, window}
+use Rattle.call_model.specs.Coding.{Rules, Coding, Message, pictures_of, reconstruction_of_slices, window}
 use Rattle.call_model.specs.CodedPictures.{Coded, capture, depth_at, is_among, picture_at, reference_for}
-use Rattle.call_model.specs.IdealCall.{Event, Send, Deliver, Play, Back, NumberedMessage, Call, Source, AllMayHappenFrom, about, call_from, told_full}
+use Rattle.call_model.specs.IdealCall.{Event, Send, Play, Back, NumberedMessage, Call, Source, AllMayHappenFrom, about, call_from, told_full}
 use Rattle.call_model.specs.Lawful.{IsChosen, IsCoding, IsMade, IsPace, IsRules}
 use Rattle.call_model.specs.Sending.{bytes_in, known_by_feedback, last_sizes, made_known, packets_of}
-use Rattle.call_model.specs.Sound.{AllSound, AnySoundSender, IsSoundPicture, FollowsTheCall}
+use Rattle.call_model.specs.Sound.{AllSound, AnySoundSender, IsSoundPicture}
 use Rattle.call_model.specs.TwoStores.{travelling}
-use Rattle.group_sender.specs.InACall.{AreLived, Lived, Done, Arrives, Plays, ComesBack, FollowsTheGroup, GroupIsFollowed, IsOthers, began_at, entries_of, events_of, lived_source}
+use Rattle.group_sender.specs.InACall.{AreLived, Lived, Done, Arrives, Plays, ComesBack, GroupIsFollowed, began_at, entries_of, events_of, lived_source}
 use Rattle.group_sender.specs.Laws.{IsNewestOfAll}
-use Rattle.group_sender.specs.Parties.{Party, all_have, nobody, party_after_saying, party_at, party_has, party_joined, party_left, with_party}
+use Rattle.group_sender.specs.Parties.{Party, all_have, nobody, party_after_saying, party_at, party_joined, with_party}
 use Rattle.group_sender.specs.Running.{GroupEntry, CaptureAll, FeedbackOf, JoinsAt, LeavesAt, GroupRun, after_feedback_of, group_run, next_for_all}
 use Rattle.group_sender.proofs.Encoded.{IsOfEncoder, packet_is_read, picture_by_slices, slice_get_both, slice_get_last, slice_get_left, slice_get_push}
 use Rattle.group_sender.proofs.Lawful.{all_have_is, reference_is}
@@ -160,11 +160,16 @@ module _ {Frame Style Mb Picture Fault MessageFault : Type 0} (coding : Coding F
       let is : source c ≡ Some blank = ap (λ (b : Bool). if b then Some blank else slice_get final (length c.coded)) (lt-ltb (length c.coded) joined (omega (arith, earlier.0, low))) in
       let long : length (call (Play ∷ Send ∷ began_at n)).coded ≡ length c.coded + 1 =
       ap (λ (o : Option (Coded Style Mb Picture)). length (c.coded ++ option_map_or (λ x. x ∷ []) o [])) is ∙ length-append c.coded (blank ∷ [])
-      in
-      (omega (arith, long, earlier.0),
-      (tt,
-      (λ x at. subst (λ (y : Coded Style Mb Picture). IsSoundPicture (pictures_of coding) rules c y) (some_same blank x (sym is ∙ at)) (blank_is_sound c),
-      earlier.1)))
+      in (
+        omega (arith, long, earlier.0),
+        (
+          tt,
+          (
+            λ x at. subst (λ (y : Coded Style Mb Picture). IsSoundPicture (pictures_of coding) rules c y) (some_same blank x (sym is ∙ at)) (blank_is_sound c),
+            earlier.1,
+          ),
+        ),
+      )
 
   -- another's place changes
   other_place : (c : Call Style Mb Picture) (g : GroupRun Style Mb Picture) (past : List Event) (j : ℕ) (p : Party) → (j ≡ k → ⊥) → Goes c g past
@@ -211,12 +216,12 @@ module _ {Frame Style Mb Picture Fault MessageFault : Type 0} (coding : Coding F
       in
       let newest : (m : ℕ) → r ≡ Some m → IsNewestOfAll rules g m = λ m e. ((reference_is (pictures_of coding) coding.encoding rules greatest_is pace f g m).0 (reference_of q f g.coded r ∙ e)).0 in
       let has : (m : ℕ) → r ≡ Some m → (joined ≤ m) × (is_among c.known m ≡ true) = λ m e.
-          let parts = both_true (leb (party_at g.parties k).since m) (is_among (party_at g.parties k).told m) ((all_have_is g.parties m).0 (newest m e).all k at.there at.present) in
-          (subst (λ (i : ℕ). i ≤ m) at.since (leb-true (party_at g.parties k).since m parts.0), at.told m parts.1)
+      let parts = both_true (leb (party_at g.parties k).since m) (is_among (party_at g.parties k).told m) ((all_have_is g.parties m).0 (newest m e).all k at.there at.present) in
+      (subst (λ (i : ℕ). i ≤ m) at.since (leb-true (party_at g.parties k).since m parts.0), at.told m parts.1)
       in
       let there : (m : ℕ) → r ≡ Some m → (y : Coded Style Mb Picture) × (slice_get g.coded m ≡ Some y) × IsMade (pictures_of coding) y.picture = λ m e.
-          let found = found_at g.coded m (newest m e).sent in
-          (found.0, found.1, (at.well m found.0 (has m e).0 found.1).made)
+      let found = found_at g.coded m (newest m e).sent in
+      (found.0, found.1, (at.well m found.0 (has m e).0 found.1).made)
       in
       let in_range : (0 < q) × (q < 32) = paces (last_sizes coding.encoding rules g.coded) (sizes_few g.coded) in
       let sound_x : IsSoundPicture (pictures_of coding) rules c x =
@@ -318,9 +323,12 @@ module _ {Frame Style Mb Picture Fault MessageFault : Type 0} (coding : Coding F
         present = at.present;
         since = at.since;
         told = at.told;
-        sound = (λ x is.
-            let own : slice_get (group past).coded n ≡ Some x = sym (at.same n fair.0) ∙ is in
-            packet_is_read coding rules lawful ruled final n j x (front n x own) (at.well n x fair.0 own), at.sound);
+        sound = (
+          λ x is.
+              let own : slice_get (group past).coded n ≡ Some x = sym (at.same n fair.0) ∙ is in
+              packet_is_read coding rules lawful ruled final n j x (front n x own) (at.well n x fair.0 own),
+          at.sound,
+        );
       }
   goes (Plays ∷ past) fair near front =
       let at = goes past fair near.1 front in

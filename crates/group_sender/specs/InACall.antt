@@ -1,13 +1,13 @@
 -- A group as one of its receivers lives it, from its joining on.
-use Rattle.std.specs.Prelude.{◌≡◌, ℕ, zero, suc, ◌+◌, ◌<◌, ◌≤◌, ⊤, nat_lt, List, [], ◌∷◌, length, slice_get, Some, None, if◌then◌else◌}
+use Rattle.std.specs.Prelude.{◌≡◌, ℕ, zero, suc, ◌<◌, ◌≤◌, ⊤, nat_lt, List, [], ◌∷◌, length, slice_get, Some, None, if◌then◌else◌}
 use Rattle.call_model.specs.Coding.{Rules, Coding, pictures_of}
 use Rattle.call_model.specs.CodedPictures.{Coded, capture}
-use Rattle.call_model.specs.IdealCall.{Event, Send, Deliver, Play, Back, NumberedMessage, Call, Source, AllMayHappenFrom, call_from}
+use Rattle.call_model.specs.IdealCall.{Event, Send, Deliver, Play, Back, NumberedMessage, Source, AllMayHappenFrom, call_from}
 use Rattle.call_model.specs.Lawful.{IsPace}
 use Rattle.call_model.specs.Sending.{packets_of}
 use Rattle.call_model.specs.Sound.{FollowsTheCall}
 use Rattle.call_model.specs.TwoStores.{travelling}
-use Rattle.group_sender.specs.Running.{GroupRun, GroupEntry, CaptureAll, FeedbackOf, JoinsAt, LeavesAt, group_run}
+use Rattle.group_sender.specs.Running.{GroupEntry, CaptureAll, FeedbackOf, JoinsAt, LeavesAt, group_run}
 
 -- What happens: something is done to the group that isn't this receiver's own (a picture is coded,
 -- or another receiver says something, joins or leaves); the slice at a place of a picture arrives at

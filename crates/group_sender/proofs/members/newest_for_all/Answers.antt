@@ -1,4 +1,4 @@
-use Rattle.std.proofs.Common.{◌≡◌, ℕ, ◌+◌, ◌-◌, ◌<◌, ◌≤◌, ◌∙◌, ◌&&◌, false, inl, inr, ap, arith, leb, sym}
+use Rattle.std.proofs.Common.{◌≡◌, ◌+◌, ◌-◌, ◌<◌, ◌≤◌, ◌∙◌, ◌&&◌, inl, inr, ap, arith, leb, sym}
 use Rattle.std.proofs.lemmas.Bool.{and_from, and_left, cases_lt, le-leb}
 use Rattle.call_model.specs.Coding.{window as window_of}
 use Rattle.group_sender.specs.Parties.{all_have}
@@ -12,10 +12,11 @@ returns-then-all_have_it-clause-value c = λ rules parties stand is wide.
     let near : sent ≤ m + window_of rules = omega (arith, c.if-sent-back.false, c.back-test.true, is) in
     let near_slots : sent ≤ m + rules.slots = omega (arith, near, wide) in
     let all = sym (c.all_have_it.ensures rules sent parties stand below near_slots) ∙ c.if-all_have_it.true in
-    sym ((c.searches.ensures.greatest (λ k. all_have parties k && leb sent (k + window_of rules)) sent m).1
-    (and_from (all_have parties m) (leb sent (m + window_of rules)) all (le-leb sent (m + window_of rules) near),
-    below,
-    λ k newer last. and_left (all_have parties k) (leb sent (k + window_of rules)) (c.back.invariant rules parties stand is wide k last (omega (arith, newer)))))
+    sym ((c.searches.ensures.greatest (λ k. all_have parties k && leb sent (k + window_of rules)) sent m).1 (
+      and_from (all_have parties m) (leb sent (m + window_of rules)) all (le-leb sent (m + window_of rules) near),
+      below,
+      λ k newer last. and_left (all_have parties k) (leb sent (k + window_of rules)) (c.back.invariant rules parties stand is wide k last (omega (arith, newer))),
+    ))
 
 pub back-preserved : goal.back-preserved
 back-preserved c = λ rules parties stand is wide m below near.

@@ -22,10 +22,11 @@ returns-then-may_go_by c = λ rules party stands is wide.
     let here : party.present ≡ true = sym stands.present ∙ c.requires in
     let has : party_has party m ≡ true = sym (has_of party.present (party_has party m) here) ∙ sym (c.may_go_by.ensures rules sent party stands below near_slots) ∙ c.if-may_go_by.true in
     let found : greatest (λ k. party_has party k && leb sent (k + window_of rules)) sent ≡ Some m =
-    (c.searches.ensures.greatest (λ k. party_has party k && leb sent (k + window_of rules)) sent m).1
-    (and_from (party_has party m) (leb sent (m + window_of rules)) has (le-leb sent (m + window_of rules) near),
-    below,
-    λ k newer last. and_left (party_has party k) (leb sent (k + window_of rules)) (c.back.invariant rules party stands is wide k last (omega (arith, newer))))
+    (c.searches.ensures.greatest (λ k. party_has party k && leb sent (k + window_of rules)) sent m).1 (
+      and_from (party_has party m) (leb sent (m + window_of rules)) has (le-leb sent (m + window_of rules) near),
+      below,
+      λ k newer last. and_left (party_has party k) (leb sent (k + window_of rules)) (c.back.invariant rules party stands is wide k last (omega (arith, newer))),
+    )
     in
     sym (ap (λ (o : Option ℕ). is_some o) found)
 
