@@ -1,5 +1,5 @@
 -- What a group holds after a call.
-use Rattle.std.proofs.Common.{◌≡◌, ℕ, ◌+◌, ◌<◌, ◌≤◌, ◌++◌, ◌∷◌, [], Bool, true, false, refl, sym, ap, ◌∙◌, subst, arith, List, Option, Some, None, Ok, Err, length, set}
+use Rattle.std.proofs.Common.{◌≡◌, ℕ, ◌+◌, ◌++◌, [], Bool, true, false, refl, sym, ap, ◌∙◌, subst, List, Option, Some, None, Ok, set}
 use Rattle.std.specs.Prelude.{if◌then◌else◌, nat_le, ◌&&◌}
 use Rattle.std.specs.Option.{option_map}
 use Rattle.std.specs.Result.{result_ok}
@@ -9,9 +9,8 @@ use Rattle.back_messages.specs.declared.message.MessageFault.{MessageFault}
 use Rattle.call_model.specs.Coding.{Rules, Message, window}
 use Rattle.call_model.specs.CodedPictures.{reference_for}
 use Rattle.call_model.specs.Numbers.{greatest}
-use Rattle.call_model.specs.Sending.{Reply, RefusedMessage, Old, Noted, known_by_feedback}
+use Rattle.call_model.specs.Sending.{RefusedMessage, Old, Noted, known_by_feedback}
 use Rattle.call_encoding.specs.Messages.{read_message}
-use Rattle.sender_end.specs.declared.answers.Feedback.{Feedback}
 use Rattle.sender_end.specs.declared.answers.Feedback.TheVariants as answers
 use Rattle.sender_end.specs.Selecting.{within_chain}
 use Rattle.sender_end.specs.Stands.{reply_of}

@@ -1,6 +1,6 @@
 -- What holds of every group, from its definitions.
-use Rattle.std.proofs.Common.{◌≡◌, ◌↔◌, ℕ, zero, suc, ◌+◌, ◌<◌, ◌≤◌, Bool, true, false, not, ◌&&◌, ◌||◌, refl, sym, ap, ◌∙◌, subst, arith, inl, inr, ◌⊎◌, List, [], ◌∷◌, ◌++◌, Option, Some, None, length, leb, ltb, get_or, set}
-use Rattle.std.specs.Prelude.{if◌then◌else◌, option_and_then, replicate}
+use Rattle.std.proofs.Common.{◌≡◌, ℕ, suc, ◌+◌, ◌<◌, ◌≤◌, Bool, true, false, not, ◌&&◌, ◌||◌, refl, sym, ap, ◌∙◌, subst, arith, inl, inr, ◌⊎◌, List, [], ◌∷◌, Option, Some, None, length, leb, ltb, get_or}
+use Rattle.std.specs.Prelude.{if◌then◌else◌, option_and_then}
 use Rattle.std.specs.List.{list_all}
 use Rattle.std.proofs.lemmas.Bool.{and_from, and_left, and_parts, cases_eq, le-leb, leb-true, lt-leb, lt-ltb, ltb-true}
 use Rattle.std.proofs.lemmas.List.{get_or-set_same, get_or-set_other, length-set}
@@ -8,9 +8,8 @@ use Rattle.std.proofs.lemmas.List.Folds.{list_all_at}
 use Rattle.call_model.specs.Numbers.{GreatestIs, greatest}
 use Rattle.call_model.specs.Coding.{Rules, window, Pictures, Encoding}
 use Rattle.call_model.specs.CodedPictures.{capture, depth_at, is_among, reference_for}
-use Rattle.group_sender.specs.Laws.{AllHaveIs, FeedbackChangesOne, IsNewestOfAll, JoinChangesOne, JoinerHasNone, LeaveChangesOne, LeaverFrees, OthersStay, ReferenceIsNewestOfAll}
+use Rattle.group_sender.specs.Laws.{AllHaveIs, FeedbackChangesOne, IsNewestOfAll, JoinChangesOne, JoinerHasNone, LeaveChangesOne, LeaverFrees, ReferenceIsNewestOfAll}
 use Rattle.group_sender.specs.Parties.{Party, all_have, may_go_by, nobody, party_at, party_has, party_joined, party_left, with_party}
-use Rattle.group_sender.specs.Running.{GroupRun, after_join, after_leave, next_for_all}
 
 -- ---- what all have
 

@@ -4,3 +4,5 @@ pub mod Grouping
 pub mod Lawful
 pub mod OneReceiver
 pub mod FirstLate
+pub mod Encoded
+pub mod Living

@@ -1,5 +1,5 @@
 -- A group of one, and a sender.
-use Rattle.std.proofs.Common.{◌≡◌, ℕ, ◌+◌, Bool, true, false, not, ◌&&◌, ◌||◌, refl, sym, ap, ◌∙◌, subst, arith, zero, suc, List, [], ◌∷◌, ◌++◌, length, leb, set}
+use Rattle.std.proofs.Common.{◌≡◌, ℕ, Bool, true, false, ◌&&◌, refl, ap, ◌∙◌, arith, zero, suc, List, [], ◌∷◌, ◌++◌, length, leb, set}
 use Rattle.std.specs.Prelude.{replicate}
 use Rattle.std.specs.List.{list_all}
 use Rattle.std.specs.Result.{result_ok}
@@ -7,8 +7,8 @@ use Rattle.std.proofs.lemmas.Bool.{le-leb}
 use Rattle.call_model.specs.Coding.{Rules, Pictures, Encoding}
 use Rattle.call_model.specs.CodedPictures.{Coded, capture, depth_at, is_among, reference_for}
 use Rattle.call_model.specs.Sending.{SenderEntry, SenderRun, Capture, Feedback, known_by_feedback, last_sizes, next_coded, sender_run}
-use Rattle.group_sender.specs.Laws.{IsASender, OneIsASender, in_group_of_one}
-use Rattle.group_sender.specs.Parties.{Party, all_have, may_go_by, nobodies, nobody, party_after_saying, party_at}
+use Rattle.group_sender.specs.Laws.{IsASender, in_group_of_one}
+use Rattle.group_sender.specs.Parties.{Party, all_have, may_go_by, nobody, party_after_saying, party_at}
 use Rattle.group_sender.specs.Running.{GroupRun, group_run}
 
 -- one receiver, there from the start, which has said this, and nobody else

@@ -1,11 +1,11 @@
 -- What a receiver has said.
-use Rattle.std.proofs.Common.{◌≡◌, ℕ, zero, suc, ◌+◌, ◌-◌, ◌*◌, ◌%◌, ◌<◌, ◌≤◌, Bool, true, false, ◌||◌, refl, sym, ap, ◌∙◌, subst, arith, List, [], ◌∷◌, ◌++◌, Option, Some, None, eqb, ltb}
+use Rattle.std.proofs.Common.{◌≡◌, ℕ, ◌+◌, ◌-◌, ◌*◌, ◌%◌, ◌<◌, ◌≤◌, Bool, true, false, ◌||◌, refl, sym, ◌∙◌, subst, arith, List, [], ◌∷◌, ◌++◌, Option, Some, None, eqb, ltb}
 use Rattle.std.specs.Prelude.{if◌then◌else◌, filter, option_and_then}
 use Rattle.std.specs.Option.{option_map_or}
 use Rattle.std.proofs.lemmas.Bool.{ltb-true, ltb-false, eqb-true}
 use Rattle.std.proofs.lemmas.List.Folds.{list_any-append}
 use Rattle.std.proofs.Math.Nat.{mod-lt}
-use Rattle.call_model.specs.Coding.{Rules, period, Message, Ack, Nack}
+use Rattle.call_model.specs.Coding.{Rules, Message, Ack, Nack}
 use Rattle.call_model.specs.CodedPictures.{is_among}
 use Rattle.call_model.specs.Numbers.{first_from, flagged_after}
 use Rattle.call_model.specs.Sending.{called_complete, known_by_feedback, made_known, message_flags, nearest, nearest_below, number_of}

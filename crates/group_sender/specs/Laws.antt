@@ -1,10 +1,10 @@
 -- What holds of every group.
-use Rattle.std.specs.Prelude.{◌≡◌, ◌↔◌, ℕ, ◌+◌, ◌<◌, ◌≤◌, Bool, true, false, List, [], ◌∷◌, length, Some}
+use Rattle.std.specs.Prelude.{◌≡◌, ◌↔◌, ℕ, ◌+◌, ◌<◌, ◌≤◌, true, false, List, [], ◌∷◌, length, Some}
 use Rattle.call_model.specs.Coding.{Rules, window, Pictures, Encoding}
 use Rattle.call_model.specs.CodedPictures.{depth_at}
 use Rattle.call_model.specs.Sending.{SenderEntry, Capture, Feedback, sender_run}
 use Rattle.group_sender.specs.Parties.{Party, all_have, may_go_by, party_at, party_has}
-use Rattle.group_sender.specs.Running.{GroupRun, GroupEntry, CaptureAll, FeedbackOf, JoinsAt, LeavesAt, after_feedback_of, after_join, after_leave, group_run, next_for_all}
+use Rattle.group_sender.specs.Running.{GroupRun, GroupEntry, CaptureAll, FeedbackOf, JoinsAt, after_feedback_of, after_join, after_leave, group_run, next_for_all}
 
 -- all have a picture where each receiver that is there is known to have it
 abbrev pub AllHaveIs : Type 0

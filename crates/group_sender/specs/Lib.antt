@@ -3,3 +3,4 @@ pub mod Running
 pub mod Standing
 pub mod Holding
 pub mod Laws
+pub mod InACall

@@ -1,5 +1,5 @@
 -- The receivers of a group, as its sender sees them.
-use Rattle.std.specs.Prelude.{ℕ, Bool, true, false, not, ◌||◌, ◌&&◌, nat_le, List, [], ◌∷◌, ◌++◌, slice_index_or, slice_set, replicate, if◌then◌else◌}
+use Rattle.std.specs.Prelude.{ℕ, Bool, true, false, not, ◌||◌, ◌&&◌, nat_le, List, [], ◌++◌, slice_index_or, slice_set, replicate, if◌then◌else◌}
 use Rattle.std.specs.List.{list_all}
 use Rattle.call_model.specs.CodedPictures.{is_among}
 

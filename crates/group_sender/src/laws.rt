@@ -1,5 +1,7 @@
 //! What holds of every group. Each law is the contract of a function that does nothing.
-ghost use Rattle.call_model.specs.Coding.{Encoding, Pictures, Rules};
+ghost use Rattle.call_model.specs.Coding.{Coding, Encoding, Pictures, Rules};
+ghost use Rattle.call_model.specs.Lawful.{IsCoding, IsRules};
+ghost use Rattle.group_sender.specs.InACall.{GroupIsFollowed};
 ghost use Rattle.group_sender.specs.Laws.{AllHaveIs, FeedbackChangesOne, JoinChangesOne};
 ghost use Rattle.group_sender.specs.Laws.{JoinerHasNone, LeaveChangesOne, LeaverFrees};
 ghost use Rattle.group_sender.specs.Laws.{OneIsASender, ReferenceIsNewestOfAll};
@@ -37,3 +39,14 @@ pub fn others_are_left_alone<Frame, Style, Mb, Picture, MessageFault>()
     ensures joiner { JoinerHasNone Style Mb Picture }
     ensures leaver { LeaverFrees Style Mb Picture }
 {}
+
+/// Each receiver that is there follows the group, from its joining on, in any call that is near for
+/// it, whatever the others lose or say: it answers and plays as its call does, so each picture whose
+/// packets all arrive while it is open is exact and the sender's own, and no other is marked exact.
+pub fn group<Frame, Style, Mb, Picture, Fault, MessageFault>()
+    ensures { (coding : Coding Frame Style Mb Picture Fault MessageFault) (rules : Rules)
+        → IsCoding coding rules → IsRules rules → GroupIsFollowed coding rules }
+{
+    call_model_laws::searches();
+    call_model_laws::any_sound_sender::<Style, Mb, Picture, Fault>();
+}

@@ -8,7 +8,6 @@ use Rattle.call_model.specs.Coding.{reconstruction}
 use Rattle.call_model.specs.CodedPictures.{Coded, reference_for}
 use Rattle.call_model.specs.Sending.{header_of}
 use Rattle.call_model.specs.Stands.{Sender}
-use Rattle.call_model.specs.SenderStanding.{reference_by_kept}
 use Rattle.call_model.specs.Steering.{made_by_kept, next_above}
 use Rattle.call_decoding.specs.Rules.{rules_of}
 use Rattle.call_decoding.specs.Samples.{pictures}

@@ -1,12 +1,10 @@
-use Rattle.std.proofs.Common.{◌≡◌, ℕ, ◌+◌, ◌<◌, ◌≤◌, ◌∙◌, true, List, ap, arith, refl, subst, sym}
-use Rattle.std.specs.Prelude.{take}
+use Rattle.std.proofs.Common.{◌∙◌, List, ap, arith, subst, sym}
 use Rattle.std.specs.List.{list_all}
 use Rattle.std.proofs.lemmas.List.{take_all}
-use Rattle.call_model.specs.Coding.{Rules}
 use Rattle.group_sender.specs.declared.member.Member.{Member}
 use Rattle.group_sender.specs.Parties.{Party, may_go_by, party_at}
-use Rattle.group_sender.specs.Standing.{MemberStands, MembersStand}
-use Rattle.group_sender.proofs.Places.{not_one, one_more}
+use Rattle.group_sender.specs.Standing.{MemberStands}
+use Rattle.group_sender.proofs.Places.{one_more}
 use Rattle.group_sender.proofs.members.all_have_it.Goals as goal
 
 pub places-preserved : goal.places-preserved

@@ -1,4 +1,4 @@
-use Rattle.std.proofs.Common.{◌≡◌, ℕ, ◌+◌, ◌-◌, ◌<◌, ◌≤◌, ◌∙◌, ◌&&◌, false, inl, inr, ap, arith, leb, sym}
+use Rattle.std.proofs.Common.{◌≡◌, ◌+◌, ◌-◌, ◌<◌, ◌≤◌, ◌∙◌, ◌&&◌, inl, inr, ap, arith, leb, sym}
 use Rattle.std.proofs.lemmas.Bool.{and_from, and_left, cases_lt, le-leb}
 use Rattle.call_model.specs.Coding.{window as window_of}
 use Rattle.group_sender.specs.Parties.{all_have}

@@ -1,8 +1,8 @@
-use Rattle.std.proofs.Common.{◌≡◌, ℕ, ◌+◌, ◌<◌, ◌≤◌, ◌∙◌, ◌++◌, ◌∷◌, [], List, inl, inr, ap, arith, length, get_or, refl, subst, sym}
+use Rattle.std.proofs.Common.{◌≡◌, ℕ, ◌+◌, ◌∙◌, ◌++◌, ◌∷◌, [], List, inl, inr, ap, arith, length, get_or, refl, subst, sym}
 use Rattle.std.proofs.lemmas.Bool.{cases_lt}
 use Rattle.std.proofs.lemmas.List.{get_or_append_left, get_or-replicate, length-append, length-replicate}
 use Rattle.group_sender.specs.declared.member.Member.{Member}
-use Rattle.group_sender.specs.Parties.{Party, nobody, party_at}
+use Rattle.group_sender.specs.Parties.{Party, nobody}
 use Rattle.group_sender.specs.Standing.{MemberStands}
 use Rattle.group_sender.proofs.members.places.Goals as goal
 

@@ -1,8 +1,6 @@
-use Rattle.std.proofs.Common.{◌≡◌, ◌+◌, ◌≤◌, ◌∙◌, List, arith, refl, subst, sym}
+use Rattle.std.proofs.Common.{◌∙◌, arith}
 use Rattle.std.proofs.lemmas.List.{length-set}
-use Rattle.group_sender.specs.declared.member.Member.{Member}
 use Rattle.group_sender.specs.Parties.{party_at}
-use Rattle.group_sender.specs.Standing.{MemberStands}
 use Rattle.group_sender.proofs.Places.{told_all, told_one}
 use Rattle.group_sender.proofs.members.tell_coded.Goals as goal
 

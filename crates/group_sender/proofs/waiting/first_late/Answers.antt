@@ -1,4 +1,4 @@
-use Rattle.std.proofs.Common.{◌≡◌, ℕ, ◌<◌, ◌∙◌, arith, subst, sym}
+use Rattle.std.proofs.Common.{◌∙◌, arith, subst, sym}
 use Rattle.group_sender.specs.declared.member.Member.{Member}
 use Rattle.group_sender.specs.Parties.{party_at}
 use Rattle.group_sender.specs.Running.{is_waited_for}

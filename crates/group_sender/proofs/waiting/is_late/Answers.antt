@@ -1,4 +1,4 @@
-use Rattle.std.proofs.Common.{◌≡◌, ℕ, ◌+◌, ◌∙◌, ◌&&◌, Bool, true, not, ap, leb, sym}
+use Rattle.std.proofs.Common.{◌≡◌, ◌+◌, ◌∙◌, ◌&&◌, Bool, true, not, ap, leb, sym}
 use Rattle.std.specs.Prelude.{is_some}
 use Rattle.call_model.specs.Coding.{window as window_of}
 use Rattle.call_model.specs.Numbers.{greatest}

@@ -1,4 +1,4 @@
-use Rattle.std.proofs.Common.{◌≡◌, ℕ, ◌+◌, ◌-◌, ◌≤◌, ◌&&◌, ◌∙◌, ◌∷◌, ◌++◌, [], List, Option, ap, arith, leb, length, refl, subst, sym}
+use Rattle.std.proofs.Common.{◌≡◌, ℕ, ◌+◌, ◌&&◌, ◌∙◌, ◌∷◌, ◌++◌, [], List, Option, ap, arith, leb, length, refl, subst, sym}
 use Rattle.std.proofs.lemmas.List.{length-append, with_items_is}
 use Rattle.h263_types.specs.declared.blocks.Mb.{Mb}
 use Rattle.h263_types.specs.declared.params.Params.{Params}
@@ -17,7 +17,7 @@ use Rattle.sender_end.specs.Stands.{Describes, Holds, Run, next_with}
 use Rattle.group_sender.specs.declared.member.Member.{Member}
 use Rattle.group_sender.specs.Parties.{all_have}
 use Rattle.group_sender.specs.Running.{newest_of_all}
-use Rattle.group_sender.specs.Holding.{Groups, HoldsGroup, group_after_code, next_of_group, pictures_alone}
+use Rattle.group_sender.specs.Holding.{Groups, HoldsGroup, next_of_group, pictures_alone}
 use Rattle.group_sender.proofs.Grouping.{chosen_is, stand_as}
 use Rattle.group_sender.proofs.group.Group.code.Given.{Over}
 use Rattle.group_sender.proofs.group.Group.code.Goals as goal

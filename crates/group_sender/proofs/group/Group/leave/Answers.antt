@@ -1,4 +1,4 @@
-use Rattle.std.proofs.Common.{◌≡◌, ℕ, List, ap, arith, length, refl, sym}
+use Rattle.std.proofs.Common.{◌≡◌, List, ap, arith, length, refl, sym}
 use Rattle.std.proofs.lemmas.List.{with_items_is}
 use Rattle.call_decoding.specs.Rules.{rules_of}
 use Rattle.group_sender.specs.declared.member.Member.{Member}

@@ -1,4 +1,4 @@
-use Rattle.std.proofs.Common.{◌<◌, ◌+◌, ℕ, refl, arith}
+use Rattle.std.proofs.Common.{◌<◌, refl, arith}
 use Rattle.group_sender.proofs.Saying.{is_false}
 use Rattle.group_sender.proofs.member.Member.coded.Goals as goal
 

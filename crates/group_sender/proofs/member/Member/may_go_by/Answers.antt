@@ -1,7 +1,6 @@
-use Rattle.std.proofs.Common.{◌≡◌, ℕ, ◌+◌, ◌<◌, ◌≤◌, Bool, true, false, not, ◌||◌, ◌&&◌, refl, sym, ap, ◌∙◌, arith, leb}
-use Rattle.std.proofs.lemmas.Bool.{le-leb, lt-leb}
+use Rattle.std.proofs.Common.{◌≤◌, Bool, not, ◌||◌, ◌&&◌, sym, ap, ◌∙◌, arith, leb}
+use Rattle.std.proofs.lemmas.Bool.{le-leb}
 use Rattle.call_model.specs.CodedPictures.{is_among}
-use Rattle.group_sender.specs.Parties.{may_go_by}
 use Rattle.group_sender.proofs.member.Member.may_go_by.Goals as goal
 
 pub returns : goal.returns

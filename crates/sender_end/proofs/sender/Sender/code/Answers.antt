@@ -1,12 +1,11 @@
-use Rattle.std.proofs.Common.{◌≡◌, ℕ, ◌+◌, ◌%◌, ◌<◌, ◌≤◌, sym, ap, ◌∙◌, subst, IfSome, List, ◌∷◌, Option, length}
+use Rattle.std.proofs.Common.{◌≡◌, ℕ, ◌+◌, ◌%◌, ◌<◌, ◌≤◌, sym, ap, ◌∙◌, subst, IfSome, ◌∷◌, length}
 use Rattle.std.specs.Option.{option_map_or}
 use Rattle.h263_types.specs.declared.blocks.Mb.{Mb}
-use Rattle.h263_types.specs.declared.params.Params.{Params}
 use Rattle.h263_types.specs.Params.{IsParams}
 use Rattle.h263_planes.specs.Lent.{picture}
 use Rattle.h263_planes.specs.Picture.{Picture}
 use Rattle.call_model.specs.CodedPictures.{Coded as CodedPicture}
-use Rattle.call_model.specs.Sending.{Capture, SenderEntry}
+use Rattle.call_model.specs.Sending.{Capture}
 use Rattle.call_model.specs.Stands.{Sender}
 use Rattle.call_model.specs.SenderStanding.{IsAfterCapture, next_by_kept}
 use Rattle.call_model.specs.Steering.{from_floor}
@@ -15,8 +14,7 @@ use Rattle.call_decoding.specs.Samples.{pictures}
 use Rattle.call_decoding.specs.Styles.{Style}
 use Rattle.call_encoding.specs.Encoding.{encoding}
 use Rattle.call_encoding.specs.Frames.{Frame}
-use Rattle.sender_end.specs.Parts.{state_of}
-use Rattle.sender_end.specs.Stands.{Describes, Holds, IsCodedWith, IsSeen, Run, Stands, after_code, next_after, next_in, run_of}
+use Rattle.sender_end.specs.Stands.{Describes, Holds, IsCodedWith, IsSeen, Run, after_code, next_after, next_in, run_of}
 use Rattle.sender_end.specs.State.{SenderState}
 use Rattle.sender_end.proofs.Captured.{next, reference_at, with_kept}
 use Rattle.sender_end.proofs.Stepping.{holds_as, stands_as}

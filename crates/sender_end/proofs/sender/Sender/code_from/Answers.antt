@@ -1,15 +1,12 @@
-use Rattle.std.proofs.Common.{◌≡◌, ℕ, ◌+◌, ◌-◌, ◌%◌, ◌<◌, ◌≤◌, Bool, true, false, refl, sym, ap, ◌∙◌, subst, arith, IfSome, List, Option, Some, None, length, ltb}
+use Rattle.std.proofs.Common.{◌≡◌, ℕ, ◌+◌, ◌%◌, ◌<◌, ◌≤◌, Bool, true, false, sym, ap, ◌∙◌, subst, arith, IfSome, List, Option, Some, None, length, ltb}
 use Rattle.std.specs.Prelude.{if◌then◌else◌}
 use Rattle.std.specs.Option.{option_map_or}
 use Rattle.std.proofs.lemmas.Option.{IfSome_then}
 use Rattle.h263_types.specs.declared.blocks.Mb.{Mb}
-use Rattle.h263_types.specs.declared.params.Params.{Params}
 use Rattle.h263_types.specs.Params.{IsParams}
 use Rattle.h263_planes.specs.Lent.{picture}
 use Rattle.h263_planes.specs.Picture.{Picture}
-use Rattle.call_model.specs.Coding.{window}
 use Rattle.call_model.specs.CodedPictures.{Coded as CodedPicture, capture, depth_at}
-use Rattle.call_model.specs.Sending.{last_sizes}
 use Rattle.call_model.specs.Stands.{Sender}
 use Rattle.call_model.specs.SenderStanding.{IsAfterCapture}
 use Rattle.call_decoding.specs.Rules.{rules_of}
