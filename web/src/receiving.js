@@ -68,7 +68,7 @@ export class Receiving {
 
   /** Begins in the first packet's format and clock: the other side chooses them. */
   #begin(datagram) {
-    this.#start = startOf(datagram);
+    this.#start = pictureStart(datagram);
     if (!this.#start) return false;
     this.#record?.receives(this.#start);
     this.#session = this.#started();
@@ -132,7 +132,7 @@ export class Receiving {
 }
 
 /** What a packet says of its picture; null where it begins as none does. */
-function startOf(packet) {
+function pictureStart(packet) {
   try {
     return packetStart(packet);
   } catch (fault) {
