@@ -11,9 +11,12 @@ fn packet(sequence: u16, last: u8) -> [u8; 13] {
 
 // The last byte of the packet that is found, and 0 where none is.
 fn last(repeats: &Repeats, sequence: u16) -> u8 {
-    match repeats.find(sequence) {
+    let Some(packet) = repeats.find(sequence) else {
+        return 0;
+    };
+    match packet.last() {
         None => 0,
-        Some(packet) => packet[12],
+        Some(byte) => *byte,
     }
 }
 
