@@ -15,7 +15,7 @@ use Rattle.sender_end.specs.declared.answers.Feedback.TheVariants as answers
 use Rattle.sender_end.specs.Selecting.{within_chain}
 use Rattle.sender_end.specs.Stands.{reply_of}
 use Rattle.group_sender.specs.declared.member.Member.{Member}
-use Rattle.group_sender.specs.Parties.{Party, nobody, party_after_saying, party_at, with_party}
+use Rattle.group_sender.specs.Parties.{Party, nobody, party_after_saying, party_at, with_party_at}
 use Rattle.group_sender.specs.Standing.{MembersStand}
 
 -- the same places, where as many pictures were coded
@@ -39,17 +39,17 @@ nothing_said party = go party.present
     go true = refl
     go false = refl
 
-pub nothing_changes : (k : ℕ) (parties : List Party) → with_party k (party_after_saying [] (party_at parties k)) parties ≡ parties
+pub nothing_changes : (k : ℕ) (parties : List Party) → with_party_at k (party_after_saying [] (party_at parties k)) parties ≡ parties
 nothing_changes k parties = ap (λ (p : Party). set parties k p) (nothing_said (party_at parties k)) ∙ set-get_or parties k nobody
 
 -- the places after a message that was read
 pub said_in : (rules : Rules) (members : List Member) (sent n : ℕ) (parties : List Party) (k : ℕ) (clock : Clock) (bytes : List ℕ) (message : Message)
     → sent ≡ n → read_message clock bytes ≡ Ok message
-    → MembersStand rules members sent (with_party k (party_after_saying (known_by_feedback rules sent (Some message)) (party_at parties k)) parties)
-    → MembersStand rules members n (with_party k (party_after_saying (known_by_feedback rules n (result_ok (read_message clock bytes))) (party_at parties k)) parties)
+    → MembersStand rules members sent (with_party_at k (party_after_saying (known_by_feedback rules sent (Some message)) (party_at parties k)) parties)
+    → MembersStand rules members n (with_party_at k (party_after_saying (known_by_feedback rules n (result_ok (read_message clock bytes))) (party_at parties k)) parties)
 said_in rules members sent n parties k clock bytes message same read stand =
-    subst (λ (o : Option Message). MembersStand rules members n (with_party k (party_after_saying (known_by_feedback rules n o) (party_at parties k)) parties)) (sym (ap result_ok read))
-    (subst (λ (i : ℕ). MembersStand rules members i (with_party k (party_after_saying (known_by_feedback rules i (Some message)) (party_at parties k)) parties)) same stand)
+    subst (λ (o : Option Message). MembersStand rules members n (with_party_at k (party_after_saying (known_by_feedback rules n o) (party_at parties k)) parties)) (sym (ap result_ok read))
+    (subst (λ (i : ℕ). MembersStand rules members i (with_party_at k (party_after_saying (known_by_feedback rules i (Some message)) (party_at parties k)) parties)) same stand)
 
 pub refused_reply : (b : Bool) (fault : MessageFault) → option_map reply_of (if b then Some (answers.Refused fault) else None) ≡ (if b then Some (RefusedMessage fault) else None)
 refused_reply true fault = refl

@@ -9,7 +9,7 @@ use Rattle.call_model.specs.Numbers.{GreatestIs, greatest}
 use Rattle.call_model.specs.Coding.{Rules, window, Pictures, Encoding}
 use Rattle.call_model.specs.CodedPictures.{capture, depth_at, is_among, reference_for}
 use Rattle.group_sender.specs.Laws.{AllHaveIs, FeedbackChangesOne, IsNewestOfAll, JoinChangesOne, JoinerHasNone, LeaveChangesOne, LeaverFrees, ReferenceIsNewestOfAll}
-use Rattle.group_sender.specs.Parties.{Party, all_have, may_go_by, nobody, party_at, party_has, party_joined, party_left, with_party}
+use Rattle.group_sender.specs.Parties.{Party, all_have, may_go_by, nobody, party_at, party_has, party_joined, party_left, with_party_at}
 
 -- ---- what all have
 
@@ -110,7 +110,7 @@ module _ (Style Mb Picture : Type 0) where
 
   pub joiner_has_none : JoinerHasNone Style Mb Picture
   joiner_has_none k m run there before =
-      let now = with_party k (party_joined (length run.coded)) run.parties in
+      let now = with_party_at k (party_joined (length run.coded)) run.parties in
       list_all_at (may_go_by m) now k nobody (subst (λ (n : ℕ). k < n) (sym (length-set run.parties k (party_joined (length run.coded)))) there)
       (ap (may_go_by m) (get_or-set_same run.parties k (party_joined (length run.coded)) nobody there)
       ∙ ap (λ (b : Bool). b && is_among [] m) (lt-leb (length run.coded) m before))
@@ -122,7 +122,7 @@ module _ (Style Mb Picture : Type 0) where
       left = party_left (party_at run.parties k)
 
       now : List Party
-      now = with_party k left run.parties
+      now = with_party_at k left run.parties
 
       each : (j : ℕ) → j < length run.parties → ((j ≡ k) ⊎ (j ≡ k → ⊥)) → may_go_by m (get_or now j nobody) ≡ true
       each j below (inl same) =

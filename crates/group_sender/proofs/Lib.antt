@@ -6,3 +6,4 @@ pub mod OneReceiver
 pub mod FirstLate
 pub mod Encoded
 pub mod Living
+pub mod Intra

@@ -16,9 +16,9 @@ use Rattle.call_model.specs.Lawful.{IsChosen, IsCoding, IsMade, IsPace, IsRules}
 use Rattle.call_model.specs.Sending.{bytes_in, known_by_feedback, last_sizes, made_known, packets_of}
 use Rattle.call_model.specs.Sound.{AllSound, AnySoundSender, IsSoundPicture}
 use Rattle.call_model.specs.TwoStores.{travelling}
-use Rattle.group_sender.specs.InACall.{AreLived, Lived, Done, Arrives, Plays, ComesBack, GroupIsFollowed, began_at, entries_of, events_of, lived_source}
+use Rattle.group_sender.specs.InACall.{AreLived, Lived, Done, Arrives, Plays, ComesBack, GroupIsFollowed, began_at, group_entries, lived_events, lived_source}
 use Rattle.group_sender.specs.Laws.{IsNewestOfAll}
-use Rattle.group_sender.specs.Parties.{Party, all_have, nobody, party_after_saying, party_at, party_joined, with_party}
+use Rattle.group_sender.specs.Parties.{Party, all_have, nobody, party_after_saying, party_at, party_joined, with_party_at}
 use Rattle.group_sender.specs.Running.{GroupEntry, CaptureAll, FeedbackOf, JoinsAt, LeavesAt, GroupRun, after_feedback_of, group_run, next_for_all}
 use Rattle.group_sender.proofs.Encoded.{IsOfEncoder, packet_is_read, picture_by_slices, slice_get_both, slice_get_last, slice_get_left, slice_get_push}
 use Rattle.group_sender.proofs.Lawful.{all_have_is, reference_is}
@@ -135,7 +135,7 @@ module _ {Frame Style Mb Picture Fault MessageFault : Type 0} (coding : Coding F
   call past = call_from (pictures_of coding) rules source past
 
   abbrev group : List (Lived Frame) → GroupRun Style Mb Picture
-  group lived = group_run (pictures_of coding) coding.encoding rules (entries_of k before lived)
+  group lived = group_run (pictures_of coding) coding.encoding rules (group_entries k before lived)
 
   -- the call and the group go together
   record Goes (c : Call Style Mb Picture) (g : GroupRun Style Mb Picture) (past : List Event) : Type 0 where
@@ -173,9 +173,9 @@ module _ {Frame Style Mb Picture Fault MessageFault : Type 0} (coding : Coding F
 
   -- another's place changes
   other_place : (c : Call Style Mb Picture) (g : GroupRun Style Mb Picture) (past : List Event) (j : ℕ) (p : Party) → (j ≡ k → ⊥) → Goes c g past
-      → Goes c (record g { parties = with_party j p g.parties }) past
+      → Goes c (record g { parties = with_party_at j p g.parties }) past
   other_place c g past j p apart at =
-      let stays : party_at (with_party j p g.parties) k ≡ party_at g.parties k = get_or-set_other g.parties j k p nobody (λ e. apart (sym e)) in
+      let stays : party_at (with_party_at j p g.parties) k ≡ party_at g.parties k = get_or-set_other g.parties j k p nobody (λ e. apart (sym e)) in
       record {
         counts = at.counts;
         late = at.late;
@@ -263,7 +263,7 @@ module _ {Frame Style Mb Picture Fault MessageFault : Type 0} (coding : Coding F
       ap (λ (o : Option Message). known_by_feedback rules n o) (ap result_ok read) ∙ ap (λ (o : Option (List ℕ)). option_map_or (λ (l : List ℕ). l) o []) made
       in
       let heard : Party = record party { told = numbers ++ party.told } in
-      let here : party_at (with_party k (party_after_saying numbers party) g.parties) k ≡ heard =
+      let here : party_at (with_party_at k (party_after_saying numbers party) g.parties) k ≡ heard =
       get_or-set_same g.parties k (party_after_saying numbers party) nobody at.there ∙ ap (λ (b : Bool). if b then heard else party) at.present
       in
       let known : (call (Back i ∷ past)).known ≡ told_full note ++ c.known = ap (λ (o : Option NumberedMessage). option_map_or told_full o [] ++ c.known) said in
@@ -286,11 +286,11 @@ module _ {Frame Style Mb Picture Fault MessageFault : Type 0} (coding : Coding F
   IsFront lived = (n : ℕ) (x : Coded Style Mb Picture) → slice_get (group lived).coded n ≡ Some x → slice_get final n ≡ Some x
 
   goes : (lived : List (Lived Frame)) → AreLived coding rules k joined source lived
-      → AllMayHappenFrom (pictures_of coding) rules source count (events_of joined lived) → IsFront lived
-      → Goes (call (events_of joined lived)) (group lived) (events_of joined lived)
+      → AllMayHappenFrom (pictures_of coding) rules source count (lived_events joined lived) → IsFront lived
+      → Goes (call (lived_events joined lived)) (group lived) (lived_events joined lived)
   goes [] fair near front =
       let b = began joined (omega arith) in
-      let here : party_at (with_party k (party_joined joined) first.parties) k ≡ party_joined joined = get_or-set_same first.parties k (party_joined joined) nobody placed in
+      let here : party_at (with_party_at k (party_joined joined) first.parties) k ≡ party_joined joined = get_or-set_same first.parties k (party_joined joined) nobody placed in
       record {
         counts = b.0;
         late = omega arith;
@@ -305,13 +305,13 @@ module _ {Frame Style Mb Picture Fault MessageFault : Type 0} (coding : Coding F
   goes (Done (CaptureAll pace f) ∷ past) fair near front =
       let g = group past in
       let x = next_for_all (pictures_of coding) coding.encoding rules pace f g in
-      one_picture g (events_of joined past) pace f fair.0 (goes past fair.1 near.1 (λ n y is. front n y (slice_get_left g.coded (x ∷ []) n y is))) (front (length g.coded) x (slice_get_last g.coded x))
+      one_picture g (lived_events joined past) pace f fair.0 (goes past fair.1 near.1 (λ n y is. front n y (slice_get_left g.coded (x ∷ []) n y is))) (front (length g.coded) x (slice_get_last g.coded x))
   goes (Done (FeedbackOf j bytes) ∷ past) fair near front =
-      other_place (call (events_of joined past)) (group past) (events_of joined past) j _ fair.0 (goes past fair.1 near front)
+      other_place (call (lived_events joined past)) (group past) (lived_events joined past) j _ fair.0 (goes past fair.1 near front)
   goes (Done (JoinsAt j) ∷ past) fair near front =
-      other_place (call (events_of joined past)) (group past) (events_of joined past) j _ fair.0 (goes past fair.1 near front)
+      other_place (call (lived_events joined past)) (group past) (lived_events joined past) j _ fair.0 (goes past fair.1 near front)
   goes (Done (LeavesAt j) ∷ past) fair near front =
-      other_place (call (events_of joined past)) (group past) (events_of joined past) j _ fair.0 (goes past fair.1 near front)
+      other_place (call (lived_events joined past)) (group past) (lived_events joined past) j _ fair.0 (goes past fair.1 near front)
   goes (Arrives n j ∷ past) fair near front =
       let at = goes past fair.1 near.1 front in
       record {
@@ -344,12 +344,12 @@ module _ {Frame Style Mb Picture Fault MessageFault : Type 0} (coding : Coding F
         sound = (tt, at.sound);
       }
   goes (ComesBack i bytes ∷ past) fair near front =
-      one_message (group past) (events_of joined past) i bytes near.0.0 near.1 near.0.1 near.0.2 (fair.0 near.0.0 near.0.1) (goes past fair.1 near.1 front)
+      one_message (group past) (lived_events joined past) i bytes near.0.0 near.1 near.0.1 near.0.2 (fair.0 near.0.0 near.0.1) (goes past fair.1 near.1 front)
 
 pub group_is_followed : {Frame Style Mb Picture Fault MessageFault : Type 0} (coding : Coding Frame Style Mb Picture Fault MessageFault) (rules : Rules)
     → IsCoding coding rules → IsRules rules → GreatestIs → AnySoundSender coding.decoding rules → GroupIsFollowed coding rules
 group_is_followed coding rules lawful ruled greatest_is follow k before lived frame quant count placed range fair near =
-    let coded = (group_run (pictures_of coding) coding.encoding rules (entries_of k before lived)).coded in
+    let coded = (group_run (pictures_of coding) coding.encoding rules (group_entries k before lived)).coded in
     let at = goes coding rules lawful ruled greatest_is follow k before frame quant range coded count placed lived fair near (λ n x is. is) in
     record {
       follows = follow _ _ count _ near at.sound;

@@ -27,12 +27,12 @@ IsOthers k (JoinsAt j) = j ≡ k → ⊥
 IsOthers k (LeavesAt j) = j ≡ k → ⊥
 
 -- what was done to the group, in which the receiver joined at place k after these entries
-abbrev pub entries_of : {Frame : Type 0} → ℕ → List (GroupEntry Frame) → List (Lived Frame) → List (GroupEntry Frame)
-entries_of k before [] = JoinsAt k ∷ before
-entries_of k before (Done entry ∷ past) = entry ∷ entries_of k before past
-entries_of k before (Arrives n j ∷ past) = entries_of k before past
-entries_of k before (Plays ∷ past) = entries_of k before past
-entries_of k before (ComesBack i bytes ∷ past) = FeedbackOf k bytes ∷ entries_of k before past
+abbrev pub group_entries : {Frame : Type 0} → ℕ → List (GroupEntry Frame) → List (Lived Frame) → List (GroupEntry Frame)
+group_entries k before [] = JoinsAt k ∷ before
+group_entries k before (Done entry ∷ past) = entry ∷ group_entries k before past
+group_entries k before (Arrives n j ∷ past) = group_entries k before past
+group_entries k before (Plays ∷ past) = group_entries k before past
+group_entries k before (ComesBack i bytes ∷ past) = FeedbackOf k bytes ∷ group_entries k before past
 
 -- a receiver that joins where this many pictures were coded has played as many, and got nothing of
 -- them
@@ -48,12 +48,12 @@ with_entry (JoinsAt j) past = past
 with_entry (LeavesAt j) past = past
 
 -- the events of the receiver's call, where this many pictures were coded before it joined
-abbrev pub events_of : {Frame : Type 0} → ℕ → List (Lived Frame) → List Event
-events_of joined [] = began_at joined
-events_of joined (Done entry ∷ past) = with_entry entry (events_of joined past)
-events_of joined (Arrives n j ∷ past) = Deliver n j ∷ events_of joined past
-events_of joined (Plays ∷ past) = Play ∷ events_of joined past
-events_of joined (ComesBack i bytes ∷ past) = Back i ∷ events_of joined past
+abbrev pub lived_events : {Frame : Type 0} → ℕ → List (Lived Frame) → List Event
+lived_events joined [] = began_at joined
+lived_events joined (Done entry ∷ past) = with_entry entry (lived_events joined past)
+lived_events joined (Arrives n j ∷ past) = Deliver n j ∷ lived_events joined past
+lived_events joined (Plays ∷ past) = Play ∷ lived_events joined past
+lived_events joined (ComesBack i bytes ∷ past) = Back i ∷ lived_events joined past
 
 -- The pictures of its call are the group's, from its joining on. In place of those before, of which
 -- it gets nothing, any one stands that is coded by itself.
@@ -73,7 +73,7 @@ module _ {Frame Style Mb Picture Fault MessageFault : Type 0}
     AreLived (Arrives n j ∷ past) = (joined ≤ n) × AreLived past
     AreLived (Plays ∷ past) = AreLived past
     AreLived (ComesBack i bytes ∷ past) =
-        ((note : NumberedMessage) → slice_get (call_from (pictures_of coding) rules source (events_of joined past)).said i ≡ Some note
+        ((note : NumberedMessage) → slice_get (call_from (pictures_of coding) rules source (lived_events joined past)).said i ≡ Some note
         → bytes ≡ coding.encoding.write_message (travelling rules note)) × AreLived past
 
   -- The receiver follows its call: it answers, plays and says as the call does. And the call's
@@ -90,8 +90,8 @@ module _ {Frame Style Mb Picture Fault MessageFault : Type 0}
       let pictures = pictures_of coding in
       let first = group_run pictures coding.encoding rules before in
       let joined = length first.coded in
-      let coded = (group_run pictures coding.encoding rules (entries_of k before lived)).coded in
+      let coded = (group_run pictures coding.encoding rules (group_entries k before lived)).coded in
       let source = lived_source joined (capture pictures coding.encoding quant frame [] None) coded in
       k < length first.parties → (0 < quant) × (quant < 32) → AreLived k joined source lived
-      → AllMayHappenFrom pictures rules source count (events_of joined lived)
-      → FollowsTheGroup joined count source coded (events_of joined lived)
+      → AllMayHappenFrom pictures rules source count (lived_events joined lived)
+      → FollowsTheGroup joined count source coded (lived_events joined lived)

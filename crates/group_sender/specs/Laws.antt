@@ -1,10 +1,10 @@
 -- What holds of every group.
-use Rattle.std.specs.Prelude.{◌≡◌, ◌↔◌, ℕ, ◌+◌, ◌<◌, ◌≤◌, true, false, List, [], ◌∷◌, length, Some}
+use Rattle.std.specs.Prelude.{◌≡◌, ◌↔◌, ℕ, ◌+◌, ◌<◌, ◌≤◌, true, false, List, [], ◌∷◌, length, Some, None}
 use Rattle.call_model.specs.Coding.{Rules, window, Pictures, Encoding}
 use Rattle.call_model.specs.CodedPictures.{depth_at}
 use Rattle.call_model.specs.Sending.{SenderEntry, Capture, Feedback, sender_run}
 use Rattle.group_sender.specs.Parties.{Party, all_have, may_go_by, party_at, party_has}
-use Rattle.group_sender.specs.Running.{GroupRun, GroupEntry, CaptureAll, FeedbackOf, JoinsAt, after_feedback_of, after_join, after_leave, group_run, next_for_all}
+use Rattle.group_sender.specs.Running.{GroupRun, GroupEntry, CaptureAll, FeedbackOf, JoinsAt, after_feedback_of, after_join, after_leave, group_run, next_for_all, waited_for}
 
 -- all have a picture where each receiver that is there is known to have it
 abbrev pub AllHaveIs : Type 0
@@ -48,6 +48,11 @@ module _ {Frame Style Mb Picture MessageFault : Type 0} (pictures : Pictures Sty
   ReferenceIsNewestOfAll = (pace : List ℕ → ℕ) (frame : Frame) (run : GroupRun Style Mb Picture) (m : ℕ)
       → ((next_for_all pictures encoding rules pace frame run).reference ≡ Some m)
       ↔ (IsNewestOfAll rules run m × (depth_at run.coded m < rules.chain))
+
+  -- while a receiver is waited for, the next picture is coded by itself
+  abbrev pub WaitingIsIntra : Type 0
+  WaitingIsIntra = (pace : List ℕ → ℕ) (frame : Frame) (run : GroupRun Style Mb Picture) (k : ℕ)
+      → waited_for rules run ≡ Some k → (next_for_all pictures encoding rules pace frame run).reference ≡ None
 
   abbrev pub FeedbackChangesOne : Type 0
   FeedbackChangesOne = (k : ℕ) (bytes : List ℕ) (run : GroupRun Style Mb Picture)

@@ -44,8 +44,8 @@ abbrev pub party_at : List Party → ℕ → Party
 party_at parties k = slice_index_or parties k nobody
 
 -- the receivers with another one at place k
-abbrev pub with_party : ℕ → Party → List Party → List Party
-with_party k party parties = slice_set parties k party
+abbrev pub with_party_at : ℕ → Party → List Party → List Party
+with_party_at k party parties = slice_set parties k party
 
 -- 16 places, and nobody is there
 abbrev pub nobodies : List Party

@@ -6,7 +6,7 @@ use Rattle.call_model.specs.Numbers.{greatest}
 use Rattle.call_model.specs.Coding.{Rules, window, Pictures, Encoding}
 use Rattle.call_model.specs.CodedPictures.{Coded, depth_at, reference_for, capture}
 use Rattle.call_model.specs.Sending.{known_by_feedback, last_sizes}
-use Rattle.group_sender.specs.Parties.{Party, all_have, nobodies, party_after_saying, party_at, party_has, party_joined, party_left, with_party}
+use Rattle.group_sender.specs.Parties.{Party, all_have, nobodies, party_after_saying, party_at, party_has, party_joined, party_left, with_party_at}
 
 -- the pictures, oldest first, and the receivers by their places
 pub record GroupRun (Style Mb Picture : Type 0) : Type 0 where
@@ -27,10 +27,10 @@ module _ {Style Mb Picture : Type 0} where
   no_group = record { coded = []; parties = nobodies }
 
   abbrev pub after_join : ℕ → GroupRun Style Mb Picture → GroupRun Style Mb Picture
-  after_join k run = record run { parties = with_party k (party_joined (length run.coded)) run.parties }
+  after_join k run = record run { parties = with_party_at k (party_joined (length run.coded)) run.parties }
 
   abbrev pub after_leave : ℕ → GroupRun Style Mb Picture → GroupRun Style Mb Picture
-  after_leave k run = record run { parties = with_party k (party_left (party_at run.parties k)) run.parties }
+  after_leave k run = record run { parties = with_party_at k (party_left (party_at run.parties k)) run.parties }
 
   -- the newest picture in the window that each receiver that is there is known to have
   abbrev pub newest_of_all : Rules → GroupRun Style Mb Picture → Option ℕ
@@ -64,7 +64,7 @@ module _ {Frame Style Mb Picture MessageFault : Type 0} (pictures : Pictures Sty
   abbrev pub after_feedback_of : ℕ → List ℕ → GroupRun Style Mb Picture → GroupRun Style Mb Picture
   after_feedback_of k bytes run =
       record run {
-        parties = with_party k
+        parties = with_party_at k
             (party_after_saying (known_by_feedback rules (length run.coded)
             (result_ok (encoding.read_message bytes))) (party_at run.parties k)) run.parties;
       }

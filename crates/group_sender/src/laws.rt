@@ -4,18 +4,21 @@ ghost use Rattle.call_model.specs.Lawful.{IsCoding, IsRules};
 ghost use Rattle.group_sender.specs.InACall.{GroupIsFollowed};
 ghost use Rattle.group_sender.specs.Laws.{AllHaveIs, FeedbackChangesOne, JoinChangesOne};
 ghost use Rattle.group_sender.specs.Laws.{JoinerHasNone, LeaveChangesOne, LeaverFrees};
-ghost use Rattle.group_sender.specs.Laws.{OneIsASender, ReferenceIsNewestOfAll};
+ghost use Rattle.group_sender.specs.Laws.{OneIsASender, ReferenceIsNewestOfAll, WaitingIsIntra};
 
 use call_model::laws as call_model_laws;
 
 /// The reference of each picture is the newest one in the window that each receiver which is there
 /// is known to have (`reference`, `all`). Without one, or where its chain may not grow, the picture
-/// is coded by itself.
+/// is coded by itself; so it is while a receiver is waited for (`waits`).
 pub fn newest_of_all<Frame, Style, Mb, Picture, MessageFault>()
     ensures reference { (pictures : Pictures Style Mb Picture)
         (encoding : Encoding Frame Style Mb Picture MessageFault) (rules : Rules)
         → ReferenceIsNewestOfAll pictures encoding rules }
     ensures all { AllHaveIs }
+    ensures waits { (pictures : Pictures Style Mb Picture)
+        (encoding : Encoding Frame Style Mb Picture MessageFault) (rules : Rules)
+        → WaitingIsIntra pictures encoding rules }
 {
     call_model_laws::searches();
 }

@@ -7,7 +7,7 @@ ghost use Rattle.call_model.specs.Numbers.{greatest};
 ghost use Rattle.call_model.specs.Sending.{known_by_feedback, made_known};
 ghost use Rattle.reference_selector.specs.Messages.{message_of};
 ghost use Rattle.group_sender.specs.Parties.{Party, all_have, nobodies, party_after_saying, party_at};
-ghost use Rattle.group_sender.specs.Parties.{party_joined, party_left, with_party};
+ghost use Rattle.group_sender.specs.Parties.{party_joined, party_left, with_party_at};
 ghost use Rattle.group_sender.specs.Standing.{MembersStand};
 
 use crate::member::Member;
@@ -21,7 +21,7 @@ pub fn join_at(members: &mut [Member], k: usize, sent: u32)
     requires { k < length members.old }
     ensures count { length members.new ≡ length members.old }
     ensures stands { (rules : Rules) (parties : List Party) → MembersStand rules members.old sent parties
-        → MembersStand rules members.new sent (with_party k (party_joined sent) parties) }
+        → MembersStand rules members.new sent (with_party_at k (party_joined sent) parties) }
 {
     let member = &mut members[k];
     member.join(sent);
@@ -33,7 +33,7 @@ pub fn leave_at(members: &mut [Member], k: usize)
     ensures count { length members.new ≡ length members.old }
     ensures stands { (rules : Rules) (sent : ℕ) (parties : List Party)
         → MembersStand rules members.old sent parties
-        → MembersStand rules members.new sent (with_party k (party_left (party_at parties k)) parties) }
+        → MembersStand rules members.new sent (with_party_at k (party_left (party_at parties k)) parties) }
 {
     let member = &mut members[k];
     member.leave();
@@ -92,7 +92,7 @@ pub fn note_at(members: &mut [Member], k: usize, message: &Message, sent: u32) -
         → result ≡ (if (party_at parties k).present
         then Some (is_some (made_known rules sent (message_of message.now))) else None) }
     ensures stands { (rules : Rules) (parties : List Party) → MembersStand rules members.old sent parties
-        → MembersStand rules members.new sent (with_party k (party_after_saying
+        → MembersStand rules members.new sent (with_party_at k (party_after_saying
         (known_by_feedback rules sent (Some (message_of message.now))) (party_at parties k)) parties) }
 {
     let member = &mut members[k];

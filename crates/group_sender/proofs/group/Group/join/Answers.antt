@@ -3,7 +3,7 @@ use Rattle.std.specs.Vec.{with_items}
 use Rattle.std.proofs.lemmas.List.{with_items_is}
 use Rattle.call_decoding.specs.Rules.{rules_of}
 use Rattle.group_sender.specs.declared.member.Member.{Member}
-use Rattle.group_sender.specs.Parties.{party_joined, with_party}
+use Rattle.group_sender.specs.Parties.{party_joined, with_party_at}
 use Rattle.group_sender.specs.Holding.{pictures_alone}
 use Rattle.group_sender.specs.Standing.{MembersStand}
 use Rattle.group_sender.proofs.Grouping.{stand_as}
@@ -22,6 +22,6 @@ returns-clause-holds g c = λ run held.
     record {
       sender = held.sender;
       members =
-          subst (λ (n : ℕ). MembersStand rules (with_items v c.join_at.new.members).items n (with_party k (party_joined n) run.parties)) sent_is
-          (stand_as rules c.join_at.new.members _ c.sent-sent.result c.sent-sent.result (with_party k (party_joined c.sent-sent.result) run.parties) (sym items) refl after);
+          subst (λ (n : ℕ). MembersStand rules (with_items v c.join_at.new.members).items n (with_party_at k (party_joined n) run.parties)) sent_is
+          (stand_as rules c.join_at.new.members _ c.sent-sent.result c.sent-sent.result (with_party_at k (party_joined c.sent-sent.result) run.parties) (sym items) refl after);
     }

@@ -2,7 +2,7 @@ use Rattle.std.proofs.Common.{◌≡◌, List, ap, arith, length, refl, sym}
 use Rattle.std.proofs.lemmas.List.{with_items_is}
 use Rattle.call_decoding.specs.Rules.{rules_of}
 use Rattle.group_sender.specs.declared.member.Member.{Member}
-use Rattle.group_sender.specs.Parties.{party_at, party_left, with_party}
+use Rattle.group_sender.specs.Parties.{party_at, party_left, with_party_at}
 use Rattle.group_sender.proofs.Grouping.{stand_as}
 use Rattle.group_sender.proofs.group.Group.leave.Goals as goal
 
@@ -18,5 +18,5 @@ returns-clause-holds g c = λ run held.
     let items = with_items_is v c.leave_at.new.members (omega (arith, c.leave_at.ensures.count, as_long, v.ok.0)) in
     record {
       sender = held.sender;
-      members = stand_as rules c.leave_at.new.members _ n n (with_party k (party_left (party_at run.parties k)) run.parties) (sym items) refl after;
+      members = stand_as rules c.leave_at.new.members _ n n (with_party_at k (party_left (party_at run.parties k)) run.parties) (sym items) refl after;
     }
