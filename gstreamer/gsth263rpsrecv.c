@@ -41,6 +41,7 @@
 #include <string.h>
 
 #include "gsth263rpscall.h"
+#include "gsth263rpsrepair.h"
 #include "gsth263rpsrtcp.h"
 #include "gsth263rpswindow.h"
 
@@ -51,11 +52,17 @@ GST_DEBUG_CATEGORY_STATIC (h263rpsrecv_debug);
 #define DEFAULT_SLOTS 39
 #define DEFAULT_LEAD 6
 #define DEFAULT_MESSAGES 1
+#define DEFAULT_REPAIR TRUE
 /* As that of a payloader: one that is drawn at random. */
 #define DEFAULT_SSRC G_MAXUINT32
+/* The stream of any sender. */
+#define DEFAULT_SENDER_SSRC G_MAXUINT32
 
 /* An intra picture is asked for at most this often. */
 #define ASK_INTERVAL (GST_SECOND / 2)
+/* What is asked for is asked again with the next message, where that comes this soon: one of the two
+ * may be lost. */
+#define AGAIN (15 * GST_MSECOND)
 /* Pictures that wait for what comes after; of more, the oldest is dropped. */
 #define MOST_OUT 8
 /* The greatest offset of times, either way. */
@@ -82,7 +89,9 @@ enum
   PROP_SLOTS,
   PROP_LEAD,
   PROP_MESSAGES,
+  PROP_REPAIR,
   PROP_SSRC,
+  PROP_SENDER_SSRC,
   PROP_SESSION,
   PROP_TS_OFFSET,
   PROP_CNAME,
@@ -90,15 +99,24 @@ enum
   PROP_STATS
 };
 
-/* What waits to be said: a message, or with a length of 0 that an intra picture is wanted, or how
- * the stream arrives. */
+typedef enum
+{
+  SAY_MESSAGE,
+  SAY_INTRA,                    /* an intra picture is wanted */
+  SAY_REPORT,                   /* how the stream arrives */
+  SAY_MISSING                   /* these packets are wanted */
+} Say;
+
+/* What waits to be said. */
 typedef struct
 {
+  Say say;
   h263rps_message message;
   guint32 about;
   guint pt;
-  gboolean is_report;
   GstH263RpsBlock block;
+  h263rps_nack nack;            /* also beside a message */
+  guint round_trip;             /* ..in so many ms */
 } Pending;
 
 typedef struct
@@ -106,6 +124,7 @@ typedef struct
   guint64 marks[3], heard[6], unshown;
   guint64 malformed, other_payload_type, other_format, other_source, ahead, too_fast, paused;
   guint64 said, session_refused, dropped_messages, intra_asked, runs, rivals;
+  guint64 asked, repaired;
 } Counts;
 
 /* A packet that came, with what it says of itself. The element's room has its bytes, with the payload
@@ -126,11 +145,12 @@ struct _GstH263RpsRecv
   GstPad *sinkpad, *srcpad, *rtcp_srcpad, *rtcp_sinkpad;
 
   /* properties, under the object's lock */
-  guint latency, slots, lead, messages, ssrc;
+  guint latency, slots, lead, messages, ssrc, sender_ssrc;
+  gboolean repair;
   gint64 ts_offset;
   gchar *cname, *record_location;
   GObject *session;
-  gulong session_handler;
+  gulong session_handlers[2];
 
   /* all below is under this lock */
   GMutex lock;
@@ -171,6 +191,9 @@ struct _GstH263RpsRecv
 
   Counts counts;
   GstH263RpsReception reception;        /* of the stream that is followed */
+  GstH263RpsRepair asking;      /* ..and what was asked for of it */
+  Pending missing;              /* ..last */
+  GstClockTime missing_at;
   GstClockTime next_report;
   GstH263RpsMeter meter;        /* all pictures, and those that are exact */
 
@@ -248,7 +271,7 @@ wake (GstH263RpsRecv * self)
 
 /* Under the lock: room for what is to be said once it is left, or NULL where too much waits. */
 static Pending *
-new_pending (GstH263RpsRecv * self, guint32 about)
+new_pending (GstH263RpsRecv * self, Say say, guint32 about)
 {
   Pending *pending;
 
@@ -258,18 +281,25 @@ new_pending (GstH263RpsRecv * self, guint32 about)
   }
   pending = &self->pending[self->pending_count++];
   memset (pending, 0, sizeof *pending);
+  pending->say = say;
   pending->about = about;
   pending->pt = self->pt;
   return pending;
 }
 
+/* Under the lock. */
 static void
-note_message (GstH263RpsRecv * self, guint32 about, const h263rps_message * message)
+note_message (GstH263RpsRecv * self, guint32 about, const h263rps_message * message,
+    GstClockTime now)
 {
-  Pending *pending = message->length ? new_pending (self, about) : NULL;
+  Pending *pending = message->length ? new_pending (self, SAY_MESSAGE, about) : NULL;
 
-  if (pending)
-    pending->message = *message;
+  if (!pending)
+    return;
+  pending->message = *message;
+  if (self->missing.about == about && now - self->missing_at < AGAIN)
+    pending->nack = self->missing.nack;
+  self->missing.nack.asks = 0;
 }
 
 /* Under the lock: an intra picture is wanted, as of a stream that was joined. */
@@ -281,7 +311,42 @@ note_intra (GstH263RpsRecv * self, guint32 about, GstClockTime now)
   self->has_asked = TRUE;
   self->asked = now;
   self->counts.intra_asked++;
-  new_pending (self, about);
+  new_pending (self, SAY_INTRA, about);
+}
+
+/* Under the lock: these packets are missing, of the stream that is followed. */
+static void
+note_missing (GstH263RpsRecv * self, guint32 about, const h263rps_nack * nack,
+    GstClockTime round_trip, GstClockTime now)
+{
+  Pending *pending = new_pending (self, SAY_MISSING, about);
+
+  self->counts.asked += gst_h263rps_repair_ask (&self->asking, nack, now);
+  if (!pending)
+    return;
+  pending->nack = *nack;
+  pending->round_trip = round_trip / GST_MSECOND;
+  self->missing = *pending;
+  self->missing_at = now;
+}
+
+/* Under the lock: what is missing is asked for where an answer would come in time. */
+static void
+ask_for_missing (GstH263RpsRecv * self, GstH263RpsCall * call, GstClockTime now)
+{
+  GstClockTime round_trip;
+  h263rps_nack nack;
+  guint32 about;
+
+  if (!self->repair || call != self->shown || !gst_h263rps_call_followed (call, &about))
+    return;
+  for (;;) {
+    round_trip = gst_h263rps_repair_trip (&self->asking, now);
+    if (h263rps_session_missing (&call->session, round_trip, now, &nack) != H263RPS_OK
+        || !nack.asks)
+      break;
+    note_missing (self, about, &nack, round_trip, now);
+  }
 }
 
 /* Under the lock: a report of the stream that is followed, where one is due. */
@@ -294,10 +359,9 @@ note_report (GstH263RpsRecv * self, GstClockTime now)
     return;
   self->next_report = now
       + gst_h263rps_report_interval (gst_h263rps_meter_bitrate (&self->meter, now));
-  pending = new_pending (self, self->reception.ssrc);
+  pending = new_pending (self, SAY_REPORT, self->reception.ssrc);
   if (!pending)
     return;
-  pending->is_report = TRUE;
   gst_h263rps_reception_block (&self->reception, &pending->block, now);
 }
 
@@ -308,6 +372,8 @@ note_reception (GstH263RpsRecv * self, const Arrival * arrival, GstClockTime now
   GstReferenceTimestampMeta *meta =
       gst_buffer_get_reference_timestamp_meta (arrival->buffer, self->ntp_caps);
 
+  if (!self->reception.begun || self->reception.ssrc != arrival->ssrc)
+    memset (&self->asking, 0, sizeof self->asking);
   gst_h263rps_reception_packet (&self->reception, arrival->ssrc, arrival->sequence,
       arrival->timestamp, now);
   if (meta)
@@ -321,16 +387,20 @@ new_rtcp (GstH263RpsRecv * self, const Pending * pending)
 {
   GstBuffer *buffer;
 
-  if (pending->is_report) {
-    GST_OBJECT_LOCK (self);
-    buffer = gst_h263rps_rtcp_new_receiver_report (self->own_ssrc, &pending->block, self->cname);
-    GST_OBJECT_UNLOCK (self);
-    return buffer;
+  switch (pending->say) {
+    case SAY_REPORT:
+      GST_OBJECT_LOCK (self);
+      buffer = gst_h263rps_rtcp_new_receiver_report (self->own_ssrc, &pending->block, self->cname);
+      GST_OBJECT_UNLOCK (self);
+      return buffer;
+    case SAY_INTRA:
+      return gst_h263rps_rtcp_new_pli (self->own_ssrc, pending->about);
+    case SAY_MISSING:
+      return gst_h263rps_rtcp_new_nack (self->own_ssrc, pending->about, &pending->nack);
+    default:
+      return gst_h263rps_rtcp_new_rpsi (self->own_ssrc, pending->about, pending->pt,
+          &pending->message, &pending->nack);
   }
-  if (pending->message.length == 0)
-    return gst_h263rps_rtcp_new_pli (self->own_ssrc, pending->about);
-  return gst_h263rps_rtcp_new_rpsi (self->own_ssrc, pending->about, pending->pt,
-      &pending->message);
 }
 
 static void
@@ -346,20 +416,42 @@ push_rtcp (GstH263RpsRecv * self, const Pending * pending)
   g_mutex_unlock (&self->rtcp_lock);
 }
 
+static void
+request_packet (GstH263RpsRecv * self, const Pending * pending, guint16 sequence)
+{
+  gst_pad_push_event (self->sinkpad, gst_event_new_custom (GST_EVENT_CUSTOM_UPSTREAM,
+          gst_structure_new ("GstRTPRetransmissionRequest",
+              "seqnum", G_TYPE_UINT, (guint) sequence, "ssrc", G_TYPE_UINT, pending->about,
+              "deadline", G_TYPE_UINT, self->latency, "delay", G_TYPE_UINT, 0,
+              "avg-rtt", G_TYPE_UINT, pending->round_trip, NULL)));
+}
+
+/* As an rtpjitterbuffer asks: a session sends a NACK then, and an rtprtxreceive knows by it of what
+ * stream an answer is (RFC 4588, 5.3). */
+static void
+request_packets (GstH263RpsRecv * self, const Pending * pending)
+{
+  guint i;
+
+  request_packet (self, pending, pending->nack.packet);
+  for (i = 0; i < 16; i++) {
+    if (pending->nack.following >> i & 1)
+      request_packet (self, pending, pending->nack.packet + i + 1);
+  }
+}
+
 /* The session sends what waits when its rules on early feedback allow it (RFC 4585, 3.5). */
 static void
 tell_session (GstH263RpsRecv * self, GObject * session, const Pending * pending)
 {
   gboolean is_taken = FALSE;
 
-  /* It reports by itself. */
-  if (pending->is_report)
-    return;
-  if (pending->message.length == 0) {
+  /* It reports by itself, and has its own ways to ask. */
+  if (pending->say == SAY_INTRA)
     gst_pad_push_event (self->sinkpad,
         gst_video_event_new_upstream_force_key_unit (GST_CLOCK_TIME_NONE, FALSE, 0));
+  if (pending->say != SAY_MESSAGE)
     return;
-  }
   g_mutex_lock (&self->lock);
   if (g_queue_get_length (&self->session_queue) == MOST_PENDING) {
     g_free (g_queue_pop_head (&self->session_queue));
@@ -389,7 +481,7 @@ say_pending (GstH263RpsRecv * self)
   memcpy (pending, self->pending, count * sizeof *pending);
   self->pending_count = 0;
   for (i = 0; i < count; i++)
-    self->counts.said += !pending[i].is_report;
+    self->counts.said += pending[i].say == SAY_MESSAGE || pending[i].say == SAY_INTRA;
   g_mutex_unlock (&self->lock);
   if (count == 0)
     return;
@@ -398,6 +490,8 @@ say_pending (GstH263RpsRecv * self)
   session = self->session ? g_object_ref (self->session) : NULL;
   GST_OBJECT_UNLOCK (self);
   for (i = 0; i < count; i++) {
+    if (pending[i].say == SAY_MISSING)
+      request_packets (self, &pending[i]);
     if (session)
       tell_session (self, session, &pending[i]);
     else
@@ -733,6 +827,19 @@ forget_calls (GstH263RpsRecv * self)
   self->shown = NULL;
 }
 
+/* All streams are another party's. */
+static void
+reset_calls (GstH263RpsRecv * self, GstClockTime now)
+{
+  guint i;
+
+  for (i = 0; i < CALLS; i++) {
+    if (self->calls[i])
+      gst_h263rps_call_reset (self->calls[i], now);
+  }
+  self->shown = NULL;
+}
+
 static gboolean
 is_silent (GstH263RpsRecv * self, GstClockTime now)
 {
@@ -788,7 +895,7 @@ play_next (GstH263RpsRecv * self, GstH263RpsCall * call, GstClockTime now)
   if (!GST_CLOCK_TIME_IS_VALID (due) || due > now
       || h263rps_session_play (&call->session, now, &turn) != H263RPS_OK || !turn.plays)
     return FALSE;
-  note_message (self, turn.source, &turn.answer.message);
+  note_message (self, turn.source, &turn.answer.message, now);
   if (turn.run == H263RPS_FOLLOWED) {
     h263rps_session_shown (&call->session, &shown);
     /* It began anew, in the silence before or since nothing came in time. */
@@ -812,6 +919,8 @@ play_due (GstH263RpsRecv * self, GstH263RpsCall * call, GstClockTime now)
   guint i;
 
   for (i = 0; i < call->params.slots && play_next (self, call, now); i++);
+  if (i > 0)
+    ask_for_missing (self, call, now);
 }
 
 /* ---- packets ---- */
@@ -880,13 +989,17 @@ note_heard (GstH263RpsRecv * self, GstH263RpsCall * call, const Arrival * arriva
   if (answer->kind == H263RPS_REFUSED && answer->fault == H263RPS_MISSING_REFERENCE
       && (arrived->run == H263RPS_FOLLOWED || is_silent (self, now)))
     note_intra (self, arrived->source, now);
-  note_message (self, arrived->source, &answer->message);
   is_shown = call == self->shown && gst_h263rps_call_followed (call, &source)
       && source == arrived->source;
   /* The first picture's packets count before anything is followed. */
   self->counts.heard[answer->kind] += is_shown || !self->shown;
-  if (is_shown)
+  if (is_shown) {
     note_reception (self, arrival, now);
+    if (gst_h263rps_repair_came (&self->asking, arrival->sequence, now))
+      self->counts.repaired += answer->kind <= H263RPS_COMPLETED;
+    ask_for_missing (self, call, now);
+  }
+  note_message (self, arrived->source, &answer->message, now);
   wake (self);
 }
 
@@ -929,19 +1042,31 @@ note_arrived (GstH263RpsRecv * self, GstH263RpsCall * call, const Arrival * arri
     self->counts.ahead++;
 }
 
+/* Gives a packet to a session, which hears the stream that is wanted, or any. */
+static void
+give (GstH263RpsRecv * self, GstH263RpsCall * call, const Arrival * arrival,
+    h263rps_arrived * arrived, GstClockTime now)
+{
+  if (self->sender_ssrc == DEFAULT_SENDER_SSRC)
+    h263rps_session_arrival (&call->session, self->room, arrival->length, now, arrived);
+  else
+    h263rps_session_arrival_of (&call->session, self->sender_ssrc, self->room, arrival->length,
+        now, arrived);
+}
+
 /* Where its picture is too far ahead, those before it are played first. */
 static void
 hand_in (GstH263RpsRecv * self, GstH263RpsCall * call, const Arrival * arrival,
     h263rps_arrived * arrived, GstClockTime now)
 {
   memset (arrived, 0, sizeof *arrived);
-  h263rps_session_arrival (&call->session, self->room, arrival->length, now, arrived);
+  give (self, call, arrival, arrived, now);
   if (arrived->rival)
     note_rival (self, call, arrival->ssrc);
   if (arrived->verdict != H263RPS_AHEAD)
     return;
   while (play_next (self, call, now));
-  h263rps_session_arrival (&call->session, self->room, arrival->length, now, arrived);
+  give (self, call, arrival, arrived, now);
 }
 
 static void
@@ -965,6 +1090,10 @@ take_packet (GstH263RpsRecv * self, const Arrival * arrival, GstClockTime now)
   }
   if (!read_start (self, arrival, &start)) {
     self->counts.malformed++;
+    return;
+  }
+  if (self->sender_ssrc != DEFAULT_SENDER_SSRC && arrival->ssrc != self->sender_ssrc) {
+    self->counts.other_source++;
     return;
   }
   call = call_of (self, &start, now);
@@ -1032,6 +1161,50 @@ gst_h263rps_recv_chain (GstPad * pad, GstObject * parent, GstBuffer * buffer)
   return flow;
 }
 
+/* Under the lock: a stream has ended. Where it is the one on the screen, another of any format may be
+ * looked at. */
+static void
+hear_bye (GstH263RpsRecv * self, guint32 ended, GstClockTime now)
+{
+  guint32 source;
+  guint i;
+
+  if (self->shown && gst_h263rps_call_followed (self->shown, &source) && source == ended)
+    self->shown->complete = MIN (self->shown->complete, now - MIN (now, GST_H263RPS_SILENT));
+  for (i = 0; i < CALLS; i++) {
+    if (self->calls[i])
+      h263rps_session_bye (&self->calls[i]->session, ended, now);
+  }
+}
+
+static void
+hear_byes (GstH263RpsRecv * self, GstRTCPBuffer * rtcp, GstClockTime now)
+{
+  GstRTCPPacket packet;
+  gboolean more;
+  guint i;
+
+  for (more = gst_rtcp_buffer_get_first_packet (rtcp, &packet); more;
+      more = gst_rtcp_packet_move_to_next (&packet)) {
+    if (gst_rtcp_packet_get_type (&packet) != GST_RTCP_TYPE_BYE)
+      continue;
+    for (i = 0; i < gst_rtcp_packet_bye_get_ssrc_count (&packet); i++)
+      hear_bye (self, gst_rtcp_packet_bye_get_nth_ssrc (&packet, i), now);
+  }
+}
+
+/* A session has heard the end of a stream. */
+static void
+on_bye (GObject * session, GObject * source, GstH263RpsRecv * self)
+{
+  guint ssrc = 0;
+
+  g_object_get (source, "ssrc", &ssrc, NULL);
+  g_mutex_lock (&self->lock);
+  hear_bye (self, ssrc, clock_time (self));
+  g_mutex_unlock (&self->lock);
+}
+
 /* Under the lock: what the sender of the stream that is followed reports. */
 static void
 hear_reports (GstH263RpsRecv * self, GstRTCPBuffer * rtcp, GstClockTime now)
@@ -1061,6 +1234,7 @@ gst_h263rps_recv_rtcp_chain (GstPad * pad, GstObject * parent, GstBuffer * buffe
   if (gst_buffer_get_size (buffer) > 0 && gst_rtcp_buffer_validate_reduced (buffer)
       && gst_rtcp_buffer_map (buffer, GST_MAP_READ, &rtcp)) {
     hear_reports (self, &rtcp, now);
+    hear_byes (self, &rtcp, now);
     gst_rtcp_buffer_unmap (&rtcp);
   } else {
     self->counts.malformed++;
@@ -1211,12 +1385,15 @@ stop_waiting (GstH263RpsRecv * self)
   g_mutex_unlock (&self->lock);
 }
 
-/* As before the first packet, but for the counts. */
+/* As before the first packet, but for the counts; after a flush the sessions stay. */
 static void
-begin_task_state (GstH263RpsRecv * self)
+begin_task_state (GstH263RpsRecv * self, gboolean is_flushed)
 {
   g_mutex_lock (&self->lock);
-  forget_calls (self);
+  if (is_flushed)
+    reset_calls (self, clock_time (self));
+  else
+    forget_calls (self);
   g_queue_clear_full (&self->out, (GDestroyNotify) gst_mini_object_unref);
   g_queue_clear_full (&self->session_queue, g_free);
   gst_clear_caps (&self->new_caps);
@@ -1235,7 +1412,7 @@ gst_h263rps_recv_activate_mode (GstPad * pad, GstObject * parent, GstPadMode mod
   if (mode != GST_PAD_MODE_PUSH)
     return FALSE;
   if (active) {
-    begin_task_state (self);
+    begin_task_state (self, FALSE);
     self->needs_stream_start = TRUE;
     return gst_pad_start_task (pad, gst_h263rps_recv_loop, self, NULL);
   }
@@ -1333,7 +1510,7 @@ gst_h263rps_recv_sink_event (GstPad * pad, GstObject * parent, GstEvent * event)
       break;
     case GST_EVENT_FLUSH_STOP:
       result = gst_pad_push_event (self->srcpad, gst_event_ref (event));
-      begin_task_state (self);
+      begin_task_state (self, TRUE);
       gst_pad_start_task (self->srcpad, gst_h263rps_recv_loop, self, NULL);
       break;
     default:
@@ -1422,8 +1599,8 @@ gst_h263rps_recv_src_query (GstPad * pad, GstObject * parent, GstQuery * query)
 static void
 set_session (GstH263RpsRecv * self, GObject * session)
 {
+  gulong old_handlers[2];
   GObject *old;
-  gulong old_handler;
 
   if (session) {
     if (g_signal_lookup ("on-sending-rtcp", G_OBJECT_TYPE (session)) == 0) {
@@ -1434,19 +1611,23 @@ set_session (GstH263RpsRecv * self, GObject * session)
   }
   GST_OBJECT_LOCK (self);
   old = self->session;
-  old_handler = self->session_handler;
+  memcpy (old_handlers, self->session_handlers, sizeof old_handlers);
   self->session = session;
-  self->session_handler = 0;
+  memset (self->session_handlers, 0, sizeof self->session_handlers);
   GST_OBJECT_UNLOCK (self);
 
   if (old) {
-    g_signal_handler_disconnect (old, old_handler);
+    g_signal_handler_disconnect (old, old_handlers[0]);
+    g_signal_handler_disconnect (old, old_handlers[1]);
     g_object_unref (old);
   }
-  if (session)
-    self->session_handler =
+  if (session) {
+    self->session_handlers[0] =
         g_signal_connect_object (session, "on-sending-rtcp", G_CALLBACK (on_sending_rtcp), self,
         0);
+    self->session_handlers[1] =
+        g_signal_connect_object (session, "on-bye-ssrc", G_CALLBACK (on_bye), self, 0);
+  }
 }
 
 static void
@@ -1474,8 +1655,14 @@ gst_h263rps_recv_set_property (GObject * object, guint id, const GValue * value,
     case PROP_MESSAGES:
       self->messages = g_value_get_uint (value);
       break;
+    case PROP_REPAIR:
+      self->repair = g_value_get_boolean (value);
+      break;
     case PROP_SSRC:
       self->ssrc = g_value_get_uint (value);
+      break;
+    case PROP_SENDER_SSRC:
+      self->sender_ssrc = g_value_get_uint (value);
       break;
     case PROP_TS_OFFSET:
       self->ts_offset = g_value_get_int64 (value);
@@ -1506,6 +1693,7 @@ add_rates (GstH263RpsRecv * self, GstStructure * stats)
   gst_structure_set (stats,
       "bit-rate", G_TYPE_UINT64, gst_h263rps_meter_bitrate (&self->meter, now),
       "exact-share", G_TYPE_DOUBLE, gst_h263rps_meter_share (&self->meter, now),
+      "round-trip", G_TYPE_UINT64, self->asking.is_known ? self->asking.trip : GST_CLOCK_TIME_NONE,
       "jitter", G_TYPE_UINT64, self->reception.begun
       ? gst_h263rps_reception_jitter (&self->reception) : GST_CLOCK_TIME_NONE, NULL);
 }
@@ -1547,7 +1735,8 @@ create_stats (GstH263RpsRecv * self)
       "session-refused", G_TYPE_UINT64, counts.session_refused,
       "dropped-messages", G_TYPE_UINT64, counts.dropped_messages,
       "intra-asked", G_TYPE_UINT64, counts.intra_asked,
-      "runs", G_TYPE_UINT64, counts.runs, "rivals", G_TYPE_UINT64, counts.rivals, NULL);
+      "runs", G_TYPE_UINT64, counts.runs, "rivals", G_TYPE_UINT64, counts.rivals,
+      "asked", G_TYPE_UINT64, counts.asked, "repaired", G_TYPE_UINT64, counts.repaired, NULL);
   return stats;
 }
 
@@ -1575,8 +1764,14 @@ gst_h263rps_recv_get_property (GObject * object, guint id, GValue * value, GPara
     case PROP_MESSAGES:
       g_value_set_uint (value, self->messages);
       break;
+    case PROP_REPAIR:
+      g_value_set_boolean (value, self->repair);
+      break;
     case PROP_SSRC:
       g_value_set_uint (value, self->ssrc);
+      break;
+    case PROP_SENDER_SSRC:
+      g_value_set_uint (value, self->sender_ssrc);
       break;
     case PROP_SESSION:
       g_value_set_object (value, self->session);
@@ -1617,6 +1812,7 @@ gst_h263rps_recv_change_state (GstElement * element, GstStateChange transition)
       g_mutex_lock (&self->lock);
       memset (&self->counts, 0, sizeof self->counts);
       memset (&self->reception, 0, sizeof self->reception);
+      memset (&self->asking, 0, sizeof self->asking);
       memset (&self->meter, 0, sizeof self->meter);
       self->next_report = GST_CLOCK_TIME_NONE;
       self->has_asked = self->is_call_fault_told = self->is_rival_told = FALSE;
@@ -1636,7 +1832,7 @@ gst_h263rps_recv_change_state (GstElement * element, GstStateChange transition)
   }
   result = GST_ELEMENT_CLASS (parent_class)->change_state (element, transition);
   if (transition == GST_STATE_CHANGE_PAUSED_TO_READY) {
-    begin_task_state (self);
+    begin_task_state (self, FALSE);
     self->is_rtcp_begun = FALSE;
   }
   /* Pictures come by the clock, so there is none before it runs. */
@@ -1727,7 +1923,9 @@ gst_h263rps_recv_init (GstH263RpsRecv * self)
   self->fps_n = 30000;
   self->fps_d = 1001;
   self->earliest = GST_CLOCK_TIME_NONE;
+  self->repair = DEFAULT_REPAIR;
   self->ssrc = DEFAULT_SSRC;
+  self->sender_ssrc = DEFAULT_SENDER_SSRC;
   self->room = g_malloc (ROOM);
   self->ntp_caps = gst_caps_new_empty_simple ("timestamp/x-ntp");
   self->cname = gst_h263rps_rtcp_new_name ();
@@ -1747,6 +1945,8 @@ gst_h263rps_recv_class_init (GstH263RpsRecvClass * klass)
   GstElementClass *element_class = GST_ELEMENT_CLASS (klass);
   const GParamFlags ready =
       G_PARAM_READWRITE | G_PARAM_STATIC_STRINGS | GST_PARAM_MUTABLE_READY;
+  const GParamFlags playing =
+      G_PARAM_READWRITE | G_PARAM_STATIC_STRINGS | GST_PARAM_MUTABLE_PLAYING;
 
   GST_DEBUG_CATEGORY_INIT (h263rpsrecv_debug, "h263rpsrecv", 0, "H.263 RPS receiver");
 
@@ -1793,6 +1993,16 @@ gst_h263rps_recv_class_init (GstH263RpsRecvClass * klass)
       g_param_spec_uint ("messages", "Messages", "The version of the messages", 1, 2,
           DEFAULT_MESSAGES, ready));
   /**
+   * GstH263RpsRecv:repair:
+   *
+   * Whether missing packets are asked for that could still come in time: by a Generic NACK (RFC 4585,
+   * 6.2.1) at rtcp_src, and by GstRTPRetransmissionRequest events upstream, of which a session or an
+   * rtprtxreceive (RFC 4588) makes use. How long an answer takes is measured by the answers.
+   */
+  g_object_class_install_property (object_class, PROP_REPAIR,
+      g_param_spec_boolean ("repair", "Repair", "Ask for missing packets again", DEFAULT_REPAIR,
+          playing));
+  /**
    * GstH263RpsRecv:ssrc:
    *
    * The SSRC by which this receiver speaks at rtcp_src; by a session it is the session's.
@@ -1800,6 +2010,16 @@ gst_h263rps_recv_class_init (GstH263RpsRecvClass * klass)
   g_object_class_install_property (object_class, PROP_SSRC,
       g_param_spec_uint ("ssrc", "SSRC", "The SSRC of the messages at rtcp_src (default == random)",
           0, G_MAXUINT32, DEFAULT_SSRC, ready));
+  /**
+   * GstH263RpsRecv:sender-ssrc:
+   *
+   * The SSRC of the stream that is wanted, where an offer or a signal has told it: no other one is
+   * looked at.
+   */
+  g_object_class_install_property (object_class, PROP_SENDER_SSRC,
+      g_param_spec_uint ("sender-ssrc", "Sender's SSRC",
+          "The SSRC of the stream that is wanted (default == any)", 0, G_MAXUINT32,
+          DEFAULT_SENDER_SSRC, playing));
   /**
    * GstH263RpsRecv:session:
    *
@@ -1809,7 +2029,7 @@ gst_h263rps_recv_class_init (GstH263RpsRecvClass * klass)
    */
   g_object_class_install_property (object_class, PROP_SESSION,
       g_param_spec_object ("session", "Session", "An inner session of RTP that sends the messages",
-          G_TYPE_OBJECT, G_PARAM_READWRITE | G_PARAM_STATIC_STRINGS | GST_PARAM_MUTABLE_PLAYING));
+          G_TYPE_OBJECT, playing));
   /**
    * GstH263RpsRecv:ts-offset:
    *
@@ -1820,7 +2040,7 @@ gst_h263rps_recv_class_init (GstH263RpsRecvClass * klass)
   g_object_class_install_property (object_class, PROP_TS_OFFSET,
       g_param_spec_int64 ("ts-offset", "Timestamp offset",
           "Nanoseconds that are added to each picture's time", -MOST_OFFSET, MOST_OFFSET, 0,
-          G_PARAM_READWRITE | G_PARAM_STATIC_STRINGS | GST_PARAM_MUTABLE_PLAYING));
+          playing));
   /**
    * GstH263RpsRecv:cname:
    *
@@ -1846,9 +2066,10 @@ gst_h263rps_recv_class_init (GstH263RpsRecvClass * klass)
    * "refused"; what didn't count: "malformed", "other-payload-type", "other-format",
    * "other-source", "ahead" of the clock, "too-fast", "paused"; messages "said",
    * "session-refused" (sent later on), "dropped-messages"; "intra-asked", "runs", "rivals" (another stream
-   * beside it, each second);
-   * "bit-rate" in the last second, in bits; "exact-share" of the pictures of the last ten seconds,
-   * 0 to 1, or -1; "jitter" (RFC 3550, A.8) in ns, or %GST_CLOCK_TIME_NONE.
+   * beside it, each second); how often packets were "asked" for, and how many that were came in time
+   * ("repaired"); "round-trip" of what was asked for, "jitter" (RFC 3550, A.8), both in ns, or
+   * %GST_CLOCK_TIME_NONE; "bit-rate" in the last second, in bits; "exact-share" of the pictures of the
+   * last ten seconds, 0 to 1, or -1.
    */
   g_object_class_install_property (object_class, PROP_STATS,
       g_param_spec_boxed ("stats", "Statistics", "Counts of the call", GST_TYPE_STRUCTURE,

@@ -14,7 +14,8 @@ static gboolean
 add_feedback (GstRTCPBuffer * rtcp, GstRTCPPacket * packet, GstRTCPFBType type, guint32 speaker,
     guint32 about)
 {
-  if (!gst_rtcp_buffer_add_packet (rtcp, GST_RTCP_TYPE_PSFB, packet))
+  if (!gst_rtcp_buffer_add_packet (rtcp, type == GST_RTCP_RTPFB_TYPE_NACK ? GST_RTCP_TYPE_RTPFB
+          : GST_RTCP_TYPE_PSFB, packet))
     return FALSE;
   gst_rtcp_packet_fb_set_type (packet, type);
   gst_rtcp_packet_fb_set_sender_ssrc (packet, speaker);
@@ -43,6 +44,19 @@ add_rpsi (GstRTCPBuffer * rtcp, guint32 speaker, guint32 about, guint pt,
   fci[1] = pt;
   memcpy (fci + 2, message->bytes, message->length);
   return TRUE;
+}
+
+static void
+add_nack (GstRTCPBuffer * rtcp, guint32 speaker, guint32 about, const h263rps_nack * nack)
+{
+  GstRTCPPacket packet;
+  guint8 *fci;
+
+  add_feedback (rtcp, &packet, GST_RTCP_RTPFB_TYPE_NACK, speaker, about);
+  gst_rtcp_packet_fb_set_fci_length (&packet, 1);
+  fci = gst_rtcp_packet_fb_get_fci (&packet);
+  GST_WRITE_UINT16_BE (fci, nack->packet);
+  GST_WRITE_UINT16_BE (fci + 2, nack->following);
 }
 
 /**
@@ -91,18 +105,21 @@ gst_h263rps_rtcp_new_name (void)
  * @about: the SSRC of the stream
  * @pt: the payload type of the stream
  * @message: a message of 3 or 5 bytes
+ * @nack: packets that are asked for beside it, or none
  *
- * Returns: (transfer full): a packet of RTCP by itself (RFC 5506)
+ * Returns: (transfer full): RTCP by itself (RFC 5506)
  */
 GstBuffer *
 gst_h263rps_rtcp_new_rpsi (guint32 speaker, guint32 about, guint pt,
-    const h263rps_message * message)
+    const h263rps_message * message, const h263rps_nack * nack)
 {
   GstRTCPBuffer rtcp = GST_RTCP_BUFFER_INIT;
   GstBuffer *buffer = gst_rtcp_buffer_new (RTCP_ROOM);
 
   gst_rtcp_buffer_map (buffer, GST_MAP_READWRITE, &rtcp);
   add_rpsi (&rtcp, speaker, about, pt, message);
+  if (nack->asks)
+    add_nack (&rtcp, speaker, about, nack);
   gst_rtcp_buffer_unmap (&rtcp);
   return buffer;
 }
@@ -123,6 +140,48 @@ gst_h263rps_rtcp_new_pli (guint32 speaker, guint32 about)
 
   gst_rtcp_buffer_map (buffer, GST_MAP_READWRITE, &rtcp);
   add_feedback (&rtcp, &packet, GST_RTCP_PSFB_TYPE_PLI, speaker, about);
+  gst_rtcp_buffer_unmap (&rtcp);
+  return buffer;
+}
+
+/**
+ * gst_h263rps_rtcp_new_nack:
+ * @speaker: the SSRC of the receiver
+ * @about: the SSRC of the stream
+ * @nack: the packets that are asked for
+ *
+ * Returns: (transfer full): a packet of RTCP by itself that asks for packets again
+ */
+GstBuffer *
+gst_h263rps_rtcp_new_nack (guint32 speaker, guint32 about, const h263rps_nack * nack)
+{
+  GstRTCPBuffer rtcp = GST_RTCP_BUFFER_INIT;
+  GstBuffer *buffer = gst_rtcp_buffer_new (RTCP_ROOM);
+
+  gst_rtcp_buffer_map (buffer, GST_MAP_READWRITE, &rtcp);
+  add_nack (&rtcp, speaker, about, nack);
+  gst_rtcp_buffer_unmap (&rtcp);
+  return buffer;
+}
+
+/**
+ * gst_h263rps_rtcp_new_bye:
+ * @source: an SSRC whose stream has ended
+ *
+ * Returns: (transfer full): a compound packet that says so
+ */
+GstBuffer *
+gst_h263rps_rtcp_new_bye (guint32 source)
+{
+  GstRTCPBuffer rtcp = GST_RTCP_BUFFER_INIT;
+  GstRTCPPacket packet;
+  GstBuffer *buffer = gst_rtcp_buffer_new (RTCP_ROOM);
+
+  gst_rtcp_buffer_map (buffer, GST_MAP_READWRITE, &rtcp);
+  gst_rtcp_buffer_add_packet (&rtcp, GST_RTCP_TYPE_RR, &packet);
+  gst_rtcp_packet_rr_set_ssrc (&packet, source);
+  gst_rtcp_buffer_add_packet (&rtcp, GST_RTCP_TYPE_BYE, &packet);
+  gst_rtcp_packet_bye_add_ssrc (&packet, source);
   gst_rtcp_buffer_unmap (&rtcp);
   return buffer;
 }
@@ -170,6 +229,24 @@ gst_h263rps_rtcp_read_fci (h263rps_message * message, const guint8 * fci, gsize 
   memcpy (message->bytes, fci + 2, count);
   message->length = count;
   return TRUE;
+}
+
+/* Of the feedback control information of a Generic NACK the next packet that is asked for, from bit
+ * `at` on, which goes on; whether there is one. */
+gboolean
+gst_h263rps_rtcp_next_asked (const guint8 * fci, gsize length, gsize * at, guint16 * sequence)
+{
+  gsize field, bit;
+
+  for (; (field = *at / 17 * 4) + 4 <= length; ++*at) {
+    bit = *at % 17;
+    if (bit == 0 || GST_READ_UINT16_BE (fci + field + 2) >> (bit - 1) & 1) {
+      *sequence = GST_READ_UINT16_BE (fci + field) + bit;
+      ++*at;
+      return TRUE;
+    }
+  }
+  return FALSE;
 }
 
 /* ---- reports ---- */

@@ -48,6 +48,7 @@
 
 #include "gsth263rps.h"
 #include "gsth263rpsrecord.h"
+#include "gsth263rpsrepeater.h"
 #include "gsth263rpsrtcp.h"
 
 GST_DEBUG_CATEGORY_STATIC (h263rpssend_debug);
@@ -59,6 +60,7 @@ GST_DEBUG_CATEGORY_STATIC (h263rpssend_debug);
 #define DEFAULT_SLOTS 39
 #define DEFAULT_LEAD 6
 #define DEFAULT_CUSTOM_CLOCK FALSE
+#define DEFAULT_REPAIR TRUE
 #define DEFAULT_MIN_FORCE_KEY_UNIT_INTERVAL (GST_SECOND / 2)
 
 #define MOST_TARGET 999999
@@ -71,6 +73,10 @@ GST_DEBUG_CATEGORY_STATIC (h263rpssend_debug);
 #define ALONE (5 * G_USEC_PER_SEC)
 /* The bytes of an RTP header, as the library writes it. */
 #define RTP_HEADER 12
+/* Room for the extensions of it that the base class adds. */
+#define EXTENSIONS 256
+/* Repeats have no more bits at once than the stream in this share of a second. */
+#define AT_ONCE 2
 
 enum
 {
@@ -81,6 +87,7 @@ enum
   PROP_SLOTS,
   PROP_LEAD,
   PROP_CUSTOM_CLOCK,
+  PROP_REPAIR,
   PROP_MIN_FORCE_KEY_UNIT_INTERVAL,
   PROP_SESSION,
   PROP_CNAME,
@@ -103,7 +110,7 @@ struct _GstH263RpsSend
 
   /* properties, under the object's lock */
   guint bitrate, quant, radius, slots, lead;
-  gboolean custom_clock;
+  gboolean custom_clock, repair;
   guint64 min_force_key_unit_interval;
   gchar *cname, *record_location;
   GObject *session;
@@ -115,6 +122,8 @@ struct _GstH263RpsSend
   GstVideoInfo info;
   gsize size;
   guint8 *packed;
+  GstH263RpsRepeater *repeater;
+  gboolean is_closed_told;      /* that repeats would end the call */
   GstH263RpsRecord *record;
   guint recorded;
   gint64 run_at;                /* when it began, in us; 0 once it is told that it is alone */
@@ -293,6 +302,8 @@ begin_run (GstH263RpsSend * self)
         ("parameter %u, slots %u, lead %u", fault, self->params.slots, self->params.lead));
     return FALSE;
   }
+  if (!gst_h263rps_repeater_begin (self->repeater, self->params.limit + EXTENSIONS))
+    GST_WARNING_OBJECT (self, "there is no memory for repeats");
   self->size = h263rps_picture_size (format);
   self->packed = g_malloc (self->size);
   self->run_at = g_get_monotonic_time ();
@@ -318,8 +329,11 @@ set_outcaps (GstH263RpsSend * self)
   gchar rate[G_ASCII_DTOSTR_BUF_SIZE];
   gchar *slots = g_strdup_printf ("%u", self->params.slots);
   gchar *lead = g_strdup_printf ("%u", self->params.lead);
-  gboolean result;
+  gboolean result, repair;
 
+  GST_OBJECT_LOCK (self);
+  repair = self->repair;
+  GST_OBJECT_UNLOCK (self);
   g_ascii_formatd (rate, sizeof rate, "%.6g", (gdouble) self->info.fps_n / self->info.fps_d);
   gst_rtp_base_payload_set_options (payload, "video", TRUE, "H263-2000", 90000);
   result = gst_rtp_base_payload_set_outcaps (payload,
@@ -329,16 +343,47 @@ set_outcaps (GstH263RpsSend * self)
       "a-framerate", G_TYPE_STRING, rate,
       "rtcp-fb-ack-rpsi", G_TYPE_BOOLEAN, TRUE,
       "rtcp-fb-nack-rpsi", G_TYPE_BOOLEAN, TRUE,
-      "rtcp-fb-nack-pli", G_TYPE_BOOLEAN, TRUE, NULL);
+      "rtcp-fb-nack-pli", G_TYPE_BOOLEAN, TRUE,
+      "rtcp-fb-nack", G_TYPE_BOOLEAN, repair, NULL);
   g_free (slots);
   g_free (lead);
   return result;
+}
+
+/* Whether what is said of the stream goes out at rtcp_src. */
+static gboolean
+has_reports (GstH263RpsSend * self)
+{
+  gboolean has_session;
+
+  GST_OBJECT_LOCK (self);
+  has_session = self->session != NULL;
+  GST_OBJECT_UNLOCK (self);
+  return gst_pad_is_linked (self->rtcp_srcpad) && !has_session;
+}
+
+static void
+push_rtcp (GstH263RpsSend * self, GstBuffer * buffer)
+{
+  if (!self->is_rtcp_begun)
+    gst_h263rps_rtcp_begin (self->rtcp_srcpad);
+  self->is_rtcp_begun = TRUE;
+  gst_pad_push (self->rtcp_srcpad, buffer);
+}
+
+/* The stream has ended: its receiver needn't wait for more. */
+static void
+say_bye (GstH263RpsSend * self)
+{
+  if (self->end.kind && has_reports (self))
+    push_rtcp (self, gst_h263rps_rtcp_new_bye (GST_RTP_BASE_PAYLOAD (self)->current_ssrc));
 }
 
 /* A sender that starts anew counts from 0: a new SSRC says so. */
 static gboolean
 begin_anew (GstH263RpsSend * self)
 {
+  say_bye (self);
   if (!begin_run (self))
     return FALSE;
   GST_RTP_BASE_PAYLOAD (self)->current_ssrc = g_random_int ();
@@ -519,6 +564,45 @@ hear_report (GstH263RpsSend * self, GstRTCPPacket * packet)
   g_mutex_unlock (&self->lock);
 }
 
+/* Without the lock: whether packets may be repeated. Where they would end the call that is told once. */
+static gboolean
+may_repeat (GstH263RpsSend * self)
+{
+  gboolean repair, is_told;
+
+  GST_OBJECT_LOCK (self);
+  repair = self->repair;
+  GST_OBJECT_UNLOCK (self);
+  if (!repair || gst_h263rps_repeater_may (self->repeater))
+    return repair;
+  g_mutex_lock (&self->lock);
+  is_told = self->is_closed_told;
+  self->is_closed_told = TRUE;
+  g_mutex_unlock (&self->lock);
+  if (!is_told)
+    GST_ELEMENT_WARNING (self, RESOURCE, SETTINGS,
+        ("No lost packet is sent again: srtpenc's allow-repeat-tx is false."), (NULL));
+  return FALSE;
+}
+
+/* Packets are asked for. */
+static void
+hear_missing (GstH263RpsSend * self, guint32 speaker, guint32 about, const guint8 * fci,
+    gsize length)
+{
+  gboolean counts;
+  guint16 sequence;
+  gsize at = 0;
+
+  g_mutex_lock (&self->lock);
+  counts = counts_speaker (self, speaker, about);
+  g_mutex_unlock (&self->lock);
+  if (!counts || !may_repeat (self))
+    return;
+  while (gst_h263rps_rtcp_next_asked (fci, length, &at, &sequence))
+    gst_h263rps_repeater_ask (self->repeater, sequence);
+}
+
 static void
 hear_packets (GstH263RpsSend * self, GstRTCPBuffer * rtcp)
 {
@@ -527,6 +611,13 @@ hear_packets (GstH263RpsSend * self, GstRTCPBuffer * rtcp)
 
   for (more = gst_rtcp_buffer_get_first_packet (rtcp, &packet); more;
       more = gst_rtcp_packet_move_to_next (&packet)) {
+    if (gst_rtcp_packet_get_type (&packet) == GST_RTCP_TYPE_RTPFB) {
+      if (gst_rtcp_packet_fb_get_type (&packet) == GST_RTCP_RTPFB_TYPE_NACK)
+        hear_missing (self, gst_rtcp_packet_fb_get_sender_ssrc (&packet),
+            gst_rtcp_packet_fb_get_media_ssrc (&packet), gst_rtcp_packet_fb_get_fci (&packet),
+            4 * gst_rtcp_packet_fb_get_fci_length (&packet));
+      continue;
+    }
     if (gst_rtcp_packet_get_type (&packet) != GST_RTCP_TYPE_PSFB) {
       hear_report (self, &packet);
       continue;
@@ -624,6 +715,7 @@ steer (GstH263RpsSend * self)
 
   GST_OBJECT_LOCK (self);
   target = target_of (self);
+  gst_h263rps_repeater_limit (self->repeater, self->bitrate / 8 / AT_ONCE);
   GST_OBJECT_UNLOCK (self);
   g_mutex_lock (&self->lock);
   wants_intra = self->wants_intra;
@@ -732,17 +824,6 @@ packets_of (GstH263RpsSend * self, const h263rps_coded * coded, GstBuffer * pict
 
 /* ---- reports ---- */
 
-static gboolean
-has_session (GstH263RpsSend * self)
-{
-  gboolean has;
-
-  GST_OBJECT_LOCK (self);
-  has = self->session != NULL;
-  GST_OBJECT_UNLOCK (self);
-  return has;
-}
-
 /* What has gone out, and the time now by the stream's timestamps, as an rtpsession counts it: from
  * those of the last picture on. */
 static void
@@ -772,10 +853,7 @@ send_report (GstH263RpsSend * self, GstClockTime now, GstClockTime captured)
   GST_OBJECT_LOCK (self);
   buffer = gst_h263rps_rtcp_new_sender_report (&info, self->cname);
   GST_OBJECT_UNLOCK (self);
-  if (!self->is_rtcp_begun)
-    gst_h263rps_rtcp_begin (self->rtcp_srcpad);
-  self->is_rtcp_begun = TRUE;
-  gst_pad_push (self->rtcp_srcpad, buffer);
+  push_rtcp (self, buffer);
 }
 
 /* After a picture: a report where one is due. A session makes its own. */
@@ -786,8 +864,7 @@ report_picture (GstH263RpsSend * self, GstClockTime pts)
   GstClockTime now = running_time (self);
   GstClockTime captured = gst_segment_to_running_time (segment, GST_FORMAT_TIME, pts);
 
-  if (!gst_pad_is_linked (self->rtcp_srcpad) || has_session (self)
-      || !GST_CLOCK_TIME_IS_VALID (captured))
+  if (!has_reports (self) || !GST_CLOCK_TIME_IS_VALID (captured))
     return;
   if (!GST_CLOCK_TIME_IS_VALID (now))
     now = captured;
@@ -858,7 +935,9 @@ gst_h263rps_send_handle_buffer (GstRTPBasePayload * payload, GstBuffer * buffer)
   gst_buffer_unref (buffer);
   GST_LOG_OBJECT (self, "picture %u, %u packets, %" G_GUINT64_FORMAT " bytes, %s %u",
       coded.number, coded.packets, bytes, coded.intra ? "intra" : "from", coded.reference);
+  gst_h263rps_repeater_lock (self->repeater);
   flow = gst_rtp_base_payload_push_list (payload, list);
+  gst_h263rps_repeater_unlock (self->repeater);
   if (coded.number == 0 && self->record)
     record_facts (self, coded.packets);
   check_record (self);
@@ -891,6 +970,7 @@ gst_h263rps_send_sink_event (GstRTPBasePayload * payload, GstEvent * event)
   if (gst_video_event_is_force_key_unit (event))
     ask_for_intra (self);
   if (GST_EVENT_TYPE (event) == GST_EVENT_EOS && gst_pad_is_linked (self->rtcp_srcpad)) {
+    say_bye (self);
     if (!self->is_rtcp_begun)
       gst_h263rps_rtcp_begin (self->rtcp_srcpad);
     self->is_rtcp_begun = TRUE;
@@ -899,14 +979,36 @@ gst_h263rps_send_sink_event (GstRTPBasePayload * payload, GstEvent * event)
   return GST_RTP_BASE_PAYLOAD_CLASS (parent_class)->sink_event (payload, event);
 }
 
+/* A session, which has heard a NACK, asks for a packet of this stream. */
+static gboolean
+is_own_request (GstH263RpsSend * self, const GstStructure * structure, guint16 * sequence)
+{
+  guint ssrc = 0, number = 0;
+
+  gst_structure_get_uint (structure, "ssrc", &ssrc);
+  if (!gst_structure_get_uint (structure, "seqnum", &number)
+      || ssrc != GST_RTP_BASE_PAYLOAD (self)->current_ssrc)
+    return FALSE;
+  *sequence = number;
+  return TRUE;
+}
+
 static gboolean
 gst_h263rps_send_src_event (GstRTPBasePayload * payload, GstEvent * event)
 {
   GstH263RpsSend *self = GST_H263RPS_SEND (payload);
   const GstStructure *structure = gst_event_get_structure (event);
+  guint16 sequence;
 
   if (gst_video_event_is_force_key_unit (event)) {
     ask_for_intra (self);
+    gst_event_unref (event);
+    return TRUE;
+  }
+  if (structure && gst_structure_has_name (structure, "GstRTPRetransmissionRequest")
+      && is_own_request (self, structure, &sequence)) {
+    if (may_repeat (self))
+      gst_h263rps_repeater_ask (self->repeater, sequence);
     gst_event_unref (event);
     return TRUE;
   }
@@ -1003,6 +1105,9 @@ gst_h263rps_send_set_property (GObject * object, guint id, const GValue * value,
     case PROP_CUSTOM_CLOCK:
       self->custom_clock = g_value_get_boolean (value);
       break;
+    case PROP_REPAIR:
+      self->repair = g_value_get_boolean (value);
+      break;
     case PROP_MIN_FORCE_KEY_UNIT_INTERVAL:
       self->min_force_key_unit_interval = g_value_get_uint64 (value);
       break;
@@ -1061,6 +1166,7 @@ create_stats (GstH263RpsSend * self)
   GParamSpec *pspec = g_object_class_find_property (G_OBJECT_CLASS (parent_class), "stats");
   GstStructure *stats;
   GValue value = G_VALUE_INIT;
+  GstH263RpsRepeatCounts repeats;
   Counts counts;
   guint64 predicted;
 
@@ -1072,6 +1178,7 @@ create_stats (GstH263RpsSend * self)
   g_mutex_lock (&self->lock);
   counts = self->counts;
   g_mutex_unlock (&self->lock);
+  gst_h263rps_repeater_counts (self->repeater, &repeats);
   predicted = counts.coded - counts.intra;
   gst_structure_set (stats,
       "coded", G_TYPE_UINT64, counts.coded,
@@ -1087,7 +1194,10 @@ create_stats (GstH263RpsSend * self)
       "dropped", G_TYPE_UINT64, counts.dropped,
       "runs", G_TYPE_UINT64, counts.runs,
       "intra-asked", G_TYPE_UINT64, counts.intra_asked,
-      "intra-refused", G_TYPE_UINT64, counts.intra_refused, NULL);
+      "intra-refused", G_TYPE_UINT64, counts.intra_refused,
+      "asked", G_TYPE_UINT64, repeats.asked,
+      "repeated", G_TYPE_UINT64, repeats.repeated,
+      "repeats-refused", G_TYPE_UINT64, repeats.refused, NULL);
   add_reports (self, stats);
   return stats;
 }
@@ -1122,6 +1232,9 @@ gst_h263rps_send_get_property (GObject * object, guint id, GValue * value, GPara
     case PROP_CUSTOM_CLOCK:
       g_value_set_boolean (value, self->custom_clock);
       break;
+    case PROP_REPAIR:
+      g_value_set_boolean (value, self->repair);
+      break;
     case PROP_MIN_FORCE_KEY_UNIT_INTERVAL:
       g_value_set_uint64 (value, self->min_force_key_unit_interval);
       break;
@@ -1155,12 +1268,15 @@ gst_h263rps_send_change_state (GstElement * element, GstStateChange transition)
     self->has_speaker = self->wants_intra = self->has_block = self->has_fir = FALSE;
     self->intra_at = 0;
     g_mutex_unlock (&self->lock);
-    self->is_rtcp_begun = FALSE;
+    self->is_rtcp_begun = self->is_closed_told = FALSE;
     self->next_report = GST_CLOCK_TIME_NONE;
+    gst_h263rps_repeater_start (self->repeater);
   }
   result = GST_ELEMENT_CLASS (parent_class)->change_state (element, transition);
-  if (transition == GST_STATE_CHANGE_PAUSED_TO_READY)
+  if (transition == GST_STATE_CHANGE_PAUSED_TO_READY) {
+    gst_h263rps_repeater_stop (self->repeater);
     finish_run (self);
+  }
   return result;
 }
 
@@ -1177,6 +1293,7 @@ gst_h263rps_send_finalize (GObject * object)
   GstH263RpsSend *self = GST_H263RPS_SEND (object);
 
   finish_run (self);
+  gst_h263rps_repeater_free (self->repeater);
   g_free (self->cname);
   g_free (self->record_location);
   g_mutex_clear (&self->lock);
@@ -1194,10 +1311,12 @@ gst_h263rps_send_init (GstH263RpsSend * self)
   self->slots = DEFAULT_SLOTS;
   self->lead = DEFAULT_LEAD;
   self->custom_clock = DEFAULT_CUSTOM_CLOCK;
+  self->repair = DEFAULT_REPAIR;
   self->min_force_key_unit_interval = DEFAULT_MIN_FORCE_KEY_UNIT_INTERVAL;
   self->cname = gst_h263rps_rtcp_new_name ();
   self->next_report = self->round_trip = GST_CLOCK_TIME_NONE;
   g_mutex_init (&self->lock);
+  self->repeater = gst_h263rps_repeater_new (payload->srcpad);
 
   self->rtcp_sinkpad = gst_pad_new_from_static_template (&rtcp_sink_template, "rtcp_sink");
   gst_pad_set_chain_function (self->rtcp_sinkpad, gst_h263rps_send_rtcp_chain);
@@ -1286,6 +1405,17 @@ gst_h263rps_send_class_init (GstH263RpsSendClass * klass)
       g_param_spec_boolean ("custom-clock", "Custom clock",
           "Number pictures by 10 bits in place of 8", DEFAULT_CUSTOM_CLOCK, ready));
   /**
+   * GstH263RpsSend:repair:
+   *
+   * Whether a packet that a receiver asks for (Generic NACK, RFC 4585, 6.2.1, or a session's
+   * GstRTPRetransmissionRequest) goes out again, as it was. Repeats have no more bytes than the stream.
+   * A srtpenc after it must have allow-repeat-tx; an rtprtxsend repeats by a stream of its own (RFC
+   * 4588), without this element.
+   */
+  g_object_class_install_property (object_class, PROP_REPAIR,
+      g_param_spec_boolean ("repair", "Repair", "Send packets again that are asked for",
+          DEFAULT_REPAIR, playing));
+  /**
    * GstH263RpsSend:min-force-key-unit-interval:
    *
    * A request for an intra picture that comes sooner after another one is counted, and does nothing.
@@ -1327,7 +1457,8 @@ gst_h263rps_send_class_init (GstH263RpsSendClass * klass)
    * Those of the base class, and of this call: pictures "coded" and of them "intra", "packets",
    * "bytes", "mean-distance" to the reference in pictures; messages "noted", "old", "malformed",
    * "stale" (about another SSRC), of an "other-speaker", and "dropped" for want of room; "runs";
-   * intra pictures "intra-asked" and "intra-refused" (too soon after another); "bit-rate" in the
+   * intra pictures "intra-asked" and "intra-refused" (too soon after another); packets "asked" for,
+   * "repeated", and "repeats-refused" (the stream had too few bytes meanwhile); "bit-rate" in the
    * last second, in bits. By the receiver's reports: "round-trip" and "jitter" in ns, -1 as long as
    * none came (%GST_CLOCK_TIME_NONE), and "fraction-lost", 0 to 1, or -1.
    */
