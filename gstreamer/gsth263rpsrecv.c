@@ -60,9 +60,6 @@ GST_DEBUG_CATEGORY_STATIC (h263rpsrecv_debug);
 
 /* An intra picture is asked for at most this often. */
 #define ASK_INTERVAL (GST_SECOND / 2)
-/* What is asked for is asked again with the next message, where that comes this soon: one of the two
- * may be lost. */
-#define AGAIN (15 * GST_MSECOND)
 /* Pictures that wait for what comes after; of more, the oldest is dropped. */
 #define MOST_OUT 8
 /* The greatest offset of times, either way. */
@@ -115,7 +112,7 @@ typedef struct
   guint32 about;
   guint pt;
   GstH263RpsBlock block;
-  h263rps_nack nack;            /* also beside a message */
+  h263rps_nack nack;
   guint round_trip;             /* ..in so many ms */
 } Pending;
 
@@ -192,8 +189,6 @@ struct _GstH263RpsRecv
   Counts counts;
   GstH263RpsReception reception;        /* of the stream that is followed */
   GstH263RpsRepair asking;      /* ..and what was asked for of it */
-  Pending missing;              /* ..last */
-  GstClockTime missing_at;
   GstClockTime next_report;
   GstH263RpsMeter meter;        /* all pictures, and those that are exact */
 
@@ -287,19 +282,13 @@ new_pending (GstH263RpsRecv * self, Say say, guint32 about)
   return pending;
 }
 
-/* Under the lock. */
 static void
-note_message (GstH263RpsRecv * self, guint32 about, const h263rps_message * message,
-    GstClockTime now)
+note_message (GstH263RpsRecv * self, guint32 about, const h263rps_message * message)
 {
   Pending *pending = message->length ? new_pending (self, SAY_MESSAGE, about) : NULL;
 
-  if (!pending)
-    return;
-  pending->message = *message;
-  if (self->missing.about == about && now - self->missing_at < AGAIN)
-    pending->nack = self->missing.nack;
-  self->missing.nack.asks = 0;
+  if (pending)
+    pending->message = *message;
 }
 
 /* Under the lock: an intra picture is wanted, as of a stream that was joined. */
@@ -326,8 +315,6 @@ note_missing (GstH263RpsRecv * self, guint32 about, const h263rps_nack * nack,
     return;
   pending->nack = *nack;
   pending->round_trip = round_trip / GST_MSECOND;
-  self->missing = *pending;
-  self->missing_at = now;
 }
 
 /* Under the lock: what is missing is asked for where an answer would come in time. */
@@ -365,20 +352,26 @@ note_report (GstH263RpsRecv * self, GstClockTime now)
   gst_h263rps_reception_block (&self->reception, &pending->block, now);
 }
 
-/* Under the lock: a packet of the stream that is followed came, and is reported on. */
+/* Under the lock: a packet of the stream that is followed came, and is reported on. One that was asked
+ * for was lost all the same, and its way isn't the line's. */
 static void
-note_reception (GstH263RpsRecv * self, const Arrival * arrival, GstClockTime now)
+note_reception (GstH263RpsRecv * self, const Arrival * arrival, gboolean is_taken,
+    GstClockTime now)
 {
   GstReferenceTimestampMeta *meta =
       gst_buffer_get_reference_timestamp_meta (arrival->buffer, self->ntp_caps);
 
   if (!self->reception.begun || self->reception.ssrc != arrival->ssrc)
     memset (&self->asking, 0, sizeof self->asking);
+  gst_h263rps_meter_add (&self->meter, now, arrival->length, 0, 0);
+  if (gst_h263rps_repair_came (&self->asking, arrival->sequence, now)) {
+    self->counts.repaired += is_taken;
+    return;
+  }
   gst_h263rps_reception_packet (&self->reception, arrival->ssrc, arrival->sequence,
       arrival->timestamp, now);
   if (meta)
     gst_h263rps_reception_time (&self->reception, arrival->timestamp, meta->timestamp);
-  gst_h263rps_meter_add (&self->meter, now, arrival->length, 0, 0);
   note_report (self, now);
 }
 
@@ -399,10 +392,11 @@ new_rtcp (GstH263RpsRecv * self, const Pending * pending)
       return gst_h263rps_rtcp_new_nack (self->own_ssrc, pending->about, &pending->nack);
     default:
       return gst_h263rps_rtcp_new_rpsi (self->own_ssrc, pending->about, pending->pt,
-          &pending->message, &pending->nack);
+          &pending->message);
   }
 }
 
+/* What is asked for goes out twice: no later request would be answered in time. */
 static void
 push_rtcp (GstH263RpsRecv * self, const Pending * pending)
 {
@@ -412,6 +406,8 @@ push_rtcp (GstH263RpsRecv * self, const Pending * pending)
   if (!self->is_rtcp_begun)
     gst_h263rps_rtcp_begin (self->rtcp_srcpad);
   self->is_rtcp_begun = TRUE;
+  if (pending->say == SAY_MISSING)
+    gst_pad_push (self->rtcp_srcpad, new_rtcp (self, pending));
   gst_pad_push (self->rtcp_srcpad, new_rtcp (self, pending));
   g_mutex_unlock (&self->rtcp_lock);
 }
@@ -895,7 +891,7 @@ play_next (GstH263RpsRecv * self, GstH263RpsCall * call, GstClockTime now)
   if (!GST_CLOCK_TIME_IS_VALID (due) || due > now
       || h263rps_session_play (&call->session, now, &turn) != H263RPS_OK || !turn.plays)
     return FALSE;
-  note_message (self, turn.source, &turn.answer.message, now);
+  note_message (self, turn.source, &turn.answer.message);
   if (turn.run == H263RPS_FOLLOWED) {
     h263rps_session_shown (&call->session, &shown);
     /* It began anew, in the silence before or since nothing came in time. */
@@ -989,17 +985,15 @@ note_heard (GstH263RpsRecv * self, GstH263RpsCall * call, const Arrival * arriva
   if (answer->kind == H263RPS_REFUSED && answer->fault == H263RPS_MISSING_REFERENCE
       && (arrived->run == H263RPS_FOLLOWED || is_silent (self, now)))
     note_intra (self, arrived->source, now);
+  note_message (self, arrived->source, &answer->message);
   is_shown = call == self->shown && gst_h263rps_call_followed (call, &source)
       && source == arrived->source;
   /* The first picture's packets count before anything is followed. */
   self->counts.heard[answer->kind] += is_shown || !self->shown;
   if (is_shown) {
-    note_reception (self, arrival, now);
-    if (gst_h263rps_repair_came (&self->asking, arrival->sequence, now))
-      self->counts.repaired += answer->kind <= H263RPS_COMPLETED;
+    note_reception (self, arrival, answer->kind <= H263RPS_COMPLETED, now);
     ask_for_missing (self, call, now);
   }
-  note_message (self, arrived->source, &answer->message, now);
   wake (self);
 }
 

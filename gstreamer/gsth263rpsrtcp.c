@@ -11,11 +11,10 @@
 #define REPORT_ROOM 512
 
 static gboolean
-add_feedback (GstRTCPBuffer * rtcp, GstRTCPPacket * packet, GstRTCPFBType type, guint32 speaker,
-    guint32 about)
+add_feedback (GstRTCPBuffer * rtcp, GstRTCPPacket * packet, GstRTCPType of, GstRTCPFBType type,
+    guint32 speaker, guint32 about)
 {
-  if (!gst_rtcp_buffer_add_packet (rtcp, type == GST_RTCP_RTPFB_TYPE_NACK ? GST_RTCP_TYPE_RTPFB
-          : GST_RTCP_TYPE_PSFB, packet))
+  if (!gst_rtcp_buffer_add_packet (rtcp, of, packet))
     return FALSE;
   gst_rtcp_packet_fb_set_type (packet, type);
   gst_rtcp_packet_fb_set_sender_ssrc (packet, speaker);
@@ -32,7 +31,7 @@ add_rpsi (GstRTCPBuffer * rtcp, guint32 speaker, guint32 about, guint pt,
   guint words = (2 + message->length + 3) / 4;
   guint8 *fci;
 
-  if (!add_feedback (rtcp, &packet, GST_RTCP_PSFB_TYPE_RPSI, speaker, about))
+  if (!add_feedback (rtcp, &packet, GST_RTCP_TYPE_PSFB, GST_RTCP_PSFB_TYPE_RPSI, speaker, about))
     return FALSE;
   if (!gst_rtcp_packet_fb_set_fci_length (&packet, words)) {
     gst_rtcp_packet_remove (&packet);
@@ -44,19 +43,6 @@ add_rpsi (GstRTCPBuffer * rtcp, guint32 speaker, guint32 about, guint pt,
   fci[1] = pt;
   memcpy (fci + 2, message->bytes, message->length);
   return TRUE;
-}
-
-static void
-add_nack (GstRTCPBuffer * rtcp, guint32 speaker, guint32 about, const h263rps_nack * nack)
-{
-  GstRTCPPacket packet;
-  guint8 *fci;
-
-  add_feedback (rtcp, &packet, GST_RTCP_RTPFB_TYPE_NACK, speaker, about);
-  gst_rtcp_packet_fb_set_fci_length (&packet, 1);
-  fci = gst_rtcp_packet_fb_get_fci (&packet);
-  GST_WRITE_UINT16_BE (fci, nack->packet);
-  GST_WRITE_UINT16_BE (fci + 2, nack->following);
 }
 
 /**
@@ -105,21 +91,18 @@ gst_h263rps_rtcp_new_name (void)
  * @about: the SSRC of the stream
  * @pt: the payload type of the stream
  * @message: a message of 3 or 5 bytes
- * @nack: packets that are asked for beside it, or none
  *
- * Returns: (transfer full): RTCP by itself (RFC 5506)
+ * Returns: (transfer full): a packet of RTCP by itself (RFC 5506)
  */
 GstBuffer *
 gst_h263rps_rtcp_new_rpsi (guint32 speaker, guint32 about, guint pt,
-    const h263rps_message * message, const h263rps_nack * nack)
+    const h263rps_message * message)
 {
   GstRTCPBuffer rtcp = GST_RTCP_BUFFER_INIT;
   GstBuffer *buffer = gst_rtcp_buffer_new (RTCP_ROOM);
 
   gst_rtcp_buffer_map (buffer, GST_MAP_READWRITE, &rtcp);
   add_rpsi (&rtcp, speaker, about, pt, message);
-  if (nack->asks)
-    add_nack (&rtcp, speaker, about, nack);
   gst_rtcp_buffer_unmap (&rtcp);
   return buffer;
 }
@@ -139,7 +122,7 @@ gst_h263rps_rtcp_new_pli (guint32 speaker, guint32 about)
   GstBuffer *buffer = gst_rtcp_buffer_new (RTCP_ROOM);
 
   gst_rtcp_buffer_map (buffer, GST_MAP_READWRITE, &rtcp);
-  add_feedback (&rtcp, &packet, GST_RTCP_PSFB_TYPE_PLI, speaker, about);
+  add_feedback (&rtcp, &packet, GST_RTCP_TYPE_PSFB, GST_RTCP_PSFB_TYPE_PLI, speaker, about);
   gst_rtcp_buffer_unmap (&rtcp);
   return buffer;
 }
@@ -156,10 +139,16 @@ GstBuffer *
 gst_h263rps_rtcp_new_nack (guint32 speaker, guint32 about, const h263rps_nack * nack)
 {
   GstRTCPBuffer rtcp = GST_RTCP_BUFFER_INIT;
+  GstRTCPPacket packet;
   GstBuffer *buffer = gst_rtcp_buffer_new (RTCP_ROOM);
+  guint8 *fci;
 
   gst_rtcp_buffer_map (buffer, GST_MAP_READWRITE, &rtcp);
-  add_nack (&rtcp, speaker, about, nack);
+  add_feedback (&rtcp, &packet, GST_RTCP_TYPE_RTPFB, GST_RTCP_RTPFB_TYPE_NACK, speaker, about);
+  gst_rtcp_packet_fb_set_fci_length (&packet, 1);
+  fci = gst_rtcp_packet_fb_get_fci (&packet);
+  GST_WRITE_UINT16_BE (fci, nack->packet);
+  GST_WRITE_UINT16_BE (fci + 2, nack->following);
   gst_rtcp_buffer_unmap (&rtcp);
   return buffer;
 }

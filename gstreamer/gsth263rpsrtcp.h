@@ -23,7 +23,7 @@ gchar *     gst_h263rps_rtcp_new_name (void);
 
 G_GNUC_INTERNAL
 GstBuffer * gst_h263rps_rtcp_new_rpsi (guint32 speaker, guint32 about, guint pt,
-                                       const h263rps_message * message, const h263rps_nack * nack);
+                                       const h263rps_message * message);
 
 G_GNUC_INTERNAL
 GstBuffer * gst_h263rps_rtcp_new_pli  (guint32 speaker, guint32 about);
