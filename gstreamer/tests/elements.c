@@ -420,6 +420,7 @@ GST_START_TEST (test_reports)
   guint i, count = 0;
 
   begin_call (&call);
+  g_object_set (call.recv, "repair", FALSE, NULL);
   reports = quick_harness (call.send, NULL, "rtcp_src");
   heard = quick_harness (call.recv, "rtcp_sink", NULL);
   gst_harness_set_src_caps_str (heard, "application/x-rtcp");

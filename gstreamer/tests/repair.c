@@ -113,6 +113,7 @@ GST_START_TEST (test_what_is_sent_again)
       capture (&call);
     sent[i] = gst_harness_pull (call.out);
   }
+  pass_caps (&call);
   while ((again = gst_harness_try_pull (call.out)))
     gst_buffer_unref (again);
   begun = sequence_of (sent[0]);
