@@ -55,6 +55,7 @@ GST_DEBUG_CATEGORY_STATIC (h263rpssend_debug);
 #define GST_CAT_DEFAULT h263rpssend_debug
 
 #define DEFAULT_BITRATE 430000
+#define DEFAULT_ADAPT TRUE
 #define DEFAULT_QUANT 8
 #define DEFAULT_RADIUS 7
 #define DEFAULT_SLOTS 39
@@ -64,6 +65,11 @@ GST_DEBUG_CATEGORY_STATIC (h263rpssend_debug);
 #define DEFAULT_MIN_FORCE_KEY_UNIT_INTERVAL (GST_SECOND / 2)
 
 #define MOST_TARGET 999999
+/* The bytes a picture at which a line is tried first, by the format, and the share of it that is least. */
+#define FIRST_TARGETS { 0, 900, 1800, 6000 }
+#define LEAST_SHARE 30
+/* Pictures whose times are known, until a message tells of them. */
+#define TIMES 256
 #define LEAST_LIMIT 1200
 #define MOST_LIMIT 9000
 
@@ -82,6 +88,7 @@ enum
 {
   PROP_0,
   PROP_BITRATE,
+  PROP_ADAPT,
   PROP_QUANT,
   PROP_RADIUS,
   PROP_SLOTS,
@@ -99,7 +106,7 @@ typedef struct
 {
   guint64 coded, intra, packets, bytes, distance;
   guint64 noted, old, malformed, stale, other_speaker, dropped;
-  guint64 runs, intra_asked, intra_refused;
+  guint64 runs, intra_asked, intra_refused, left_out;
 } Counts;
 
 struct _GstH263RpsSend
@@ -110,7 +117,7 @@ struct _GstH263RpsSend
 
   /* properties, under the object's lock */
   guint bitrate, quant, radius, slots, lead;
-  gboolean custom_clock, repair;
+  gboolean adapt, custom_clock, repair;
   guint64 min_force_key_unit_interval;
   gchar *cname, *record_location;
   GObject *session;
@@ -144,7 +151,11 @@ struct _GstH263RpsSend
   guint8 fir;                   /* the number of the last full intra request */
   gboolean has_block;
   GstH263RpsBlock block;        /* how the stream arrives */
-  GstClockTime round_trip;
+  GstClockTime round_trip;      /* by reports */
+  h263rps_line line;            /* what it carries; empty where it isn't followed */
+  guint most;                   /* ..bytes a picture, at most */
+  gint64 next;                  /* the number of the next picture */
+  GstClockTime sent_at[TIMES], trip;    /* when a picture went out; the round trip by messages */
   GstH263RpsMeter meter;
   Counts counts, begun;         /* ..and as the run began */
 };
@@ -216,6 +227,95 @@ target_of (GstH263RpsSend * self)
 
   return CLAMP (bytes, 1, MOST_TARGET);
 }
+
+/* ---- the line ---- */
+
+static guint64
+monotonic_time (void)
+{
+  return 1000 * (guint64) g_get_monotonic_time ();
+}
+
+/* Under the lock: the line is followed between bounds, from the rate on that it has, or else the
+ * format's; or it isn't followed. */
+static void
+begin_line (GstH263RpsSend * self, gboolean adapts, guint most)
+{
+  static const guint firsts[] = FIRST_TARGETS;
+  guint64 period = gst_util_uint64_scale (GST_SECOND, self->info.fps_d, self->info.fps_n);
+  h263rps_bounds bounds;
+  guint32 rate;
+
+  bounds.most = self->most = most;
+  bounds.first = firsts[gst_h263rps_format_of_size (self->info.width, self->info.height)];
+  if (h263rps_line_rate (&self->line, &rate) == H263RPS_OK)
+    bounds.first = gst_util_uint64_scale (rate, period, GST_SECOND);
+  bounds.first = CLAMP (bounds.first, 1, most);
+  bounds.least = MAX (bounds.first / LEAST_SHARE, 1);
+  bounds.finest = self->params.quant;
+  bounds.period = period;
+  h263rps_line_finish (&self->line);
+  if (adapts)
+    h263rps_line_start (&self->line, &bounds, monotonic_time ());
+}
+
+/* Whether the line carries a further picture; with what it may have. */
+static gboolean
+has_room (GstH263RpsSend * self, guint * target)
+{
+  gboolean adapts;
+  guint32 has = 1;
+
+  GST_OBJECT_LOCK (self);
+  adapts = self->adapt;
+  *target = target_of (self);
+  GST_OBJECT_UNLOCK (self);
+  g_mutex_lock (&self->lock);
+  if (adapts != (self->line.end.kind != 0) || *target != self->most)
+    begin_line (self, adapts, *target);
+  if (adapts && h263rps_line_has_room (&self->line, monotonic_time (), &has) == H263RPS_OK && has)
+    h263rps_line_target (&self->line, target);
+  self->counts.left_out += !has;
+  g_mutex_unlock (&self->lock);
+  return has;
+}
+
+/* Under the lock: a picture goes out. */
+static void
+note_sent (GstH263RpsSend * self, const h263rps_coded * coded, guint64 bytes)
+{
+  guint64 now = monotonic_time ();
+
+  self->next = (gint64) coded->number + 1;
+  self->sent_at[coded->number % TIMES] = now;
+  h263rps_line_sent (&self->line, coded->number, bytes, coded->packets, now);
+}
+
+/* Under the lock: what a message tells of the line (Annex N: BT, URF, TR). */
+static void
+note_told (GstH263RpsSend * self, const h263rps_message * message)
+{
+  gint64 period = self->params.clock == H263RPS_CUSTOM_CLOCK ? 1024 : 256;
+  guint word = GST_READ_UINT16_BE (message->bytes);
+  gint64 newest = self->next - 1, back, number;
+  gboolean is_whole = (word >> 14) == 3;
+  guint64 now = monotonic_time ();
+
+  if (word >> 15 == 0 || newest < 0)
+    return;
+  back = ((newest - (word >> 3 & 1023)) % period + period) % period;
+  number = newest - back;
+  if (number < 0)
+    return;
+  h263rps_line_told (&self->line, number, is_whole, now);
+  if (is_whole && back < TIMES) {
+    GstClockTime trip = now - self->sent_at[number % TIMES];
+
+    self->trip = GST_CLOCK_TIME_IS_VALID (self->trip) ? (7 * self->trip + trip) / 8 : trip;
+  }
+}
+
+/* ---- the run ---- */
 
 static void
 read_params (GstH263RpsSend * self, guint format)
@@ -312,7 +412,9 @@ begin_run (GstH263RpsSend * self)
   g_mutex_lock (&self->lock);
   self->waiting_count = 0;
   self->has_speaker = self->has_block = self->has_fir = FALSE;
-  self->round_trip = GST_CLOCK_TIME_NONE;
+  self->round_trip = self->trip = GST_CLOCK_TIME_NONE;
+  self->next = 0;
+  self->most = 0;
   self->counts.runs++;
   self->begun = self->counts;
   g_mutex_unlock (&self->lock);
@@ -449,6 +551,7 @@ hear_message (GstH263RpsSend * self, guint32 speaker, guint32 about,
   if (about != self->ssrc)
     self->counts.stale++;
   else if (takes_speaker (self, speaker)) {
+    note_told (self, message);
     if (self->waiting_count < MOST_WAITING)
       self->waiting[self->waiting_count++] = *message;
     else
@@ -708,13 +811,12 @@ tell_messages (GstH263RpsSend * self)
 
 /* A new target, and an intra picture where one is asked for. */
 static void
-steer (GstH263RpsSend * self)
+steer (GstH263RpsSend * self, guint target)
 {
   gboolean wants_intra;
-  guint target, coded = 0;
+  guint coded = 0;
 
   GST_OBJECT_LOCK (self);
-  target = target_of (self);
   gst_h263rps_repeater_limit (self->repeater, self->bitrate / 8 / AT_ONCE);
   GST_OBJECT_UNLOCK (self);
   g_mutex_lock (&self->lock);
@@ -898,7 +1000,8 @@ count_picture (GstH263RpsSend * self, const h263rps_coded * coded, guint64 bytes
     self->counts.distance += coded->number - coded->reference;
   self->counts.packets += coded->packets;
   self->counts.bytes += bytes;
-  gst_h263rps_meter_add (&self->meter, 1000 * g_get_monotonic_time (), bytes, 0, 0);
+  note_sent (self, coded, bytes);
+  gst_h263rps_meter_add (&self->meter, monotonic_time (), bytes, 0, 0);
   g_mutex_unlock (&self->lock);
 }
 
@@ -912,15 +1015,20 @@ gst_h263rps_send_handle_buffer (GstRTPBasePayload * payload, GstBuffer * buffer)
   GstClockTime pts = GST_BUFFER_PTS (buffer);
   guint32 status;
   guint64 bytes;
+  guint target;
   GstFlowReturn flow;
 
   if (!self->end.kind)
     goto not_negotiated;
+  if (!has_room (self, &target)) {
+    gst_buffer_unref (buffer);
+    return GST_FLOW_OK;
+  }
   if (!gst_video_frame_map (&frame, &self->info, buffer, GST_MAP_READ))
     goto no_frame;
 
   tell_messages (self);
-  steer (self);
+  steer (self, target);
   status = code_picture (self, &frame, &coded);
   if (status == H263RPS_ENDED && begin_anew (self)) {
     tell_messages (self);
@@ -1090,6 +1198,9 @@ gst_h263rps_send_set_property (GObject * object, guint id, const GValue * value,
     case PROP_BITRATE:
       self->bitrate = g_value_get_uint (value);
       break;
+    case PROP_ADAPT:
+      self->adapt = g_value_get_boolean (value);
+      break;
     case PROP_QUANT:
       self->quant = g_value_get_uint (value);
       break;
@@ -1133,12 +1244,15 @@ static void
 add_reports (GstH263RpsSend * self, GstStructure * stats)
 {
   GstH263RpsBlock block = { 0 };
-  GstClockTime round_trip = GST_CLOCK_TIME_NONE;
+  GstClockTime round_trip = GST_CLOCK_TIME_NONE, trip;
   GObject *session;
   guint64 bitrate;
+  guint limit;
+  guint32 rate;
   gboolean has_block;
 
   GST_OBJECT_LOCK (self);
+  limit = self->bitrate;
   session = self->session ? g_object_ref (self->session) : NULL;
   GST_OBJECT_UNLOCK (self);
   g_mutex_lock (&self->lock);
@@ -1147,14 +1261,19 @@ add_reports (GstH263RpsSend * self, GstStructure * stats)
     block = self->block;
     round_trip = self->round_trip;
   }
-  bitrate = gst_h263rps_meter_bitrate (&self->meter, 1000 * g_get_monotonic_time ());
+  bitrate = gst_h263rps_meter_bitrate (&self->meter, monotonic_time ());
+  trip = self->trip;
+  if (h263rps_line_rate (&self->line, &rate) != H263RPS_OK)
+    rate = limit / 8;
   g_mutex_unlock (&self->lock);
   if (session)
     has_block = gst_h263rps_session_block (session, GST_RTP_BASE_PAYLOAD (self)->current_ssrc,
         &block, &round_trip);
   g_clear_object (&session);
-  gst_structure_set (stats, "bit-rate", G_TYPE_UINT64, bitrate, "round-trip", G_TYPE_UINT64,
-      round_trip, "jitter", G_TYPE_UINT64, has_block
+  if (!GST_CLOCK_TIME_IS_VALID (round_trip))
+    round_trip = trip;
+  gst_structure_set (stats, "bit-rate", G_TYPE_UINT64, bitrate, "target-bit-rate", G_TYPE_UINT64,
+      8 * (guint64) rate, "round-trip", G_TYPE_UINT64, round_trip, "jitter", G_TYPE_UINT64, has_block
       ? gst_util_uint64_scale (block.jitter, GST_SECOND, 90000) : GST_CLOCK_TIME_NONE,
       "fraction-lost", G_TYPE_DOUBLE, has_block ? block.fraction / 256.0 : -1.0, NULL);
 }
@@ -1195,6 +1314,7 @@ create_stats (GstH263RpsSend * self)
       "runs", G_TYPE_UINT64, counts.runs,
       "intra-asked", G_TYPE_UINT64, counts.intra_asked,
       "intra-refused", G_TYPE_UINT64, counts.intra_refused,
+      "left-out", G_TYPE_UINT64, counts.left_out,
       "asked", G_TYPE_UINT64, repeats.asked,
       "repeated", G_TYPE_UINT64, repeats.repeated,
       "repeats-refused", G_TYPE_UINT64, repeats.refused, NULL);
@@ -1216,6 +1336,9 @@ gst_h263rps_send_get_property (GObject * object, guint id, GValue * value, GPara
   switch (id) {
     case PROP_BITRATE:
       g_value_set_uint (value, self->bitrate);
+      break;
+    case PROP_ADAPT:
+      g_value_set_boolean (value, self->adapt);
       break;
     case PROP_QUANT:
       g_value_set_uint (value, self->quant);
@@ -1267,6 +1390,7 @@ gst_h263rps_send_change_state (GstElement * element, GstStateChange transition)
     memset (&self->meter, 0, sizeof self->meter);
     self->has_speaker = self->wants_intra = self->has_block = self->has_fir = FALSE;
     self->intra_at = 0;
+    h263rps_line_finish (&self->line);
     g_mutex_unlock (&self->lock);
     self->is_rtcp_begun = self->is_closed_told = FALSE;
     self->next_report = GST_CLOCK_TIME_NONE;
@@ -1293,6 +1417,7 @@ gst_h263rps_send_finalize (GObject * object)
   GstH263RpsSend *self = GST_H263RPS_SEND (object);
 
   finish_run (self);
+  h263rps_line_finish (&self->line);
   gst_h263rps_repeater_free (self->repeater);
   g_free (self->cname);
   g_free (self->record_location);
@@ -1306,6 +1431,7 @@ gst_h263rps_send_init (GstH263RpsSend * self)
   GstRTPBasePayload *payload = GST_RTP_BASE_PAYLOAD (self);
 
   self->bitrate = DEFAULT_BITRATE;
+  self->adapt = DEFAULT_ADAPT;
   self->quant = DEFAULT_QUANT;
   self->radius = DEFAULT_RADIUS;
   self->slots = DEFAULT_SLOTS;
@@ -1314,7 +1440,7 @@ gst_h263rps_send_init (GstH263RpsSend * self)
   self->repair = DEFAULT_REPAIR;
   self->min_force_key_unit_interval = DEFAULT_MIN_FORCE_KEY_UNIT_INTERVAL;
   self->cname = gst_h263rps_rtcp_new_name ();
-  self->next_report = self->round_trip = GST_CLOCK_TIME_NONE;
+  self->next_report = self->round_trip = self->trip = GST_CLOCK_TIME_NONE;
   g_mutex_init (&self->lock);
   self->repeater = gst_h263rps_repeater_new (payload->srcpad);
 
@@ -1354,12 +1480,22 @@ gst_h263rps_send_class_init (GstH263RpsSendClass * klass)
   /**
    * GstH263RpsSend:bitrate:
    *
-   * What the coder aims at, in bits a second, with the heads of RTP. From the next picture on the
-   * quantiser follows it, by the sizes of the last 16 pictures.
+   * The most bits a second, with the heads of RTP; without #GstH263RpsSend:adapt what the coder aims
+   * at. From the next picture on the quantiser follows it, by the sizes of the last 16 pictures.
    */
   g_object_class_install_property (object_class, PROP_BITRATE,
-      g_param_spec_uint ("bitrate", "Bitrate", "Bits a second that the coder aims at",
+      g_param_spec_uint ("bitrate", "Bitrate", "The most bits a second, at which the coder aims without adapt",
           1000, 100000000, DEFAULT_BITRATE, playing));
+  /**
+   * GstH263RpsSend:adapt:
+   *
+   * Whether the bit rate follows what the line carries, by the messages that come back (as Google's
+   * congestion control does): up to #GstH263RpsSend:bitrate, down to a thirtieth of where it began.
+   * Where the coarsest pictures are too much for the line pictures are left out.
+   */
+  g_object_class_install_property (object_class, PROP_ADAPT,
+      g_param_spec_boolean ("adapt", "Adapt", "Follow the bit rate that the line carries",
+          DEFAULT_ADAPT, playing));
   /**
    * GstH263RpsSend:quant:
    *
@@ -1458,9 +1594,11 @@ gst_h263rps_send_class_init (GstH263RpsSendClass * klass)
    * "bytes", "mean-distance" to the reference in pictures; messages "noted", "old", "malformed",
    * "stale" (about another SSRC), of an "other-speaker", and "dropped" for want of room; "runs";
    * intra pictures "intra-asked" and "intra-refused" (too soon after another); packets "asked" for,
-   * "repeated", and "repeats-refused" (the stream had too few bytes meanwhile); "bit-rate" in the
-   * last second, in bits. By the receiver's reports: "round-trip" and "jitter" in ns, -1 as long as
-   * none came (%GST_CLOCK_TIME_NONE), and "fraction-lost", 0 to 1, or -1.
+   * "repeated", and "repeats-refused" (the stream had too few bytes meanwhile); pictures "left-out"
+   * for want of room on the line, its "target-bit-rate" with the heads of IP and UDP, and the
+   * "bit-rate" in the last second, in bits. By the receiver's reports, or else its messages:
+   * "round-trip" in ns, %GST_CLOCK_TIME_NONE as long as none came; by its reports "jitter" likewise
+   * and "fraction-lost", 0 to 1, or -1.
    */
   g_object_class_install_property (object_class, PROP_STATS,
       g_param_spec_boxed ("stats", "Statistics", "Counts of the call", GST_TYPE_STRUCTURE,

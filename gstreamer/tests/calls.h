@@ -52,15 +52,18 @@ set_size (Call * call, const gchar * caps)
   gst_harness_set_src_caps_str (call->out, caps);
 }
 
+/* With elements that have this latency, or at their defaults. */
 static void
-begin_call (Call * call)
+begin_call_with (Call * call, gboolean is_set)
 {
   memset (call, 0, sizeof *call);
   call->send = gst_element_factory_make ("h263rpssend", NULL);
   call->recv = gst_element_factory_make ("h263rpsrecv", NULL);
   fail_unless (call->send && call->recv);
-  g_object_set (call->send, "slots", SLOTS, "lead", LEAD, NULL);
-  g_object_set (call->recv, "latency", LATENCY, NULL);
+  if (is_set) {
+    g_object_set (call->send, "slots", SLOTS, "lead", LEAD, NULL);
+    g_object_set (call->recv, "latency", LATENCY, NULL);
+  }
   call->out = quick_harness (call->send, "sink", "src");
   call->back = quick_harness (call->send, "rtcp_sink", NULL);
   call->in = quick_harness (call->recv, "sink", "src");
@@ -69,6 +72,12 @@ begin_call (Call * call)
   gst_harness_set_live (call->in, TRUE);
   gst_harness_set_src_caps_str (call->back, "application/x-rtcp");
   set_size (call, SUB_QCIF);
+}
+
+static void
+begin_call (Call * call)
+{
+  begin_call_with (call, TRUE);
 }
 
 static void
@@ -215,7 +224,10 @@ drain (void)
 /* ---- a way that takes a while, and loses some ---- */
 
 #define STEP (3 * GST_SECOND / 1000)
-#define MOST 400
+#define MOST 2000
+/* What is before a packet of RTP on a line, in bytes, and for how long a line has room, in us. */
+#define HEADS 28
+#define LINE_ROOM 200000
 
 /* What is on its way, with the time at which it comes, in us. */
 typedef struct
@@ -229,7 +241,10 @@ typedef struct
   Call call;
   GQueue there, back;
   guint rate;
-  gint64 delays[2], begun;      /* before and after the step, in us */
+  gint64 step, delays[2], begun;        /* before and after the step, in us */
+  guint lines[2];               /* likewise, in kbit/s, or 0 */
+  gint64 line_free;             /* when what is on the line has gone */
+  guint64 dropped, bytes;       /* packets by the line; what was sent */
   gdouble loss;
   GRand *rand;
   gboolean is_lost[MOST], is_exact[MOST];
@@ -250,6 +265,7 @@ begin_way (Way * way, guint rate, guint before, guint after, gdouble loss)
   g_queue_init (&way->there);
   g_queue_init (&way->back);
   way->rate = rate;
+  way->step = STEP;
   way->delays[0] = 1000 * before;
   way->delays[1] = 1000 * after;
   way->loss = loss;
@@ -263,8 +279,26 @@ put (Way * way, GQueue * queue, GstBuffer * buffer, gint64 now)
   Sent *sent = g_new (Sent, 1);
 
   sent->buffer = buffer;
-  sent->at = now + way->delays[now - way->begun >= STEP];
+  sent->at = now + way->delays[now - way->begun >= way->step];
   g_queue_push_tail (queue, sent);
+}
+
+/* A packet waits for those before it on a narrow line, which drops it where too much waits; whether it
+ * goes on. */
+static gboolean
+pass_line (Way * way, gsize size, gint64 now, gint64 * gone)
+{
+  guint rate = way->lines[now - way->begun >= way->step];
+
+  *gone = now;
+  if (rate == 0)
+    return TRUE;
+  if (way->line_free > now + LINE_ROOM) {
+    way->dropped++;
+    return FALSE;
+  }
+  way->line_free = *gone = MAX (way->line_free, now) + 8000 * (size + HEADS) / rate;
+  return TRUE;
 }
 
 static void
@@ -282,15 +316,17 @@ bring (GQueue * queue, GstHarness * to, gint64 now)
 static void
 carry (Way * way)
 {
-  gint64 now = g_get_monotonic_time ();
+  gint64 now = g_get_monotonic_time (), gone;
   GstBuffer *buffer;
 
   while ((buffer = gst_harness_try_pull (way->call.out))) {
-    if (g_rand_double (way->rand) < way->loss) {
+    way->bytes += gst_buffer_get_size (buffer);
+    if (g_rand_double (way->rand) < way->loss
+        || !pass_line (way, gst_buffer_get_size (buffer), now, &gone)) {
       way->is_lost[way->call.captured - 1] = TRUE;
       gst_buffer_unref (buffer);
     } else {
-      put (way, &way->there, buffer, now);
+      put (way, &way->there, buffer, gone);
     }
   }
   bring (&way->there, way->call.in, now);

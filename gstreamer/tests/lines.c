@@ -1,0 +1,124 @@
+/* Tests of the elements at their defaults over narrow lines, by GStreamer's harness. */
+#include "calls.h"
+
+/* Noise whose pictures have some 4,000 bytes at the finest quantiser, in QCIF at 30 pictures a second. */
+static void
+begin_line (Way * way, guint before, guint after, gint64 step)
+{
+  memset (way, 0, sizeof *way);
+  begin_call_with (&way->call, FALSE);
+  set_size (&way->call, "video/x-raw, format = (string) I420, width = (int) 176, height = (int) 144, "
+      "framerate = (fraction) 30/1");
+  way->rate = 30;
+  way->delays[0] = way->delays[1] = 30000;
+  way->lines[0] = before;
+  way->lines[1] = after;
+  way->step = step;
+  way->rand = g_rand_new_with_seed (5);
+  way->begun = g_get_monotonic_time ();
+}
+
+typedef struct
+{
+  gint64 at[MOST];              /* from the start, in us */
+  gboolean is_exact[MOST];
+  guint count;
+} Shown;
+
+/* A buffer's time is that of its capture, and the least way. */
+static Shown *
+read_shown (Way * way)
+{
+  Shown *shown = g_new0 (Shown, 1);
+  GstBuffer *buffer;
+
+  while ((buffer = gst_harness_try_pull (way->call.in))) {
+    shown->at[shown->count] = (gint64) (GST_BUFFER_PTS (buffer) / 1000) - way->begun;
+    shown->is_exact[shown->count++] = !GST_BUFFER_FLAG_IS_SET (buffer, GST_BUFFER_FLAG_CORRUPTED);
+    gst_buffer_unref (buffer);
+  }
+  return shown;
+}
+
+/* Of the pictures shown between two times, in seconds, so many of a hundred are exact, and so many are
+ * shown a second, at least. */
+static void
+assert_exact (const Shown * shown, guint from, guint to, guint percent, guint each)
+{
+  guint all = 0, exact = 0, i;
+
+  for (i = 0; i < shown->count; i++) {
+    if (shown->at[i] < from * G_USEC_PER_SEC || shown->at[i] >= to * G_USEC_PER_SEC)
+      continue;
+    all++;
+    exact += shown->is_exact[i];
+  }
+  g_print ("from second %u to %u exact %u of %u\n", from, to, exact, all);
+  fail_unless (all >= each * (to - from), "%u pictures are shown", all);
+  fail_unless (100 * exact >= percent * all, "%u of %u pictures are exact", exact, all);
+}
+
+static void
+print_rates (Way * way)
+{
+  GstStructure *stats;
+  gchar *text;
+
+  g_object_get (way->call.send, "stats", &stats, NULL);
+  text = gst_structure_to_string (stats);
+  g_print ("dropped %" G_GUINT64_FORMAT "; %s\n", way->dropped, text);
+  g_free (text);
+  gst_structure_free (stats);
+}
+
+GST_START_TEST (test_a_narrow_line)
+{
+  static const guint lines[] = { 300, 150, 1000 };
+  Way *way = g_new (Way, 1);
+  Shown *shown;
+
+  begin_line (way, lines[__i__], lines[__i__], 0);
+  drive (way, 25 * way->rate);
+  print_rates (way);
+  shown = read_shown (way);
+  assert_exact (shown, 0, 5, 0, 1);
+  assert_exact (shown, 5, 25, 97, 25);
+  g_free (shown);
+  end_way (way);
+  g_free (way);
+}
+GST_END_TEST;
+
+GST_START_TEST (test_a_line_that_gets_narrow)
+{
+  Way *way = g_new (Way, 1);
+  Shown *shown;
+  guint i;
+
+  begin_line (way, 1000, 200, 8 * G_USEC_PER_SEC);
+  drive (way, 18 * way->rate);
+  print_rates (way);
+  shown = read_shown (way);
+  for (i = 5; i < 17; i++)
+    assert_exact (shown, i, i + 1, 0, 1);
+  assert_exact (shown, 10, 18, 97, 25);
+  g_free (shown);
+  end_way (way);
+  g_free (way);
+}
+GST_END_TEST;
+
+static Suite *
+lines_suite (void)
+{
+  Suite *suite = suite_create ("h263rps lines");
+  TCase *chain = tcase_create ("lines");
+
+  suite_add_tcase (suite, chain);
+  tcase_set_timeout (chain, 60);
+  tcase_add_loop_test (chain, test_a_narrow_line, 0, 3);
+  tcase_add_test (chain, test_a_line_that_gets_narrow);
+  return suite;
+}
+
+GST_CHECK_MAIN (lines);
