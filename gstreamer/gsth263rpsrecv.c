@@ -43,6 +43,7 @@
 #include "gsth263rpscall.h"
 #include "gsth263rpsrepair.h"
 #include "gsth263rpsrtcp.h"
+#include "gsth263rpssend.h"
 #include "gsth263rpswindow.h"
 
 GST_DEBUG_CATEGORY_STATIC (h263rpsrecv_debug);
@@ -58,6 +59,8 @@ GST_DEBUG_CATEGORY_STATIC (h263rpsrecv_debug);
 /* The stream of any sender. */
 #define DEFAULT_SENDER_SSRC G_MAXUINT32
 
+/* A party whose headers carry messages hears those in others', for so long after one. */
+#define HEADERS_LAST GST_SECOND
 /* An intra picture is asked for at most this often. */
 #define ASK_INTERVAL (GST_SECOND / 2)
 /* Pictures that wait for what comes after; of more, the oldest is dropped. */
@@ -90,6 +93,7 @@ enum
   PROP_SSRC,
   PROP_SENDER_SSRC,
   PROP_SESSION,
+  PROP_SENDER,
   PROP_TS_OFFSET,
   PROP_CNAME,
   PROP_RECORD_LOCATION,
@@ -111,6 +115,7 @@ typedef struct
   h263rps_message message;
   guint32 about;
   guint pt;
+  gboolean is_carried;          /* a message that the sender's next header may have */
   GstH263RpsBlock block;
   h263rps_nack nack;
   guint round_trip;             /* ..in so many ms */
@@ -148,6 +153,7 @@ struct _GstH263RpsRecv
   gchar *cname, *record_location;
   GObject *session;
   gulong session_handlers[2];
+  GWeakRef sender;
 
   /* all below is under this lock */
   GMutex lock;
@@ -189,6 +195,8 @@ struct _GstH263RpsRecv
   Counts counts;
   GstH263RpsReception reception;        /* of the stream that is followed */
   GstH263RpsRepair asking;      /* ..and what was asked for of it */
+  gint header;                  /* the temporal reference of the last header that was heard, or -1 */
+  GstClockTime headers_at;      /* when one had messages last, or NONE */
   GstClockTime next_report;
   GstH263RpsMeter meter;        /* all pictures, and those that are exact */
 
@@ -282,13 +290,18 @@ new_pending (GstH263RpsRecv * self, Say say, guint32 about)
   return pending;
 }
 
+/* Under the lock. A header tells what is said of the stream that is followed alone. */
 static void
 note_message (GstH263RpsRecv * self, guint32 about, const h263rps_message * message)
 {
   Pending *pending = message->length ? new_pending (self, SAY_MESSAGE, about) : NULL;
+  guint32 source;
 
-  if (pending)
-    pending->message = *message;
+  if (!pending)
+    return;
+  pending->message = *message;
+  pending->is_carried = self->shown && gst_h263rps_call_followed (self->shown, &source)
+      && source == about;
 }
 
 /* Under the lock: an intra picture is wanted, as of a stream that was joined. */
@@ -464,12 +477,22 @@ tell_session (GstH263RpsRecv * self, GObject * session, const Pending * pending)
   }
 }
 
+/* Whether a header says it alone: one that goes out soon, where the other party hears headers. */
+static gboolean
+is_said_by_header (GstH263RpsSend * sender, const Pending * pending, gboolean hears)
+{
+  return sender && pending->is_carried && gst_h263rps_send_carry (sender, &pending->message)
+      && hears;
+}
+
 /* Without the lock. */
 static void
 say_pending (GstH263RpsRecv * self)
 {
   Pending pending[MOST_PENDING];
+  GstH263RpsSend *sender;
   GObject *session;
+  gboolean hears;
   guint count, i;
 
   g_mutex_lock (&self->lock);
@@ -478,6 +501,8 @@ say_pending (GstH263RpsRecv * self)
   self->pending_count = 0;
   for (i = 0; i < count; i++)
     self->counts.said += pending[i].say == SAY_MESSAGE || pending[i].say == SAY_INTRA;
+  hears = GST_CLOCK_TIME_IS_VALID (self->headers_at)
+      && clock_time (self) - self->headers_at < HEADERS_LAST;
   g_mutex_unlock (&self->lock);
   if (count == 0)
     return;
@@ -485,16 +510,19 @@ say_pending (GstH263RpsRecv * self)
   GST_OBJECT_LOCK (self);
   session = self->session ? g_object_ref (self->session) : NULL;
   GST_OBJECT_UNLOCK (self);
+  sender = g_weak_ref_get (&self->sender);
   for (i = 0; i < count; i++) {
     if (pending[i].say == SAY_MISSING)
       request_packets (self, &pending[i]);
+    if (is_said_by_header (sender, &pending[i], hears))
+      continue;
     if (session)
       tell_session (self, session, &pending[i]);
     else
       push_rtcp (self, &pending[i]);
   }
-  if (session)
-    g_object_unref (session);
+  g_clear_object (&session);
+  g_clear_object (&sender);
 }
 
 static gboolean
@@ -969,6 +997,24 @@ keep_packet (GstH263RpsRecv * self, GstH263RpsCall * call, const Arrival * arriv
     gst_h263rps_call_note_time (call, start.temporal_reference, arrival->timestamp);
 }
 
+/* The messages in the header of a picture of the stream that is followed are about this party's. */
+static void
+hear_header (GstH263RpsRecv * self, const Arrival * arrival, GstClockTime now)
+{
+  GstH263RpsSend *sender = g_weak_ref_get (&self->sender);
+  h263rps_start start;
+
+  if (!sender)
+    return;
+  if (read_start (self, arrival, &start) && start.count > 0
+      && self->header != (gint) start.temporal_reference) {
+    self->header = start.temporal_reference;
+    self->headers_at = now;
+    gst_h263rps_send_hear (sender, start.messages, start.count);
+  }
+  g_object_unref (sender);
+}
+
 /* A packet was heard. Also of a stream that isn't followed messages go out: what it lacks is to come. */
 static void
 note_heard (GstH263RpsRecv * self, GstH263RpsCall * call, const Arrival * arrival,
@@ -991,6 +1037,7 @@ note_heard (GstH263RpsRecv * self, GstH263RpsCall * call, const Arrival * arriva
   /* The first picture's packets count before anything is followed. */
   self->counts.heard[answer->kind] += is_shown || !self->shown;
   if (is_shown) {
+    hear_header (self, arrival, now);
     note_reception (self, arrival, answer->kind <= H263RPS_COMPLETED, now);
     ask_for_missing (self, call, now);
   }
@@ -1634,6 +1681,10 @@ gst_h263rps_recv_set_property (GObject * object, guint id, const GValue * value,
     set_session (self, g_value_get_object (value));
     return;
   }
+  if (id == PROP_SENDER) {
+    g_weak_ref_set (&self->sender, g_value_get_object (value));
+    return;
+  }
 
   GST_OBJECT_LOCK (self);
   switch (id) {
@@ -1743,6 +1794,10 @@ gst_h263rps_recv_get_property (GObject * object, guint id, GValue * value, GPara
     g_value_take_boxed (value, create_stats (self));
     return;
   }
+  if (id == PROP_SENDER) {
+    g_value_take_object (value, g_weak_ref_get (&self->sender));
+    return;
+  }
 
   GST_OBJECT_LOCK (self);
   switch (id) {
@@ -1807,6 +1862,8 @@ gst_h263rps_recv_change_state (GstElement * element, GstStateChange transition)
       memset (&self->counts, 0, sizeof self->counts);
       memset (&self->reception, 0, sizeof self->reception);
       memset (&self->asking, 0, sizeof self->asking);
+      self->headers_at = GST_CLOCK_TIME_NONE;
+      self->header = -1;
       memset (&self->meter, 0, sizeof self->meter);
       self->next_report = GST_CLOCK_TIME_NONE;
       self->has_asked = self->is_call_fault_told = self->is_rival_told = FALSE;
@@ -1864,6 +1921,7 @@ gst_h263rps_recv_finalize (GObject * object)
   g_queue_clear_full (&self->session_queue, g_free);
   gst_clear_caps (&self->new_caps);
   gst_caps_unref (self->ntp_caps);
+  g_weak_ref_clear (&self->sender);
   g_free (self->cname);
   g_free (self->record_location);
   g_free (self->record_fault);
@@ -1917,6 +1975,9 @@ gst_h263rps_recv_init (GstH263RpsRecv * self)
   self->fps_n = 30000;
   self->fps_d = 1001;
   self->earliest = GST_CLOCK_TIME_NONE;
+  g_weak_ref_init (&self->sender, NULL);
+  self->headers_at = GST_CLOCK_TIME_NONE;
+  self->header = -1;
   self->repair = DEFAULT_REPAIR;
   self->ssrc = DEFAULT_SSRC;
   self->sender_ssrc = DEFAULT_SENDER_SSRC;
@@ -2024,6 +2085,17 @@ gst_h263rps_recv_class_init (GstH263RpsRecvClass * klass)
   g_object_class_install_property (object_class, PROP_SESSION,
       g_param_spec_object ("session", "Session", "An inner session of RTP that sends the messages",
           G_TYPE_OBJECT, playing));
+  /**
+   * GstH263RpsRecv:sender:
+   *
+   * The #GstH263RpsSend of the same party, where both sides send. Its pictures' headers carry this
+   * receiver's messages (H.263, Annex N), and it hears those in the headers that come. Where the other
+   * party's headers carry messages, too, one goes out by RTCP only if the next picture is more than
+   * 20 ms away. While the sender records, its headers carry none.
+   */
+  g_object_class_install_property (object_class, PROP_SENDER,
+      g_param_spec_object ("sender", "Sender", "The sender whose pictures carry the messages",
+          GST_TYPE_H263RPS_SEND, playing));
   /**
    * GstH263RpsRecv:ts-offset:
    *

@@ -65,14 +65,21 @@ GST_DEBUG_CATEGORY_STATIC (h263rpssend_debug);
 #define DEFAULT_MIN_FORCE_KEY_UNIT_INTERVAL (GST_SECOND / 2)
 
 #define MOST_TARGET 999999
-/* The bytes a picture at which a line is tried first, by the format, and the share of it that is least. */
-#define FIRST_TARGETS { 0, 900, 1800, 6000 }
+/* The bytes a second at which a line is tried first, by the format, and the share of it that is least. */
+#define FIRST_RATES { 0, 27000, 54000, 180000 }
 #define LEAST_SHARE 30
 /* Pictures whose times are known, until a message tells of them. */
 #define TIMES 256
 #define LEAST_LIMIT 1200
 #define MOST_LIMIT 9000
 
+/* Messages of this party's receiver that a picture's header carries. */
+#define MOST_CARRIED 4
+/* A picture is waited for that is no further away, in us, and no later than that. */
+#define SOON 20000
+#define LATE 5000
+/* So long after a stream began headers tell of the one before, in us. */
+#define ANOTHER G_USEC_PER_SEC
 /* Messages that may wait for the next picture; what comes then is dropped. */
 #define MOST_WAITING 256
 /* A run of which no message came back for so long (in us) has no back channel. */
@@ -106,7 +113,7 @@ typedef struct
 {
   guint64 coded, intra, packets, bytes, distance;
   guint64 noted, old, malformed, stale, other_speaker, dropped;
-  guint64 runs, intra_asked, intra_refused, left_out;
+  guint64 runs, intra_asked, intra_refused, left_out, carried;
 } Counts;
 
 struct _GstH263RpsSend
@@ -141,6 +148,9 @@ struct _GstH263RpsSend
   GMutex lock;
   h263rps_message waiting[MOST_WAITING];
   guint waiting_count;
+  h263rps_message carried[MOST_CARRIED];        /* the oldest first */
+  guint carried_count;
+  gint64 picture_at, begun_at;  /* when the last picture was coded, and the first one, in us; or 0 */
   guint32 ssrc;
   guint32 speaker;
   gboolean has_speaker;
@@ -241,16 +251,15 @@ monotonic_time (void)
 static void
 begin_line (GstH263RpsSend * self, gboolean adapts, guint most)
 {
-  static const guint firsts[] = FIRST_TARGETS;
+  static const guint32 firsts[] = FIRST_RATES;
   guint64 period = gst_util_uint64_scale (GST_SECOND, self->info.fps_d, self->info.fps_n);
   h263rps_bounds bounds;
   guint32 rate;
 
   bounds.most = self->most = most;
-  bounds.first = firsts[gst_h263rps_format_of_size (self->info.width, self->info.height)];
-  if (h263rps_line_rate (&self->line, &rate) == H263RPS_OK)
-    bounds.first = gst_util_uint64_scale (rate, period, GST_SECOND);
-  bounds.first = CLAMP (bounds.first, 1, most);
+  if (h263rps_line_rate (&self->line, &rate) != H263RPS_OK)
+    rate = firsts[gst_h263rps_format_of_size (self->info.width, self->info.height)];
+  bounds.first = CLAMP (gst_util_uint64_scale (rate, period, GST_SECOND), 1, most);
   bounds.least = MAX (bounds.first / LEAST_SHARE, 1);
   bounds.finest = self->params.quant;
   bounds.period = period;
@@ -276,6 +285,8 @@ has_room (GstH263RpsSend * self, guint * target)
   if (adapts && h263rps_line_has_room (&self->line, monotonic_time (), &has) == H263RPS_OK && has)
     h263rps_line_target (&self->line, target);
   self->counts.left_out += !has;
+  if (!has)
+    self->picture_at = 0;
   g_mutex_unlock (&self->lock);
   return has;
 }
@@ -415,6 +426,8 @@ begin_run (GstH263RpsSend * self)
   self->round_trip = self->trip = GST_CLOCK_TIME_NONE;
   self->next = 0;
   self->most = 0;
+  self->picture_at = 0;
+  self->begun_at = self->counts.runs > 0 ? g_get_monotonic_time () : 0;
   self->counts.runs++;
   self->begun = self->counts;
   g_mutex_unlock (&self->lock);
@@ -543,6 +556,17 @@ takes_speaker (GstH263RpsSend * self, guint32 speaker)
   return TRUE;
 }
 
+/* Under the lock: for the next picture, and for the line at once. */
+static void
+keep_message (GstH263RpsSend * self, const h263rps_message * message)
+{
+  note_told (self, message);
+  if (self->waiting_count < MOST_WAITING)
+    self->waiting[self->waiting_count++] = *message;
+  else
+    self->counts.dropped++;
+}
+
 static void
 hear_message (GstH263RpsSend * self, guint32 speaker, guint32 about,
     const h263rps_message * message)
@@ -550,13 +574,8 @@ hear_message (GstH263RpsSend * self, guint32 speaker, guint32 about,
   g_mutex_lock (&self->lock);
   if (about != self->ssrc)
     self->counts.stale++;
-  else if (takes_speaker (self, speaker)) {
-    note_told (self, message);
-    if (self->waiting_count < MOST_WAITING)
-      self->waiting[self->waiting_count++] = *message;
-    else
-      self->counts.dropped++;
-  }
+  else if (takes_speaker (self, speaker))
+    keep_message (self, message);
   g_mutex_unlock (&self->lock);
 }
 
@@ -772,6 +791,80 @@ on_feedback_rtcp (GObject * session, guint type, guint fbtype, guint speaker, gu
   gst_buffer_unmap (fci, &map);
 }
 
+/* ---- headers ---- */
+
+/* Under the lock: whether the next picture is as near as the one before says. */
+static gboolean
+is_soon (GstH263RpsSend * self)
+{
+  gint64 period = gst_util_uint64_scale (G_USEC_PER_SEC, self->info.fps_d, MAX (self->info.fps_n, 1));
+  gint64 away = self->picture_at + period - g_get_monotonic_time ();
+
+  return self->picture_at != 0 && away <= SOON && away >= -LATE;
+}
+
+/**
+ * gst_h263rps_send_carry:
+ * @self: the sender of a party
+ * @message: what its receiver says
+ *
+ * The header of the next picture carries the message, and of more than four the last ones.
+ *
+ * Returns: whether that is soon enough
+ */
+gboolean
+gst_h263rps_send_carry (GstH263RpsSend * self, const h263rps_message * message)
+{
+  gboolean is_full, soon;
+
+  g_mutex_lock (&self->lock);
+  is_full = self->carried_count == MOST_CARRIED;
+  soon = is_soon (self);
+  if (is_full && !soon)
+    memmove (self->carried, self->carried + 1, --self->carried_count * sizeof *self->carried);
+  if (self->carried_count < MOST_CARRIED)
+    self->carried[self->carried_count++] = *message;
+  g_mutex_unlock (&self->lock);
+  return soon && !is_full;
+}
+
+/* What the next picture's header carries. A record has no place for it. */
+static guint
+take_carried (GstH263RpsSend * self, h263rps_message * messages)
+{
+  guint count;
+
+  g_mutex_lock (&self->lock);
+  count = self->record ? 0 : self->carried_count;
+  memcpy (messages, self->carried, count * sizeof *messages);
+  self->carried_count = 0;
+  self->counts.carried += count;
+  self->picture_at = self->record ? 0 : g_get_monotonic_time ();
+  g_mutex_unlock (&self->lock);
+  return count;
+}
+
+/**
+ * gst_h263rps_send_hear:
+ * @self: the sender of a party
+ * @messages: those in the header of the other party's picture
+ * @count: how many
+ *
+ * They are what the other receiver says, whoever speaks for it by RTCP.
+ */
+void
+gst_h263rps_send_hear (GstH263RpsSend * self, const h263rps_message * messages, guint count)
+{
+  guint i;
+
+  g_mutex_lock (&self->lock);
+  if (self->begun_at != 0 && g_get_monotonic_time () - self->begun_at < ANOTHER)
+    count = 0;
+  for (i = 0; i < count; i++)
+    keep_message (self, &messages[i]);
+  g_mutex_unlock (&self->lock);
+}
+
 /* The streaming thread hands over what came back before each picture. */
 static void
 tell_messages (GstH263RpsSend * self)
@@ -881,9 +974,11 @@ static guint32
 code_picture (GstH263RpsSend * self, GstVideoFrame * frame, h263rps_coded * coded)
 {
   const guint8 *samples = packed_samples (self, frame);
+  h263rps_message carried[MOST_CARRIED];
+  guint count = take_carried (self, carried);
   guint32 status;
 
-  status = h263rps_sender_code (&self->end, samples, self->size, NULL, 0, coded);
+  status = h263rps_sender_code (&self->end, samples, self->size, carried, count, coded);
   if (status != H263RPS_OK)
     return status;
   gst_h263rps_record_entry (self->record, GST_H263RPS_RECORD_LOG, 'S', NULL, 0,
@@ -1315,6 +1410,7 @@ create_stats (GstH263RpsSend * self)
       "intra-asked", G_TYPE_UINT64, counts.intra_asked,
       "intra-refused", G_TYPE_UINT64, counts.intra_refused,
       "left-out", G_TYPE_UINT64, counts.left_out,
+      "carried", G_TYPE_UINT64, counts.carried,
       "asked", G_TYPE_UINT64, repeats.asked,
       "repeated", G_TYPE_UINT64, repeats.repeated,
       "repeats-refused", G_TYPE_UINT64, repeats.refused, NULL);
@@ -1386,7 +1482,7 @@ gst_h263rps_send_change_state (GstElement * element, GstStateChange transition)
   if (transition == GST_STATE_CHANGE_READY_TO_PAUSED) {
     g_mutex_lock (&self->lock);
     memset (&self->counts, 0, sizeof self->counts);
-    self->waiting_count = 0;
+    self->waiting_count = self->carried_count = 0;
     memset (&self->meter, 0, sizeof self->meter);
     self->has_speaker = self->wants_intra = self->has_block = self->has_fir = FALSE;
     self->intra_at = 0;
@@ -1595,7 +1691,7 @@ gst_h263rps_send_class_init (GstH263RpsSendClass * klass)
    * "stale" (about another SSRC), of an "other-speaker", and "dropped" for want of room; "runs";
    * intra pictures "intra-asked" and "intra-refused" (too soon after another); packets "asked" for,
    * "repeated", and "repeats-refused" (the stream had too few bytes meanwhile); pictures "left-out"
-   * for want of room on the line, its "target-bit-rate" with the heads of IP and UDP, and the
+   * for want of room on the line; messages of the receiver "carried" in headers; the line's "target-bit-rate" with the heads of IP and UDP, and the
    * "bit-rate" in the last second, in bits. By the receiver's reports, or else its messages:
    * "round-trip" in ns, %GST_CLOCK_TIME_NONE as long as none came; by its reports "jitter" likewise
    * and "fraction-lost", 0 to 1, or -1.

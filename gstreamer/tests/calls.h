@@ -52,7 +52,7 @@ set_size (Call * call, const gchar * caps)
   gst_harness_set_src_caps_str (call->out, caps);
 }
 
-/* With elements that have this latency, or at their defaults. */
+/* With elements that have this latency and a steady bit rate, or at their defaults. */
 static void
 begin_call_with (Call * call, gboolean is_set)
 {
@@ -61,7 +61,7 @@ begin_call_with (Call * call, gboolean is_set)
   call->recv = gst_element_factory_make ("h263rpsrecv", NULL);
   fail_unless (call->send && call->recv);
   if (is_set) {
-    g_object_set (call->send, "slots", SLOTS, "lead", LEAD, NULL);
+    g_object_set (call->send, "slots", SLOTS, "lead", LEAD, "adapt", FALSE, NULL);
     g_object_set (call->recv, "latency", LATENCY, NULL);
   }
   call->out = quick_harness (call->send, "sink", "src");

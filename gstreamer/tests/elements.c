@@ -238,7 +238,7 @@ GST_START_TEST (test_bitrate_while_playing)
   guint64 before, between;
 
   begin_call (&call);
-  g_object_set (call.send, "bitrate", 2000000, "adapt", FALSE, NULL);
+  g_object_set (call.send, "bitrate", 2000000, NULL);
   run_call (&call, 60, 0);
   before = count_of (call.send, "bytes");
   g_object_set (call.send, "bitrate", 200000, NULL);

@@ -82,7 +82,7 @@ GST_START_TEST (test_a_narrow_line)
   print_rates (way);
   shown = read_shown (way);
   assert_exact (shown, 0, 5, 0, 1);
-  assert_exact (shown, 5, 25, 97, 25);
+  assert_exact (shown, 5, 25, 97, 15);
   g_free (shown);
   end_way (way);
   g_free (way);
@@ -101,7 +101,30 @@ GST_START_TEST (test_a_line_that_gets_narrow)
   shown = read_shown (way);
   for (i = 5; i < 17; i++)
     assert_exact (shown, i, i + 1, 0, 1);
-  assert_exact (shown, 10, 18, 97, 25);
+  assert_exact (shown, 10, 18, 97, 15);
+  g_free (shown);
+  end_way (way);
+  g_free (way);
+}
+GST_END_TEST;
+
+/* The way takes 250 ms from the eighth second on, for 30 before, at five pictures a second. */
+GST_START_TEST (test_a_step_of_delay_at_defaults)
+{
+  Way *way = g_new (Way, 1);
+  Shown *shown;
+
+  begin_line (way, 0, 0, 8 * G_USEC_PER_SEC);
+  set_size (&way->call, "video/x-raw, format = (string) I420, width = (int) 176, height = (int) 144, "
+      "framerate = (fraction) 5/1");
+  way->rate = 5;
+  way->delays[1] = 250000;
+  drive (way, 18 * way->rate);
+  print_rates (way);
+  shown = read_shown (way);
+  assert_exact (shown, 1, 8, 97, 4);
+  assert_exact (shown, 8, 10, 0, 1);
+  assert_exact (shown, 10, 17, 97, 4);
   g_free (shown);
   end_way (way);
   g_free (way);
@@ -118,6 +141,7 @@ lines_suite (void)
   tcase_set_timeout (chain, 60);
   tcase_add_loop_test (chain, test_a_narrow_line, 0, 3);
   tcase_add_test (chain, test_a_line_that_gets_narrow);
+  tcase_add_test (chain, test_a_step_of_delay_at_defaults);
   return suite;
 }
 

@@ -1,5 +1,5 @@
-/* Tests of what is lost and comes again, of streams that end, and of the one that is wanted, by
- * GStreamer's harness. */
+/* Tests of what is lost and comes again, of streams that end, of the one that is wanted, and of messages
+ * in headers, by GStreamer's harness. */
 #include "calls.h"
 
 /* ---- repair ---- */
@@ -396,6 +396,70 @@ GST_START_TEST (test_the_stream_that_is_wanted)
 }
 GST_END_TEST;
 
+/* ---- headers ---- */
+
+/* Both ends of two parties; how many messages of a party went by RTCP. */
+static guint
+talk (Call * a, Call * b, guint pictures)
+{
+  GstBuffer *buffer;
+  guint i, said = 0;
+
+  for (i = 0; i < pictures; i++) {
+    capture (a);
+    if (i == 0) {
+      pass_caps (a);
+      pass_caps (b);
+    }
+    g_usleep (PERIOD / 2000);
+    while ((buffer = gst_harness_try_pull (a->out)))
+      gst_harness_push (b->in, buffer);
+    capture (b);
+    g_usleep (PERIOD / 2000);
+    while ((buffer = gst_harness_try_pull (b->out)))
+      gst_harness_push (a->in, buffer);
+    for (; (buffer = gst_harness_try_pull (a->said)); said++)
+      gst_harness_push (b->back, buffer);
+    while ((buffer = gst_harness_try_pull (b->said)))
+      gst_harness_push (a->back, buffer);
+  }
+  return said;
+}
+
+/* Where both parties' pictures carry messages few go by RTCP; where one's do, all go both ways. */
+GST_START_TEST (test_messages_in_headers)
+{
+  guint pairs, said[3];
+
+  for (pairs = 0; pairs < 3; pairs++) {
+    Call a, b;
+
+    begin_call (&a);
+    begin_call (&b);
+    if (pairs > 0)
+      g_object_set (a.recv, "sender", a.send, NULL);
+    if (pairs > 1)
+      g_object_set (b.recv, "sender", b.send, NULL);
+    said[pairs] = talk (&a, &b, 120);
+    g_usleep (1000 * (LATENCY + 200));
+    assert_nearly (a.recv, "exact", 120);
+    assert_nearly (b.recv, "exact", 120);
+    assert_at_least (a.send, "noted", 100);
+    assert_at_least (b.send, "noted", 100);
+    if (pairs > 0)
+      assert_at_least (a.send, "carried", 100);
+    else
+      assert_count (a.send, "carried", 0);
+    fail_unless (count_of (a.send, "intra") < 10);
+    fail_unless (count_of (b.send, "intra") < 10);
+    end_call (&b);
+    end_call (&a);
+  }
+  fail_unless (said[0] >= 100 && said[1] >= 100, "%u and %u are said", said[0], said[1]);
+  fail_unless (said[2] <= 40, "%u are said", said[2]);
+}
+GST_END_TEST;
+
 static Suite *
 repair_suite (void)
 {
@@ -413,6 +477,7 @@ repair_suite (void)
   tcase_add_test (chain, test_a_stream_ends);
   tcase_add_test (chain, test_a_sender_says_bye);
   tcase_add_test (chain, test_the_stream_that_is_wanted);
+  tcase_add_test (chain, test_messages_in_headers);
   return suite;
 }
 
