@@ -19,7 +19,8 @@ typedef enum
 {
   WAY_PLAIN,
   WAY_SECURE,                   /* srtpenc, which repeats what is new enough */
-  WAY_CLOSED                    /* srtpenc that takes a repeat for an attack, and ends the call */
+  WAY_CLOSED,                   /* srtpenc that takes a repeat for an attack, and ends the call */
+  WAY_OTHER                     /* rtprtxsend, which repeats by itself (RFC 4588) */
 } Way;
 
 /**
@@ -85,13 +86,29 @@ on_list (GstPad * pad, GstPadProbeInfo * info, gpointer data)
 
 /* ---- the way ---- */
 
+/* One that repeats nothing has an empty map of payload types, as webrtcbin's where no rtx is agreed. */
+static Way
+way_of_rtx (GstElement * element)
+{
+  GstStructure *map = NULL;
+  gboolean repeats;
+
+  g_object_get (element, "payload-type-map", &map, NULL);
+  repeats = map && gst_structure_n_fields (map) > 0;
+  g_clear_pointer (&map, gst_structure_free);
+  return repeats ? WAY_OTHER : WAY_PLAIN;
+}
+
 static Way
 way_of_element (GstElement * element)
 {
   GstElementFactory *factory = gst_element_get_factory (element);
+  const gchar *name = factory ? GST_OBJECT_NAME (factory) : NULL;
   gboolean allows = FALSE;
 
-  if (!factory || g_strcmp0 (GST_OBJECT_NAME (factory), "srtpenc") != 0)
+  if (g_strcmp0 (name, "rtprtxsend") == 0)
+    return way_of_rtx (element);
+  if (g_strcmp0 (name, "srtpenc") != 0)
     return WAY_PLAIN;
   g_object_get (element, "allow-repeat-tx", &allows, NULL);
   return allows ? WAY_SECURE : WAY_CLOSED;
@@ -136,9 +153,15 @@ way_from (GstPad * pad, guint * steps)
   return way;
 }
 
-/* Whether repeats may go out on this way. */
+/**
+ * gst_h263rps_repeater_may:
+ * @repeater: a repeater
+ * @is_closed: (out): whether a repeat would end the call
+ *
+ * Returns: whether packets may go out again
+ */
 gboolean
-gst_h263rps_repeater_may (GstH263RpsRepeater * repeater)
+gst_h263rps_repeater_may (GstH263RpsRepeater * repeater, gboolean * is_closed)
 {
   gint64 now = g_get_monotonic_time ();
   guint steps = 0;
@@ -156,7 +179,8 @@ gst_h263rps_repeater_may (GstH263RpsRepeater * repeater)
     repeater->looked = now;
     g_mutex_unlock (&repeater->lock);
   }
-  return way != WAY_CLOSED;
+  *is_closed = way == WAY_CLOSED;
+  return way <= WAY_SECURE;
 }
 
 /* ---- repeats ---- */

@@ -48,7 +48,8 @@ G_GNUC_INTERNAL
 void                 gst_h263rps_repeater_unlock (GstH263RpsRepeater * repeater);
 
 G_GNUC_INTERNAL
-gboolean             gst_h263rps_repeater_may    (GstH263RpsRepeater * repeater);
+gboolean             gst_h263rps_repeater_may    (GstH263RpsRepeater * repeater,
+                                                  gboolean * is_closed);
 
 G_GNUC_INTERNAL
 void                 gst_h263rps_repeater_ask    (GstH263RpsRepeater * repeater, guint16 sequence);

@@ -690,13 +690,15 @@ hear_report (GstH263RpsSend * self, GstRTCPPacket * packet)
 static gboolean
 may_repeat (GstH263RpsSend * self)
 {
-  gboolean repair, is_told;
+  gboolean repair, is_closed, is_told;
 
   GST_OBJECT_LOCK (self);
   repair = self->repair;
   GST_OBJECT_UNLOCK (self);
-  if (!repair || gst_h263rps_repeater_may (self->repeater))
+  if (!repair || gst_h263rps_repeater_may (self->repeater, &is_closed))
     return repair;
+  if (!is_closed)
+    return FALSE;
   g_mutex_lock (&self->lock);
   is_told = self->is_closed_told;
   self->is_closed_told = TRUE;
@@ -777,17 +779,22 @@ gst_h263rps_send_rtcp_event (GstPad * pad, GstObject * parent, GstEvent * event)
   return TRUE;
 }
 
+/* A picture loss indication comes by the session's own GstForceKeyUnit. */
 static void
 on_feedback_rtcp (GObject * session, guint type, guint fbtype, guint speaker, guint about,
     GstBuffer * fci, GstH263RpsSend * self)
 {
+  gboolean is_nack = type == GST_RTCP_TYPE_RTPFB && fbtype == GST_RTCP_RTPFB_TYPE_NACK;
   GstMapInfo map;
 
-  /* A picture loss indication comes by the session's own GstForceKeyUnit. */
-  if (type != GST_RTCP_TYPE_PSFB || fbtype != GST_RTCP_PSFB_TYPE_RPSI || !fci
-      || !gst_buffer_map (fci, &map, GST_MAP_READ))
+  if (!is_nack && (type != GST_RTCP_TYPE_PSFB || fbtype != GST_RTCP_PSFB_TYPE_RPSI))
     return;
-  hear_feedback (self, fbtype, speaker, about, map.data, map.size);
+  if (!fci || !gst_buffer_map (fci, &map, GST_MAP_READ))
+    return;
+  if (is_nack)
+    hear_missing (self, speaker, about, map.data, map.size);
+  else
+    hear_feedback (self, fbtype, speaker, about, map.data, map.size);
   gst_buffer_unmap (fci, &map);
 }
 
@@ -1641,8 +1648,8 @@ gst_h263rps_send_class_init (GstH263RpsSendClass * klass)
    *
    * Whether a packet that a receiver asks for (Generic NACK, RFC 4585, 6.2.1, or a session's
    * GstRTPRetransmissionRequest) goes out again, as it was. Repeats have no more bytes than the stream.
-   * A srtpenc after it must have allow-repeat-tx; an rtprtxsend repeats by a stream of its own (RFC
-   * 4588), without this element.
+   * A srtpenc after it must have allow-repeat-tx. An rtprtxsend repeats by a stream of its own (RFC
+   * 4588), and this element then doesn't.
    */
   g_object_class_install_property (object_class, PROP_REPAIR,
       g_param_spec_boolean ("repair", "Repair", "Send packets again that are asked for",
