@@ -88,6 +88,8 @@ GST_DEBUG_CATEGORY_STATIC (h263rpssend_debug);
 #define RTP_HEADER 12
 /* Room for the extensions of it that the base class adds. */
 #define EXTENSIONS 256
+/* Packets that are looked for by one datagram, or one call of a session. */
+#define MOST_ASKED 256
 /* Repeats have no more bits at once than the stream in this share of a second. */
 #define AT_ONCE 2
 
@@ -709,10 +711,10 @@ may_repeat (GstH263RpsSend * self)
   return FALSE;
 }
 
-/* Packets are asked for. */
+/* Packets are asked for, of which so many more are looked for. */
 static void
 hear_missing (GstH263RpsSend * self, guint32 speaker, guint32 about, const guint8 * fci,
-    gsize length)
+    gsize length, guint * left)
 {
   gboolean counts;
   guint16 sequence;
@@ -723,7 +725,7 @@ hear_missing (GstH263RpsSend * self, guint32 speaker, guint32 about, const guint
   g_mutex_unlock (&self->lock);
   if (!counts || !may_repeat (self))
     return;
-  while (gst_h263rps_rtcp_next_asked (fci, length, &at, &sequence))
+  for (; *left > 0 && gst_h263rps_rtcp_next_asked (fci, length, &at, &sequence); --*left)
     gst_h263rps_repeater_ask (self->repeater, sequence);
 }
 
@@ -731,6 +733,7 @@ static void
 hear_packets (GstH263RpsSend * self, GstRTCPBuffer * rtcp)
 {
   GstRTCPPacket packet;
+  guint left = MOST_ASKED;
   gboolean more;
 
   for (more = gst_rtcp_buffer_get_first_packet (rtcp, &packet); more;
@@ -739,7 +742,7 @@ hear_packets (GstH263RpsSend * self, GstRTCPBuffer * rtcp)
       if (gst_rtcp_packet_fb_get_type (&packet) == GST_RTCP_RTPFB_TYPE_NACK)
         hear_missing (self, gst_rtcp_packet_fb_get_sender_ssrc (&packet),
             gst_rtcp_packet_fb_get_media_ssrc (&packet), gst_rtcp_packet_fb_get_fci (&packet),
-            4 * gst_rtcp_packet_fb_get_fci_length (&packet));
+            4 * gst_rtcp_packet_fb_get_fci_length (&packet), &left);
       continue;
     }
     if (gst_rtcp_packet_get_type (&packet) != GST_RTCP_TYPE_PSFB) {
@@ -785,6 +788,7 @@ on_feedback_rtcp (GObject * session, guint type, guint fbtype, guint speaker, gu
     GstBuffer * fci, GstH263RpsSend * self)
 {
   gboolean is_nack = type == GST_RTCP_TYPE_RTPFB && fbtype == GST_RTCP_RTPFB_TYPE_NACK;
+  guint left = MOST_ASKED;
   GstMapInfo map;
 
   if (!is_nack && (type != GST_RTCP_TYPE_PSFB || fbtype != GST_RTCP_PSFB_TYPE_RPSI))
@@ -792,7 +796,7 @@ on_feedback_rtcp (GObject * session, guint type, guint fbtype, guint speaker, gu
   if (!fci || !gst_buffer_map (fci, &map, GST_MAP_READ))
     return;
   if (is_nack)
-    hear_missing (self, speaker, about, map.data, map.size);
+    hear_missing (self, speaker, about, map.data, map.size, &left);
   else
     hear_feedback (self, fbtype, speaker, about, map.data, map.size);
   gst_buffer_unmap (fci, &map);

@@ -65,25 +65,35 @@ GST_START_TEST (test_repair_is_switched_off)
 }
 GST_END_TEST;
 
+/* So many fields that are the same. */
 static GstBuffer *
-nack_of (guint32 speaker, guint32 about, guint16 packet, guint16 following)
+nacks_of (guint32 speaker, guint32 about, guint16 packet, guint16 following, guint fields)
 {
   GstRTCPBuffer rtcp = GST_RTCP_BUFFER_INIT;
   GstRTCPPacket fb;
-  GstBuffer *buffer = gst_rtcp_buffer_new (64);
+  GstBuffer *buffer = gst_rtcp_buffer_new (64 + 4 * fields);
   guint8 *fci;
+  guint i;
 
   gst_rtcp_buffer_map (buffer, GST_MAP_READWRITE, &rtcp);
   gst_rtcp_buffer_add_packet (&rtcp, GST_RTCP_TYPE_RTPFB, &fb);
   gst_rtcp_packet_fb_set_type (&fb, GST_RTCP_RTPFB_TYPE_NACK);
   gst_rtcp_packet_fb_set_sender_ssrc (&fb, speaker);
   gst_rtcp_packet_fb_set_media_ssrc (&fb, about);
-  gst_rtcp_packet_fb_set_fci_length (&fb, 1);
+  gst_rtcp_packet_fb_set_fci_length (&fb, fields);
   fci = gst_rtcp_packet_fb_get_fci (&fb);
-  GST_WRITE_UINT16_BE (fci, packet);
-  GST_WRITE_UINT16_BE (fci + 2, following);
+  for (i = 0; i < fields; i++) {
+    GST_WRITE_UINT16_BE (fci + 4 * i, packet);
+    GST_WRITE_UINT16_BE (fci + 4 * i + 2, following);
+  }
   gst_rtcp_buffer_unmap (&rtcp);
   return buffer;
+}
+
+static GstBuffer *
+nack_of (guint32 speaker, guint32 about, guint16 packet, guint16 following)
+{
+  return nacks_of (speaker, about, packet, following, 1);
 }
 
 static guint16
@@ -137,6 +147,9 @@ GST_START_TEST (test_what_is_sent_again)
     gst_buffer_unref (again);
   }
   assert_count (call.send, "repeated", 2);
+  /* A datagram asks for so many. */
+  gst_harness_push (call.back, nacks_of (77, about, begun + 1000, 0xffff, 1000));
+  assert_count (call.send, "asked", 3 + 256);
   /* While one receiver is heard, another one's requests don't count. */
   run_call (&call, 20, 0);
   gst_harness_push (call.back, nack_of (77, about, begun, 0));
