@@ -116,6 +116,7 @@ typedef struct
   guint32 about;
   guint pt;
   gboolean is_carried;          /* a message that the sender's next header may have */
+  guint clock;                  /* ..of a stream with this picture clock */
   GstH263RpsBlock block;
   h263rps_nack nack;
   guint round_trip;             /* ..in so many ms */
@@ -302,6 +303,7 @@ note_message (GstH263RpsRecv * self, guint32 about, const h263rps_message * mess
   pending->message = *message;
   pending->is_carried = self->shown && gst_h263rps_call_followed (self->shown, &source)
       && source == about;
+  pending->clock = self->shown ? self->shown->params.clock : 0;
 }
 
 /* Under the lock: an intra picture is wanted, as of a stream that was joined. */
@@ -481,8 +483,8 @@ tell_session (GstH263RpsRecv * self, GObject * session, const Pending * pending)
 static gboolean
 is_said_by_header (GstH263RpsSend * sender, const Pending * pending, gboolean hears)
 {
-  return sender && pending->is_carried && gst_h263rps_send_carry (sender, &pending->message)
-      && hears;
+  return sender && pending->is_carried
+      && gst_h263rps_send_carry (sender, &pending->message, pending->clock) && hears;
 }
 
 /* Without the lock. */

@@ -818,25 +818,28 @@ is_soon (GstH263RpsSend * self)
  * gst_h263rps_send_carry:
  * @self: the sender of a party
  * @message: what its receiver says
+ * @clock: the picture clock of the stream that the message is about
  *
- * The header of the next picture carries the message, and of more than four the last ones.
+ * The header of the next picture carries the message, where both streams have the same clock, and of
+ * more than four the last ones.
  *
  * Returns: whether that is soon enough
  */
 gboolean
-gst_h263rps_send_carry (GstH263RpsSend * self, const h263rps_message * message)
+gst_h263rps_send_carry (GstH263RpsSend * self, const h263rps_message * message, guint clock)
 {
-  gboolean is_full, soon;
+  gboolean is_carried, is_full, soon;
 
   g_mutex_lock (&self->lock);
+  is_carried = clock == self->params.clock;
   is_full = self->carried_count == MOST_CARRIED;
   soon = is_soon (self);
-  if (is_full && !soon)
+  if (is_carried && is_full && !soon)
     memmove (self->carried, self->carried + 1, --self->carried_count * sizeof *self->carried);
-  if (self->carried_count < MOST_CARRIED)
+  if (is_carried && self->carried_count < MOST_CARRIED)
     self->carried[self->carried_count++] = *message;
   g_mutex_unlock (&self->lock);
-  return soon && !is_full;
+  return is_carried && soon && !is_full;
 }
 
 /* What the next picture's header carries. A record has no place for it. */
@@ -990,6 +993,8 @@ code_picture (GstH263RpsSend * self, GstVideoFrame * frame, h263rps_coded * code
   guint32 status;
 
   status = h263rps_sender_code (&self->end, samples, self->size, carried, count, coded);
+  if (status == H263RPS_BAD_MESSAGES)
+    status = h263rps_sender_code (&self->end, samples, self->size, NULL, 0, coded);
   if (status != H263RPS_OK)
     return status;
   gst_h263rps_record_entry (self->record, GST_H263RPS_RECORD_LOG, 'S', NULL, 0,
@@ -1591,8 +1596,8 @@ gst_h263rps_send_class_init (GstH263RpsSendClass * klass)
    * at. From the next picture on the quantiser follows it, by the sizes of the last 16 pictures.
    */
   g_object_class_install_property (object_class, PROP_BITRATE,
-      g_param_spec_uint ("bitrate", "Bitrate", "The most bits a second, at which the coder aims without adapt",
-          1000, 100000000, DEFAULT_BITRATE, playing));
+      g_param_spec_uint ("bitrate", "Bitrate",
+          "The most bits a second, at which the coder aims without adapt", 1000, 100000000, DEFAULT_BITRATE, playing));
   /**
    * GstH263RpsSend:adapt:
    *
@@ -1702,10 +1707,10 @@ gst_h263rps_send_class_init (GstH263RpsSendClass * klass)
    * "stale" (about another SSRC), of an "other-speaker", and "dropped" for want of room; "runs";
    * intra pictures "intra-asked" and "intra-refused" (too soon after another); packets "asked" for,
    * "repeated", and "repeats-refused" (the stream had too few bytes meanwhile); pictures "left-out"
-   * for want of room on the line; messages of the receiver "carried" in headers; the line's "target-bit-rate" with the heads of IP and UDP, and the
-   * "bit-rate" in the last second, in bits. By the receiver's reports, or else its messages:
-   * "round-trip" in ns, %GST_CLOCK_TIME_NONE as long as none came; by its reports "jitter" likewise
-   * and "fraction-lost", 0 to 1, or -1.
+   * for want of room on the line; messages of the receiver "carried" in headers; the line's
+   * "target-bit-rate", with the heads of IP and UDP, and the "bit-rate" in the last second, in bits. By
+   * the receiver's reports, or else its messages: "round-trip" in ns, %GST_CLOCK_TIME_NONE as long as
+   * none came; by its reports "jitter" likewise and "fraction-lost", 0 to 1, or -1.
    */
   g_object_class_install_property (object_class, PROP_STATS,
       g_param_spec_boxed ("stats", "Statistics", "Counts of the call", GST_TYPE_STRUCTURE,
