@@ -68,6 +68,12 @@ GST_DEBUG_CATEGORY_STATIC (h263rpssend_debug);
 /* The bytes a second at which a line is tried first, by the format, and the share of it that is least. */
 #define FIRST_RATES { 0, 27000, 54000, 180000 }
 #define LEAST_SHARE 30
+/* While no message comes back for so long, a picture goes out only each so often (after RFC 8083): what
+ * nobody is seen to receive mustn't fill a line that may be full. */
+#define UNHEARD (2 * GST_SECOND)
+#define UNHEARD_LONG (10 * GST_SECOND)
+#define RARELY (GST_SECOND / 5)
+#define SELDOM GST_SECOND
 /* Pictures whose times are known, until a message tells of them. */
 #define TIMES 256
 #define LEAST_LIMIT 1200
@@ -168,6 +174,7 @@ struct _GstH263RpsSend
   guint most;                   /* ..bytes a picture, at most */
   gint64 next;                  /* the number of the next picture */
   GstClockTime sent_at[TIMES], trip;    /* when a picture went out; the round trip by messages */
+  GstClockTime unheard_at, last_at;     /* the first picture since a message, or NONE; the last one */
   GstH263RpsMeter meter;
   Counts counts, begun;         /* ..and as the run began */
 };
@@ -266,16 +273,40 @@ begin_line (GstH263RpsSend * self, gboolean adapts, guint most)
   bounds.finest = self->params.quant;
   bounds.period = period;
   h263rps_line_finish (&self->line);
+  self->unheard_at = GST_CLOCK_TIME_NONE;
   if (adapts)
     h263rps_line_start (&self->line, &bounds, monotonic_time ());
 }
 
-/* Whether the line carries a further picture; with what it may have. */
+/* Under the lock: whether a picture may go out, by what was heard. */
+static gboolean
+is_heard_enough (GstH263RpsSend * self, GstClockTime now)
+{
+  GstClockTime silent;
+
+  if (!GST_CLOCK_TIME_IS_VALID (self->unheard_at))
+    return TRUE;
+  silent = now - self->unheard_at;
+  return silent < UNHEARD
+      || now - self->last_at >= (silent < UNHEARD_LONG ? RARELY : SELDOM);
+}
+
+/* Under the lock: whether the line, where it is followed, carries more. */
+static gboolean
+line_has_room (GstH263RpsSend * self, GstClockTime now)
+{
+  guint32 has = 1;
+
+  if (h263rps_line_has_room (&self->line, now, &has) != H263RPS_OK)
+    return TRUE;
+  return has && is_heard_enough (self, now);
+}
+
+/* Whether a further picture goes out; with what it may have. */
 static gboolean
 has_room (GstH263RpsSend * self, guint * target)
 {
-  gboolean adapts;
-  guint32 has = 1;
+  gboolean adapts, has;
 
   GST_OBJECT_LOCK (self);
   adapts = self->adapt;
@@ -284,7 +315,8 @@ has_room (GstH263RpsSend * self, guint * target)
   g_mutex_lock (&self->lock);
   if (adapts != (self->line.end.kind != 0) || *target != self->most)
     begin_line (self, adapts, *target);
-  if (adapts && h263rps_line_has_room (&self->line, monotonic_time (), &has) == H263RPS_OK && has)
+  has = line_has_room (self, monotonic_time ());
+  if (has)
     h263rps_line_target (&self->line, target);
   self->counts.left_out += !has;
   if (!has)
@@ -300,7 +332,9 @@ note_sent (GstH263RpsSend * self, const h263rps_coded * coded, guint64 bytes)
   guint64 now = monotonic_time ();
 
   self->next = (gint64) coded->number + 1;
-  self->sent_at[coded->number % TIMES] = now;
+  self->sent_at[coded->number % TIMES] = self->last_at = now;
+  if (!GST_CLOCK_TIME_IS_VALID (self->unheard_at))
+    self->unheard_at = now;
   h263rps_line_sent (&self->line, coded->number, bytes, coded->packets, now);
 }
 
@@ -563,6 +597,7 @@ static void
 keep_message (GstH263RpsSend * self, const h263rps_message * message)
 {
   note_told (self, message);
+  self->unheard_at = GST_CLOCK_TIME_NONE;
   if (self->waiting_count < MOST_WAITING)
     self->waiting[self->waiting_count++] = *message;
   else
@@ -688,7 +723,8 @@ hear_report (GstH263RpsSend * self, GstRTCPPacket * packet)
   g_mutex_unlock (&self->lock);
 }
 
-/* Without the lock: whether packets may be repeated. Where they would end the call that is told once. */
+/* Without the lock: whether packets may be repeated. A full line isn't made fuller; where a repeat would
+ * end the call that is told once. */
 static gboolean
 may_repeat (GstH263RpsSend * self)
 {
@@ -697,6 +733,9 @@ may_repeat (GstH263RpsSend * self)
   GST_OBJECT_LOCK (self);
   repair = self->repair;
   GST_OBJECT_UNLOCK (self);
+  g_mutex_lock (&self->lock);
+  repair = repair && line_has_room (self, monotonic_time ());
+  g_mutex_unlock (&self->lock);
   if (!repair || gst_h263rps_repeater_may (self->repeater, &is_closed))
     return repair;
   if (!is_closed)
@@ -1552,7 +1591,7 @@ gst_h263rps_send_init (GstH263RpsSend * self)
   self->repair = DEFAULT_REPAIR;
   self->min_force_key_unit_interval = DEFAULT_MIN_FORCE_KEY_UNIT_INTERVAL;
   self->cname = gst_h263rps_rtcp_new_name ();
-  self->next_report = self->round_trip = self->trip = GST_CLOCK_TIME_NONE;
+  self->next_report = self->round_trip = self->trip = self->unheard_at = GST_CLOCK_TIME_NONE;
   g_mutex_init (&self->lock);
   self->repeater = gst_h263rps_repeater_new (payload->srcpad);
 
@@ -1603,7 +1642,8 @@ gst_h263rps_send_class_init (GstH263RpsSendClass * klass)
    *
    * Whether the bit rate follows what the line carries, by the messages that come back (as Google's
    * congestion control does): up to #GstH263RpsSend:bitrate, down to a thirtieth of where it began.
-   * Where the coarsest pictures are too much for the line pictures are left out.
+   * Where the coarsest pictures are too much for the line pictures are left out; and where no message
+   * comes back five a second go out after two seconds, and one after ten.
    */
   g_object_class_install_property (object_class, PROP_ADAPT,
       g_param_spec_boolean ("adapt", "Adapt", "Follow the bit rate that the line carries",

@@ -131,6 +131,34 @@ GST_START_TEST (test_a_step_of_delay_at_defaults)
 }
 GST_END_TEST;
 
+/* Where nothing comes back fewer pictures go out, until something does. */
+GST_START_TEST (test_nothing_comes_back)
+{
+  guint64 coded[15];
+  Call call;
+  guint i, j;
+
+  begin_call_with (&call, FALSE);
+  for (i = 0; i < G_N_ELEMENTS (coded); i++) {
+    coded[i] = count_of (call.send, "coded");
+    for (j = 0; j < 30; j++) {
+      capture (&call);
+      g_usleep (33000);
+    }
+  }
+  fail_unless (coded[2] >= 20, "%u in two seconds", (guint) coded[2]);
+  fail_unless (coded[9] - coded[3] >= 20 && coded[9] - coded[3] <= 36, "%u in six",
+      (guint) (coded[9] - coded[3]));
+  fail_unless (coded[14] - coded[11] >= 2 && coded[14] - coded[11] <= 4, "%u in three",
+      (guint) (coded[14] - coded[11]));
+  pass_caps (&call);
+  pass_on (&call, FALSE);
+  run_call (&call, 60, 0);
+  fail_unless (count_of (call.send, "coded") - coded[14] >= 50);
+  end_call (&call);
+}
+GST_END_TEST;
+
 static Suite *
 lines_suite (void)
 {
@@ -142,6 +170,7 @@ lines_suite (void)
   tcase_add_loop_test (chain, test_a_narrow_line, 0, 3);
   tcase_add_test (chain, test_a_line_that_gets_narrow);
   tcase_add_test (chain, test_a_step_of_delay_at_defaults);
+  tcase_add_test (chain, test_nothing_comes_back);
   return suite;
 }
 
