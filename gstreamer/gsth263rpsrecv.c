@@ -11,7 +11,8 @@
  * or the network itself. Each message goes out at the pad rtcp_src, or by the session of
  * #GstH263RpsRecv:session. Reports (RFC 3550) go out there, too, and come at rtcp_sink: by a
  * sender's each picture has the sender's time, as GstReferenceTimestampMeta (timestamp/x-ntp).
- * Packets that have it from an rtpjitterbuffer tell it, too.
+ * Packets that have it from an rtpjitterbuffer tell it, too. A BYE of the stream that is followed ends
+ * it, and a missing packet that could come in time is asked for (#GstH263RpsRecv:repair).
  *
  * Each buffer has the custom meta GstH263RpsMeta, whose structure has "mark" (exact, patched or
  * held), "number" and "ssrc"; one that isn't exact has the flag %GST_BUFFER_FLAG_CORRUPTED.

@@ -10,14 +10,16 @@
  * It is coder and payloader in one, since the coder cuts the packets and lives by what comes back:
  * a message about each picture (RPSI, RFC 4585, 6.3.3), at the pad rtcp_sink or by the session of
  * #GstH263RpsSend:session. While one receiver is heard, messages of others don't count. Where none
- * comes, each picture is intra; after five seconds a warning says so.
+ * comes, each picture is intra; after five seconds a warning says so. By these messages the bit rate
+ * follows what the line carries (#GstH263RpsSend:adapt). A lost packet goes out again where it is asked
+ * for (#GstH263RpsSend:repair).
  *
  * Pictures of 128x96, 176x144 and 352x288 are taken. Another size within a call begins a new run,
  * under a new SSRC. A GstForceKeyUnit event from either side, and a picture loss indication or a
  * full intra request at rtcp_sink, make the next picture intra.
  *
- * Sender reports (RFC 3550) go out at rtcp_src, by which a receiver plays other streams of the same
- * #GstH263RpsSend:cname at the same time; a session makes its own.
+ * Sender reports and a BYE at the end (RFC 3550) go out at rtcp_src. By the reports a receiver plays
+ * other streams of the same #GstH263RpsSend:cname at the same time. A session makes its own.
  *
  * ## Example launch line
  * |[
