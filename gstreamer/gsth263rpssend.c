@@ -1638,7 +1638,8 @@ gst_h263rps_send_class_init (GstH263RpsSendClass * klass)
    */
   g_object_class_install_property (object_class, PROP_BITRATE,
       g_param_spec_uint ("bitrate", "Bitrate",
-          "The most bits a second, at which the coder aims without adapt", 1000, 100000000, DEFAULT_BITRATE, playing));
+          "The most bits a second, at which the coder aims without adapt", 1000, 100000000,
+          DEFAULT_BITRATE, playing));
   /**
    * GstH263RpsSend:adapt:
    *
