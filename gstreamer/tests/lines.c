@@ -58,17 +58,14 @@ assert_exact (const Shown * shown, guint from, guint to, guint percent, guint ea
   fail_unless (100 * exact >= percent * all, "%u of %u pictures are exact", exact, all);
 }
 
+/* What the line did, and the sender by that. */
 static void
 print_rates (Way * way)
 {
-  GstStructure *stats;
-  gchar *text;
-
-  g_object_get (way->call.send, "stats", &stats, NULL);
-  text = gst_structure_to_string (stats);
-  g_print ("dropped %" G_GUINT64_FORMAT "; %s\n", way->dropped, text);
-  g_free (text);
-  gst_structure_free (stats);
+  g_print ("dropped %" G_GUINT64_FORMAT " packets, sent %" G_GUINT64_FORMAT " kbit/s, left out %"
+      G_GUINT64_FORMAT " of %u pictures, at the end %" G_GUINT64_FORMAT " kbit/s\n", way->dropped,
+      8 * way->bytes * way->rate / way->call.captured / 1000, count_of (way->call.send, "left-out"),
+      way->call.captured, count_of (way->call.send, "target-bit-rate") / 1000);
 }
 
 GST_START_TEST (test_a_narrow_line)
