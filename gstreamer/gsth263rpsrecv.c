@@ -62,6 +62,9 @@ GST_DEBUG_CATEGORY_STATIC (h263rpsrecv_debug);
 
 /* A party whose headers carry messages hears those in others', for so long after one. */
 #define HEADERS_LAST GST_SECOND
+/* What is asked for is asked for again so much later: no later answer would come in time, and one of the
+ * two may be lost. */
+#define AGAIN (5 * GST_MSECOND)
 /* An intra picture is asked for at most this often. */
 #define ASK_INTERVAL (GST_SECOND / 2)
 /* Pictures that wait for what comes after; of more, the oldest is dropped. */
@@ -121,6 +124,7 @@ typedef struct
   GstH263RpsBlock block;
   h263rps_nack nack;
   guint round_trip;             /* ..in so many ms */
+  GstClockTime again;           /* when they are asked for a second time */
 } Pending;
 
 typedef struct
@@ -189,7 +193,7 @@ struct _GstH263RpsRecv
   /* what is to be said, and what the session will take */
   Pending pending[MOST_PENDING];
   guint pending_count;
-  GQueue session_queue;
+  GQueue session_queue, again;
   guint32 own_ssrc;
   GstClockTime asked;
   gboolean has_asked;
@@ -412,7 +416,6 @@ new_rtcp (GstH263RpsRecv * self, const Pending * pending)
   }
 }
 
-/* What is asked for goes out twice: no later request would be answered in time. */
 static void
 push_rtcp (GstH263RpsRecv * self, const Pending * pending)
 {
@@ -422,10 +425,38 @@ push_rtcp (GstH263RpsRecv * self, const Pending * pending)
   if (!self->is_rtcp_begun)
     gst_h263rps_rtcp_begin (self->rtcp_srcpad);
   self->is_rtcp_begun = TRUE;
-  if (pending->say == SAY_MISSING)
-    gst_pad_push (self->rtcp_srcpad, new_rtcp (self, pending));
   gst_pad_push (self->rtcp_srcpad, new_rtcp (self, pending));
   g_mutex_unlock (&self->rtcp_lock);
+}
+
+/* Without the lock: the task asks a second time. */
+static void
+push_again (GstH263RpsRecv * self, Pending * pending)
+{
+  push_rtcp (self, pending);
+  g_mutex_lock (&self->lock);
+  if (self->again.length < MOST_PENDING) {
+    pending->again = clock_time (self) + AGAIN;
+    g_queue_push_tail (&self->again, g_memdup2 (pending, sizeof *pending));
+    wake (self);
+  }
+  g_mutex_unlock (&self->lock);
+}
+
+/* Under the lock, which is left meanwhile: what is to be asked for now; whether there was something. */
+static gboolean
+say_again (GstH263RpsRecv * self, GstClockTime now)
+{
+  Pending *pending = g_queue_peek_head (&self->again);
+
+  if (!pending || pending->again > now)
+    return FALSE;
+  g_queue_pop_head (&self->again);
+  g_mutex_unlock (&self->lock);
+  push_rtcp (self, pending);
+  g_free (pending);
+  g_mutex_lock (&self->lock);
+  return TRUE;
 }
 
 static void
@@ -521,6 +552,8 @@ say_pending (GstH263RpsRecv * self)
       continue;
     if (session)
       tell_session (self, session, &pending[i]);
+    else if (pending[i].say == SAY_MISSING)
+      push_again (self, &pending[i]);
     else
       push_rtcp (self, &pending[i]);
   }
@@ -1381,6 +1414,16 @@ end_task (GstH263RpsRecv * self, GstFlowReturn flow)
   g_mutex_unlock (&self->rtcp_lock);
 }
 
+/* Under the lock: when something is to be done that nobody wakes for, or NONE. */
+static GstClockTime
+next_time (GstH263RpsRecv * self)
+{
+  GstClockTime due = self->shown ? gst_h263rps_call_due (self->shown) : GST_CLOCK_TIME_NONE;
+  const Pending *pending = g_queue_peek_head (&self->again);
+
+  return pending ? MIN (due, pending->again) : due;
+}
+
 /* What is to be said or shown goes out first; then the next picture's time is waited for. */
 static void
 gst_h263rps_recv_loop (gpointer data)
@@ -1398,6 +1441,8 @@ gst_h263rps_recv_loop (gpointer data)
     }
     if (self->shown)
       play_due (self, self->shown, clock_time (self));
+    if (say_again (self, clock_time (self)))
+      continue;
     next = g_queue_pop_head (&self->out);
     if (next || self->pending_count > 0) {
       g_mutex_unlock (&self->lock);
@@ -1405,8 +1450,7 @@ gst_h263rps_recv_loop (gpointer data)
       if (next)
         flow = push_next (self, next);
       g_mutex_lock (&self->lock);
-    } else if (self->shown
-        && GST_CLOCK_TIME_IS_VALID (due = gst_h263rps_call_due (self->shown))) {
+    } else if (GST_CLOCK_TIME_IS_VALID (due = next_time (self))) {
       wait_until (self, due);
     } else if (self->is_eos) {
       flow = GST_FLOW_EOS;
@@ -1440,6 +1484,7 @@ begin_task_state (GstH263RpsRecv * self, gboolean is_flushed)
     forget_calls (self);
   g_queue_clear_full (&self->out, (GDestroyNotify) gst_mini_object_unref);
   g_queue_clear_full (&self->session_queue, g_free);
+  g_queue_clear_full (&self->again, g_free);
   gst_clear_caps (&self->new_caps);
   self->pending_count = 0;
   self->is_flushing = self->is_eos = self->is_clock_new = FALSE;
@@ -1922,6 +1967,7 @@ gst_h263rps_recv_finalize (GObject * object)
   forget_calls (self);
   g_queue_clear_full (&self->out, (GDestroyNotify) gst_mini_object_unref);
   g_queue_clear_full (&self->session_queue, g_free);
+  g_queue_clear_full (&self->again, g_free);
   gst_clear_caps (&self->new_caps);
   gst_caps_unref (self->ntp_caps);
   g_weak_ref_clear (&self->sender);
@@ -1990,6 +2036,7 @@ gst_h263rps_recv_init (GstH263RpsRecv * self)
   self->next_report = GST_CLOCK_TIME_NONE;
   g_queue_init (&self->out);
   g_queue_init (&self->session_queue);
+  g_queue_init (&self->again);
   g_mutex_init (&self->lock);
   g_mutex_init (&self->rtcp_lock);
   g_cond_init (&self->cond);

@@ -8,8 +8,9 @@
 #define MOST_WAITING 256
 /* Elements further on that are looked at. */
 #define MOST_STEPS 256
-/* A packet that is asked for so soon after it was repeated, in us, is asked for by the same request. */
-#define SOON 10000
+/* A packet that is asked for so soon after it was repeated, in us, is asked for by the same request: our
+ * receivers ask twice. */
+#define SOON 15000
 /* How long it is believed what they are. */
 #define LATELY GST_SECOND
 /* Of what srtpenc allows (libsrtp's window has at least 64 packets). */
