@@ -44,6 +44,22 @@ gst_h263rps_call_free (GstH263RpsCall * call)
   g_free (call);
 }
 
+/* The session begins anew, as with another party, in the memory that it has. What was recorded ends. */
+void
+gst_h263rps_call_reset (GstH263RpsCall * call, GstClockTime now)
+{
+  h263rps_session_reset (&call->session, now);
+  call->next = -1;
+  call->completed = 0;
+  call->complete = 0;
+  memset (call->captures, 0, sizeof call->captures);
+  call->has_last = FALSE;
+  if (call->tape) {
+    gst_h263rps_tape_free (call->tape);
+    call->tape = gst_h263rps_tape_new ();
+  }
+}
+
 /* The stream that is followed, if there is one. */
 gboolean
 gst_h263rps_call_followed (GstH263RpsCall * call, guint32 * source)

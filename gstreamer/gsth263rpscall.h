@@ -57,6 +57,9 @@ G_GNUC_INTERNAL
 void             gst_h263rps_call_free        (GstH263RpsCall * call);
 
 G_GNUC_INTERNAL
+void             gst_h263rps_call_reset       (GstH263RpsCall * call, GstClockTime now);
+
+G_GNUC_INTERNAL
 gboolean         gst_h263rps_call_followed    (GstH263RpsCall * call, guint32 * source);
 
 G_GNUC_INTERNAL

@@ -11,7 +11,8 @@
  * or the network itself. Each message goes out at the pad rtcp_src, or by the session of
  * #GstH263RpsRecv:session. Reports (RFC 3550) go out there, too, and come at rtcp_sink: by a
  * sender's each picture has the sender's time, as GstReferenceTimestampMeta (timestamp/x-ntp).
- * Packets that have it from an rtpjitterbuffer tell it, too.
+ * Packets that have it from an rtpjitterbuffer tell it, too. A BYE of the stream that is followed ends
+ * it, and a missing packet that could come in time is asked for (#GstH263RpsRecv:repair).
  *
  * Each buffer has the custom meta GstH263RpsMeta, whose structure has "mark" (exact, patched or
  * held), "number" and "ssrc"; one that isn't exact has the flag %GST_BUFFER_FLAG_CORRUPTED.
@@ -41,7 +42,9 @@
 #include <string.h>
 
 #include "gsth263rpscall.h"
+#include "gsth263rpsrepair.h"
 #include "gsth263rpsrtcp.h"
+#include "gsth263rpssend.h"
 #include "gsth263rpswindow.h"
 
 GST_DEBUG_CATEGORY_STATIC (h263rpsrecv_debug);
@@ -51,9 +54,17 @@ GST_DEBUG_CATEGORY_STATIC (h263rpsrecv_debug);
 #define DEFAULT_SLOTS 39
 #define DEFAULT_LEAD 6
 #define DEFAULT_MESSAGES 1
+#define DEFAULT_REPAIR TRUE
 /* As that of a payloader: one that is drawn at random. */
 #define DEFAULT_SSRC G_MAXUINT32
+/* The stream of any sender. */
+#define DEFAULT_SENDER_SSRC G_MAXUINT32
 
+/* A party whose headers carry messages hears those in others', for so long after one. */
+#define HEADERS_LAST GST_SECOND
+/* What is asked for is asked for again so much later: no later answer would come in time, and one of the
+ * two may be lost. */
+#define AGAIN (5 * GST_MSECOND)
 /* An intra picture is asked for at most this often. */
 #define ASK_INTERVAL (GST_SECOND / 2)
 /* Pictures that wait for what comes after; of more, the oldest is dropped. */
@@ -82,23 +93,38 @@ enum
   PROP_SLOTS,
   PROP_LEAD,
   PROP_MESSAGES,
+  PROP_REPAIR,
   PROP_SSRC,
+  PROP_SENDER_SSRC,
   PROP_SESSION,
+  PROP_SENDER,
   PROP_TS_OFFSET,
   PROP_CNAME,
   PROP_RECORD_LOCATION,
   PROP_STATS
 };
 
-/* What waits to be said: a message, or with a length of 0 that an intra picture is wanted, or how
- * the stream arrives. */
+typedef enum
+{
+  SAY_MESSAGE,
+  SAY_INTRA,                    /* an intra picture is wanted */
+  SAY_REPORT,                   /* how the stream arrives */
+  SAY_MISSING                   /* these packets are wanted */
+} Say;
+
+/* What waits to be said. */
 typedef struct
 {
+  Say say;
   h263rps_message message;
   guint32 about;
   guint pt;
-  gboolean is_report;
+  gboolean is_carried;          /* a message that the sender's next header may have */
+  guint clock;                  /* ..of a stream with this picture clock */
   GstH263RpsBlock block;
+  h263rps_nack nack;
+  guint round_trip;             /* ..in so many ms */
+  GstClockTime again;           /* when they are asked for a second time */
 } Pending;
 
 typedef struct
@@ -106,6 +132,7 @@ typedef struct
   guint64 marks[3], heard[6], unshown;
   guint64 malformed, other_payload_type, other_format, other_source, ahead, too_fast, paused;
   guint64 said, session_refused, dropped_messages, intra_asked, runs, rivals;
+  guint64 asked, repaired;
 } Counts;
 
 /* A packet that came, with what it says of itself. The element's room has its bytes, with the payload
@@ -126,11 +153,13 @@ struct _GstH263RpsRecv
   GstPad *sinkpad, *srcpad, *rtcp_srcpad, *rtcp_sinkpad;
 
   /* properties, under the object's lock */
-  guint latency, slots, lead, messages, ssrc;
+  guint latency, slots, lead, messages, ssrc, sender_ssrc;
+  gboolean repair;
   gint64 ts_offset;
   gchar *cname, *record_location;
   GObject *session;
-  gulong session_handler;
+  gulong session_handlers[2];
+  GWeakRef sender;
 
   /* all below is under this lock */
   GMutex lock;
@@ -164,13 +193,16 @@ struct _GstH263RpsRecv
   /* what is to be said, and what the session will take */
   Pending pending[MOST_PENDING];
   guint pending_count;
-  GQueue session_queue;
+  GQueue session_queue, again;
   guint32 own_ssrc;
   GstClockTime asked;
   gboolean has_asked;
 
   Counts counts;
   GstH263RpsReception reception;        /* of the stream that is followed */
+  GstH263RpsRepair asking;      /* ..and what was asked for of it */
+  gint header;                  /* the temporal reference of the last header that was heard, or -1 */
+  GstClockTime headers_at;      /* when one had messages last, or NONE */
   GstClockTime next_report;
   GstH263RpsMeter meter;        /* all pictures, and those that are exact */
 
@@ -248,7 +280,7 @@ wake (GstH263RpsRecv * self)
 
 /* Under the lock: room for what is to be said once it is left, or NULL where too much waits. */
 static Pending *
-new_pending (GstH263RpsRecv * self, guint32 about)
+new_pending (GstH263RpsRecv * self, Say say, guint32 about)
 {
   Pending *pending;
 
@@ -258,18 +290,25 @@ new_pending (GstH263RpsRecv * self, guint32 about)
   }
   pending = &self->pending[self->pending_count++];
   memset (pending, 0, sizeof *pending);
+  pending->say = say;
   pending->about = about;
   pending->pt = self->pt;
   return pending;
 }
 
+/* Under the lock. A header tells what is said of the stream that is followed alone. */
 static void
 note_message (GstH263RpsRecv * self, guint32 about, const h263rps_message * message)
 {
-  Pending *pending = message->length ? new_pending (self, about) : NULL;
+  Pending *pending = message->length ? new_pending (self, SAY_MESSAGE, about) : NULL;
+  guint32 source;
 
-  if (pending)
-    pending->message = *message;
+  if (!pending)
+    return;
+  pending->message = *message;
+  pending->is_carried = self->shown && gst_h263rps_call_followed (self->shown, &source)
+      && source == about;
+  pending->clock = self->shown ? self->shown->params.clock : 0;
 }
 
 /* Under the lock: an intra picture is wanted, as of a stream that was joined. */
@@ -281,7 +320,40 @@ note_intra (GstH263RpsRecv * self, guint32 about, GstClockTime now)
   self->has_asked = TRUE;
   self->asked = now;
   self->counts.intra_asked++;
-  new_pending (self, about);
+  new_pending (self, SAY_INTRA, about);
+}
+
+/* Under the lock: these packets are missing, of the stream that is followed. */
+static void
+note_missing (GstH263RpsRecv * self, guint32 about, const h263rps_nack * nack,
+    GstClockTime round_trip, GstClockTime now)
+{
+  Pending *pending = new_pending (self, SAY_MISSING, about);
+
+  self->counts.asked += gst_h263rps_repair_ask (&self->asking, nack, now);
+  if (!pending)
+    return;
+  pending->nack = *nack;
+  pending->round_trip = round_trip / GST_MSECOND;
+}
+
+/* Under the lock: what is missing is asked for where an answer would come in time. */
+static void
+ask_for_missing (GstH263RpsRecv * self, GstH263RpsCall * call, GstClockTime now)
+{
+  GstClockTime round_trip;
+  h263rps_nack nack;
+  guint32 about;
+
+  if (!self->repair || call != self->shown || !gst_h263rps_call_followed (call, &about))
+    return;
+  for (;;) {
+    round_trip = gst_h263rps_repair_trip (&self->asking, now);
+    if (h263rps_session_missing (&call->session, round_trip, now, &nack) != H263RPS_OK
+        || !nack.asks)
+      break;
+    note_missing (self, about, &nack, round_trip, now);
+  }
 }
 
 /* Under the lock: a report of the stream that is followed, where one is due. */
@@ -294,25 +366,32 @@ note_report (GstH263RpsRecv * self, GstClockTime now)
     return;
   self->next_report = now
       + gst_h263rps_report_interval (gst_h263rps_meter_bitrate (&self->meter, now));
-  pending = new_pending (self, self->reception.ssrc);
+  pending = new_pending (self, SAY_REPORT, self->reception.ssrc);
   if (!pending)
     return;
-  pending->is_report = TRUE;
   gst_h263rps_reception_block (&self->reception, &pending->block, now);
 }
 
-/* Under the lock: a packet of the stream that is followed came, and is reported on. */
+/* Under the lock: a packet of the stream that is followed came, and is reported on. One that was asked
+ * for was lost all the same, and its way isn't the line's. */
 static void
-note_reception (GstH263RpsRecv * self, const Arrival * arrival, GstClockTime now)
+note_reception (GstH263RpsRecv * self, const Arrival * arrival, gboolean is_taken,
+    GstClockTime now)
 {
   GstReferenceTimestampMeta *meta =
       gst_buffer_get_reference_timestamp_meta (arrival->buffer, self->ntp_caps);
 
+  if (!self->reception.begun || self->reception.ssrc != arrival->ssrc)
+    memset (&self->asking, 0, sizeof self->asking);
+  gst_h263rps_meter_add (&self->meter, now, arrival->length, 0, 0);
+  if (gst_h263rps_repair_came (&self->asking, arrival->sequence, now)) {
+    self->counts.repaired += is_taken;
+    return;
+  }
   gst_h263rps_reception_packet (&self->reception, arrival->ssrc, arrival->sequence,
       arrival->timestamp, now);
   if (meta)
     gst_h263rps_reception_time (&self->reception, arrival->timestamp, meta->timestamp);
-  gst_h263rps_meter_add (&self->meter, now, arrival->length, 0, 0);
   note_report (self, now);
 }
 
@@ -321,16 +400,20 @@ new_rtcp (GstH263RpsRecv * self, const Pending * pending)
 {
   GstBuffer *buffer;
 
-  if (pending->is_report) {
-    GST_OBJECT_LOCK (self);
-    buffer = gst_h263rps_rtcp_new_receiver_report (self->own_ssrc, &pending->block, self->cname);
-    GST_OBJECT_UNLOCK (self);
-    return buffer;
+  switch (pending->say) {
+    case SAY_REPORT:
+      GST_OBJECT_LOCK (self);
+      buffer = gst_h263rps_rtcp_new_receiver_report (self->own_ssrc, &pending->block, self->cname);
+      GST_OBJECT_UNLOCK (self);
+      return buffer;
+    case SAY_INTRA:
+      return gst_h263rps_rtcp_new_pli (self->own_ssrc, pending->about);
+    case SAY_MISSING:
+      return gst_h263rps_rtcp_new_nack (self->own_ssrc, pending->about, &pending->nack);
+    default:
+      return gst_h263rps_rtcp_new_rpsi (self->own_ssrc, pending->about, pending->pt,
+          &pending->message);
   }
-  if (pending->message.length == 0)
-    return gst_h263rps_rtcp_new_pli (self->own_ssrc, pending->about);
-  return gst_h263rps_rtcp_new_rpsi (self->own_ssrc, pending->about, pending->pt,
-      &pending->message);
 }
 
 static void
@@ -346,20 +429,72 @@ push_rtcp (GstH263RpsRecv * self, const Pending * pending)
   g_mutex_unlock (&self->rtcp_lock);
 }
 
+/* Without the lock: the task asks a second time. */
+static void
+push_again (GstH263RpsRecv * self, Pending * pending)
+{
+  push_rtcp (self, pending);
+  g_mutex_lock (&self->lock);
+  if (self->again.length < MOST_PENDING) {
+    pending->again = clock_time (self) + AGAIN;
+    g_queue_push_tail (&self->again, g_memdup2 (pending, sizeof *pending));
+    wake (self);
+  }
+  g_mutex_unlock (&self->lock);
+}
+
+/* Under the lock, which is left meanwhile: what is to be asked for now; whether there was something. */
+static gboolean
+say_again (GstH263RpsRecv * self, GstClockTime now)
+{
+  Pending *pending = g_queue_peek_head (&self->again);
+
+  if (!pending || pending->again > now)
+    return FALSE;
+  g_queue_pop_head (&self->again);
+  g_mutex_unlock (&self->lock);
+  push_rtcp (self, pending);
+  g_free (pending);
+  g_mutex_lock (&self->lock);
+  return TRUE;
+}
+
+static void
+request_packet (GstH263RpsRecv * self, const Pending * pending, guint16 sequence)
+{
+  gst_pad_push_event (self->sinkpad, gst_event_new_custom (GST_EVENT_CUSTOM_UPSTREAM,
+          gst_structure_new ("GstRTPRetransmissionRequest",
+              "seqnum", G_TYPE_UINT, (guint) sequence, "ssrc", G_TYPE_UINT, pending->about,
+              "deadline", G_TYPE_UINT, self->latency, "delay", G_TYPE_UINT, 0,
+              "avg-rtt", G_TYPE_UINT, pending->round_trip, NULL)));
+}
+
+/* As an rtpjitterbuffer asks: a session sends a NACK then, and an rtprtxreceive knows by it of what
+ * stream an answer is (RFC 4588, 5.3). */
+static void
+request_packets (GstH263RpsRecv * self, const Pending * pending)
+{
+  guint i;
+
+  request_packet (self, pending, pending->nack.packet);
+  for (i = 0; i < 16; i++) {
+    if (pending->nack.following >> i & 1)
+      request_packet (self, pending, pending->nack.packet + i + 1);
+  }
+}
+
 /* The session sends what waits when its rules on early feedback allow it (RFC 4585, 3.5). */
 static void
 tell_session (GstH263RpsRecv * self, GObject * session, const Pending * pending)
 {
   gboolean is_taken = FALSE;
 
-  /* It reports by itself. */
-  if (pending->is_report)
-    return;
-  if (pending->message.length == 0) {
+  /* It reports by itself, and has its own ways to ask. */
+  if (pending->say == SAY_INTRA)
     gst_pad_push_event (self->sinkpad,
         gst_video_event_new_upstream_force_key_unit (GST_CLOCK_TIME_NONE, FALSE, 0));
+  if (pending->say != SAY_MESSAGE)
     return;
-  }
   g_mutex_lock (&self->lock);
   if (g_queue_get_length (&self->session_queue) == MOST_PENDING) {
     g_free (g_queue_pop_head (&self->session_queue));
@@ -376,12 +511,22 @@ tell_session (GstH263RpsRecv * self, GObject * session, const Pending * pending)
   }
 }
 
+/* Whether a header says it alone: one that goes out soon, where the other party hears headers. */
+static gboolean
+is_said_by_header (GstH263RpsSend * sender, const Pending * pending, gboolean hears)
+{
+  return sender && pending->is_carried
+      && gst_h263rps_send_carry (sender, &pending->message, pending->clock) && hears;
+}
+
 /* Without the lock. */
 static void
 say_pending (GstH263RpsRecv * self)
 {
   Pending pending[MOST_PENDING];
+  GstH263RpsSend *sender;
   GObject *session;
+  gboolean hears;
   guint count, i;
 
   g_mutex_lock (&self->lock);
@@ -389,7 +534,9 @@ say_pending (GstH263RpsRecv * self)
   memcpy (pending, self->pending, count * sizeof *pending);
   self->pending_count = 0;
   for (i = 0; i < count; i++)
-    self->counts.said += !pending[i].is_report;
+    self->counts.said += pending[i].say == SAY_MESSAGE || pending[i].say == SAY_INTRA;
+  hears = GST_CLOCK_TIME_IS_VALID (self->headers_at)
+      && clock_time (self) - self->headers_at < HEADERS_LAST;
   g_mutex_unlock (&self->lock);
   if (count == 0)
     return;
@@ -397,14 +544,21 @@ say_pending (GstH263RpsRecv * self)
   GST_OBJECT_LOCK (self);
   session = self->session ? g_object_ref (self->session) : NULL;
   GST_OBJECT_UNLOCK (self);
+  sender = g_weak_ref_get (&self->sender);
   for (i = 0; i < count; i++) {
+    if (pending[i].say == SAY_MISSING)
+      request_packets (self, &pending[i]);
+    if (is_said_by_header (sender, &pending[i], hears))
+      continue;
     if (session)
       tell_session (self, session, &pending[i]);
+    else if (pending[i].say == SAY_MISSING)
+      push_again (self, &pending[i]);
     else
       push_rtcp (self, &pending[i]);
   }
-  if (session)
-    g_object_unref (session);
+  g_clear_object (&session);
+  g_clear_object (&sender);
 }
 
 static gboolean
@@ -733,6 +887,19 @@ forget_calls (GstH263RpsRecv * self)
   self->shown = NULL;
 }
 
+/* All streams are another party's. */
+static void
+reset_calls (GstH263RpsRecv * self, GstClockTime now)
+{
+  guint i;
+
+  for (i = 0; i < CALLS; i++) {
+    if (self->calls[i])
+      gst_h263rps_call_reset (self->calls[i], now);
+  }
+  self->shown = NULL;
+}
+
 static gboolean
 is_silent (GstH263RpsRecv * self, GstClockTime now)
 {
@@ -812,6 +979,8 @@ play_due (GstH263RpsRecv * self, GstH263RpsCall * call, GstClockTime now)
   guint i;
 
   for (i = 0; i < call->params.slots && play_next (self, call, now); i++);
+  if (i > 0)
+    ask_for_missing (self, call, now);
 }
 
 /* ---- packets ---- */
@@ -864,6 +1033,24 @@ keep_packet (GstH263RpsRecv * self, GstH263RpsCall * call, const Arrival * arriv
     gst_h263rps_call_note_time (call, start.temporal_reference, arrival->timestamp);
 }
 
+/* The messages in the header of a picture of the stream that is followed are about this party's. */
+static void
+hear_header (GstH263RpsRecv * self, const Arrival * arrival, GstClockTime now)
+{
+  GstH263RpsSend *sender = g_weak_ref_get (&self->sender);
+  h263rps_start start;
+
+  if (!sender)
+    return;
+  if (read_start (self, arrival, &start) && start.count > 0
+      && self->header != (gint) start.temporal_reference) {
+    self->header = start.temporal_reference;
+    self->headers_at = now;
+    gst_h263rps_send_hear (sender, start.messages, start.count);
+  }
+  g_object_unref (sender);
+}
+
 /* A packet was heard. Also of a stream that isn't followed messages go out: what it lacks is to come. */
 static void
 note_heard (GstH263RpsRecv * self, GstH263RpsCall * call, const Arrival * arrival,
@@ -885,8 +1072,11 @@ note_heard (GstH263RpsRecv * self, GstH263RpsCall * call, const Arrival * arriva
       && source == arrived->source;
   /* The first picture's packets count before anything is followed. */
   self->counts.heard[answer->kind] += is_shown || !self->shown;
-  if (is_shown)
-    note_reception (self, arrival, now);
+  if (is_shown) {
+    hear_header (self, arrival, now);
+    note_reception (self, arrival, answer->kind <= H263RPS_COMPLETED, now);
+    ask_for_missing (self, call, now);
+  }
   wake (self);
 }
 
@@ -929,19 +1119,31 @@ note_arrived (GstH263RpsRecv * self, GstH263RpsCall * call, const Arrival * arri
     self->counts.ahead++;
 }
 
+/* Gives a packet to a session, which hears the stream that is wanted, or any. */
+static void
+give (GstH263RpsRecv * self, GstH263RpsCall * call, const Arrival * arrival,
+    h263rps_arrived * arrived, GstClockTime now)
+{
+  if (self->sender_ssrc == DEFAULT_SENDER_SSRC)
+    h263rps_session_arrival (&call->session, self->room, arrival->length, now, arrived);
+  else
+    h263rps_session_arrival_of (&call->session, self->sender_ssrc, self->room, arrival->length,
+        now, arrived);
+}
+
 /* Where its picture is too far ahead, those before it are played first. */
 static void
 hand_in (GstH263RpsRecv * self, GstH263RpsCall * call, const Arrival * arrival,
     h263rps_arrived * arrived, GstClockTime now)
 {
   memset (arrived, 0, sizeof *arrived);
-  h263rps_session_arrival (&call->session, self->room, arrival->length, now, arrived);
+  give (self, call, arrival, arrived, now);
   if (arrived->rival)
     note_rival (self, call, arrival->ssrc);
   if (arrived->verdict != H263RPS_AHEAD)
     return;
   while (play_next (self, call, now));
-  h263rps_session_arrival (&call->session, self->room, arrival->length, now, arrived);
+  give (self, call, arrival, arrived, now);
 }
 
 static void
@@ -965,6 +1167,10 @@ take_packet (GstH263RpsRecv * self, const Arrival * arrival, GstClockTime now)
   }
   if (!read_start (self, arrival, &start)) {
     self->counts.malformed++;
+    return;
+  }
+  if (self->sender_ssrc != DEFAULT_SENDER_SSRC && arrival->ssrc != self->sender_ssrc) {
+    self->counts.other_source++;
     return;
   }
   call = call_of (self, &start, now);
@@ -1032,6 +1238,50 @@ gst_h263rps_recv_chain (GstPad * pad, GstObject * parent, GstBuffer * buffer)
   return flow;
 }
 
+/* Under the lock: a stream has ended. Where it is the one on the screen, another of any format may be
+ * looked at. */
+static void
+hear_bye (GstH263RpsRecv * self, guint32 ended, GstClockTime now)
+{
+  guint32 source;
+  guint i;
+
+  if (self->shown && gst_h263rps_call_followed (self->shown, &source) && source == ended)
+    self->shown->complete = MIN (self->shown->complete, now - MIN (now, GST_H263RPS_SILENT));
+  for (i = 0; i < CALLS; i++) {
+    if (self->calls[i])
+      h263rps_session_bye (&self->calls[i]->session, ended, now);
+  }
+}
+
+static void
+hear_byes (GstH263RpsRecv * self, GstRTCPBuffer * rtcp, GstClockTime now)
+{
+  GstRTCPPacket packet;
+  gboolean more;
+  guint i;
+
+  for (more = gst_rtcp_buffer_get_first_packet (rtcp, &packet); more;
+      more = gst_rtcp_packet_move_to_next (&packet)) {
+    if (gst_rtcp_packet_get_type (&packet) != GST_RTCP_TYPE_BYE)
+      continue;
+    for (i = 0; i < gst_rtcp_packet_bye_get_ssrc_count (&packet); i++)
+      hear_bye (self, gst_rtcp_packet_bye_get_nth_ssrc (&packet, i), now);
+  }
+}
+
+/* A session has heard the end of a stream. */
+static void
+on_bye (GObject * session, GObject * source, GstH263RpsRecv * self)
+{
+  guint ssrc = 0;
+
+  g_object_get (source, "ssrc", &ssrc, NULL);
+  g_mutex_lock (&self->lock);
+  hear_bye (self, ssrc, clock_time (self));
+  g_mutex_unlock (&self->lock);
+}
+
 /* Under the lock: what the sender of the stream that is followed reports. */
 static void
 hear_reports (GstH263RpsRecv * self, GstRTCPBuffer * rtcp, GstClockTime now)
@@ -1061,6 +1311,7 @@ gst_h263rps_recv_rtcp_chain (GstPad * pad, GstObject * parent, GstBuffer * buffe
   if (gst_buffer_get_size (buffer) > 0 && gst_rtcp_buffer_validate_reduced (buffer)
       && gst_rtcp_buffer_map (buffer, GST_MAP_READ, &rtcp)) {
     hear_reports (self, &rtcp, now);
+    hear_byes (self, &rtcp, now);
     gst_rtcp_buffer_unmap (&rtcp);
   } else {
     self->counts.malformed++;
@@ -1163,6 +1414,16 @@ end_task (GstH263RpsRecv * self, GstFlowReturn flow)
   g_mutex_unlock (&self->rtcp_lock);
 }
 
+/* Under the lock: when something is to be done that nobody wakes for, or NONE. */
+static GstClockTime
+next_time (GstH263RpsRecv * self)
+{
+  GstClockTime due = self->shown ? gst_h263rps_call_due (self->shown) : GST_CLOCK_TIME_NONE;
+  const Pending *pending = g_queue_peek_head (&self->again);
+
+  return pending ? MIN (due, pending->again) : due;
+}
+
 /* What is to be said or shown goes out first; then the next picture's time is waited for. */
 static void
 gst_h263rps_recv_loop (gpointer data)
@@ -1180,6 +1441,8 @@ gst_h263rps_recv_loop (gpointer data)
     }
     if (self->shown)
       play_due (self, self->shown, clock_time (self));
+    if (say_again (self, clock_time (self)))
+      continue;
     next = g_queue_pop_head (&self->out);
     if (next || self->pending_count > 0) {
       g_mutex_unlock (&self->lock);
@@ -1187,8 +1450,7 @@ gst_h263rps_recv_loop (gpointer data)
       if (next)
         flow = push_next (self, next);
       g_mutex_lock (&self->lock);
-    } else if (self->shown
-        && GST_CLOCK_TIME_IS_VALID (due = gst_h263rps_call_due (self->shown))) {
+    } else if (GST_CLOCK_TIME_IS_VALID (due = next_time (self))) {
       wait_until (self, due);
     } else if (self->is_eos) {
       flow = GST_FLOW_EOS;
@@ -1211,14 +1473,18 @@ stop_waiting (GstH263RpsRecv * self)
   g_mutex_unlock (&self->lock);
 }
 
-/* As before the first packet, but for the counts. */
+/* As before the first packet, but for the counts; after a flush the sessions stay. */
 static void
-begin_task_state (GstH263RpsRecv * self)
+begin_task_state (GstH263RpsRecv * self, gboolean is_flushed)
 {
   g_mutex_lock (&self->lock);
-  forget_calls (self);
+  if (is_flushed)
+    reset_calls (self, clock_time (self));
+  else
+    forget_calls (self);
   g_queue_clear_full (&self->out, (GDestroyNotify) gst_mini_object_unref);
   g_queue_clear_full (&self->session_queue, g_free);
+  g_queue_clear_full (&self->again, g_free);
   gst_clear_caps (&self->new_caps);
   self->pending_count = 0;
   self->is_flushing = self->is_eos = self->is_clock_new = FALSE;
@@ -1235,7 +1501,7 @@ gst_h263rps_recv_activate_mode (GstPad * pad, GstObject * parent, GstPadMode mod
   if (mode != GST_PAD_MODE_PUSH)
     return FALSE;
   if (active) {
-    begin_task_state (self);
+    begin_task_state (self, FALSE);
     self->needs_stream_start = TRUE;
     return gst_pad_start_task (pad, gst_h263rps_recv_loop, self, NULL);
   }
@@ -1333,7 +1599,7 @@ gst_h263rps_recv_sink_event (GstPad * pad, GstObject * parent, GstEvent * event)
       break;
     case GST_EVENT_FLUSH_STOP:
       result = gst_pad_push_event (self->srcpad, gst_event_ref (event));
-      begin_task_state (self);
+      begin_task_state (self, TRUE);
       gst_pad_start_task (self->srcpad, gst_h263rps_recv_loop, self, NULL);
       break;
     default:
@@ -1422,8 +1688,8 @@ gst_h263rps_recv_src_query (GstPad * pad, GstObject * parent, GstQuery * query)
 static void
 set_session (GstH263RpsRecv * self, GObject * session)
 {
+  gulong old_handlers[2];
   GObject *old;
-  gulong old_handler;
 
   if (session) {
     if (g_signal_lookup ("on-sending-rtcp", G_OBJECT_TYPE (session)) == 0) {
@@ -1434,19 +1700,23 @@ set_session (GstH263RpsRecv * self, GObject * session)
   }
   GST_OBJECT_LOCK (self);
   old = self->session;
-  old_handler = self->session_handler;
+  memcpy (old_handlers, self->session_handlers, sizeof old_handlers);
   self->session = session;
-  self->session_handler = 0;
+  memset (self->session_handlers, 0, sizeof self->session_handlers);
   GST_OBJECT_UNLOCK (self);
 
   if (old) {
-    g_signal_handler_disconnect (old, old_handler);
+    g_signal_handler_disconnect (old, old_handlers[0]);
+    g_signal_handler_disconnect (old, old_handlers[1]);
     g_object_unref (old);
   }
-  if (session)
-    self->session_handler =
+  if (session) {
+    self->session_handlers[0] =
         g_signal_connect_object (session, "on-sending-rtcp", G_CALLBACK (on_sending_rtcp), self,
         0);
+    self->session_handlers[1] =
+        g_signal_connect_object (session, "on-bye-ssrc", G_CALLBACK (on_bye), self, 0);
+  }
 }
 
 static void
@@ -1457,6 +1727,10 @@ gst_h263rps_recv_set_property (GObject * object, guint id, const GValue * value,
 
   if (id == PROP_SESSION) {
     set_session (self, g_value_get_object (value));
+    return;
+  }
+  if (id == PROP_SENDER) {
+    g_weak_ref_set (&self->sender, g_value_get_object (value));
     return;
   }
 
@@ -1474,8 +1748,14 @@ gst_h263rps_recv_set_property (GObject * object, guint id, const GValue * value,
     case PROP_MESSAGES:
       self->messages = g_value_get_uint (value);
       break;
+    case PROP_REPAIR:
+      self->repair = g_value_get_boolean (value);
+      break;
     case PROP_SSRC:
       self->ssrc = g_value_get_uint (value);
+      break;
+    case PROP_SENDER_SSRC:
+      self->sender_ssrc = g_value_get_uint (value);
       break;
     case PROP_TS_OFFSET:
       self->ts_offset = g_value_get_int64 (value);
@@ -1506,6 +1786,7 @@ add_rates (GstH263RpsRecv * self, GstStructure * stats)
   gst_structure_set (stats,
       "bit-rate", G_TYPE_UINT64, gst_h263rps_meter_bitrate (&self->meter, now),
       "exact-share", G_TYPE_DOUBLE, gst_h263rps_meter_share (&self->meter, now),
+      "round-trip", G_TYPE_UINT64, self->asking.is_known ? self->asking.trip : GST_CLOCK_TIME_NONE,
       "jitter", G_TYPE_UINT64, self->reception.begun
       ? gst_h263rps_reception_jitter (&self->reception) : GST_CLOCK_TIME_NONE, NULL);
 }
@@ -1547,7 +1828,8 @@ create_stats (GstH263RpsRecv * self)
       "session-refused", G_TYPE_UINT64, counts.session_refused,
       "dropped-messages", G_TYPE_UINT64, counts.dropped_messages,
       "intra-asked", G_TYPE_UINT64, counts.intra_asked,
-      "runs", G_TYPE_UINT64, counts.runs, "rivals", G_TYPE_UINT64, counts.rivals, NULL);
+      "runs", G_TYPE_UINT64, counts.runs, "rivals", G_TYPE_UINT64, counts.rivals,
+      "asked", G_TYPE_UINT64, counts.asked, "repaired", G_TYPE_UINT64, counts.repaired, NULL);
   return stats;
 }
 
@@ -1558,6 +1840,10 @@ gst_h263rps_recv_get_property (GObject * object, guint id, GValue * value, GPara
 
   if (id == PROP_STATS) {
     g_value_take_boxed (value, create_stats (self));
+    return;
+  }
+  if (id == PROP_SENDER) {
+    g_value_take_object (value, g_weak_ref_get (&self->sender));
     return;
   }
 
@@ -1575,8 +1861,14 @@ gst_h263rps_recv_get_property (GObject * object, guint id, GValue * value, GPara
     case PROP_MESSAGES:
       g_value_set_uint (value, self->messages);
       break;
+    case PROP_REPAIR:
+      g_value_set_boolean (value, self->repair);
+      break;
     case PROP_SSRC:
       g_value_set_uint (value, self->ssrc);
+      break;
+    case PROP_SENDER_SSRC:
+      g_value_set_uint (value, self->sender_ssrc);
       break;
     case PROP_SESSION:
       g_value_set_object (value, self->session);
@@ -1617,6 +1909,9 @@ gst_h263rps_recv_change_state (GstElement * element, GstStateChange transition)
       g_mutex_lock (&self->lock);
       memset (&self->counts, 0, sizeof self->counts);
       memset (&self->reception, 0, sizeof self->reception);
+      memset (&self->asking, 0, sizeof self->asking);
+      self->headers_at = GST_CLOCK_TIME_NONE;
+      self->header = -1;
       memset (&self->meter, 0, sizeof self->meter);
       self->next_report = GST_CLOCK_TIME_NONE;
       self->has_asked = self->is_call_fault_told = self->is_rival_told = FALSE;
@@ -1636,7 +1931,7 @@ gst_h263rps_recv_change_state (GstElement * element, GstStateChange transition)
   }
   result = GST_ELEMENT_CLASS (parent_class)->change_state (element, transition);
   if (transition == GST_STATE_CHANGE_PAUSED_TO_READY) {
-    begin_task_state (self);
+    begin_task_state (self, FALSE);
     self->is_rtcp_begun = FALSE;
   }
   /* Pictures come by the clock, so there is none before it runs. */
@@ -1672,8 +1967,10 @@ gst_h263rps_recv_finalize (GObject * object)
   forget_calls (self);
   g_queue_clear_full (&self->out, (GDestroyNotify) gst_mini_object_unref);
   g_queue_clear_full (&self->session_queue, g_free);
+  g_queue_clear_full (&self->again, g_free);
   gst_clear_caps (&self->new_caps);
   gst_caps_unref (self->ntp_caps);
+  g_weak_ref_clear (&self->sender);
   g_free (self->cname);
   g_free (self->record_location);
   g_free (self->record_fault);
@@ -1727,13 +2024,19 @@ gst_h263rps_recv_init (GstH263RpsRecv * self)
   self->fps_n = 30000;
   self->fps_d = 1001;
   self->earliest = GST_CLOCK_TIME_NONE;
+  g_weak_ref_init (&self->sender, NULL);
+  self->headers_at = GST_CLOCK_TIME_NONE;
+  self->header = -1;
+  self->repair = DEFAULT_REPAIR;
   self->ssrc = DEFAULT_SSRC;
+  self->sender_ssrc = DEFAULT_SENDER_SSRC;
   self->room = g_malloc (ROOM);
   self->ntp_caps = gst_caps_new_empty_simple ("timestamp/x-ntp");
   self->cname = gst_h263rps_rtcp_new_name ();
   self->next_report = GST_CLOCK_TIME_NONE;
   g_queue_init (&self->out);
   g_queue_init (&self->session_queue);
+  g_queue_init (&self->again);
   g_mutex_init (&self->lock);
   g_mutex_init (&self->rtcp_lock);
   g_cond_init (&self->cond);
@@ -1747,6 +2050,8 @@ gst_h263rps_recv_class_init (GstH263RpsRecvClass * klass)
   GstElementClass *element_class = GST_ELEMENT_CLASS (klass);
   const GParamFlags ready =
       G_PARAM_READWRITE | G_PARAM_STATIC_STRINGS | GST_PARAM_MUTABLE_READY;
+  const GParamFlags playing =
+      G_PARAM_READWRITE | G_PARAM_STATIC_STRINGS | GST_PARAM_MUTABLE_PLAYING;
 
   GST_DEBUG_CATEGORY_INIT (h263rpsrecv_debug, "h263rpsrecv", 0, "H.263 RPS receiver");
 
@@ -1793,6 +2098,16 @@ gst_h263rps_recv_class_init (GstH263RpsRecvClass * klass)
       g_param_spec_uint ("messages", "Messages", "The version of the messages", 1, 2,
           DEFAULT_MESSAGES, ready));
   /**
+   * GstH263RpsRecv:repair:
+   *
+   * Whether missing packets are asked for that could still come in time: by a Generic NACK (RFC 4585,
+   * 6.2.1) at rtcp_src, and by GstRTPRetransmissionRequest events upstream, of which a session or an
+   * rtprtxreceive (RFC 4588) makes use. How long an answer takes is measured by the answers.
+   */
+  g_object_class_install_property (object_class, PROP_REPAIR,
+      g_param_spec_boolean ("repair", "Repair", "Ask for missing packets again", DEFAULT_REPAIR,
+          playing));
+  /**
    * GstH263RpsRecv:ssrc:
    *
    * The SSRC by which this receiver speaks at rtcp_src; by a session it is the session's.
@@ -1800,6 +2115,16 @@ gst_h263rps_recv_class_init (GstH263RpsRecvClass * klass)
   g_object_class_install_property (object_class, PROP_SSRC,
       g_param_spec_uint ("ssrc", "SSRC", "The SSRC of the messages at rtcp_src (default == random)",
           0, G_MAXUINT32, DEFAULT_SSRC, ready));
+  /**
+   * GstH263RpsRecv:sender-ssrc:
+   *
+   * The SSRC of the stream that is wanted, where an offer or a signal has told it: no other one is
+   * looked at.
+   */
+  g_object_class_install_property (object_class, PROP_SENDER_SSRC,
+      g_param_spec_uint ("sender-ssrc", "Sender's SSRC",
+          "The SSRC of the stream that is wanted (default == any)", 0, G_MAXUINT32,
+          DEFAULT_SENDER_SSRC, playing));
   /**
    * GstH263RpsRecv:session:
    *
@@ -1809,7 +2134,18 @@ gst_h263rps_recv_class_init (GstH263RpsRecvClass * klass)
    */
   g_object_class_install_property (object_class, PROP_SESSION,
       g_param_spec_object ("session", "Session", "An inner session of RTP that sends the messages",
-          G_TYPE_OBJECT, G_PARAM_READWRITE | G_PARAM_STATIC_STRINGS | GST_PARAM_MUTABLE_PLAYING));
+          G_TYPE_OBJECT, playing));
+  /**
+   * GstH263RpsRecv:sender:
+   *
+   * The #GstH263RpsSend of the same party, where both sides send. Its pictures' headers carry this
+   * receiver's messages (H.263, Annex N), and it hears those in the headers that come. Where the other
+   * party's headers carry messages, too, one goes out by RTCP only if the next picture is more than
+   * 20 ms away. While the sender records, its headers carry none.
+   */
+  g_object_class_install_property (object_class, PROP_SENDER,
+      g_param_spec_object ("sender", "Sender", "The sender whose pictures carry the messages",
+          GST_TYPE_H263RPS_SEND, playing));
   /**
    * GstH263RpsRecv:ts-offset:
    *
@@ -1820,7 +2156,7 @@ gst_h263rps_recv_class_init (GstH263RpsRecvClass * klass)
   g_object_class_install_property (object_class, PROP_TS_OFFSET,
       g_param_spec_int64 ("ts-offset", "Timestamp offset",
           "Nanoseconds that are added to each picture's time", -MOST_OFFSET, MOST_OFFSET, 0,
-          G_PARAM_READWRITE | G_PARAM_STATIC_STRINGS | GST_PARAM_MUTABLE_PLAYING));
+          playing));
   /**
    * GstH263RpsRecv:cname:
    *
@@ -1846,9 +2182,10 @@ gst_h263rps_recv_class_init (GstH263RpsRecvClass * klass)
    * "refused"; what didn't count: "malformed", "other-payload-type", "other-format",
    * "other-source", "ahead" of the clock, "too-fast", "paused"; messages "said",
    * "session-refused" (sent later on), "dropped-messages"; "intra-asked", "runs", "rivals" (another stream
-   * beside it, each second);
-   * "bit-rate" in the last second, in bits; "exact-share" of the pictures of the last ten seconds,
-   * 0 to 1, or -1; "jitter" (RFC 3550, A.8) in ns, or %GST_CLOCK_TIME_NONE.
+   * beside it, each second); how often packets were "asked" for, and how many that were came in time
+   * ("repaired"); "round-trip" of what was asked for, "jitter" (RFC 3550, A.8), both in ns, or
+   * %GST_CLOCK_TIME_NONE; "bit-rate" in the last second, in bits; "exact-share" of the pictures of the
+   * last ten seconds, 0 to 1, or -1.
    */
   g_object_class_install_property (object_class, PROP_STATS,
       g_param_spec_boxed ("stats", "Statistics", "Counts of the call", GST_TYPE_STRUCTURE,

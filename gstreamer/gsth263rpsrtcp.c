@@ -11,10 +11,10 @@
 #define REPORT_ROOM 512
 
 static gboolean
-add_feedback (GstRTCPBuffer * rtcp, GstRTCPPacket * packet, GstRTCPFBType type, guint32 speaker,
-    guint32 about)
+add_feedback (GstRTCPBuffer * rtcp, GstRTCPPacket * packet, GstRTCPType of, GstRTCPFBType type,
+    guint32 speaker, guint32 about)
 {
-  if (!gst_rtcp_buffer_add_packet (rtcp, GST_RTCP_TYPE_PSFB, packet))
+  if (!gst_rtcp_buffer_add_packet (rtcp, of, packet))
     return FALSE;
   gst_rtcp_packet_fb_set_type (packet, type);
   gst_rtcp_packet_fb_set_sender_ssrc (packet, speaker);
@@ -31,7 +31,7 @@ add_rpsi (GstRTCPBuffer * rtcp, guint32 speaker, guint32 about, guint pt,
   guint words = (2 + message->length + 3) / 4;
   guint8 *fci;
 
-  if (!add_feedback (rtcp, &packet, GST_RTCP_PSFB_TYPE_RPSI, speaker, about))
+  if (!add_feedback (rtcp, &packet, GST_RTCP_TYPE_PSFB, GST_RTCP_PSFB_TYPE_RPSI, speaker, about))
     return FALSE;
   if (!gst_rtcp_packet_fb_set_fci_length (&packet, words)) {
     gst_rtcp_packet_remove (&packet);
@@ -122,7 +122,55 @@ gst_h263rps_rtcp_new_pli (guint32 speaker, guint32 about)
   GstBuffer *buffer = gst_rtcp_buffer_new (RTCP_ROOM);
 
   gst_rtcp_buffer_map (buffer, GST_MAP_READWRITE, &rtcp);
-  add_feedback (&rtcp, &packet, GST_RTCP_PSFB_TYPE_PLI, speaker, about);
+  add_feedback (&rtcp, &packet, GST_RTCP_TYPE_PSFB, GST_RTCP_PSFB_TYPE_PLI, speaker, about);
+  gst_rtcp_buffer_unmap (&rtcp);
+  return buffer;
+}
+
+/**
+ * gst_h263rps_rtcp_new_nack:
+ * @speaker: the SSRC of the receiver
+ * @about: the SSRC of the stream
+ * @nack: the packets that are asked for
+ *
+ * Returns: (transfer full): a packet of RTCP by itself that asks for packets again
+ */
+GstBuffer *
+gst_h263rps_rtcp_new_nack (guint32 speaker, guint32 about, const h263rps_nack * nack)
+{
+  GstRTCPBuffer rtcp = GST_RTCP_BUFFER_INIT;
+  GstRTCPPacket packet;
+  GstBuffer *buffer = gst_rtcp_buffer_new (RTCP_ROOM);
+  guint8 *fci;
+
+  gst_rtcp_buffer_map (buffer, GST_MAP_READWRITE, &rtcp);
+  add_feedback (&rtcp, &packet, GST_RTCP_TYPE_RTPFB, GST_RTCP_RTPFB_TYPE_NACK, speaker, about);
+  gst_rtcp_packet_fb_set_fci_length (&packet, 1);
+  fci = gst_rtcp_packet_fb_get_fci (&packet);
+  GST_WRITE_UINT16_BE (fci, nack->packet);
+  GST_WRITE_UINT16_BE (fci + 2, nack->following);
+  gst_rtcp_buffer_unmap (&rtcp);
+  return buffer;
+}
+
+/**
+ * gst_h263rps_rtcp_new_bye:
+ * @source: an SSRC whose stream has ended
+ *
+ * Returns: (transfer full): a compound packet that says so
+ */
+GstBuffer *
+gst_h263rps_rtcp_new_bye (guint32 source)
+{
+  GstRTCPBuffer rtcp = GST_RTCP_BUFFER_INIT;
+  GstRTCPPacket packet;
+  GstBuffer *buffer = gst_rtcp_buffer_new (RTCP_ROOM);
+
+  gst_rtcp_buffer_map (buffer, GST_MAP_READWRITE, &rtcp);
+  gst_rtcp_buffer_add_packet (&rtcp, GST_RTCP_TYPE_RR, &packet);
+  gst_rtcp_packet_rr_set_ssrc (&packet, source);
+  gst_rtcp_buffer_add_packet (&rtcp, GST_RTCP_TYPE_BYE, &packet);
+  gst_rtcp_packet_bye_add_ssrc (&packet, source);
   gst_rtcp_buffer_unmap (&rtcp);
   return buffer;
 }
@@ -170,6 +218,24 @@ gst_h263rps_rtcp_read_fci (h263rps_message * message, const guint8 * fci, gsize 
   memcpy (message->bytes, fci + 2, count);
   message->length = count;
   return TRUE;
+}
+
+/* Of the feedback control information of a Generic NACK the next packet that is asked for, from bit
+ * `at` on, which goes on; whether there is one. */
+gboolean
+gst_h263rps_rtcp_next_asked (const guint8 * fci, gsize length, gsize * at, guint16 * sequence)
+{
+  gsize field, bit;
+
+  for (; (field = *at / 17 * 4) + 4 <= length; ++*at) {
+    bit = *at % 17;
+    if (bit == 0 || GST_READ_UINT16_BE (fci + field + 2) >> (bit - 1) & 1) {
+      *sequence = GST_READ_UINT16_BE (fci + field) + bit;
+      ++*at;
+      return TRUE;
+    }
+  }
+  return FALSE;
 }
 
 /* ---- reports ---- */

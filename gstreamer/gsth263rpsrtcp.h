@@ -1,6 +1,6 @@
 /* RTCP: messages of the back channel, which are reference picture selection indications (RFC 4585,
- * 6.3.3), requests for an intra picture (PLI, 6.3.1; FIR, RFC 5104, 4.3.1), and reports (RFC 3550,
- * 6.4). */
+ * 6.3.3), requests for packets (Generic NACK, 6.2.1) and for an intra picture (PLI, 6.3.1; FIR, RFC
+ * 5104, 4.3.1), reports (RFC 3550, 6.4) and BYE (6.6). */
 #ifndef __GST_H263RPS_RTCP_H__
 #define __GST_H263RPS_RTCP_H__
 
@@ -29,12 +29,22 @@ G_GNUC_INTERNAL
 GstBuffer * gst_h263rps_rtcp_new_pli  (guint32 speaker, guint32 about);
 
 G_GNUC_INTERNAL
+GstBuffer * gst_h263rps_rtcp_new_nack (guint32 speaker, guint32 about, const h263rps_nack * nack);
+
+G_GNUC_INTERNAL
+GstBuffer * gst_h263rps_rtcp_new_bye  (guint32 source);
+
+G_GNUC_INTERNAL
 gboolean    gst_h263rps_rtcp_add_rpsi (GstBuffer * compound, guint32 speaker, guint32 about,
                                        guint pt, const h263rps_message * message);
 
 G_GNUC_INTERNAL
 gboolean    gst_h263rps_rtcp_read_fci (h263rps_message * message, const guint8 * fci,
                                        gsize length);
+
+G_GNUC_INTERNAL
+gboolean    gst_h263rps_rtcp_next_asked (const guint8 * fci, gsize length, gsize * at,
+                                         guint16 * sequence);
 
 G_GNUC_INTERNAL
 GstBuffer * gst_h263rps_rtcp_new_sender_report   (const GstH263RpsSenderInfo * info,

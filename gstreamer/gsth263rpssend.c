@@ -10,14 +10,16 @@
  * It is coder and payloader in one, since the coder cuts the packets and lives by what comes back:
  * a message about each picture (RPSI, RFC 4585, 6.3.3), at the pad rtcp_sink or by the session of
  * #GstH263RpsSend:session. While one receiver is heard, messages of others don't count. Where none
- * comes, each picture is intra; after five seconds a warning says so.
+ * comes, each picture is intra; after five seconds a warning says so. By these messages the bit rate
+ * follows what the line carries (#GstH263RpsSend:adapt). A lost packet goes out again where it is asked
+ * for (#GstH263RpsSend:repair).
  *
  * Pictures of 128x96, 176x144 and 352x288 are taken. Another size within a call begins a new run,
  * under a new SSRC. A GstForceKeyUnit event from either side, and a picture loss indication or a
  * full intra request at rtcp_sink, make the next picture intra.
  *
- * Sender reports (RFC 3550) go out at rtcp_src, by which a receiver plays other streams of the same
- * #GstH263RpsSend:cname at the same time; a session makes its own.
+ * Sender reports and a BYE at the end (RFC 3550) go out at rtcp_src. By the reports a receiver plays
+ * other streams of the same #GstH263RpsSend:cname at the same time. A session makes its own.
  *
  * ## Example launch line
  * |[
@@ -48,39 +50,68 @@
 
 #include "gsth263rps.h"
 #include "gsth263rpsrecord.h"
+#include "gsth263rpsrepeater.h"
 #include "gsth263rpsrtcp.h"
 
 GST_DEBUG_CATEGORY_STATIC (h263rpssend_debug);
 #define GST_CAT_DEFAULT h263rpssend_debug
 
 #define DEFAULT_BITRATE 430000
+#define DEFAULT_ADAPT TRUE
 #define DEFAULT_QUANT 8
 #define DEFAULT_RADIUS 7
 #define DEFAULT_SLOTS 39
 #define DEFAULT_LEAD 6
 #define DEFAULT_CUSTOM_CLOCK FALSE
+#define DEFAULT_REPAIR TRUE
 #define DEFAULT_MIN_FORCE_KEY_UNIT_INTERVAL (GST_SECOND / 2)
 
 #define MOST_TARGET 999999
+/* The bytes a second at which a line is tried first, by the format, and the share of it that is least. */
+#define FIRST_RATES { 0, 27000, 54000, 180000 }
+#define LEAST_SHARE 30
+/* While no message comes back for so long, a picture goes out only each so often (after RFC 8083): what
+ * nobody is seen to receive mustn't fill a line that may be full. */
+#define UNHEARD (2 * GST_SECOND)
+#define UNHEARD_LONG (10 * GST_SECOND)
+#define RARELY (GST_SECOND / 5)
+#define SELDOM GST_SECOND
+/* Pictures whose times are known, until a message tells of them. */
+#define TIMES 256
 #define LEAST_LIMIT 1200
 #define MOST_LIMIT 9000
 
+/* Messages of this party's receiver that a picture's header carries. */
+#define MOST_CARRIED 4
+/* A picture is waited for that is no further away, in us, and no later than that. */
+#define SOON 20000
+#define LATE 5000
+/* So long after a stream began headers tell of the one before, in us. */
+#define ANOTHER G_USEC_PER_SEC
 /* Messages that may wait for the next picture; what comes then is dropped. */
 #define MOST_WAITING 256
 /* A run of which no message came back for so long (in us) has no back channel. */
 #define ALONE (5 * G_USEC_PER_SEC)
 /* The bytes of an RTP header, as the library writes it. */
 #define RTP_HEADER 12
+/* Room for the extensions of it that the base class adds. */
+#define EXTENSIONS 256
+/* Packets that are looked for by one datagram, or one call of a session. */
+#define MOST_ASKED 256
+/* Repeats have no more bits at once than the stream in this share of a second. */
+#define AT_ONCE 2
 
 enum
 {
   PROP_0,
   PROP_BITRATE,
+  PROP_ADAPT,
   PROP_QUANT,
   PROP_RADIUS,
   PROP_SLOTS,
   PROP_LEAD,
   PROP_CUSTOM_CLOCK,
+  PROP_REPAIR,
   PROP_MIN_FORCE_KEY_UNIT_INTERVAL,
   PROP_SESSION,
   PROP_CNAME,
@@ -92,7 +123,7 @@ typedef struct
 {
   guint64 coded, intra, packets, bytes, distance;
   guint64 noted, old, malformed, stale, other_speaker, dropped;
-  guint64 runs, intra_asked, intra_refused;
+  guint64 runs, intra_asked, intra_refused, left_out, carried;
 } Counts;
 
 struct _GstH263RpsSend
@@ -103,7 +134,7 @@ struct _GstH263RpsSend
 
   /* properties, under the object's lock */
   guint bitrate, quant, radius, slots, lead;
-  gboolean custom_clock;
+  gboolean adapt, custom_clock, repair;
   guint64 min_force_key_unit_interval;
   gchar *cname, *record_location;
   GObject *session;
@@ -115,6 +146,8 @@ struct _GstH263RpsSend
   GstVideoInfo info;
   gsize size;
   guint8 *packed;
+  GstH263RpsRepeater *repeater;
+  gboolean is_closed_told;      /* that repeats would end the call */
   GstH263RpsRecord *record;
   guint recorded;
   gint64 run_at;                /* when it began, in us; 0 once it is told that it is alone */
@@ -125,6 +158,9 @@ struct _GstH263RpsSend
   GMutex lock;
   h263rps_message waiting[MOST_WAITING];
   guint waiting_count;
+  h263rps_message carried[MOST_CARRIED];        /* the oldest first */
+  guint carried_count;
+  gint64 picture_at, begun_at;  /* when the last picture was coded, and the first one, in us; or 0 */
   guint32 ssrc;
   guint32 speaker;
   gboolean has_speaker;
@@ -135,7 +171,12 @@ struct _GstH263RpsSend
   guint8 fir;                   /* the number of the last full intra request */
   gboolean has_block;
   GstH263RpsBlock block;        /* how the stream arrives */
-  GstClockTime round_trip;
+  GstClockTime round_trip;      /* by reports */
+  h263rps_line line;            /* what it carries; empty where it isn't followed */
+  guint most;                   /* ..bytes a picture, at most */
+  gint64 next;                  /* the number of the next picture */
+  GstClockTime sent_at[TIMES], trip;    /* when a picture went out; the round trip by messages */
+  GstClockTime unheard_at, last_at;     /* the first picture since a message, or NONE; the last one */
   GstH263RpsMeter meter;
   Counts counts, begun;         /* ..and as the run began */
 };
@@ -207,6 +248,123 @@ target_of (GstH263RpsSend * self)
 
   return CLAMP (bytes, 1, MOST_TARGET);
 }
+
+/* ---- the line ---- */
+
+static guint64
+monotonic_time (void)
+{
+  return 1000 * (guint64) g_get_monotonic_time ();
+}
+
+/* Under the lock: the line is followed between bounds, from the rate on that it has, or else the
+ * format's; or it isn't followed. */
+static void
+begin_line (GstH263RpsSend * self, gboolean adapts, guint most)
+{
+  static const guint32 firsts[] = FIRST_RATES;
+  guint64 period = gst_util_uint64_scale (GST_SECOND, self->info.fps_d, self->info.fps_n);
+  h263rps_bounds bounds;
+  guint32 rate;
+
+  bounds.most = self->most = most;
+  if (h263rps_line_rate (&self->line, &rate) != H263RPS_OK)
+    rate = firsts[gst_h263rps_format_of_size (self->info.width, self->info.height)];
+  bounds.first = CLAMP (gst_util_uint64_scale (rate, period, GST_SECOND), 1, most);
+  bounds.least = MAX (bounds.first / LEAST_SHARE, 1);
+  bounds.finest = self->params.quant;
+  bounds.period = period;
+  h263rps_line_finish (&self->line);
+  self->unheard_at = GST_CLOCK_TIME_NONE;
+  if (adapts)
+    h263rps_line_start (&self->line, &bounds, monotonic_time ());
+}
+
+/* Under the lock: whether a picture may go out, by what was heard. */
+static gboolean
+is_heard_enough (GstH263RpsSend * self, GstClockTime now)
+{
+  GstClockTime silent;
+
+  if (!GST_CLOCK_TIME_IS_VALID (self->unheard_at))
+    return TRUE;
+  silent = now - self->unheard_at;
+  return silent < UNHEARD
+      || now - self->last_at >= (silent < UNHEARD_LONG ? RARELY : SELDOM);
+}
+
+/* Under the lock: whether the line, where it is followed, carries more. */
+static gboolean
+line_has_room (GstH263RpsSend * self, GstClockTime now)
+{
+  guint32 has = 1;
+
+  if (h263rps_line_has_room (&self->line, now, &has) != H263RPS_OK)
+    return TRUE;
+  return has && is_heard_enough (self, now);
+}
+
+/* Whether a further picture goes out; with what it may have. */
+static gboolean
+has_room (GstH263RpsSend * self, guint * target)
+{
+  gboolean adapts, has;
+
+  GST_OBJECT_LOCK (self);
+  adapts = self->adapt;
+  *target = target_of (self);
+  GST_OBJECT_UNLOCK (self);
+  g_mutex_lock (&self->lock);
+  if (adapts != (self->line.end.kind != 0) || *target != self->most)
+    begin_line (self, adapts, *target);
+  has = line_has_room (self, monotonic_time ());
+  if (has)
+    h263rps_line_target (&self->line, target);
+  self->counts.left_out += !has;
+  if (!has)
+    self->picture_at = 0;
+  g_mutex_unlock (&self->lock);
+  return has;
+}
+
+/* Under the lock: a picture goes out. */
+static void
+note_sent (GstH263RpsSend * self, const h263rps_coded * coded, guint64 bytes)
+{
+  guint64 now = monotonic_time ();
+
+  self->next = (gint64) coded->number + 1;
+  self->sent_at[coded->number % TIMES] = self->last_at = now;
+  if (!GST_CLOCK_TIME_IS_VALID (self->unheard_at))
+    self->unheard_at = now;
+  h263rps_line_sent (&self->line, coded->number, bytes, coded->packets, now);
+}
+
+/* Under the lock: what a message tells of the line (Annex N: BT, URF, TR). */
+static void
+note_told (GstH263RpsSend * self, const h263rps_message * message)
+{
+  gint64 period = self->params.clock == H263RPS_CUSTOM_CLOCK ? 1024 : 256;
+  guint word = GST_READ_UINT16_BE (message->bytes);
+  gint64 newest = self->next - 1, back, number;
+  gboolean is_whole = (word >> 14) == 3;
+  guint64 now = monotonic_time ();
+
+  if (word >> 15 == 0 || newest < 0)
+    return;
+  back = ((newest - (word >> 3 & 1023)) % period + period) % period;
+  number = newest - back;
+  if (number < 0)
+    return;
+  h263rps_line_told (&self->line, number, is_whole, now);
+  if (is_whole && back < TIMES) {
+    GstClockTime trip = now - self->sent_at[number % TIMES];
+
+    self->trip = GST_CLOCK_TIME_IS_VALID (self->trip) ? (7 * self->trip + trip) / 8 : trip;
+  }
+}
+
+/* ---- the run ---- */
 
 static void
 read_params (GstH263RpsSend * self, guint format)
@@ -293,6 +451,8 @@ begin_run (GstH263RpsSend * self)
         ("parameter %u, slots %u, lead %u", fault, self->params.slots, self->params.lead));
     return FALSE;
   }
+  if (!gst_h263rps_repeater_begin (self->repeater, self->params.limit + EXTENSIONS))
+    GST_WARNING_OBJECT (self, "there is no memory for repeats");
   self->size = h263rps_picture_size (format);
   self->packed = g_malloc (self->size);
   self->run_at = g_get_monotonic_time ();
@@ -301,7 +461,11 @@ begin_run (GstH263RpsSend * self)
   g_mutex_lock (&self->lock);
   self->waiting_count = 0;
   self->has_speaker = self->has_block = self->has_fir = FALSE;
-  self->round_trip = GST_CLOCK_TIME_NONE;
+  self->round_trip = self->trip = GST_CLOCK_TIME_NONE;
+  self->next = 0;
+  self->most = 0;
+  self->picture_at = 0;
+  self->begun_at = self->counts.runs > 0 ? g_get_monotonic_time () : 0;
   self->counts.runs++;
   self->begun = self->counts;
   g_mutex_unlock (&self->lock);
@@ -318,8 +482,11 @@ set_outcaps (GstH263RpsSend * self)
   gchar rate[G_ASCII_DTOSTR_BUF_SIZE];
   gchar *slots = g_strdup_printf ("%u", self->params.slots);
   gchar *lead = g_strdup_printf ("%u", self->params.lead);
-  gboolean result;
+  gboolean result, repair;
 
+  GST_OBJECT_LOCK (self);
+  repair = self->repair;
+  GST_OBJECT_UNLOCK (self);
   g_ascii_formatd (rate, sizeof rate, "%.6g", (gdouble) self->info.fps_n / self->info.fps_d);
   gst_rtp_base_payload_set_options (payload, "video", TRUE, "H263-2000", 90000);
   result = gst_rtp_base_payload_set_outcaps (payload,
@@ -329,16 +496,47 @@ set_outcaps (GstH263RpsSend * self)
       "a-framerate", G_TYPE_STRING, rate,
       "rtcp-fb-ack-rpsi", G_TYPE_BOOLEAN, TRUE,
       "rtcp-fb-nack-rpsi", G_TYPE_BOOLEAN, TRUE,
-      "rtcp-fb-nack-pli", G_TYPE_BOOLEAN, TRUE, NULL);
+      "rtcp-fb-nack-pli", G_TYPE_BOOLEAN, TRUE,
+      "rtcp-fb-nack", G_TYPE_BOOLEAN, repair, NULL);
   g_free (slots);
   g_free (lead);
   return result;
+}
+
+/* Whether what is said of the stream goes out at rtcp_src. */
+static gboolean
+has_reports (GstH263RpsSend * self)
+{
+  gboolean has_session;
+
+  GST_OBJECT_LOCK (self);
+  has_session = self->session != NULL;
+  GST_OBJECT_UNLOCK (self);
+  return gst_pad_is_linked (self->rtcp_srcpad) && !has_session;
+}
+
+static void
+push_rtcp (GstH263RpsSend * self, GstBuffer * buffer)
+{
+  if (!self->is_rtcp_begun)
+    gst_h263rps_rtcp_begin (self->rtcp_srcpad);
+  self->is_rtcp_begun = TRUE;
+  gst_pad_push (self->rtcp_srcpad, buffer);
+}
+
+/* The stream has ended: its receiver needn't wait for more. */
+static void
+say_bye (GstH263RpsSend * self)
+{
+  if (self->end.kind && has_reports (self))
+    push_rtcp (self, gst_h263rps_rtcp_new_bye (GST_RTP_BASE_PAYLOAD (self)->current_ssrc));
 }
 
 /* A sender that starts anew counts from 0: a new SSRC says so. */
 static gboolean
 begin_anew (GstH263RpsSend * self)
 {
+  say_bye (self);
   if (!begin_run (self))
     return FALSE;
   GST_RTP_BASE_PAYLOAD (self)->current_ssrc = g_random_int ();
@@ -396,6 +594,18 @@ takes_speaker (GstH263RpsSend * self, guint32 speaker)
   return TRUE;
 }
 
+/* Under the lock: for the next picture, and for the line at once. */
+static void
+keep_message (GstH263RpsSend * self, const h263rps_message * message)
+{
+  note_told (self, message);
+  self->unheard_at = GST_CLOCK_TIME_NONE;
+  if (self->waiting_count < MOST_WAITING)
+    self->waiting[self->waiting_count++] = *message;
+  else
+    self->counts.dropped++;
+}
+
 static void
 hear_message (GstH263RpsSend * self, guint32 speaker, guint32 about,
     const h263rps_message * message)
@@ -403,12 +613,8 @@ hear_message (GstH263RpsSend * self, guint32 speaker, guint32 about,
   g_mutex_lock (&self->lock);
   if (about != self->ssrc)
     self->counts.stale++;
-  else if (takes_speaker (self, speaker)) {
-    if (self->waiting_count < MOST_WAITING)
-      self->waiting[self->waiting_count++] = *message;
-    else
-      self->counts.dropped++;
-  }
+  else if (takes_speaker (self, speaker))
+    keep_message (self, message);
   g_mutex_unlock (&self->lock);
 }
 
@@ -519,14 +725,67 @@ hear_report (GstH263RpsSend * self, GstRTCPPacket * packet)
   g_mutex_unlock (&self->lock);
 }
 
+/* Without the lock: whether packets may be repeated. A full line isn't made fuller; where a repeat would
+ * end the call that is told once. */
+static gboolean
+may_repeat (GstH263RpsSend * self)
+{
+  gboolean repair, is_closed, is_told;
+
+  GST_OBJECT_LOCK (self);
+  repair = self->repair;
+  GST_OBJECT_UNLOCK (self);
+  g_mutex_lock (&self->lock);
+  repair = repair && line_has_room (self, monotonic_time ());
+  g_mutex_unlock (&self->lock);
+  if (!repair || gst_h263rps_repeater_may (self->repeater, &is_closed))
+    return repair;
+  if (!is_closed)
+    return FALSE;
+  g_mutex_lock (&self->lock);
+  is_told = self->is_closed_told;
+  self->is_closed_told = TRUE;
+  g_mutex_unlock (&self->lock);
+  if (!is_told)
+    GST_ELEMENT_WARNING (self, RESOURCE, SETTINGS,
+        ("No lost packet is sent again: srtpenc's allow-repeat-tx is false."), (NULL));
+  return FALSE;
+}
+
+/* Packets are asked for, of which so many more are looked for. */
+static void
+hear_missing (GstH263RpsSend * self, guint32 speaker, guint32 about, const guint8 * fci,
+    gsize length, guint * left)
+{
+  gboolean counts;
+  guint16 sequence;
+  gsize at = 0;
+
+  g_mutex_lock (&self->lock);
+  counts = counts_speaker (self, speaker, about);
+  g_mutex_unlock (&self->lock);
+  if (!counts || !may_repeat (self))
+    return;
+  for (; *left > 0 && gst_h263rps_rtcp_next_asked (fci, length, &at, &sequence); --*left)
+    gst_h263rps_repeater_ask (self->repeater, sequence);
+}
+
 static void
 hear_packets (GstH263RpsSend * self, GstRTCPBuffer * rtcp)
 {
   GstRTCPPacket packet;
+  guint left = MOST_ASKED;
   gboolean more;
 
   for (more = gst_rtcp_buffer_get_first_packet (rtcp, &packet); more;
       more = gst_rtcp_packet_move_to_next (&packet)) {
+    if (gst_rtcp_packet_get_type (&packet) == GST_RTCP_TYPE_RTPFB) {
+      if (gst_rtcp_packet_fb_get_type (&packet) == GST_RTCP_RTPFB_TYPE_NACK)
+        hear_missing (self, gst_rtcp_packet_fb_get_sender_ssrc (&packet),
+            gst_rtcp_packet_fb_get_media_ssrc (&packet), gst_rtcp_packet_fb_get_fci (&packet),
+            4 * gst_rtcp_packet_fb_get_fci_length (&packet), &left);
+      continue;
+    }
     if (gst_rtcp_packet_get_type (&packet) != GST_RTCP_TYPE_PSFB) {
       hear_report (self, &packet);
       continue;
@@ -564,18 +823,101 @@ gst_h263rps_send_rtcp_event (GstPad * pad, GstObject * parent, GstEvent * event)
   return TRUE;
 }
 
+/* A picture loss indication comes by the session's own GstForceKeyUnit. */
 static void
 on_feedback_rtcp (GObject * session, guint type, guint fbtype, guint speaker, guint about,
     GstBuffer * fci, GstH263RpsSend * self)
 {
+  gboolean is_nack = type == GST_RTCP_TYPE_RTPFB && fbtype == GST_RTCP_RTPFB_TYPE_NACK;
+  guint left = MOST_ASKED;
   GstMapInfo map;
 
-  /* A picture loss indication comes by the session's own GstForceKeyUnit. */
-  if (type != GST_RTCP_TYPE_PSFB || fbtype != GST_RTCP_PSFB_TYPE_RPSI || !fci
-      || !gst_buffer_map (fci, &map, GST_MAP_READ))
+  if (!is_nack && (type != GST_RTCP_TYPE_PSFB || fbtype != GST_RTCP_PSFB_TYPE_RPSI))
     return;
-  hear_feedback (self, fbtype, speaker, about, map.data, map.size);
+  if (!fci || !gst_buffer_map (fci, &map, GST_MAP_READ))
+    return;
+  if (is_nack)
+    hear_missing (self, speaker, about, map.data, map.size, &left);
+  else
+    hear_feedback (self, fbtype, speaker, about, map.data, map.size);
   gst_buffer_unmap (fci, &map);
+}
+
+/* ---- headers ---- */
+
+/* Under the lock: whether the next picture is as near as the one before says. */
+static gboolean
+is_soon (GstH263RpsSend * self)
+{
+  gint64 period = gst_util_uint64_scale (G_USEC_PER_SEC, self->info.fps_d, MAX (self->info.fps_n, 1));
+  gint64 away = self->picture_at + period - g_get_monotonic_time ();
+
+  return self->picture_at != 0 && away <= SOON && away >= -LATE;
+}
+
+/**
+ * gst_h263rps_send_carry:
+ * @self: the sender of a party
+ * @message: what its receiver says
+ * @clock: the picture clock of the stream that the message is about
+ *
+ * The header of the next picture carries the message, where both streams have the same clock, and of
+ * more than four the last ones.
+ *
+ * Returns: whether that is soon enough
+ */
+gboolean
+gst_h263rps_send_carry (GstH263RpsSend * self, const h263rps_message * message, guint clock)
+{
+  gboolean is_carried, is_full, soon;
+
+  g_mutex_lock (&self->lock);
+  is_carried = clock == self->params.clock;
+  is_full = self->carried_count == MOST_CARRIED;
+  soon = is_soon (self);
+  if (is_carried && is_full && !soon)
+    memmove (self->carried, self->carried + 1, --self->carried_count * sizeof *self->carried);
+  if (is_carried && self->carried_count < MOST_CARRIED)
+    self->carried[self->carried_count++] = *message;
+  g_mutex_unlock (&self->lock);
+  return is_carried && soon && !is_full;
+}
+
+/* What the next picture's header carries. A record has no place for it. */
+static guint
+take_carried (GstH263RpsSend * self, h263rps_message * messages)
+{
+  guint count;
+
+  g_mutex_lock (&self->lock);
+  count = self->record ? 0 : self->carried_count;
+  memcpy (messages, self->carried, count * sizeof *messages);
+  self->carried_count = 0;
+  self->counts.carried += count;
+  self->picture_at = self->record ? 0 : g_get_monotonic_time ();
+  g_mutex_unlock (&self->lock);
+  return count;
+}
+
+/**
+ * gst_h263rps_send_hear:
+ * @self: the sender of a party
+ * @messages: those in the header of the other party's picture
+ * @count: how many
+ *
+ * They are what the other receiver says, whoever speaks for it by RTCP.
+ */
+void
+gst_h263rps_send_hear (GstH263RpsSend * self, const h263rps_message * messages, guint count)
+{
+  guint i;
+
+  g_mutex_lock (&self->lock);
+  if (self->begun_at != 0 && g_get_monotonic_time () - self->begun_at < ANOTHER)
+    count = 0;
+  for (i = 0; i < count; i++)
+    keep_message (self, &messages[i]);
+  g_mutex_unlock (&self->lock);
 }
 
 /* The streaming thread hands over what came back before each picture. */
@@ -617,13 +959,13 @@ tell_messages (GstH263RpsSend * self)
 
 /* A new target, and an intra picture where one is asked for. */
 static void
-steer (GstH263RpsSend * self)
+steer (GstH263RpsSend * self, guint target)
 {
   gboolean wants_intra;
-  guint target, coded = 0;
+  guint coded = 0;
 
   GST_OBJECT_LOCK (self);
-  target = target_of (self);
+  gst_h263rps_repeater_limit (self->repeater, self->bitrate / 8 / AT_ONCE);
   GST_OBJECT_UNLOCK (self);
   g_mutex_lock (&self->lock);
   wants_intra = self->wants_intra;
@@ -687,9 +1029,13 @@ static guint32
 code_picture (GstH263RpsSend * self, GstVideoFrame * frame, h263rps_coded * coded)
 {
   const guint8 *samples = packed_samples (self, frame);
+  h263rps_message carried[MOST_CARRIED];
+  guint count = take_carried (self, carried);
   guint32 status;
 
-  status = h263rps_sender_code (&self->end, samples, self->size, NULL, 0, coded);
+  status = h263rps_sender_code (&self->end, samples, self->size, carried, count, coded);
+  if (status == H263RPS_BAD_MESSAGES)
+    status = h263rps_sender_code (&self->end, samples, self->size, NULL, 0, coded);
   if (status != H263RPS_OK)
     return status;
   gst_h263rps_record_entry (self->record, GST_H263RPS_RECORD_LOG, 'S', NULL, 0,
@@ -732,17 +1078,6 @@ packets_of (GstH263RpsSend * self, const h263rps_coded * coded, GstBuffer * pict
 
 /* ---- reports ---- */
 
-static gboolean
-has_session (GstH263RpsSend * self)
-{
-  gboolean has;
-
-  GST_OBJECT_LOCK (self);
-  has = self->session != NULL;
-  GST_OBJECT_UNLOCK (self);
-  return has;
-}
-
 /* What has gone out, and the time now by the stream's timestamps, as an rtpsession counts it: from
  * those of the last picture on. */
 static void
@@ -772,10 +1107,7 @@ send_report (GstH263RpsSend * self, GstClockTime now, GstClockTime captured)
   GST_OBJECT_LOCK (self);
   buffer = gst_h263rps_rtcp_new_sender_report (&info, self->cname);
   GST_OBJECT_UNLOCK (self);
-  if (!self->is_rtcp_begun)
-    gst_h263rps_rtcp_begin (self->rtcp_srcpad);
-  self->is_rtcp_begun = TRUE;
-  gst_pad_push (self->rtcp_srcpad, buffer);
+  push_rtcp (self, buffer);
 }
 
 /* After a picture: a report where one is due. A session makes its own. */
@@ -786,8 +1118,7 @@ report_picture (GstH263RpsSend * self, GstClockTime pts)
   GstClockTime now = running_time (self);
   GstClockTime captured = gst_segment_to_running_time (segment, GST_FORMAT_TIME, pts);
 
-  if (!gst_pad_is_linked (self->rtcp_srcpad) || has_session (self)
-      || !GST_CLOCK_TIME_IS_VALID (captured))
+  if (!has_reports (self) || !GST_CLOCK_TIME_IS_VALID (captured))
     return;
   if (!GST_CLOCK_TIME_IS_VALID (now))
     now = captured;
@@ -821,7 +1152,8 @@ count_picture (GstH263RpsSend * self, const h263rps_coded * coded, guint64 bytes
     self->counts.distance += coded->number - coded->reference;
   self->counts.packets += coded->packets;
   self->counts.bytes += bytes;
-  gst_h263rps_meter_add (&self->meter, 1000 * g_get_monotonic_time (), bytes, 0, 0);
+  note_sent (self, coded, bytes);
+  gst_h263rps_meter_add (&self->meter, monotonic_time (), bytes, 0, 0);
   g_mutex_unlock (&self->lock);
 }
 
@@ -835,15 +1167,20 @@ gst_h263rps_send_handle_buffer (GstRTPBasePayload * payload, GstBuffer * buffer)
   GstClockTime pts = GST_BUFFER_PTS (buffer);
   guint32 status;
   guint64 bytes;
+  guint target;
   GstFlowReturn flow;
 
   if (!self->end.kind)
     goto not_negotiated;
+  if (!has_room (self, &target)) {
+    gst_buffer_unref (buffer);
+    return GST_FLOW_OK;
+  }
   if (!gst_video_frame_map (&frame, &self->info, buffer, GST_MAP_READ))
     goto no_frame;
 
   tell_messages (self);
-  steer (self);
+  steer (self, target);
   status = code_picture (self, &frame, &coded);
   if (status == H263RPS_ENDED && begin_anew (self)) {
     tell_messages (self);
@@ -858,7 +1195,9 @@ gst_h263rps_send_handle_buffer (GstRTPBasePayload * payload, GstBuffer * buffer)
   gst_buffer_unref (buffer);
   GST_LOG_OBJECT (self, "picture %u, %u packets, %" G_GUINT64_FORMAT " bytes, %s %u",
       coded.number, coded.packets, bytes, coded.intra ? "intra" : "from", coded.reference);
+  gst_h263rps_repeater_lock (self->repeater);
   flow = gst_rtp_base_payload_push_list (payload, list);
+  gst_h263rps_repeater_unlock (self->repeater);
   if (coded.number == 0 && self->record)
     record_facts (self, coded.packets);
   check_record (self);
@@ -891,6 +1230,7 @@ gst_h263rps_send_sink_event (GstRTPBasePayload * payload, GstEvent * event)
   if (gst_video_event_is_force_key_unit (event))
     ask_for_intra (self);
   if (GST_EVENT_TYPE (event) == GST_EVENT_EOS && gst_pad_is_linked (self->rtcp_srcpad)) {
+    say_bye (self);
     if (!self->is_rtcp_begun)
       gst_h263rps_rtcp_begin (self->rtcp_srcpad);
     self->is_rtcp_begun = TRUE;
@@ -899,14 +1239,36 @@ gst_h263rps_send_sink_event (GstRTPBasePayload * payload, GstEvent * event)
   return GST_RTP_BASE_PAYLOAD_CLASS (parent_class)->sink_event (payload, event);
 }
 
+/* A session, which has heard a NACK, asks for a packet of this stream. */
+static gboolean
+is_own_request (GstH263RpsSend * self, const GstStructure * structure, guint16 * sequence)
+{
+  guint ssrc = 0, number = 0;
+
+  gst_structure_get_uint (structure, "ssrc", &ssrc);
+  if (!gst_structure_get_uint (structure, "seqnum", &number)
+      || ssrc != GST_RTP_BASE_PAYLOAD (self)->current_ssrc)
+    return FALSE;
+  *sequence = number;
+  return TRUE;
+}
+
 static gboolean
 gst_h263rps_send_src_event (GstRTPBasePayload * payload, GstEvent * event)
 {
   GstH263RpsSend *self = GST_H263RPS_SEND (payload);
   const GstStructure *structure = gst_event_get_structure (event);
+  guint16 sequence;
 
   if (gst_video_event_is_force_key_unit (event)) {
     ask_for_intra (self);
+    gst_event_unref (event);
+    return TRUE;
+  }
+  if (structure && gst_structure_has_name (structure, "GstRTPRetransmissionRequest")
+      && is_own_request (self, structure, &sequence)) {
+    if (may_repeat (self))
+      gst_h263rps_repeater_ask (self->repeater, sequence);
     gst_event_unref (event);
     return TRUE;
   }
@@ -988,6 +1350,9 @@ gst_h263rps_send_set_property (GObject * object, guint id, const GValue * value,
     case PROP_BITRATE:
       self->bitrate = g_value_get_uint (value);
       break;
+    case PROP_ADAPT:
+      self->adapt = g_value_get_boolean (value);
+      break;
     case PROP_QUANT:
       self->quant = g_value_get_uint (value);
       break;
@@ -1002,6 +1367,9 @@ gst_h263rps_send_set_property (GObject * object, guint id, const GValue * value,
       break;
     case PROP_CUSTOM_CLOCK:
       self->custom_clock = g_value_get_boolean (value);
+      break;
+    case PROP_REPAIR:
+      self->repair = g_value_get_boolean (value);
       break;
     case PROP_MIN_FORCE_KEY_UNIT_INTERVAL:
       self->min_force_key_unit_interval = g_value_get_uint64 (value);
@@ -1028,12 +1396,15 @@ static void
 add_reports (GstH263RpsSend * self, GstStructure * stats)
 {
   GstH263RpsBlock block = { 0 };
-  GstClockTime round_trip = GST_CLOCK_TIME_NONE;
+  GstClockTime round_trip = GST_CLOCK_TIME_NONE, trip;
   GObject *session;
   guint64 bitrate;
+  guint limit;
+  guint32 rate;
   gboolean has_block;
 
   GST_OBJECT_LOCK (self);
+  limit = self->bitrate;
   session = self->session ? g_object_ref (self->session) : NULL;
   GST_OBJECT_UNLOCK (self);
   g_mutex_lock (&self->lock);
@@ -1042,14 +1413,19 @@ add_reports (GstH263RpsSend * self, GstStructure * stats)
     block = self->block;
     round_trip = self->round_trip;
   }
-  bitrate = gst_h263rps_meter_bitrate (&self->meter, 1000 * g_get_monotonic_time ());
+  bitrate = gst_h263rps_meter_bitrate (&self->meter, monotonic_time ());
+  trip = self->trip;
+  if (h263rps_line_rate (&self->line, &rate) != H263RPS_OK)
+    rate = limit / 8;
   g_mutex_unlock (&self->lock);
   if (session)
     has_block = gst_h263rps_session_block (session, GST_RTP_BASE_PAYLOAD (self)->current_ssrc,
         &block, &round_trip);
   g_clear_object (&session);
-  gst_structure_set (stats, "bit-rate", G_TYPE_UINT64, bitrate, "round-trip", G_TYPE_UINT64,
-      round_trip, "jitter", G_TYPE_UINT64, has_block
+  if (!GST_CLOCK_TIME_IS_VALID (round_trip))
+    round_trip = trip;
+  gst_structure_set (stats, "bit-rate", G_TYPE_UINT64, bitrate, "target-bit-rate", G_TYPE_UINT64,
+      8 * (guint64) rate, "round-trip", G_TYPE_UINT64, round_trip, "jitter", G_TYPE_UINT64, has_block
       ? gst_util_uint64_scale (block.jitter, GST_SECOND, 90000) : GST_CLOCK_TIME_NONE,
       "fraction-lost", G_TYPE_DOUBLE, has_block ? block.fraction / 256.0 : -1.0, NULL);
 }
@@ -1061,6 +1437,7 @@ create_stats (GstH263RpsSend * self)
   GParamSpec *pspec = g_object_class_find_property (G_OBJECT_CLASS (parent_class), "stats");
   GstStructure *stats;
   GValue value = G_VALUE_INIT;
+  GstH263RpsRepeatCounts repeats;
   Counts counts;
   guint64 predicted;
 
@@ -1072,6 +1449,7 @@ create_stats (GstH263RpsSend * self)
   g_mutex_lock (&self->lock);
   counts = self->counts;
   g_mutex_unlock (&self->lock);
+  gst_h263rps_repeater_counts (self->repeater, &repeats);
   predicted = counts.coded - counts.intra;
   gst_structure_set (stats,
       "coded", G_TYPE_UINT64, counts.coded,
@@ -1087,7 +1465,12 @@ create_stats (GstH263RpsSend * self)
       "dropped", G_TYPE_UINT64, counts.dropped,
       "runs", G_TYPE_UINT64, counts.runs,
       "intra-asked", G_TYPE_UINT64, counts.intra_asked,
-      "intra-refused", G_TYPE_UINT64, counts.intra_refused, NULL);
+      "intra-refused", G_TYPE_UINT64, counts.intra_refused,
+      "left-out", G_TYPE_UINT64, counts.left_out,
+      "carried", G_TYPE_UINT64, counts.carried,
+      "asked", G_TYPE_UINT64, repeats.asked,
+      "repeated", G_TYPE_UINT64, repeats.repeated,
+      "repeats-refused", G_TYPE_UINT64, repeats.refused, NULL);
   add_reports (self, stats);
   return stats;
 }
@@ -1107,6 +1490,9 @@ gst_h263rps_send_get_property (GObject * object, guint id, GValue * value, GPara
     case PROP_BITRATE:
       g_value_set_uint (value, self->bitrate);
       break;
+    case PROP_ADAPT:
+      g_value_set_boolean (value, self->adapt);
+      break;
     case PROP_QUANT:
       g_value_set_uint (value, self->quant);
       break;
@@ -1121,6 +1507,9 @@ gst_h263rps_send_get_property (GObject * object, guint id, GValue * value, GPara
       break;
     case PROP_CUSTOM_CLOCK:
       g_value_set_boolean (value, self->custom_clock);
+      break;
+    case PROP_REPAIR:
+      g_value_set_boolean (value, self->repair);
       break;
     case PROP_MIN_FORCE_KEY_UNIT_INTERVAL:
       g_value_set_uint64 (value, self->min_force_key_unit_interval);
@@ -1150,17 +1539,21 @@ gst_h263rps_send_change_state (GstElement * element, GstStateChange transition)
   if (transition == GST_STATE_CHANGE_READY_TO_PAUSED) {
     g_mutex_lock (&self->lock);
     memset (&self->counts, 0, sizeof self->counts);
-    self->waiting_count = 0;
+    self->waiting_count = self->carried_count = 0;
     memset (&self->meter, 0, sizeof self->meter);
     self->has_speaker = self->wants_intra = self->has_block = self->has_fir = FALSE;
     self->intra_at = 0;
+    h263rps_line_finish (&self->line);
     g_mutex_unlock (&self->lock);
-    self->is_rtcp_begun = FALSE;
+    self->is_rtcp_begun = self->is_closed_told = FALSE;
     self->next_report = GST_CLOCK_TIME_NONE;
+    gst_h263rps_repeater_start (self->repeater);
   }
   result = GST_ELEMENT_CLASS (parent_class)->change_state (element, transition);
-  if (transition == GST_STATE_CHANGE_PAUSED_TO_READY)
+  if (transition == GST_STATE_CHANGE_PAUSED_TO_READY) {
+    gst_h263rps_repeater_stop (self->repeater);
     finish_run (self);
+  }
   return result;
 }
 
@@ -1177,6 +1570,8 @@ gst_h263rps_send_finalize (GObject * object)
   GstH263RpsSend *self = GST_H263RPS_SEND (object);
 
   finish_run (self);
+  h263rps_line_finish (&self->line);
+  gst_h263rps_repeater_free (self->repeater);
   g_free (self->cname);
   g_free (self->record_location);
   g_mutex_clear (&self->lock);
@@ -1189,15 +1584,18 @@ gst_h263rps_send_init (GstH263RpsSend * self)
   GstRTPBasePayload *payload = GST_RTP_BASE_PAYLOAD (self);
 
   self->bitrate = DEFAULT_BITRATE;
+  self->adapt = DEFAULT_ADAPT;
   self->quant = DEFAULT_QUANT;
   self->radius = DEFAULT_RADIUS;
   self->slots = DEFAULT_SLOTS;
   self->lead = DEFAULT_LEAD;
   self->custom_clock = DEFAULT_CUSTOM_CLOCK;
+  self->repair = DEFAULT_REPAIR;
   self->min_force_key_unit_interval = DEFAULT_MIN_FORCE_KEY_UNIT_INTERVAL;
   self->cname = gst_h263rps_rtcp_new_name ();
-  self->next_report = self->round_trip = GST_CLOCK_TIME_NONE;
+  self->next_report = self->round_trip = self->trip = self->unheard_at = GST_CLOCK_TIME_NONE;
   g_mutex_init (&self->lock);
+  self->repeater = gst_h263rps_repeater_new (payload->srcpad);
 
   self->rtcp_sinkpad = gst_pad_new_from_static_template (&rtcp_sink_template, "rtcp_sink");
   gst_pad_set_chain_function (self->rtcp_sinkpad, gst_h263rps_send_rtcp_chain);
@@ -1235,12 +1633,24 @@ gst_h263rps_send_class_init (GstH263RpsSendClass * klass)
   /**
    * GstH263RpsSend:bitrate:
    *
-   * What the coder aims at, in bits a second, with the heads of RTP. From the next picture on the
-   * quantiser follows it, by the sizes of the last 16 pictures.
+   * The most bits a second, with the heads of RTP; without #GstH263RpsSend:adapt what the coder aims
+   * at. From the next picture on the quantiser follows it, by the sizes of the last 16 pictures.
    */
   g_object_class_install_property (object_class, PROP_BITRATE,
-      g_param_spec_uint ("bitrate", "Bitrate", "Bits a second that the coder aims at",
-          1000, 100000000, DEFAULT_BITRATE, playing));
+      g_param_spec_uint ("bitrate", "Bitrate",
+          "The most bits a second, at which the coder aims without adapt", 1000, 100000000,
+          DEFAULT_BITRATE, playing));
+  /**
+   * GstH263RpsSend:adapt:
+   *
+   * Whether the bit rate follows what the line carries, by the messages that come back (as Google's
+   * congestion control does): up to #GstH263RpsSend:bitrate, down to a thirtieth of where it began.
+   * Where the coarsest pictures are too much for the line pictures are left out; and where no message
+   * comes back five a second go out after two seconds, and one after ten.
+   */
+  g_object_class_install_property (object_class, PROP_ADAPT,
+      g_param_spec_boolean ("adapt", "Adapt", "Follow the bit rate that the line carries",
+          DEFAULT_ADAPT, playing));
   /**
    * GstH263RpsSend:quant:
    *
@@ -1286,6 +1696,17 @@ gst_h263rps_send_class_init (GstH263RpsSendClass * klass)
       g_param_spec_boolean ("custom-clock", "Custom clock",
           "Number pictures by 10 bits in place of 8", DEFAULT_CUSTOM_CLOCK, ready));
   /**
+   * GstH263RpsSend:repair:
+   *
+   * Whether a packet that a receiver asks for (Generic NACK, RFC 4585, 6.2.1, or a session's
+   * GstRTPRetransmissionRequest) goes out again, as it was. Repeats have no more bytes than the stream.
+   * A srtpenc after it must have allow-repeat-tx. An rtprtxsend repeats by a stream of its own (RFC
+   * 4588), and this element then doesn't.
+   */
+  g_object_class_install_property (object_class, PROP_REPAIR,
+      g_param_spec_boolean ("repair", "Repair", "Send packets again that are asked for",
+          DEFAULT_REPAIR, playing));
+  /**
    * GstH263RpsSend:min-force-key-unit-interval:
    *
    * A request for an intra picture that comes sooner after another one is counted, and does nothing.
@@ -1327,9 +1748,12 @@ gst_h263rps_send_class_init (GstH263RpsSendClass * klass)
    * Those of the base class, and of this call: pictures "coded" and of them "intra", "packets",
    * "bytes", "mean-distance" to the reference in pictures; messages "noted", "old", "malformed",
    * "stale" (about another SSRC), of an "other-speaker", and "dropped" for want of room; "runs";
-   * intra pictures "intra-asked" and "intra-refused" (too soon after another); "bit-rate" in the
-   * last second, in bits. By the receiver's reports: "round-trip" and "jitter" in ns, -1 as long as
-   * none came (%GST_CLOCK_TIME_NONE), and "fraction-lost", 0 to 1, or -1.
+   * intra pictures "intra-asked" and "intra-refused" (too soon after another); packets "asked" for,
+   * "repeated", and "repeats-refused" (the stream had too few bytes meanwhile); pictures "left-out"
+   * for want of room on the line; messages of the receiver "carried" in headers; the line's
+   * "target-bit-rate", with the heads of IP and UDP, and the "bit-rate" in the last second, in bits. By
+   * the receiver's reports, or else its messages: "round-trip" in ns, %GST_CLOCK_TIME_NONE as long as
+   * none came; by its reports "jitter" likewise and "fraction-lost", 0 to 1, or -1.
    */
   g_object_class_install_property (object_class, PROP_STATS,
       g_param_spec_boxed ("stats", "Statistics", "Counts of the call", GST_TYPE_STRUCTURE,

@@ -58,7 +58,7 @@ class Party:
     @staticmethod
     def text(name: str, loss: float) -> str:
         """The sending part of the pipeline. The receiving one is added when the other side's stream comes."""
-        camera = f"videotestsrc is-live=true pattern=ball ! {CAPS} ! h263rpssend name=send-{name}"
+        camera = f"videotestsrc is-live=true pattern=ball ! {CAPS} ! h263rpssend name=send-{name} repair=false"
         packets = "application/x-rtp,media=video,encoding-name=H263-2000,payload=96"
         return f"{camera} ! {packets} ! netsim drop-probability={loss} ! " \
             f"webrtcbin name=rtc-{name} bundle-policy=max-bundle latency=0 "
@@ -97,6 +97,10 @@ class Party:
             return
         self.recv = Gst.ElementFactory.make("h263rpsrecv", f"recv-{self.name}")
         self.recv.set_property("session", self.session())
+        # Both sides send: messages go in the pictures' headers, too.
+        self.recv.set_property("sender", self.send)
+        # webrtcbin's rtpjitterbuffer drops what comes late, so nothing is asked for again.
+        self.recv.set_property("repair", False)
         self._sync()
         screen = Gst.parse_bin_from_description(self._sink, True)
         # It waits for its first picture by itself, and the pipeline, which plays, doesn't for it.

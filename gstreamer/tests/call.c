@@ -14,7 +14,8 @@
  *   --cycles N             N times SECONDS, with a way to NULL, READY or PAUSED between
  *   --flush                a flush of the receiver at half time
  *   --switch CAPS          the capsfilter gets these caps at half time
- *   --step MS              packets take this long on their way, both ways, from half time on
+ *   --step MS              packets take this long on their way, both ways, from half time on; what is
+ *                          shown from two seconds later on is counted by itself
  *   --bitrate N            the sender gets this bitrate at half time
  *   --intra                an intra picture is asked for at half time, from downstream
  *   --key HEX              30 bytes
@@ -73,7 +74,8 @@ typedef struct
 
 static Picture pictures[MOST];
 static gsize size;
-static guint captures, marks[3], run, longest, others;
+static guint captures, marks[3], run, longest, others, after_shown, after_exact;
+static gint64 step_at;
 static GstClockTime first_capture = GST_CLOCK_TIME_NONE, period;
 static FILE *shown, *captured;
 static GMutex lock;
@@ -209,6 +211,10 @@ on_shown (GstPad * pad, GstPadProbeInfo * info, gpointer data)
     gboolean is_exact = g_str_equal (gst_structure_get_string (structure, "mark"), "exact");
 
     note_mark (gst_structure_get_string (structure, "mark"));
+    if (step_at && g_get_monotonic_time () - step_at >= 2 * G_USEC_PER_SEC) {
+      after_shown++;
+      after_exact += is_exact;
+    }
     gst_structure_get_uint (structure, "number", &number);
     others += is_exact == GST_BUFFER_FLAG_IS_SET (buffer, GST_BUFFER_FLAG_CORRUPTED);
   }
@@ -353,6 +359,9 @@ on_half (gpointer data)
   GstElement *element;
 
   if (step) {
+    g_mutex_lock (&lock);
+    step_at = g_get_monotonic_time ();
+    g_mutex_unlock (&lock);
     step_delay ("way0");
     step_delay ("way1");
   }
@@ -520,6 +529,8 @@ tell (gdouble wall, gboolean has_wanted)
   g_mutex_lock (&lock);
   printf ("captured %u\nexact %u\npatched %u\nheld %u\nlongest %u\nwrong.flags %u\n", captures,
       marks[0], marks[1], marks[2], longest, others);
+  if (step)
+    printf ("after.shown %u\nafter.exact %u\n", after_shown, after_exact);
   printf ("line.passed %" G_GUINT64_FORMAT "\nline.lost %" G_GUINT64_FORMAT "\nline.bytes %"
       G_GUINT64_FORMAT "\n", line.passed, line.lost, line.bytes);
   printf ("back.passed %" G_GUINT64_FORMAT "\nback.lost %" G_GUINT64_FORMAT "\n", back.passed,
