@@ -3,11 +3,9 @@
 import math
 from dataclasses import dataclass
 from fractions import Fraction
-from pathlib import Path
 from typing import Optional
 
 from .errors import BadInput
-from .following import Bounds
 from .y4m import FORMATS, RATE, Size
 
 # The most pictures of a run of `send` (docs/FORMATS.md, "Y4M").
@@ -26,9 +24,8 @@ MOST_TARGET, FLOOR = 999_999, 30
 
 @dataclass(frozen=True)
 class Settings:
-    """A call's program, pictures and times. `wait` is in seconds."""
+    """A call's pictures and times. `wait` is in seconds."""
 
-    program: Path
     format: str = "qcif"
     rate: Fraction = RATE
     clock: str = "standard"
@@ -44,10 +41,9 @@ class Settings:
     adapts: bool = False
 
     @property
-    def bounds(self) -> Bounds:
-        """The targets between which it follows."""
-        least = TARGETS[self.format] // FLOOR
-        return Bounds(self.target, least, MOST_TARGET, self.quant)
+    def least_target(self) -> int:
+        """What a target that follows the line comes to at the least."""
+        return TARGETS[self.format] // FLOOR
 
     @property
     def size(self) -> Size:

@@ -24,6 +24,8 @@ class Tally:
     packets_in: int = 0
     messages_out: int = 0
     messages_in: int = 0
+    asked: int = 0  # packets that this side asked for again, and that it sent again
+    repeated: int = 0
     bytes_out: int = 0
     bytes_in: int = 0
     marks: Counter[str] = field(default_factory=Counter)
