@@ -1,7 +1,7 @@
-"""Tests of what follows the line: calls over simulated lines, in discrete time.
+"""Tests of what follows the line, and of repair: calls over simulated lines, in discrete time.
 
-The ends are the library's, between this tool's own `Sending` and `Receiving`; the clock, the line
-and the sockets are made here, so that a minute of a call takes seconds, and is always the same.
+The ends and what follows the line are the library's, between this tool's own `Sending` and `Receiving`; the clock, the
+line and the sockets are made here, so that a minute of a call takes seconds, and is always the same.
 """
 
 import heapq
@@ -12,8 +12,9 @@ from dataclasses import dataclass, field
 from pathlib import Path
 from typing import Any, Callable, Optional
 
-from calltools import following, in_process, live_settings, made, recorded, recorded_ways, sending, session_receiving, y4m
-from calltools.live_end import CallContext
+from calltools import library as own_library
+from calltools import live_settings, made, receiving, recorded, recorded_ways, sending, y4m
+from calltools.call_context import CallContext
 from calltools.loop import Timer
 from calltools.recording import Recorder
 from calltools.tally import StatusLine, Tally
@@ -197,14 +198,16 @@ class SimulatedCall:
         self.line = Line(self.clock, kbits, loss)
         self.flow = None if flow is None else Flow(self.clock, self.line, flow)
         self._losses, self._loss = random.Random(6), loss
-        settings = live_settings.Settings(Path("none"), target=target or 1_800, adapts=not target, **more)
+        settings = live_settings.Settings(target=target or 1_800, adapts=not target, **more)
         self.tally = Tally()
         clock: Any = self.clock
         self.recorder, say = Recorder(record, 0.0, {}), self.seen.told.append
-        context = CallContext(clock, settings, self.recorder, self.tally, say, library or in_process.library())
-        self.sending, self.receiving = sending.Sending(context), session_receiving.receiving_end(context)
-        self.sending.on_packet = self._packet
-        self.receiving.on_feedback, self.receiving.on_frame = self._feedback, self._show
+        context = CallContext(clock, settings, self.recorder, self.tally, say, library or own_library.loaded())
+        self.sending, self.receiving = sending.Sending(context), receiving.Receiving(context)
+        self.sending.on_packet = self.sending.on_repeat = self._packet
+        self.receiving.on_feedback = lambda said: self._back(lambda: self.sending.feedback(said))
+        self.receiving.on_missing = lambda missing: self._back(lambda: self.sending.missing(missing))
+        self.receiving.on_frame = self._show
         self._period, self._number = settings.period, 0
         self.clock.at(0.0, self._capture)
 
@@ -227,9 +230,9 @@ class SimulatedCall:
         self.seen.bytes_out.append((self.clock.now(), size))
         self.line.take(size, lambda: self.receiving.packet(data))
 
-    def _feedback(self, feedback: Any) -> None:
+    def _back(self, arrive: Callable[[], None]) -> None:
         if self._losses.random() >= self._loss:
-            self.clock.at(self.clock.now() + _WAY, lambda: self.sending.feedback(feedback))
+            self.clock.at(self.clock.now() + _WAY, arrive)
 
 
 def quant_of(packet: bytes, is_intra: bool) -> int:
@@ -308,9 +311,9 @@ class AdaptTest(Calls):
         """Five a second after two seconds, one after ten, and all again with the first message."""
 
         class Deaf(SimulatedCall):
-            def _feedback(self, feedback: Any) -> None:
+            def _back(self, arrive: Callable[[], None]) -> None:
                 if self.clock.now() >= 20:
-                    super()._feedback(feedback)
+                    super()._back(arrive)
 
         for target in (1_800, None):
             call = Deaf({0: 2_000}, target=target)
@@ -326,41 +329,28 @@ class AdaptTest(Calls):
 
     def test_a_target_gives_the_quantiser(self) -> None:
         """What the sender takes is what its sizes and the target were said to give."""
-        bounds = following.Bounds(1_800, 60, 999_999, 8)
-        library, period = in_process.library(), 1 / 30
-        follower = following.Follower(bounds, period, 0.0)
+        library, period = own_library.loaded(), 33_333_333
+        bounds = {"first": 1_800, "least": 60, "most": 999_999, "finest": 8, "period": period}
         quants = set()
-        with library.Sender(library.Params.of("qcif", target=1_800)) as sender:
+        with library.Sender(library.Params.of("qcif", target=1_800)) as sender, library.Line(**bounds, now=0) as line:
             for number, frame in enumerate(frames()[:40]):
                 # No message comes, so each picture is intra.
-                wanted = round(follower.quantiser)
-                sender.target(follower.target)
+                wanted = line.quant
+                sender.target(line.target)
                 packets = sender.packets(sender.code(frame))
                 quant = quant_of(packets[0], True)
                 quants.add(quant)
                 self.assertLessEqual(wanted, quant)
                 self.assertLessEqual(quant, wanted + 1)
-                follower.sent(number, [len(packet) for packet in packets], number * period)
+                line.sent(number, sum(map(len, packets)), len(packets), number * period)
         self.assertGreater(len(quants), 5)
 
-    def test_the_rate_stays_within_its_bounds(self) -> None:
-        """However long nothing is whole, and however much comes through."""
-        bounds = following.Bounds(1_800, 60, 3_000, 8)
-        for is_whole, least, most in ((False, 60, 61), (True, 2_990, 3_000)):
-            follower = following.Follower(bounds, 1 / 30, 0.0)
-            for number in range(3_000):
-                now = number / 30
-                follower.sent(number, [1_400, follower.size], now)
-                follower.told(number, is_whole, now + 0.02)
-                follower.told(number, not is_whole, now + 0.02)  # what is told twice counts once
-            self.assertTrue(least <= follower.size <= most, follower.size)
-
     def test_a_call_that_follows_and_one_that_does_not(self) -> None:
-        """With the library and no target it does, and that is recorded."""
+        """Without a target it does, and that is recorded."""
         for words, adapts in (((), True), (("--target", 900), False)):
             folder = self.room / f"call{adapts}"
             ends = ("--format", "sub-qcif", "--camera", self.video(75), "--screen", "none")
-            call = self.run_call(*ends, "--library", "--record", folder, *words)
+            call = self.run_call(*ends, "--record", folder, *words)
             self.assertEqual(call.status, 0, call.told)
             self.assertGreater(call.shown("exact"), 50, call.told)
             facts = json.loads((folder / "call.json").read_text())

@@ -558,15 +558,15 @@ class CallsTest(Calls):
         self.assertEqual((call.shown("packets"), call.count("anew", "dropped")), (2 * count, 1), call.told)
         wanted = {"malformed": 2 * count, "of strangers": count, "not asked for": count}
         self.assertEqual({cause: call.dropped(cause) for cause in wanted}, wanted, call.told)
-        # Until three packets of a stream came, all are on probation, and a BYE that is read by then is of nobody.
-        self.assertIn(call.dropped("other source"), range(2 * count - 4, 2 * count - 1), call.told)
+        # A BYE that is read before a stream is followed is of nobody.
+        self.assertIn(call.dropped("other source"), range(2 * count - 4, 2 * count + 1), call.told)
         for net in (other, control, stranger):
             net.close()
 
     def test_mutated_datagrams_do_no_harm(self) -> None:
-        """From the other party's address, with the right SSRC, to a screen and to a camera."""
+        """From the other party's address, with the right SSRC, to a screen and to a camera: then a stream is shown."""
         port, other_port = free_port(), free_port()
-        ends = ("--with", "127.0.0.1", "--port", port, "--other-port", other_port, "--seconds", 5)
+        ends = ("--with", "127.0.0.1", "--port", port, "--other-port", other_port, "--seconds", 7)
         words = ("--format", "sub-qcif", "--camera", self.video(600), "--screen", "none")
         call = self.start(*ends, *words)
         other, control = bound(other_port), bound(other_port + 1)
@@ -579,9 +579,13 @@ class CallsTest(Calls):
             control.sendto(mutated(draws, draws.choice(messages)), ("127.0.0.1", port + 1))
             if number % 20 == 0:
                 time.sleep(0.01)
+        for number in range(60):
+            packet = rtp.renumbered(made_packets.packet(number), number, rtp.TICKS_A_PICTURE * number, 7)
+            other.sendto(packet, ("127.0.0.1", port))
+            time.sleep(1 / 30)
         self.assertEqual(call.ended().status, 0, call.told)
         self.assertNotIn("Traceback", call.told)
-        self.assertGreater(call.shown("shown"), 10, call.told)
+        self.assertGreater(call.shown("exact"), 20, call.told)
         self.assertGreater(call.count("messages in", "sent"), 1_000, call.told)
         self.assertGreater(call.dropped("malformed"), 100, call.told)
         for net in (other, control):
@@ -697,7 +701,8 @@ class CallsTest(Calls):
         # Half of the twenty have the reference of a picture that is behind, and are late.
         self.assertGreaterEqual(call.dropped("ahead of the clock"), 10, call.told)
         self.assertLessEqual(call.shown("shown"), 120 + 60, call.told)
-        self.assertGreater(call.shown("exact"), 100, call.told)
+        # What is played for them is late when it comes: for a second, and then the run begins anew.
+        self.assertGreater(call.shown("exact"), 80, call.told)
 
     def test_a_flood_of_the_right_stream(self) -> None:
         """Whatever a second and a half of it does, pictures are exact again a second later, and the call ends in its

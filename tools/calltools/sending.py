@@ -2,7 +2,6 @@
 
 import random
 from collections import Counter
-from dataclasses import replace
 from typing import Any, Callable, Optional, Sequence
 
 from . import logs
@@ -83,7 +82,9 @@ class SendingRun:
     @property
     def size(self) -> int:
         """Bytes a picture that the line has room for."""
-        return int(self._line.rate * self._settings.period) if self._line else self._settings.target
+        if not self._line:
+            return self._settings.target
+        return min(max(int(self._line.rate * self._settings.period), self._settings.least_target), MOST_TARGET)
 
     def has_room(self, now: float) -> bool:
         """Whether the line, as far as its rate is followed, has room for more."""
@@ -274,6 +275,6 @@ class Sending:
 
     def _begin_anew(self) -> None:
         self._tally.begun_anew += 1
-        old, self._is_told = self._run, False
-        old.end()
-        self._run = self._begun(old.size)
+        self._is_told, first = False, self._run.size
+        self._run.end()
+        self._run = self._begun(first)
