@@ -78,7 +78,7 @@ class LiveCall:
             self._network = secure.network(self.loop)
         else:
             self._network = CallNetwork(self.loop, asked.at, asked.other, asked.network)
-        self._network.on_closed(lambda: self.end("the way to the other side has closed"))
+        self._network.on_closed(self._closed)
         ends = bool(asked.camera), bool(asked.screen)
         self._line = StatusLine(*ends)
         self._status = TerminalStatus(*ends, asked.settings.wait)
@@ -143,6 +143,11 @@ class LiveCall:
         self._finish()
         if self.fault:
             raise self.fault
+
+    def _closed(self) -> None:
+        # A way that has to be held open closes when the other side ends.
+        leaves = any(party.receiving and party.receiving.is_leaving for party in self.parties)
+        self.end("the other side has hung up" if leaves else "the way to the other side has closed")
 
     def _interrupted(self) -> None:
         # The second one doesn't wait for the ends.

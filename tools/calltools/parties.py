@@ -65,10 +65,11 @@ class Party:
     def _join_ways(self) -> None:
         # Where both sides send, messages go in the headers of pictures.
         sending, receiving = self.sending, self.receiving
-        if sending and receiving:
-            self._outgoing = Outgoing(self._context.loop, self._say, lambda: sending.next_capture)
-            sending.waiting = self._outgoing.take
-            receiving.on_messages = self._headed
+        if not sending or not receiving:
+            return
+        own: Sending = sending
+        self._outgoing = Outgoing(self._context.loop, self._say, lambda: own.next_capture)
+        own.waiting, receiving.on_messages = self._outgoing.take, self._headed
 
     def stop_camera(self) -> None:
         """No more pictures, and the other party is told."""

@@ -63,6 +63,8 @@ class Receiving:
         self._rival: Optional[float] = None
         self._told: set[object] = set()
         self._timer, self._ended = Timer(lambda: None), Timer(lambda: None)
+        # Whether the stream that is followed has said its end, and may have ended.
+        self.is_leaving = False
         self._is_ending = False
 
     def _started(self) -> Any:
@@ -101,7 +103,7 @@ class Receiving:
         """The other side says that a stream ends."""
         self._session.bye(bye.source, self._time())
         if bye.source == self._source:
-            now = self._loop.now()
+            now, self.is_leaving = self._loop.now(), True
             self._ended.cancel()
             self._ended = self._loop.at(now + _OVER, lambda: self._look_whether_over(now))
         elif self._source is not None:
@@ -114,6 +116,8 @@ class Receiving:
             self.on_hung_up()
         elif now < said + _PATIENCE:
             self._ended = self._loop.at(quiet, lambda: self._look_whether_over(said))
+        else:
+            self.is_leaving = False
 
     def end(self) -> None:
         """No more packets. What is left is played, as many at once as are kept; then `on_over` is called."""
