@@ -7,7 +7,8 @@ from typing import Any, Callable, Optional, Sequence
 from .call_context import CallContext
 from .errors import BadInput
 from .loop import Call, Timer
-from .repair import Asked
+from .picture_start import LEAST_BYTES
+from .repair import TWICE, Asked
 from .rtcp import Bye, Feedback, Missing
 from .rtp import RtpHeader, rtp_header
 from .session_record import SessionRecord
@@ -89,13 +90,22 @@ class Receiving:
         for."""
         if self._is_ending:
             return None
+        if len(data) < LEAST_BYTES:
+            # No packet is that short. Most of what fills a line with datagrams is, and shall cost little.
+            self._tally.dropped["malformed"] += 1
+            return None
+        if self._waiting:
+            self._wait(data)
+            return self._counted(data)
         now = self._time()
-        is_behind = bool(self._waiting)
         self._wait(data)
-        verdict = None if is_behind else self._hand_in(now)
-        if not is_behind:
-            self._play_due(now)
-        header = None if verdict == "dropped" else rtp_header(data)
+        if self._hand_in(now) == "dropped":
+            return None
+        self._play_due(now)
+        return self._counted(data)
+
+    def _counted(self, data: bytes) -> Optional[RtpHeader]:
+        header = rtp_header(data)
         is_answer = header and header.source == self._source and self._asked.came(header.sequence, self._loop.now())
         return None if is_answer else header
 
@@ -220,6 +230,12 @@ class Receiving:
             self._asked.ask(missing, now)
             self._tally.asked += len(list(missing.sequences()))
             self.on_missing(missing)
+            self._loop.at(now + TWICE, lambda: self._ask_twice(missing))
+
+    def _ask_twice(self, missing: Missing) -> None:
+        left = self._asked.left(missing)
+        if left.fields and left.about == self._source and not self._is_ending:
+            self.on_missing(left)
 
     def _look_at_streams(self) -> None:
         # Another one is tried, or comes to be followed with a complete picture.

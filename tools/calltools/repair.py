@@ -1,6 +1,7 @@
 """Repair: what the other side asks for again (RFC 4585, 6.2.1), and how long an answer takes."""
 
 from collections import OrderedDict, deque
+from dataclasses import replace
 from types import ModuleType
 from typing import Iterator, Optional
 
@@ -11,6 +12,9 @@ _KEPT = 512
 # What is sent again in so many seconds is at most what was sent anew in them. A packet that isn't kept counts, too, as
 # one of so many bytes, so that asking for it costs little.
 _WINDOW, _UNKNOWN = 1.0, 100
+# What is missing is asked for a second time so many seconds later, since a question may be lost, too. One that comes
+# twice is answered once: within so many seconds a packet isn't sent again.
+TWICE, _ANSWERED = 0.005, 0.02
 # Packets of which it is known when they were asked for.
 _MOST_ASKED = 256
 # For so many seconds a round trip counts that was seen. Then what is missing is asked for again, and tells: as if an
@@ -45,6 +49,8 @@ class Repeating:
     def __init__(self, library: ModuleType, longest: int) -> None:
         self._repeats = library.Repeats(_KEPT, longest)
         self._anew, self._again = _Lately(), _Lately()
+        # When packets were sent again of late.
+        self._answered: OrderedDict[int, float] = OrderedDict()
 
     def sent(self, packet: bytes, now: float) -> None:
         """A packet went out."""
@@ -57,12 +63,18 @@ class Repeating:
         for sequence in missing.sequences():
             if room < _UNKNOWN:
                 return
-            packet = self._repeats.find(sequence)
+            packet = None if self._is_answered(sequence, now) else self._repeats.find(sequence)
             size = len(packet) if packet else _UNKNOWN
             room -= size
             self._again.add(size, now)
             if packet and room >= 0:
+                self._answered[sequence] = now
                 yield packet
+
+    def _is_answered(self, sequence: int, now: float) -> bool:
+        while self._answered and next(iter(self._answered.values())) <= now - _ANSWERED:
+            self._answered.popitem(last=False)
+        return sequence in self._answered
 
     def close(self) -> None:
         self._repeats.close()
@@ -88,6 +100,11 @@ class Asked:
             self._asked.setdefault(sequence, now)
         while len(self._asked) > _MOST_ASKED:
             self._asked.popitem(last=False)
+
+    def left(self, missing: Missing) -> Missing:
+        """What of these hasn't come yet."""
+        fields = tuple((sequence, 0) for sequence in missing.sequences() if sequence in self._asked)
+        return replace(missing, fields=fields)
 
     def came(self, sequence: int, now: float) -> bool:
         """A packet came. Answers whether it was asked for."""

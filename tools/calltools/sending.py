@@ -25,6 +25,10 @@ SECOND = 1_000_000_000
 _UNHEARD = ((10.0, 1.0), (2.0, 0.2))
 # That a run is nearly full is told this many seconds before.
 _NOTICE = 60
+# The times of so many pictures are kept, for the messages about them.
+_KEPT = 100
+# So many pictures in a row may be incomplete before nothing is sent again: then a queue delays, or drops, what comes.
+_UNKNOWN = 2
 
 
 class SendingRun:
@@ -47,6 +51,9 @@ class SendingRun:
         self.on_repeat: Callable[[bytes], None] = lambda _: None
         self.captured = 0
         self._began = self._last = 0.0
+        # When pictures went out, and the newest of those that are known to be complete.
+        self._times: dict[int, float] = {}
+        self._known = 0.0
         self._counts: Counter[str] = Counter()
         self.incoming = Incoming()
         self.is_heard = False
@@ -97,7 +104,8 @@ class SendingRun:
             return False
         if not self.captured:
             self._began = now
-        self._last = now
+        self._times[self.captured] = self._last = now
+        self._times.pop(self.captured - _KEPT, None)
         self.captured += 1
         self._set_target()
         self._record.mark("log", now)
@@ -146,6 +154,7 @@ class SendingRun:
         picture = nearest(newest - period // 2 + 1, said.reference, period)
         if said.is_ack:
             self._recent.trip(newest - picture)
+            self._known = max(self._known, self._times.get(picture, 0.0))
         if self._line and picture >= 0 and body[0] >> 7:
             # Else it is none (docs/FORMATS.md, "Back-channel message").
             self._line.told(picture, said.is_ack, round(SECOND * now))
@@ -155,8 +164,10 @@ class SendingRun:
         self._counts["refused" if noted == "no message" else noted] += 1
 
     def missing(self, missing: Missing, now: float) -> None:
-        """The other side asks for packets again. They go where the line has room."""
-        if self.has_room(now):
+        """The other side asks for packets again. They go where the line has room, and is quick enough by what is known:
+        else they would come too late."""
+        is_quick = now - self._known <= self._settings.wait + _UNKNOWN * self._settings.period
+        if is_quick and self.has_room(now):
             for packet in self._repeating.asked(missing, now):
                 self._tally.repeated += 1
                 self.on_repeat(packet)
