@@ -49,7 +49,7 @@ def wait(turns: loop.Loop, seconds: float) -> None:
 
 
 class PartsTest(unittest.TestCase):
-    def test_messages_go_as_reference_picture_selection_indications(self) -> None:
+    def test_messages_and_what_is_missing_go_as_feedback(self) -> None:
         for body in (bytes([0xC0, 0x0C, 0x01]), bytes([0xE0, 0x0C, 0x01, 0x80, 0x80])):
             said = rtcp.Feedback(1, 2, body)
             data = rtcp.feedback_bytes(said)
@@ -59,6 +59,10 @@ class PartsTest(unittest.TestCase):
                 self.assertIsNone(rtcp.read_rtcp(data[:cut]))
         self.assertEqual(rtcp.feedback_bytes(rtcp.Feedback(1, 2, bytes(3))).hex(), "83ce0004000000010000000218600000000000" + "00")
         self.assertEqual(rtcp.read_rtcp(rtcp.bye_bytes(7)), rtcp.Bye(7))
+        missing = rtcp.Missing(1, 2, ((65_535, 1), (7, 0x8000)))
+        data = rtcp.missing_bytes(missing)
+        self.assertEqual(data.hex(), "81cd0004" "00000001" "00000002" "ffff0001" "00078000")
+        self.assertEqual((rtcp.read_rtcp(data), list(missing.sequences())), (missing, [65_535, 0, 7, 23]))
         draws = random.Random(1)
         for _ in range(2_000):
             rtcp.read_rtcp(draws.randbytes(draws.randrange(40)))
@@ -318,8 +322,8 @@ class Calls(unittest.TestCase):
         self.calls.append(call)
         return call
 
-    def run_call(self, *words: object, **more: Any) -> Call:
-        return self.start("--port", free_port(), *words, **more).ended()
+    def run_call(self, *words: object, seconds: float = 30, **more: Any) -> Call:
+        return self.start("--port", free_port(), *words, **more).ended(seconds)
 
     def video(self, frames: int, format: str = "sub-qcif") -> Path:
         path = self.room / f"{format}-{frames}.y4m"

@@ -116,6 +116,8 @@ def counts(tally: Tally, has_camera: bool, has_screen: bool) -> list[str]:
             f"shown {tally.shown} pictures {marks} packets {tally.packets_in} messages out "
             f"{tally.messages_out} left out {tally.unshown}"
         )
+    if tally.asked or tally.repeated:
+        lines.append(f"repair: asked for {tally.asked} packets, sent {tally.repeated} again")
     why = " ".join(f"{cause} {number}" for cause, number in sorted(tally.dropped.items()) if number)
     lines.append(f"dropped datagrams {why or 'none'}; ends begun anew {tally.begun_anew}")
     return lines
