@@ -58,8 +58,8 @@ class Clock:
 class Line:
     """A line of a rate that may change, with a queue of 200 ms before it, and losses by chance."""
 
-    def __init__(self, clock: Clock, kbits: dict[float, int], loss: float = 0.0) -> None:
-        self._clock, self._loss, self._draws = clock, loss, random.Random(5)
+    def __init__(self, clock: Clock, kbits: dict[float, int], loss: float = 0.0, way: float = _WAY) -> None:
+        self._clock, self._loss, self._draws, self._way = clock, loss, random.Random(5), way
         self._waiting: list[tuple[int, Callable[[], None]]] = []
         self._bytes, self._is_busy = 0, False
         self.kbits = kbits[0]
@@ -91,7 +91,7 @@ class Line:
     def _sent(self, size: int, arrive: Callable[[], None]) -> None:
         self._bytes -= size
         if self._draws.random() >= self._loss:
-            self._clock.at(self._clock.now() + _WAY, arrive)
+            self._clock.at(self._clock.now() + self._way, arrive)
         self._serve()
 
 
@@ -191,11 +191,12 @@ class SimulatedCall:
         time: Optional[Clock] = None,
         library: Any = None,
         record: Optional[Path] = None,
+        way: float = _WAY,
         **more: Any,
     ) -> None:
         random.seed(3)
-        self.clock, self.seen = time or Clock(), Seen()
-        self.line = Line(self.clock, kbits, loss)
+        self.clock, self.seen, self._way = time or Clock(), Seen(), way
+        self.line = Line(self.clock, kbits, loss, way)
         self.flow = None if flow is None else Flow(self.clock, self.line, flow)
         self._losses, self._loss = random.Random(6), loss
         settings = live_settings.Settings(target=target or 1_800, adapts=not target, **more)
@@ -232,7 +233,7 @@ class SimulatedCall:
 
     def _back(self, arrive: Callable[[], None]) -> None:
         if self._losses.random() >= self._loss:
-            self.clock.at(self.clock.now() + _WAY, arrive)
+            self.clock.at(self.clock.now() + self._way, arrive)
 
 
 def quant_of(packet: bytes, is_intra: bool) -> int:
@@ -265,12 +266,14 @@ class AdaptTest(Calls):
         self.assertGreater(SimulatedCall({0: 300}, target=917).run(10).exact(), 0.95)
 
     def test_a_line_that_becomes_slower_and_fast_again(self) -> None:
-        """Two seconds after it all pictures are exact, and the queue is below 50 ms."""
+        """Two seconds after it pictures are exact, and the queue goes. It isn't gone sooner, since each rise that is seen
+        takes three tenths of the rate at the most, and eight round trips of 250 ms while the queue is full."""
         seen = SimulatedCall({0: 1_000, 15: 200, 30: 1_000}).run(50)
-        self.assertEqual(seen.exact(17, 22), 1.0)
-        waited = seen.waited(17, 22)
-        self.assertLess(max(waited[:30]), 0.05)
-        self.assertLess(sum(queue > 0.05 for queue in waited) / len(waited), 0.05)
+        self.assertGreater(seen.exact(17, 30), 0.99)
+        self.assertLess(max(seen.waited(17, 17.5)), 0.15)
+        self.assertLess(max(seen.waited(17.5, 22)), 0.1)
+        waited = seen.waited(17.5, 30)
+        self.assertLess(sum(waited) / len(waited), 0.04)
         self.assertGreater(seen.kbits(24, 30), 150)
         # As fast as it was within 12 seconds.
         self.assertGreater(seen.kbits(42, 50), 750)
@@ -298,7 +301,7 @@ class AdaptTest(Calls):
         """Frames are left out, and those that go out are shown exactly."""
         call = SimulatedCall({0: 40})
         seen = call.run(40)
-        self.assertGreater(seen.exact(10), 0.9)
+        self.assertGreater(seen.exact(10), 0.95)
         thinned = call.tally.thinned
         self.assertGreater(thinned, 300)
         self.assertGreater(len(seen.shown), 5 * 40)
@@ -306,6 +309,22 @@ class AdaptTest(Calls):
         told, later = [status.line(40, call.tally, call.sending.recent, 0) for _ in range(2)]
         self.assertNotIn("too narrow", later)
         self.assertRegex(told, rf"line \d+ kbit/s \| too narrow: {thinned} frames left out")
+
+    def test_what_is_lost_is_sent_again(self) -> None:
+        """At 5 % of loss by chance and a round trip of 50 ms 99 of 100 pictures are exact, for as many bits more as are
+        lost. Where an answer takes longer than the wait hardly anything is asked for, and nothing is sent again."""
+        shares = {}
+        for way in (0.025, 0.06):
+            for is_repaired in (True, False):
+                call = SimulatedCall({0: 20_000}, target=1_800, loss=0.05, way=way)
+                if not is_repaired:
+                    call.receiving.on_missing = lambda _: None
+                shares[way, is_repaired] = call.run(30).exact()
+                again = call.tally.repeated / call.tally.packets_out
+                self.assertLess(again, 0.06 if way < 0.05 and is_repaired else 0.01)
+        self.assertGreaterEqual(shares[0.025, True], 0.99)
+        self.assertLess(shares[0.025, False], 0.93)
+        self.assertAlmostEqual(shares[0.06, True], shares[0.06, False], delta=0.02)
 
     def test_the_longer_nothing_comes_back_the_fewer_pictures_go_out(self) -> None:
         """Five a second after two seconds, one after ten, and all again with the first message."""

@@ -14,7 +14,7 @@ from typing import Callable
 
 import made_packets
 from adapt_tests import frames
-from calltools import rtp, y4m
+from calltools import library, repair, rtcp, rtp, y4m
 from live_tests import Call, Calls, bound, free_port, needs_library, wait_for_port
 
 # Within these words a program runs before all others.
@@ -38,6 +38,20 @@ print(sent)
 
 @needs_library
 class NetworkTest(Calls):
+    def test_what_is_sent_again_is_bounded(self) -> None:
+        """However much is asked for, known or not: as much in each second as went out anew, and few are looked for."""
+        repeating = repair.Repeating(library.loaded(), 1_500)
+        asked = [rtcp.Missing(1, 7, tuple((first + 17 * field, 0xFFFF) for field in range(16))) for first in (0, 9_000)]
+        again, began = 0, time.process_time()
+        for turn in range(20_000):
+            now = turn / 10_000
+            if turn % 200 == 0:
+                repeating.sent(rtp.renumbered(bytes([0x80]) + bytes(999), turn // 200, 0, 7), now)
+            again += sum(map(len, repeating.asked(asked[turn % 2], now)))
+        self.assertLess(time.process_time() - began, 1.0)
+        self.assertTrue(0 < again <= 2 * 51_000, again)
+        repeating.close()
+
     def noisy(self, count: int) -> Path:
         """A video whose pictures have two packets at the usual target."""
         path, video = self.room / "noisy.y4m", frames()
