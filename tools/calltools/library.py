@@ -11,14 +11,13 @@ _PACKAGES = Path(__file__).resolve().parent.parent.parent / "library"
 
 
 def loaded() -> ModuleType:
-    """The module. Without the library itself, or with an older one, there is none."""
+    """The module. Without the library itself, or with an older one, which lacks functions, there is none."""
     if str(_PACKAGES) not in sys.path:
         sys.path.insert(0, str(_PACKAGES))
-    module = importlib.import_module("h263rps")
     try:
+        module = importlib.import_module("h263rps")
         module.picture_size("qcif")
-    except (AttributeError, OSError) as fault:
-        # An older library lacks functions.
-        why = "a release has it; in a clone make -C library makes it, in five minutes after rt ci, longer without"
-        raise BadInput("a live call", "no library", why) from fault
+    except (AttributeError, ImportError, OSError) as fault:
+        how = "make -C library makes it, five minutes after rt ci, longer without it"
+        raise BadInput("a live call", "no library", f"{how}; releases have it, for Debian python3-h263rps") from fault
     return module

@@ -39,6 +39,8 @@ class Settings:
     most_pictures: int = MOST_PICTURES
     # Whether the target follows the line; it is the first one then.
     adapts: bool = False
+    # Whether what is lost is asked for again.
+    repairs: bool = True
 
     @property
     def least_target(self) -> int:

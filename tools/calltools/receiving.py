@@ -216,7 +216,8 @@ class Receiving:
         self.last = now
         if kind == "completed":
             self._complete = now
-        self._ask(now)
+        if self._settings.repairs:
+            self._ask(now)
         if self.on_messages:
             self.on_messages(self._context.library.datagram_start(data).messages)
 
