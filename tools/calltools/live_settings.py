@@ -56,6 +56,12 @@ class Settings:
         """The seconds of a picture."""
         return float(1 / self.rate)
 
+    @property
+    def repaired(self) -> float:
+        """So many seconds after the last picture that came, or is known to be complete, what is missing is repaired:
+        later a queue delays what comes, or the way was cut, and most would come too late."""
+        return self.wait + 2 * self.period
+
     def _shared(self) -> list[str]:
         return [f"--slots={self.slots}", f"--lead={self.lead}", f"--clock={self.clock}"]
 

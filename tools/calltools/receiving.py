@@ -213,20 +213,20 @@ class Receiving:
 
     def _followed(self, data: bytes, kind: str, now: float) -> None:
         # A packet of the stream that is followed was heard.
-        self.last = now
+        silent, self.last = now - self.last, now
         if kind == "completed":
             self._complete = now
         if self._settings.repairs:
-            self._ask(now)
+            self._ask(silent, now)
         if self.on_messages:
             self.on_messages(self._context.library.datagram_start(data).messages)
 
-    def _ask(self, now: float) -> None:
-        # What is missing and can still come in time is asked for.
+    def _ask(self, silent: float, now: float) -> None:
+        # What is missing and can still come in time is asked for. After a silence the session says all of it.
         assert self._source is not None
         trip = self._asked.round_trip(self.reported(), now)
         fields = self._session.missing(round(SECOND * trip), self._time())
-        if fields:
+        if fields and silent <= self._settings.repaired:
             missing = Missing(self._own_source, self._source, tuple(fields))
             self._asked.ask(missing, now)
             self._tally.asked += len(list(missing.sequences()))

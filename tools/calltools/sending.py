@@ -27,8 +27,6 @@ _UNHEARD = ((10.0, 1.0), (2.0, 0.2))
 _NOTICE = 60
 # The times of so many pictures are kept, for the messages about them.
 _KEPT = 100
-# So many pictures in a row may be incomplete before nothing is sent again: then a queue delays, or drops, what comes.
-_UNKNOWN = 2
 
 
 class SendingRun:
@@ -164,10 +162,8 @@ class SendingRun:
         self._counts["refused" if noted == "no message" else noted] += 1
 
     def missing(self, missing: Missing, now: float) -> None:
-        """The other side asks for packets again. They go where the line has room, and is quick enough by what is known:
-        else they would come too late."""
-        is_quick = now - self._known <= self._settings.wait + _UNKNOWN * self._settings.period
-        if is_quick and self.has_room(now):
+        """The other side asks for packets again. They go where the line has room, and is known to be quick enough."""
+        if now - self._known <= self._settings.repaired and self.has_room(now):
             for packet in self._repeating.asked(missing, now):
                 self._tally.repeated += 1
                 self.on_repeat(packet)
