@@ -112,9 +112,9 @@ class NetworkTest(Calls):
 
         def begin(number: int, other: socket.socket, port: int) -> None:
             if number == 60:
-                told = [*FIRST, sys.executable, "-c", FLOOD, other.fileno(), port, 12, 50_000, 6]
-                pipes = {"stdout": subprocess.PIPE, "text": True, "pass_fds": [other.fileno()]}
-                flood.append(subprocess.Popen(list(map(str, told)), **pipes))
+                words = list(map(str, [*FIRST, sys.executable, "-c", FLOOD, other.fileno(), port, 12, 50_000, 6]))
+                begun = subprocess.Popen(words, stdout=subprocess.PIPE, text=True, pass_fds=[other.fileno()])
+                flood.append(begun)
 
         call = self.beside(300, 30, lambda _: 0.0, begin)
         sent = int(flood[0].communicate()[0])

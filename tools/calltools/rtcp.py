@@ -126,7 +126,8 @@ def read_rtcp(data: bytes) -> Optional[Union[Feedback, Missing, Bye]]:
 
 def _read_missing(data: bytes) -> Missing:
     speaker, about = struct.unpack(">II", data[4:12])
-    return Missing(speaker, about, tuple(struct.iter_unpack(">HH", data[12 : 12 + 4 * _MOST_FIELDS])))
+    fields = struct.iter_unpack(">HH", data[12 : 12 + 4 * _MOST_FIELDS])
+    return Missing(speaker, about, tuple((packet, following) for packet, following in fields))
 
 
 def _read_feedback(data: bytes) -> Optional[Feedback]:
