@@ -326,6 +326,20 @@ class AdaptTest(Calls):
         self.assertLess(shares[0.025, False], 0.93)
         self.assertAlmostEqual(shares[0.06, True], shares[0.06, False], delta=0.02)
 
+    def test_a_silence_is_not_repaired(self) -> None:
+        """After half a second without anything nothing of it is asked for, and pictures are exact at once."""
+
+        class Cut(SimulatedCall):
+            def _packet(self, data: bytes) -> None:
+                if not 3.0 <= self.clock.now() < 3.5:
+                    super()._packet(data)
+
+        call = Cut({0: 2_000}, target=1_800)
+        seen = call.run(6)
+        self.assertLess(call.tally.asked, 5)
+        self.assertEqual(call.tally.repeated, 0)
+        self.assertEqual(seen.exact(3.65), 1.0)
+
     def test_the_longer_nothing_comes_back_the_fewer_pictures_go_out(self) -> None:
         """Five a second after two seconds, one after ten, and all again with the first message."""
 

@@ -222,12 +222,16 @@ class Receiving:
             self.on_messages(self._context.library.datagram_start(data).messages)
 
     def _ask(self, silent: float, now: float) -> None:
-        # What is missing and can still come in time is asked for. After a silence the session says all of it.
+        # What is missing and can still come in time is asked for. Of a silence the session says all.
         assert self._source is not None
         trip = self._asked.round_trip(self.reported(), now)
         fields = self._session.missing(round(SECOND * trip), self._time())
-        if fields and silent <= self._settings.repaired:
-            missing = Missing(self._own_source, self._source, tuple(fields))
+        missing = Missing(self._own_source, self._source, tuple(fields))
+        if silent > self._settings.repaired:
+            self._asked.give_up(missing)
+            return
+        missing = self._asked.wanted(missing)
+        if missing.fields:
             self._asked.ask(missing, now)
             self._tally.asked += len(list(missing.sequences()))
             self.on_missing(missing)

@@ -86,6 +86,8 @@ class Asked:
     def __init__(self, wait: float) -> None:
         self._asked: OrderedDict[int, float] = OrderedDict()
         self._guess = _GUESS * wait
+        # Those of the last silence.
+        self._given_up: frozenset[int] = frozenset()
         self._trip, self._seen, self._short = 0.0, -_FRESH, 0
 
     def round_trip(self, reported: Optional[float], now: float) -> float:
@@ -101,10 +103,19 @@ class Asked:
         while len(self._asked) > _MOST_ASKED:
             self._asked.popitem(last=False)
 
+    def give_up(self, missing: Missing) -> None:
+        """These aren't asked for."""
+        self._given_up = frozenset(missing.sequences())
+
+    def wanted(self, missing: Missing) -> Missing:
+        """These without those that were given up."""
+        if self._given_up.isdisjoint(missing.sequences()):
+            return missing
+        return _only(missing, [it for it in missing.sequences() if it not in self._given_up])
+
     def left(self, missing: Missing) -> Missing:
         """What of these hasn't come yet."""
-        fields = tuple((sequence, 0) for sequence in missing.sequences() if sequence in self._asked)
-        return replace(missing, fields=fields)
+        return _only(missing, [it for it in missing.sequences() if it in self._asked])
 
     def came(self, sequence: int, now: float) -> bool:
         """A packet came. Answers whether it was asked for."""
@@ -121,3 +132,7 @@ class Asked:
         elif not self._short:
             self._trip += _SHARE * (trip - self._trip)
         self._seen = now
+
+
+def _only(missing: Missing, sequences: list[int]) -> Missing:
+    return replace(missing, fields=tuple((sequence, 0) for sequence in sequences))
