@@ -192,6 +192,9 @@ class SessionTest(unittest.TestCase):
         call, over = Call(Scenario("end", 120, seconds=1.0, wait=0.4)), list[float]()
         call.end.on_over = lambda: over.append(call.clock.now())
         call.clock.at(1.03, call.end.end)
+        for when in (1.04, 2.0):  # what comes then counts no more
+            call.clock.at(when, lambda: call.end.bye(Bye(_SSRC)))
+            call.clock.at(when, lambda: call.end.packet(bytes(99)))
         call.run()
         self.assertEqual((len(over), call.exact()), (1, 1.0))
         self.assertEqual(call.tally.shown, 120)

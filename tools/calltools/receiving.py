@@ -111,6 +111,8 @@ class Receiving:
 
     def bye(self, bye: Bye) -> None:
         """The other side says that a stream ends."""
+        if self._is_ending:
+            return
         self._session.bye(bye.source, self._time())
         if bye.source == self._source:
             now, self.is_leaving = self._loop.now(), True
