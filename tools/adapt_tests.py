@@ -319,7 +319,7 @@ class AdaptTest(Calls):
                 call = SimulatedCall({0: 20_000}, target=1_800, loss=0.05, way=way)
                 if not is_repaired:
                     call.receiving.on_missing = lambda _: None
-                shares[way, is_repaired] = call.run(30).exact()
+                shares[way, is_repaired] = call.run(20).exact()
                 again = call.tally.repeated / call.tally.packets_out
                 self.assertLess(again, 0.06 if way < 0.05 and is_repaired else 0.01)
         self.assertGreaterEqual(shares[0.025, True], 0.99)

@@ -1,6 +1,7 @@
 """Tests of what a network, and who is on it, does to a live call: over real sockets, in real time. Where this process may,
 the call runs at real-time priority, so that no other one's work is taken for the network's."""
 
+import contextlib
 import json
 import os
 import shutil
@@ -61,6 +62,46 @@ class NetworkTest(Calls):
             for number in range(count):
                 file.write(b"FRAME\n" + forth_and_back[number % len(forth_and_back)])
         return path
+
+    def test_questions_cost_little(self) -> None:
+        """From the other side's address 20,000 NACKs a second, each for 272 packets: pictures go out as before, and no
+        more bytes again than anew."""
+        port, other_port = free_port(), free_port()
+        ends = ("--with", LOOPBACK, "--port", port, "--other-port", other_port, "--one-way", "camera")
+        call = self.start(*ends, "--camera", self.noisy(240), "--target", 1_800, within=FIRST)
+        media, control = bound(other_port), bound(other_port + 1)
+        for net in (media, control):
+            self.addCleanup(net.close)
+        media.settimeout(20)
+        first = rtp.rtp_header(media.recv(2_000))
+        assert first
+        media.setblocking(False)
+        began, asked, newest, seen = time.monotonic(), 0, first.sequence, {first.sequence}
+        sizes, pictures = {True: 0, False: 0}, 0
+        while (second := time.monotonic() - began) < 6:
+            with contextlib.suppress(BlockingIOError):
+                while data := media.recv(2_000):
+                    header = rtp.rtp_header(data)
+                    assert header
+                    sizes[header.sequence not in seen] += len(data)
+                    if header.sequence in seen:
+                        continue
+                    newest = header.sequence
+                    seen.add(newest)
+                    if header.is_last:
+                        said = bytes([0xC0 | pictures >> 5, (pictures & 31) << 3 | 4, pictures])
+                        feedback = rtcp.Feedback(1, first.source, said)
+                        control.sendto(rtcp.feedback_bytes(feedback), (LOOPBACK, port + 1))
+                        pictures += 1
+            while second > 1 and asked < 20_000 * (second - 1):
+                fields = tuple(((newest - 17 * field) & 0xFFFF, 0xFFFF) for field in range(16))
+                control.sendto(rtcp.missing_bytes(rtcp.Missing(1, first.source, fields)), (LOOPBACK, port + 1))
+                asked += 1
+            time.sleep(0.001)
+        self.assertEqual(call.ended(60).status, 0, call.told)
+        self.assertGreater(asked, 50_000)
+        self.assertGreater(pictures, 165, call.told)
+        self.assertTrue(0 < sizes[False] < sizes[True], sizes)
 
     def lossy(self, delay: int) -> Call:
         """A call of 30 s at 5 % of loss by chance, with a wait of 100 ms."""
