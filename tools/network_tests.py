@@ -38,7 +38,7 @@ print(sent)
 
 
 @needs_library
-class NetworkTest(Calls):
+class LiveNetworkTest(Calls):
     def test_what_is_sent_again_is_bounded(self) -> None:
         """However much is asked for, known or not: as much in each second as went out anew, and few are looked for."""
         repeating = repair.Repeating(library.loaded(), 1_500)
