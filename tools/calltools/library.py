@@ -19,5 +19,7 @@ def loaded() -> ModuleType:
         module.picture_size("qcif")
     except (AttributeError, ImportError, OSError) as fault:
         how = "make -C library makes it, five minutes after rt ci, longer without it"
-        raise BadInput("the library", "it isn't there", f"{how}; releases have it, for Debian python3-h263rps") from fault
+        raise BadInput(
+            "the library", "it isn't there", f"{how}; releases have it, for Debian python3-h263rps"
+        ) from fault
     return module
