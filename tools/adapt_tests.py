@@ -1,7 +1,7 @@
-"""Tests of what follows the line: calls over simulated lines, in discrete time.
+"""Tests of what follows the line, and of repair: calls over simulated lines, in discrete time.
 
-The ends are the library's, between this tool's own `Sending` and `Receiving`; the clock, the line
-and the sockets are made here, so that a minute of a call takes seconds, and is always the same.
+The ends and what follows the line are the library's, between this tool's own `Sending` and `Receiving`; the clock, the
+line and the sockets are made here, so that a minute of a call takes seconds, and is always the same.
 """
 
 import heapq
@@ -12,8 +12,9 @@ from dataclasses import dataclass, field
 from pathlib import Path
 from typing import Any, Callable, Optional
 
-from calltools import following, in_process, live_settings, made, recorded, recorded_ways, sending, session_receiving, y4m
-from calltools.live_end import CallContext
+from calltools import library as own_library
+from calltools import live_settings, made, receiving, recorded, recorded_ways, sending, y4m
+from calltools.call_context import CallContext
 from calltools.loop import Timer
 from calltools.recording import Recorder
 from calltools.tally import StatusLine, Tally
@@ -57,8 +58,8 @@ class Clock:
 class Line:
     """A line of a rate that may change, with a queue of 200 ms before it, and losses by chance."""
 
-    def __init__(self, clock: Clock, kbits: dict[float, int], loss: float = 0.0) -> None:
-        self._clock, self._loss, self._draws = clock, loss, random.Random(5)
+    def __init__(self, clock: Clock, kbits: dict[float, int], loss: float = 0.0, way: float = _WAY) -> None:
+        self._clock, self._loss, self._draws, self._way = clock, loss, random.Random(5), way
         self._waiting: list[tuple[int, Callable[[], None]]] = []
         self._bytes, self._is_busy = 0, False
         self.kbits = kbits[0]
@@ -90,7 +91,7 @@ class Line:
     def _sent(self, size: int, arrive: Callable[[], None]) -> None:
         self._bytes -= size
         if self._draws.random() >= self._loss:
-            self._clock.at(self._clock.now() + _WAY, arrive)
+            self._clock.at(self._clock.now() + self._way, arrive)
         self._serve()
 
 
@@ -190,21 +191,24 @@ class SimulatedCall:
         time: Optional[Clock] = None,
         library: Any = None,
         record: Optional[Path] = None,
+        way: float = _WAY,
         **more: Any,
     ) -> None:
         random.seed(3)
-        self.clock, self.seen = time or Clock(), Seen()
-        self.line = Line(self.clock, kbits, loss)
+        self.clock, self.seen, self._way = time or Clock(), Seen(), way
+        self.line = Line(self.clock, kbits, loss, way)
         self.flow = None if flow is None else Flow(self.clock, self.line, flow)
         self._losses, self._loss = random.Random(6), loss
-        settings = live_settings.Settings(Path("none"), target=target or 1_800, adapts=not target, **more)
+        settings = live_settings.Settings(target=target or 1_800, adapts=not target, **more)
         self.tally = Tally()
         clock: Any = self.clock
         self.recorder, say = Recorder(record, 0.0, {}), self.seen.told.append
-        context = CallContext(clock, settings, self.recorder, self.tally, say, library or in_process.library())
-        self.sending, self.receiving = sending.Sending(context), session_receiving.receiving_end(context)
-        self.sending.on_packet = self._packet
-        self.receiving.on_feedback, self.receiving.on_frame = self._feedback, self._show
+        context = CallContext(clock, settings, self.recorder, self.tally, say, library or own_library.loaded())
+        self.sending, self.receiving = sending.Sending(context), receiving.Receiving(context)
+        self.sending.on_packet = self.sending.on_repeat = self._packet
+        self.receiving.on_feedback = lambda said: self._back(lambda: self.sending.feedback(said))
+        self.receiving.on_missing = lambda missing: self._back(lambda: self.sending.missing(missing))
+        self.receiving.on_frame = self._show
         self._period, self._number = settings.period, 0
         self.clock.at(0.0, self._capture)
 
@@ -227,9 +231,9 @@ class SimulatedCall:
         self.seen.bytes_out.append((self.clock.now(), size))
         self.line.take(size, lambda: self.receiving.packet(data))
 
-    def _feedback(self, feedback: Any) -> None:
+    def _back(self, arrive: Callable[[], None]) -> None:
         if self._losses.random() >= self._loss:
-            self.clock.at(self.clock.now() + _WAY, lambda: self.sending.feedback(feedback))
+            self.clock.at(self.clock.now() + self._way, arrive)
 
 
 def quant_of(packet: bytes, is_intra: bool) -> int:
@@ -262,12 +266,14 @@ class AdaptTest(Calls):
         self.assertGreater(SimulatedCall({0: 300}, target=917).run(10).exact(), 0.95)
 
     def test_a_line_that_becomes_slower_and_fast_again(self) -> None:
-        """Two seconds after it all pictures are exact, and the queue is below 50 ms."""
+        """Two seconds after it pictures are exact, and the queue goes. It isn't gone sooner, since each rise that is seen
+        takes three tenths of the rate at the most, and eight round trips of 250 ms while the queue is full."""
         seen = SimulatedCall({0: 1_000, 15: 200, 30: 1_000}).run(50)
-        self.assertEqual(seen.exact(17, 22), 1.0)
-        waited = seen.waited(17, 22)
-        self.assertLess(max(waited[:30]), 0.05)
-        self.assertLess(sum(queue > 0.05 for queue in waited) / len(waited), 0.05)
+        self.assertGreater(seen.exact(17, 30), 0.99)
+        self.assertLess(max(seen.waited(17, 17.5)), 0.15)
+        self.assertLess(max(seen.waited(17.5, 22)), 0.1)
+        waited = seen.waited(17.5, 30)
+        self.assertLess(sum(waited) / len(waited), 0.04)
         self.assertGreater(seen.kbits(24, 30), 150)
         # As fast as it was within 12 seconds.
         self.assertGreater(seen.kbits(42, 50), 750)
@@ -295,7 +301,7 @@ class AdaptTest(Calls):
         """Frames are left out, and those that go out are shown exactly."""
         call = SimulatedCall({0: 40})
         seen = call.run(40)
-        self.assertGreater(seen.exact(10), 0.9)
+        self.assertGreater(seen.exact(10), 0.95)
         thinned = call.tally.thinned
         self.assertGreater(thinned, 300)
         self.assertGreater(len(seen.shown), 5 * 40)
@@ -304,13 +310,43 @@ class AdaptTest(Calls):
         self.assertNotIn("too narrow", later)
         self.assertRegex(told, rf"line \d+ kbit/s \| too narrow: {thinned} frames left out")
 
+    def test_what_is_lost_is_sent_again(self) -> None:
+        """At 5 % of loss by chance and a round trip of 50 ms 99 of 100 pictures are exact, for as many bits more as are
+        lost. Where an answer takes longer than the wait hardly anything is asked for, and nothing is sent again."""
+        shares = {}
+        for way in (0.025, 0.06):
+            for is_repaired in (True, False):
+                call = SimulatedCall({0: 20_000}, target=1_800, loss=0.05, way=way)
+                if not is_repaired:
+                    call.receiving.on_missing = lambda _: None
+                shares[way, is_repaired] = call.run(20).exact()
+                again = call.tally.repeated / call.tally.packets_out
+                self.assertLess(again, 0.06 if way < 0.05 and is_repaired else 0.01)
+        self.assertGreaterEqual(shares[0.025, True], 0.99)
+        self.assertLess(shares[0.025, False], 0.93)
+        self.assertAlmostEqual(shares[0.06, True], shares[0.06, False], delta=0.02)
+
+    def test_a_silence_is_not_repaired(self) -> None:
+        """After half a second without anything nothing of it is asked for, and pictures are exact at once."""
+
+        class Cut(SimulatedCall):
+            def _packet(self, data: bytes) -> None:
+                if not 3.0 <= self.clock.now() < 3.5:
+                    super()._packet(data)
+
+        call = Cut({0: 2_000}, target=1_800)
+        seen = call.run(6)
+        self.assertLess(call.tally.asked, 5)
+        self.assertEqual(call.tally.repeated, 0)
+        self.assertEqual(seen.exact(3.65), 1.0)
+
     def test_the_longer_nothing_comes_back_the_fewer_pictures_go_out(self) -> None:
         """Five a second after two seconds, one after ten, and all again with the first message."""
 
         class Deaf(SimulatedCall):
-            def _feedback(self, feedback: Any) -> None:
+            def _back(self, arrive: Callable[[], None]) -> None:
                 if self.clock.now() >= 20:
-                    super()._feedback(feedback)
+                    super()._back(arrive)
 
         for target in (1_800, None):
             call = Deaf({0: 2_000}, target=target)
@@ -326,41 +362,28 @@ class AdaptTest(Calls):
 
     def test_a_target_gives_the_quantiser(self) -> None:
         """What the sender takes is what its sizes and the target were said to give."""
-        bounds = following.Bounds(1_800, 60, 999_999, 8)
-        library, period = in_process.library(), 1 / 30
-        follower = following.Follower(bounds, period, 0.0)
+        library, period = own_library.loaded(), 33_333_333
+        bounds = {"first": 1_800, "least": 60, "most": 999_999, "finest": 8, "period": period}
         quants = set()
-        with library.Sender(library.Params.of("qcif", target=1_800)) as sender:
+        with library.Sender(library.Params.of("qcif", target=1_800)) as sender, library.Line(**bounds, now=0) as line:
             for number, frame in enumerate(frames()[:40]):
                 # No message comes, so each picture is intra.
-                wanted = round(follower.quantiser)
-                sender.target(follower.target)
+                wanted = line.quant
+                sender.target(line.target)
                 packets = sender.packets(sender.code(frame))
                 quant = quant_of(packets[0], True)
                 quants.add(quant)
                 self.assertLessEqual(wanted, quant)
                 self.assertLessEqual(quant, wanted + 1)
-                follower.sent(number, [len(packet) for packet in packets], number * period)
+                line.sent(number, sum(map(len, packets)), len(packets), number * period)
         self.assertGreater(len(quants), 5)
 
-    def test_the_rate_stays_within_its_bounds(self) -> None:
-        """However long nothing is whole, and however much comes through."""
-        bounds = following.Bounds(1_800, 60, 3_000, 8)
-        for is_whole, least, most in ((False, 60, 61), (True, 2_990, 3_000)):
-            follower = following.Follower(bounds, 1 / 30, 0.0)
-            for number in range(3_000):
-                now = number / 30
-                follower.sent(number, [1_400, follower.size], now)
-                follower.told(number, is_whole, now + 0.02)
-                follower.told(number, not is_whole, now + 0.02)  # what is told twice counts once
-            self.assertTrue(least <= follower.size <= most, follower.size)
-
     def test_a_call_that_follows_and_one_that_does_not(self) -> None:
-        """With the library and no target it does, and that is recorded."""
+        """Without a target it does, and that is recorded."""
         for words, adapts in (((), True), (("--target", 900), False)):
             folder = self.room / f"call{adapts}"
             ends = ("--format", "sub-qcif", "--camera", self.video(75), "--screen", "none")
-            call = self.run_call(*ends, "--library", "--record", folder, *words)
+            call = self.run_call(*ends, "--record", folder, *words)
             self.assertEqual(call.status, 0, call.told)
             self.assertGreater(call.shown("exact"), 50, call.told)
             facts = json.loads((folder / "call.json").read_text())

@@ -5,20 +5,14 @@ import random
 import re
 import time
 import types
-from collections import Counter
 from pathlib import Path
 from typing import Any, Callable, Optional
-from unittest import mock
 
+import made_packets
 from adapt_tests import Clock, SimulatedCall
-from calltools import in_process, live_settings, logs, receiving, rtcp, rtp, stand_in
-from calltools.live_end import CallContext
+from calltools import library, rtp
 from calltools.loop import Timer
-from calltools.picture_start import picture_start
-from calltools.recording import Recorder
-from calltools.speakers import Arrival
-from calltools.tally import Tally
-from live_tests import PROGRAM, Call, Calls, bound, free_port, needs_library, needs_program, wait_for_port
+from live_tests import Call, Calls, bound, free_port, needs_library, wait_for_port
 
 # How many streams of three packets are forged a second.
 RATES = {"once": 1 / 3.5, "three packets a second": 1, "by fives": 5, "by hundreds": 100}
@@ -32,7 +26,7 @@ class Counts:
     """The library, with what its receivers do counted."""
 
     def __init__(self) -> None:
-        real = in_process.library()
+        real = library.loaded()
         self.plays = self.started = self.open = self.most_open = 0
         counts = self
 
@@ -78,9 +72,9 @@ _LATE: dict[bool, list[bytes]] = {}
 def late_packets(is_whole: bool) -> list[bytes]:
     """Three packets of a stream under way, of pictures that are complete by themselves, or that want earlier ones."""
     if is_whole not in _LATE:
-        library, picture, found = in_process.library(), bytes(range(96, 160)) * 594, []
-        params = library.Params.of("qcif", clock=library.CLOCKS["custom"])
-        with library.Sender(params) as sender, library.Receiver(params) as receiver:
+        module, picture, found = library.loaded(), bytes(range(96, 160)) * 594, []
+        params = module.Params.of("qcif", clock=module.CLOCKS["custom"])
+        with module.Sender(params) as sender, module.Receiver(params) as receiver:
             for number in range(LATE + 3):
                 if is_whole and number >= LATE:
                     sender.forget()
@@ -122,41 +116,8 @@ def size_of(folder: Path) -> int:
     return sum(path.stat().st_size for path in folder.iterdir())
 
 
-def arrival_of(number: int, sequence: int) -> Arrival:
-    """A packet of a picture by the stand-in."""
-    packet = stand_in.packet(number, "qcif")
-    data = rtp.renumbered(packet, sequence, rtp.TICKS_A_PICTURE * number, 7)
-    header, start = rtp.rtp_header(data), picture_start(data)
-    assert header and start
-    return Arrival(data, header, start)
-
-
-class Program:
-    """In the place of `recv` in discrete time: what it is given, by the looks at the sockets between."""
-
-    def __init__(self, clock: Clock) -> None:
-        self.files, self.is_over, self.waiting = [0, 1, 2], False, 0
-        self.is_ended = False
-        self._clock = clock
-        self.given: list[tuple[int, bytes]] = []
-
-    def feed(self, file: int) -> "Program":
-        return self
-
-    def put(self, data: bytes) -> None:
-        self.given.append((self._clock.turns, data))
-
-    def end(self) -> None:
-        self.is_ended = True
-
-    def source(self, file: int, *_: Any) -> None:
-        pass
-
-    entries, lines = source, source
-
-
+@needs_library
 class ForgedTest(Calls):
-    @needs_library
     def test_streams_that_are_tried_cost_nothing(self) -> None:
         """However many come in an outage: never more plays at once than are kept, three receivers at most, all pictures
         exact when it is over, and recorded is nothing but what was shown."""
@@ -177,12 +138,11 @@ class ForgedTest(Calls):
                     self.assertLess(sizes[name, is_whole], (1.1 if is_whole else 1.001) * sizes["none", is_whole])
                     self.assertEqual(call.tally.begun_anew > 0, is_whole and streams > 0)
 
-    @needs_library
     def test_a_forged_stream_that_goes_on_gives_way(self) -> None:
         """One with complete pictures is followed in an outage, and no more once the true stream is there again."""
         call = ForgedCall(0)
-        library, picture = call.counts.library, bytes(range(96, 160)) * 594
-        with library.Sender(library.Params.of("qcif", clock=library.CLOCKS["custom"])) as sender:
+        module, picture = call.counts.library, bytes(range(96, 160)) * 594
+        with module.Sender(module.Params.of("qcif", clock=module.CLOCKS["custom"])) as sender:
 
             def forge() -> None:
                 sender.forget()
@@ -201,7 +161,6 @@ class ForgedTest(Calls):
         self.assertEqual(call.receiving.source, call.sending.source)
         self.assertEqual(seen.exact(OUTAGE[1] + 0.2), 1.0)
 
-    @needs_library
     def test_a_forged_stream_that_is_never_complete_is_no_bar(self) -> None:
         """The sender begins anew in an outage, with another SSRC, while such a stream comes from before until after it:
         its trial ends after a second, and the next one is the sender's."""
@@ -220,53 +179,13 @@ class ForgedTest(Calls):
         self.assertEqual(call.receiving.source, call.sending.source)
         self.assertEqual(seen.exact(OUTAGE[1] + 1.3), 1.0)
 
-    def test_the_program_joins_by_as_many_plays_at_once_as_are_kept(self) -> None:
-        """With a look at the sockets between them; packets that come meanwhile wait."""
-        clock, settings, program, run = self.run_with_program()
-        for number in range(252, 255):
-            self.assertTrue(run.packet(arrival_of(number, number), clock.now()))
-            if number == 252:
-                self.assertEqual(len(program.given), 1)
-            clock.run(clock.now() + settings.period)
-        first = next(place for place, (_, data) in enumerate(program.given) if data[:1] == b"K")
-        joining = program.given[:first]
-        self.assertEqual(b"".join(data for _, data in joining), 250 * logs.entry_bytes(logs.PLAY))
-        self.assertLessEqual(max(len(data) for _, data in joining), 3 * settings.slots)
-        self.assertEqual(len({turn for turn, _ in joining}), len(joining))
-        self.assertEqual(sum(data[:1] == b"K" for _, data in program.given), 3)
-        self.assertEqual(run.joining, 250)
-
-    def test_a_run_ends_by_as_many_plays_at_once_as_are_kept(self) -> None:
-        """After an outage of 20 s, of which nothing was played yet."""
-        clock, settings, program, run = self.run_with_program()
-        self.assertTrue(run.packet(arrival_of(0, 0), 0.0))
-        clock.run(20.0)
-        self.assertTrue(run.packet(arrival_of(600, 600), clock.now()))
-        given = len(program.given)
-        run.end()
-        clock.run(20.0)
-        plays: Counter[int] = Counter(turn for turn, data in program.given[given:] if data[:1] == b"P")
-        self.assertEqual(run.played, 601)
-        self.assertLessEqual(max(plays.values()), settings.slots)
-        self.assertGreater(len(plays), 10)
-        self.assertTrue(program.is_ended)
-
-    def run_with_program(self) -> tuple[Clock, live_settings.Settings, Program, receiving.ReceivingRun]:
-        """A run in discrete time, over what stands for the program."""
-        clock, settings = Clock(), live_settings.Settings(Path("none"))
-        program = Program(clock)
-        with mock.patch.object(receiving, "program_of", lambda *_: program):
-            context: Any = CallContext(clock, settings, Recorder(None, 0.0, {}), Tally(), print)  # type: ignore[arg-type]
-            return clock, settings, program, receiving.ReceivingRun(context)
-
-    def assert_late_streams_hold_nothing(self, packets: list[list[bytes]], late: list[bytes], program: Path, *words: object) -> int:
+    def assert_late_streams_hold_nothing(self, packets: list[list[bytes]], late: list[bytes]) -> int:
         """Over sockets: four outages, in which such streams come once, by three packets a second, by fives and by
         hundreds, until a moment after each. A line is told each second; the memory stays, and what is recorded is what
         was shown; pictures are exact again soon after each. Answers how many runs were recorded."""
         port, other_port, folder = free_port(), free_port(), self.folder_in_memory()
         ends = ("--with", "127.0.0.1", "--port", port, "--other-port", other_port, "--one-way", "screen")
-        told = [*ends, "--format", "sub-qcif", "--screen", "none", "--seconds", 12, "--record", folder, *words]
-        call = Call([*told, "--program", program])
+        call = Call([*ends, "--format", "sub-qcif", "--screen", "none", "--seconds", 12, "--record", folder])
         self.calls.append(call)
         other, draws, sent, memory = bound(other_port), random.Random(8), 0, []
         self.addCleanup(other.close)
@@ -300,40 +219,15 @@ class ForgedTest(Calls):
         self.assertLess(memory[1] - memory[0], 8_000)
         # All pictures of the call are shown once; beside them there is what was shown of forged streams.
         self.assertLess(size_of(folder), (330 + 60) * 18_500 + 500_000)
-        runs = self.assert_played_again(folder, program)["recv"]
+        runs = self.assert_played_again(folder)["recv"]
         self.assertEqual([run["joined"] for run in runs], [0] + (len(runs) - 1) * [251])
         return len(runs)
 
-    def test_late_streams_and_the_stand_in(self) -> None:
-        packets = [[stand_in.packet(count, "sub-qcif")] for count in range(330)]
-        late = [stand_in.packet(count, "sub-qcif") for count in range(253, 256)]
-        self.assertGreater(self.assert_late_streams_hold_nothing(packets, late, self.stand_in), 3)
-
-    @needs_program
-    @needs_library
-    def test_late_streams_and_the_program(self) -> None:
-        late = sum(coded_packets(256, False)[253:], [])
-        self.assertEqual(self.assert_late_streams_hold_nothing(coded_packets(330, True), late, PROGRAM), 1)
-
-    @needs_program
-    @needs_library
-    def test_late_streams_and_the_library(self) -> None:
-        # These are complete, so they are followed, and what is recorded of them begins where they were joined.
-        late = sum(coded_packets(256, True)[253:], [])
-        told = self.assert_late_streams_hold_nothing(coded_packets(330, True), late, PROGRAM, "--library")
-        self.assertGreater(told, 3)
-
-
-def coded_packets(count: int, is_intra: bool) -> list[list[bytes]]:
-    """The packets of so many pictures, each complete by itself, or predicted from the one before."""
-    library, picture, found = in_process.library(), bytes(range(96, 160)) * 288, []
-    params = library.Params.of("sub-qcif", lead=6, slots=39)
-    with library.Sender(params) as sender, library.Receiver(params) as receiver:
-        for _ in range(count):
-            if is_intra:
-                sender.forget()
-            found.append(sender.packets(sender.code(picture)))
-            for message in [*(receiver.packet(packet).message for packet in found[-1]), receiver.play().message]:
-                if message:
-                    sender.feedback(message)
-    return found
+    def test_late_streams(self) -> None:
+        """Those that want earlier pictures, and those that are complete: these are followed, and what is recorded of them
+        begins where they were joined."""
+        packets = made_packets.stream("sub-qcif", 330)
+        for is_whole in (False, True):
+            late = sum(made_packets.stream("sub-qcif", 256, is_whole)[253:], [])
+            runs = self.assert_late_streams_hold_nothing(packets, late)
+            self.assertEqual(runs > 1, is_whole)

@@ -15,19 +15,21 @@ import sys
 import tempfile
 import time
 import unittest
+from collections import Counter
+from fractions import Fraction
 from pathlib import Path
-from typing import Any, Callable, Optional, Sequence
+from typing import Any, Callable, Sequence
 from unittest import mock
 
-from calltools import bad_network, errors, in_process, live_settings, logs, loop, messages, numbers, pipes
-from calltools import picture_start, playout, program, reports, rtcp, rtp, speakers, stand_in, udp, y4m, y4m_pipe
+import made_packets
+from calltools import bad_network, errors, library, live_settings, logs, loop, messages, pipes
+from calltools import picture_start, program, reports, rtcp, rtp, udp, y4m, y4m_pipe
 
 TOOLS = Path(__file__).resolve().parent
 EXAMPLES = TOOLS.parent / "examples"
 # The proved program, where the gate left it; another one may be named.
 PROGRAM = Path(os.environ.get("H263RPS_PROGRAM", program.OWN))
 HAS_PROGRAM = os.access(PROGRAM, os.X_OK)
-needs_program = unittest.skipUnless(HAS_PROGRAM, "the program isn't built: rt ci does it")
 needs_ffmpeg = unittest.skipUnless(shutil.which("ffmpeg"), "ffmpeg isn't there")
 # The library, where make -C library left it; another one may be named.
 LIBRARY = Path(os.environ.get("H263RPS_LIBRARY", TOOLS.parent / "library" / "build" / "libh263rps.so"))
@@ -47,92 +49,7 @@ def wait(turns: loop.Loop, seconds: float) -> None:
 
 
 class PartsTest(unittest.TestCase):
-    def test_numbers_follow_temporal_references(self) -> None:
-        """Out of order, over a wrap, after a long loss, and after a camera's pause."""
-        of = numbers.Numbers(256, 30.0)
-        start = 2**32 - 3_000  # the timestamp wraps, too
-
-        def place(n: int, tick: int, sequence: int) -> tuple[int, float]:
-            placed = of.place(n % 256, sequence & 0xFFFF, start + tick & 0xFFFFFFFF, tick / 90_000)
-            assert placed
-            return placed
-
-        self.assertEqual(place(250, 0, 65_530), (250, 0.0))
-        self.assertEqual(place(252, 6_000, 65_532)[0], 252)
-        number, time = place(251, 3_000, 65_531)
-        self.assertEqual((number, round(time, 4)), (251, 0.0333))
-        self.assertEqual(place(256, 18_000, 65_540)[0], 256)
-        # Ten seconds of loss: 300 pictures, and as many packets at least.
-        self.assertEqual(place(556, 918_000, 65_536 + 600)[0], 556)
-        # A pause of ten seconds: the next packet is of the next picture.
-        self.assertEqual(place(557, 1_818_000, 65_536 + 601)[0], 557)
-        self.assertEqual(numbers.nearest(1_000, 3, 1_024), 1_027)
-
-    def test_pictures_are_due_by_their_capture_and_the_least_way(self) -> None:
-        out = playout.Playout(0.1, 0.05)
-        self.assertIsNone(out.due(0))
-        out.arrived(0, 0.0, 10.03)
-        self.assertAlmostEqual(out.due(0), 10.08)
-        out.arrived(1, 0.1, 10.11)  # a faster way
-        self.assertAlmostEqual(out.due(0), 10.06)
-        out.played(0)
-        out.played(1)
-        self.assertIsNone(out.due(2))  # perhaps there is none yet
-        out.arrived(4, 0.35, 10.40)
-        self.assertAlmostEqual(out.due(2), 0.2 + 10.01 + 0.05)  # by the one before
-        out.played(2)
-        self.assertAlmostEqual(out.due(3), 0.3 + 10.01 + 0.05)
-        for step in range(10):  # the way grows: it counts after a while
-            out.arrived(5 + step, 0.5 + step / 10, 10.8 + step / 10)
-        self.assertAlmostEqual(out.due(14), 1.4 + 10.3 + 0.05)
-
-    def test_numbers_stay_behind_the_clock(self) -> None:
-        """Two seconds ahead are borne, once; further ahead, or further back in time by a newer number, there is no
-        place."""
-        of = numbers.Numbers(256, 30.0)
-        self.assertEqual(of.place(0, 0, 0, 5.0), (0, 0.0))
-        self.assertEqual(of.place(60, 60, 60 * 3_000, 5.0), (60, 2.0))
-        self.assertIsNone(of.place(62, 62, 62 * 3_000, 5.0))
-        self.assertIsNone(of.place(61, 61, 1_000 * 90_000, 5.5))
-        self.assertIsNone(of.place(61, 61, -30 * 3_000, 5.5))
-        self.assertIsNone(of.place(61 + 120, 61, 61 * 3_000, 6.0))
-        self.assertEqual(of.place(61, 61, 61 * 3_000, 6.0)[0], 61)
-        self.assertEqual(of.newest, 61)
-        # After ten minutes of silence the clock allows as much.
-        self.assertEqual(of.place((61 + 18_000) % 256, 18_061, (61 + 18_000) * 3_000, 606.0)[0], 18_061)
-
-    def test_a_stream_is_tried_when_several_of_its_packets_came(self) -> None:
-        """Three near each other, each once, in any order; strays push no stream out that goes on."""
-        probation = speakers.Probation()
-
-        def came(source: int, sequence: int) -> Optional[list[int]]:
-            data = rtp.renumbered(stand_in.packet(1, "qcif"), sequence, 0, source)
-            header, start = rtp.rtp_header(data), picture_start.picture_start(data)
-            assert header and start
-            found = probation.add(speakers.Arrival(data, header, start))
-            return found and [it.header.sequence for it in found]
-
-        self.assertEqual([came(1, 65_535), came(1, 65_535), came(1, 1), came(1, 0)], [None, None, None, [65_535, 1, 0]])
-        self.assertEqual([came(2, 10), came(2, 20_000), came(2, 40_000), came(2, 9)], 4 * [None])
-        # Strays beside it leave a stream as it is.
-        self.assertIsNone(came(3, 100))
-        self.assertEqual([came(10 + stray, 0) for stray in range(6)], 6 * [None])
-        self.assertEqual([came(3, 101), came(3, 102)], [None, [100, 101, 102]])
-
-    def test_the_least_way_of_many_packets(self) -> None:
-        """50,000 packets a second take no long."""
-        draws, least = random.Random(7), playout.LeastWay()
-        began = time.process_time()
-        for count in range(50_000):
-            least.add(count // 1_700, 2 + count / 50_000, draws.random())
-        self.assertLess(time.process_time() - began, 2)
-
-    def test_so_many_packets_a_second_are_allowed(self) -> None:
-        allowed = speakers.Allowance(100)
-        self.assertEqual(sum(allowed.takes(9.0) for _ in range(300)), 100)
-        self.assertEqual(sum(allowed.takes(9.5) for _ in range(300)), 50)
-
-    def test_messages_go_as_reference_picture_selection_indications(self) -> None:
+    def test_messages_and_what_is_missing_go_as_feedback(self) -> None:
         for body in (bytes([0xC0, 0x0C, 0x01]), bytes([0xE0, 0x0C, 0x01, 0x80, 0x80])):
             said = rtcp.Feedback(1, 2, body)
             data = rtcp.feedback_bytes(said)
@@ -142,6 +59,10 @@ class PartsTest(unittest.TestCase):
                 self.assertIsNone(rtcp.read_rtcp(data[:cut]))
         self.assertEqual(rtcp.feedback_bytes(rtcp.Feedback(1, 2, bytes(3))).hex(), "83ce0004000000010000000218600000000000" + "00")
         self.assertEqual(rtcp.read_rtcp(rtcp.bye_bytes(7)), rtcp.Bye(7))
+        missing = rtcp.Missing(1, 2, ((65_535, 1), (7, 0x8000)))
+        data = rtcp.missing_bytes(missing)
+        self.assertEqual(data.hex(), "81cd0004" "00000001" "00000002" "ffff0001" "00078000")
+        self.assertEqual((rtcp.read_rtcp(data), list(missing.sequences())), (missing, [65_535, 0, 7, 23]))
         draws = random.Random(1)
         for _ in range(2_000):
             rtcp.read_rtcp(draws.randbytes(draws.randrange(40)))
@@ -170,30 +91,6 @@ class PartsTest(unittest.TestCase):
             self.assertEqual(rtp.payload_of(other), packet[12:])
         self.assertIsNone(rtp.payload_of(bytes([0xA0]) + packet[1:] + b"\0"))
         self.assertIsNone(rtp.payload_of(bytes([0x8F]) + packet[1:40]))
-
-    @needs_library
-    def test_ends_in_this_process_are_those_of_the_program(self) -> None:
-        turns, told = loop.Loop(), []
-        settings = live_settings.Settings(PROGRAM, "sub-qcif", lead=3, slots=16, target=0, quant=3, limit=1_200)
-        library = in_process.library()
-        for command, end in (("send", in_process.SendInProcess), ("recv", in_process.RecvInProcess)):
-            run = end(turns, settings, library)
-            lines: list[bytes] = []
-            run.lines(lines.append)
-            for file in run.files:
-                run.source(file, lambda _: None)
-            log = run.feed(1 if command == "send" else 0)
-            if command == "send":
-                video = run.feed(0)
-                with open(EXAMPLES / "video.y4m", "rb") as file:
-                    for frame in y4m.Y4mReader(file, "video.y4m"):
-                        video.put(b"FRAME\n" + frame.samples)
-            log.put((EXAMPLES / f"{command}.log").read_bytes())
-            run.on_end = lambda: told.append(command)
-            log.end()
-            wait(turns, 0.01)
-            self.assertEqual((run.is_over, run.status, told[-1:]), (True, 0, [command]))
-            self.assertEqual(b"".join(lines), (EXAMPLES / "expected" / f"{command}.txt").read_bytes())
 
     def test_an_interrupted_tool_ends_without_a_word(self) -> None:
         code = "import signal, sys; from calltools import errors; errors.run(lambda _: signal.raise_signal(signal.SIGINT))"
@@ -348,13 +245,6 @@ def wait_for_port(port: int) -> None:
     time.sleep(0.2)
 
 
-def kill_child(parent: int, command: str) -> None:
-    """Kills the program that runs this command for a call."""
-    for child in Path(f"/proc/{parent}/task/{parent}/children").read_text().split():
-        if command.encode() in Path(f"/proc/{child}/cmdline").read_bytes().split(b"\0"):
-            os.kill(int(child), signal.SIGKILL)
-
-
 def joined_hosts(names: list[str], at_end: Callable[..., Any]) -> bool:
     """Two network namespaces with 192.0.2.6 and 192.0.2.7; whether that could be had."""
     ways = [f"h2{os.getpid()}{letter}" for letter in "ab"]
@@ -419,11 +309,6 @@ class Calls(unittest.TestCase):
         self.room = Path(room.name)
         self.calls: list[Call] = []
         self.addCleanup(lambda: [call.process.kill() for call in self.calls if call.process.poll() is None])
-        # In the place of the program, so that the tests need Python alone.
-        self.stand_in = self.room / "stand_in"
-        head = f"#!{sys.executable}\nimport sys\nsys.path.insert(0, {str(TOOLS)!r})\n"
-        self.stand_in.write_text(head + "from calltools import stand_in\nstand_in.main(sys.argv[1:])\n")
-        self.stand_in.chmod(0o755)
 
     def folder_in_memory(self) -> Path:
         """A folder to record into where no other process's writes to the disk are waited for."""
@@ -432,13 +317,13 @@ class Calls(unittest.TestCase):
         self.addCleanup(room.cleanup)
         return Path(room.name) / "call"
 
-    def start(self, *words: object, program: Optional[Path] = None, **more: Any) -> Call:
-        call = Call([*words, "--quiet", "--program", program or self.stand_in], **more)
+    def start(self, *words: object, **more: Any) -> Call:
+        call = Call([*words, "--quiet"], **more)
         self.calls.append(call)
         return call
 
-    def run_call(self, *words: object, program: Optional[Path] = None, **more: Any) -> Call:
-        return self.start("--port", free_port(), *words, program=program, **more).ended()
+    def run_call(self, *words: object, seconds: float = 30, **more: Any) -> Call:
+        return self.start("--port", free_port(), *words, **more).ended(seconds)
 
     def video(self, frames: int, format: str = "sub-qcif") -> Path:
         path = self.room / f"{format}-{frames}.y4m"
@@ -446,83 +331,127 @@ class Calls(unittest.TestCase):
         subprocess.run(list(map(str, words)), check=True)
         return path
 
-    def assert_played_again(self, folder: Path, program: Path) -> dict[str, Any]:
-        """Both ends write the same bytes over the recorded logs. Answers what was recorded."""
+    def assert_played_again(self, folder: Path, *, is_sent: bool = True) -> dict[str, Any]:
+        """Both ends write the same bytes over the recorded logs: the library's, and those of the program where there is
+        one. Answers what was recorded. What followed the line, or had messages in its pictures, isn't sent again."""
         facts = json.loads((folder / "call.json").read_text())
-        again = self.room / "again"
-        for run in facts["send"]:
-            words = [program, "send", folder / run["video"], folder / run["log"], again, *run["options"]]
-            told = subprocess.run(words, capture_output=True).stdout
-            self.assertEqual(told, (folder / run["report"]).read_bytes())
-            self.assertEqual(again.read_bytes(), (folder / run["wire"]).read_bytes())
+        for run in facts["send"] if is_sent else []:
+            self.assertEqual(sent_again(folder, run, facts), of_run(folder, run, ("wire", "report")))
+            if HAS_PROGRAM:
+                self.assert_sent_by_program(folder, run)
         for run in facts["recv"]:
-            out, log, joined = self.room / "out", self.room / "log", run["joined"]
-            log.write_bytes(joined * logs.entry_bytes(logs.PLAY) + (folder / run["log"]).read_bytes())
-            words = [program, "recv", log, out, again, *run["options"]]
-            told = subprocess.run(words, capture_output=True).stdout
-            self.assertEqual(told.split(b"\n", joined)[joined], (folder / run["report"]).read_bytes())
-            with again.open("rb") as wire:
-                said = [logs.entry_bytes(it.letter, it.body) for it in logs.read_log(wire, "again")]
-            self.assertEqual(b"".join(said[joined:]), (folder / run["wire"]).read_bytes())
-            shown, before = (folder / run["video"]).read_bytes(), out.read_bytes()
-            head = before[: before.find(b"\n") + 1]
-            frame = len(b"FRAME XHELD\n") + y4m.Size(*y4m.FORMATS[facts["format"]]).bytes
-            self.assertEqual(head + before[len(head) + joined * frame :], shown)
+            self.assertEqual(shown_again(folder, run, facts), of_run(folder, run, ("video", "wire", "report")))
+            if HAS_PROGRAM:
+                self.assert_shown_by_program(folder, run, facts["format"])
         return facts
 
+    def assert_sent_by_program(self, folder: Path, run: dict[str, Any]) -> None:
+        again = self.room / "again"
+        words = [PROGRAM, "send", folder / run["video"], folder / run["log"], again, *run["options"]]
+        told = subprocess.run(words, capture_output=True).stdout
+        self.assertEqual([again.read_bytes(), told], of_run(folder, run, ("wire", "report")))
 
+    def assert_shown_by_program(self, folder: Path, run: dict[str, Any], format: str) -> None:
+        out, log, again, joined = self.room / "out", self.room / "log", self.room / "again", run["joined"]
+        log.write_bytes(joined * logs.entry_bytes(logs.PLAY) + (folder / run["log"]).read_bytes())
+        told = subprocess.run([PROGRAM, "recv", log, out, again, *run["options"]], capture_output=True).stdout
+        with again.open("rb") as wire:
+            said = [logs.entry_bytes(it.letter, it.body) for it in logs.read_log(wire, "again")]
+        before = out.read_bytes()
+        head = before[: before.find(b"\n") + 1]
+        frame = len(b"FRAME XHELD\n") + y4m.Size(*y4m.FORMATS[format]).bytes
+        shown = head + before[len(head) + joined * frame :]
+        found = [shown, b"".join(said[joined:]), told.split(b"\n", joined)[joined]]
+        self.assertEqual(found, of_run(folder, run, ("video", "wire", "report")))
+
+
+def of_run(folder: Path, run: dict[str, Any], keys: Sequence[str]) -> list[bytes]:
+    """The files of a recorded run."""
+    return [(folder / run[key]).read_bytes() for key in keys]
+
+
+def params_of(run: dict[str, Any], format: str) -> Any:
+    """The parameters that a run's options say."""
+    found = dict(option.lstrip("-").split("=") for option in run["options"])
+    clock = library.loaded().CLOCKS[found.pop("clock")]
+    found.pop("format", None)
+    return library.loaded().Params.of(format, clock=clock, **{name: int(value) for name, value in found.items()})
+
+
+def entries_of(folder: Path, run: dict[str, Any]) -> list[logs.Entry]:
+    with open(folder / run["log"], "rb") as file:
+        return list(logs.read_log(file, run["log"]))
+
+
+def counted(counts: "Counter[str]", words: str) -> bytes:
+    """The last line of a report."""
+    return (" ".join(f"{word} {counts[word]}" for word in words.split()) + "\n").encode()
+
+
+def sent_again(folder: Path, run: dict[str, Any], facts: dict[str, Any]) -> list[bytes]:
+    """What the library's sender writes over a recorded run, and its report."""
+    wire, report, counts = b"", b"", Counter[str]()
+    with open(folder / run["video"], "rb") as video:
+        frames = iter(list(y4m.Y4mReader(video, run["video"])))
+    with library.loaded().Sender(params_of(run, facts["format"])) as sender:
+        for entry in entries_of(folder, run):
+            if entry.letter == logs.MESSAGE:
+                noted = sender.feedback(entry.body).kind
+                counts["refused" if noted == "no message" else noted] += 1
+                continue
+            coded = sender.code(next(frames).samples)
+            wire += b"".join(logs.entry_bytes(logs.PACKET, packet) for packet in sender.packets(coded))
+            source = "intra" if coded.reference is None else f"from {coded.reference}"
+            report += f"{coded.number} {source}\n".encode()
+            counts.update(sent=1, packets=coded.packets)
+    return [wire, report + counted(counts, "sent packets noted old refused")]
+
+
+def shown_again(folder: Path, run: dict[str, Any], facts: dict[str, Any]) -> list[bytes]:
+    """What the library's receiver shows and says over a recorded run, and its report."""
+    size = y4m.Size(*y4m.FORMATS[facts["format"]])
+    video, wire, report = [y4m.head_bytes(size, Fraction(facts["rate"]))], b"", b""
+    counts = Counter(played=run["joined"], held=run["joined"])
+    with library.loaded().Receiver(params_of(run, facts["format"]), run["joined"]) as receiver:
+        for entry in entries_of(folder, run):
+            if entry.letter == logs.PLAY:
+                told = receiver.play()
+                video.append(f"FRAME X{told.mark.upper()}\n".encode() + told.picture)
+                report += f"{counts['played']} {told.mark}\n".encode()
+                counts.update(("played", told.mark))
+            else:
+                told = receiver.packet(entry.body)
+                counts["taken" if told.kind == "completed" else told.kind] += 1
+            wire += logs.entry_bytes(logs.MESSAGE, told.message) if told.message else b""
+    words = "played exact patched held taken late early repeat refused"
+    return [b"".join(video), wire, report + counted(counts, words)]
+
+
+@needs_library
 class CallsTest(Calls):
-    def test_a_call_alone_by_the_stand_in(self) -> None:
-        """With losses, each picture is counted, and the recorded call is played again."""
-        video, out, folder = self.video(60), self.room / "out.y4m", self.room / "call"
-        bad = ("--loss", 0.1, "--burst", 2, "--delay", 30, "--jitter", 20, "--seed", 3)
-        ends = ("--format", "sub-qcif", "--camera", video, "--screen", out, "--record", folder)
-        call = self.run_call(*ends, *bad)
-        self.assertEqual((call.status, call.count("sent", "sent")), (0, 60), call.told)
-        self.assertLess(call.shown("exact"), 60)
-        self.assertLessEqual(call.shown("exact"), call.shown("packets"))
-        facts = self.assert_played_again(folder, self.stand_in)
-        self.assertEqual((facts["party"], facts["counts"]["captured"]), ("alone", 60))
-        captured = (folder / "captured.y4m").read_bytes()
-        self.assertEqual(captured, video.read_bytes())
-        self.assertEqual(out.read_bytes(), (folder / "shown.y4m").read_bytes())
-
-    @needs_program
     def test_a_call_alone(self) -> None:
         """Losses in bursts, reordering, duplicates and a second without anything."""
-        video, folder = self.video(120, "qcif"), self.room / "call"
+        video, out, folder = self.video(120, "qcif"), self.room / "out.y4m", self.room / "call"
         bad = ("--loss", 0.05, "--burst", 2, "--delay", 30, "--jitter", 30, "--duplicate", 0.05, "--outage", "1.5:1")
-        ends = ("--camera", video, "--screen", "none", "--record", folder)
-        call = self.run_call(*ends, *bad, program=PROGRAM)
+        ends = ("--camera", video, "--screen", out, "--target", 1_800, "--record", folder)
+        call = self.run_call(*ends, *bad)
         self.assertEqual((call.status, call.count("sent", "sent")), (0, 120), call.told)
         self.assertGreater(call.shown("exact"), 60)
         self.assertGreater(call.shown("held"), 20)
-        self.assert_played_again(folder, PROGRAM)
+        facts = self.assert_played_again(folder)
+        self.assertEqual((facts["party"], facts["counts"]["captured"]), ("alone", 120))
+        self.assertEqual((folder / "captured.y4m").read_bytes(), video.read_bytes())
+        self.assertEqual(out.read_bytes(), (folder / "shown.y4m").read_bytes())
         told = subprocess.run([TOOLS / "times_of_call", folder], capture_output=True, text=True, check=True).stdout
         self.assertRegex(told, r"after 1\.\d+ s of silence: picture \d+ exact")
 
-    @needs_program
-    @needs_library
-    def test_a_call_in_this_process(self) -> None:
-        """The program plays again what the library did, and comes to the same."""
-        for clock, version, format in (("standard", 1, "qcif"), ("custom", 2, "cif")):
-            video, folder = self.video(45, format), self.room / format
-            ends = ("--format", format, "--clock", clock, "--messages", version, "--camera", video)
-            # A target that follows the line isn't in what is recorded.
-            bad = ("--loss", 0.1, "--delay", 20, "--jitter", 20, "--library", "--target", 6_000)
-            call = self.run_call(*ends, *bad, "--screen", "none", "--record", folder, program=PROGRAM)
-            self.assertEqual((call.status, call.count("sent", "sent")), (0, 45), call.told)
-            self.assertGreater(call.shown("exact"), 20)
-            self.assert_played_again(folder, PROGRAM)
-
-    @needs_program
     def test_a_clean_call_is_exact(self) -> None:
         for clock, version, format in (("standard", 1, "qcif"), ("custom", 2, "cif")):
             video, folder = self.video(45, format), self.room / format
-            ends = ("--format", format, "--clock", clock, "--messages", version, "--camera", video)
-            call = self.run_call(*ends, "--screen", "none", "--record", folder, program=PROGRAM)
+            ends = ("--format", format, "--clock", clock, "--messages", version, "--camera", video, "--target", 6_000)
+            call = self.run_call(*ends, "--screen", "none", "--record", folder)
             self.assertEqual((call.status, call.shown("exact"), call.shown("held")), (0, 45, 0), call.told)
-            self.assert_played_again(folder, PROGRAM)
+            self.assert_played_again(folder)
 
     @needs_ffmpeg
     def test_ffmpeg_is_camera_and_screen(self) -> None:
@@ -540,7 +469,7 @@ class CallsTest(Calls):
     def test_without_ffmpeg(self) -> None:
         video = self.video(2)
         for words in (("--camera", "test"), ("--camera", video), ("--camera", video, "--screen", "out.mkv")):
-            call = self.run_call("--format", "sub-qcif", *words, env={"PATH": str(self.room), "DISPLAY": ":0"})
+            call = self.run_call("--format", "sub-qcif", *words, env={"PATH": str(self.room), "DISPLAY": ":0", "H263RPS_LIBRARY": str(LIBRARY)})
             told = r"^ff(mpeg|play): not on this machine: so --(camera|screen) takes a Y4M file.*\n$"
             self.assertEqual(call.status, 1)
             self.assertRegex(call.told, told)
@@ -562,7 +491,8 @@ class CallsTest(Calls):
             call.ended()
             self.assertEqual(call.status, 0, call.told)
             self.assertGreater(call.shown("exact"), 15, call.told)
-            self.assert_played_again(self.room / own, self.stand_in)
+            # Messages go in the headers of pictures, so these aren't sent again.
+            self.assert_played_again(self.room / own, is_sent=False)
             with (self.room / f"{own}.y4m").open("rb") as video:
                 self.assertIn(b" F15:1 ", video.readline())
 
@@ -572,12 +502,11 @@ class CallsTest(Calls):
         names = [f"h263rps{os.getpid()}{letter}" for letter in "ab"]
         if not joined_hosts(names, self.addCleanup):
             self.skipTest("no network namespaces here")
-        program = PROGRAM if HAS_PROGRAM else self.stand_in
         video = self.video(60, "qcif")
         parties = []
         for name, own, other in ((names[0], 6, 7), (names[1], 7, 6)):
             words = ("--at", f"192.0.2.{own}", "--with", f"192.0.2.{other}", "--camera", video, "--screen", "none")
-            parties.append(self.start(*words, program=program, within=["ip", "netns", "exec", name]))
+            parties.append(self.start(*words, within=["ip", "netns", "exec", name]))
         for call in parties:
             self.assertEqual(call.ended().status, 0, call.told)
             self.assertGreater(call.shown("exact"), 40, call.told)
@@ -592,38 +521,12 @@ class CallsTest(Calls):
         screen = self.start(*ends, "--at", "127.0.0.2", "--with", "127.0.0.1", "--one-way", "screen", "--screen", self.room / "out.y4m", "--record", folder)
         self.assertEqual([call.ended().status for call in (camera, screen)], [0, 0], screen.told)
         self.assertEqual(camera.count("sent", "sent"), 600)
-        run = self.assert_played_again(folder, self.stand_in)["recv"][0]
+        run = self.assert_played_again(folder)["recv"][0]
         self.assertEqual(run["joined"], max(0, run["first"] - 2))
         self.assertGreater(screen.shown("exact"), 100)
         self.assertLessEqual(screen.shown("held"), 12)
         shown = (self.room / "out.y4m").read_bytes().count(b"FRAME X")
         self.assertEqual(shown, screen.shown("shown"))
-
-    def test_an_end_that_dies_is_begun_anew(self) -> None:
-        folder = self.room / "call"
-        ends = ("--format", "sub-qcif", "--camera", self.video(150), "--screen", "none", "--record", folder)
-        port = free_port()
-        call = self.start("--port", port, *ends)
-        wait_for_port(port)
-        for command in ("recv", "send"):
-            time.sleep(1.2)
-            kill_child(call.process.pid, command)
-        self.assertEqual(call.ended().status, 0, call.told)
-        self.assertIn("recv ended with status -9; it is begun anew", call.told)
-        self.assertIn("send ended with status -9; it is begun anew", call.told)
-        facts = json.loads((folder / "call.json").read_text())
-        self.assertEqual((len(facts["send"]), len(facts["recv"])), (2, 3))
-        self.assertEqual(facts["send"][1]["source"], facts["recv"][2]["source"])
-        self.assertTrue((folder / "captured-2.y4m").exists())
-        self.assertGreater(call.shown("exact"), 80, call.told)
-        marks = (folder / facts["recv"][2]["report"]).read_text().splitlines()
-        self.assertEqual(marks[-2].split()[1], "exact")
-
-    def test_an_end_that_always_dies_ends_the_call(self) -> None:
-        self.stand_in.write_text("#!/bin/sh\nexit 1\n")
-        call = self.run_call("--format", "sub-qcif", "--camera", self.video(60), "--screen", "none")
-        self.assertEqual(call.status, 1)
-        self.assertRegex(call.told, f"{self.stand_in}: (send|recv): it ended 3 times with status 1\n$")
 
     def test_a_run_is_full(self) -> None:
         """That is told before it comes, and the ends begin anew."""
@@ -659,18 +562,17 @@ class CallsTest(Calls):
         self.assertEqual((call.shown("packets"), call.count("anew", "dropped")), (2 * count, 1), call.told)
         wanted = {"malformed": 2 * count, "of strangers": count, "not asked for": count}
         self.assertEqual({cause: call.dropped(cause) for cause in wanted}, wanted, call.told)
-        # Until three packets of a stream came, all are on probation, and a BYE that is read by then is of nobody.
-        self.assertIn(call.dropped("other source"), range(2 * count - 4, 2 * count - 1), call.told)
+        # A BYE that is read before a stream is followed is of nobody.
+        self.assertIn(call.dropped("other source"), range(2 * count - 4, 2 * count + 1), call.told)
         for net in (other, control, stranger):
             net.close()
 
     def test_mutated_datagrams_do_no_harm(self) -> None:
-        """From the other party's address, with the right SSRC, to a screen and to a camera."""
-        program = PROGRAM if HAS_PROGRAM else self.stand_in
+        """From the other party's address, with the right SSRC, to a screen and to a camera: then a stream is shown."""
         port, other_port = free_port(), free_port()
-        ends = ("--with", "127.0.0.1", "--port", port, "--other-port", other_port, "--seconds", 5)
+        ends = ("--with", "127.0.0.1", "--port", port, "--other-port", other_port, "--seconds", 7)
         words = ("--format", "sub-qcif", "--camera", self.video(600), "--screen", "none")
-        call = self.start(*ends, *words, program=program)
+        call = self.start(*ends, *words)
         other, control = bound(other_port), bound(other_port + 1)
         wait_for_port(port)
         source = rtp.rtp_header(other.recv(2_000)).source
@@ -681,9 +583,13 @@ class CallsTest(Calls):
             control.sendto(mutated(draws, draws.choice(messages)), ("127.0.0.1", port + 1))
             if number % 20 == 0:
                 time.sleep(0.01)
+        for number in range(60):
+            packet = rtp.renumbered(made_packets.packet(number), number, rtp.TICKS_A_PICTURE * number, 7)
+            other.sendto(packet, ("127.0.0.1", port))
+            time.sleep(1 / 30)
         self.assertEqual(call.ended().status, 0, call.told)
         self.assertNotIn("Traceback", call.told)
-        self.assertGreater(call.shown("shown"), 10, call.told)
+        self.assertGreater(call.shown("exact"), 20, call.told)
         self.assertGreater(call.count("messages in", "sent"), 1_000, call.told)
         self.assertGreater(call.dropped("malformed"), 100, call.told)
         for net in (other, control):
@@ -705,7 +611,7 @@ class CallsTest(Calls):
         call, other, port = self.start_screen(9)
         draws, stray = random.Random(6), 0
         for count in range(240):
-            packet = stand_in.packet(count, "sub-qcif")
+            packet = made_packets.packet(count)
             is_silent = 60 <= count < 81 or 140 <= count < 170
             if not is_silent:
                 other.sendto(rtp.renumbered(packet, count, rtp.TICKS_A_PICTURE * count, 7), ("127.0.0.1", port))
@@ -724,15 +630,15 @@ class CallsTest(Calls):
 
     def forged(self, draws: random.Random, count: int) -> list[bytes]:
         """A datagram of each kind that one makes who knows the other party's address and no more."""
-        packet = stand_in.packet(count, "sub-qcif")
+        packet = made_packets.packet(count)
         numbers = draws.getrandbits(16), draws.getrandbits(32)
         own = draws.getrandbits(32)
         return [
             rtp.renumbered(packet, *numbers, own),  # a stray packet of an SSRC of its own
             rtp.renumbered(packet, count, 3_003 * count, 8),  # the next one of a stream that goes on
             rtp.renumbered(packet, 30_000 + count, 1_000 * rtp.CLOCK, 8),  # the same, far ahead
-            rtp.renumbered(stand_in.packet(count + 120, "sub-qcif"), count, 3_003 * count, own),
-            rtp.renumbered(stand_in.packet(count, "cif"), *numbers, own),
+            rtp.renumbered(made_packets.packet(count + 120), count, 3_003 * count, own),
+            rtp.renumbered(made_packets.empty_packet(count, "cif"), *numbers, own),
             packet[:1] + bytes([packet[1] ^ 1]) + packet[2:],  # another payload type
             packet[: draws.randrange(20)],
             draws.randbytes(draws.randrange(1, 1_400)),
@@ -740,21 +646,20 @@ class CallsTest(Calls):
             bytes([packet[0] | 0x20]) + packet[1:],  # padding that there isn't
         ]
 
-    def assert_nothing_is_done_by_forged_packets(
-        self, packets: Callable[[int], list[bytes]], program: Path, *words: object
-    ) -> None:
+    def test_forged_packets_do_nothing(self) -> None:
         """Kinds of forged packets come once each, then by fives and then by hundreds a second; each picture is exact,
         a line is told each second, the memory stays, and nothing but the call is recorded."""
         port, other_port, folder = free_port(), free_port(), self.folder_in_memory()
         ends = ("--with", "127.0.0.1", "--port", port, "--other-port", other_port, "--one-way", "screen")
-        told = [*ends, "--format", "sub-qcif", "--screen", "none", "--seconds", 11, "--wait", 300, *words]
-        call = Call([*told, "--program", program, "--record", folder])
+        told = [*ends, "--format", "sub-qcif", "--screen", "none", "--seconds", 11, "--wait", 300]
+        call = Call([*told, "--record", folder])
         self.calls.append(call)
+        packets = made_packets.stream("sub-qcif", 270, False)
         other, control, draws = bound(other_port), bound(other_port + 1), random.Random(8)
         wait_for_port(port)
         memory = []
         for count in range(270):
-            for packet in packets(count):
+            for packet in packets[count]:
                 header = rtp.rtp_header(packet)
                 assert header
                 data = rtp.renumbered(packet, header.sequence, rtp.TICKS_A_PICTURE * count, 7)
@@ -780,33 +685,12 @@ class CallsTest(Calls):
         for net in (other, control):
             net.close()
 
-    def coded_packets(self) -> Callable[[int], list[bytes]]:
-        """The packets of 270 pictures, by the library's sender."""
-        library = in_process.library()
-        picture = bytes(range(96, 160)) * 288
-        with library.Sender(library.Params.of("sub-qcif")) as sender:
-            packets = [sender.packets(sender.code(picture)) for _ in range(270)]
-        return lambda count: packets[count]
-
-    def test_forged_packets_do_nothing_to_the_stand_in(self) -> None:
-        packets = lambda count: [stand_in.packet(count, "sub-qcif")]  # noqa: E731
-        self.assert_nothing_is_done_by_forged_packets(packets, self.stand_in)
-
-    @needs_program
-    @needs_library
-    def test_forged_packets_do_nothing_to_the_program(self) -> None:
-        self.assert_nothing_is_done_by_forged_packets(self.coded_packets(), PROGRAM)
-
-    @needs_library
-    def test_forged_packets_do_nothing_to_the_library(self) -> None:
-        self.assert_nothing_is_done_by_forged_packets(self.coded_packets(), self.stand_in, "--library")
-
     def test_packets_ahead_of_the_clock_are_dropped(self) -> None:
         """One that is 30,000 packets and 1,000 s ahead, and twenty of which each is 120 pictures ahead of the one
         before: nothing is played for them beyond two seconds' pictures, and the call goes on."""
         call, other, port = self.start_screen(6)
         for count in range(120):
-            packet = stand_in.packet(count, "sub-qcif")
+            packet = made_packets.packet(count)
             time_of = rtp.TICKS_A_PICTURE * count
             other.sendto(rtp.renumbered(packet, count, time_of, 7), ("127.0.0.1", port))
             if count == 40:
@@ -814,14 +698,15 @@ class CallsTest(Calls):
                 other.sendto(ahead, ("127.0.0.1", port))
             if 50 <= count < 70:
                 number = count + 120 * (count - 49)
-                forged = stand_in.packet(number, "sub-qcif")
+                forged = made_packets.packet(number)
                 other.sendto(rtp.renumbered(forged, count + 1, time_of + 1, 7), ("127.0.0.1", port))
             time.sleep(1 / 30)
         self.assertEqual(call.ended().status, 0, call.told)
         # Half of the twenty have the reference of a picture that is behind, and are late.
         self.assertGreaterEqual(call.dropped("ahead of the clock"), 10, call.told)
         self.assertLessEqual(call.shown("shown"), 120 + 60, call.told)
-        self.assertGreater(call.shown("exact"), 100, call.told)
+        # What is played for them is late when it comes: for a second, and then the run begins anew.
+        self.assertGreater(call.shown("exact"), 80, call.told)
 
     def test_a_flood_of_the_right_stream(self) -> None:
         """Whatever a second and a half of it does, pictures are exact again a second later, and the call ends in its
@@ -829,7 +714,7 @@ class CallsTest(Calls):
         call, other, port = self.start_screen(6)
         began, sent = time.monotonic(), 0
         while (second := time.monotonic() - began) < 5:
-            packet = stand_in.packet(int(30 * second), "sub-qcif")
+            packet = made_packets.packet(int(30 * second))
             for _ in range(50 if 1 < second < 2.5 else 1):
                 data = rtp.renumbered(packet, sent, int(second * rtp.CLOCK), 7)
                 other.sendto(data, ("127.0.0.1", port))
@@ -863,7 +748,7 @@ class CallsTest(Calls):
         call, other_end, port = self.start_screen(4)
         control = bound(other_end.getsockname()[1] + 1)
         for count in range(60):
-            packet = stand_in.packet(count, "sub-qcif")
+            packet = made_packets.packet(count)
             other_end.sendto(rtp.renumbered(packet, count, 4_500 * count, 7), ("127.0.0.1", port))
             report = reports.Report(7, None, ())
             control.sendto(reports.compound_bytes(report, "abc", y4m.RATE), ("127.0.0.1", port + 1))
@@ -880,7 +765,7 @@ class CallsTest(Calls):
         other = bound(other_port)
         wait_for_port(port)
         for count, number in enumerate([*range(40), *range(60)]):
-            packet = stand_in.packet(number, "sub-qcif")
+            packet = made_packets.packet(number)
             time_of = rtp.TICKS_A_PICTURE * count
             other.sendto(rtp.renumbered(packet, count, time_of, 7), ("127.0.0.1", port))
             time.sleep(1 / 30)
@@ -934,10 +819,9 @@ class CallsTest(Calls):
 
     def test_a_flood_of_strangers(self) -> None:
         """10,000 datagrams a second for five seconds, and all pictures are exact."""
-        program = PROGRAM if HAS_PROGRAM else self.stand_in
         port = free_port()
         ends = ("--port", port, "--format", "sub-qcif", "--camera", self.video(160), "--screen", "none", "--wait", 300)
-        call = self.start(*ends, program=program)
+        call = self.start(*ends)
         wait_for_port(port)
         sent = flood(port, 5.0, 10_000)
         self.assertEqual(call.ended().status, 0, call.told)
@@ -950,13 +834,10 @@ class CallsTest(Calls):
             (("--format", "sub-qcif"), "the other side sends sub-qcif in the standard clock, and this call is qcif in the standard clock"),
             (("--format", "qcif", "--clock", "custom"), "the other side sends qcif in the custom clock, and this call is qcif in the standard clock"),
         ):
-            if "custom" in words and not HAS_PROGRAM:
-                continue
-            program = PROGRAM if HAS_PROGRAM else self.stand_in
             port, video = free_port(), self.video(40, words[1])
-            camera = self.start("--port", port, "--with", "127.0.0.2", "--one-way", "camera", "--camera", video, *words, program=program)
+            camera = self.start("--port", port, "--with", "127.0.0.2", "--one-way", "camera", "--camera", video, *words)
             ends = ("--at", "127.0.0.2", "--with", "127.0.0.1", "--one-way", "screen", "--screen", "none", "--seconds", 2.5)
-            screen = self.start("--port", port, *ends, program=program)
+            screen = self.start("--port", port, *ends)
             self.assertEqual([call.ended().status for call in (camera, screen)], [0, 0])
             self.assertEqual(screen.told.count(told), 1, screen.told)
             self.assertEqual(screen.shown("shown"), 0)
@@ -987,7 +868,6 @@ class CallsTest(Calls):
             ((*ends, "--wait", 200, "--lead", 3), "--lead: 3: it can't hold --wait 200, for which 7 is the least"),
             ((*ends, "--loss", 0.9), "--loss: 0.9: bursts of 1 are too short for so much loss"),
             ((*ends, "--one-way", "screen"), "--one-way: screen: it needs --with and the other machine"),
-            ((*ends, "--program", none), f"{none}: no program: rt ci proves and builds it"),
             (("--camera", none, "--screen", "none"), f"{none}: no camera: there is no such file that can be read"),
             (("--camera", "/dev/video99", "--screen", "none"), "/dev/video99: no camera: is one plugged in.*"),
             (("--camera", none.with_suffix(".y4m"), "--screen", "none"), f"{none}.y4m: No such file or directory"),
@@ -995,8 +875,7 @@ class CallsTest(Calls):
             ((*ends, "--screen", "window"), "--screen: window: there is no display here, so --screen takes a Y4M file, - or none"),
             ((*ends, "--screen", none / "x.y4m"), f"{none}/x.y4m: No such file or directory"),
         ):
-            own = () if "--program" in words else ("--program", self.stand_in)
-            call = Call([*words, *own], env={"PATH": os.environ["PATH"]}).ended()
+            call = Call([*words], env={"PATH": os.environ["PATH"], "H263RPS_LIBRARY": str(LIBRARY)}).ended()
             self.assertEqual(call.status, 1, (words, call.told))
             self.assertRegex(call.told, f"^{told}\n$")
         taken.close()

@@ -16,7 +16,7 @@ from collections import Counter
 from pathlib import Path
 from typing import Any, Optional, Sequence
 
-from calltools import errors, logs, made, program, recorded, recorded_ways, report, traced, way, y4m
+from calltools import errors, logs, made, recorded, recorded_ways, report, traced, way, y4m
 from tool_modules import TOOLS, tool
 
 try:
@@ -29,7 +29,7 @@ NO_PILLOW = "Pillow isn't there: apt install python3-pil"
 EXAMPLES = TOOLS.parent / "examples"
 VIDEO = EXAMPLES / "video.y4m"
 LIVE_CALL = TOOLS / "live_call"
-PROGRAM = Path(os.environ.get("H263RPS_PROGRAM", program.OWN))
+LIBRARY = Path(os.environ.get("H263RPS_LIBRARY", TOOLS.parent / "library" / "build" / "libh263rps.so"))
 BURST = EXAMPLES / "expected" / "burst.txt"
 TRACE = EXAMPLES / "burst.trace"
 SMALL = y4m.Size(*y4m.FORMATS["sub-qcif"])
@@ -423,11 +423,11 @@ class RecordedTest(Room):
         self.assertIn(network, page.read_text())
         self.assertEqual(samples_of(call_of(page)["ways"][0]["shown_video"]), shown)
 
-    @unittest.skipUnless(LIVE_CALL.exists() and os.access(PROGRAM, os.X_OK), "no live call here")
+    @unittest.skipUnless(LIVE_CALL.exists() and LIBRARY.exists(), "no live call here")
     def test_a_live_call_is_told(self) -> None:
         """What became of its packets is what `recv` counted."""
         folder = self.room / "call"
-        words = ["--program", PROGRAM, "--camera", VIDEO, "--screen", "none", "--record", folder]
+        words = ["--camera", VIDEO, "--screen", "none", "--record", folder]
         network = ["--loss", 0.2, "--burst", 2, "--delay", 20, "--duplicate", 0.2, "--quiet"]
         asked = [str(word) for word in (LIVE_CALL, *words, *network, "--port", free_port())]
         subprocess.run(asked, check=True, capture_output=True, timeout=60)

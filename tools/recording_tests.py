@@ -12,7 +12,7 @@ from pathlib import Path
 from unittest import mock
 
 from calltools import errors, logs, recorded, recorded_ways, recording
-from live_tests import Calls, free_port
+from live_tests import Calls, free_port, needs_library
 from page_tests import HEARD, MARKS, ROWS, SAID, Folder, Room, as_shown, frames, is_pillow_here, whole_folder
 from tool_modules import TOOLS, tool
 
@@ -139,6 +139,7 @@ class CutTest(Room):
         self.assertRegex(told[0], r"^captured 4 in 0\.1 s, \d+ kbit/s$")
 
 
+@needs_library
 class RecorderTest(Calls):
     """How a call is recorded."""
 

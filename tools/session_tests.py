@@ -1,5 +1,5 @@
-"""Tests of the receiving end by the library: calls in discrete time, without sockets, between the library's own sender and
-what `live_call --library` shows by."""
+"""Tests of the receiving end: calls in discrete time, without sockets, between the library's own sender and what
+`live_call` shows by."""
 
 import json
 import random
@@ -11,13 +11,13 @@ from pathlib import Path
 from typing import Any, Optional
 
 from adapt_tests import Clock
-from calltools import in_process, live_settings, logs, rtp, session_receiving
-from calltools.live_end import CallContext
+from calltools import library as own_library
+from calltools import live_settings, receiving, rtp
+from calltools.call_context import CallContext
 from calltools.recording import Recorder
 from calltools.rtcp import Bye
 from calltools.tally import Tally
-from calltools.y4m import head_bytes
-from live_tests import needs_library
+from live_tests import needs_library, of_run, shown_again
 from way_scenarios import CLOCK, STEP, Scenario, lead_of, scenarios
 
 # A message takes this long on its way back, and what is left is played for so long after the last packet, in seconds.
@@ -52,10 +52,10 @@ class Call:
     def __init__(self, scenario: Scenario, record: Optional[Path] = None) -> None:
         self.scenario, self.clock, self.said = scenario, Clock(), list[str]()
         self.turns: list[Any] = []
-        library = in_process.library()
+        library = own_library.loaded()
         lead = lead_of(scenario)
         settings = live_settings.Settings(
-            Path("none"), format="sub-qcif", rate=Fraction(scenario.rate, scenario.second), wait=scenario.wait,
+            format="sub-qcif", rate=Fraction(scenario.rate, scenario.second), wait=scenario.wait,
             lead=lead, slots=live_settings.slots_for(lead, None),
         )
         self.tally, clock = Tally(), self.clock
@@ -63,7 +63,7 @@ class Call:
             clock, settings, Recorder(record, 0.0, {}), self.tally, self.said.append,  # type: ignore[arg-type]
             _counted(library, self.turns),
         )
-        self.end = session_receiving.SessionReceiving(self.context)
+        self.end = receiving.Receiving(self.context)
         self.end.on_feedback = self._feedback
         self._sender = library.Sender(library.Params.of("sub-qcif", slots=settings.slots, lead=lead, quant=31))
         self._draws, self._sequence = random.Random(5), 0
@@ -157,7 +157,7 @@ class SessionTest(unittest.TestCase):
 
     def test_another_format_or_clock_is_told(self) -> None:
         call = Call(Scenario("other", 30, seconds=1.0))
-        library = in_process.library()
+        library = own_library.loaded()
         with library.Sender(library.Params.of("qcif", clock=library.CLOCKS["custom"])) as sender:
             packet = sender.packets(sender.code(bytes(38_016)))[0]
         # From a sender on the network, which has an SSRC of its own.
@@ -168,18 +168,33 @@ class SessionTest(unittest.TestCase):
         self.assertEqual(call.tally.dropped, {"other format or clock": 3})
 
     def test_only_the_stream_that_is_followed_can_hang_up(self) -> None:
+        """Half a second after its last picture."""
         call, over = Call(Scenario("bye", 30, seconds=1.0)), list[float]()
         call.end.on_hung_up = lambda: over.append(call.clock.now())
         call.clock.at(0.5, lambda: call.end.bye(Bye(_SSRC + 1)))
         call.clock.at(0.9, lambda: call.end.bye(Bye(_SSRC)))
         call.run()
-        self.assertEqual((over, call.tally.dropped["other source"]), ([0.9], 1))
+        self.assertEqual(len(over), 1)
+        self.assertAlmostEqual(over[0], 29 / 30 + 0.03 + 0.5, delta=0.01)
+        self.assertEqual(call.tally.dropped["other source"], 1)
+
+    def test_a_forged_bye_ends_no_call(self) -> None:
+        """Nor does it lose a picture, while the stream goes on."""
+        call, over = Call(Scenario("bye", 30, seconds=6.0)), list[float]()
+        call.end.on_hung_up = lambda: over.append(call.clock.now())
+        for step in range(20):
+            call.clock.at(1.0 + step / 100, lambda: call.end.bye(Bye(_SSRC)))
+        call.run()
+        self.assertEqual((over, call.exact()), ([], 1.0))
 
     def test_what_is_left_is_played_at_the_end(self) -> None:
         """As many at once as are kept, with a look at the sockets between; then it is over."""
         call, over = Call(Scenario("end", 120, seconds=1.0, wait=0.4)), list[float]()
         call.end.on_over = lambda: over.append(call.clock.now())
         call.clock.at(1.03, call.end.end)
+        for when in (1.04, 2.0):  # what comes then counts no more
+            call.clock.at(when, lambda: call.end.bye(Bye(_SSRC)))
+            call.clock.at(when, lambda: call.end.packet(bytes(99)))
         call.run()
         self.assertEqual((len(over), call.exact()), (1, 1.0))
         self.assertEqual(call.tally.shown, 120)
@@ -193,37 +208,24 @@ class SessionTest(unittest.TestCase):
             call.run()
             call.context.recorder.finish({})
             facts = json.loads((Path(room) / "call" / "call.json").read_text())
+            facts |= {"format": "sub-qcif", "rate": str(call.context.settings.rate)}
             first, second = facts["recv"]
             self.assertEqual((first["joined"], first["source"], second["source"]), (0, _SSRC, _SSRC))
             self.assertEqual(second["joined"], second["first"] - 2)
             self.assertEqual(call.tally.begun_anew, 1)
-            plays = sum(self.played_again(Path(room) / "call", run, call) for run in (first, second))
+            plays = 0
+            for run in (first, second):
+                again = shown_again(Path(room) / "call", run, facts)
+                self.assertEqual(again, of_run(Path(room) / "call", run, ("video", "wire", "report")))
+                plays += len(again[2].splitlines()) - 1
             self.assertEqual(plays, call.tally.shown)
 
     def stranger(self, call: Call) -> bytes:
         """A packet of a picture that can't become complete, of another stream than the call's."""
-        library = in_process.library()
+        library = own_library.loaded()
         with library.Sender(library.Params.of("sub-qcif", quant=1)) as sender:
             packet = sender.packets(sender.code(_picture(4, 0)))[0]
         return rtp.renumbered(packet, 9, 9, _SSRC + 1)
-
-    def played_again(self, folder: Path, run: dict[str, Any], call: Call) -> int:
-        """Plays a log again: what is recorded of it is what that gives. Answers how many pictures it plays."""
-        library, settings = in_process.library(), call.context.settings
-        params = library.Params.of("sub-qcif", slots=settings.slots, lead=settings.lead)
-        video, wire, plays = [head_bytes(settings.size, settings.rate)], [], 0
-        with library.Receiver(params, run["joined"]) as receiver, open(folder / run["log"], "rb") as log:
-            for entry in logs.read_log(log, run["log"]):
-                if entry.letter == logs.PLAY:
-                    told = receiver.play()
-                    video.append(f"FRAME X{told.mark.upper()}\n".encode() + told.picture)
-                    plays += 1
-                else:
-                    told = receiver.packet(entry.body)
-                wire += [logs.entry_bytes(logs.MESSAGE, told.message)] if told.message else []
-        self.assertEqual((folder / run["video"]).read_bytes(), b"".join(video))
-        self.assertEqual((folder / run["wire"]).read_bytes(), b"".join(wire))
-        return plays
 
 
 if __name__ == "__main__":

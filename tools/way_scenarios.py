@@ -1,26 +1,13 @@
-"""Streams whose way to the receiver changes, in discrete time: what a rule about the times of plays has to bear.
-tools/timing_tests.py plays them by the rules in Python, tools/session_tests.py by the library's session."""
+"""Streams whose way to the receiver changes, in discrete time: what rules about the times of plays have to bear."""
 
-import random
-from collections import Counter
-from dataclasses import dataclass, field
-from typing import Callable, Iterator, Optional
+from dataclasses import dataclass
+from typing import Callable, Iterator
 
 CLOCK = 90_000
 # After a disturbance pictures are exact again within so many seconds, and at few a second from so many pictures on.
 SOON, FEW = 2.0, 2
 # When the disturbance comes.
 STEP = 10.0
-
-
-@dataclass(frozen=True)
-class Packet:
-    """A packet as it comes. `stamp` is in ticks of 90 kHz from the first picture's capture."""
-
-    when: float
-    picture: int
-    sequence: int
-    stamp: int
 
 
 @dataclass(frozen=True)
@@ -50,23 +37,6 @@ class Scenario:
         """From this picture on all are exact again."""
         first = round(STEP / self.period)
         return first + max(FEW, round(SOON / self.period))
-
-    def sent(self) -> Iterator[Packet]:
-        """All packets, in the order in which they go out."""
-        draws = random.Random(5)
-        for picture in range(int(self.seconds / self.period)):
-            captured = picture * self.period
-            stamp = round(captured * (1 + self.drift) * CLOCK)
-            for place in range(self.packets):
-                is_false = not place and picture == round(STEP / self.period)
-                when = captured + place * self.apart
-                said = stamp + (round(self.ahead * CLOCK) if is_false else 0)
-                if draws.random() >= self.loss:
-                    yield Packet(when + self.delay(when), picture, picture * self.packets + place, said)
-
-    def came(self) -> list[Packet]:
-        """All packets, in the order in which they come."""
-        return sorted(self.sent(), key=lambda packet: packet.when)
 
 
 def longer_by(more: float) -> Callable[[float], float]:
@@ -106,65 +76,6 @@ def scenarios() -> list[Scenario]:
     return found
 
 
-@dataclass
-class Screen:
-    """What a receiver shows: a picture is exact if it was heard whole before its play."""
-
-    scenario: Scenario
-    lead: int
-    played: int = 0
-    heard: Counter[int] = field(default_factory=Counter)
-    exact: set[int] = field(default_factory=set)
-
-    def hear(self, picture: int) -> None:
-        """A packet is heard, if it isn't late, nor early."""
-        if self.played <= picture <= self.played + self.lead:
-            self.heard[picture] += 1
-
-    def play(self) -> None:
-        """The next picture is played."""
-        if self.heard[self.played] == self.scenario.packets:
-            self.exact.add(self.played)
-        self.played += 1
-
-    def share(self, first: int = 0) -> float:
-        """Of the pictures from this one on of which all packets came, but for the last ones, the exact ones."""
-        came: Counter[int] = Counter(packet.picture for packet in self.scenario.sent())
-        end = max(came) - 2
-        all_of = self.scenario.packets
-        whole = [picture for picture, count in came.items() if first <= picture < end and count == all_of]
-        return len(self.exact.intersection(whole)) / len(whole)
-
-
 def lead_of(scenario: Scenario) -> int:
     """Pictures that may come before their play."""
     return min(62, int(scenario.wait / scenario.period) + 4)
-
-
-@dataclass(frozen=True)
-class Rules:
-    """The rules between network and receiver: `came` answers the packet's picture, or None where it has no place."""
-
-    came: Callable[[Packet], Optional[int]]
-    due: Callable[[int], Optional[float]]
-    played: Callable[[int], None]
-
-
-def shown_by(rules: Rules, scenario: Scenario) -> Screen:
-    """Plays each picture when it is due, and what is due by a packet's arrival before it is heard, up to its own."""
-    screen, now = Screen(scenario, lead_of(scenario)), 0.0
-
-    def play_until(time: float, is_due: Callable[[float, float], bool], before: Optional[int] = None) -> None:
-        while (due := rules.due(screen.played)) is not None and is_due(max(due, now), time) and screen.played != before:
-            rules.played(screen.played)
-            screen.play()
-
-    for packet in scenario.came():
-        play_until(packet.when, lambda due, time: due < time)
-        now = packet.when
-        picture = rules.came(packet)
-        if picture is not None:
-            play_until(now, lambda due, time: due <= time, picture)
-            screen.hear(picture)
-    play_until(float("inf"), lambda due, time: due < time)
-    return screen

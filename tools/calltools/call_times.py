@@ -16,7 +16,7 @@ class CallTimes:
     """A recorded stream, from its capture to the screen; times are by the receiver's clock. By
     picture: when it was captured, when its first packet went out, when it was shown, its mark and
     its reference. The bytes of all packets; when packets came, and of which picture; the rates of the line
-    that was followed, by picture; and the share of a processor that the bridges took, of which nobody knows in a call
+    that was followed, by picture; and the share of a processor that its process took, of which nobody knows in a call
     that was cut off."""
 
     name: str
@@ -159,7 +159,7 @@ def lines_of(call: CallTimes) -> list[str]:
         median = ordered[len(ordered) // 2]
         lines.append(f"line followed: {ordered[0]} to {ordered[-1]} kbit/s, median {median}, last {call.rates[-1]}")
     if call.processor is not None:
-        lines.append(f"bridges: {100 * call.processor:.1f} % of a processor")
+        lines.append(f"its process: {100 * call.processor:.1f} % of a processor")
     if not call.is_one_clock:
         lines.append("two clocks: put together so that the quickest packet and message take as long")
     for length, picture, mark in call.silences(0.5):

@@ -8,10 +8,10 @@ from types import ModuleType
 from typing import Any, Callable, Optional
 
 from .bad_network import BadNetwork
+from .call_context import CallContext
 from .call_network import CallNetwork, Lines
 from .cameras import camera_of
 from .errors import BadInput
-from .live_end import CallContext
 from .live_settings import Settings
 from .loop import Loop
 from .metrics import Metrics, MetricsServer
@@ -37,6 +37,7 @@ class Asked:
     """What a call is between: `other` is the other party's host and port, or None where the call
     is with itself over `network`. `camera` or `screen` is None where there is none."""
 
+    library: ModuleType
     settings: Settings
     at: Address
     other: Optional[Address]
@@ -46,7 +47,6 @@ class Asked:
     seconds: Optional[float] = None
     record: Optional[Path] = None
     is_quiet: bool = False
-    library: Optional[ModuleType] = None
     secure: Optional["Secure"] = None
     metrics: Optional[int] = None  # a port on loopback
 
@@ -78,7 +78,7 @@ class LiveCall:
             self._network = secure.network(self.loop)
         else:
             self._network = CallNetwork(self.loop, asked.at, asked.other, asked.network)
-        self._network.on_closed(lambda: self.end("the way to the other side has closed"))
+        self._network.on_closed(self._closed)
         ends = bool(asked.camera), bool(asked.screen)
         self._line = StatusLine(*ends)
         self._status = TerminalStatus(*ends, asked.settings.wait)
@@ -92,7 +92,6 @@ class LiveCall:
         self.parties = [Party(context, line) for line in self._network.lines]
         for party in self.parties:
             party.on_end, party.on_fault = self.end, self._failed
-        # What can be refused comes first, so that no program is started in vain.
         camera, screen = asked.camera, asked.screen
         self._camera = camera_of(self.loop, self._settings, camera) if camera else None
         self._screen = (
@@ -107,7 +106,7 @@ class LiveCall:
         return call_facts(self._settings, party, None)
 
     def _open(self) -> None:
-        # The other party is found, and then the programs start.
+        # The other party is found, and then the cameras and screens start.
         try:
             self._network.open(self.say)
         except BadInput:
@@ -144,6 +143,11 @@ class LiveCall:
         self._finish()
         if self.fault:
             raise self.fault
+
+    def _closed(self) -> None:
+        # A way that has to be held open closes when the other side ends.
+        leaves = any(party.receiving and party.receiving.is_leaving for party in self.parties)
+        self.end("the other side has hung up" if leaves else "the way to the other side has closed")
 
     def _interrupted(self) -> None:
         # The second one doesn't wait for the ends.

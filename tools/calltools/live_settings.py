@@ -3,11 +3,9 @@
 import math
 from dataclasses import dataclass
 from fractions import Fraction
-from pathlib import Path
 from typing import Optional
 
 from .errors import BadInput
-from .following import Bounds
 from .y4m import FORMATS, RATE, Size
 
 # The most pictures of a run of `send` (docs/FORMATS.md, "Y4M").
@@ -26,9 +24,8 @@ MOST_TARGET, FLOOR = 999_999, 30
 
 @dataclass(frozen=True)
 class Settings:
-    """A call's program, pictures and times. `wait` is in seconds."""
+    """A call's pictures and times. `wait` is in seconds."""
 
-    program: Path
     format: str = "qcif"
     rate: Fraction = RATE
     clock: str = "standard"
@@ -42,12 +39,13 @@ class Settings:
     most_pictures: int = MOST_PICTURES
     # Whether the target follows the line; it is the first one then.
     adapts: bool = False
+    # Whether what is lost is asked for again.
+    repairs: bool = True
 
     @property
-    def bounds(self) -> Bounds:
-        """The targets between which it follows."""
-        least = TARGETS[self.format] // FLOOR
-        return Bounds(self.target, least, MOST_TARGET, self.quant)
+    def least_target(self) -> int:
+        """What a target that follows the line comes to at the least."""
+        return TARGETS[self.format] // FLOOR
 
     @property
     def size(self) -> Size:
@@ -57,6 +55,12 @@ class Settings:
     def period(self) -> float:
         """The seconds of a picture."""
         return float(1 / self.rate)
+
+    @property
+    def repaired(self) -> float:
+        """So many seconds after the last picture that came, or is known to be complete, what is missing is repaired:
+        later a queue delays what comes, or the way was cut, and most would come too late."""
+        return self.wait + 2 * self.period
 
     def _shared(self) -> list[str]:
         return [f"--slots={self.slots}", f"--lead={self.lead}", f"--clock={self.clock}"]

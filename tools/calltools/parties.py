@@ -1,19 +1,19 @@
 """A party of a live call: its camera and its screen, and the ends between them and the network."""
 
 from dataclasses import replace
-from typing import Callable, Optional, Union
+from typing import Callable, Optional, Sequence
 
+from .call_context import CallContext
 from .call_network import Line
 from .cameras import Camera
 from .errors import BadInput
-from .live_end import CallContext
+from .header_messages import Outgoing
 from .receiving import Receiving
 from .reporting import Reporting
 from .reports import Report, is_description, rate_in, read_report
-from .rtcp import Bye, Feedback, bye_bytes, feedback_bytes, packets_of, read_rtcp
+from .rtcp import Bye, Feedback, Missing, bye_bytes, feedback_bytes, missing_bytes, packets_of, read_rtcp
 from .screens import Screen
 from .sending import Sending
-from .session_receiving import SessionReceiving, receiving_end
 from .y4m import Frame
 
 # How often the end of a stream is said, since a datagram may be lost.
@@ -33,7 +33,8 @@ class Party:
         self.camera: Optional[Camera] = None
         self.screen: Optional[Screen] = None
         self.sending: Optional[Sending] = None
-        self.receiving: Union[Receiving, SessionReceiving, None] = None
+        self.receiving: Optional[Receiving] = None
+        self._outgoing: Optional[Outgoing] = None
         self.on_end: Callable[[str], None] = lambda _: None
         self.on_fault: Callable[[BadInput], None] = lambda _: None
         self._left = 0
@@ -42,21 +43,33 @@ class Party:
         """What the party sends."""
         sending = Sending(self._context)
         sending.on_packet = self._send
+        sending.on_repeat = self._line.media.send
         sending.on_over = self._over
-        sending.on_fault = self._fault
         camera.on_frame, camera.on_end, camera.on_fault = sending.frame, self._end, self._fault
         self.camera, self.sending = camera, sending
+        self._join_ways()
 
     def add_screen(self, screen: Screen) -> None:
         """What shows what the other party sends."""
-        receiving = receiving_end(self._context)
+        receiving = Receiving(self._context)
         receiving.on_frame = self._show
         receiving.on_feedback = self._feedback
+        receiving.on_missing = self._missing
+        receiving.reported = lambda: self.reporting.round_trip
         receiving.on_over = self._over
         receiving.on_hung_up = self._hung_up
-        receiving.on_fault = self._fault
         screen.on_gone, screen.on_fault = self._gone, self._fault
         self.screen, self.receiving = screen, receiving
+        self._join_ways()
+
+    def _join_ways(self) -> None:
+        # Where both sides send, messages go in the headers of pictures.
+        sending, receiving = self.sending, self.receiving
+        if not sending or not receiving:
+            return
+        own: Sending = sending
+        self._outgoing = Outgoing(self._context.loop, self._say, lambda: own.next_capture)
+        own.waiting, receiving.on_messages = self._outgoing.take, self._headed
 
     def stop_camera(self) -> None:
         """No more pictures, and the other party is told."""
@@ -109,9 +122,29 @@ class Party:
             self.reporting.came(header)
 
     def _feedback(self, feedback: Feedback) -> None:
+        # A header says nothing of the stream that a message is about: it is the one that is followed.
+        if self._outgoing and self.receiving and feedback.about == self.receiving.source:
+            self._outgoing.say(feedback.message)
+        else:
+            self._send_feedback(feedback)
+
+    def _say(self, message: bytes) -> None:
+        if self.receiving and self.receiving.source is not None:
+            self._send_feedback(Feedback(0, self.receiving.source, message))
+
+    def _send_feedback(self, feedback: Feedback) -> None:
         # Reports and messages of a party are of one speaker.
         own = replace(feedback, speaker=self.reporting.source)
         self._line.control.send(feedback_bytes(own))
+
+    def _missing(self, missing: Missing) -> None:
+        self._line.control.send(missing_bytes(replace(missing, speaker=self.reporting.source)))
+
+    def _headed(self, messages: Sequence[bytes]) -> None:
+        # A packet of the other side's had messages in its header, so it reads them there.
+        if messages and self._outgoing and self.sending:
+            self._outgoing.is_read = True
+            self.sending.headed(messages)
 
     def _rtcp(self, data: bytes) -> None:
         packets = packets_of(data)
@@ -127,6 +160,8 @@ class Party:
             self.reporting.heard(known, self.receiving.source if self.receiving else None)
         elif isinstance(known, Feedback) and self.sending:
             self.sending.feedback(known)
+        elif isinstance(known, Missing) and self.sending:
+            self.sending.missing(known)
         elif isinstance(known, Bye) and self.receiving:
             self.receiving.bye(known)
         elif known:

@@ -131,14 +131,3 @@ class Cutter:
             part = bytes(self._bytes[:size])
             del self._bytes[:size]
             yield part
-
-
-def line_size(data: bytearray) -> Optional[int]:
-    """The length of a line with its newline."""
-    end = data.find(b"\n")
-    return None if end < 0 else end + 1
-
-
-def entry_size(data: bytearray) -> Optional[int]:
-    """The length of a log's entry (docs/FORMATS.md, "Log")."""
-    return None if len(data) < 3 else 3 + int.from_bytes(data[1:3], "big")

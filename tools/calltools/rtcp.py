@@ -1,17 +1,21 @@
 """Back-channel messages on the network, and the end of a stream: packets of RTCP.
 
 A message goes as a Reference Picture Selection Indication (RFC 4585, 6.3.3), whose native bit
-string it is; it carries the SSRC of the stream that it is about. A stream's end is a BYE
-(RFC 3550, 6.6). Each goes as a datagram by itself (RFC 5506); what comes in may be a compound."""
+string it is; it carries the SSRC of the stream that it is about. Packets are asked for again by a
+Generic NACK (6.2.1). A stream's end is a BYE (RFC 3550, 6.6). Each goes as a datagram by itself
+(RFC 5506); what comes in may be a compound."""
 
 import struct
 from dataclasses import dataclass
-from typing import Optional, Union
+from typing import Iterator, Optional, Union
 
 from .rtp import PAYLOAD_TYPE
 
 _VERSION = 0x80
 _RPSI, _PAYLOAD_FEEDBACK, _BYE = 3, 206, 203
+_NACK, _TRANSPORT_FEEDBACK = 1, 205
+# A NACK's mask is of so many packets, and of more fields than these none is looked at.
+_MASK, _MOST_FIELDS = 16, 16
 # Bytes of a message: version 1, version 2 (docs/FORMATS.md, "Back-channel message").
 MESSAGE_BYTES = (3, 5)
 # Of a datagram with more packets than this, none is looked at: a report has two or three.
@@ -25,6 +29,23 @@ class Feedback:
     speaker: int
     about: int
     message: bytes
+
+
+@dataclass(frozen=True)
+class Missing:
+    """Packets of a stream that a speaker lacks: sequence numbers (PID), each with a mask of those after it (BLP)."""
+
+    speaker: int
+    about: int
+    fields: tuple[tuple[int, int], ...]
+
+    def sequences(self) -> Iterator[int]:
+        """The sequence numbers."""
+        for packet, following in self.fields:
+            yield packet
+            for place in range(_MASK):
+                if following >> place & 1:
+                    yield (packet + 1 + place) & 0xFFFF
 
 
 @dataclass(frozen=True)
@@ -52,6 +73,19 @@ def feedback_bytes(feedback: Feedback) -> bytes:
     return head + feedback.message + bytes(padding)
 
 
+def missing_bytes(missing: Missing) -> bytes:
+    """The packet that asks for packets again."""
+    head = struct.pack(
+        ">BBHII",
+        _VERSION | _NACK,
+        _TRANSPORT_FEEDBACK,
+        2 + len(missing.fields),
+        missing.speaker,
+        missing.about,
+    )
+    return head + b"".join(struct.pack(">HH", *field) for field in missing.fields)
+
+
 def bye_bytes(source: int) -> bytes:
     """The packet that ends a stream."""
     return struct.pack(">BBHI", _VERSION | 1, _BYE, 1, source)
@@ -75,14 +109,28 @@ def packets_of(datagram: bytes) -> list[bytes]:
     return packets if at == len(datagram) else []
 
 
-def read_rtcp(data: bytes) -> Optional[Union[Feedback, Bye]]:
-    """The packet's message or end, or None where it is neither, or isn't whole."""
+def read_rtcp(data: bytes) -> Optional[Union[Feedback, Missing, Bye]]:
+    """The packet's message, what it asks for, or the end that it tells; None where it is none of these, or isn't
+    whole."""
     if len(data) < 8 or len(data) != 4 + 4 * int.from_bytes(data[2:4], "big"):
         return None
-    if data[0] == _VERSION | 1 and data[1] == _BYE and len(data) == 8:
+    kind = (data[0], data[1])
+    if kind == (_VERSION | 1, _BYE) and len(data) == 8:
         return Bye(int.from_bytes(data[4:8], "big"))
-    if data[0] != _VERSION | _RPSI or data[1] != _PAYLOAD_FEEDBACK or len(data) < 16:
+    if len(data) < 16:
         return None
+    if kind == (_VERSION | _NACK, _TRANSPORT_FEEDBACK):
+        return _read_missing(data)
+    return _read_feedback(data) if kind == (_VERSION | _RPSI, _PAYLOAD_FEEDBACK) else None
+
+
+def _read_missing(data: bytes) -> Missing:
+    speaker, about = struct.unpack(">II", data[4:12])
+    fields = struct.iter_unpack(">HH", data[12 : 12 + 4 * _MOST_FIELDS])
+    return Missing(speaker, about, tuple((packet, following) for packet, following in fields))
+
+
+def _read_feedback(data: bytes) -> Optional[Feedback]:
     speaker, about, padding, kind = struct.unpack(">IIBB", data[4:14])
     message = data[14 : len(data) - padding // 8]
     if padding % 8 or padding >= 32 or kind != PAYLOAD_TYPE or len(message) not in MESSAGE_BYTES:

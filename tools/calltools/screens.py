@@ -9,13 +9,14 @@ from . import ffmpeg
 from .errors import BadInput
 from .live_settings import Settings
 from .loop import Call, Loop
-from .piped import PATIENCE, end_process
 from .pipes import Feed, widen
 from .y4m import Frame, head_bytes
 
 WINDOW = "window"
 # How many frames may wait before a window, and before a program that writes a file.
 _WINDOW_AHEAD, _FILE_AHEAD = 3, 300
+# How long a program may take to end, in seconds.
+_PATIENCE = 5.0
 # One of them tells a window where to be.
 _DISPLAYS = ("DISPLAY", "WAYLAND_DISPLAY", "SDL_VIDEODRIVER")
 
@@ -33,6 +34,16 @@ class Screen:
 
     def finish(self) -> None:
         """No more frames."""
+
+
+def _end(process: "subprocess.Popen[bytes]") -> None:
+    # Asks a program to end, and then ends it.
+    process.terminate()
+    try:
+        process.wait(_PATIENCE)
+    except subprocess.TimeoutExpired:
+        process.kill()
+        process.wait()
 
 
 def _frame_bytes(frame: Frame) -> bytes:
@@ -100,21 +111,21 @@ class PipeScreen(Screen):
         self._feed.put(_frame_bytes(frame))
 
     def finish(self) -> None:
-        self._feed.drain(PATIENCE)
+        self._feed.drain(_PATIENCE)
         if not self._process:
             return
         try:
-            self._process.wait(PATIENCE)
+            self._process.wait(_PATIENCE)
         except subprocess.TimeoutExpired:
-            end_process(self._process)
+            _end(self._process)
 
     def _broke(self) -> None:
         status = 0
         if self._process:
             try:
-                status = self._process.wait(PATIENCE)
+                status = self._process.wait(_PATIENCE)
             except subprocess.TimeoutExpired:
-                end_process(self._process)
+                _end(self._process)
         if status:
             self.on_fault(BadInput(self._name, "the screen", f"it ended with status {status}"))
         else:

@@ -1,12 +1,12 @@
 """The record of a session: each run of a stream as a run of `recv`, with its log and what that gives."""
 
+from collections import Counter
 from collections.abc import Iterable
 from dataclasses import dataclass
 from typing import Any, Optional
 
 from . import logs
-from .in_process import RecvInProcess
-from .live_end import CallContext
+from .call_context import CallContext
 from .picture_start import picture_start
 from .rtp import OWN_SOURCE, with_source
 from .y4m import head_bytes
@@ -17,7 +17,7 @@ _MOST_HELD = 8 << 20
 
 @dataclass(frozen=True)
 class _Packet:
-    entry: bytes
+    data: bytes
     when: float
     is_late: bool
     reference: int
@@ -31,19 +31,17 @@ class _Run:
         self.next = number
         self._loop = context.loop
         settings, library = context.settings, context.library
-        assert library
+        clock = library.CLOCKS[settings.clock]
+        words = {"slots": settings.slots, "lead": settings.lead, "messages": settings.messages, "clock": clock}
         facts: dict[str, object] = {
-            "options": settings.recv_options(), "source": source, "joined": number, "first": first
+            "options": settings.recv_options(),
+            "source": source,
+            "joined": number,
+            "first": first,
         }
         self._record = context.recorder.run("recv", facts, is_kept=False)
-        program = RecvInProcess(context.loop, settings, library)
-        log, out, wire = program.files
-        self._log = program.feed(log)
-        program.source(out, self._shown)
-        program.entries(wire, self._said)
-        program.lines(lambda line: self._record.write("report", line))
-        program.begin_at(number)
-        self._is_headed = False
+        self._receiver = library.Receiver(library.Params.of(settings.format, **words), number)
+        self._counts = Counter(played=number, held=number)
         self._head = head_bytes(settings.size, settings.rate)
         self._is_kept = False
 
@@ -57,25 +55,48 @@ class _Run:
             self._is_kept = True
             self._record.keep()
 
-    def put(self, entry: bytes, when: float) -> None:
+    def heard(self, packet: bytes, when: float) -> None:
+        """A packet was heard."""
         if self._is_left_out:
             return
-        self._record.mark("log", when)
-        self._record.write("log", entry)
-        self._log.put(entry)
+        self._log(logs.PACKET, packet, when)
+        heard = self._receiver.packet(packet)
+        # A packet that completes its picture is taken, too.
+        self._counts["taken" if heard.kind == "completed" else heard.kind] += 1
+        self._said(heard.message)
+
+    def play(self, when: float) -> None:
+        """The next picture was played."""
+        if self._is_left_out:
+            return
+        self._log(logs.PLAY, b"", when)
+        # Lent until the next call of the receiver: what is written is the only copy.
+        played = self._receiver.play_lent()
+        number = self._counts["played"]
+        self._counts.update(("played", played.mark))
+        self._record.write("video", self._head + f"FRAME X{played.mark.upper()}\n".encode() + played.picture)
+        self._head = b""
+        self._record.mark("video", self._loop.now())
+        self._said(played.message)
+        self._record.write("report", f"{number} {played.mark}\n".encode())
 
     def end(self) -> None:
-        self._log.end()
+        """No more of it."""
+        if not self._is_left_out:
+            words = ("played", "exact", "patched", "held", "taken", "late", "early", "repeat", "refused")
+            told = " ".join(f"{word} {self._counts[word]}" for word in words)
+            self._record.write("report", f"{told}\n".encode())
+        self._receiver.close()
         self._record.close()
 
-    def _shown(self, data: bytes) -> None:
-        self._record.write("video", data)
-        if data.startswith(b"FRAME"):
-            self._record.mark("video", self._loop.now())
+    def _log(self, letter: str, body: bytes, when: float) -> None:
+        self._record.mark("log", when)
+        self._record.write("log", logs.entry_bytes(letter, body))
 
-    def _said(self, entry: bytes) -> None:
-        self._record.mark("wire", self._loop.now())
-        self._record.write("wire", entry)
+    def _said(self, message: bytes) -> None:
+        if message:
+            self._record.mark("wire", self._loop.now())
+            self._record.write("wire", logs.entry_bytes(logs.MESSAGE, message))
 
 
 class _Stream:
@@ -97,7 +118,7 @@ class _Stream:
         self._write(self._waiting)
         self._waiting = []
         if self._run:
-            self._run.put(logs.entry_bytes(logs.PLAY), when)
+            self._run.play(when)
             self._run.next = number + 1
 
     def follow(self) -> None:
@@ -126,7 +147,7 @@ class _Stream:
     def _write(self, packets: Iterable[_Packet]) -> None:
         if self._run:
             for packet in packets:
-                self._run.put(packet.entry, packet.when)
+                self._run.heard(packet.data, packet.when)
 
 
 class SessionRecord:
@@ -142,8 +163,7 @@ class SessionRecord:
         start = picture_start(packet)
         if source not in self._streams:
             self._streams[source] = _Stream(self._context, source)
-        entry = logs.entry_bytes(logs.PACKET, packet)
-        self._streams[source].heard(_Packet(entry, when, kind == "late", start.reference if start else -1))
+        self._streams[source].heard(_Packet(packet, when, kind == "late", start.reference if start else -1))
 
     def played(self, source: int, number: int, when: float) -> None:
         """The run of this stream played the picture of this number."""

@@ -24,6 +24,8 @@ class Tally:
     packets_in: int = 0
     messages_out: int = 0
     messages_in: int = 0
+    asked: int = 0  # packets that this side asked for again, and that it sent again
+    repeated: int = 0
     bytes_out: int = 0
     bytes_in: int = 0
     marks: Counter[str] = field(default_factory=Counter)
@@ -114,6 +116,8 @@ def counts(tally: Tally, has_camera: bool, has_screen: bool) -> list[str]:
             f"shown {tally.shown} pictures {marks} packets {tally.packets_in} messages out "
             f"{tally.messages_out} left out {tally.unshown}"
         )
+    if tally.asked or tally.repeated:
+        lines.append(f"repair: asked for {tally.asked} packets, sent {tally.repeated} again")
     why = " ".join(f"{cause} {number}" for cause, number in sorted(tally.dropped.items()) if number)
     lines.append(f"dropped datagrams {why or 'none'}; ends begun anew {tally.begun_anew}")
     return lines
