@@ -8,7 +8,7 @@ from typing import Any, Optional, Protocol, Sequence, Union
 
 from ..y4m import Size
 from .coders import squares
-from .network import MILLISECOND, PER, RATE, Cover, Message, Network, Packet, Parity, Recovery, capture_of
+from .network import CODING, MILLISECOND, PER, RATE, Cover, Message, Network, Packet, Parity, Recovery, capture_of
 
 # Pictures that are sent after the last one that counts, so that each loss has something after it.
 AFTER = 12
@@ -116,13 +116,13 @@ class Call:
 
     def _capture(self, number: int, now: int) -> None:
         for packet in self._sender.code(number, self._pictures[number], now):
-            self._send(packet, now)
+            self._send(packet, now + CODING)
             parity = self._cover.after(packet)
             if parity:
-                self._send(parity, now)
+                self._send(parity, now + CODING)
 
     def _send(self, packet: Union[Packet, Parity], now: int) -> None:
-        if now < self._end:
+        if now < self._end + CODING:
             self._forward += packet.size
         if not self._there.is_lost():
             self._at(now + self._network.round_trip // 2, "arrival", packet)

@@ -15,6 +15,10 @@ UNDER_RTP, RTP_HEADER = 28, 12
 LIMIT = 1_400
 
 
+# From a picture's capture until its packets go out.
+CODING = 5 * MILLISECOND
+
+
 def capture_of(number: int) -> int:
     """When a picture is captured."""
     return number * PER * SECOND // RATE
@@ -32,7 +36,7 @@ class Network:
 
     def due_of(self, number: int) -> int:
         """When a picture is to be on the screen."""
-        return capture_of(number) + self.round_trip // 2 + self.wait
+        return capture_of(number) + CODING + self.round_trip // 2 + self.wait
 
     def losses(self, draw: int, direction: int) -> loss.Losses:
         """The losses of a direction, in the order in which packets are sent."""

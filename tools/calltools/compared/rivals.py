@@ -2,7 +2,7 @@
 lost is repaired."""
 
 from dataclasses import dataclass
-from typing import Optional, Protocol
+from typing import Callable, Optional, Protocol
 
 from ..y4m import Size
 from .coders import Decoder, Encoder
@@ -31,7 +31,7 @@ VP8 = Kind(
     "vp8",
     1.0,
     "deadline=realtime;cpu-used=-4;lag-in-frames=0;undershoot-pct=100;overshoot-pct=15;static-thresh=1;max-intra-rate=450;"
-    "qmin=2;qmax=56",
+    "qmin=2;qmax=63",
 )
 H264 = Kind(
     "libx264",
@@ -224,6 +224,40 @@ class _Shown:
         return self._network.due_of(self._next)
 
 
+class Missing:
+    """Sequence numbers of packets that haven't come: since when, and when they were last asked for."""
+
+    def __init__(self, network: Network) -> None:
+        self._network = network
+        self._times: dict[int, tuple[int, int]] = {}
+        self.top = -1
+
+    def came(self, sequence: int, now: int) -> None:
+        for before in range(self.top + 1, sequence):
+            self._times[before] = now, -SECOND
+        self.top = max(self.top, sequence)
+        self._times.pop(sequence, None)
+
+    def forgotten(self) -> bool:
+        """Whether there were any: there are none any more."""
+        found = bool(self._times)
+        self._times.clear()
+        return found
+
+    def given_up(self, now: int) -> bool:
+        """Whether there were any that are missing for too long: they are forgotten."""
+        before = len(self._times)
+        self._times = {sequence: times for sequence, times in self._times.items() if now - times[0] <= _GIVE_UP}
+        return len(self._times) < before
+
+    def asked(self, now: int, is_wanted: Callable[[int], bool]) -> list[Message]:
+        """What asks for those that are wanted, each once in a round trip."""
+        patience = self._network.round_trip + _PATIENCE
+        again = [one for one, (_, asked) in self._times.items() if now - asked >= patience and is_wanted(one)]
+        self._times.update((one, (self._times[one][0], now)) for one in again)
+        return [not_there(again)] if again else []
+
+
 class ChainReceiver:
     """Each picture is predicted from the one before: a picture is decoded when it is whole and that one was, or when it is a
     key picture. What is lost is asked for again, or a key picture is."""
@@ -236,9 +270,7 @@ class ChainReceiver:
         self._parts: dict[int, dict[int, Packet]] = {}
         self._next = 0
         self._is_broken = False
-        self._top = -1
-        # Packets that are missing: since when, and when they were last asked for.
-        self._missing: dict[int, tuple[int, int]] = {}
+        self._missing = Missing(network)
         self._asked = -SECOND
 
     @property
@@ -246,12 +278,8 @@ class ChainReceiver:
         return self._shown.screen
 
     def take(self, packet: Packet, now: int) -> list[Message]:
-        for sequence in range(self._top + 1, packet.sequence):
-            self._missing[sequence] = now, -SECOND
-        self._top = max(self._top, packet.sequence)
-        self._missing.pop(packet.sequence, None)
-        if self._missing and not self._repairs:
-            self._missing.clear()
+        self._missing.came(packet.sequence, now)
+        if not self._repairs and self._missing.forgotten():
             self._is_broken = True
         if packet.picture >= self._next:
             self._parts.setdefault(packet.picture, {})[packet.place] = packet
@@ -285,24 +313,17 @@ class ChainReceiver:
         return max((number for number in whole if self._parts[number][0].is_key), default=None)
 
     def _ask(self, now: int) -> list[Message]:
-        lost = [sequence for sequence, (since, _) in self._missing.items() if now - since > _GIVE_UP]
-        for sequence in lost:
-            del self._missing[sequence]
+        if self._missing.given_up(now):
             self._is_broken = True
-        messages = []
+        messages = self._missing.asked(now, self._is_to_be_asked)
         if self._is_broken and now - self._asked > self._network.round_trip + 4 * _PATIENCE:
             self._asked = now
             messages.append(loss_of_picture())
-        again = [sequence for sequence, times in self._missing.items() if self._is_to_be_asked(sequence, times[1], now)]
-        if again:
-            self._missing.update((sequence, (self._missing[sequence][0], now)) for sequence in again)
-            messages.append(not_there(again))
         return messages
 
-    def _is_to_be_asked(self, sequence: int, asked: int, now: int) -> bool:
+    def _is_to_be_asked(self, sequence: int) -> bool:
         # What parity may still bring isn't asked for: that of its group comes before the next group's first packet.
-        is_late = self._every == 1 or self._top // self._every > sequence // self._every
-        return is_late and now - asked >= self._network.round_trip + _PATIENCE
+        return self._every == 1 or self._missing.top // self._every > sequence // self._every
 
 
 class AcknowledgingSender(RivalSender):
@@ -329,7 +350,7 @@ class AcknowledgingSender(RivalSender):
         for name in BUFFERS:
             flags |= 0 if name == self._from else _NO_REFERENCE[name]
             flags |= _FORCED[name] if name == put else _NO_UPDATE[name]
-        told = self._holds[self._from], put
+        told = self._holds[self._from], self._from, put
         coded = self._coder.code(picture, False, flags)
         if put:
             self._holds[put], self._waiting[number] = number, (put, now)
@@ -340,7 +361,7 @@ class AcknowledgingSender(RivalSender):
         self._holds = dict.fromkeys(BUFFERS, number)
         self._waiting = {number: ("golden", now)}
         self._from, self._since = "golden", now
-        return self._sent(number, coded, (None, "golden"), now)
+        return self._sent(number, coded, (None, "golden", None), now)
 
     def _place(self, now: int) -> Optional[str]:
         """The buffer that takes this picture: candidates are spread over the round trip."""
@@ -350,8 +371,10 @@ class AcknowledgingSender(RivalSender):
         return free[0] if free and now - newest >= self._network.round_trip // 2 - _PATIENCE else None
 
     def hear(self, message: Message, now: int) -> list[Packet]:
+        if message.kind == "nack":
+            return super().hear(message, now)
         number = message.about
-        if message.kind == "selection" and number in self._waiting:
+        if number in self._waiting:
             name, _ = self._waiting[number]
             if self._holds[name] == number:
                 self._from, self._since = name, None
@@ -361,38 +384,56 @@ class AcknowledgingSender(RivalSender):
 
 
 class AcknowledgingReceiver:
-    """Decodes each whole picture whose reference it has, and acknowledges those that a buffer keeps."""
+    """Decodes each whole picture whose reference its buffers have, and acknowledges those that a buffer keeps. Packets are
+    asked for again until the first picture is there."""
 
     def __init__(self, kind: Kind, size: Size, network: Network) -> None:
         self._decoder = Decoder(kind.decoder, size)
         self._shown = _Shown(size, network)
+        self._missing = Missing(network)
         self._parts: dict[int, dict[int, Packet]] = {}
-        self._decoded = -1
-        self._kept: set[int] = set()
+        self._holds: dict[str, int] = {}
+        self._newest = 0
 
     @property
     def screen(self) -> bytes:
         return self._shown.screen
 
     def take(self, packet: Packet, now: int) -> list[Message]:
-        if packet.picture <= self._decoded:
-            return []
-        parts = self._parts.setdefault(packet.picture, {})
-        parts[packet.place] = packet
-        reference, put = packet.told
-        if len(parts) < packet.count or not (packet.is_key or reference in self._kept):
-            return []
-        self._shown.has(packet.picture, self._decoder.decode(b"".join(parts[place].data for place in sorted(parts))))
-        self._decoded = packet.picture
-        self._parts = {number: rest for number, rest in self._parts.items() if number > packet.picture}
-        if not put:
-            return []
-        self._kept.add(packet.picture)
-        return [selection(packet.picture)]
+        self._missing.came(packet.sequence, now)
+        self._newest = max(self._newest, packet.picture)
+        self._parts.setdefault(packet.picture, {})[packet.place] = packet
+        messages = []
+        for number in sorted(self._parts):
+            parts = self._parts[number]
+            if len(parts) == parts[next(iter(parts))].count and self._can(parts[0]):
+                messages += self._decode(number, self._parts.pop(number))
+        self._parts = {number: parts for number, parts in self._parts.items() if number > self._newest - 40}
+        return messages + self._ask(now)
+
+    def _can(self, packet: Packet) -> bool:
+        # A buffer that has something newer by now isn't overwritten.
+        reference, source, put = packet.told
+        if packet.is_key:
+            return packet.picture > max(self._holds.values(), default=-1)
+        return self._holds.get(source) == reference and (not put or self._holds[put] < packet.picture)
+
+    def _decode(self, number: int, parts: dict[int, Packet]) -> list[Message]:
+        _, _, put = parts[0].told
+        self._shown.has(number, self._decoder.decode(b"".join(parts[place].data for place in sorted(parts))))
+        if parts[0].is_key:
+            self._holds = dict.fromkeys(BUFFERS, number)
+        elif put:
+            self._holds[put] = number
+        return [selection(number)] if put or parts[0].is_key else []
+
+    def _ask(self, now: int) -> list[Message]:
+        self._missing.given_up(now)
+        return [] if self._holds else self._missing.asked(now, lambda _: True)
 
     def wake(self, now: int) -> list[Message]:
         self._shown.play(now)
-        return []
+        return self._ask(now)
 
     def due(self, now: int) -> Optional[int]:
         return self._shown.due()
