@@ -25,6 +25,8 @@ NETWORKS = ((50, 100, _SOME, 2), (100, 100, _ALL, 5), (300, 100, _SOME, 2), (100
 PARITY = (2, 4, 8)
 # How near a call's rate must be to what it is to have, and how often that is tried.
 _NEAR, _TRIES = 0.02, 4
+# Of the rate on the wire, what a coder is asked for at first.
+_FIRST = 0.85
 
 
 @dataclass(frozen=True)
@@ -61,7 +63,6 @@ class Plan:
     room: Path
     library: Path
     pictures: int
-    quant: int
     radius: int
     schemes: tuple[Scheme, ...] = SCHEMES
 
@@ -124,29 +125,33 @@ def rows_of(job: Job) -> tuple[Job, list[Row], float]:
     coders.use(job.plan.library)
     rows = []
     for every in PARITY if job.scheme.has_parity else (0,):
-        asked = 0.75 * RATES[job.form]
+        first = asked = round(_FIRST * RATES[job.form] * (every or 1) / (every + 1 if every else 1))
         for network, draws in networks():
             found = list(_calls(job, network, draws, every, asked))
-            asked = found[0].asked
+            asked = found[0].asked if _off(found[0]) <= 2 * _NEAR else first
             rows += found
     return job, rows, time.process_time() - began
 
 
+def _off(row: Row) -> float:
+    """How far off its rate a call is."""
+    return abs(1_000 * (row.packets + row.messages) / RATES[row.form] - 1)
+
+
 def _calls(job: Job, network: Network, draws: int, every: int, asked: float) -> Iterator[Row]:
     """The draws of a network: the first finds the rate that is asked of the coder."""
-    wanted, best = RATES[job.form] / 1_000, None
-    for _ in range(_TRIES):
-        row = _row(job, Line(network, 1, every or None), round(asked / 500) * 500)
-        off = abs((row.packets + row.messages) / wanted - 1)
-        if best is None or off < best[0]:
-            best = off, row
-        if off <= _NEAR:
+    tried: list[Row] = []
+    while len(tried) < _TRIES:
+        tried.append(_row(job, Line(network, 1, every or None), round(asked / 500) * 500))
+        if _off(tried[-1]) <= _NEAR or len(tried) > 1 and tried[-1].packets > 0.97 * tried[-2].packets > RATES[job.form] / 1_000:
+            # It has its rate, or its coarsest pictures have more.
             break
-        asked = row.asked * min(max((wanted - row.messages) / row.packets, 0.5), 2)
-    assert best
-    yield best[1]
+        wanted = RATES[job.form] / 1_000 - tried[-1].messages
+        asked = tried[-1].asked * min(max(wanted / tried[-1].packets, 0.5), 2)
+    best = min(tried, key=_off)
+    yield best
     for draw in range(2, draws + 1):
-        yield _row(job, Line(network, draw, every or None), best[1].asked)
+        yield _row(job, Line(network, draw, every or None), best.asked)
 
 
 def _row(job: Job, line: Line, asked: int) -> Row:
@@ -163,7 +168,7 @@ def _ends(job: Job, line: Line, asked: int, video: Video) -> tuple[Sender, Recei
     network, size, repair = line.network, video.size, job.scheme.repair
     if job.scheme.coder == "ours":
         lib = in_process.library()
-        ours = Ours(job.form, asked * PER // (8 * RATE), job.plan.quant, job.plan.radius, repair == "nack")
+        ours = Ours(job.form, asked * PER // (8 * RATE), job.plan.radius, repair == "nack")
         return OurSender(lib, ours), OurReceiver(lib, ours, network.round_trip, network.wait)
     kind = VP8 if job.scheme.coder == "vp8" else H264
     if repair == "acknowledged":

@@ -10,16 +10,17 @@ from .network import LIMIT, PER, RATE, UNDER_RTP, Message, Packet, not_there, se
 SLOTS, LEAD = 39, 6
 # Packets that the sender keeps to send again.
 _KEPT = 512
+# The pace's room, in targets.
+_ROOM = 30
 
 
 @dataclass(frozen=True)
 class Ours:
-    """How the two ends are set: the format, the target in bytes a picture, the first and finest quantiser, the search's
-    radius, and whether packets are asked for again."""
+    """How the two ends are set: the format, the target in bytes a picture, the search's radius, and whether packets are
+    asked for again."""
 
     format: str
     target: int
-    quant: int = 2
     radius: int = 7
     repairs: bool = False
 
@@ -27,18 +28,17 @@ class Ours:
 class OurSender:
     def __init__(self, lib: ModuleType, asked: Ours) -> None:
         limits = {"slots": SLOTS, "lead": LEAD}
-        words = {"target": asked.target, "quant": asked.quant, "radius": asked.radius, "limit": LIMIT}
-        self._end = lib.Sender(lib.Params.of(asked.format, **words, **limits))
+        self._end = lib.Sender(lib.Params.of(asked.format, radius=asked.radius, limit=LIMIT, **limits))
+        self._pace = lib.Pace(asked.format, target=asked.target, room=_ROOM * asked.target)
         self._beside = lib.Receiver(lib.Params.of(asked.format, **limits))
         self._references: dict[int, bytes] = {}
         self._kept: dict[int, Packet] = {}
-        self.distances: list[int] = []
 
     def code(self, number: int, picture: bytes, now: int) -> list[Packet]:
+        quant = self._pace.next(self._end)
         coded = self._end.code(picture)
-        if coded.reference is not None:
-            self.distances.append(coded.number - coded.reference)
         packets = self._end.packets(coded)
+        self._pace.coded(coded, quant, sum(map(len, packets)))
         for data in packets:
             self._beside.packet(data)
         played = self._beside.play()
