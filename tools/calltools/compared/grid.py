@@ -65,6 +65,7 @@ class Plan:
     pictures: int
     radius: int
     schemes: tuple[Scheme, ...] = SCHEMES
+    forms: tuple[str, ...] = tuple(RATES)
 
 
 @dataclass(frozen=True)
@@ -111,11 +112,11 @@ def networks() -> Iterator[tuple[Network, int]]:
 
 def run(plan: Plan, processes: int, told: Callable[[str], None]) -> Iterator[Row]:
     """Runs all calls on so many processes."""
-    jobs = [Job(plan, form, content, scheme) for form in RATES for content in videos.CONTENTS for scheme in plan.schemes]
+    jobs = [Job(plan, form, content, scheme) for form in plan.forms for content in videos.CONTENTS for scheme in plan.schemes]
     jobs.sort(key=lambda job: -job.cost)
     with multiprocessing.Pool(processes) as pool:
         for job, rows, seconds in pool.imap_unordered(rows_of, jobs):
-            told(f"{job.form} {job.content} {job.scheme.name}: {len(rows)} calls, {seconds:.0f} s")
+            told(f"{job.form} {job.content} {job.scheme.name}: {len(rows)} calls, {seconds:.0f} s of a processor")
             yield from rows
 
 

@@ -11,7 +11,7 @@ SLOTS, LEAD = 39, 6
 # Packets that the sender keeps to send again.
 _KEPT = 512
 # The pace's room, in targets.
-_ROOM = 30
+_ROOM = 20
 
 
 @dataclass(frozen=True)
