@@ -90,7 +90,10 @@ class CallTest(unittest.TestCase):
     """VP8's ends over a coder whose pictures are one sample."""
 
     def setUp(self) -> None:
-        for place in (unittest.mock.patch.object(rivals, "Decoder", Decoder), unittest.mock.patch.object(call, "squares", squares)):
+        for place in (
+            unittest.mock.patch.object(rivals, "Decoder", Decoder),
+            unittest.mock.patch.object(call, "squares", squares),
+        ):
             place.start()
             self.addCleanup(place.stop)
 

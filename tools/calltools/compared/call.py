@@ -4,7 +4,7 @@ import heapq
 import itertools
 import math
 from dataclasses import dataclass
-from typing import Any, Optional, Protocol, Sequence, Union
+from typing import Any, Callable, Optional, Protocol, Sequence, Union
 
 from ..y4m import Size
 from .coders import squares
@@ -28,7 +28,9 @@ class Sender(Protocol):
 
 
 class Receiver(Protocol):
-    screen: bytes
+    @property
+    def screen(self) -> bytes:
+        """What is shown."""
 
     def take(self, packet: Packet, now: int) -> list[Message]:
         """Takes a packet."""
@@ -97,7 +99,13 @@ class Call:
             self._at(capture_of(number), "capture", number)
             if number < self._count:
                 self._at(self._network.due_of(number) + _LOOK, "look", number)
-        does = {"capture": self._capture, "arrival": self._arrival, "message": self._message, "wake": self._wake, "look": self._look}
+        does: dict[str, Callable[[Any, int], None]] = {
+            "capture": self._capture,
+            "arrival": self._arrival,
+            "message": self._message,
+            "wake": self._wake,
+            "look": self._look,
+        }
         while self._events and len(self._is_good) < self._count:
             now, _, what, about = heapq.heappop(self._events)
             does[what](about, now)

@@ -43,7 +43,16 @@ def _library() -> ctypes.CDLL:
     it.decoder_open.argtypes = [ctypes.c_char_p]
     it.coder_close.argtypes, it.coder_close.restype = [ctypes.c_void_p], None
     counted = ctypes.POINTER(whole)
-    it.coder_code.argtypes = [ctypes.c_void_p, ctypes.c_char_p, wide, whole, ctypes.c_uint, ctypes.c_char_p, whole, counted]
+    it.coder_code.argtypes = [
+        ctypes.c_void_p,
+        ctypes.c_char_p,
+        wide,
+        whole,
+        ctypes.c_uint,
+        ctypes.c_char_p,
+        whole,
+        counted,
+    ]
     it.decoder_decode.argtypes = [ctypes.c_void_p, ctypes.c_char_p, whole, ctypes.c_char_p]
     it.squares.argtypes, it.squares.restype = [ctypes.c_char_p, ctypes.c_char_p, size], ctypes.c_uint64
     return it
@@ -70,7 +79,9 @@ class Encoder(_Opened):
 
     def __init__(self, name: str, size: Size, rate: int, buffer: float, options: str) -> None:
         text = options.encode()
-        super().__init__(_library().coder_open(name.encode(), size.width, size.height, rate, round(rate * buffer), text), name)
+        super().__init__(
+            _library().coder_open(name.encode(), size.width, size.height, rate, round(rate * buffer), text), name
+        )
         self._room = ctypes.create_string_buffer(_ROOM)
         self._number = 0
 

@@ -7,12 +7,23 @@ from functools import lru_cache
 from pathlib import Path
 from typing import Any, Callable, Iterator
 
-from .. import in_process
+from .. import library
 from . import coders, videos
 from .call import Call, Line, Receiver, Sender, Video
 from .network import MILLISECOND, PER, RATE, Network
 from .ours import OurReceiver, Ours, OurSender
-from .rivals import H264, VP8, AcknowledgingReceiver, AcknowledgingSender, ChainReceiver, Coded, KeptCoder, Kind, LiveCoder, RivalSender
+from .rivals import (
+    H264,
+    VP8,
+    AcknowledgingReceiver,
+    AcknowledgingSender,
+    ChainReceiver,
+    Coded,
+    KeptCoder,
+    Kind,
+    LiveCoder,
+    RivalSender,
+)
 
 # On the wire, messages included, in bits a second.
 RATES = {"qcif": 128_000, "cif": 384_000}
@@ -112,7 +123,12 @@ def networks() -> Iterator[tuple[Network, int]]:
 
 def run(plan: Plan, processes: int, told: Callable[[str], None]) -> Iterator[Row]:
     """Runs all calls on so many processes."""
-    jobs = [Job(plan, form, content, scheme) for form in plan.forms for content in videos.CONTENTS for scheme in plan.schemes]
+    jobs = [
+        Job(plan, form, content, scheme)
+        for form in plan.forms
+        for content in videos.CONTENTS
+        for scheme in plan.schemes
+    ]
     jobs.sort(key=lambda job: -job.cost)
     with multiprocessing.Pool(processes) as pool:
         for job, rows, seconds in pool.imap_unordered(rows_of, jobs):
@@ -144,7 +160,11 @@ def _calls(job: Job, network: Network, draws: int, every: int, asked: float) -> 
     tried: list[Row] = []
     while len(tried) < _TRIES:
         tried.append(_row(job, Line(network, 1, every or None), round(asked / 500) * 500))
-        if _off(tried[-1]) <= _NEAR or len(tried) > 1 and tried[-1].packets > 0.97 * tried[-2].packets > RATES[job.form] / 1_000:
+        if (
+            _off(tried[-1]) <= _NEAR
+            or len(tried) > 1
+            and tried[-1].packets > 0.97 * tried[-2].packets > RATES[job.form] / 1_000
+        ):
             # It has its rate, or its coarsest pictures have more.
             break
         wanted = RATES[job.form] / 1_000 - tried[-1].messages
@@ -168,12 +188,14 @@ def _row(job: Job, line: Line, asked: int) -> Row:
 def _ends(job: Job, line: Line, asked: int, video: Video) -> tuple[Sender, Receiver]:
     network, size, repair = line.network, video.size, job.scheme.repair
     if job.scheme.coder == "ours":
-        lib = in_process.library()
+        lib = library.loaded()
         ours = Ours(job.form, asked * PER // (8 * RATE), job.plan.radius, repair == "nack")
         return OurSender(lib, ours), OurReceiver(lib, ours, network.round_trip, network.wait)
     kind = VP8 if job.scheme.coder == "vp8" else H264
     if repair == "acknowledged":
-        return AcknowledgingSender(LiveCoder(kind, size, asked), kind, network), AcknowledgingReceiver(kind, size, network)
+        return AcknowledgingSender(LiveCoder(kind, size, asked), kind, network), AcknowledgingReceiver(
+            kind, size, network
+        )
     coder: Any = LiveCoder(kind, size, asked)
     if repair == "rtx":
         pictures = list(video.pictures)

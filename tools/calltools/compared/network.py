@@ -4,7 +4,7 @@ import random
 from dataclasses import dataclass
 from typing import Any, Optional
 
-from .. import loss
+from ..loss import GilbertElliott, Independent, Losses
 
 SECOND, MILLISECOND = 10**9, 10**6
 # Pictures a second, as a fraction.
@@ -38,10 +38,10 @@ class Network:
         """When a picture is to be on the screen."""
         return capture_of(number) + CODING + self.round_trip // 2 + self.wait
 
-    def losses(self, draw: int, direction: int) -> loss.Losses:
+    def losses(self, draw: int, direction: int) -> Losses:
         """The losses of a direction, in the order in which packets are sent."""
         draws = random.Random(1_000 * draw + direction)
-        return loss.GilbertElliott(self.loss, self.burst, draws) if self.burst else loss.Independent(self.loss, draws)
+        return GilbertElliott(self.loss, self.burst, draws) if self.burst else Independent(self.loss, draws)
 
 
 @dataclass

@@ -6,7 +6,19 @@ from typing import Callable, Optional, Protocol
 
 from ..y4m import Size
 from .coders import Decoder, Encoder
-from .network import LIMIT, MILLISECOND, RTP_HEADER, SECOND, UNDER_RTP, Message, Network, Packet, loss_of_picture, not_there, selection
+from .network import (
+    LIMIT,
+    MILLISECOND,
+    RTP_HEADER,
+    SECOND,
+    UNDER_RTP,
+    Message,
+    Network,
+    Packet,
+    loss_of_picture,
+    not_there,
+    selection,
+)
 
 # A packet that was asked for is given up after so long, and a key picture asked for.
 _GIVE_UP = SECOND
@@ -78,7 +90,7 @@ class KeptCoder:
     The first time that one is, all is coded anew up to there."""
 
     def __init__(self, kind: Kind, size: Size, rate: int, stream: list[Coded], video: list[bytes]) -> None:
-        self._again = lambda: LiveCoder(kind, size, rate)
+        self._again: Callable[[], LiveCoder] = lambda: LiveCoder(kind, size, rate)
         self._stream, self._video = stream, video
         self._live: Optional[LiveCoder] = None
         self._number = 0
@@ -117,7 +129,8 @@ class RivalSender:
         self._references.pop(number - 100, None)
         cut = cut_of_h264(coded.data) if self._kind is H264 else cut_of_vp8(coded.data, self.descriptor)
         return [
-            self._packet(Packet(number, place, len(cut), data, size, coded.is_key, told)) for place, (data, size) in enumerate(cut)
+            self._packet(Packet(number, place, len(cut), data, size, coded.is_key, told))
+            for place, (data, size) in enumerate(cut)
         ]
 
     def _packet(self, packet: Packet) -> Packet:
@@ -263,7 +276,7 @@ class ChainReceiver:
     key picture. What is lost is asked for again, or a key picture is."""
 
     def __init__(self, kind: Kind, size: Size, network: Network, repairs: bool, every: Optional[int] = None) -> None:
-        self._decoder = lambda: Decoder(kind.decoder, size)
+        self._decoder: Callable[[], Decoder] = lambda: Decoder(kind.decoder, size)
         self._now_decoding = self._decoder()
         self._network, self._repairs, self._every = network, repairs, every or 1
         self._shown = _Shown(size, network)

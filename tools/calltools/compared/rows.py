@@ -8,7 +8,10 @@ from typing import Iterable
 from ..errors import BadInput
 from .grid import Row
 
-_TYPES = {field.name: {"str": str, "int": int, "float": float}[str(getattr(field.type, "__name__", field.type))] for field in fields(Row)}
+_TYPES = {
+    field.name: {"str": str, "int": int, "float": float}[str(getattr(field.type, "__name__", field.type))]
+    for field in fields(Row)
+}
 
 
 def write(path: Path, found: Iterable[Row]) -> None:
@@ -17,7 +20,9 @@ def write(path: Path, found: Iterable[Row]) -> None:
         writer = csv.DictWriter(file, list(_TYPES), lineterminator="\n")
         writer.writeheader()
         for row in sorted(found, key=lambda row: tuple(asdict(row).values())):
-            writer.writerow({name: f"{value:.6g}" if isinstance(value, float) else value for name, value in asdict(row).items()})
+            writer.writerow(
+                {name: f"{value:.6g}" if isinstance(value, float) else value for name, value in asdict(row).items()}
+            )
 
 
 def read(path: Path) -> list[Row]:

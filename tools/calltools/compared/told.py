@@ -83,7 +83,9 @@ def _mean(parity: int, rows: list[Row]) -> Mean:
         return sum(sum(map(value, found)) / len(found) for found in by_content.values()) / len(by_content)
 
     rate = of(lambda row: row.packets + row.messages)
-    return Mean(parity, len(rows), of(lambda row: row.good), of(lambda row: row.longest), of(lambda row: row.psnr), rate)
+    return Mean(
+        parity, len(rows), of(lambda row: row.good), of(lambda row: row.longest), of(lambda row: row.psnr), rate
+    )
 
 
 def _schemes_of(found: dict[Place, dict[str, Mean]]) -> list[str]:
@@ -204,7 +206,9 @@ def _panels(
         parts += [svg.text(_x(column, share), top + _HEIGHT + 15, f"{share} %") for share in (0, 5, 10)]
         for scheme in schemes:
             here = [place for place in places if place.round_trip == trip and scheme in found[place]]
-            parts.append(_line([(_x(column, 100 * place.loss), y(value(found[place][scheme]))) for place in here], scheme))
+            parts.append(
+                _line([(_x(column, 100 * place.loss), y(value(found[place][scheme]))) for place in here], scheme)
+            )
     return parts
 
 

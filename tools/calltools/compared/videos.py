@@ -31,7 +31,9 @@ def make(room: Path, pictures: int) -> None:
 def _made(path: Path, source: str, pictures: int) -> None:
     words = ["ffmpeg", "-v", "error", "-y", "-f", "lavfi", "-i", source, "-frames:v", str(pictures)]
     try:
-        done = subprocess.run([*words, "-pix_fmt", "yuv420p", "-f", "rawvideo", str(path)], capture_output=True, text=True)
+        done = subprocess.run(
+            [*words, "-pix_fmt", "yuv420p", "-f", "rawvideo", str(path)], capture_output=True, text=True
+        )
     except FileNotFoundError as fault:
         raise BadInput("ffmpeg", "it isn't there", "apt install ffmpeg") from fault
     if done.returncode:
