@@ -27,11 +27,16 @@ from .rivals import (
 
 # On the wire, messages included, in bits a second.
 RATES = {"qcif": 128_000, "cif": 384_000}
-# Milliseconds of a round trip, and of the wait between a picture's arrival and its play; the shares of packets that are
-# lost, each with the mean length of its bursts, 0 where it is by chance; and how often they are drawn.
-_SOME = ((0.0, 0), (0.01, 0), (0.05, 0), (0.1, 0), (0.05, 3))
+# Of each format: milliseconds of a round trip, and of the wait between a picture's arrival and its play; the shares of
+# packets that are lost, each with the mean length of its bursts, 0 where it is by chance; and how often they are drawn.
+Networks = tuple[tuple[int, int, tuple[tuple[float, int], ...], int], ...]
 _ALL = ((0.0, 0), (0.01, 0), (0.03, 0), (0.05, 0), (0.1, 0), (0.01, 3), (0.03, 3), (0.05, 3), (0.1, 3))
-NETWORKS = ((50, 100, _SOME, 2), (100, 100, _ALL, 5), (300, 100, _SOME, 2), (100, 200, ((0.05, 0),), 2))
+_SOME = ((0.0, 0), (0.01, 0), (0.05, 0), (0.1, 0), (0.05, 3))
+_FIVE = ((0.05, 0),)
+NETWORKS: dict[str, Networks] = {
+    "qcif": ((50, 100, _SOME, 2), (100, 100, _ALL, 5), (300, 100, _SOME, 2), (100, 200, _FIVE, 2)),
+    "cif": ((50, 100, _FIVE, 2), (100, 100, _SOME, 2), (300, 100, _FIVE, 2)),
+}
 # After how many packets there is one of parity: each is tried, and the best of each network stands in the table.
 PARITY = (2, 4, 8)
 # How near a call's rate must be to what it is to have, and how often that is tried.
@@ -114,9 +119,9 @@ class Row:
     messages: float
 
 
-def networks() -> Iterator[tuple[Network, int]]:
+def networks(form: str) -> Iterator[tuple[Network, int]]:
     """Each network, and how often its losses are drawn: where there are none, once."""
-    for round_trip, wait, losses, draws in NETWORKS:
+    for round_trip, wait, losses, draws in NETWORKS[form]:
         for share, burst in losses:
             yield Network(share, burst, round_trip * MILLISECOND, wait * MILLISECOND), draws if share else 1
 
@@ -143,7 +148,7 @@ def rows_of(job: Job) -> tuple[Job, list[Row], float]:
     rows = []
     for every in PARITY if job.scheme.has_parity else (0,):
         first = asked = round(_FIRST * RATES[job.form] * (every or 1) / (every + 1 if every else 1))
-        for network, draws in networks():
+        for network, draws in networks(job.form):
             found = list(_calls(job, network, draws, every, asked))
             asked = found[0].asked if _off(found[0]) <= 2 * _NEAR else first
             rows += found

@@ -41,7 +41,9 @@ class Network:
     def losses(self, draw: int, direction: int) -> Losses:
         """The losses of a direction, in the order in which packets are sent."""
         draws = random.Random(1_000 * draw + direction)
-        return GilbertElliott(self.loss, self.burst, draws) if self.burst else Independent(self.loss, draws)
+        if self.burst:
+            return GilbertElliott(self.loss, self.burst, draws)
+        return Independent(self.loss, draws)
 
 
 @dataclass
