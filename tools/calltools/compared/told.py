@@ -88,6 +88,16 @@ def _mean(parity: int, rows: list[Row]) -> Mean:
     )
 
 
+_ABOUT = """# Calls beside other coders
+
+By `tools/compare_coders`, of all its rows. A cell has the good pictures in %, which are, when they are due, what the coder
+reconstructed; the longest run of others, a mean of the calls'; and PSNR of Y in dB, a mean of the pictures'. In brackets
+stands after how many packets there is one of parity, of 2, 4 and 8 the one with the most good pictures; a rate on the
+wire that is off by more than 5 % is said. Each is a mean over three contents, each with one to five draws of the losses
+(`NETWORKS` in `grid.py`).
+"""
+
+
 def _schemes_of(found: dict[Place, dict[str, Mean]]) -> list[str]:
     there = {scheme for means in found.values() for scheme in means}
     return [scheme for scheme in NAMES if scheme in there]
@@ -97,7 +107,7 @@ def table_of(rows: Iterable[Row]) -> str:
     """All of it."""
     found = means_of(rows)
     schemes = _schemes_of(found)
-    lines = []
+    lines = [_ABOUT]
     for form, rate in RATES.items():
         lines += [f"## {form.upper()}, {rate // 1000} kbit/s", "", *_head("Round trip, loss", schemes)]
         lines += [
@@ -123,7 +133,8 @@ def _cell(mean: Optional[Mean], rate: int) -> str:
     return told + (f" at {mean.rate:.0f}k" if abs(1000 * mean.rate / rate - 1) > 0.05 else "")
 
 
-# Of the short table: what stands in a row, and which rows of the full one.
+# Of the short table: its columns, and its rows.
+_SHORT_OF = ("ours", "ours+nack", "vp8+ack", "vp8+pli", "vp8+rtx", "vp8+fec+rtx")
 _SHORT = (
     ("qcif", 100, 0, 0.0),
     ("qcif", 100, 0, 0.01),
@@ -132,47 +143,45 @@ _SHORT = (
     ("qcif", 100, 3, 0.05),
     ("qcif", 50, 0, 0.05),
     ("qcif", 300, 0, 0.05),
-    ("qcif", 300, 0, 0.1),
     ("cif", 100, 0, 0.05),
-    ("cif", 300, 0, 0.05),
 )
 
 
 def short_of(rows: Iterable[Row]) -> str:
     """What a page has room for: good pictures and PSNR."""
     found = means_of(rows)
-    schemes = _schemes_of(found)
-    lines = _head("", schemes)
+    lines = _head("Round trip, lost", list(_SHORT_OF))
     for form, trip, burst, loss in _SHORT:
         place = Place(form, trip, 100, burst, loss)
         if place in found:
-            cells = [found[place].get(scheme) for scheme in schemes]
-            words = " | ".join(f"{100 * mean.good:.0f}, {mean.psnr:.1f}" if mean else "" for mean in cells)
+            cells = [found[place].get(scheme) for scheme in _SHORT_OF]
+            words = " | ".join(f"{100 * mean.good:.0f}/{mean.psnr:.1f}" if mean else "" for mean in cells)
             lines.append(f"| {form.upper()}, {place.told()} | {words} |")
     return "\n".join(lines) + "\n"
 
 
-_LEFT, _TOP, _WIDTH, _HEIGHT, _GAP = 56, 40, 220, 150, 46
+_LEFT, _TOP, _WIDTH, _HEIGHT, _GAP = 56, 54, 220, 150, 46
 
 
 def figure_of(rows: Iterable[Row]) -> str:
-    """Good pictures and PSNR by the share that is lost by chance: a row of panels for each format and measure, a column for
+    """Good pictures and PSNR of QCIF by the share that is lost by chance: a row of panels for each measure, a column for
     each round trip."""
     found = means_of(rows)
     trips = sorted({place.round_trip for place in found})
     schemes = [scheme for scheme in _schemes_of(found) if scheme in _LINES]
     parts: list[str] = []
     top = _TOP
-    for form in RATES:
-        for what, value in (("good pictures, %", lambda mean: 100 * mean.good), ("PSNR, dB", lambda mean: mean.psnr)):
-            parts += _panels(found, (form, what, value), trips, schemes, top)
-            top += _HEIGHT + _GAP
+    for what, value in (("good pictures, %", lambda mean: 100 * mean.good), ("PSNR, dB", lambda mean: mean.psnr)):
+        parts += _panels(found, ("qcif", what, value), trips, schemes, top)
+        top += _HEIGHT + _GAP
+    parts.append(svg.text(_x(1, 5), top, "packets lost by chance", size=12))
+    top += 26
     parts += [svg.text(_x(column, 5), 20, f"round trip {trip} ms", size=13) for column, trip in enumerate(trips)]
     for number, scheme in enumerate(schemes):
         x, y = _LEFT + 170 * (number % 4), top + 20 * (number // 4)
         parts += [_line([(x, y - 4), (x + 28, y - 4)], scheme), svg.text(x + 34, y, NAMES[scheme], "start")]
     width = _LEFT + len(trips) * (_WIDTH + _GAP)
-    title = "Good pictures and PSNR by the share of packets that are lost by chance, at equal bits on the wire"
+    title = "QCIF at equal bits on the wire: good pictures and PSNR by the share of packets that are lost by chance"
     return svg.drawing(width, top + 40, parts, title)
 
 
@@ -198,7 +207,7 @@ def _panels(
     def y(number: float) -> float:
         return top + _HEIGHT * (most - number) / max(most - least, 1)
 
-    parts = [svg.text(14, top - 8, f"{form.upper()}: {what}", "start", 12)]
+    parts = [svg.text(14, top - 10, f"{form.upper()}: {what}", "start", 12)]
     for column, trip in enumerate(trips):
         for number in range(least, most + 1, step):
             parts += [svg.line(_x(column, 0), y(number), _x(column, 10), y(number))]
