@@ -137,7 +137,6 @@ def _cell(mean: Optional[Mean], rate: int) -> str:
 _SHORT_OF = ("ours", "ours+nack", "vp8+ack", "vp8+pli", "vp8+rtx", "vp8+fec+rtx")
 _SHORT = (
     ("qcif", 100, 0, 0.0),
-    ("qcif", 100, 0, 0.01),
     ("qcif", 100, 0, 0.05),
     ("qcif", 100, 0, 0.1),
     ("qcif", 100, 3, 0.05),
