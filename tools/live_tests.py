@@ -358,11 +358,12 @@ class Calls(unittest.TestCase):
         with again.open("rb") as wire:
             said = [logs.entry_bytes(it.letter, it.body) for it in logs.read_log(wire, "again")]
         before = out.read_bytes()
-        head = before[: before.find(b"\n") + 1]
+        # The program's head tells another rate.
         frame = len(b"FRAME XHELD\n") + y4m.Size(*y4m.FORMATS[format]).bytes
-        shown = head + before[len(head) + joined * frame :]
+        shown = before.split(b"\n", 1)[1][joined * frame :]
         found = [shown, b"".join(said[joined:]), told.split(b"\n", joined)[joined]]
-        self.assertEqual(found, of_run(folder, run, ("video", "wire", "report")))
+        video, *others = of_run(folder, run, ("video", "wire", "report"))
+        self.assertEqual(found, [video.split(b"\n", 1)[1], *others])
 
 
 def of_run(folder: Path, run: dict[str, Any], keys: Sequence[str]) -> list[bytes]:
