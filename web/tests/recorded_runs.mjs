@@ -41,6 +41,8 @@ const sender = new Sender(Params.of("qcif", { target: 1800, limit: LIMIT, slots:
 const told = [];
 let painted = 0;
 const heard = {
+  ask: () => {},
+  carried: () => {},
   say: (message) => setTimeout(() => sender.feedback(message), 30),
   tell: (turn) => told.push(turn),
   paint: (picture, format) => assert.deepStrictEqual([format, picture.length, ++painted > 0], ["qcif", 38016, true]),
