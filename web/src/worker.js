@@ -157,9 +157,10 @@ class Ends {
     else this.#receiving?.take(bytes);
   }
 
+  /** What is sent out is handed over, and a record keeps the message itself. */
   #say(message) {
     if (this.#carried) this.#carried.say(message, this.#sending.untilNext);
-    else this.#sendOut([message]);
+    else this.#sendOut([message.slice()]);
   }
 
   #sendOut(datagrams) {
