@@ -1,4 +1,4 @@
-//! What is measured.
+//! The times of a call's parts, each the least of its runs, and how they are told.
 ghost use Rattle.std.specs.Prelude.{◌<◌};
 
 use h263_types::{Format, OutOfMemory};

@@ -1,4 +1,4 @@
-//! Reads blocks.
+//! Reads the levels of a block, from INTRADC to the last TCOEF (H.263, 5.4).
 ghost use Rattle.std.specs.Prelude.{◌≡◌, ℕ, ◌+◌, ◌≤◌, ◌<◌, ◌++◌, List, Bool, ℤ, pos, negsuc, ◌≤ℤ◌, IfOk, IsOkAnd};
 ghost use Rattle.h263_bits.specs.Reading.{Gives, Takes, first_fault};
 ghost use Rattle.h263_bits.specs.Syntax.{reading};

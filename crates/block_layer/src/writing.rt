@@ -1,4 +1,4 @@
-//! Writes blocks.
+//! Writes the levels of a block, several code words at a time (H.263, 5.4).
 ghost use Rattle.std.specs.Prelude.{◌≡◌, ℕ, ◌+◌, ◌^◌, ◌<◌, ◌≤◌, ◌++◌, List, Bool, ℤ, [], length, slice_index_or, pos, negsuc, ◌≤ℤ◌, true, false, if◌then◌else◌, not, ◌==◌};
 ghost use Rattle.h263_bits.specs.Bits.{spelled};
 ghost use Rattle.h263_bits.specs.Written.{Appends, buffer_of, len_of, room_of, written};

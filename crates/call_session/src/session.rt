@@ -1,4 +1,4 @@
-//! A session.
+//! A session: its calls, in the order in which a telephone makes them.
 ghost use Rattle.std.specs.Prelude.{◌≡◌, ◌∷◌, List, [], IfOk};
 ghost use Rattle.h263_planes.specs.Lent.{picture};
 ghost use Rattle.h263_planes.specs.Samples.{IsPicture};

@@ -1,4 +1,4 @@
-//! The commands.
+//! What a command is asked for: its files, options and numbers.
 use h263_types::Params;
 
 /// What the program is asked for. Each parameter is in its range; of `call`, `send` and `duplex`

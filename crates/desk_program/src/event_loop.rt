@@ -1,4 +1,4 @@
-//! The loop.
+//! The loop of every command: turns until one of them ends it.
 ghost use Rattle.std.specs.Prelude.{ℕ, List, Option};
 ghost use Rattle.h263_outside.specs.declared.desk.Role.{Role};
 ghost use Rattle.desk_program.specs.Run.{Run, run_of};

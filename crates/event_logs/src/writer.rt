@@ -1,4 +1,4 @@
-//! Entries as text.
+//! An entry of a log as bytes: its letter, its length in big-endian order, what it holds.
 ghost use Rattle.std.specs.Prelude.{◌≡◌, ◌≤◌, length, true, OnOk, OnErr};
 ghost use Rattle.h263_outside.specs.Desk.{appended, GainsFront, Rose, OnlyWrites};
 ghost use Rattle.h263_outside.specs.declared.desk.Role.TheVariants.{Wire};

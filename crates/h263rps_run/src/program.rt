@@ -1,4 +1,4 @@
-//! The top call.
+//! From the words of a command line to an exit status.
 ghost use Rattle.std.specs.Prelude.{◌≡◌};
 ghost use Rattle.h263_outside.specs.Desk.{NoneAttached};
 ghost use Rattle.command_words.specs.Clap.{texts};

@@ -1,4 +1,4 @@
-//! The machine.
+//! The machine of a command over a log: each turn reads an entry, and hands it to the command.
 ghost use Rattle.std.specs.Prelude.{◌≡◌};
 ghost use Rattle.event_logs.specs.Entry.{bytes_of};
 

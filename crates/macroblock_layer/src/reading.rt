@@ -1,4 +1,4 @@
-//! Reads macroblocks.
+//! Reads a macroblock, from COD to its last block (H.263, 5.3).
 ghost use Rattle.std.specs.Prelude.{◌≡◌, ℕ, ℤ, List, Bool, ◌++◌, ◌≤ℤ◌, ◌+ℤ◌, pos, negsuc, true, false, Ok, IfOk, IsOkAnd};
 ghost use Rattle.h263_bits.specs.Reading.{Gives, Takes, first_fault};
 ghost use Rattle.h263_bits.specs.Syntax.{reading, Turn};

@@ -1,4 +1,4 @@
-//! Writes macroblocks.
+//! Writes a macroblock, from COD to its last block (H.263, 5.3).
 ghost use Rattle.std.specs.Prelude.{◌≡◌, ◌≢◌, ℕ, ◌+◌, ◌*◌, ◌<◌, ◌≤◌, ◌++◌, List, Bool, ℤ, true, false, [], length, All, slice_index_or, pos, negsuc, ◌≤ℤ◌, ◌+ℤ◌, ◌-ℤ◌, ◌==◌, if◌then◌else◌};
 ghost use Rattle.h263_bits.specs.Written.{Appends, len_of, room_of};
 ghost use Rattle.h263_types.specs.declared.Kind.TheVariants as kinds;

@@ -1,4 +1,4 @@
-//! Made frames.
+//! The frames of `demo`: patterns that move, and noise, made from a seed.
 ghost use Rattle.std.specs.Prelude.{◌≡◌, ◌<◌, ◌≤◌, ℕ, false, length, slice_index};
 ghost use Rattle.h263_planes.specs.declared.Plane.{Plane};
 ghost use Rattle.h263_planes.specs.Given.{picture_with};

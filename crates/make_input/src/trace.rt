@@ -1,4 +1,4 @@
-//! The made trace.
+//! The trace of `demo`: which packets and messages are lost, or late, drawn from a seed.
 ghost use Rattle.std.specs.Prelude.{◌≡◌, ◌<◌, ◌+◌, ◌^◌, ◌++◌};
 ghost use Rattle.make_input.specs.Trace.{deliveries, one_or_none};
 

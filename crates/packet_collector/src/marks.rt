@@ -1,4 +1,4 @@
-//! Marks of macroblocks.
+//! Which macroblocks of a picture have come: one mark for each.
 ghost use Rattle.std.specs.Prelude.{◌≡◌, ◌⊎◌, ℕ, ◌+◌, ◌<◌, ◌≤◌, true, false, not, length, replicate, slice_index_or};
 ghost use Rattle.std.specs.List.{list_all};
 

@@ -1,4 +1,4 @@
-//! Reads packets.
+//! Reads a packet: its RTP header, its payload header, and the slice in it.
 ghost use Rattle.std.specs.Prelude.{◌≡◌, ℕ, ◌*◌, ◌≤◌, List, length, IfOk, IsOkAnd};
 ghost use Rattle.h263_bits.specs.Reading.{Gives, bits_between, first_fault};
 ghost use Rattle.h263_types.specs.Sizes.{mbs_of};

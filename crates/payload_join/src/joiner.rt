@@ -1,4 +1,4 @@
-//! The joiner.
+//! The joiner: it takes packets as they come, and gives packets of one slice each.
 ghost use Rattle.std.specs.Prelude.{◌≡◌, ◌↔◌, ℕ, ◌+◌, ◌-◌, ◌%◌, ◌<◌, [], ◌∷◌, List, Some, Ok, true, false, IsNone, IfSome, IfOk};
 ghost use Rattle.std.specs.Borrow.{sem};
 ghost use Rattle.h263_types.specs.declared.format.Format.{Format};

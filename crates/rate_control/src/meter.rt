@@ -1,4 +1,4 @@
-//! The meter.
+//! The meter: it follows the level of a leaky bucket over the packets of a log.
 ghost use Rattle.std.specs.Prelude.{◌≡◌, ◌+◌, ◌-◌, ◌<◌, ◌≤◌, ◌^◌, ◌∷◌, [], ◌++◌, List, ℕ};
 ghost use Rattle.h263_bits.specs.declared.fault.Fault.{Fault};
 ghost use Rattle.rate_control.specs.Metering.{HasRoom, HasRoomAtEnd, HasRoomFor, IsMeter, MeterStands};

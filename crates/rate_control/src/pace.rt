@@ -1,4 +1,4 @@
-//! The rate controller.
+//! The rate controller of `send --target`: a quantiser by the level of a leaky bucket.
 ghost use Rattle.std.specs.Prelude.{◌≡◌, ◌≤◌};
 
 use crate::level::level_after;

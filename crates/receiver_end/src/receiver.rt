@@ -1,4 +1,4 @@
-//! The receiver.
+//! The receiver of a call: packets in, pictures and messages out.
 ghost use Rattle.std.specs.Prelude.{◌≡◌, ◌+◌, ◌^◌, ◌<◌, ◌≤◌, List, [], ◌∷◌, IfOk, false};
 ghost use Rattle.h263_types.specs.Params.{IsParams};
 ghost use Rattle.picture_store.specs.Pictures.{room_for};

@@ -1,4 +1,4 @@
-//! The receiver alone.
+//! `recv`: a receiver by itself, over the log of what came.
 ghost use Rattle.std.specs.Prelude.{◌≡◌, ◌+◌, ◌<◌, ◌^◌, ℕ, true, List, IfErr, OnOk, OnErr};
 ghost use Rattle.h263_outside.specs.Desk.{OnlyWrites, Rose};
 ghost use Rattle.h263_outside.specs.declared.desk.Role.TheVariants.{Pictures, Report, Wire};

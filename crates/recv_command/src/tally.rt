@@ -1,4 +1,4 @@
-//! What is counted.
+//! What `recv` counts for the last line of its report.
 ghost use Rattle.std.specs.Prelude.{◌≡◌, ◌+◌, ◌<◌, ◌^◌};
 ghost use Rattle.call_report.specs.View.{text_of};
 

@@ -1,4 +1,4 @@
-//! Reads slices.
+//! Reads a slice: its header, its macroblocks, its padding (H.263, Annex K).
 ghost use Rattle.std.specs.Prelude.{◌≡◌, ℕ, true, ◌+◌, ◌-◌, ◌<◌, ◌≤◌, ◌↔◌, ℤ, List, length, IfOk, IsOkAnd};
 ghost use Rattle.h263_bits.specs.Reading.{Gives, first_fault};
 ghost use Rattle.h263_bits.specs.Syntax.{reading};

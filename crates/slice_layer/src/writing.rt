@@ -1,4 +1,4 @@
-//! Writes slices.
+//! Writes a slice, macroblock by macroblock, while its packet has room (H.263, Annex K).
 ghost use Rattle.std.specs.Prelude.{◌≡◌, ℕ, ◌+◌, ◌*◌, ◌/◌, ◌%◌, ◌<◌, ◌≤◌, ◌^◌, ◌++◌, [], ◌∷◌, length, take, drop, List, Bool};
 ghost use Rattle.h263_bits.specs.Bits.{bits_of, spelled};
 ghost use Rattle.h263_types.specs.Blocks.{IsQuant, IsMb, IsOfKind, HasWholeBlocks};
