@@ -5,7 +5,8 @@
 //! [`EndRefusal`] that changed nothing. Clauses see in a slot the end inside it, which stands for a
 //! list of entries as that end by itself does.
 //!
-//! No crate can stand on a static library, so its tests are here.
+//! No crate can stand on a static library, and tests of its own would prove all of it twice: they are
+//! `library/tests/slots.c`, by the exports.
 //!
 //! # Decisions
 //!
@@ -22,8 +23,6 @@
 
 mod answers;
 mod asked;
-#[cfg(test)]
-mod beside_tests;
 mod counting;
 mod datagram;
 mod ends;
@@ -45,13 +44,9 @@ mod session;
 mod session_answers;
 mod session_repair;
 mod session_slots;
-#[cfg(test)]
-mod session_tests;
 mod start;
 mod starting;
 mod statistics;
-#[cfg(test)]
-mod tests;
 mod timing;
 
 pub use answers::{Answer, CMessage, Made, Reply};
