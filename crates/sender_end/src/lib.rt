@@ -29,6 +29,7 @@
 mod answers;
 mod coding;
 mod headers;
+mod late;
 mod next;
 mod sender;
 
