@@ -1,14 +1,14 @@
 -- A store some of whose pictures aren't drawn yet, and what it is once they are.
 use Rattle.std.proofs.Common.{◌≡◌, ℕ, zero, suc, ◌+◌, ◌-◌, ◌%◌, ◌<◌, ◌≤◌, refl, sym, ap, ◌∙◌, subst, arith, inl, inr, List, Option, Some, None, length, get_or, mod-lt, set}
 use Rattle.std.proofs.lemmas.Bool.{cases_eq}
-use Rattle.std.proofs.lemmas.List.{get_or-set_same, get_or-set_other, length-set}
+use Rattle.std.proofs.lemmas.List.{get_or-set_same, get_or-set_other, length-set, set-get_or}
 use Rattle.std.proofs.lemmas.List.FromFn.{length-map-range_with_len, get_or-map-range_with_len}
 use Rattle.h263_types.specs.declared.format.Format.{Format}
 use Rattle.h263_types.specs.declared.blocks.Mb.{Mb}
 use Rattle.h263_planes.specs.Picture.{Picture}
 use Rattle.picture_recon.specs.Samples.{reconstruction}
 use Rattle.picture_recon.specs.Undrawn.{undrawn_mbs}
-use Rattle.picture_store.specs.Pictures.{Pictures, Keeps, picture_in, slot_of, slots_of, work_in}
+use Rattle.picture_store.specs.Pictures.{Pictures, IsEmpty, Keeps, picture_in, slot_of, slots_of, work_in}
 use Rattle.sender_end.specs.Coding.{IsCodedInto}
 use Rattle.sender_end.specs.Late.{AreDrawn, AreKeptAs, AreLate, CanBeDrawn, once_drawn, pictures_once_drawn, quant_at, store_once_drawn}
 
@@ -69,6 +69,9 @@ quant_set quants at q below = get_or-set_same quants at q 0 below
 
 pub quant_other : (quants : List ℕ) (at k q : ℕ) → (k ≡ at → ⊥) → quant_at (set quants at q) k ≡ quant_at quants k
 quant_other quants at k q differ = get_or-set_other quants at k q 0 differ
+
+pub set_same : (quants : List ℕ) (at q : ℕ) → quant_at quants at ≡ q → set quants at q ≡ quants
+set_same quants at q is = ap (set quants at) (sym is) ∙ set-get_or quants at 0
 
 -- one that is drawn more, or none
 pub still_drawn : (quants : List ℕ) (at : ℕ) → at < length quants → AreDrawn quants → AreDrawn (set quants at 0)
@@ -196,27 +199,30 @@ kept_twice first second = record {
 
 -- ---- the work picture is kept
 
-module _ (quants : List ℕ) (old new : Pictures) (number : ℕ) (are : AreLate quants old) (keeps : Keeps old new number 0) where
-  -- where the quantiser of the work picture goes
-  abbrev moved : List ℕ
-  moved = set quants (slot_of old number) (quant_at quants (slots_of old))
+-- the quantisers then: that of the work picture goes to the slot
+abbrev moved : List ℕ → Pictures → ℕ → List ℕ
+moved quants old number = set quants (slot_of old number) (quant_at quants (slots_of old))
 
-  abbrev pub after_keep : List ℕ
-  after_keep = set moved (slots_of old) 0
+abbrev pub after_keep : List ℕ → Pictures → ℕ → List ℕ
+after_keep quants old number = set (moved quants old number) (slots_of old) 0
+
+module _ (quants : List ℕ) (old new : Pictures) (number : ℕ) (are : AreLate quants old) (keeps : Keeps old new number 0) where
+  abbrev afterwards : List ℕ
+  afterwards = after_keep quants old number
 
   slot_low : slot_of old number < slots_of old
   slot_low = mod-lt number are.some
 
-  at_slot : quant_at after_keep (slot_of old number) ≡ quant_at quants (slots_of old)
+  at_slot : quant_at afterwards (slot_of old number) ≡ quant_at quants (slots_of old)
   at_slot =
-      quant_other moved (slots_of old) (slot_of old number) 0 (λ e. omega (arith, slot_low, e))
+      quant_other (moved quants old number) (slots_of old) (slot_of old number) 0 (λ e. omega (arith, slot_low, e))
       ∙ quant_set quants (slot_of old number) (quant_at quants (slots_of old)) (omega (arith, slot_low, are.count, are.works))
 
-  elsewhere : (k : ℕ) → (k ≡ slot_of old number → ⊥) → (k ≡ slots_of old → ⊥) → quant_at after_keep k ≡ quant_at quants k
-  elsewhere k one last = quant_other moved (slots_of old) k 0 last ∙ quant_other quants (slot_of old number) k (quant_at quants (slots_of old)) one
+  elsewhere : (k : ℕ) → (k ≡ slot_of old number → ⊥) → (k ≡ slots_of old → ⊥) → quant_at afterwards k ≡ quant_at quants k
+  elsewhere k one last = quant_other (moved quants old number) (slots_of old) k 0 last ∙ quant_other quants (slot_of old number) k (quant_at quants (slots_of old)) one
 
-  at_work : quant_at after_keep (slots_of old) ≡ 0
-  at_work = quant_set moved (slots_of old) 0 (omega (arith, length-set quants (slot_of old number) (quant_at quants (slots_of old)), are.count, are.works))
+  at_work : quant_at afterwards (slots_of old) ≡ 0
+  at_work = quant_set (moved quants old number) (slots_of old) 0 (omega (arith, length-set quants (slot_of old number) (quant_at quants (slots_of old)), are.count, are.works))
 
   same_slots : slots_of new ≡ slots_of old
   same_slots = ap (λ (l : List (Option ℕ)). length l) keeps.numbers ∙ length-set old.numbers (slot_of old number) (Some number)
@@ -224,54 +230,64 @@ module _ (quants : List ℕ) (old new : Pictures) (number : ℕ) (are : AreLate 
   last_is : slots_of old + 0 ≡ slots_of old
   last_is = omega arith
 
-  pub kept_late : AreLate after_keep new
+  pub kept_late : AreLate afterwards new
   kept_late = record {
-    count = length-set moved (slots_of old) 0 ∙ length-set quants (slot_of old number) (quant_at quants (slots_of old)) ∙ are.count ∙ sym keeps.works;
+    count = length-set (moved quants old number) (slots_of old) 0 ∙ length-set quants (slot_of old number) (quant_at quants (slots_of old)) ∙ are.count ∙ sym keeps.works;
     works = keeps.works ∙ are.works ∙ ap (λ (n : ℕ). n + 1) (sym same_slots);
     some = omega (arith, are.some, same_slots);
     late = λ k inside some. elim (cases_eq k (slot_of old number)) [
       | inl here ↦
-          let is : quant_at after_keep k ≡ quant_at quants (slots_of old) = ap (quant_at after_keep) here ∙ at_slot in
+          let is : quant_at afterwards k ≡ quant_at quants (slots_of old) = ap (quant_at afterwards) here ∙ at_slot in
           let from : work_in old 0 ≡ picture_in new k = sym (ap (λ (n : ℕ). picture_in new n) here ∙ keeps.kept) in
           let there : picture_in old (slots_of old) ≡ picture_in new k = ap (λ (n : ℕ). picture_in old n) (sym last_is) ∙ from in
           can_as (sym is) there (are.late (slots_of old) (omega (arith, are.works)) (omega (arith, some, is)))
       | inr differ ↦ elim (cases_eq k (slots_of old)) [
         | inl last ↦
-            let none : quant_at after_keep k ≡ 0 = ap (quant_at after_keep) last ∙ at_work in
+            let none : quant_at afterwards k ≡ 0 = ap (quant_at afterwards) last ∙ at_work in
             absurd (omega (arith, some, none))
         | inr earlier ↦
-            let is : quant_at after_keep k ≡ quant_at quants k = elsewhere k differ earlier in
+            let is : quant_at afterwards k ≡ quant_at quants k = elsewhere k differ earlier in
             let before : k < length old.pictures = omega (arith, inside, keeps.works) in
             can_as (sym is) (sym (keeps.others k before differ (λ e. earlier (e ∙ last_is)))) (are.late k before (omega (arith, some, is)))
       ]
     ];
   }
 
-  pub kept_seen : Keeps (store_once_drawn quants old) (store_once_drawn after_keep new) number 0
+  pub kept_seen : Keeps (store_once_drawn quants old) (store_once_drawn afterwards new) number 0
   kept_seen = record {
     format = keeps.format;
     numbers = keeps.numbers;
-    works = as_many after_keep new ∙ keeps.works ∙ sym (as_many quants old);
+    works = as_many afterwards new ∙ keeps.works ∙ sym (as_many quants old);
     room = keeps.room;
     kept =
-        seen_at after_keep new (slot_of old number) (omega (arith, slot_low, keeps.works, are.works))
+        seen_at afterwards new (slot_of old number) (omega (arith, slot_low, keeps.works, are.works))
         ∙ same_drawn (at_slot ∙ ap (quant_at quants) (sym last_is)) keeps.kept
         ∙ sym (seen_at quants old (slots_of old + 0) (omega (arith, are.works)));
     others = λ k inside differ last.
         let before : k < length old.pictures = omega (arith, inside, as_many quants old) in
-        seen_at after_keep new k (omega (arith, before, keeps.works))
+        seen_at afterwards new k (omega (arith, before, keeps.works))
         ∙ same_drawn (elsewhere k differ (λ e. last (e ∙ sym last_is))) (keeps.others k before differ last)
         ∙ sym (seen_at quants old k before);
   }
 
-pub kept_drawn : (quants : List ℕ) (old new : Pictures) (number : ℕ) (are : AreLate quants old) (keeps : Keeps old new number 0) → AreDrawn quants
-    → AreDrawn (after_keep quants old new number are keeps)
-kept_drawn quants old new number are keeps drawn =
-    still_drawn (set quants (slot_of old number) (quant_at quants (slots_of old))) (slots_of old)
+pub kept_drawn : (quants : List ℕ) (old : Pictures) (number : ℕ) → AreLate quants old → AreDrawn quants → AreDrawn (after_keep quants old number)
+kept_drawn quants old number are drawn =
+    let low : slot_of old number < slots_of old = mod-lt number are.some in
+    still_drawn (moved quants old number) (slots_of old)
     (omega (arith, length-set quants (slot_of old number) (quant_at quants (slots_of old)), are.count, are.works))
     (λ k. elim (cases_eq k (slot_of old number)) [
       | inl here ↦
-          ap (quant_at (set quants (slot_of old number) (quant_at quants (slots_of old)))) here
-          ∙ quant_set quants (slot_of old number) (quant_at quants (slots_of old)) (omega (arith, mod-lt number are.some, are.count, are.works)) ∙ drawn (slots_of old)
+          ap (quant_at (moved quants old number)) here
+          ∙ quant_set quants (slot_of old number) (quant_at quants (slots_of old)) (omega (arith, low, are.count, are.works)) ∙ drawn (slots_of old)
       | inr differ ↦ quant_other quants (slot_of old number) k (quant_at quants (slots_of old)) differ ∙ drawn k
     ])
+
+-- ---- an empty store
+
+pub empty_seen : (f : Format) (slots works : ℕ) (quants : List ℕ) (store : Pictures) → IsEmpty f slots works store → IsEmpty f slots works (store_once_drawn quants store)
+empty_seen f slots works quants store empty = record {
+  format = empty.format;
+  numbers = empty.numbers;
+  pictures = as_many quants store ∙ empty.pictures;
+  room = empty.room;
+}
