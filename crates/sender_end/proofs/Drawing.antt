@@ -80,7 +80,7 @@ still_drawn quants at below drawn k = elim (cases_eq k at) [
   | inr differ ↦ quant_other quants at k 0 differ ∙ drawn k
 ]
 
-can_as : {q r : ℕ} {p o : Picture} → q ≡ r → p ≡ o → CanBeDrawn q p → CanBeDrawn r o
+pub can_as : {q r : ℕ} {p o : Picture} → q ≡ r → p ≡ o → CanBeDrawn q p → CanBeDrawn r o
 can_as {q} {r} {p} {o} a b can = subst (λ (x : Picture). CanBeDrawn r x) b (subst (λ (n : ℕ). CanBeDrawn n p) a can)
 
 -- Where a store has another work picture, with this quantiser, and the same kept ones: the work picture is the last.

@@ -19,7 +19,7 @@ use Rattle.sender_end.proofs.late.LateStore.code_intra.Goals as goal
 
 -- ---- each picture is drawn
 
-module _ (c : goal.After-code_into) where
+module _ (c : goal.After-self-1) where
   abbrev quants : List ℕ
   quants = boxed_slice_items c.self.inside.quants
 
@@ -61,7 +61,7 @@ returns-then-self-clause-store c =
 
 -- ---- it isn't drawn
 
-module _ (c : goal.After-code_levels_into) where
+module _ (c : goal.After-self-else-self-2-1) where
   abbrev marks : List ℕ
   marks = boxed_slice_items c.self.inside.quants
 

@@ -16,7 +16,7 @@ use Rattle.sender_end.proofs.Drawing.{coded_as, drawn_already, late_with, seen_d
 use Rattle.sender_end.proofs.Storing.{coded_into}
 use Rattle.sender_end.proofs.late.LateStore.code_predicted.Goals as goal
 
-module _ (c : goal.After-code_into) where
+module _ (c : goal.After-self-1) where
   abbrev quants : List ℕ
   quants = boxed_slice_items c.self.inside.quants
 

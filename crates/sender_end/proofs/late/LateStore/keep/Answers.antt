@@ -6,7 +6,7 @@ use Rattle.sender_end.specs.Late.{IsLateStore, LatePictures, quant_at, store_onc
 use Rattle.sender_end.proofs.Drawing.{after_keep, kept_drawn, kept_late, kept_seen}
 use Rattle.sender_end.proofs.late.LateStore.keep.Goals as goal
 
-module _ (c : goal.After-index) where
+module _ (c : goal.After-self-2-1) where
   abbrev quants : List ℕ
   quants = boxed_slice_items c.self.inside.quants
 
