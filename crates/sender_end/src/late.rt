@@ -240,7 +240,15 @@ impl LateStore {
         ensures draws_all { self.new.draws_all ≡ self.old.draws_all }
     {
         if self.draws_all {
-            code_into(params, frame, None, number, header, cutter, self.store.work(0));
+            code_into(
+                params,
+                frame,
+                None,
+                number,
+                header,
+                cutter,
+                self.store.work(0),
+            );
         } else {
             let work = self.quants.len() - 1;
             self.quants[work] = header.quant;

@@ -1,18 +1,16 @@
-use Rattle.std.proofs.Common.{rules, ◌≡◌, ℕ, ◌-◌, ◌<◌, ◌≤◌, true, false, refl, sym, ap, ◌∙◌, subst, arith, List, None, length, set}
+use Rattle.std.proofs.Common.{rules, ◌≡◌, ℕ, ◌-◌, true, false, refl, sym, ap, ◌∙◌, subst, arith, List, None, length, set}
 use Rattle.std.specs.Box.{boxed_slice_items}
-use Rattle.h263_types.specs.Sizes.{mbs_of, size_of_picture}
-use Rattle.h263_types.specs.Blocks.{IsMb}
+use Rattle.h263_types.specs.Sizes.{size_of_picture}
 use Rattle.h263_types.specs.declared.blocks.Mb.{Mb}
 use Rattle.h263_types.specs.declared.format.Format.{Format}
 use Rattle.h263_planes.specs.Layout.{picture_of}
 use Rattle.h263_planes.specs.Lent.{picture}
-use Rattle.h263_planes.specs.Picture.{Picture}
 use Rattle.mode_choice.specs.Choice.{choices_of}
 use Rattle.picture_recon.specs.Samples.{reconstruction}
-use Rattle.picture_recon.specs.Undrawn.{undrawn_mb, undrawn_mbs}
-use Rattle.picture_store.specs.Pictures.{slots_of, with_work, works_of}
+use Rattle.picture_recon.specs.Undrawn.{undrawn_mbs}
+use Rattle.picture_store.specs.Pictures.{slots_of, with_work}
 use Rattle.sender_end.specs.Coding.{IsCodedInto}
-use Rattle.sender_end.specs.Late.{AreKeptAs, AreLate, CanBeDrawn, IsLateStore, LatePictures, once_drawn, quant_at, store_once_drawn}
+use Rattle.sender_end.specs.Late.{AreKeptAs, AreLate, CanBeDrawn, LatePictures, once_drawn, quant_at, store_once_drawn}
 use Rattle.sender_end.proofs.Drawing.{can_as, coded_as, drawn_already, drawn_later, kept_itself, late_with, set_same}
 use Rattle.sender_end.proofs.Storing.{coded_into}
 use Rattle.sender_end.proofs.late.LateStore.code_intra.Goals as goal

@@ -1,4 +1,4 @@
-use Rattle.std.proofs.Common.{◌≡◌, ℕ, sym, ap, ◌∙◌, arith, mod-lt}
+use Rattle.std.proofs.Common.{◌≡◌, sym, ap, ◌∙◌, arith, mod-lt}
 use Rattle.std.specs.Box.{boxed_slice_items}
 use Rattle.std.proofs.lemmas.Option.{IfSome_then}
 use Rattle.picture_store.specs.Pictures.{picture_in, slot_of}
