@@ -1,4 +1,4 @@
-use Rattle.std.proofs.Common.{rules, ◌≡◌, ℕ, ◌-◌, true, false, refl, sym, ap, ◌∙◌, subst, arith, List, None, length, set}
+use Rattle.std.proofs.Common.{rules, ◌≡◌, ℕ, ◌-◌, false, refl, sym, ap, ◌∙◌, subst, arith, List, None, length, set}
 use Rattle.std.specs.Box.{boxed_slice_items}
 use Rattle.h263_types.specs.Sizes.{size_of_picture}
 use Rattle.h263_types.specs.declared.blocks.Mb.{Mb}
