@@ -78,7 +78,7 @@ fn send(
     let pace = FixedPace {
         quant: params.quant,
     };
-    let mut sender = Sender::start(rt.alloc(), params, pace)?;
+    let mut sender = Sender::start_without_recon(rt.alloc(), params, pace)?;
     let mut sum = 0;
     let done = send_frames(rt, &mut sender, video, recorded, samples, &mut sum);
     sender.finish();

@@ -37,7 +37,7 @@ impl Ends {
         let pace = FixedPace {
             quant: params.quant,
         };
-        let sender = Sender::start(alloc, params, pace)?;
+        let sender = Sender::start_without_recon(alloc, params, pace)?;
         match Receiver::start(alloc, params) {
             Ok(receiver) => Ok(Ends { sender, receiver }),
             Err(OutOfMemory) => {

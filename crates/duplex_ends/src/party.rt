@@ -58,7 +58,7 @@ impl PartyEnds {
         let pace = FixedPace {
             quant: params.quant,
         };
-        let sender = Sender::start(alloc, params, pace)?;
+        let sender = Sender::start_without_recon(alloc, params, pace)?;
         match Receiver::start(alloc, params) {
             Ok(far_end) => Ok(PartyEnds {
                 params: *params,

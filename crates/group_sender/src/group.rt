@@ -1,5 +1,5 @@
 //! The sender of a group.
-ghost use Rattle.std.specs.Prelude.{◌≡◌, ◌+◌, ◌-◌, ◌<◌, ◌≤◌, ℕ, Some, None, List, [], length, slice_index_or, if◌then◌else◌};
+ghost use Rattle.std.specs.Prelude.{◌≡◌, ◌+◌, ◌-◌, ◌<◌, ◌≤◌, ℕ, true, false, Some, None, List, [], length, slice_index_or, if◌then◌else◌};
 ghost use Rattle.std.specs.Prelude.{All, IfOk};
 ghost use Rattle.std.specs.Option.{option_map};
 ghost use Rattle.h263_types.specs.Params.{IsParams};
@@ -67,16 +67,40 @@ impl<P: Pace> Group<P> {
     ghost use Rattle.group_sender.specs.Holding.{Groups, HoldsGroup, answer_to, group_after_code};
     ghost use Rattle.group_sender.specs.Holding.{group_after_saying, group_packets, next_of_group};
 
-    /// A sender before its first picture, and nobody to receive it.
+    /// A sender before its first picture, and nobody to receive it. It draws each picture as it is
+    /// coded, so it has a `recon`.
     pub fn start(alloc: Global, params: &Params, pace: P) -> Result<Group<P>, OutOfMemory>
         requires { IsParams params.now }
         ensures params { IfOk result (λ group. group.params ≡ params.now) }
         ensures sent { IfOk result (λ group. group.sender.sent ≡ 0) }
         ensures pace { IfOk result (λ group. group.sender.pace ≡ pace) }
+        ensures draws_all { IfOk result (λ group. group.sender.draws_all ≡ true) }
         ensures holds { IfOk result (λ group. HoldsGroup group no_group) }
     {
         let members = places(alloc, params)?;
         let sender = Sender::start(alloc, params, pace)?;
+        Ok(Group {
+            sender,
+            params: *params,
+            members,
+        })
+    }
+
+    /// The same, but an intra picture is drawn only once another is predicted from it.
+    pub fn start_without_recon(
+        alloc: Global,
+        params: &Params,
+        pace: P,
+    ) -> Result<Group<P>, OutOfMemory>
+        requires { IsParams params.now }
+        ensures params { IfOk result (λ group. group.params ≡ params.now) }
+        ensures sent { IfOk result (λ group. group.sender.sent ≡ 0) }
+        ensures pace { IfOk result (λ group. group.sender.pace ≡ pace) }
+        ensures draws_all { IfOk result (λ group. group.sender.draws_all ≡ false) }
+        ensures holds { IfOk result (λ group. HoldsGroup group no_group) }
+    {
+        let members = places(alloc, params)?;
+        let sender = Sender::start_without_recon(alloc, params, pace)?;
         Ok(Group {
             sender,
             params: *params,
@@ -118,6 +142,7 @@ impl<P: Pace> Group<P> {
         ensures params { self.new.params ≡ self.old.params }
         ensures sent { self.new.sender.sent ≡ self.old.sender.sent + 1 }
         ensures pace { self.new.sender.pace ≡ self.old.sender.pace }
+        ensures draws_all { self.new.sender.draws_all ≡ self.old.sender.draws_all }
         ensures count { result.packets ≡ length self.new.sender.packets }
         ensures limit { All (λ packet. length packet ≤ self.new.params.limit)
             self.new.sender.packets }
@@ -147,9 +172,11 @@ impl<P: Pace> Group<P> {
         self.sender.packet(i)
     }
 
-    /// What a decoder makes of the picture that was coded last. One was coded.
+    /// What a decoder makes of the picture that was coded last. One was coded, and it is drawn: the
+    /// group was started so.
     pub fn recon(&self) -> PictureRef<'_>
-        requires { 0 < self.now.sender.sent }
+        requires coded { 0 < self.now.sender.sent }
+        requires drawn { self.now.sender.draws_all ≡ true }
         ensures holds { (run : Groups) → HoldsGroup self.now run
             → Some (picture result) ≡ picture_at run.coded (self.now.sender.sent - 1) }
         ensures format { (picture result).format ≡ self.now.params.format }
@@ -203,6 +230,7 @@ impl<P: Pace> Group<P> {
     pub fn set_pace(&mut self, pace: P)
         ensures sent { self.new.sender.sent ≡ self.old.sender.sent }
         ensures pace { self.new.sender.pace ≡ pace }
+        ensures draws_all { self.new.sender.draws_all ≡ self.old.sender.draws_all }
         ensures params { self.new.params ≡ self.old.params }
         ensures holds { (run : Groups) → HoldsGroup self.old run → HoldsGroup self.new run }
     {

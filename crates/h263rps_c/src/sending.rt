@@ -77,7 +77,7 @@ impl Sending {
         ensures stands { IfOk result (IsSender params.now target []) }
         ensures steers { IfOk result (Steers params.now target []) }
     {
-        let sender = Sender::start(
+        let sender = Sender::start_without_recon(
             alloc,
             params,
             SendPace::choose(followed(target), params.quant),

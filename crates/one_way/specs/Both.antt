@@ -24,10 +24,11 @@ use Rattle.receiver_end.specs.State as receiver_end
 abbrev pub State : Type 0
 State = SenderState FixedPace
 
--- its parameters and its pace stay
+-- its parameters and its pace stay, and whether it draws each picture
 pub record IsSameSender (old new : State) : Type 0 where
   pub params : new.params ≡ old.params
   pub pace : new.pace ≡ old.pace
+  pub draws_all : new.draws_all ≡ old.draws_all
 
 -- a captured picture whose header carries these messages, and one that carries none
 abbrev pub carrying : Picture → List Message → Frame

@@ -32,7 +32,7 @@ impl Both {
         let pace = FixedPace {
             quant: params.quant,
         };
-        let sender = Sender::start(alloc, params, pace)?;
+        let sender = Sender::start_without_recon(alloc, params, pace)?;
         match Receiver::start(alloc, params) {
             Ok(receiver) => Ok(Both { sender, receiver }),
             Err(_) => {

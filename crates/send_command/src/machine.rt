@@ -169,7 +169,7 @@ impl Begins for Send {
         let frame = vec![in alloc; 0; params.format.size() as usize]?;
         let bytes = vec![in alloc; 0; MAX_BYTES]?;
         let pace = SendPace::choose(setup.target, params.quant);
-        let sender = Sender::start(alloc, &params, pace)?;
+        let sender = Sender::start_without_recon(alloc, &params, pace)?;
         Ok(Send {
             video,
             log: LogReader::new(Side::Send),

@@ -1,6 +1,7 @@
 -- What the rule of references says of the reference that it finds.
 use Rattle.std.proofs.Common.{◌≡◌, ℕ, ◌+◌, ◌<◌, ◌≤◌, Bool, true, false, ◌&&◌, refl, subst, Option, Some, None, leb, ltb}
 use Rattle.std.specs.Prelude.{if◌then◌else◌, option_and_then}
+use Rattle.std.specs.Option.{option_map_or}
 use Rattle.std.proofs.lemmas.Bool.{and_parts, leb-true, ltb-true}
 use Rattle.call_model.specs.Numbers.{GreatestIs, greatest}
 use Rattle.call_model.specs.Coding.{Rules, window}
@@ -40,3 +41,8 @@ reference_parts greatest_is rules depth known n m found = go (greatest test n) r
     go : (o : Option ℕ) → greatest test n ≡ o → Some m ≡ option_and_then kept o → (m < n) × (n ≤ m + window rules) × (depth m < rules.chain)
     go None is same = cc
     go (Some k) is same = here k is (ltb (depth k) rules.chain) refl same
+
+-- without a reference the depth is 0
+pub no_depth : (o : Option ℕ) (depth : ℕ → ℕ) → o ≡ None → option_map_or (λ m. depth m + 1) o 0 ≡ 0
+no_depth None depth none = refl
+no_depth (Some m) depth none = cc

@@ -2,6 +2,7 @@ pub mod Choosing
 pub mod Numbering
 pub mod Keeping
 pub mod Storing
+pub mod Drawing
 pub mod Captured
 pub mod Noted
 pub mod Counted

@@ -1,5 +1,6 @@
 pub mod Headers
 pub mod Coding
+pub mod Late
 pub mod Selecting
 pub mod State
 pub mod Parts

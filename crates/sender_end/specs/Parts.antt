@@ -20,7 +20,8 @@ state_of s =
       sizes = s.sizes.items;
       since = s.since;
       selector = s.selector;
-      store = s.store;
+      store = s.store.store;
+      draws_all = s.store.draws_all;
     }
 
 -- they fit each other
@@ -28,11 +29,11 @@ pub record IsReady {P : Type 0} (s : Inside P) : Type 0 where
   pub params : IsParams s.params
   pub cutter_format : format_of s.cutter ≡ s.params.format
   pub cutter_limit : limit_of s.cutter ≡ s.params.limit
-  pub store_format : s.store.format ≡ s.params.format
-  pub slots : slots_of s.store ≡ s.params.slots
-  pub works : length s.store.pictures ≡ s.params.slots + 1
+  pub store_format : s.store.store.format ≡ s.params.format
+  pub slots : slots_of s.store.store ≡ s.params.slots
+  pub works : length s.store.store.pictures ≡ s.params.slots + 1
   -- the last pictures are there
-  pub kept : (m : ℕ) → m < s.sent → s.sent ≤ m + s.params.slots → IsKept s.store m
+  pub kept : (m : ℕ) → m < s.sent → s.sent ≤ m + s.params.slots → IsKept s.store.store m
   pub selects : SelectorStands (rules_of s.params) s.selector s.sent
       (λ m. slice_index s.selector.depths (m % s.params.slots))
       (λ m. slice_index_or s.selector.known (m % s.params.slots) false)

@@ -1,5 +1,5 @@
 -- A sender as its contracts see it.
-use Rattle.std.specs.Prelude.{ℕ, List}
+use Rattle.std.specs.Prelude.{ℕ, Bool, List}
 use Rattle.h263_types.specs.declared.params.Params.{Params}
 use Rattle.picture_store.specs.Pictures.{Pictures}
 use Rattle.reference_selector.specs.declared.Selector.{Selector}
@@ -18,6 +18,9 @@ pub record SenderState (P : Type 0) : Type 0 where
   -- the number of the first picture that may be a reference: how many were coded when it last
   -- forgot
   pub since : ℕ
-  -- what is known of the last pictures, and the pictures themselves
+  -- what is known of the last pictures, and the pictures themselves, as they are once
+  -- all are drawn
   pub selector : Selector
   pub store : Pictures
+  -- each picture is drawn as it is coded, so there is one to be shown
+  pub draws_all : Bool

@@ -24,11 +24,25 @@
 //!   keeps how many pictures were coded at its last forget; a lower reference is none
 //!   (`from_floor`). Tried, and rejected: an empty list of known pictures after a forget. A late
 //!   acknowledgement makes an old one known again.
+//!
+//! - **Who wants packets alone says so at the start.** A sender of `start_without_recon` leaves an
+//!   intra picture undrawn until another is predicted from it, which most never see. Contracts see
+//!   the pictures as they are once all are drawn, so no clause of the other calls tells the two
+//!   starts apart. `recon` has `draws_all` as a condition, which `start` gives and no call takes
+//!   away: of a sender of `start` it may be asked after any list of calls, as ever. Tried, and
+//!   rejected: a second `code` that doesn't draw (all its clauses twice, and `recon` hangs on which
+//!   was called last); a type of its own without `recon` (who lends a sender on names the type, so
+//!   all of its contracts twice).
+//!
+//! - **Only intra pictures are left undrawn.** The prediction of another is at hand while it is
+//!   coded. So drawing one late is one step, never a chain. Its levels, a byte each, stand where its
+//!   samples are to stand: it takes no memory but a byte for its quantiser.
 #![tactic(auto)]
 
 mod answers;
 mod coding;
 mod headers;
+mod late;
 mod next;
 mod sender;
 

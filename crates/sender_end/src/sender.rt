@@ -1,5 +1,5 @@
 //! The sender of a call.
-ghost use Rattle.std.specs.Prelude.{◌≡◌, ◌+◌, ◌-◌, ◌%◌, ◌<◌, ◌≤◌, false, Some, List, [], ◌∷◌, length};
+ghost use Rattle.std.specs.Prelude.{◌≡◌, ◌+◌, ◌-◌, ◌%◌, ◌<◌, ◌≤◌, false, true, None, Some, List, [], ◌∷◌, length};
 ghost use Rattle.std.specs.Prelude.{slice_index_or, All, IfOk, IfSome};
 ghost use Rattle.std.specs.Option.{option_map_or};
 ghost use Rattle.h263_types.specs.Params.{IsParams};
@@ -20,8 +20,9 @@ ghost use Rattle.call_encoding.specs.Frames.{Frame};
 ghost use Rattle.call_encoding.specs.Messages.{read_message};
 
 use crate::answers::{Coded, Feedback};
-use crate::coding::{code_in_store, push_size, size_of};
+use crate::coding::{push_size, size_of};
 use crate::headers::header_of;
+use crate::late::LateStore;
 use crate::next::{Next, known_from, next_from, next_given};
 use arrayvec::ArrayVec;
 use back_messages::{Message, MessageFault, read};
@@ -31,7 +32,6 @@ use call_model::laws as call_model_laws;
 use h263_planes::PictureRef;
 use h263_types::{Mb, OutOfMemory, Pace, Params};
 use packet_cutter::Cutter;
-use picture_store::PictureStore;
 use reference_selector::Selector;
 use std::alloc::Global;
 use std::marker::Model;
@@ -49,7 +49,7 @@ pub struct Sender<P: Pace> {
     // The first picture that may be a reference: how many were coded when it last forgot.
     since: u32,
     // The pictures of the last `slots` numbers, and one that is coded.
-    store: PictureStore,
+    store: LateStore,
 }
 
 impl<P: Pace> Model for Sender<P> {
@@ -72,7 +72,7 @@ impl<P: Pace> Sender<P> {
     ghost use Rattle.sender_end.specs.Stands.{IsCodedWith, IsSeen, after_code_from, next_with};
     ghost use Rattle.sender_end.specs.Known.{known_in};
 
-    /// A sender before its first picture.
+    /// A sender before its first picture. It draws each picture as it is coded, so it has a `recon`.
     pub fn start(alloc: Global, params: &Params, pace: P) -> Result<Sender<P>, OutOfMemory>
         requires { IsParams params.now }
         ensures params { IfOk result (λ sender. sender.params ≡ params.now) }
@@ -82,12 +82,53 @@ impl<P: Pace> Sender<P> {
             ≡ room_for params.now.format (params.now.slots + 1)) }
         ensures stands { IfOk result (λ sender. Stands (P.quant_of sender.pace) sender []) }
         ensures holds { IfOk result (λ sender. Holds sender nothing_done) }
+        ensures draws_all { IfOk result (λ sender. sender.draws_all ≡ true) }
+    {
+        Sender::begin(alloc, params, pace, true)
+    }
+
+    /// The same, but an intra picture is drawn only once another is predicted from it: a caller that
+    /// wants packets alone is spared the others.
+    pub fn start_without_recon(
+        alloc: Global,
+        params: &Params,
+        pace: P,
+    ) -> Result<Sender<P>, OutOfMemory>
+        requires { IsParams params.now }
+        ensures params { IfOk result (λ sender. sender.params ≡ params.now) }
+        ensures sent { IfOk result (λ sender. sender.sent ≡ 0) }
+        ensures pace { IfOk result (λ sender. sender.pace ≡ pace) }
+        ensures room { IfOk result (λ sender. sender.store.room
+            ≡ room_for params.now.format (params.now.slots + 1)) }
+        ensures stands { IfOk result (λ sender. Stands (P.quant_of sender.pace) sender []) }
+        ensures holds { IfOk result (λ sender. Holds sender nothing_done) }
+        ensures draws_all { IfOk result (λ sender. sender.draws_all ≡ false) }
+    {
+        Sender::begin(alloc, params, pace, false)
+    }
+
+    // A sender before its first picture, which draws each picture as it is coded, or doesn't.
+    fn begin(
+        alloc: Global,
+        params: &Params,
+        pace: P,
+        draws_all: bool,
+    ) -> Result<Sender<P>, OutOfMemory>
+        requires { IsParams params.now }
+        ensures params { IfOk result (λ sender. sender.params ≡ params.now) }
+        ensures sent { IfOk result (λ sender. sender.sent ≡ 0) }
+        ensures pace { IfOk result (λ sender. sender.pace ≡ pace) }
+        ensures room { IfOk result (λ sender. sender.store.room
+            ≡ room_for params.now.format (params.now.slots + 1)) }
+        ensures stands { IfOk result (λ sender. Stands (P.quant_of sender.pace) sender []) }
+        ensures holds { IfOk result (λ sender. Holds sender nothing_done) }
+        ensures draws_all { IfOk result (λ sender. sender.draws_all ≡ draws_all) }
     {
         call_model_laws::sender_stands::<Framed, Styled, Mb, Pictured, MessageFault>();
         call_model_laws::sender_holds::<Framed, Styled, Mb, Pictured, MessageFault>();
         call_decoding_laws::are_rules();
         let cutter = Cutter::start(alloc, params)?;
-        let store = PictureStore::start(alloc, params.format, params.slots, 1)?;
+        let store = LateStore::start(alloc, params.format, params.slots, draws_all)?;
         Ok(Sender {
             pace,
             params: *params,
@@ -107,6 +148,7 @@ impl<P: Pace> Sender<P> {
         ensures sent { self.new.sent ≡ 0 }
         ensures pace { self.new.pace ≡ first_pace }
         ensures room { self.new.store.room ≡ self.old.store.room }
+        ensures draws_all { self.new.draws_all ≡ self.old.draws_all }
         ensures stands { Stands (P.quant_of self.new.pace) self.new [] }
         ensures holds { Holds self.new nothing_done }
     {
@@ -133,6 +175,7 @@ impl<P: Pace> Sender<P> {
         ensures params { self.new.params ≡ self.old.params }
         ensures sent { self.new.sent ≡ self.old.sent + 1 }
         ensures pace { self.new.pace ≡ self.old.pace }
+        ensures draws_all { self.new.draws_all ≡ self.old.draws_all }
         ensures count { result.packets ≡ length self.new.packets }
         ensures limit { All (λ packet. length packet ≤ self.new.params.limit) self.new.packets }
         ensures stands { (entries : List (SenderEntry Frame))
@@ -176,6 +219,7 @@ impl<P: Pace> Sender<P> {
         ensures params { self.new.params ≡ self.old.params }
         ensures sent { self.new.sent ≡ self.old.sent + 1 }
         ensures pace { self.new.pace ≡ self.old.pace }
+        ensures draws_all { self.new.draws_all ≡ self.old.draws_all }
         ensures count { result.packets ≡ length self.new.packets }
         ensures limit { All (λ packet. length packet ≤ self.new.params.limit) self.new.packets }
         ensures holds { (run : Run) → Holds self.old run → Holds self.new
@@ -196,6 +240,7 @@ impl<P: Pace> Sender<P> {
     fn code_next(&mut self, next: Next, frame: PictureRef<'_>, back: &[Message]) -> Coded
         requires recent { IfSome next.reference (λ m. (m < self.old.sent)
             × (self.old.sent ≤ m + self.old.params.slots)) }
+        requires depth { next.reference ≡ None → next.depth ≡ 0 }
         requires frame { (picture frame).format ≡ self.old.params.format }
         requires few { length back.now ≤ 4 }
         requires back { AreMessages self.old.params.clock back.now }
@@ -203,6 +248,7 @@ impl<P: Pace> Sender<P> {
         ensures params { self.new.params ≡ self.old.params }
         ensures sent { self.new.sent ≡ self.old.sent + 1 }
         ensures pace { self.new.pace ≡ self.old.pace }
+        ensures draws_all { self.new.draws_all ≡ self.old.draws_all }
         ensures since { self.new.since ≡ self.old.since }
         ensures count { result.packets ≡ length self.new.packets }
         ensures limit { All (λ packet. length packet ≤ self.new.params.limit) self.new.packets }
@@ -226,8 +272,7 @@ impl<P: Pace> Sender<P> {
             quant,
             back,
         );
-        code_in_store(
-            &mut self.store,
+        self.store.code(
             &mut self.cutter,
             &self.params,
             frame,
@@ -235,7 +280,7 @@ impl<P: Pace> Sender<P> {
             number,
             &header,
         );
-        self.store.keep(number, 0);
+        self.store.keep(number);
         self.selector.coded(number, next.depth);
         push_size(&mut self.sizes, size_of(&self.cutter));
         self.sent = number + 1;
@@ -262,9 +307,11 @@ impl<P: Pace> Sender<P> {
         self.cutter.packet(i)
     }
 
-    /// What a decoder makes of the picture that was coded last. One was coded.
+    /// What a decoder makes of the picture that was coded last. One was coded, and it is drawn: the
+    /// sender was started so.
     pub fn recon(&self) -> PictureRef<'_>
-        requires { 0 < self.now.sent }
+        requires coded { 0 < self.now.sent }
+        requires drawn { self.now.draws_all ≡ true }
         ensures stands { (entries : List (SenderEntry Frame))
             → Stands (P.quant_of self.now.pace) self.now entries
             → Some (picture result)

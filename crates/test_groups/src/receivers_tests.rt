@@ -1,5 +1,5 @@
 //! Three receivers, each of which loses other pictures: each shows exactly what it got.
-ghost use Rattle.std.specs.Prelude.{◌≡◌, ◌<◌, ◌≤◌, ◌+◌, IfOk, length};
+ghost use Rattle.std.specs.Prelude.{◌≡◌, ◌<◌, ◌≤◌, ◌+◌, true, IfOk, length};
 ghost use Rattle.h263_types.specs.declared.format.Format.TheVariants.{SubQcif};
 
 use back_messages::Said;
@@ -50,7 +50,8 @@ fn carry(group: &Group<FixedPace>, receiver: &mut Receiver, count: u32) -> Optio
 
 // Whether the picture on the screen is the one that was coded.
 fn is_shown(group: &Group<FixedPace>, receiver: &Receiver) -> bool
-    requires { 0 < group.now.sender.sent }
+    requires some { 0 < group.now.sender.sent }
+    requires drawn { group.now.sender.draws_all ≡ true }
 {
     group.recon().bytes() == receiver.shown().bytes()
 }
@@ -67,6 +68,7 @@ fn turn(
     requires place { place < 16 }
     requires count { count ≡ length group.old.sender.packets }
     requires some { 0 < group.old.sender.sent }
+    requires drawn { group.old.sender.draws_all ≡ true }
     requires left { receiver.old.played < 1048576 }
     ensures sender { group.new.sender ≡ group.old.sender }
     ensures params { group.new.params ≡ group.old.params }
@@ -101,11 +103,13 @@ fn is_right(group: &mut Group<FixedPace>, three: &mut Three, number: u32) -> boo
     requires number { number < 24 }
     requires format { group.old.params.format ≡ SubQcif }
     requires sent { group.old.sender.sent < 1000 }
+    requires drawn { group.old.sender.draws_all ≡ true }
     requires first { three.old.first.played < 1000 }
     requires second { three.old.second.played < 1000 }
     requires third { three.old.third.played < 1000 }
     ensures format { group.new.params.format ≡ SubQcif }
     ensures sent { group.new.sender.sent ≤ group.old.sender.sent + 1 }
+    ensures drawn { group.new.sender.draws_all ≡ true }
     ensures first { three.new.first.played ≤ three.old.first.played + 1 }
     ensures second { three.new.second.played ≤ three.old.second.played + 1 }
     ensures third { three.new.third.played ≤ three.old.third.played + 1 }
@@ -125,6 +129,7 @@ fn is_right(group: &mut Group<FixedPace>, three: &mut Three, number: u32) -> boo
 fn first_wrong(group: &mut Group<FixedPace>, three: &mut Three) -> Option<u32>
     requires format { group.old.params.format ≡ SubQcif }
     requires sent { group.old.sender.sent ≡ 0 }
+    requires drawn { group.old.sender.draws_all ≡ true }
     requires first { three.old.first.played ≡ 0 }
     requires second { three.old.second.played ≡ 0 }
     requires third { three.old.third.played ≡ 5 }

@@ -17,6 +17,7 @@ use Rattle.call_encoding.specs.Frames.{Frame}
 use Rattle.sender_end.specs.Stands.{Describes, Holds, IsCodedWith, IsSeen, Run, after_code, next_after, next_in, run_of}
 use Rattle.sender_end.specs.State.{SenderState}
 use Rattle.sender_end.proofs.Captured.{next, reference_at, with_kept}
+use Rattle.sender_end.proofs.Choosing.{no_depth}
 use Rattle.sender_end.proofs.Stepping.{holds_as, stands_as}
 use Rattle.sender_end.proofs.sender.Sender.code.Given.{Over}
 use Rattle.sender_end.proofs.sender.Sender.code.Goals.{After-code_next}
@@ -26,6 +27,10 @@ pub code_next-requires-clause-recent : goal.code_next-requires-clause-recent
 code_next-requires-clause-recent g c =
     subst (λ (x : SenderState g.row.P.Denot). IfSome c.next_from-next.result.reference (λ m. (m < x.sent) × (x.sent ≤ m + x.params.slots))) c.self.view_is
     (c.next_from-next.ensures.recent (rules_of c.self.inside.params) _ _ c.self.invariant.selects)
+
+pub code_next-requires-clause-depth : goal.code_next-requires-clause-depth
+code_next-requires-clause-depth g c = λ none.
+    c.next_from-next.ensures.depth (rules_of c.self.inside.params) _ _ c.self.invariant.selects ∙ no_depth c.next_from-next.result.reference _ none
 
 abbrev frame_of : (g : Over) → After-code_next g → Frame
 frame_of g c = record { picture = picture c.args.frame; messages = c.args.back.now }

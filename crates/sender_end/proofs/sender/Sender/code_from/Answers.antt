@@ -18,10 +18,15 @@ use Rattle.sender_end.specs.Selecting.{within_chain}
 use Rattle.sender_end.specs.Stands.{Describes, Holds, IsCodedWith, IsSeen, Run, after_code_from, next_with}
 use Rattle.sender_end.specs.State.{SenderState}
 use Rattle.sender_end.proofs.Captured.{with_kept}
+use Rattle.sender_end.proofs.Choosing.{no_depth}
 use Rattle.sender_end.proofs.Stepping.{chain_kept, holds_as, kept_is_capture}
 use Rattle.sender_end.proofs.sender.Sender.code_from.Given.{Over}
 use Rattle.sender_end.proofs.sender.Sender.code_from.Goals.{After-code_next}
 use Rattle.sender_end.proofs.sender.Sender.code_from.Goals as goal
+
+pub code_next-requires-clause-depth : goal.code_next-requires-clause-depth
+code_next-requires-clause-depth g c = λ none.
+    c.next_given-next.ensures.depth (rules_of c.self.inside.params) _ _ c.self.invariant.selects ∙ no_depth c.next_given-next.result.reference _ none
 
 abbrev frame_of : (g : Over) → After-code_next g → Frame
 frame_of g c = record { picture = picture c.args.frame; messages = c.args.back.now }

@@ -38,18 +38,23 @@ use Rattle.sender_end.proofs.sender.Sender.code_next.Given.{Over}
 use Rattle.sender_end.proofs.sender.Sender.code_next.Goals.{After-count}
 use Rattle.sender_end.proofs.sender.Sender.code_next.Goals as goal
 
-pub code_in_store-requires-clause-kept : goal.code_in_store-requires-clause-kept
-code_in_store-requires-clause-kept g c =
+pub code-requires-clause-kept : goal.code-requires-clause-kept
+code-requires-clause-kept g c =
     let ready = c.self.invariant in
     let old = c.self.inside in
     let reference = c.args.next.reference in
     let recent = subst (λ (x : SenderState g.row.P.Denot). IfSome reference (λ m. (m < x.sent) × (x.sent ≤ m + x.params.slots))) (sym c.self.view_is) c.requires.recent in
-    let kept : IfSome reference (λ m. IsKept old.store m) = IfSome_then reference recent (λ m r. ready.kept m r.0 r.1) in
-    subst (λ (k : Kind). HasKept k old.store reference) (sym (ap (λ (h : Header). h.kind) c.header_of-header.ensures.value)) (has_kept old.store reference kept)
+    let kept : IfSome reference (λ m. IsKept old.store.store m) = IfSome_then reference recent (λ m r. ready.kept m r.0 r.1) in
+    subst (λ (k : Kind). HasKept k old.store.store reference) (sym (ap (λ (h : Header). h.kind) c.header_of-header.ensures.value)) (has_kept old.store.store reference kept)
+
+-- a picture by itself has depth 0, and by that its rounding
+pub code-requires-clause-rounding : goal.code-requires-clause-rounding
+code-requires-clause-rounding g c = λ none.
+    ap (λ (h : Header). h.rounding) c.header_of-header.ensures.value ∙ ap (λ (d : ℕ). d % 2) (c.requires.depth none)
 
 pub size_of-requires : goal.size_of-requires
 size_of-requires g c k d below =
-    omega (arith, c.written_packets.ensures.small _ _ _ _ _ _ c.code_in_store.ensures.packets k d below, c.self.invariant.params.limit_high)
+    omega (arith, c.written_packets.ensures.small _ _ _ _ _ _ c.code.ensures.packets k d below, c.self.invariant.params.limit_high)
 
 pub invariant_of-self : goal.invariant_of-self
 invariant_of-self g c =
@@ -57,28 +62,28 @@ invariant_of-self g c =
     let old = c.self.inside in
     let n = old.sent in
     let d = c.args.next.depth in
-    let stored = c.code_in_store.ensures.store in
+    let stored = c.code.ensures.store in
     let some : 0 < old.params.slots = omega (arith, ready.params.slots_low) in
-    let held : slots_of c.code_in_store.new.store ≡ old.params.slots = ap (λ (l : List (Option ℕ)). length l) stored.numbers ∙ ready.slots in
-    let before : (m : ℕ) → m < n → n ≤ m + old.params.slots → IsKept c.code_in_store.new.store m =
-    λ m below last. subst (λ (l : List (Option ℕ)). IsKept (record old.store { numbers = l }) m) (sym stored.numbers) (ready.kept m below last)
+    let held : slots_of c.code.new.self.store ≡ old.params.slots = ap (λ (l : List (Option ℕ)). length l) stored.numbers ∙ ready.slots in
+    let before : (m : ℕ) → m < n → n ≤ m + old.params.slots → IsKept c.code.new.self.store m =
+    λ m below last. subst (λ (l : List (Option ℕ)). IsKept (record old.store.store { numbers = l }) m) (sym stored.numbers) (ready.kept m below last)
     in
     record {
       params = ready.params;
-      cutter_format = c.code_in_store.ensures.cutter_format;
-      cutter_limit = c.code_in_store.ensures.cutter_limit;
-      store_format = c.keep.ensures.format ∙ stored.format ∙ ready.store_format;
+      cutter_format = c.code.ensures.cutter_format;
+      cutter_limit = c.code.ensures.cutter_limit;
+      store_format = c.keep.ensures.keeps.format ∙ stored.format ∙ ready.store_format;
       slots =
-          ap (λ (l : List (Option ℕ)). length l) c.keep.ensures.numbers
-          ∙ length-set c.code_in_store.new.store.numbers (slot_of c.code_in_store.new.store n) _
+          ap (λ (l : List (Option ℕ)). length l) c.keep.ensures.keeps.numbers
+          ∙ length-set c.code.new.self.store.numbers (slot_of c.code.new.self.store n) _
           ∙ held;
-      works = c.keep.ensures.works ∙ stored.pictures ∙ ready.works;
-      kept = still_kept c.searches.ensures.rests c.code_in_store.new.store c.keep.new.self old.params.slots n held some before c.keep.ensures.numbers;
+      works = c.keep.ensures.keeps.works ∙ stored.pictures ∙ ready.works;
+      kept = still_kept c.searches.ensures.rests c.code.new.self.store c.keep.new.self.store old.params.slots n held some before c.keep.ensures.keeps.numbers;
       selects =
           own_numbers (rules_of old.params) c.coded.new.self (n + 1) _ _
           (coded_numbers (rules_of old.params) old.selector c.coded.new.self n d _ _ c.coded.ensures ready.selects);
       few = omega (arith, c.requires.left, ap (λ (x : SenderState g.row.P.Denot). x.sent) c.self.view_is);
-      small = c.written_packets.ensures.small _ _ _ _ _ _ c.code_in_store.ensures.packets;
+      small = c.written_packets.ensures.small _ _ _ _ _ _ c.code.ensures.packets;
     }
 
 -- the sender as it was and as it is, the frame and the answer
@@ -90,7 +95,7 @@ after g c =
     state_of
     (record (c.self.inside) {
       sent = c.self.inside.sent + 1;
-      cutter = c.code_in_store.new.cutter;
+      cutter = c.code.new.cutter;
       selector = c.coded.new.self;
       sizes = c.push_size.new.sizes;
       store = c.keep.new.self;
@@ -117,12 +122,12 @@ coded_with g c s seen depth_is =
     let messages = c.args.back.now in
     let params_are : c.args.self.now.params ≡ p = ap (λ (x : SenderState g.row.P.Denot). x.params) (sym c.self.view_is) in
     let frame = frame_of g c in
-    let mid = c.code_in_store.new.store in
-    let now = c.keep.new.self in
-    let coding = c.code_in_store.ensures in
+    let mid = c.code.new.self.store in
+    let now = c.keep.new.self.store in
+    let coding = c.code.ensures in
     let some : 0 < p.slots = omega (arith, ready.params.slots_low) in
     let held : slots_of mid ≡ p.slots = ap (λ (l : List (Option ℕ)). length l) coding.store.numbers ∙ ready.slots in
-    let earlier = kept_picture old.store reference in
+    let earlier = kept_picture old.store.store reference in
     let x = made p frame reference d q earlier in
     let style_of : List Message → Style = λ l. style_in p.format (in_places l) (is_some reference) d q in
     let plain = numbered p.clock n reference (style_of messages) in
@@ -135,19 +140,19 @@ coded_with g c s seen depth_is =
     let chosen_mbs : choices_of frame.picture earlier c.header_of-header.result p ≡ mbs =
     ap (λ (h : Header). choices_of frame.picture earlier h p) headed ∙ c.written_packets.ensures.choice p frame earlier header (c.requires.frame ∙ ap (λ (q : Params). q.format) params_are)
     in
-    let written : ArePacketsOf n (sequence_of old.cutter) (header_from header) p.limit mbs (packets_of c.code_in_store.new.cutter) =
-    subst (λ (l : List Mb). ArePacketsOf n (sequence_of old.cutter) (header_from header) p.limit l (packets_of c.code_in_store.new.cutter)) chosen_mbs
-    (subst (λ (h : Header). ArePacketsOf n (sequence_of old.cutter) h p.limit (choices_of frame.picture earlier c.header_of-header.result p) (packets_of c.code_in_store.new.cutter)) headed coding.packets)
+    let written : ArePacketsOf n (sequence_of old.cutter) (header_from header) p.limit mbs (packets_of c.code.new.cutter) =
+    subst (λ (l : List Mb). ArePacketsOf n (sequence_of old.cutter) (header_from header) p.limit l (packets_of c.code.new.cutter)) chosen_mbs
+    (subst (λ (h : Header). ArePacketsOf n (sequence_of old.cutter) h p.limit (choices_of frame.picture earlier c.header_of-header.result p) (packets_of c.code.new.cutter)) headed coding.packets)
     in
-    let packets : packets_of c.code_in_store.new.cutter ≡ (encoding p).packets n (sequence_of old.cutter) header x.slices =
-    c.written_packets.ensures.packets p (is_some reference) n (sequence_of old.cutter) header mbs (packets_of c.code_in_store.new.cutter) (numbered_fits p n reference x.style) refl written
+    let packets : packets_of c.code.new.cutter ≡ (encoding p).packets n (sequence_of old.cutter) header x.slices =
+    c.written_packets.ensures.packets p (is_some reference) n (sequence_of old.cutter) header mbs (packets_of c.code.new.cutter) (numbered_fits p n reference x.style) refl written
     in
-    let count : length (packets_of c.code_in_store.new.cutter) ≡ length x.slices =
+    let count : length (packets_of c.code.new.cutter) ≡ length x.slices =
     ap (λ (l : List (List ℕ)). length l) packets ∙ c.written_packets.ensures.count p n (sequence_of old.cutter) header x.slices
     in
     let rounding : c.header_of-header.result.rounding ≡ x.style.rounding = ap (λ (h : Header). h.rounding) headed in
     let shown : picture_in now (n % p.slots) ≡ x.picture =
-    ap (λ (l : ℕ). picture_in now (n % l)) (sym held) ∙ c.keep.ensures.kept ∙ coding.store.work
+    ap (λ (l : ℕ). picture_in now (n % l)) (sym held) ∙ c.keep.ensures.keeps.kept ∙ coding.store.work
     ∙ ap (λ (r : ℕ). recon.reconstruction p.format r earlier (choices_of frame.picture earlier c.header_of-header.result p)) rounding
     ∙ ap (λ (l : List Mb). recon.reconstruction p.format x.style.rounding earlier l) chosen_mbs
     ∙ sym (c.are_pictures.ensures.reconstructed p.format x.style earlier mbs)
@@ -155,12 +160,12 @@ coded_with g c s seen depth_is =
     let is_next : x ≡ with_kept p (g.P.Pace.quant_of old.pace s.sizes) frame s reference =
     made_is_kept p (g.P.Pace.quant_of old.pace s.sizes) frame s reference d q earlier depth_is
     (sym (ap (g.P.Pace.quant_of old.pace) (seen.sizes ∙ sym c.as_slice.ensures.value) ∙ sym c.quant-quant.ensures.value))
-    (same_picture old.store p.slots s.picture reference some ready.slots seen.picture)
+    (same_picture old.store.store p.slots s.picture reference some ready.slots seen.picture)
     in
     let t : Sender Picture = record {
       sent = n + 1;
-      sequence = sequence_of c.code_in_store.new.cutter;
-      packets = packets_of c.code_in_store.new.cutter;
+      sequence = sequence_of c.code.new.cutter;
+      packets = packets_of c.code.new.cutter;
       sizes = c.push_size.new.sizes.items;
       picture = λ rest. picture_in now rest;
       depth = at_new (n % p.slots) d s.depth;
@@ -171,21 +176,21 @@ coded_with g c s seen depth_is =
       sent = ap (λ (k : ℕ). k + 1) (sym seen.sent);
       sequence =
           coding.sequence
-          ∙ ap (λ (k : ℕ). (k + length (packets_of c.code_in_store.new.cutter)) % 65536) (sym seen.sequence)
+          ∙ ap (λ (k : ℕ). (k + length (packets_of c.code.new.cutter)) % 65536) (sym seen.sequence)
           ∙ ap (λ (k : ℕ). (s.sequence + k) % 65536) count;
-      packets = packets_are p s n (sequence_of old.cutter) x (packets_of c.code_in_store.new.cutter) seen.sent seen.sequence packets;
+      packets = packets_are p s n (sequence_of old.cutter) x (packets_of c.code.new.cutter) seen.sent seen.sequence packets;
       sizes =
           c.push_size.ensures
           ∙ ap (λ (k : ℕ). with_size old.sizes.items k) c.size_of.ensures
-          ∙ ap (λ (l : List ℕ). with_size l (bytes_in (packets_of c.code_in_store.new.cutter))) (sym seen.sizes);
+          ∙ ap (λ (l : List ℕ). with_size l (bytes_in (packets_of c.code.new.cutter))) (sym seen.sizes);
       picture = ap (λ (k : ℕ). picture_in now k) at ∙ shown;
       depth = ap (at_new (n % p.slots) d s.depth) at ∙ at_same (n % p.slots) d s.depth;
       known = ap (at_new (n % p.slots) false s.known) at ∙ at_same (n % p.slots) false s.known;
       others = λ rest below differ.
           let other : rest ≡ n % p.slots → ⊥ = λ e. differ (e ∙ sym at) in
-          let in_old : rest < slots_of old.store = omega (arith, below, ready.slots) in
+          let in_old : rest < slots_of old.store.store = omega (arith, below, ready.slots) in
           let in_mid : rest < length mid.pictures = omega (arith, below, coding.store.pictures, ready.works) in (
-            c.keep.ensures.others rest in_mid (λ e. other (e ∙ ap (λ (l : ℕ). n % l) held)) (λ e. omega (arith, e, below, held))
+            c.keep.ensures.keeps.others rest in_mid (λ e. other (e ∙ ap (λ (l : ℕ). n % l) held)) (λ e. omega (arith, e, below, held))
                 ∙ coding.store.others rest in_old ∙ sym (seen.picture rest below),
             at_other (n % p.slots) rest d s.depth other,
             at_other (n % p.slots) rest false s.known other,
@@ -210,7 +215,7 @@ coded_with g c s seen depth_is =
     }
 
 pub returns-clause-limit : goal.returns-clause-limit
-returns-clause-limit g c = c.written_packets.ensures.small _ _ _ _ _ _ c.code_in_store.ensures.packets
+returns-clause-limit g c = c.written_packets.ensures.small _ _ _ _ _ _ c.code.ensures.packets
 
 pub returns-clause-made : goal.returns-clause-made
 returns-clause-made g c = λ s seen depth_is.

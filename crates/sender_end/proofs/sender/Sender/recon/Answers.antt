@@ -49,9 +49,9 @@ lent_is : (g : Over) (c : After-unwrap g) (s : Sender Picture) (run : SenderRun 
 lent_is g c s run seen keeps =
     let i = c.self.inside in
     let ready = c.self.invariant in
-    let some : 0 < i.sent = omega (arith, c.requires, ap (λ (x : SenderState g.row.P.Denot). x.sent) c.self.view_is) in
-    let shown : picture c.unwrap.result ≡ picture_in i.store (slot_of i.store (i.sent - 1)) =
-    if_some (λ r. picture r ≡ picture_in i.store (slot_of i.store (i.sent - 1))) c.view.result c.unwrap.result c.unwrap.ensures c.view.ensures.picture
+    let some : 0 < i.sent = omega (arith, c.requires.coded, ap (λ (x : SenderState g.row.P.Denot). x.sent) c.self.view_is) in
+    let shown : picture c.unwrap.result ≡ picture_in i.store.store (slot_of i.store.store (i.sent - 1)) =
+    if_some (λ r. picture r ≡ picture_in i.store.store (slot_of i.store.store (i.sent - 1))) c.view.result c.unwrap.result c.unwrap.ensures c.view.ensures.picture
     in
     ap (λ (p : Picture). let o : Option Picture = Some p in o) shown
     ∙ last_is (state_of i) s run seen keeps ready.slots (omega (arith, ready.params.slots_low)) some

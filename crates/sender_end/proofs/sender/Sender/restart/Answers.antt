@@ -10,7 +10,7 @@ use Rattle.sender_end.proofs.sender.Sender.restart.Goals as goal
 pub invariant_of-self : goal.invariant_of-self
 invariant_of-self g c =
     let ready = c.self.invariant in
-    let old = c.self.inside.store in
+    let old = c.self.inside.store.store in
     let empty = c.clear-2.ensures.empty in
     ready_new _ refl ready.params (c.restart.ensures.format ∙ ready.cutter_format) (c.restart.ensures.limit ∙ ready.cutter_limit) c.restart.ensures.none
     (empty.format ∙ ready.store_format)
