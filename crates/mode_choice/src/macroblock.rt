@@ -216,7 +216,7 @@ fn inter_macroblock(
     match out {
         Mb::Inter { blocks, .. } => {
             inter_blocks(frame, mb, quantisation, predicted, blocks, marks);
-            if is_skipped(vector, blocks) {
+            if is_skipped(vector, blocks, marks) {
                 put_skip(out);
             }
         }
@@ -233,11 +233,12 @@ fn put_skip(out: &mut Mb)
     *out = Mb::Skip;
 }
 
-// Whether the vector is zero and no level is left.
-fn is_skipped(vector: Vector, blocks: &[Block; 6]) -> bool
+// Whether the vector is zero and no level is left, as the marks tell.
+fn is_skipped(vector: Vector, blocks: &[Block; 6], marks: &[u64; 6]) -> bool
+    requires marks { AreMarksOfFirst 6 blocks.now marks.now }
     ensures { result ≡ choice.is_skipped vector blocks.now }
 {
-    vector.x == 0 && vector.y == 0 && are_empty(blocks)
+    vector.x == 0 && vector.y == 0 && are_empty(blocks, marks)
 }
 
 // Puts the levels of what a prediction leaves of a macroblock's six blocks into zeros, and their

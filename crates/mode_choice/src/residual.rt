@@ -1,7 +1,8 @@
 //! The levels of what a prediction leaves of a block.
-ghost use Rattle.std.specs.Prelude.{◌≡◌, ℕ, All, IsTrue, pos};
+ghost use Rattle.std.specs.Prelude.{◌≡◌, ℕ, All, IsTrue, nat_eq, pos};
+ghost use Rattle.std.specs.List.{list_all};
 ghost use Rattle.h263_types.specs.Blocks.{IsQuant};
-ghost use Rattle.h263_types.specs.Marks.{marks_of};
+ghost use Rattle.h263_types.specs.Marks.{AreMarksOfFirst, marks_of};
 ghost use Rattle.idct8.specs.Ranges.{IsSample};
 ghost use Rattle.quantiser.specs.Factors.{IsFactor};
 ghost use Rattle.quantiser.specs.Levels.{inter_level};
@@ -56,17 +57,25 @@ fn are_small(quant: u8, residuals: &[i16; 64]) -> bool
     }
 }
 
-// Whether no level of the blocks is left.
-pub(crate) fn are_empty(blocks: &[Block; 6]) -> bool
+// Whether no level of a macroblock's six blocks is left, as their marks tell.
+pub(crate) fn are_empty(blocks: &[Block; 6], marks: &[u64; 6]) -> bool
+    requires marks { AreMarksOfFirst 6 blocks.now marks.now }
     ensures { result ≡ choice.are_empty blocks.now }
 {
-    blocks.iter().all(is_empty)
+    let blocks: &[Block] = blocks;
+    let marks: &[u64] = marks;
+    let (_blocks, _marks) = (blocks.len(), marks.len());
+    are_none(marks)
 }
 
-// By the marks of the levels, which are taken all at once.
-#[inline(always)]
-fn is_empty(block: &Block) -> bool
-    ensures { result ≡ choice.is_empty block.now }
+fn are_none(marks: &[u64]) -> bool
+    ensures { result ≡ list_all (λ m. nat_eq m 0) marks.now }
 {
-    block.marks() == 0
+    marks.iter().all(is_none)
+}
+
+fn is_none(marks: &u64) -> bool
+    ensures { result ≡ nat_eq marks.now 0 }
+{
+    *marks == 0
 }

@@ -12,7 +12,8 @@ ghost use Rattle.h263_planes.specs.Picture.{Picture};
 ghost use Rattle.h263_planes.specs.References.{HasReference};
 ghost use Rattle.h263_planes.specs.Samples.{Inside, IsPicture, sample_at};
 ghost use Rattle.h263_planes.specs.Work.{loan_of, work};
-ghost use Rattle.half_sample.specs.Macroblock.{IsPredictionOf};
+ghost use Rattle.h263_types.specs.Vectors.{InReach};
+ghost use Rattle.half_sample.specs.Macroblock.{IsPredicted, IsPredictionOf};
 ghost use Rattle.picture_recon.specs.Marks.{AreMarkedIn, HasMarked};
 ghost use Rattle.picture_recon.specs.Samples.{sample_in};
 ghost use Rattle.picture_recon.specs.Shown.{SetsMb};
@@ -20,10 +21,10 @@ ghost use Rattle.picture_recon.specs.Shown.{SetsMb};
 use crate::coded::{Coding, draw_blocks};
 use crate::predicted::put_inter;
 use crate::skipped::put_skipped;
-use crate::values::marks_of_six;
+use crate::values::{marks_of_few, marks_of_six};
 use h263_planes::{PictureMut, PictureRef};
-use h263_types::{Block, Format, Mb, SliceHead};
-use half_sample::{Predicted, predict};
+use h263_types::{Block, Format, Mb, SliceHead, Vector};
+use half_sample::{Predicted, colours, luma};
 use picture_header::Header;
 
 /// Sets the samples of macroblock `at` in `out`, a picture of the header's format; all other
@@ -34,6 +35,44 @@ pub fn recon_mb(
     at: u32,
     header: &Header,
     reference: Option<PictureRef<'_>>,
+    out: &mut PictureMut<'_>,
+)
+    requires reference { HasReference header.now.kind header.now.format
+        (option_map picture reference) }
+    requires rounding { header.now.rounding ≤ 1 }
+    requires format { (work out.old).format ≡ header.now.format }
+    requires at { at < mbs_of header.now.format }
+    requires of_kind { IsOfKind header.now.kind mb.now }
+    requires in_range { IsMb mb.now }
+    requires reach { ReachesInside header.now.format at mb.now }
+    ensures same_loan { loan_of out.new ≡ loan_of out.old }
+    ensures format { (work out.new).format ≡ header.now.format }
+    ensures whole { IsPicture (work out.new) }
+    ensures samples { SetsMb header.now.format header.now.rounding
+        (option_map picture reference.entry) at mb.now (work out.old) (work out.new) }
+{
+    let mut predicted = no_samples();
+    recon_by(mb, at, header, reference, &mut predicted, out);
+}
+
+// A place for predicted samples.
+#[inline(always)]
+fn no_samples() -> Predicted {
+    Predicted {
+        y: [0; 256],
+        cb: [0; 64],
+        cr: [0; 64],
+    }
+}
+
+// The same, with a place for predicted samples, whatever it holds: so that a slice's macroblocks
+// have one, which isn't cleared for each.
+fn recon_by(
+    mb: &Mb,
+    at: u32,
+    header: &Header,
+    reference: Option<PictureRef<'_>>,
+    predicted: &mut Predicted,
     out: &mut PictureMut<'_>,
 )
     requires reference { HasReference header.now.kind header.now.format
@@ -67,12 +106,29 @@ pub fn recon_mb(
             blocks,
         } => {
             if let Some(picture) = reference {
-                let predicted = predict(picture, at, *vector, header.rounding);
-                let marks = marks_of_six(blocks);
-                put_inter(&predicted, *quant, blocks, &marks, at, header.format, out);
+                predict_into(picture, at, *vector, header.rounding, predicted);
+                let marks = marks_of_few(blocks);
+                put_inter(predicted, *quant, blocks, &marks, at, header.format, out);
             }
         }
     }
+}
+
+// The samples that a vector predicts for macroblock `mb` in the three planes, into their place.
+fn predict_into(
+    reference: PictureRef<'_>,
+    mb: u32,
+    vector: Vector,
+    rounding: u8,
+    out: &mut Predicted,
+)
+    requires mb { mb < mbs_of (picture reference).format }
+    requires reach { InReach (picture reference).format mb vector.x vector.y }
+    requires rounding { rounding ≤ 1 }
+    ensures { IsPredicted (picture reference.entry) mb vector rounding out.new }
+{
+    luma(reference, mb, vector, rounding, &mut out.y);
+    colours(reference, mb, vector, rounding, &mut out.cb, &mut out.cr);
 }
 
 /// The same as [`recon_mb`], where the marks of the macroblock's blocks are known, and what the
@@ -174,7 +230,15 @@ pub fn recon_slice(
         (mb_of header.now.format plane x y)) plane x y else sample_at (work out.old) plane x y) }
 {
     out.is_picture();
+    let mut predicted = no_samples();
     for at in head.first..head.first + head.count {
-        recon_mb(&mbs[at as usize], at, header, reference, out);
+        recon_by(
+            &mbs[at as usize],
+            at,
+            header,
+            reference,
+            &mut predicted,
+            out,
+        );
     }
 }

@@ -1,5 +1,5 @@
 //! The values and the samples of one block.
-ghost use Rattle.std.specs.Prelude.{◌≡◌, ℕ, ◌+◌, ◌*◌, ◌<◌, ◌≤◌, pos, ◌+ℤ◌, ◌*ℤ◌, All, length, slice_index, slice_index_or};
+ghost use Rattle.std.specs.Prelude.{◌≡◌, ℕ, ◌+◌, ◌*◌, ◌<◌, ◌≤◌, pos, ◌+ℤ◌, ◌*ℤ◌, All, length, slice_index, slice_index_or, unsigned_abs};
 ghost use Rattle.h263_types.specs.Blocks.{IsDc, IsInterBlock, IsIntraBlock, IsLevel, IsQuant, IsValue, level_at};
 ghost use Rattle.idct8.specs.Ranges.{Within};
 ghost use Rattle.idct8.specs.Transform.{inverse_at, rounded};
@@ -90,6 +90,43 @@ pub(crate) fn marks_of_six(blocks: &[Block; 6]) -> [u64; 6]
         marks_of(blocks[4]),
         marks_of(blocks[5]),
     ]
+}
+
+// The same where most blocks have no level, which is seen sooner.
+pub(crate) fn marks_of_few(blocks: &[Block; 6]) -> [u64; 6]
+    ensures { AreMarkedIn blocks.now result }
+{
+    [
+        marks_or_none(&blocks[0]),
+        marks_or_none(&blocks[1]),
+        marks_or_none(&blocks[2]),
+        marks_or_none(&blocks[3]),
+        marks_or_none(&blocks[4]),
+        marks_or_none(&blocks[5]),
+    ]
+}
+
+// The marks of a block that may have no level.
+#[inline(always)]
+fn marks_or_none(block: &Block) -> u64
+    ensures { AreMarked block.now.levels result }
+{
+    if largest(block.levels) == 0 {
+        return 0;
+    }
+    marks_of(*block)
+}
+
+// The largest size of the levels.
+#[inline(always)]
+fn largest(levels: [i16; 64]) -> u16
+    ensures { (k : ℕ) → k < 64 → unsigned_abs (slice_index_or levels k (pos 0)) ≤ result }
+{
+    let mut largest: u16 = 0;
+    for at in 0..64 {
+        largest = largest.max(levels[at].unsigned_abs());
+    }
+    largest
 }
 
 // Which levels aren't 0: bit k is for place k of the zigzag order.

@@ -4,7 +4,7 @@ use Rattle.h263_planes.specs.declared.lent.PictureRef.{PictureRef}
 use Rattle.h263_planes.specs.Lent.{picture}
 use Rattle.h263_planes.specs.Work.{work}
 use Rattle.picture_recon.proofs.Drawn.{same_drawn, reference_drawn, reference_format}
-use Rattle.picture_recon.proofs.macroblocks.recon_mb.Goals as goal
+use Rattle.picture_recon.proofs.macroblocks.recon_by.Goals as goal
 
 pub returns-in-Intra-clause-samples : goal.returns-in-Intra-clause-samples
 returns-in-Intra-clause-samples c =
@@ -20,4 +20,4 @@ returns-in-Some-reference-clause-samples c =
     let seen = ap (λ (o : Option PictureRef). option_map picture o) c.in-Some-reference.is in
     let same = reference_format header.kind header.format _ _ _ c.args.mb.now (option_map picture c.args.reference) p c.in-Inter.is seen c.requires.reference c.requires.of_kind in
     reference_drawn header.format header.rounding c.args.at c.args.mb.now _ (option_map picture c.args.reference) p _ _ c.in-Inter.is seen
-    (c.put_inter.ensures.samples p c.in-Inter.vector header.rounding same c.predict-predicted.ensures)
+    (c.put_inter.ensures.samples p c.in-Inter.vector header.rounding same c.predict_into.ensures)
