@@ -203,6 +203,7 @@ impl<P: Pace> Group<P> {
     pub fn set_pace(&mut self, pace: P)
         ensures sent { self.new.sender.sent ≡ self.old.sender.sent }
         ensures pace { self.new.sender.pace ≡ pace }
+        ensures packets { self.new.sender.packets ≡ self.old.sender.packets }
         ensures params { self.new.params ≡ self.old.params }
         ensures holds { (run : Groups) → HoldsGroup self.old run → HoldsGroup self.new run }
     {

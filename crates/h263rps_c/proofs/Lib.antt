@@ -1,6 +1,7 @@
 mod LooseValues
 mod HandleValues
 mod SessionHandleValues
+mod GroupHandleValues
 mod Held
 mod MessagesRead
 mod BeforeFirst
