@@ -28,7 +28,7 @@ export const VERDICTS: readonly Verdict[];
 /** Those of a dropped datagram, from number 1 on. */
 export const CAUSES: readonly Cause[];
 export const RUNS: readonly Run[];
-export const GROUPS: readonly Group[];
+export const GROUPS: readonly FaultGroup[];
 export const DISTANCES: readonly Distance[];
 export const PARAMS: readonly Param[];
 /** What a start names: a parameter, the number at which a receiver begins, the struct's size, or a setting of a session. */
