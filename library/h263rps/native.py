@@ -258,6 +258,7 @@ def library() -> ctypes.CDLL:
             "group_packet": [pointer, number, pointer, size, pointer],
             "group_feedback": [pointer, number, pointer, size, pointer],
             "group_waiting_for": [pointer, pointer],
+            "group_reference": [pointer, pointer],
             "group_target": [pointer, number],
             "group_quant": [pointer, ctypes.c_uint8],
             "group_sent": [pointer, pointer],

@@ -395,9 +395,11 @@ typedef struct h263rps_group {
     h263rps_statistics counted; /* h263rps_group_statistics() */
 } h263rps_group;
 
-/* The places of a group, 0 to 15, and what h263rps_group_waiting_for() has where it waits for none. */
+/* The places of a group, 0 to 15; what h263rps_group_waiting_for() has where it waits for none, and
+ * h263rps_group_reference() where there is none. */
 #define H263RPS_PLACES 16u
 #define H263RPS_NOBODY UINT32_MAX
+#define H263RPS_NO_REFERENCE UINT32_MAX
 
 /* What h263rps_session_due() has where nothing is known to be due. */
 #define H263RPS_NEVER UINT64_MAX
@@ -454,6 +456,7 @@ uint32_t h263rps_raw_group_packet(h263rps_group *group, uint32_t number, uint8_t
 uint32_t h263rps_raw_group_feedback(h263rps_group *group, uint32_t receiver,
                                     const uint8_t *message, size_t length, h263rps_reply *reply);
 uint32_t h263rps_raw_group_waiting_for(h263rps_group *group, uint32_t *receiver);
+uint32_t h263rps_raw_group_reference(h263rps_group *group, uint32_t *number);
 uint32_t h263rps_raw_group_target(h263rps_group *group, uint32_t bytes);
 uint32_t h263rps_raw_group_quant(h263rps_group *group, uint8_t quant);
 uint32_t h263rps_raw_group_sent(h263rps_group *group, uint32_t *count);
@@ -1019,6 +1022,14 @@ static inline uint32_t h263rps_group_waiting_for(h263rps_group *group, uint32_t 
     return h263rps_raw_group_waiting_for(group, receiver);
 }
 
+/* Writes to `number` the newest picture that every receiver is known to have, of those to which the
+ * next may refer, and H263RPS_NO_REFERENCE where there is none: then the next picture is intra.
+ * NOT_STARTED. */
+static inline uint32_t h263rps_group_reference(h263rps_group *group, uint32_t *number) {
+    if (!group || !number) return H263RPS_NULL;
+    return h263rps_raw_group_reference(group, number);
+}
+
 /* Follows another target from the next picture on. As h263rps_sender_target().
  * NOT_STARTED, BAD_PARAMS. */
 static inline uint32_t h263rps_group_target(h263rps_group *group, uint32_t bytes) {
@@ -1257,6 +1268,20 @@ static inline uint32_t h263rps_pace_next(const h263rps_pace *pace, h263rps_end *
     if (status) return status;
     chosen = h263rps_raw_pace_quant(pace, known == 0);
     status = h263rps_raw_sender_quant(end, (uint8_t)chosen);
+    if (!status) *quant = chosen;
+    return status;
+}
+
+/* The same for a group.
+ * NOT_STARTED. */
+static inline uint32_t h263rps_pace_next_of_group(const h263rps_pace *pace, h263rps_group *group,
+                                                  uint32_t *quant) {
+    uint32_t number = 0, status, chosen;
+    if (!pace || !group || !quant) return H263RPS_NULL;
+    status = h263rps_raw_group_reference(group, &number);
+    if (status) return status;
+    chosen = h263rps_raw_pace_quant(pace, number == H263RPS_NO_REFERENCE);
+    status = h263rps_raw_group_quant(group, (uint8_t)chosen);
     if (!status) *quant = chosen;
     return status;
 }

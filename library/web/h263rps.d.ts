@@ -294,6 +294,8 @@ export class Group extends Coder {
   feedback(receiver: number, message: Bytes): Reply;
   /** The first receiver known to have none of the pictures to which the next may refer: while there is one, all are intra. */
   waitingFor(): number | null;
+  /** The newest picture that all are known to have, of those to which the next may refer; null: the next one is intra. */
+  reference(): number | null;
 }
 
 /** The packets that were sent last, so that those can be sent again for which a receiver asks. */
@@ -330,8 +332,8 @@ export class Pace {
   constructor(format: Format, bytes: { target: number; room: number });
   /** Follows these from the next picture on. What was sent beyond the target stays counted. */
   target(target: number, room: number): void;
-  /** The quantiser for the sender's next picture, 2 to 31, which the sender codes with. */
-  next(sender: Sender): number;
+  /** The quantiser for the next picture of a sender or a group, 2 to 31, which it codes with. */
+  next(sender: Sender | Group): number;
   /** The picture was coded with this quantiser, and its packets have so many bytes together. */
   coded(coded: Coded, quant: number, size: number): void;
   /** Bytes by which the pictures exceed the target. */

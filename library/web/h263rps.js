@@ -61,8 +61,8 @@ const RTP_HEADER = 12;
 const MOST_TYPE = 127;
 /** The most messages of a picture's header. */
 const HEADER_MESSAGES = 4;
-/** What a group waits for where it waits for none. */
-const NOBODY = 0xffffffff;
+/** What a group has where there is no receiver, or no picture. */
+const NONE = 0xffffffff;
 /** The longest message, after which its struct has its length. */
 const MESSAGE = 5;
 
@@ -498,10 +498,22 @@ export class Group extends Coder {
    * each picture is intra.
    */
   waitingFor() {
+    return this.#unlessNone("waitingFor", "waiting_for");
+  }
+
+  /**
+   * The newest picture that all are known to have, of those to which the next may refer; null where there is none, so that
+   * the next one is intra.
+   */
+  reference() {
+    return this.#unlessNone("reference", "reference");
+  }
+
+  #unlessNone(call, name) {
     const { answerRoom: at } = memory;
-    this._must("waitingFor", "waiting_for", BigInt(at));
-    const receiver = memory.number(at);
-    return receiver === NOBODY ? null : receiver;
+    this._must(call, name, BigInt(at));
+    const number = memory.number(at);
+    return number === NONE ? null : number;
   }
 }
 
@@ -650,9 +662,10 @@ export class Pace {
     must("target", this.#call("redirect", counted("target", target), counted("room", room)));
   }
 
-  /** The quantiser for the sender's next picture, 2 to 31, which the sender codes with. */
+  /** The quantiser for the next picture of a sender or a group, 2 to 31, which it codes with. */
   next(sender) {
-    const quant = this.#call("quant", sender.known() ? 0 : 1);
+    const isIntra = sender instanceof Group ? sender.reference() === null : !sender.known();
+    const quant = this.#call("quant", isIntra ? 1 : 0);
     sender.quant(quant);
     return quant;
   }

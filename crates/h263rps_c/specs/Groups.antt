@@ -96,10 +96,10 @@ abbrev pub TellsSaid : CReply → Option (Reply MessageFault) → Type 0
 TellsSaid answer None = ⊥
 TellsSaid answer (Some reply) = TellsReply answer reply
 
--- the place of the receiver that is waited for; the greatest number of 32 bits where none is
-abbrev pub waited_number : Option ℕ → ℕ
-waited_number None = 4294967295
-waited_number (Some k) = k
+-- the place of a receiver, or the number of a picture; the greatest of 32 bits where there is none
+abbrev pub number_or_most : Option ℕ → ℕ
+number_or_most None = 4294967295
+number_or_most (Some n) = n
 
 -- ---- where it refuses
 

@@ -4,12 +4,12 @@ ghost use Rattle.h263_types.specs.declared.params.Params.{Params};
 ghost use Rattle.back_messages.specs.declared.message.Message.{Message};
 ghost use Rattle.call_decoding.specs.Rules.{rules_of};
 ghost use Rattle.group_sender.specs.Holding.{answer_to, group_packets, next_of_group};
-ghost use Rattle.group_sender.specs.Running.{waited_for};
+ghost use Rattle.group_sender.specs.Running.{newest_of_all, waited_for};
 ghost use Rattle.h263rps_c.specs.Asked.{params_of};
 ghost use Rattle.h263rps_c.specs.Counting as counts;
 ghost use Rattle.h263rps_c.specs.Ends.{TellsCoded};
 ghost use Rattle.h263rps_c.specs.Groups.{HoldsKept, Managing, TellsSaid, for_group, group_after, group_fault, group_pace};
-ghost use Rattle.h263rps_c.specs.Groups.{group_packets_in, group_refusal, known_in_group, place_refusal, said_refusal, waited_number};
+ghost use Rattle.h263rps_c.specs.Groups.{group_packets_in, group_refusal, known_in_group, number_or_most, place_refusal, said_refusal};
 ghost use Rattle.h263rps_c.specs.Groups as groups;
 ghost use Rattle.h263rps_c.specs.Messages.{messages_of};
 ghost use Rattle.h263rps_c.specs.Pace.{target_in};
@@ -236,13 +236,13 @@ pub extern "C" fn h263rps_raw_group_feedback(
     }
 }
 
-// The place of the receiver that is waited for, as C has it.
-fn waited_number(receiver: Option<u32>) -> u32
-    ensures { result ≡ waited_number receiver }
+// A number as C has it, the greatest where there is none.
+fn number_or_most(number: Option<u32>) -> u32
+    ensures { result ≡ number_or_most number }
 {
-    match receiver {
+    match number {
         None => u32::MAX,
-        Some(receiver) => receiver,
+        Some(number) => number,
     }
 }
 
@@ -256,12 +256,31 @@ pub extern "C" fn h263rps_raw_group_waiting_for(slot: &mut GroupSlot, receiver: 
     ensures untold { result ≢ 0 → receiver.new ≡ receiver.old }
     ensures told { (p : Params) (first : ℕ) (past : List Managing)
         → HoldsKept p first past slot.old.handle.inside → receiver.new
-        ≡ waited_number (waited_for (rules_of p) (group_after p (target_in first) past)) }
+        ≡ number_or_most (waited_for (rules_of p) (group_after p (target_in first) past)) }
 {
     if !slot.is_started() {
         return EndRefusal::NotStarted.number();
     }
-    *receiver = waited_number(slot.handle.group_mut().waiting_for());
+    *receiver = number_or_most(slot.handle.group_mut().waiting_for());
+    OK
+}
+
+/// The newest picture that each receiver of a group is known to have, of those to which the next one
+/// may refer; the greatest number where there is none, so that the next one is coded by itself.
+#[unsafe(no_mangle)]
+pub extern "C" fn h263rps_raw_group_reference(slot: &mut GroupSlot, number: &mut u32) -> u32
+    ensures result { result ≡ status_of (for_group never slot.old.handle.inside) }
+    ensures same { slot.new.handle.inside ≡ slot.old.handle.inside }
+    ensures counts { slot.new.counted ≡ slot.old.counted }
+    ensures untold { result ≢ 0 → number.new ≡ number.old }
+    ensures told { (p : Params) (first : ℕ) (past : List Managing)
+        → HoldsKept p first past slot.old.handle.inside → number.new
+        ≡ number_or_most (newest_of_all (rules_of p) (group_after p (target_in first) past)) }
+{
+    if !slot.is_started() {
+        return EndRefusal::NotStarted.number();
+    }
+    *number = number_or_most(slot.handle.group_mut().next_reference());
     OK
 }
 

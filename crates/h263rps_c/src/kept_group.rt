@@ -7,7 +7,7 @@ ghost use Rattle.call_decoding.specs.Rules.{rules_of};
 ghost use Rattle.sender_end.specs.Stands as senders;
 ghost use Rattle.sender_end.specs.declared.answers.Feedback.TheVariants.{Noted};
 ghost use Rattle.group_sender.specs.Holding.{answer_to, group_packets, next_of_group};
-ghost use Rattle.group_sender.specs.Running.{waited_for};
+ghost use Rattle.group_sender.specs.Running.{newest_of_all, waited_for};
 ghost use Rattle.h263rps_c.specs.Groups.{HoldsKept, Managing, group_after, group_pace, place_refusal, said_refusal};
 ghost use Rattle.h263rps_c.specs.Groups as groups;
 ghost use Rattle.h263rps_c.specs.Messages.{messages_of};
@@ -203,6 +203,15 @@ impl KeptGroup {
             → result ≡ waited_for (rules_of p) (group_after p (target_in first) past) }
     {
         self.group.waiting_for()
+    }
+
+    /// The newest picture in the window that each receiver that is there is known to have.
+    pub fn next_reference(&self) -> Option<u32>
+        ensures { (p : Params) (first : ℕ) (past : List Managing)
+            → HoldsKept p first past (Some self.now)
+            → result ≡ newest_of_all (rules_of p) (group_after p (target_in first) past) }
+    {
+        self.group.next_reference()
     }
 
     /// Follows this target from the next picture on, or none where it is 0.
