@@ -30,7 +30,7 @@
 #include <stdint.h>
 
 /* The version of this header: 10,000 * major + 100 * minor. h263rps_version() has the library's. */
-#define H263RPS_VERSION 20100
+#define H263RPS_VERSION 20200
 
 #ifdef __cplusplus
 extern "C" {

@@ -29,6 +29,8 @@ mod datagram;
 mod ends;
 mod group;
 mod group_slots;
+#[cfg(test)]
+mod group_tests;
 mod handles;
 mod joining;
 mod kept_group;

@@ -246,7 +246,7 @@ fn parameters(rt: HostRuntime) {
     );
     let sizes = [0, 1, 2, 3, 4].map(|format| h263rps_raw_picture_size(format));
     assert_eq!(rt; sizes, [0, 18432, 38016, 152064, 0]);
-    assert_eq!(rt; h263rps_raw_version(), 20100);
+    assert_eq!(rt; h263rps_raw_version(), 20200);
 }
 
 // A picture of a sender goes to a receiver: whether anything is refused, what its last packet is
