@@ -110,7 +110,7 @@ def wrong(sender: Sender, receiver: Receiver, params: Params) -> None:
         it.arrival(b"", 0, source="7")  # type: ignore[arg-type]
         it.bye(7)  # type: ignore[call-arg]
     with Group(params) as many:
-        many.feedback(b"")  # type: ignore[call-arg]
+        many.feedback(0)  # type: ignore[call-arg]
         many.join("3")  # type: ignore[arg-type]
         many.forget()  # type: ignore[attr-defined]
         many.waiting_for() + 1  # type: ignore[operator]

@@ -2,6 +2,7 @@ mod LooseValues
 mod HandleValues
 mod SessionHandleValues
 mod GroupHandleValues
+mod GroupStarts
 mod Held
 mod MessagesRead
 mod BeforeFirst

@@ -54,6 +54,7 @@ impl Drop for KeptGroup {
 
 impl KeptGroup {
     /// A group before its first picture, and nobody to receive it.
+    #[tactic(auto, using(crate::proofs::GroupStarts::no_packets_of_group))]
     pub fn start(alloc: Global, params: &Params, target: u32) -> Result<Box<KeptGroup>, EndRefusal>
         requires params { IsParams params.now }
         requires target { target ≤ 999999 }

@@ -64,7 +64,7 @@ class ManyRow:
     messages: float
 
 
-class _ForAll(RivalSender):
+class ForAll(RivalSender):
     """A key picture that anybody asks for goes to all."""
 
     def hear_of(self, receiver: int, message: Message, now: int) -> None:
@@ -133,4 +133,4 @@ def _ends(
     kind = VP8 if scheme == "vp8" else H264
     coder = LiveCoder(kind, video.size, asked)
     chains: list[Any] = [ChainReceiver(kind, video.size, network, False) for _ in range(members)]
-    return _ForAll(coder, kind, network), chains
+    return ForAll(coder, kind, network), chains
