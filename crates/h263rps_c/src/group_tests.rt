@@ -57,9 +57,18 @@ fn a_group_in_a_slot(rt: HostRuntime) {
     let mut fault = 77;
     let bad = Asked { slots: 1, ..SMALL };
     assert_eq!(rt; coded(&mut slot), [1, 77, 77]);
-    assert_eq!(rt; h263rps_raw_group_start(rt.alloc(), &mut slot, &bad, &mut fault), 4);
-    assert_eq!(rt; h263rps_raw_group_start(rt.alloc(), &mut slot, &SMALL, &mut fault), 0);
-    assert_eq!(rt; h263rps_raw_group_start(rt.alloc(), &mut slot, &SMALL, &mut fault), 2);
+    assert_eq!(rt;
+        h263rps_raw_group_start(rt.alloc(), &mut slot, &bad, &mut fault),
+        4
+    );
+    assert_eq!(rt;
+        h263rps_raw_group_start(rt.alloc(), &mut slot, &SMALL, &mut fault),
+        0
+    );
+    assert_eq!(rt;
+        h263rps_raw_group_start(rt.alloc(), &mut slot, &SMALL, &mut fault),
+        2
+    );
     assert_eq!(rt; h263rps_raw_group_join(&mut slot, 16), 4);
     assert_eq!(rt; h263rps_raw_group_join(&mut slot, 15), 0);
     assert_eq!(rt; said(&mut slot, 16, 0), [4, 77]);

@@ -37,6 +37,7 @@ mod kept_group;
 mod kept_session;
 pub mod laws;
 mod lining;
+mod managing;
 mod messages;
 mod pacing;
 mod receiver;
