@@ -16,7 +16,7 @@ from .rivals import H264, VP8, ChainReceiver, LiveCoder, RivalSender
 
 # How many receivers there are; the share of packets that each loses; milliseconds of a round trip, and of the wait between a
 # picture's arrival and its play; how often the losses are drawn; and bits a second on the line of each.
-MEMBERS, LOSSES, TRIPS, WAIT, DRAWS, WIRE = (2, 4, 8), (0.01, 0.03, 0.05), (50, 100, 300), 100, 3, 128_000
+MEMBERS, LOSSES, TRIPS, WAIT, DRAWS, WIRE = (2, 4, 8), (0.01, 0.03, 0.05), (100, 300, 50), 100, 3, 128_000
 FORM, CONTENTS = "qcif", ("test", "pan")
 # One sender for all; one for each, which is a group of one; and other coders, whose key picture is for all.
 SCHEMES = ("group", "each", "x264", "vp8")
@@ -73,7 +73,7 @@ class ForAll(RivalSender):
 
 def run(plan: Plan, processes: int, told: Callable[[str], None]) -> Iterator[ManyRow]:
     """Runs all calls on so many processes."""
-    jobs = [Job(plan, content, scheme, trip) for scheme in SCHEMES for trip in TRIPS for content in CONTENTS]
+    jobs = [Job(plan, content, scheme, trip) for trip in TRIPS for scheme in SCHEMES[::-1] for content in CONTENTS]
     with multiprocessing.Pool(processes) as pool:
         for job, rows, seconds in pool.imap_unordered(rows_of, jobs):
             told(f"{job.content} {job.scheme} {job.round_trip} ms: {len(rows)} calls, {seconds:.0f} s of a processor")
@@ -122,9 +122,7 @@ def _row(job: Job, video: Video, asked: int, members: int, ways: Ways) -> ManyRo
     return ManyRow(job.content, job.scheme, *where, asked, **asdict(outcome))
 
 
-def _ends(
-    scheme: str, asked: int, members: int, network: Network, video: Video
-) -> tuple[ManySender, list[Receiver]]:
+def _ends(scheme: str, asked: int, members: int, network: Network, video: Video) -> tuple[ManySender, list[Receiver]]:
     if scheme in ("group", "each"):
         lib = library.loaded()
         ours = Ours(FORM, asked * PER // (8 * RATE))

@@ -1,13 +1,15 @@
 """What came of the calls of several receivers: the table of all, two in Markdown."""
 
+from __future__ import annotations
+
 import csv
 from collections import defaultdict
 from dataclasses import asdict, astuple, dataclass, fields
 from pathlib import Path
-from typing import Callable, Iterable, Optional
+from typing import Callable, Iterable, Optional, TextIO
 
 from ..errors import BadInput
-from .group_grid import DRAWS, LOSSES, MEMBERS, TRIPS, ManyRow
+from .group_grid import DRAWS, MEMBERS, ManyRow
 
 NAMES = {"group": "ours, one for all", "each": "ours, one for each", "x264": "x264, PLI", "vp8": "VP8, PLI"}
 _TYPES = {
@@ -17,13 +19,26 @@ _TYPES = {
 
 
 def write(path: Path, found: Iterable[ManyRow]) -> None:
-    """Writes the rows, in an order that doesn't depend on which came first."""
+    """Writes the rows as they come, and at the end in an order that doesn't depend on which came first."""
+    kept = []
     with open(path, "w", encoding="utf-8", newline="") as file:
-        writer = csv.DictWriter(file, list(_TYPES), lineterminator="\n")
-        writer.writeheader()
-        for row in sorted(found, key=astuple):
-            words = {name: f"{value:.6g}" if isinstance(value, float) else value for name, value in asdict(row).items()}
-            writer.writerow(words)
+        writer = _begun(file)
+        for row in found:
+            kept.append(row)
+            writer.writerow(_words_of(row))
+            file.flush()
+    with open(path, "w", encoding="utf-8", newline="") as file:
+        _begun(file).writerows(map(_words_of, sorted(kept, key=astuple)))
+
+
+def _begun(file: TextIO) -> csv.DictWriter[str]:
+    writer = csv.DictWriter(file, list(_TYPES), lineterminator="\n")
+    writer.writeheader()
+    return writer
+
+
+def _words_of(row: ManyRow) -> dict[str, object]:
+    return {name: f"{value:.6g}" if isinstance(value, float) else value for name, value in asdict(row).items()}
 
 
 def read(path: Path) -> list[ManyRow]:
@@ -132,16 +147,16 @@ def _cell(mean: Optional[Mean]) -> str:
 _SHORT = tuple(
     Place(0, trip, loss, members)
     for trip, loss, members in (
-        (TRIPS[1], LOSSES[0], 2),
-        (TRIPS[1], LOSSES[0], 8),
-        (TRIPS[1], LOSSES[2], 2),
-        (TRIPS[1], LOSSES[2], 4),
-        (TRIPS[1], LOSSES[2], 8),
-        (TRIPS[0], LOSSES[2], 8),
-        (TRIPS[2], LOSSES[0], 8),
-        (TRIPS[2], LOSSES[2], 8),
+        (100, 0.01, 2),
+        (100, 0.01, 8),
+        (100, 0.05, 2),
+        (100, 0.05, 4),
+        (100, 0.05, 8),
+        (50, 0.05, 8),
+        (300, 0.01, 8),
+        (300, 0.05, 8),
     )
-) + (Place(1, TRIPS[1], LOSSES[2], 8),)
+) + (Place(1, 100, 0.05, 8),)
 
 
 def short_of(rows: Iterable[ManyRow]) -> str:
