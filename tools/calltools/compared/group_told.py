@@ -147,13 +147,10 @@ def _cell(mean: Optional[Mean]) -> str:
 _SHORT = tuple(
     Place(0, trip, loss, members)
     for trip, loss, members in (
-        (100, 0.01, 2),
         (100, 0.01, 8),
         (100, 0.05, 2),
-        (100, 0.05, 4),
         (100, 0.05, 8),
         (50, 0.05, 8),
-        (300, 0.01, 8),
         (300, 0.05, 8),
     )
 ) + (Place(1, 100, 0.05, 8),)
