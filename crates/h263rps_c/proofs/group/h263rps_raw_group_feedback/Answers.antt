@@ -1,8 +1,7 @@
-use Rattle.std.proofs.Common.{◌≤◌, rules, Option, Some, ap, sym, subst, ◌∙◌}
+use Rattle.std.proofs.Common.{rules, Option, subst}
 use Rattle.std.specs.Prelude.{IsOk}
 use Rattle.h263rps_c.specs.declared.kept_group.KeptGroup.{KeptGroup}
 use Rattle.h263rps_c.specs.Groups.{HoldsKept}
-use Rattle.h263rps_c.specs.Refusals.{status_of}
 use Rattle.h263rps_c.proofs.group.h263rps_raw_group_feedback.Goals as goal
 
 pub returns-in-Ok-clause-stands : goal.returns-in-Ok-clause-stands
