@@ -1,10 +1,10 @@
-"""Tests of compare_coders: its network, its ends and its table, with no coder."""
+"""Tests of compare_coders and compare_groups: their network, ends and tables, with no coder."""
 
 import unittest
 import unittest.mock
 from typing import Optional
 
-from calltools.compared import call, network, rivals, told
+from calltools.compared import call, group_grid, group_told, groups, network, rivals, told
 from calltools.compared.grid import Row
 from calltools.compared.network import MILLISECOND, Message, Network, Packet
 from calltools.y4m import Size
@@ -133,6 +133,69 @@ class CallTest(unittest.TestCase):
         came, _ = self.outcome((30, 31), True, 2)
         self.assertGreater(came.messages, 0)
         self.assertLess(came.good, 1)
+
+
+class LossyWays(groups.Ways):
+    """Ways on which each receiver loses the packets of its own places."""
+
+    lost: tuple[tuple[int, ...], ...] = ()
+
+    def losses(self, direction: int, receiver: int) -> "Places":
+        return Places(self.lost[receiver] if direction == 1 else ())
+
+
+class GroupCallTest(unittest.TestCase):
+    """The same of several receivers: who asks for a key picture gets it for all."""
+
+    def setUp(self) -> None:
+        for place in (
+            unittest.mock.patch.object(rivals, "Decoder", Decoder),
+            unittest.mock.patch.object(groups, "squares", squares),
+        ):
+            place.start()
+            self.addCleanup(place.stop)
+
+    def outcome(self, is_common: bool, *lost: tuple[int, ...]) -> tuple[groups.ManyOutcome, Coder]:
+        ways = LossyWays(CLEAN, is_common, 1)
+        object.__setattr__(ways, "lost", lost)
+        coder = Coder()
+        pictures = [bytes([number]) * SIZE.bytes for number in range(60 + call.AFTER)]
+        sender = group_grid.ForAll(coder, rivals.VP8, CLEAN)
+        receivers = [rivals.ChainReceiver(rivals.VP8, SIZE, CLEAN, False) for _ in range(3)]
+        return groups.GroupCall(sender, receivers, call.Video(SIZE, pictures), ways).outcome(), coder
+
+    def test_what_misses_nothing_is_good(self) -> None:
+        came, coder = self.outcome(False, (), (), ())
+        self.assertEqual((came.good, came.least, came.longest, coder.keys), (1.0, 1.0, 0, [0]))
+        # What goes to all counts once.
+        self.assertAlmostEqual(came.packets, 8 * 42 * 30 / 1.001 / 1000, places=6)
+
+    def test_a_loss_is_of_one_alone(self) -> None:
+        came, coder = self.outcome(False, (20,), (), ())
+        self.assertEqual((coder.keys, came.longest, came.least), ([0, 25], 5, 55 / 60))
+        self.assertAlmostEqual(came.good, (55 + 60 + 60) / 180)
+        self.assertAlmostEqual(came.keys, 2 / 60)
+
+    def test_or_of_all_alike(self) -> None:
+        came, coder = self.outcome(True, (20,), (), ())
+        self.assertEqual((coder.keys, came.good, came.least), ([0, 25], 55 / 60, 55 / 60))
+
+    def test_two_that_ask_at_once_get_one(self) -> None:
+        came, coder = self.outcome(False, (20,), (21,), ())
+        self.assertEqual(coder.keys, [0, 25])
+
+
+class GroupTableTest(unittest.TestCase):
+    def row(self, scheme: str, members: int, good: float, common: int = 0) -> group_grid.ManyRow:
+        return group_grid.ManyRow("test", scheme, members, 100, 0.05, common, 1, 99, good, good / 2, 3, 30, 0.1, 120, 8)
+
+    def test_one_for_each_stands_beside_each_number(self) -> None:
+        rows = [self.row("each", 1, 0.9), self.row("group", 8, 0.8), self.row("group", 2, 0.7, 1)]
+        table = group_told.table_of(rows)
+        cell = "90.0 (45.0), 3.0, 30.0, 10, 128k"
+        self.assertIn(f"| 100 ms | 5 % | 8 | 80.0 (40.0), 3.0, 30.0, 10, 128k | {cell} |  |  |", table)
+        self.assertIn(f"| 100 ms | 5 % | 4 |  | {cell} |  |  |", table)
+        self.assertIn("| 100 ms | 5 % | 8 | 80/30.0/10 | 90/30.0/10 |  |  |", group_told.short_of(rows))
 
 
 class CutTest(unittest.TestCase):

@@ -42,6 +42,10 @@ class End(ctypes.Structure):
     _fields_ = [("kind", ctypes.c_uint32), ("at", ctypes.c_void_p), ("counted", Counted)]
 
 
+class GroupEnd(ctypes.Structure):
+    _fields_ = [("kind", ctypes.c_uint32), ("at", ctypes.c_void_p), ("counted", Counted)]
+
+
 class Message(ctypes.Structure):
     _fields_ = [("bytes", ctypes.c_uint8 * 5), ("length", ctypes.c_uint8)]
 
@@ -247,6 +251,19 @@ def library() -> ctypes.CDLL:
             "sender_known": [pointer, pointer],
             "sender_statistics": [pointer, pointer],
             "sender_finish": [pointer],
+            "group_start": [pointer, pointer, pointer],
+            "group_join": [pointer, number],
+            "group_leave": [pointer, number],
+            "group_code": [pointer, pointer, size, pointer, size, pointer],
+            "group_packet": [pointer, number, pointer, size, pointer],
+            "group_feedback": [pointer, number, pointer, size, pointer],
+            "group_waiting_for": [pointer, pointer],
+            "group_reference": [pointer, pointer],
+            "group_target": [pointer, number],
+            "group_quant": [pointer, ctypes.c_uint8],
+            "group_sent": [pointer, pointer],
+            "group_statistics": [pointer, pointer],
+            "group_finish": [pointer],
             "repeats_start": [pointer, number, number],
             "repeats_keep": [pointer, pointer, size],
             "repeats_find": [pointer, ctypes.c_uint16, pointer],

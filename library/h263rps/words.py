@@ -52,6 +52,7 @@ class Status(str, enum.Enum):
     TOO_LONG = "too long"
     NO_START = "no start"
     NO_STREAM = "no stream"
+    NO_RECEIVER = "no receiver"
     OTHER = "other"  # a newer library's
 
     def __str__(self) -> str:
@@ -78,6 +79,7 @@ _STATUS_TEXTS = {
     "TOO_LONG": "too great a length",
     "NO_START": "no start of a packet",
     "NO_STREAM": "no stream has this run",
+    "NO_RECEIVER": "nobody is at this place of the group",
     "OTHER": "no status",
 }
 STATUS = tuple(Status)

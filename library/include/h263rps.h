@@ -30,7 +30,7 @@
 #include <stdint.h>
 
 /* The version of this header: 10,000 * major + 100 * minor. h263rps_version() has the library's. */
-#define H263RPS_VERSION 20100
+#define H263RPS_VERSION 20200
 
 #ifdef __cplusplus
 extern "C" {
@@ -60,7 +60,8 @@ enum h263rps_status {
     H263RPS_TOO_LONG = 12,    /* a length is above PTRDIFF_MAX */
     /* the library's again */
     H263RPS_NO_START = 13,    /* the bytes don't begin as a packet of any format does */
-    H263RPS_NO_STREAM = 14    /* the session's run has no stream */
+    H263RPS_NO_STREAM = 14,   /* the session's run has no stream */
+    H263RPS_NO_RECEIVER = 15  /* nobody is at this place of the group */
 };
 
 /* The sizes of pictures. */
@@ -386,6 +387,20 @@ typedef struct h263rps_nack {
     uint16_t following; /* BLP: bit i, from 1 at the least significant one, asks for the one i on */
 } h263rps_nack;
 
+/* One sender for several receivers: as an h263rps_end all zeros before its start and after its
+ * finish, and never copied. */
+typedef struct h263rps_group {
+    uint32_t kind; /* 0 where it is empty */
+    void *at;
+    h263rps_statistics counted; /* h263rps_group_statistics() */
+} h263rps_group;
+
+/* The places of a group, 0 to 15; what h263rps_group_waiting_for() has where it waits for none, and
+ * h263rps_group_reference() where there is none. */
+#define H263RPS_PLACES 16u
+#define H263RPS_NOBODY UINT32_MAX
+#define H263RPS_NO_REFERENCE UINT32_MAX
+
 /* What h263rps_session_due() has where nothing is known to be due. */
 #define H263RPS_NEVER UINT64_MAX
 
@@ -428,6 +443,25 @@ uint32_t h263rps_raw_sender_sent(h263rps_end *end, uint32_t *count);
 uint32_t h263rps_raw_sender_known(h263rps_end *end, uint32_t *count);
 uint32_t h263rps_raw_sender_statistics(h263rps_end *end, h263rps_statistics *statistics);
 uint32_t h263rps_raw_sender_finish(h263rps_end *end);
+
+uint32_t h263rps_raw_group_start(h263rps_group *group, const h263rps_params *params,
+                                 uint32_t *fault);
+uint32_t h263rps_raw_group_join(h263rps_group *group, uint32_t receiver);
+uint32_t h263rps_raw_group_leave(h263rps_group *group, uint32_t receiver);
+uint32_t h263rps_raw_group_code(h263rps_group *group, const uint8_t *picture, size_t length,
+                                const h263rps_message *messages, size_t count,
+                                h263rps_coded *coded);
+uint32_t h263rps_raw_group_packet(h263rps_group *group, uint32_t number, uint8_t *room,
+                                  size_t length, size_t *count);
+uint32_t h263rps_raw_group_feedback(h263rps_group *group, uint32_t receiver,
+                                    const uint8_t *message, size_t length, h263rps_reply *reply);
+uint32_t h263rps_raw_group_waiting_for(h263rps_group *group, uint32_t *receiver);
+uint32_t h263rps_raw_group_reference(h263rps_group *group, uint32_t *number);
+uint32_t h263rps_raw_group_target(h263rps_group *group, uint32_t bytes);
+uint32_t h263rps_raw_group_quant(h263rps_group *group, uint8_t quant);
+uint32_t h263rps_raw_group_sent(h263rps_group *group, uint32_t *count);
+uint32_t h263rps_raw_group_statistics(h263rps_group *group, h263rps_statistics *statistics);
+uint32_t h263rps_raw_group_finish(h263rps_group *group);
 
 uint32_t h263rps_raw_repeats_start(h263rps_end *end, uint32_t count, uint32_t longest);
 uint32_t h263rps_raw_repeats_keep(h263rps_end *end, const uint8_t *packet, size_t length);
@@ -489,6 +523,7 @@ static inline const char *h263rps_status_text(uint32_t status) {
     case H263RPS_TOO_LONG: return "too great a length";
     case H263RPS_NO_START: return "no start of a packet";
     case H263RPS_NO_STREAM: return "no stream has this run";
+    case H263RPS_NO_RECEIVER: return "nobody is at this place of the group";
     default: return "no status";
     }
 }
@@ -893,6 +928,146 @@ static inline uint32_t h263rps_sender_finish(h263rps_end *end) {
     return h263rps_raw_sender_finish(end);
 }
 
+/* ---- the group ----------------------------------------------------------------------------- */
+
+/* One sender for up to 16 receivers: one picture is coded for all, and each gets its packets. A
+ * picture refers to the newest one that every receiver is known to have, so what one of them loses
+ * spoils no later picture of anybody:
+ *
+ *     h263rps_group group = {0};
+ *     h263rps_group_start(&group, &params, NULL);
+ *     h263rps_group_join(&group, 0);       (a place for each; its receiver starts at the number
+ *     h263rps_group_sent(&group, &number);  of the next picture: h263rps_receiver_start_at())
+ *     h263rps_group_code(&group, picture, size, NULL, 0, &coded);      (each picture)
+ *     (send each packet of h263rps_group_packet() to all)
+ *     h263rps_group_feedback(&group, 0, message, length, &reply);      (each message, with its place)
+ *     h263rps_group_leave(&group, 0);
+ *     h263rps_group_finish(&group);
+ *
+ * While a receiver is known to have no picture of those to which the next may refer, each picture is
+ * intra: h263rps_group_waiting_for() says who holds all back. One whose line is dead is to leave, and
+ * may join again. A group takes one call at a time, and asks for memory at its start alone. */
+
+/* Makes `group`, which is all zeros, a sender with no receiver. As h263rps_sender_start(). */
+static inline uint32_t h263rps_group_start(h263rps_group *group, const h263rps_params *params,
+                                           uint32_t *fault) {
+    uint32_t unwanted = 0;
+    if (!group || !params) return H263RPS_NULL;
+    return h263rps_raw_group_start(group, params, fault ? fault : &unwanted);
+}
+
+/* A receiver joins at a place, 0 to 15. It begins with the next picture and is known to have none, so
+ * that one is intra, and those after it until it acknowledges one. A receiver that was there has
+ * left. Call it again where a receiver has lost everything, as a picture loss indication says.
+ * NOT_STARTED, BAD_PARAMS: no such place. */
+static inline uint32_t h263rps_group_join(h263rps_group *group, uint32_t receiver) {
+    if (!group) return H263RPS_NULL;
+    return h263rps_raw_group_join(group, receiver);
+}
+
+/* The receiver at this place leaves: what it has doesn't matter any more. With nobody there each
+ * picture refers to the one before.
+ * NOT_STARTED, BAD_PARAMS: no such place. */
+static inline uint32_t h263rps_group_leave(h263rps_group *group, uint32_t receiver) {
+    if (!group) return H263RPS_NULL;
+    return h263rps_raw_group_leave(group, receiver);
+}
+
+/* Codes the next picture. As h263rps_sender_code().
+ * NOT_STARTED, ENDED, WRONG_LENGTH, BAD_MESSAGES. */
+static inline uint32_t h263rps_group_code(h263rps_group *group, const void *picture, size_t length,
+                                          const h263rps_message *messages, size_t count,
+                                          h263rps_coded *coded) {
+    uint8_t nothing = 0;
+    h263rps_message none = {{0, 0, 0, 0, 0}, 0};
+    uint32_t status = h263rps_may_pass(picture, length);
+    if (!group || !coded || (!messages && count)) return H263RPS_NULL;
+    if (status) return status;
+    if (count > PTRDIFF_MAX / sizeof none) return H263RPS_TOO_LONG;
+    return h263rps_raw_group_code(group, length ? (const uint8_t *)picture : &nothing, length,
+                                  count ? messages : &none, count, coded);
+}
+
+/* Copies a packet of the picture that was coded last. As h263rps_sender_packet().
+ * NOT_STARTED, NO_PACKET, SHORT_ROOM. */
+static inline uint32_t h263rps_group_packet(h263rps_group *group, uint32_t number, void *room,
+                                            size_t length, size_t *count) {
+    uint8_t nothing = 0;
+    uint32_t status = h263rps_may_pass(room, length);
+    if (!group || !count) return H263RPS_NULL;
+    if (status) return status;
+    return h263rps_raw_group_packet(group, number, length ? (uint8_t *)room : &nothing, length,
+                                    count);
+}
+
+/* Gives a message of the receiver at this place to a group, whatever it is. Only what is known of this
+ * receiver changes. One about a picture from before it joined counts for nothing.
+ * NOT_STARTED, BAD_PARAMS: no such place. NO_RECEIVER: it has left, say, and this one comes late. */
+static inline uint32_t h263rps_group_feedback(h263rps_group *group, uint32_t receiver,
+                                              const void *message, size_t length,
+                                              h263rps_reply *reply) {
+    uint8_t nothing = 0;
+    uint32_t status = h263rps_may_pass(message, length);
+    if (!group || !reply) return H263RPS_NULL;
+    if (status) return status;
+    return h263rps_raw_group_feedback(group, receiver,
+                                      length ? (const uint8_t *)message : &nothing, length, reply);
+}
+
+/* Writes to `receiver` the first place whose receiver is known to have none of the pictures to which
+ * the next may refer, and H263RPS_NOBODY where there is none.
+ * NOT_STARTED. */
+static inline uint32_t h263rps_group_waiting_for(h263rps_group *group, uint32_t *receiver) {
+    if (!group || !receiver) return H263RPS_NULL;
+    return h263rps_raw_group_waiting_for(group, receiver);
+}
+
+/* Writes to `number` the newest picture that every receiver is known to have, of those to which the
+ * next may refer, and H263RPS_NO_REFERENCE where there is none: then the next picture is intra.
+ * NOT_STARTED. */
+static inline uint32_t h263rps_group_reference(h263rps_group *group, uint32_t *number) {
+    if (!group || !number) return H263RPS_NULL;
+    return h263rps_raw_group_reference(group, number);
+}
+
+/* Follows another target from the next picture on. As h263rps_sender_target().
+ * NOT_STARTED, BAD_PARAMS. */
+static inline uint32_t h263rps_group_target(h263rps_group *group, uint32_t bytes) {
+    if (!group) return H263RPS_NULL;
+    return h263rps_raw_group_target(group, bytes);
+}
+
+/* Codes with this quantiser from the next picture on. As h263rps_sender_quant().
+ * NOT_STARTED, BAD_PARAMS. */
+static inline uint32_t h263rps_group_quant(h263rps_group *group, uint32_t quant) {
+    if (!group) return H263RPS_NULL;
+    return h263rps_raw_group_quant(group, (uint8_t)(quant > 31 ? 0 : quant));
+}
+
+/* Writes how many pictures a group has coded to `count`: the number of the next one, at which a
+ * receiver that joins now starts.
+ * NOT_STARTED. */
+static inline uint32_t h263rps_group_sent(h263rps_group *group, uint32_t *count) {
+    if (!group || !count) return H263RPS_NULL;
+    return h263rps_raw_group_sent(group, count);
+}
+
+/* Writes what a group has counted since its start to `statistics`, as a sender does: a packet counts
+ * once for each copy that was taken out, and the messages of all receivers count together.
+ * NOT_STARTED. */
+static inline uint32_t h263rps_group_statistics(h263rps_group *group,
+                                                h263rps_statistics *statistics) {
+    if (!group || !statistics) return H263RPS_NULL;
+    return h263rps_raw_group_statistics(group, statistics);
+}
+
+/* Gives a group's memory back, and leaves it all zeros, ready for a start.
+ * NOT_STARTED. */
+static inline uint32_t h263rps_group_finish(h263rps_group *group) {
+    if (!group) return H263RPS_NULL;
+    return h263rps_raw_group_finish(group);
+}
+
 /* ---- repeats ------------------------------------------------------------------------------- */
 
 /* The packets that a sender sent last, so that those are sent again for which a receiver asks, by a
@@ -1093,6 +1268,20 @@ static inline uint32_t h263rps_pace_next(const h263rps_pace *pace, h263rps_end *
     if (status) return status;
     chosen = h263rps_raw_pace_quant(pace, known == 0);
     status = h263rps_raw_sender_quant(end, (uint8_t)chosen);
+    if (!status) *quant = chosen;
+    return status;
+}
+
+/* The same for a group.
+ * NOT_STARTED. */
+static inline uint32_t h263rps_pace_next_of_group(const h263rps_pace *pace, h263rps_group *group,
+                                                  uint32_t *quant) {
+    uint32_t number = 0, status, chosen;
+    if (!pace || !group || !quant) return H263RPS_NULL;
+    status = h263rps_raw_group_reference(group, &number);
+    if (status) return status;
+    chosen = h263rps_raw_pace_quant(pace, number == H263RPS_NO_REFERENCE);
+    status = h263rps_raw_group_quant(group, (uint8_t)chosen);
     if (!status) *quant = chosen;
     return status;
 }

@@ -1,4 +1,4 @@
-/* What programs rely on that were compiled with the header of 2.0, the first release with libh263rps.so.3, or of 2.1:
+/* What programs rely on that were compiled with the header of 2.0, the first release with libh263rps.so.3, of 2.1 or 2.2:
  * they run with each later library of this soname. `.ci/library` compiles this file with the header of today, and asks
  * the shared library for each function named here. So a struct, a number or a function that is another one isn't
  * compiled, or not found: then the soname grows (docs/LIBRARY.md, "Versions"). At a release what is new joins the
@@ -200,6 +200,18 @@ AT(h263rps_bounds, finest, 12, 4);
 AT(h263rps_bounds, period, 16, 4);
 IS(sizeof(h263rps_bounds) == 20);
 
+/* ---- a group: of 2.2 ------------------------------------------------------------------------ */
+
+AT(h263rps_group, kind, 0, 4);
+AT(h263rps_group, at, 8, 8);
+AT(h263rps_group, counted, 16, 200);
+IS(sizeof(h263rps_group) == 216);
+
+IS(H263RPS_NO_RECEIVER == 15);
+IS(H263RPS_PLACES == 16);
+IS(H263RPS_NOBODY == UINT32_MAX);
+IS(H263RPS_NO_REFERENCE == UINT32_MAX);
+
 /* ---- a session ------------------------------------------------------------------------------ */
 
 AT(h263rps_session, kind, 0, 4);
@@ -310,6 +322,24 @@ uint32_t h263rps_raw_line_wanted(h263rps_end *end, uint32_t *bytes);
 uint32_t h263rps_raw_line_target(h263rps_end *end, uint32_t *bytes);
 uint32_t h263rps_raw_line_quant(h263rps_end *end, uint32_t *quant);
 uint32_t h263rps_raw_line_finish(h263rps_end *end);
+uint32_t h263rps_raw_group_start(h263rps_group *group, const h263rps_params *params,
+                                 uint32_t *fault);
+uint32_t h263rps_raw_group_join(h263rps_group *group, uint32_t receiver);
+uint32_t h263rps_raw_group_leave(h263rps_group *group, uint32_t receiver);
+uint32_t h263rps_raw_group_code(h263rps_group *group, const uint8_t *picture, size_t length,
+                                const h263rps_message *messages, size_t count,
+                                h263rps_coded *coded);
+uint32_t h263rps_raw_group_packet(h263rps_group *group, uint32_t number, uint8_t *room,
+                                  size_t length, size_t *count);
+uint32_t h263rps_raw_group_feedback(h263rps_group *group, uint32_t receiver,
+                                    const uint8_t *message, size_t length, h263rps_reply *reply);
+uint32_t h263rps_raw_group_waiting_for(h263rps_group *group, uint32_t *receiver);
+uint32_t h263rps_raw_group_reference(h263rps_group *group, uint32_t *number);
+uint32_t h263rps_raw_group_target(h263rps_group *group, uint32_t bytes);
+uint32_t h263rps_raw_group_quant(h263rps_group *group, uint8_t quant);
+uint32_t h263rps_raw_group_sent(h263rps_group *group, uint32_t *count);
+uint32_t h263rps_raw_group_statistics(h263rps_group *group, h263rps_statistics *statistics);
+uint32_t h263rps_raw_group_finish(h263rps_group *group);
 uint32_t h263rps_raw_session_start(h263rps_session *session, const h263rps_params *params,
                                    const h263rps_timing *timing, uint32_t *fault);
 uint32_t h263rps_raw_session_arrival(h263rps_session *session, const uint8_t *bytes, size_t length,

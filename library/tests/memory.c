@@ -106,6 +106,31 @@ static long requests_of_line(void) {
     }
 }
 
+/* The same of a group, in which receivers join and leave; and -1 where a later call makes one. */
+static long requests_of_group(const h263rps_params *params) {
+    for (refused = 0;; refused++) {
+        h263rps_group group = {0};
+        h263rps_coded coded;
+        h263rps_reply reply;
+        uint32_t waits;
+        asked = held = 0;
+        uint32_t status = h263rps_group_start(&group, params, NULL);
+        if (status == H263RPS_OK) {
+            long made = asked;
+            for (uint32_t n = 0; n < 40; n++) {
+                if (h263rps_group_join(&group, n % 16)) return -1;
+                if (h263rps_group_code(&group, picture, sizeof picture, NULL, 0, &coded)) return -1;
+                if (h263rps_group_feedback(&group, n % 16, "abc", 3, &reply)) return -1;
+                if (h263rps_group_waiting_for(&group, &waits)) return -1;
+                if (n % 3 && h263rps_group_leave(&group, n % 16)) return -1;
+            }
+            h263rps_group_finish(&group);
+            return held || asked != made ? -1 : made;
+        }
+        if (status != H263RPS_NO_MEMORY || held || group.kind || group.at) return -1;
+    }
+}
+
 /* What a session asks for once it is started: 50 pictures of a sender come and are played. */
 static long later_of_session(h263rps_end *sender, const h263rps_params *params) {
     h263rps_session session = {0};
@@ -164,6 +189,7 @@ int main(void) {
     long by_sender = requests_of(0, &params), by_receiver = requests_of(1, &params);
     long by_session = requests_of_session(&params);
     long by_repeats = requests_of_repeats(), by_line = requests_of_line();
+    long by_group = requests_of_group(&params);
     refused = -1;
     if (start(0, &sender, &params) || start(1, &receiver, &params)) return 1;
     asked = 0;
@@ -179,8 +205,8 @@ int main(void) {
     h263rps_receiver_finish(&receiver);
     printf("requests for memory: a sender's start %ld, a receiver's %ld, 50 pictures, a reset and "
            "10 more then %ld; a session's start %ld, 50 pictures then %ld; of repeats %ld, of a "
-           "line %ld\n",
-           by_sender, by_receiver, later, by_session, of_session, by_repeats, by_line);
-    if (by_repeats < 1 || by_line < 1) return 9;
+           "line %ld, of a group %ld\n",
+           by_sender, by_receiver, later, by_session, of_session, by_repeats, by_line, by_group);
+    if (by_repeats < 1 || by_line < 1 || by_group < 1) return 9;
     return by_sender < 1 || by_receiver < 1 || later || by_session < 1 || of_session;
 }

@@ -558,6 +558,60 @@ static void a_session_in_a_slot(void) {
     is("again", h263rps_raw_session_finish(&slot), 1);
 }
 
+/* A group's next picture: the status, whether it is intra, its reference. */
+static void group_coded(h263rps_group *slot, uint32_t got[3]) {
+    h263rps_coded coded = {77, 77, 77, 77};
+    got[0] = h263rps_raw_group_code(slot, picture, SIZE, NULL, 0, &coded);
+    got[1] = coded.intra;
+    got[2] = coded.reference;
+}
+
+/* An ACK of picture 0 by the receiver at a place: the status, and the reply. */
+static void group_said(h263rps_group *slot, uint32_t receiver, uint32_t got[2]) {
+    h263rps_reply reply = {77, 77};
+    got[0] = h263rps_raw_group_feedback(slot, receiver, ack_0, 3, &reply);
+    got[1] = reply.kind;
+}
+
+/* Who is waited for, and what the next picture refers to. */
+static void group_stands(h263rps_group *slot, uint32_t got[3]) {
+    got[1] = 77;
+    got[2] = 77;
+    got[0] = h263rps_raw_group_waiting_for(slot, &got[1]);
+    h263rps_raw_group_reference(slot, &got[2]);
+}
+
+static void a_group_in_a_slot(void) {
+    h263rps_group slot = {0};
+    h263rps_params bad = asked;
+    uint32_t fault = 77, got[3];
+    bad.slots = 1;
+    group_coded(&slot, got);
+    ARE("empty", got, 1, 77, 77);
+    is("too few slots", h263rps_raw_group_start(&slot, &bad, &fault), 4);
+    is("start", h263rps_raw_group_start(&slot, &asked, &fault), 0);
+    is("again", h263rps_raw_group_start(&slot, &asked, &fault), 2);
+    is("place 16", h263rps_raw_group_join(&slot, 16), 4);
+    is("place 15", h263rps_raw_group_join(&slot, 15), 0);
+    group_said(&slot, 16, got);
+    ARE("place 16 says", got, 4, 77);
+    group_said(&slot, 3, got);
+    ARE("nobody says", got, 15, 77);
+    group_coded(&slot, got);
+    ARE("the first picture", got, 0, 1, 0);
+    group_stands(&slot, got);
+    ARE("it is waited for", got, 0, 15, UINT32_MAX);
+    group_said(&slot, 15, got);
+    ARE("it has it", got, 0, 0);
+    group_stands(&slot, got);
+    ARE("nobody is waited for", got, 0, UINT32_MAX, 0);
+    group_coded(&slot, got);
+    ARE("the second picture", got, 0, 0, 0);
+    is("quantiser 32", h263rps_raw_group_quant(&slot, 32), 4);
+    is("finish", h263rps_raw_group_finish(&slot), 0);
+    is("again", h263rps_raw_group_finish(&slot), 1);
+}
+
 static void test(const char *name, void (*body)(void)) {
     compared = 0;
     body();
@@ -581,6 +635,7 @@ int main(void) {
     TEST(a_line_in_a_slot);
     TEST(an_empty_slot_has_no_session);
     TEST(a_session_in_a_slot);
+    TEST(a_group_in_a_slot);
     if (!wrong) printf("each function answers an empty slot and either end as it must\n");
     return wrong;
 }

@@ -8,9 +8,11 @@ import array
 from h263rps import (
     Arrived,
     Fault,
+    Group,
     Heard,
     Line,
     MessageFault,
+    Pace,
     Params,
     Played,
     PlayedLent,
@@ -65,6 +67,18 @@ def beside(packet: bytes, now: int) -> None:
         print(room, sum_of)
 
 
+def group(picture: bytes, message: bytes) -> None:
+    with Group(Params.of("cif")) as it:
+        it.join(3)
+        pace = Pace("cif", target=4000, room=80_000)
+        quant: int = pace.next(it)
+        packets: list[bytes] = it.packets(it.code(picture))
+        note: str = it.feedback(3, message).kind
+        late: int | None = it.waiting_for()
+        print(quant, len(packets), note, late is None, it.reference() or 0, it.statistics().coded)
+        it.leave(3)
+
+
 def session(datagram: bytes) -> None:
     with Session(Params.of("cif"), rate=25, wait=100_000_000) as it:
         arrived: Arrived = it.arrival(datagram, 10**9)
@@ -95,6 +109,11 @@ def wrong(sender: Sender, receiver: Receiver, params: Params) -> None:
         it.missing(0.05, 0)  # type: ignore[arg-type]
         it.arrival(b"", 0, source="7")  # type: ignore[arg-type]
         it.bye(7)  # type: ignore[call-arg]
+    with Group(params) as many:
+        many.feedback(0)  # type: ignore[call-arg]
+        many.join("3")  # type: ignore[arg-type]
+        many.forget()  # type: ignore[attr-defined]
+        many.waiting_for() + 1  # type: ignore[operator]
     params.qant = 3  # type: ignore[attr-defined]
     params.quant = 3.5  # type: ignore[assignment]
     sender.code("text")  # type: ignore[arg-type]

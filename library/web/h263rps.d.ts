@@ -11,13 +11,13 @@ export type Note = "noted" | "old" | "no message";
 export type Verdict = "dropped" | "no place" | "ahead" | "heard";
 export type Cause = "long" | "malformed" | "other pictures" | "too fast" | "other stream";
 export type Run = "followed" | "former" | "tried";
-export type Group = "bytes" | "other clock" | "header differs" | "missing reference" | "overlap";
+export type FaultGroup = "bytes" | "other clock" | "header differs" | "missing reference" | "overlap";
 export type Distance = "intra" | "1" | "2" | "3" | "4 to 7" | "8 or more";
 export type Param =
   "quant" | "keep" | "radius" | "limit" | "slots" | "lead" | "messages" | "format" | "clock" | "target";
 export type Status =
   | "not started" | "started" | "other end" | "bad params" | "no memory" | "ended" | "wrong length"
-  | "bad messages" | "no packet" | "short room" | "null" | "too long" | "no start" | "no stream" | "other";
+  | "bad messages" | "no packet" | "short room" | "null" | "too long" | "no start" | "no stream" | "no receiver" | "other";
 
 export const FORMATS: Readonly<Record<Format, number>>;
 export const CLOCKS: Readonly<Record<Clock, number>>;
@@ -28,7 +28,7 @@ export const VERDICTS: readonly Verdict[];
 /** Those of a dropped datagram, from number 1 on. */
 export const CAUSES: readonly Cause[];
 export const RUNS: readonly Run[];
-export const GROUPS: readonly Group[];
+export const GROUPS: readonly FaultGroup[];
 export const DISTANCES: readonly Distance[];
 export const PARAMS: readonly Param[];
 /** What a start names: a parameter, the number at which a receiver begins, the struct's size, or a setting of a session. */
@@ -149,7 +149,7 @@ export interface Received {
   packets: number;
   bytes: number;
   heard: Record<Kind, number>;
-  faults: Record<Group, number>;
+  faults: Record<FaultGroup, number>;
   played: Record<Mark, number>;
 }
 
@@ -254,8 +254,8 @@ declare class Started {
   close(): void;
 }
 
-/** The end that codes pictures into packets, and hears the other side's messages. */
-export class Sender extends Started {
+/** What codes pictures into packets. */
+declare class Coder extends Started {
   constructor(params: Params);
   /** Codes the next picture, with up to four messages in its header. */
   code(picture: Bytes, messages?: Iterable<Bytes>): Coded;
@@ -263,21 +263,39 @@ export class Sender extends Started {
   packet(number: number): Uint8Array;
   /** The packets of the picture that was coded last; of an older one they are gone. */
   packets(coded: Coded): Uint8Array[];
-  /** Takes a message of the other side. */
-  feedback(message: Bytes): Reply;
   /** Follows this many bytes a picture from the next picture on, or none where it is 0. */
   target(size: number): void;
   /** Codes with this quantiser, 1 to 31, from the next picture on, and follows no target. */
   quant(quant: number): void;
+  /** How many pictures were coded: the number of the next one. */
+  sent(): number;
+  statistics(): Sent;
+}
+
+/** The end that codes pictures into packets, and hears the other side's messages. */
+export class Sender extends Coder {
+  /** Takes a message of the other side. */
+  feedback(message: Bytes): Reply;
   /** Takes no earlier picture as a reference again: the next one is intra. */
   forget(): void;
   /** Begins a call anew, with this target. */
   reset(target: number): void;
-  /** How many pictures were coded: the number of the next one. */
-  sent(): number;
   /** How many pictures it knows to be complete on the other side, of those to which its next one may refer. */
   known(): number;
-  statistics(): Sent;
+}
+
+/** One sender for up to 16 receivers at places from 0 to 15: a picture refers to the newest one that all are known to have. */
+export class Group extends Coder {
+  /** A receiver joins at a place, and begins with the next picture, whose number `sent()` has. One that was there has left. */
+  join(receiver: number): void;
+  /** The receiver at this place leaves: what it has doesn't matter any more. */
+  leave(receiver: number): void;
+  /** Takes a message of the receiver at this place; Refused, as "no receiver", where none is. */
+  feedback(receiver: number, message: Bytes): Reply;
+  /** The first receiver known to have none of the pictures to which the next may refer: while there is one, all are intra. */
+  waitingFor(): number | null;
+  /** The newest picture that all are known to have, of those to which the next may refer; null: the next one is intra. */
+  reference(): number | null;
 }
 
 /** The packets that were sent last, so that those can be sent again for which a receiver asks. */
@@ -314,8 +332,8 @@ export class Pace {
   constructor(format: Format, bytes: { target: number; room: number });
   /** Follows these from the next picture on. What was sent beyond the target stays counted. */
   target(target: number, room: number): void;
-  /** The quantiser for the sender's next picture, 2 to 31, which the sender codes with. */
-  next(sender: Sender): number;
+  /** The quantiser for the next picture of a sender or a group, 2 to 31, which it codes with. */
+  next(sender: Sender | Group): number;
   /** The picture was coded with this quantiser, and its packets have so many bytes together. */
   coded(coded: Coded, quant: number, size: number): void;
   /** Bytes by which the pictures exceed the target. */

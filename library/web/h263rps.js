@@ -14,6 +14,10 @@
  *     const quant = pace.next(sender);         // before each picture: the sender codes with it
  *     pace.coded(coded, quant, size);          // after it: the bytes of its packets together
  *
+ *     const group = new Group(Params.of("qcif"));       // one sender for up to 16 receivers
+ *     group.join(0);                           // each at a place of its own, from group.sent() on
+ *     const reply = group.feedback(0, message);         // `code` and `packets` as a sender's
+ *
  *     const receiver = new Receiver(Params.of("qcif"));
  *     const heard = receiver.packet(packet);   // heard.message goes back where it has bytes
  *     const played = receiver.playLent();      // played.picture, played.mark, played.message
@@ -57,6 +61,8 @@ const RTP_HEADER = 12;
 const MOST_TYPE = 127;
 /** The most messages of a picture's header. */
 const HEADER_MESSAGES = 4;
+/** What a group has where there is no receiver, or no picture. */
+const NONE = 0xffffffff;
 /** The longest message, after which its struct has its length. */
 const MESSAGE = 5;
 
@@ -335,16 +341,16 @@ if (Symbol.dispose) {
   Started.prototype[Symbol.dispose] = Started.prototype.close;
 }
 
-// ---- the sender -------------------------------------------------------------------------------
+// ---- the sender and the group -----------------------------------------------------------------
 
-/** The end that codes pictures into packets, and hears the other side's messages. */
-export class Sender extends Started {
+/** What codes pictures into packets. */
+class Coder extends Started {
   #limit;
   // The picture that was coded last, itself: after a reset another one has its number.
   #last = null;
 
-  constructor(params) {
-    super("sender", "start", params);
+  constructor(name, params) {
+    super(name, "start", params);
     this.#limit = params.limit;
     memory.reserve(Math.max(this.#limit, memory.call("picture_size", params.format)));
   }
@@ -388,15 +394,17 @@ export class Sender extends Started {
     return Array.from({ length: coded.packets }, (_, number) => this.packet(number));
   }
 
-  /**
-   * Takes a message of the other side.
-   * @param {import("./h263rps.js").Bytes} message
-   * @returns {import("./h263rps.js").Reply}
-   */
-  feedback(message) {
+  /** Takes a message, of the receiver at this place where there are several. */
+  _heard(message, ...receiver) {
     const { answerRoom: to } = memory;
-    memory.passed(bytesOf("message", message), (at, size) => this._must("feedback", "feedback", at, size, BigInt(to)));
+    const call = (at, size) => this._must("feedback", "feedback", ...receiver, at, size, BigInt(to));
+    memory.passed(bytesOf("message", message), call);
     return { kind: NOTED[memory.number(to)], fault: MessageFault.of(memory.number(to + 4)) };
+  }
+
+  /** There is no picture any more that was coded last. */
+  _anew() {
+    this.#last = null;
   }
 
   /** Follows this many bytes a picture from the next picture on, or none where it is 0. */
@@ -409,6 +417,33 @@ export class Sender extends Started {
     this._must("quant", "quant", counted("quant", quant) < 32 ? quant : 0);
   }
 
+  /** How many pictures were coded: the number of the next one. */
+  sent() {
+    return this._count("sent");
+  }
+
+  /** What it has counted since its start or reset. */
+  statistics() {
+    const { packets, bytes, by } = this._counted();
+    return { packets, bytes, coded: by(DISTANCES, 16), noted: by(NOTED, 22) };
+  }
+}
+
+/** The end that codes pictures into packets, and hears the other side's messages. */
+export class Sender extends Coder {
+  constructor(params) {
+    super("sender", params);
+  }
+
+  /**
+   * Takes a message of the other side.
+   * @param {import("./h263rps.js").Bytes} message
+   * @returns {import("./h263rps.js").Reply}
+   */
+  feedback(message) {
+    return this._heard(message);
+  }
+
   /** Takes no earlier picture as a reference again: the next one is intra. */
   forget() {
     this._must("forget", "forget");
@@ -417,23 +452,68 @@ export class Sender extends Started {
   /** Begins a call anew, with this target: as after its start, with no picture coded and nothing counted. */
   reset(target) {
     this._must("reset", "reset", counted("target", target));
-    this.#last = null;
-  }
-
-  /** How many pictures were coded: the number of the next one. */
-  sent() {
-    return this._count("sent");
+    this._anew();
   }
 
   /** How many pictures it knows to be complete on the other side, of those to which its next picture may refer. */
   known() {
     return this._count("known");
   }
+}
 
-  /** What it has counted since its start or reset. */
-  statistics() {
-    const { packets, bytes, by } = this._counted();
-    return { packets, bytes, coded: by(DISTANCES, 16), noted: by(NOTED, 22) };
+/**
+ * One sender for up to 16 receivers, each at a place from 0 to 15: a picture is coded once, and refers to the newest one
+ * that all are known to have.
+ */
+export class Group extends Coder {
+  constructor(params) {
+    super("group", params);
+  }
+
+  /**
+   * A receiver joins at a place: it begins with the next picture, whose number `sent()` has, and is known to have none. One
+   * that was there has left.
+   */
+  join(receiver) {
+    this._must("join", "join", counted("receiver", receiver));
+  }
+
+  /** The receiver at this place leaves: what it has doesn't matter any more. */
+  leave(receiver) {
+    this._must("leave", "leave", counted("receiver", receiver));
+  }
+
+  /**
+   * Takes a message of the receiver at this place; Refused, as "no receiver", where none is.
+   * @param {number} receiver
+   * @param {import("./h263rps.js").Bytes} message
+   * @returns {import("./h263rps.js").Reply}
+   */
+  feedback(receiver, message) {
+    return this._heard(message, counted("receiver", receiver));
+  }
+
+  /**
+   * The first receiver that is known to have none of the pictures to which the next may refer, or null: while there is one,
+   * each picture is intra.
+   */
+  waitingFor() {
+    return this.#unlessNone("waitingFor", "waiting_for");
+  }
+
+  /**
+   * The newest picture that all are known to have, of those to which the next may refer; null where there is none, so that
+   * the next one is intra.
+   */
+  reference() {
+    return this.#unlessNone("reference", "reference");
+  }
+
+  #unlessNone(call, name) {
+    const { answerRoom: at } = memory;
+    this._must(call, name, BigInt(at));
+    const number = memory.number(at);
+    return number === NONE ? null : number;
   }
 }
 
@@ -582,9 +662,10 @@ export class Pace {
     must("target", this.#call("redirect", counted("target", target), counted("room", room)));
   }
 
-  /** The quantiser for the sender's next picture, 2 to 31, which the sender codes with. */
+  /** The quantiser for the next picture of a sender or a group, 2 to 31, which it codes with. */
   next(sender) {
-    const quant = this.#call("quant", sender.known() ? 0 : 1);
+    const isIntra = sender instanceof Group ? sender.reference() === null : !sender.known();
+    const quant = this.#call("quant", isIntra ? 1 : 0);
     sender.quant(quant);
     return quant;
   }

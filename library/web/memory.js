@@ -8,7 +8,7 @@ import { Refused } from "./words.js";
 
 /** How many bytes each struct of the header has. */
 export const SIZE = Object.freeze({
-  end: 216, params: 32, message: 6, answer: 32, coded: 16, start: 48, lent: 16, reply: 8, statistics: 200,
+  end: 216, group: 216, params: 32, message: 6, answer: 32, coded: 16, start: 48, lent: 16, reply: 8, statistics: 200,
   session: 16, timing: 16, arrived: 56, turn: 44, session_counts: 80, nack: 8,
 });
 

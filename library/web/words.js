@@ -45,6 +45,7 @@ export const FAULTS = words(...PARAMS, "number", "size", "rate", "wait");
 export const STATUS = words(
   "ok", "not started", "started", "other end", "bad params", "no memory", "ended", "wrong length",
   "bad messages", "no packet", "short room", "null", "too long", "no start", "no stream",
+  "no receiver",
 );
 
 /** What a status means, where its word doesn't say it. */
@@ -62,6 +63,7 @@ export const STATUS_TEXTS = Object.freeze({
   "too long": "too great a length",
   "no start": "no start of a packet",
   "no stream": "no stream has this run",
+  "no receiver": "nobody is at this place of the group",
   other: "no status",
 });
 

@@ -63,7 +63,7 @@ fn refused(members: &[Member], place: usize, fault: MessageFault) -> Option<Feed
 }
 
 impl<P: Pace> Group<P> {
-    ghost use Rattle.group_sender.specs.Running.{after_join, after_leave, no_group, waited_for};
+    ghost use Rattle.group_sender.specs.Running.{after_join, after_leave, newest_of_all, no_group, waited_for};
     ghost use Rattle.group_sender.specs.Holding.{Groups, HoldsGroup, answer_to, group_after_code};
     ghost use Rattle.group_sender.specs.Holding.{group_after_saying, group_packets, next_of_group};
 
@@ -226,11 +226,22 @@ impl<P: Pace> Group<P> {
         first_late(self.members.as_slice(), self.sender.sent(), window)
     }
 
+    /// The newest picture in the window that each receiver that is there is known to have. The next
+    /// picture refers to it, but where its chain may not grow; without one it is coded by itself.
+    pub fn next_reference(&self) -> Option<u32>
+        ensures { (run : Groups) → HoldsGroup self.now run
+            → result ≡ newest_of_all (rules_of self.now.params) run }
+    {
+        let window = self.params.slots - self.params.lead - 1;
+        newest_for_all(self.members.as_slice(), self.sender.sent(), window)
+    }
+
     /// Takes another pace, which gives the quantisers from the next picture on.
     pub fn set_pace(&mut self, pace: P)
         ensures sent { self.new.sender.sent ≡ self.old.sender.sent }
         ensures pace { self.new.sender.pace ≡ pace }
         ensures draws_all { self.new.sender.draws_all ≡ self.old.sender.draws_all }
+        ensures packets { self.new.sender.packets ≡ self.old.sender.packets }
         ensures params { self.new.params ≡ self.old.params }
         ensures holds { (run : Groups) → HoldsGroup self.old run → HoldsGroup self.new run }
     {

@@ -1,6 +1,8 @@
 mod LooseValues
 mod HandleValues
 mod SessionHandleValues
+mod GroupHandleValues
+mod GroupStarts
 mod Held
 mod MessagesRead
 mod BeforeFirst

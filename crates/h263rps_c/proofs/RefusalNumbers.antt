@@ -1,7 +1,7 @@
 -- The number of a refusal tells it.
 use Rattle.std.proofs.Common.{arith, ◌≡◌, refl}
 use Rattle.h263rps_c.specs.declared.refusals.EndRefusal.{EndRefusal}
-use Rattle.h263rps_c.specs.declared.refusals.EndRefusal.TheVariants.{NotStarted, Started, OtherEnd, BadParams, NoMemory, Ended, WrongLength, BadMessages, NoPacket, ShortRoom, NoStart, NoStream}
+use Rattle.h263rps_c.specs.declared.refusals.EndRefusal.TheVariants.{NotStarted, Started, OtherEnd, BadParams, NoMemory, Ended, WrongLength, BadMessages, NoPacket, ShortRoom, NoStart, NoStream, NoReceiver}
 use Rattle.h263rps_c.specs.Refusals.{refusal_number}
 
 pub short_room : (r : EndRefusal) → refusal_number r ≡ 10 → r ≡ ShortRoom
@@ -17,3 +17,4 @@ short_room NoPacket e = absurd (omega (arith, e))
 short_room ShortRoom e = refl
 short_room NoStart e = absurd (omega (arith, e))
 short_room NoStream e = absurd (omega (arith, e))
+short_room NoReceiver e = absurd (omega (arith, e))

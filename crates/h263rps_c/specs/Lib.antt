@@ -22,3 +22,6 @@ pub mod Sessions
 pub mod SessionHolds
 pub mod SessionLending
 pub mod SessionReturned
+pub mod GroupHolds
+pub mod GroupLending
+pub mod Groups

@@ -7,7 +7,7 @@ use Rattle.back_messages.specs.declared.message.Message.{Message}
 use Rattle.h263rps_c.specs.declared.answers.CMessage.{CMessage}
 use Rattle.rate_control.specs.declared.send_pace.SendPace.{SendPace}
 use Rattle.h263rps_c.specs.declared.refusals.EndRefusal.{EndRefusal}
-use Rattle.h263rps_c.specs.declared.refusals.EndRefusal.TheVariants.{NotStarted, Started, OtherEnd, BadParams, NoMemory, Ended, WrongLength, BadMessages, NoPacket, ShortRoom, NoStart, NoStream}
+use Rattle.h263rps_c.specs.declared.refusals.EndRefusal.TheVariants.{NotStarted, Started, OtherEnd, BadParams, NoMemory, Ended, WrongLength, BadMessages, NoPacket, ShortRoom, NoStart, NoStream, NoReceiver}
 use Rattle.h263rps_c.specs.Messages.{messages_of}
 
 abbrev pub refusal_number : EndRefusal → ℕ
@@ -23,6 +23,7 @@ refusal_number NoPacket = 9
 refusal_number ShortRoom = 10
 refusal_number NoStart = 13
 refusal_number NoStream = 14
+refusal_number NoReceiver = 15
 
 -- what a call answers: 0, or the number of its refusal
 abbrev pub status_of : Option EndRefusal → ℕ

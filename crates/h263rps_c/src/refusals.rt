@@ -29,6 +29,8 @@ pub enum EndRefusal {
     NoStart,
     /// The run has no stream.
     NoStream,
+    /// Nobody is at this place of the group.
+    NoReceiver,
 }
 
 /// Nothing was refused.
@@ -54,6 +56,7 @@ impl EndRefusal {
             // 11 and 12 are the header's own.
             EndRefusal::NoStart => 13,
             EndRefusal::NoStream => 14,
+            EndRefusal::NoReceiver => 15,
         }
     }
 }

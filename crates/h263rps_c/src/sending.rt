@@ -30,8 +30,8 @@ use sender_end::{Coded, Feedback, Sender};
 use std::alloc::Global;
 use std::marker::Model;
 
-// The greatest target, in bytes per picture.
-const MOST_BYTES: u32 = 999_999;
+/// The greatest target, in bytes per picture.
+pub const MOST_BYTES: u32 = 999_999;
 
 /// A sender, its parameters, and how many packets its last picture has.
 pub struct Sending {
@@ -54,15 +54,15 @@ impl Model for Sending {
         × (s.packets ≡ length s.sender.packets) × IsParams s.params };
 }
 
-// The target that is followed, if there is one.
-fn followed(target: u32) -> Option<u32>
+/// The target that is followed, if there is one.
+pub fn followed(target: u32) -> Option<u32>
     ensures { result ≡ target_in target }
 {
     if target == 0 { None } else { Some(target) }
 }
 
-// Copies bytes to the start of a room.
-fn copy_to_start(room: &mut [u8], bytes: &[u8])
+/// Copies bytes to the start of a room.
+pub fn copy_to_start(room: &mut [u8], bytes: &[u8])
     requires { length bytes.now ≤ length room.old }
     ensures { room.new ≡ bytes.now ++ drop (length bytes.now) room.old }
 {

@@ -1,7 +1,7 @@
 /* What TypeScript takes and refuses of the module's types: tsc --noEmit. */
 
 import {
-  Fault, Line, Pace, Params, Receiver, Refused, Repeats, Sender, Session, datagramStart, hasLongMemory, label, load, packetStart,
+  Fault, Group, Line, Pace, Params, Receiver, Refused, Repeats, Sender, Session, datagramStart, hasLongMemory, label, load, packetStart,
   pictureSize,
 } from "../h263rps.js";
 import type { Cause, Coded, Format, Mark, Turn } from "../h263rps.js";
@@ -61,6 +61,19 @@ export function beside(packet: Uint8Array, now: bigint): Uint8Array | null {
   return repeats.find(7);
 }
 
+export function many(picture: Uint8Array, messages: Iterable<[number, Uint8Array]>): number | null {
+  const group = new Group(Params.of("qcif"));
+  group.join(3);
+  const quant: number = new Pace("qcif", { target: 1000, room: 20_000 }).next(group);
+  const coded: Coded = group.code(picture);
+  for (const [receiver, message] of messages) console.log(group.feedback(receiver, message).kind, quant);
+  if (group.reference() === null) console.log(group.packets(coded).length, group.statistics().coded.intra);
+  group.leave(3);
+  return group.waitingFor();
+}
+
+// @ts-expect-error: a message is of a receiver
+new Group(Params.of("cif")).feedback(new Uint8Array(3));
 // @ts-expect-error: a line wants the time
 new Line({ first: 900, least: 300, most: 3600, finest: 4, period: 33_366_667 });
 // @ts-expect-error: times are BigInts

@@ -26,9 +26,9 @@ class Ours:
 
 
 class OurSender:
-    def __init__(self, lib: ModuleType, asked: Ours) -> None:
+    def __init__(self, lib: ModuleType, asked: Ours, coder: str = "Sender") -> None:
         limits = {"slots": SLOTS, "lead": LEAD}
-        self._end = lib.Sender(lib.Params.of(asked.format, radius=asked.radius, limit=LIMIT, **limits))
+        self._end = getattr(lib, coder)(lib.Params.of(asked.format, radius=asked.radius, limit=LIMIT, **limits))
         self._pace = lib.Pace(asked.format, target=asked.target, room=_ROOM * asked.target)
         self._beside = lib.Receiver(lib.Params.of(asked.format, **limits))
         self._references: dict[int, bytes] = {}
@@ -45,11 +45,12 @@ class OurSender:
         assert played.mark == "exact" and played.number == number
         self._references[number] = played.picture
         self._references.pop(number - 100, None)
-        return [self._packet(number, place, len(packets), data) for place, data in enumerate(packets)]
+        is_key = coded.reference is None
+        return [self._packet(number, place, len(packets), data, is_key) for place, data in enumerate(packets)]
 
-    def _packet(self, number: int, place: int, count: int, data: bytes) -> Packet:
+    def _packet(self, number: int, place: int, count: int, data: bytes, is_key: bool) -> Packet:
         sequence = int.from_bytes(data[2:4], "big")
-        packet = Packet(number, place, count, data, UNDER_RTP + len(data), sequence=sequence)
+        packet = Packet(number, place, count, data, UNDER_RTP + len(data), is_key, sequence=sequence)
         self._kept[sequence] = packet
         self._kept.pop(sequence - _KEPT, None)
         return packet
@@ -62,6 +63,19 @@ class OurSender:
 
     def reference(self, number: int) -> bytes:
         return self._references[number]
+
+
+class OurGroup(OurSender):
+    """One sender for several receivers, which are there from the start."""
+
+    def __init__(self, lib: ModuleType, asked: Ours, members: int) -> None:
+        super().__init__(lib, asked, "Group")
+        for receiver in range(members):
+            self._end.join(receiver)
+
+    def hear_of(self, receiver: int, message: Message, now: int) -> None:
+        """Takes a message of a receiver."""
+        self._end.feedback(receiver, message.about)
 
 
 class OurReceiver:

@@ -3,6 +3,7 @@
 import subprocess
 from functools import lru_cache
 from pathlib import Path
+from typing import Iterable
 
 from ..errors import BadInput
 from ..y4m import Size
@@ -20,11 +21,12 @@ CONTENTS = {
 }
 
 
-def make(room: Path, pictures: int) -> None:
+def make(room: Path, pictures: int, forms: Iterable[str] = FORMATS, contents: Iterable[str] = CONTENTS) -> None:
     """Makes the videos in a folder."""
-    for form, size in FORMATS.items():
-        for content, source in CONTENTS.items():
-            words = source.format(size=f"{size.width}x{size.height}", rate=f"{RATE}/{PER}")
+    for form in forms:
+        size = FORMATS[form]
+        for content in contents:
+            words = CONTENTS[content].format(size=f"{size.width}x{size.height}", rate=f"{RATE}/{PER}")
             _made(_path(room, form, content), words, pictures + AFTER)
 
 

@@ -1,0 +1,13 @@
+-- What a group's handle owns: nothing, or the box of a group.
+use Rattle.std.specs.declared.option.Option.{Option}
+use Rattle.std.specs.declared.option.Option.TheVariants.{None, Some}
+use Rattle.std.specs.declared.alloc.Global.{Global}
+use base.Fml.{Fml, ftrue}
+use denote.RawPtr.{Ptr}
+use Rattle.std_alloc.specs.Box.Ownership.{box_owns}
+use Rattle.std.specs.contracts.impls.GlobalAllocator.TheImpl.{ghosts}
+use Rattle.h263rps_c.specs.contracts.kept_group.KeptGroup.{the_row}
+
+abbrev pub holds_group : Global → Ptr → Option (the_row.Denot) → Fml
+holds_group a p None = ftrue
+holds_group a p (Some v) = box_owns (ghosts.dealloc_token a) the_row p v
