@@ -6,7 +6,7 @@ import { readFileSync } from "node:fs";
 import { Params, Sender, load } from "../../library/web/h263rps.js";
 import { LEAD, LIMIT, RATE, SHORTEST_PACKET, SLOTS, TICKS, now } from "../src/call_settings.js";
 import { Receiving } from "../src/receiving.js";
-import { SentPackets, isNack } from "../src/repair.js";
+import { Repairs, SentPackets, isNack } from "../src/repair.js";
 
 const SECONDS = 30;
 const LOSS = 0.05;
@@ -49,7 +49,8 @@ class Call {
   #chance = chanceOf(7);
   #other = chanceOf(8);
   #sender = new Sender(Params.of("qcif", { target: TARGET, limit: LIMIT, slots: SLOTS, lead: LEAD }));
-  #sent = new SentPackets(TARGET * RATE);
+  #sent = new SentPackets();
+  #repairs = new Repairs(this.#sent, TARGET * RATE);
   #receiving;
   asked = 0;
   bytes = 0;
@@ -76,7 +77,7 @@ class Call {
     const view = new DataView(bytes.buffer);
     if (bytes.length < SHORTEST_PACKET) this.#sender.feedback(bytes);
     else if (!isNack(view)) throw new Error("neither a message nor what asks for packets");
-    else if (this.isRepaired) this.#send(this.#sent.asked(view, now()), this.#other);
+    else if (this.isRepaired) this.#send(this.#repairs.asked(view, now()), this.#other);
   }
 
   picture(number) {
@@ -94,7 +95,7 @@ class Call {
     const { exact, patched, held } = this.#receiving.played;
     const share = (100 * exact) / (exact + patched + held);
     const { bytes } = this;
-    const { again } = this.#sent;
+    const { again } = this.#repairs;
     this.#receiving.close();
     this.#sent.close();
     this.#sender.close();
