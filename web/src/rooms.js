@@ -299,12 +299,18 @@ export class Rooms {
       offer: (other, offer) => this.#offered(other, offer),
       answer: (other, answer) => this.#answered(other, answer),
       candidate: (other, way) => this.#way(other, way),
-      decline: (other) => other.side && this.#without(other, this.#kept.secret ? "call_over" : "was_declined"),
+      decline: (other) => other.side && this.#without(other, this.#whyDeclined),
       cancel: (other) => other.offer && this.#without(other, "was_cancelled"),
     };
     const other = this.#others.get(words.from);
     if (Object.hasOwn(own, words.is)) this.#try(() => own[words.is](words));
     else if (other && Object.hasOwn(ofOther, words.is)) this.#try(() => ofOther[words.is](other, words), other);
+  }
+
+  /** In a call somebody may have declined who isn't in it. */
+  get #whyDeclined() {
+    if (this.#isCalled) return "";
+    return this.#kept.secret ? "call_over" : "was_declined";
   }
 
   #entered() {
