@@ -199,7 +199,7 @@ class LookTest(unittest.TestCase):
         time.sleep(4)
         self.looks((ada, bob), "four")
         ada.press("language")
-        self.assertEqual(ada.text("state"), "A call with Bob, Cleo, and Dan" if "Bob, Cleo" in ada.text("state") else ada.text("state"))
+        self.assertRegex(ada.text("state"), "^A call with (Bob|Cleo|Dan), (Bob|Cleo|Dan), and (Bob|Cleo|Dan)$")
         fifth = self.enterContext(Page(address=f"{address}#room=tea"))
         fifth.press("room_enter")
         fifth.until(lambda: fifth.text("room_told") == "Four are in that room already.")
@@ -209,7 +209,7 @@ class LookTest(unittest.TestCase):
     def looks(self, pages: tuple[Page, ...], name: str) -> None:
         for page, how in zip(pages, ("small", "wide")):
             page.picture(f"{name}_{how}")
-            self.assertEqual(page.run("return document.documentElement.scrollWidth - innerWidth"), 0, how)
+            self.assertLessEqual(page.run("return document.documentElement.scrollWidth - innerWidth"), 0, how)
             self.assertEqual((page.run(FAINT), page.run(UNNAMED)), ([], []), how)
 
 
