@@ -216,10 +216,11 @@ export class Rooms {
   }
 
   #lostServer() {
+    const cameAbout = this.#comeAbout.length;
     this.#forgetOthers();
     if (this.#isCalled) return;
-    this.#stop("");
-    piece("room_call").disabled = true;
+    if (cameAbout) this.#stop("");
+    else this.#show();
     this.#tell("no_server");
   }
 
@@ -256,7 +257,8 @@ export class Rooms {
     if (!this.#kept.word) return;
     const ringer = this.#ringer;
     const here = this.#here;
-    piece("room_here").textContent = here.length ? this.text(here.length > 1 ? "are_here" : "is_here", this.#nameOf(...here)) : this.text("nobody_here");
+    const isHere = ["nobody_here", "is_here", "are_here"][Math.min(here.length, 2)];
+    piece("room_here").textContent = this.text(isHere, this.#nameOf(...here));
     piece("room_inside").textContent = this.text("in_room", this.#kept.word);
     piece("room_link").value = location.href;
     piece("room_call").disabled = !here.length;
@@ -264,7 +266,8 @@ export class Rooms {
     const calls = ringer ? this.text(this.#isCalled ? "knocks" : "calls", this.#nameOf(ringer)) : "";
     piece("room_caller").textContent = piece("knock_who").textContent = calls;
     const called = this.#comeAbout;
-    if (called.length) piece("room_calling").textContent = this.text(called.some(({ offer }) => offer) ? "connecting" : "calling", this.#nameOf(...called));
+    const isAnswered = called.some(({ offer }) => offer);
+    piece("room_calling").textContent = this.text(isAnswered ? "connecting" : "calling", this.#nameOf(...called));
     if (ringer) this.#showStep("room_rings", this.#isCalled ? "" : "room_accept");
     else if (called.length) this.#showStep("room_calls", this.#isCalled ? "" : "room_cancel");
     else this.#showStep("room_in");
@@ -517,7 +520,8 @@ function decoded(text) {
 function readKept() {
   try {
     const { word, name, secret, key } = JSON.parse(sessionStorage.getItem(KEPT_ROOM));
-    return { word: String(word), name: cut(String(name)), secret: isSecret(secret) ? secret : "", key: isSecret(key) ? key : newSecret() };
+    const kept = { word: String(word), name: cut(String(name)) };
+    return { ...kept, secret: isSecret(secret) ? secret : "", key: isSecret(key) ? key : newSecret() };
   } catch {
     return null;
   }

@@ -24,6 +24,12 @@ WAIT = 400
 COUNTS = r"(\w+): (\d+) pictures exact, (\d+) patched, (\d+) held"
 
 
+def share(before: list[int], now: list[int]) -> float:
+    """Of the pictures since then the share in a hundred that is exact."""
+    exact, patched, held = (later - sooner for later, sooner in zip(now, before))
+    return 100 * exact / max(exact + patched + held, 1)
+
+
 class ThreeTest(CallTest):
     """Three network namespaces at a bridge, a server of rooms in the first one, and a browser in each."""
 
@@ -79,19 +85,20 @@ class ThreeTest(CallTest):
         marks = "return [...document.querySelectorAll('figure.other:not([hidden]) .mark')].filter((it) => it.dataset.mark).length"
         page.until(lambda: page.run(marks) == count, 90)
 
-    def shares(self, page: Page, seconds: float) -> dict[str, float]:
-        """Of each other's pictures in so many seconds the share in a hundred that is exact."""
-        begun = self.counts(page)
-        time.sleep(seconds)
-        told = {name: [now - before for now, before in zip(counts, begun[name])] for name, counts in self.counts(page).items()}
-        return {name: 100 * exact / max(exact + patched + held, 1) for name, (exact, patched, held) in told.items()}
+    def shares(self, pages: list[Page]) -> list[dict[str, float]]:
+        """For each page, of each other's pictures in some seconds the share in a hundred that is exact."""
+        begun = [self.counts(page) for page in pages]
+        time.sleep(SECONDS)
+        ended = [self.counts(page) for page in pages]
+        return [{name: share(before[name], now) for name, now in after.items()} for before, after in zip(begun, ended)]
 
     def counts(self, page: Page) -> dict[str, list[int]]:
         page.until(lambda: re.findall(COUNTS, page.text("figures")))
         return {name: [int(it) for it in counts] for name, *counts in re.findall(COUNTS, page.text("figures"))}
 
     def test_one_of_three_loses(self) -> None:
-        ada, bob, cleo = pages = [self.page(place) for place in range(3)]
+        pages = [self.page(place) for place in range(3)]
+        ada, bob, cleo = pages
         ada.until(lambda: ada.text("room_here") == "Bob and Cleo are here.")
         ada.press("room_call")
         for page in (bob, cleo):
@@ -101,10 +108,11 @@ class ThreeTest(CallTest):
             self.until_others(page, 2)
         self.assertEqual(ada.text("state"), "A call with Bob and Cleo")
         time.sleep(10)
-        before = [self.measured(page) for page in pages]
+        before = self.shares(pages)
+        print(f"with no loss: {', '.join(re.findall(r'[0-9]+ kbit/s', page.text('figures'))[0] for page in pages)}")
         self.lose(2, 10)
         time.sleep(5)
-        lossy = [self.measured(page) for page in pages]
+        lossy = self.shares(pages)
         load = Path("/proc/loadavg").read_text().split()[0]
         for page, name, clean, lost in zip(pages, NAMES, before, lossy):
             told = ", ".join(f"{other} {clean[other]:.1f} and {lost[other]:.1f} %" for other in clean)
@@ -115,12 +123,12 @@ class ThreeTest(CallTest):
             self.assertEqual(page.complaints(), [])
         ada.picture("three")
 
-    def measured(self, page: Page) -> dict[str, float]:
-        return self.shares(page, SECONDS)
-
     def test_who_comes_and_goes(self) -> None:
-        """A third one is let in by one of two, is loaded anew, goes without a word, and comes again; then one hangs up."""
+        """A third one is let in by one of two, who keeps a record until then. It is loaded anew, goes without a word, and comes
+        again; then one hangs up."""
         ada, bob = self.page(0), self.page(1)
+        bob.run("document.getElementById('settings').open = true")
+        bob.press("keep")
         ada.until(lambda: ada.text("room_here") == "Bob is here.")
         ada.press("room_call")
         bob.until(lambda: bob.text("room_caller") == "Ada calls you")
@@ -133,6 +141,7 @@ class ThreeTest(CallTest):
         bob.until(lambda: bob.text("knock_who") == "Cleo asks to come in")
         bob.picture("knock")
         bob.press("knock_accept")
+        bob.until(lambda: bob.text("news").startswith("A record is of two alone: it ends here"))
         for page, others in ((ada, "Bob and Cleo"), (bob, "Ada and Cleo"), (cleo, None)):
             self.until_others(page, 2)
             if others:
@@ -157,6 +166,7 @@ class ThreeTest(CallTest):
             self.assertEqual(page.text("state"), f"A call with {other}")
         bob.press("hang_up")
         ada.until(lambda: ada.text("news").startswith("Bob has hung up. The call took "))
+        bob.until(lambda: bob.text("save").startswith("Save the call’s record (tar, "))
 
     def assert_digits(self, page: Page) -> None:
         self.assertRegex(page.text("digits"), r"\w+ (\d{5} ){5}\d{5} · \w+ (\d{5} ){5}\d{5}\.$")
