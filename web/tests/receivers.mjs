@@ -39,6 +39,7 @@ class Room {
 
   leave(place) {
     this.#receivers.leave(place, now());
+    this.#parties.get(place).receiving.close();
     this.#parties.delete(place);
   }
 
@@ -50,13 +51,15 @@ class Room {
     for (const place of to) {
       const party = this.#parties.get(place);
       const [loss] = party.lossAt(now() - this.#begin);
-      for (const packet of packets) this.#carry(party.chance, loss, () => party.receiving.take(packet));
+      const take = (packet) => this.#parties.has(place) && party.receiving.take(packet);
+      for (const packet of packets) this.#carry(party.chance, loss, () => take(packet));
     }
   }
 
   #heard(place, bytes) {
     const view = new DataView(bytes.buffer);
     const member = this.#receivers.at(place);
+    if (!member) return;
     if (bytes.length >= SHORTEST_PACKET && isNack(view)) this.#send(member.repairs.asked(view, now()), [place]);
     else {
       this.#receivers.said(place, now());
@@ -141,3 +144,22 @@ const alone = called("one alone is gone for 5 s", [deafFrom(5, 10)]);
 must(alone.left === 0, "the last one must not leave");
 const late = called("one comes late, another goes", [clean, clean], { 150: (room) => room.join(2, clean), 300: (room) => room.leave(0) });
 must(late.shares.every((share) => share > 98), "who comes late must have all from then on, and who goes must cost nobody");
+
+// A line that takes nothing holds the others back for a second; who left joins again after a second, two, up to eight.
+const calls = [];
+const group = { join: (place) => calls.push(`+${place}`), leave: (place) => calls.push(`-${place}`), waitingFor: () => null };
+const receivers = new Receivers(group);
+for (const place of [0, 1]) receivers.join(place, openLine(), { again: 0 }, 0);
+const at = [];
+for (let step = 0; step < 60 * RATE; step++) {
+  const inside = receivers.inside.length;
+  receivers.said(1, step / RATE);
+  receivers.settle(step / RATE, [1]);
+  if (receivers.inside.length < inside) at.push(step / RATE);
+}
+const apart = at.slice(1).map((time, place) => Math.round(time - at[place]));
+must(apart.slice(0, 6).join() === "2,3,5,9,9,9", `a line that takes nothing: ${apart} s apart`);
+must(receivers.inside.join() !== "1" && receivers.inside.includes(0), "who takes pictures must stay");
+receivers.leave(0, 60);
+must(receivers.inside.join() === "1", "the last one must be in the group");
+console.log(`a line that takes nothing leaves ${at.length} times in a minute, ${apart.join(", ")} s apart: ${calls.length} calls`);
