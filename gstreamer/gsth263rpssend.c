@@ -9,10 +9,10 @@
  *
  * It is coder and payloader in one, since the coder cuts the packets and lives by what comes back:
  * a message about each picture (RPSI, RFC 4585, 6.3.3), at the pad rtcp_sink or by the session of
- * #GstH263RpsSend:session. While one receiver is heard, messages of others don't count. Where none
- * comes, each picture is intra; after five seconds a warning says so. By these messages the bit rate
- * follows what the line carries (#GstH263RpsSend:adapt). A lost packet goes out again where it is asked
- * for (#GstH263RpsSend:repair).
+ * #GstH263RpsSend:session. While as many receivers are heard as may be (#GstH263RpsSend:max-receivers),
+ * messages of others don't count. Where none comes, each picture is intra; after five seconds a warning
+ * says so. By these messages the bit rate follows what the line carries (#GstH263RpsSend:adapt). A lost
+ * packet goes out again where it is asked for (#GstH263RpsSend:repair).
  *
  * Pictures of 128x96, 176x144 and 352x288 are taken. Another size within a call begins a new run,
  * under a new SSRC. A GstForceKeyUnit event from either side, and a picture loss indication or a
@@ -49,6 +49,7 @@
 #include <string.h>
 
 #include "gsth263rps.h"
+#include "gsth263rpsreceivers.h"
 #include "gsth263rpsrecord.h"
 #include "gsth263rpsrepeater.h"
 #include "gsth263rpsrtcp.h"
@@ -64,6 +65,7 @@ GST_DEBUG_CATEGORY_STATIC (h263rpssend_debug);
 #define DEFAULT_LEAD 6
 #define DEFAULT_CUSTOM_CLOCK FALSE
 #define DEFAULT_REPAIR TRUE
+#define DEFAULT_MAX_RECEIVERS 1
 #define DEFAULT_MIN_FORCE_KEY_UNIT_INTERVAL (GST_SECOND / 2)
 
 #define MOST_TARGET 999999
@@ -112,6 +114,7 @@ enum
   PROP_LEAD,
   PROP_CUSTOM_CLOCK,
   PROP_REPAIR,
+  PROP_MAX_RECEIVERS,
   PROP_MIN_FORCE_KEY_UNIT_INTERVAL,
   PROP_SESSION,
   PROP_CNAME,
@@ -133,7 +136,7 @@ struct _GstH263RpsSend
   GstPad *rtcp_sinkpad, *rtcp_srcpad;
 
   /* properties, under the object's lock */
-  guint bitrate, quant, radius, slots, lead;
+  guint bitrate, quant, radius, slots, lead, max_receivers;
   gboolean adapt, custom_clock, repair;
   guint64 min_force_key_unit_interval;
   gchar *cname, *record_location;
@@ -141,7 +144,7 @@ struct _GstH263RpsSend
   gulong session_handler;
 
   /* the run: of the streaming thread, between READY and PAUSED */
-  h263rps_end end;
+  h263rps_group group;
   h263rps_params params;
   GstVideoInfo info;
   gsize size;
@@ -157,23 +160,16 @@ struct _GstH263RpsSend
   /* what came back, for the streaming thread, and the counts: under this lock */
   GMutex lock;
   h263rps_message waiting[MOST_WAITING];
+  guint8 said_by[MOST_WAITING]; /* the places of who said them */
   guint waiting_count;
   h263rps_message carried[MOST_CARRIED];        /* the oldest first */
   guint carried_count;
   gint64 picture_at, begun_at;  /* when the last picture was coded, and the first one, in us; or 0 */
   guint32 ssrc;
-  guint32 speaker;
-  gboolean has_speaker;
-  gint64 heard;                 /* when a message of the speaker was noted, in us */
-  gboolean wants_intra;
+  GstH263RpsReceivers receivers;
   gint64 intra_at;              /* when an intra picture was asked for last, in us */
-  gboolean has_fir;
-  guint8 fir;                   /* the number of the last full intra request */
-  gboolean has_block;
-  GstH263RpsBlock block;        /* how the stream arrives */
-  GstClockTime round_trip;      /* by reports */
-  h263rps_line line;            /* what it carries; empty where it isn't followed */
-  guint most;                   /* ..bytes a picture, at most */
+  gboolean adapts;              /* whether the lines are followed */
+  guint most;                   /* bytes a picture, at most */
   gint64 next;                  /* the number of the next picture */
   GstClockTime sent_at[TIMES], trip;    /* when a picture went out; the round trip by messages */
   GstClockTime unheard_at, last_at;     /* the first picture since a message, or NONE; the last one */
@@ -234,8 +230,8 @@ finish_run (GstH263RpsSend * self)
         self->counts.old - self->begun.old, self->counts.malformed - self->begun.malformed);
     g_mutex_unlock (&self->lock);
   }
-  if (self->end.kind)
-    h263rps_sender_finish (&self->end);
+  if (self->group.kind)
+    h263rps_group_finish (&self->group);
   g_clear_pointer (&self->packed, g_free);
   g_clear_pointer (&self->record, gst_h263rps_record_free);
 }
@@ -257,27 +253,39 @@ monotonic_time (void)
   return 1000 * (guint64) g_get_monotonic_time ();
 }
 
-/* Under the lock: the line is followed between bounds, from the rate on that it has, or else the
- * format's; or it isn't followed. */
+/* Under the lock: a line is followed between bounds, from the rate on that it has, or else the format's. */
 static void
-begin_line (GstH263RpsSend * self, gboolean adapts, guint most)
+begin_line (GstH263RpsSend * self, h263rps_line * line)
 {
   static const guint32 firsts[] = FIRST_RATES;
   guint64 period = gst_util_uint64_scale (GST_SECOND, self->info.fps_d, self->info.fps_n);
   h263rps_bounds bounds;
   guint32 rate;
 
-  bounds.most = self->most = most;
-  if (h263rps_line_rate (&self->line, &rate) != H263RPS_OK)
+  bounds.most = self->most;
+  if (h263rps_line_rate (line, &rate) != H263RPS_OK)
     rate = firsts[gst_h263rps_format_of_size (self->info.width, self->info.height)];
-  bounds.first = CLAMP (gst_util_uint64_scale (rate, period, GST_SECOND), 1, most);
+  bounds.first = CLAMP (gst_util_uint64_scale (rate, period, GST_SECOND), 1, self->most);
   bounds.least = MAX (bounds.first / LEAST_SHARE, 1);
   bounds.finest = self->params.quant;
   bounds.period = period;
-  h263rps_line_finish (&self->line);
+  h263rps_line_finish (line);
+  if (self->adapts)
+    h263rps_line_start (line, &bounds, monotonic_time ());
+}
+
+/* Under the lock: the lines of all receivers are followed, or none is. */
+static void
+begin_lines (GstH263RpsSend * self, gboolean adapts, guint most)
+{
+  guint i;
+
+  self->adapts = adapts;
+  self->most = most;
   self->unheard_at = GST_CLOCK_TIME_NONE;
-  if (adapts)
-    h263rps_line_start (&self->line, &bounds, monotonic_time ());
+  for (i = 0; i < self->receivers.most; i++)
+    if (self->receivers.places[i].is_in)
+      begin_line (self, &self->receivers.places[i].line);
 }
 
 /* Under the lock: whether a picture may go out, by what was heard. */
@@ -293,15 +301,39 @@ is_heard_enough (GstH263RpsSend * self, GstClockTime now)
       || now - self->last_at >= (silent < UNHEARD_LONG ? RARELY : SELDOM);
 }
 
-/* Under the lock: whether the line, where it is followed, carries more. */
+/* Under the lock: whether the lines, where they are followed, carry more. */
 static gboolean
 line_has_room (GstH263RpsSend * self, GstClockTime now)
 {
-  guint32 has = 1;
+  gboolean is_followed = FALSE;
+  guint i;
 
-  if (h263rps_line_has_room (&self->line, now, &has) != H263RPS_OK)
-    return TRUE;
-  return has && is_heard_enough (self, now);
+  for (i = 0; i < self->receivers.most; i++) {
+    guint32 has = 1;
+
+    if (!self->receivers.places[i].is_in
+        || h263rps_line_has_room (&self->receivers.places[i].line, now, &has) != H263RPS_OK)
+      continue;
+    is_followed = TRUE;
+    if (!has)
+      return FALSE;
+  }
+  return !is_followed || is_heard_enough (self, now);
+}
+
+/* Under the lock: the least that a line gives the next picture. */
+static void
+read_target (GstH263RpsSend * self, guint * target)
+{
+  guint i;
+
+  for (i = 0; i < self->receivers.most; i++) {
+    guint least;
+
+    if (self->receivers.places[i].is_in
+        && h263rps_line_target (&self->receivers.places[i].line, &least) == H263RPS_OK)
+      *target = MIN (*target, least);
+  }
 }
 
 /* Whether a further picture goes out; with what it may have. */
@@ -315,11 +347,12 @@ has_room (GstH263RpsSend * self, guint * target)
   *target = target_of (self);
   GST_OBJECT_UNLOCK (self);
   g_mutex_lock (&self->lock);
-  if (adapts != (self->line.end.kind != 0) || *target != self->most)
-    begin_line (self, adapts, *target);
+  gst_h263rps_receivers_settle (&self->receivers, g_get_monotonic_time ());
+  if (adapts != self->adapts || *target != self->most)
+    begin_lines (self, adapts, *target);
   has = line_has_room (self, monotonic_time ());
   if (has)
-    h263rps_line_target (&self->line, target);
+    read_target (self, target);
   self->counts.left_out += !has;
   if (!has)
     self->picture_at = 0;
@@ -327,22 +360,25 @@ has_room (GstH263RpsSend * self, guint * target)
   return has;
 }
 
-/* Under the lock: a picture goes out. */
+/* Under the lock: a picture goes out, for which the group waited for this one. */
 static void
-note_sent (GstH263RpsSend * self, const h263rps_coded * coded, guint64 bytes)
+note_sent (GstH263RpsSend * self, const h263rps_coded * coded, guint64 bytes, guint32 waited)
 {
   guint64 now = monotonic_time ();
+  guint i;
 
   self->next = (gint64) coded->number + 1;
   self->sent_at[coded->number % TIMES] = self->last_at = now;
   if (!GST_CLOCK_TIME_IS_VALID (self->unheard_at))
     self->unheard_at = now;
-  h263rps_line_sent (&self->line, coded->number, bytes, coded->packets, now);
+  for (i = 0; i < self->receivers.most; i++)
+    h263rps_line_sent (&self->receivers.places[i].line, coded->number, bytes, coded->packets, now);
+  gst_h263rps_receivers_sent (&self->receivers, waited, now / 1000);
 }
 
-/* Under the lock: what a message tells of the line (Annex N: BT, URF, TR). */
+/* Under the lock: what a message tells of a line (Annex N: BT, URF, TR). */
 static void
-note_told (GstH263RpsSend * self, const h263rps_message * message)
+note_told (GstH263RpsSend * self, guint place, const h263rps_message * message)
 {
   gint64 period = self->params.clock == H263RPS_CUSTOM_CLOCK ? 1024 : 256;
   guint word = GST_READ_UINT16_BE (message->bytes);
@@ -356,7 +392,7 @@ note_told (GstH263RpsSend * self, const h263rps_message * message)
   number = newest - back;
   if (number < 0)
     return;
-  h263rps_line_told (&self->line, number, is_whole, now);
+  h263rps_line_told (&self->receivers.places[place].line, number, is_whole, now);
   if (is_whole && back < TIMES) {
     GstClockTime trip = now - self->sent_at[number % TIMES];
 
@@ -397,6 +433,11 @@ begin_record (GstH263RpsSend * self)
   GST_OBJECT_UNLOCK (self);
   if (!folder)
     return;
+  if (self->receivers.most > 1) {
+    GST_ELEMENT_WARNING (self, RESOURCE, SETTINGS, ("A call with several receivers isn't recorded."), (NULL));
+    g_free (folder);
+    return;
+  }
 
   self->record = gst_h263rps_record_new ("send", folder, ++self->recorded, &error);
   if (!self->record) {
@@ -441,11 +482,11 @@ static gboolean
 begin_run (GstH263RpsSend * self)
 {
   guint32 status, fault = 0;
-  guint format = gst_h263rps_format_of_size (self->info.width, self->info.height);
+  guint most, format = gst_h263rps_format_of_size (self->info.width, self->info.height);
 
   finish_run (self);
   read_params (self, format);
-  status = h263rps_sender_start (&self->end, &self->params, &fault);
+  status = h263rps_group_start (&self->group, &self->params, &fault);
   if (status != H263RPS_OK) {
     GST_ELEMENT_ERROR (self, LIBRARY, SETTINGS, ("%s", h263rps_status_text (status)),
         ("parameter %u, slots %u, lead %u", fault, self->params.slots, self->params.lead));
@@ -456,12 +497,14 @@ begin_run (GstH263RpsSend * self)
   self->size = h263rps_picture_size (format);
   self->packed = g_malloc (self->size);
   self->run_at = g_get_monotonic_time ();
-  begin_record (self);
+  GST_OBJECT_LOCK (self);
+  most = self->max_receivers;
+  GST_OBJECT_UNLOCK (self);
 
   g_mutex_lock (&self->lock);
   self->waiting_count = 0;
-  self->has_speaker = self->has_block = self->has_fir = FALSE;
-  self->round_trip = self->trip = GST_CLOCK_TIME_NONE;
+  gst_h263rps_receivers_begin (&self->receivers, most);
+  self->trip = GST_CLOCK_TIME_NONE;
   self->next = 0;
   self->most = 0;
   self->picture_at = 0;
@@ -469,6 +512,7 @@ begin_run (GstH263RpsSend * self)
   self->counts.runs++;
   self->begun = self->counts;
   g_mutex_unlock (&self->lock);
+  begin_record (self);
   return TRUE;
 }
 
@@ -528,7 +572,7 @@ push_rtcp (GstH263RpsSend * self, GstBuffer * buffer)
 static void
 say_bye (GstH263RpsSend * self)
 {
-  if (self->end.kind && has_reports (self))
+  if (self->group.kind && has_reports (self))
     push_rtcp (self, gst_h263rps_rtcp_new_bye (GST_RTP_BASE_PAYLOAD (self)->current_ssrc));
 }
 
@@ -554,55 +598,65 @@ gst_h263rps_send_set_caps (GstRTPBasePayload * payload, GstCaps * caps)
       || gst_h263rps_format_of_size (info.width, info.height) == 0)
     return FALSE;
 
-  is_same = self->end.kind && info.width == self->info.width && info.height == self->info.height;
+  is_same = self->group.kind && info.width == self->info.width && info.height == self->info.height;
   if (is_same) {
     /* Another rate: the same run, with another target. */
     self->info = info;
     return set_outcaps (self);
   }
   self->info = info;
-  if (self->end.kind)
+  if (self->group.kind)
     return begin_anew (self);
   return begin_run (self) && set_outcaps (self);
 }
 
 /* ---- what comes back ---- */
 
-static gboolean
-is_lately (gint64 when)
+/* Under the lock: what the one that had this place said doesn't count. */
+static void
+drop_messages (GstH263RpsSend * self, guint place)
 {
-  return g_get_monotonic_time () - when < (gint64) (GST_H263RPS_SILENT / 1000);
+  guint kept = 0, i;
+
+  for (i = 0; i < self->waiting_count; i++)
+    if (self->said_by[i] != place) {
+      self->waiting[kept] = self->waiting[i];
+      self->said_by[kept++] = self->said_by[i];
+    }
+  self->waiting_count = kept;
 }
 
-/* Whether what this speaker says counts: where another was heard lately, it doesn't. A new one
- * hasn't the pictures that another acknowledged. Under the lock. */
-static gboolean
-takes_speaker (GstH263RpsSend * self, guint32 speaker)
+/* The place of this speaker, or -1 where what it says doesn't count: others were heard lately who have all
+ * places. A new one hasn't the pictures that another acknowledged. Under the lock. */
+static gint
+place_of_speaker (GstH263RpsSend * self, guint32 speaker)
 {
-  if (self->has_speaker && speaker != self->speaker) {
-    if (is_lately (self->heard)) {
-      self->counts.other_speaker++;
-      return FALSE;
-    }
-    self->wants_intra = TRUE;
-    self->waiting_count = 0;
+  gboolean is_other;
+  gint place = gst_h263rps_receivers_hear (&self->receivers, speaker, g_get_monotonic_time (), &is_other);
+  h263rps_line *line;
+
+  if (place < 0) {
+    self->counts.other_speaker++;
+    return place;
   }
-  if (!self->has_speaker || speaker != self->speaker)
-    self->heard = g_get_monotonic_time ();
-  self->has_speaker = TRUE;
-  self->speaker = speaker;
-  return TRUE;
+  if (is_other)
+    drop_messages (self, place);
+  line = &self->receivers.places[place].line;
+  if (self->adapts && line->end.kind == 0)
+    begin_line (self, line);
+  return place;
 }
 
 /* Under the lock: for the next picture, and for the line at once. */
 static void
-keep_message (GstH263RpsSend * self, const h263rps_message * message)
+keep_message (GstH263RpsSend * self, guint place, const h263rps_message * message)
 {
-  note_told (self, message);
+  note_told (self, place, message);
   self->unheard_at = GST_CLOCK_TIME_NONE;
-  if (self->waiting_count < MOST_WAITING)
+  if (self->waiting_count < MOST_WAITING) {
+    self->said_by[self->waiting_count] = place;
     self->waiting[self->waiting_count++] = *message;
-  else
+  } else
     self->counts.dropped++;
 }
 
@@ -610,18 +664,22 @@ static void
 hear_message (GstH263RpsSend * self, guint32 speaker, guint32 about,
     const h263rps_message * message)
 {
+  gint place;
+
   g_mutex_lock (&self->lock);
   if (about != self->ssrc)
     self->counts.stale++;
-  else if (takes_speaker (self, speaker))
-    keep_message (self, message);
+  else if ((place = place_of_speaker (self, speaker)) >= 0)
+    keep_message (self, place, message);
   g_mutex_unlock (&self->lock);
 }
 
-/* An intra picture is asked for. Asked for too often none would be predicted any more. */
+/* An intra picture is asked for, by who speaks so, or for all. Asked for too often none would be predicted
+ * any more. */
 static void
-ask_for_intra (GstH263RpsSend * self)
+ask_for_intra (GstH263RpsSend * self, gboolean is_for_all, guint32 speaker)
 {
+  gint place;
   gint64 now = g_get_monotonic_time (), least;
 
   GST_OBJECT_LOCK (self);
@@ -633,7 +691,8 @@ ask_for_intra (GstH263RpsSend * self)
     self->counts.intra_refused++;
   else {
     self->counts.intra_asked++;
-    self->wants_intra = TRUE;
+    place = is_for_all ? -1 : gst_h263rps_receivers_find (&self->receivers, speaker);
+    gst_h263rps_receivers_forget (&self->receivers, place);
     self->intra_at = now;
   }
   g_mutex_unlock (&self->lock);
@@ -643,14 +702,21 @@ ask_for_intra (GstH263RpsSend * self)
 static gboolean
 counts_speaker (GstH263RpsSend * self, guint32 speaker, guint32 about)
 {
-  gboolean counts = about == self->ssrc && (!self->has_speaker || speaker == self->speaker
-      || !is_lately (self->heard));
+  gboolean counts = about == self->ssrc
+      && gst_h263rps_receivers_counts (&self->receivers, speaker, g_get_monotonic_time ());
 
   if (about != self->ssrc)
     self->counts.stale++;
   else if (!counts)
     self->counts.other_speaker++;
   return counts;
+}
+
+/* Under the lock: the receiver that speaks so, or the only place. */
+static GstH263RpsReceiver *
+receiver_of (GstH263RpsSend * self, guint32 speaker)
+{
+  return &self->receivers.places[MAX (gst_h263rps_receivers_find (&self->receivers, speaker), 0)];
 }
 
 static void
@@ -662,7 +728,7 @@ hear_picture_loss (GstH263RpsSend * self, guint32 speaker, guint32 about)
   counts = counts_speaker (self, speaker, about);
   g_mutex_unlock (&self->lock);
   if (counts)
-    ask_for_intra (self);
+    ask_for_intra (self, FALSE, speaker);
 }
 
 /* A request that is repeated has its number, and is answered once. */
@@ -675,13 +741,15 @@ hear_full_intra (GstH263RpsSend * self, guint32 speaker, const guint8 * fci, gsi
   g_mutex_lock (&self->lock);
   if (gst_h263rps_rtcp_read_fir (fci, length, self->ssrc, &number)
       && counts_speaker (self, speaker, self->ssrc)) {
-    counts = !self->has_fir || number != self->fir;
-    self->has_fir = TRUE;
-    self->fir = number;
+    GstH263RpsReceiver *receiver = receiver_of (self, speaker);
+
+    counts = !receiver->has_fir || number != receiver->fir;
+    receiver->has_fir = TRUE;
+    receiver->fir = number;
   }
   g_mutex_unlock (&self->lock);
   if (counts)
-    ask_for_intra (self);
+    ask_for_intra (self, FALSE, speaker);
 }
 
 static void
@@ -716,12 +784,27 @@ hear_report (GstH263RpsSend * self, GstRTCPPacket * packet)
   g_mutex_lock (&self->lock);
   if (gst_h263rps_rtcp_read_block (packet, self->ssrc, &speaker, &block)
       && counts_speaker (self, speaker, self->ssrc)) {
-    self->has_block = TRUE;
-    self->block = block;
+    GstH263RpsReceiver *receiver = receiver_of (self, speaker);
+
+    receiver->has_block = TRUE;
+    receiver->block = block;
     round_trip = gst_h263rps_round_trip (gst_h263rps_ntp_now (), &block);
     if (GST_CLOCK_TIME_IS_VALID (round_trip))
-      self->round_trip = round_trip;
+      receiver->round_trip = round_trip;
   }
+  g_mutex_unlock (&self->lock);
+}
+
+/* Who say goodbye leave. */
+static void
+hear_byes (GstH263RpsSend * self, GstRTCPPacket * packet)
+{
+  guint i;
+
+  g_mutex_lock (&self->lock);
+  for (i = 0; i < gst_rtcp_packet_bye_get_ssrc_count (packet); i++)
+    gst_h263rps_receivers_bye (&self->receivers, gst_rtcp_packet_bye_get_nth_ssrc (packet, i),
+        g_get_monotonic_time ());
   g_mutex_unlock (&self->lock);
 }
 
@@ -786,6 +869,8 @@ hear_packets (GstH263RpsSend * self, GstRTCPBuffer * rtcp)
             4 * gst_rtcp_packet_fb_get_fci_length (&packet), &left);
       continue;
     }
+    if (gst_rtcp_packet_get_type (&packet) == GST_RTCP_TYPE_BYE)
+      hear_byes (self, &packet);
     if (gst_rtcp_packet_get_type (&packet) != GST_RTCP_TYPE_PSFB) {
       hear_report (self, &packet);
       continue;
@@ -862,7 +947,7 @@ is_soon (GstH263RpsSend * self)
  * @clock: the picture clock of the stream that the message is about
  *
  * The header of the next picture carries the message, where both streams have the same clock, and of
- * more than four the last ones.
+ * more than four the last ones. One that may have several receivers carries none.
  *
  * Returns: whether that is soon enough
  */
@@ -872,7 +957,7 @@ gst_h263rps_send_carry (GstH263RpsSend * self, const h263rps_message * message, 
   gboolean is_carried, is_full, soon;
 
   g_mutex_lock (&self->lock);
-  is_carried = clock == self->params.clock;
+  is_carried = clock == self->params.clock && self->receivers.most <= 1;
   is_full = self->carried_count == MOST_CARRIED;
   soon = is_soon (self);
   if (is_carried && is_full && !soon)
@@ -905,7 +990,8 @@ take_carried (GstH263RpsSend * self, h263rps_message * messages)
  * @messages: those in the header of the other party's picture
  * @count: how many
  *
- * They are what the other receiver says, whoever speaks for it by RTCP.
+ * They are what the other receiver says, whoever speaks for it by RTCP. Of several receivers nobody knows
+ * which one.
  */
 void
 gst_h263rps_send_hear (GstH263RpsSend * self, const h263rps_message * messages, guint count)
@@ -913,11 +999,35 @@ gst_h263rps_send_hear (GstH263RpsSend * self, const h263rps_message * messages, 
   guint i;
 
   g_mutex_lock (&self->lock);
-  if (self->begun_at != 0 && g_get_monotonic_time () - self->begun_at < ANOTHER)
+  if ((self->begun_at != 0 && g_get_monotonic_time () - self->begun_at < ANOTHER)
+      || self->receivers.most != 1)
     count = 0;
   for (i = 0; i < count; i++)
-    keep_message (self, &messages[i]);
+    keep_message (self, 0, &messages[i]);
   g_mutex_unlock (&self->lock);
+}
+
+/* Receivers come and go before a picture, since the group takes one call at a time; a recorded one forgets. */
+static void
+move_receivers (GstH263RpsSend * self)
+{
+  guint32 anew, gone, coded = 0;
+  guint i;
+
+  g_mutex_lock (&self->lock);
+  anew = self->receivers.anew;
+  gone = self->receivers.gone;
+  self->receivers.anew = self->receivers.gone = 0;
+  g_mutex_unlock (&self->lock);
+  for (i = 0; i < H263RPS_PLACES; i++) {
+    if (gone >> i & 1)
+      h263rps_group_leave (&self->group, i);
+    if (anew >> i & 1)
+      h263rps_group_join (&self->group, i);
+  }
+  h263rps_group_sent (&self->group, &coded);
+  if (anew && coded > 0)
+    gst_h263rps_record_line (self->record, GST_H263RPS_RECORD_STEPS, "%u forget 0", coded);
 }
 
 /* The streaming thread hands over what came back before each picture. */
@@ -925,11 +1035,14 @@ static void
 tell_messages (GstH263RpsSend * self)
 {
   h263rps_message waiting[MOST_WAITING];
+  guint8 said_by[MOST_WAITING];
+  guint32 heard = 0;
   guint count, noted = 0, old = 0, malformed = 0, i;
 
   g_mutex_lock (&self->lock);
   count = self->waiting_count;
   memcpy (waiting, self->waiting, count * sizeof *waiting);
+  memcpy (said_by, self->said_by, count * sizeof *said_by);
   self->waiting_count = 0;
   self->ssrc = GST_RTP_BASE_PAYLOAD (self)->current_ssrc;
   g_mutex_unlock (&self->lock);
@@ -937,53 +1050,43 @@ tell_messages (GstH263RpsSend * self)
   for (i = 0; i < count; i++) {
     h263rps_reply reply;
 
-    if (h263rps_sender_feedback (&self->end, waiting[i].bytes, waiting[i].length, &reply))
+    if (h263rps_group_feedback (&self->group, said_by[i], waiting[i].bytes, waiting[i].length, &reply))
       continue;
     gst_h263rps_record_entry (self->record, GST_H263RPS_RECORD_LOG, 'B', waiting[i].bytes,
         waiting[i].length, running_time (self));
     noted += reply.kind == H263RPS_NOTED;
+    heard |= (guint32) (reply.kind == H263RPS_NOTED) << said_by[i];
     old += reply.kind == H263RPS_OLD;
     malformed += reply.kind == H263RPS_NO_MESSAGE;
   }
 
   g_mutex_lock (&self->lock);
-  if (noted) {
-    self->heard = g_get_monotonic_time ();
+  for (i = 0; i < self->receivers.most; i++)
+    if (heard >> i & 1)
+      self->receivers.places[i].heard = g_get_monotonic_time ();
+  if (noted)
     self->run_at = 0;
-  }
   self->counts.noted += noted;
   self->counts.old += old;
   self->counts.malformed += malformed;
   g_mutex_unlock (&self->lock);
 }
 
-/* A new target, and an intra picture where one is asked for. */
+/* A new target. */
 static void
 steer (GstH263RpsSend * self, guint target)
 {
-  gboolean wants_intra;
   guint coded = 0;
 
   GST_OBJECT_LOCK (self);
   gst_h263rps_repeater_limit (self->repeater, self->bitrate / 8 / AT_ONCE);
   GST_OBJECT_UNLOCK (self);
-  g_mutex_lock (&self->lock);
-  wants_intra = self->wants_intra;
-  self->wants_intra = FALSE;
-  g_mutex_unlock (&self->lock);
-
-  if (!wants_intra && target == self->params.target)
+  if (target == self->params.target)
     return;
-  h263rps_sender_sent (&self->end, &coded);
-  if (target != self->params.target) {
-    self->params.target = target;
-    h263rps_sender_target (&self->end, target);
-    gst_h263rps_record_line (self->record, GST_H263RPS_RECORD_STEPS, "%u target %u", coded, target);
-  }
-  if (wants_intra) {
-    h263rps_sender_forget (&self->end);
-    gst_h263rps_record_line (self->record, GST_H263RPS_RECORD_STEPS, "%u forget 0", coded);
-  }
+  h263rps_group_sent (&self->group, &coded);
+  self->params.target = target;
+  h263rps_group_target (&self->group, target);
+  gst_h263rps_record_line (self->record, GST_H263RPS_RECORD_STEPS, "%u target %u", coded, target);
 }
 
 /* ---- pictures ---- */
@@ -1033,9 +1136,9 @@ code_picture (GstH263RpsSend * self, GstVideoFrame * frame, h263rps_coded * code
   guint count = take_carried (self, carried);
   guint32 status;
 
-  status = h263rps_sender_code (&self->end, samples, self->size, carried, count, coded);
+  status = h263rps_group_code (&self->group, samples, self->size, carried, count, coded);
   if (status == H263RPS_BAD_MESSAGES)
-    status = h263rps_sender_code (&self->end, samples, self->size, NULL, 0, coded);
+    status = h263rps_group_code (&self->group, samples, self->size, NULL, 0, coded);
   if (status != H263RPS_OK)
     return status;
   gst_h263rps_record_entry (self->record, GST_H263RPS_RECORD_LOG, 'S', NULL, 0,
@@ -1063,7 +1166,7 @@ packets_of (GstH263RpsSend * self, const h263rps_coded * coded, GstBuffer * pict
     gsize count = 0;
 
     gst_buffer_map (packet, &map, GST_MAP_WRITE);
-    h263rps_sender_packet (&self->end, i, map.data, map.size, &count);
+    h263rps_group_packet (&self->group, i, map.data, map.size, &count);
     gst_h263rps_record_entry (self->record, GST_H263RPS_RECORD_WIRE, 'K', map.data, count,
         running_time (self));
     gst_buffer_unmap (packet, &map);
@@ -1145,6 +1248,9 @@ tell_alone (GstH263RpsSend * self)
 static void
 count_picture (GstH263RpsSend * self, const h263rps_coded * coded, guint64 bytes)
 {
+  guint32 waited = H263RPS_NOBODY;
+
+  h263rps_group_waiting_for (&self->group, &waited);
   g_mutex_lock (&self->lock);
   self->counts.coded++;
   self->counts.intra += coded->intra;
@@ -1152,7 +1258,7 @@ count_picture (GstH263RpsSend * self, const h263rps_coded * coded, guint64 bytes
     self->counts.distance += coded->number - coded->reference;
   self->counts.packets += coded->packets;
   self->counts.bytes += bytes;
-  note_sent (self, coded, bytes);
+  note_sent (self, coded, bytes, waited);
   gst_h263rps_meter_add (&self->meter, monotonic_time (), bytes, 0, 0);
   g_mutex_unlock (&self->lock);
 }
@@ -1170,7 +1276,7 @@ gst_h263rps_send_handle_buffer (GstRTPBasePayload * payload, GstBuffer * buffer)
   guint target;
   GstFlowReturn flow;
 
-  if (!self->end.kind)
+  if (!self->group.kind)
     goto not_negotiated;
   if (!has_room (self, &target)) {
     gst_buffer_unref (buffer);
@@ -1181,9 +1287,11 @@ gst_h263rps_send_handle_buffer (GstRTPBasePayload * payload, GstBuffer * buffer)
 
   tell_messages (self);
   steer (self, target);
+  move_receivers (self);
   status = code_picture (self, &frame, &coded);
   if (status == H263RPS_ENDED && begin_anew (self)) {
     tell_messages (self);
+    move_receivers (self);
     status = code_picture (self, &frame, &coded);
   }
   gst_video_frame_unmap (&frame);
@@ -1228,7 +1336,7 @@ gst_h263rps_send_sink_event (GstRTPBasePayload * payload, GstEvent * event)
   GstH263RpsSend *self = GST_H263RPS_SEND (payload);
 
   if (gst_video_event_is_force_key_unit (event))
-    ask_for_intra (self);
+    ask_for_intra (self, TRUE, 0);
   if (GST_EVENT_TYPE (event) == GST_EVENT_EOS && gst_pad_is_linked (self->rtcp_srcpad)) {
     say_bye (self);
     if (!self->is_rtcp_begun)
@@ -1261,7 +1369,7 @@ gst_h263rps_send_src_event (GstRTPBasePayload * payload, GstEvent * event)
   guint16 sequence;
 
   if (gst_video_event_is_force_key_unit (event)) {
-    ask_for_intra (self);
+    ask_for_intra (self, TRUE, 0);
     gst_event_unref (event);
     return TRUE;
   }
@@ -1275,7 +1383,7 @@ gst_h263rps_send_src_event (GstRTPBasePayload * payload, GstEvent * event)
   /* The base class takes another SSRC, for which a receiver begins anew. */
   if (structure && gst_structure_has_name (structure, "GstRTPCollision")) {
     g_mutex_lock (&self->lock);
-    self->wants_intra = TRUE;
+    gst_h263rps_receivers_forget (&self->receivers, -1);
     g_mutex_unlock (&self->lock);
   }
   return GST_RTP_BASE_PAYLOAD_CLASS (parent_class)->src_event (payload, event);
@@ -1371,6 +1479,9 @@ gst_h263rps_send_set_property (GObject * object, guint id, const GValue * value,
     case PROP_REPAIR:
       self->repair = g_value_get_boolean (value);
       break;
+    case PROP_MAX_RECEIVERS:
+      self->max_receivers = g_value_get_uint (value);
+      break;
     case PROP_MIN_FORCE_KEY_UNIT_INTERVAL:
       self->min_force_key_unit_interval = g_value_get_uint64 (value);
       break;
@@ -1391,16 +1502,38 @@ gst_h263rps_send_set_property (GObject * object, guint id, const GValue * value,
   GST_OBJECT_UNLOCK (self);
 }
 
+/* Under the lock: the least rate of the lines, and the report of who loses most, or NULL. */
+static GstH263RpsReceiver *
+read_receivers (GstH263RpsSend * self, guint32 * rate)
+{
+  GstH263RpsReceiver *worst = NULL;
+  guint i;
+
+  for (i = 0; i < self->receivers.most; i++) {
+    GstH263RpsReceiver *receiver = &self->receivers.places[i];
+    guint32 least;
+
+    if (!receiver->is_in)
+      continue;
+    if (h263rps_line_rate (&receiver->line, &least) == H263RPS_OK)
+      *rate = MIN (*rate, least);
+    if (receiver->has_block && (!worst || receiver->block.fraction > worst->block.fraction))
+      worst = receiver;
+  }
+  return worst;
+}
+
 /* How the stream arrives, by the reports that came, or by those that the session heard. */
 static void
 add_reports (GstH263RpsSend * self, GstStructure * stats)
 {
   GstH263RpsBlock block = { 0 };
   GstClockTime round_trip = GST_CLOCK_TIME_NONE, trip;
+  GstH263RpsReceiver *worst;
   GObject *session;
-  guint64 bitrate;
-  guint limit;
-  guint32 rate;
+  guint64 bitrate, joined, left;
+  guint limit, count;
+  guint32 rate = G_MAXUINT32;
   gboolean has_block;
 
   GST_OBJECT_LOCK (self);
@@ -1408,14 +1541,18 @@ add_reports (GstH263RpsSend * self, GstStructure * stats)
   session = self->session ? g_object_ref (self->session) : NULL;
   GST_OBJECT_UNLOCK (self);
   g_mutex_lock (&self->lock);
-  has_block = self->has_block;
-  if (has_block) {
-    block = self->block;
-    round_trip = self->round_trip;
+  worst = read_receivers (self, &rate);
+  has_block = worst != NULL;
+  if (worst) {
+    block = worst->block;
+    round_trip = worst->round_trip;
   }
+  count = gst_h263rps_receivers_count (&self->receivers);
+  joined = self->receivers.joined;
+  left = self->receivers.left;
   bitrate = gst_h263rps_meter_bitrate (&self->meter, monotonic_time ());
   trip = self->trip;
-  if (h263rps_line_rate (&self->line, &rate) != H263RPS_OK)
+  if (rate == G_MAXUINT32)
     rate = limit / 8;
   g_mutex_unlock (&self->lock);
   if (session)
@@ -1427,7 +1564,8 @@ add_reports (GstH263RpsSend * self, GstStructure * stats)
   gst_structure_set (stats, "bit-rate", G_TYPE_UINT64, bitrate, "target-bit-rate", G_TYPE_UINT64,
       8 * (guint64) rate, "round-trip", G_TYPE_UINT64, round_trip, "jitter", G_TYPE_UINT64, has_block
       ? gst_util_uint64_scale (block.jitter, GST_SECOND, 90000) : GST_CLOCK_TIME_NONE,
-      "fraction-lost", G_TYPE_DOUBLE, has_block ? block.fraction / 256.0 : -1.0, NULL);
+      "fraction-lost", G_TYPE_DOUBLE, has_block ? block.fraction / 256.0 : -1.0,
+      "receivers", G_TYPE_UINT, count, "joined", G_TYPE_UINT64, joined, "left", G_TYPE_UINT64, left, NULL);
 }
 
 /* The base class's statistics and those of the call. */
@@ -1511,6 +1649,9 @@ gst_h263rps_send_get_property (GObject * object, guint id, GValue * value, GPara
     case PROP_REPAIR:
       g_value_set_boolean (value, self->repair);
       break;
+    case PROP_MAX_RECEIVERS:
+      g_value_set_uint (value, self->max_receivers);
+      break;
     case PROP_MIN_FORCE_KEY_UNIT_INTERVAL:
       g_value_set_uint64 (value, self->min_force_key_unit_interval);
       break;
@@ -1541,9 +1682,9 @@ gst_h263rps_send_change_state (GstElement * element, GstStateChange transition)
     memset (&self->counts, 0, sizeof self->counts);
     self->waiting_count = self->carried_count = 0;
     memset (&self->meter, 0, sizeof self->meter);
-    self->has_speaker = self->wants_intra = self->has_block = self->has_fir = FALSE;
     self->intra_at = 0;
-    h263rps_line_finish (&self->line);
+    gst_h263rps_receivers_clear (&self->receivers);
+    self->adapts = FALSE;
     g_mutex_unlock (&self->lock);
     self->is_rtcp_begun = self->is_closed_told = FALSE;
     self->next_report = GST_CLOCK_TIME_NONE;
@@ -1570,7 +1711,7 @@ gst_h263rps_send_finalize (GObject * object)
   GstH263RpsSend *self = GST_H263RPS_SEND (object);
 
   finish_run (self);
-  h263rps_line_finish (&self->line);
+  gst_h263rps_receivers_clear (&self->receivers);
   gst_h263rps_repeater_free (self->repeater);
   g_free (self->cname);
   g_free (self->record_location);
@@ -1593,7 +1734,8 @@ gst_h263rps_send_init (GstH263RpsSend * self)
   self->repair = DEFAULT_REPAIR;
   self->min_force_key_unit_interval = DEFAULT_MIN_FORCE_KEY_UNIT_INTERVAL;
   self->cname = gst_h263rps_rtcp_new_name ();
-  self->next_report = self->round_trip = self->trip = self->unheard_at = GST_CLOCK_TIME_NONE;
+  self->max_receivers = DEFAULT_MAX_RECEIVERS;
+  self->next_report = self->trip = self->unheard_at = GST_CLOCK_TIME_NONE;
   g_mutex_init (&self->lock);
   self->repeater = gst_h263rps_repeater_new (payload->srcpad);
 
@@ -1707,6 +1849,19 @@ gst_h263rps_send_class_init (GstH263RpsSendClass * klass)
       g_param_spec_boolean ("repair", "Repair", "Send packets again that are asked for",
           DEFAULT_REPAIR, playing));
   /**
+   * GstH263RpsSend:max-receivers:
+   *
+   * Who speaks at rtcp_sink, or to the session, by an SSRC of its own is a receiver, up to so many. Each
+   * picture refers to the newest one that all of them have, and the bit rate is the least that their lines
+   * carry. One begins after three messages. It leaves by a BYE, and where in a second of pictures it says
+   * nothing or is known to have none: then it joins again when it speaks, after a second, two, up to eight.
+   * A place is free after a BYE, or half a second without a message. With more than one receiver headers
+   * carry no messages, and nothing is recorded.
+   */
+  g_object_class_install_property (object_class, PROP_MAX_RECEIVERS,
+      g_param_spec_uint ("max-receivers", "Maximum of receivers", "Receivers that pictures are coded for",
+          1, H263RPS_PLACES, DEFAULT_MAX_RECEIVERS, ready));
+  /**
    * GstH263RpsSend:min-force-key-unit-interval:
    *
    * A request for an intra picture that comes sooner after another one is counted, and does nothing.
@@ -1753,7 +1908,8 @@ gst_h263rps_send_class_init (GstH263RpsSendClass * klass)
    * for want of room on the line; messages of the receiver "carried" in headers; the line's
    * "target-bit-rate", with the heads of IP and UDP, and the "bit-rate" in the last second, in bits. By
    * the receiver's reports, or else its messages: "round-trip" in ns, %GST_CLOCK_TIME_NONE as long as
-   * none came; by its reports "jitter" likewise and "fraction-lost", 0 to 1, or -1.
+   * none came; by its reports "jitter" likewise and "fraction-lost", 0 to 1, or -1: of several receivers
+   * those of who loses most. Of the "receivers" that pictures are coded for, how many "joined" and "left".
    */
   g_object_class_install_property (object_class, PROP_STATS,
       g_param_spec_boxed ("stats", "Statistics", "Counts of the call", GST_TYPE_STRUCTURE,

@@ -1,27 +1,28 @@
-"""Rooms in which two pages are introduced to each other. Nothing is known here of sockets, and nothing is kept: a room is
-there as long as somebody is in it."""
+"""Rooms in which up to four pages are introduced to each other. Nothing is known here of sockets, and nothing is kept: a
+room is there as long as somebody is in it."""
 
+import hashlib
 import json
 import unicodedata
 from dataclasses import dataclass, field
 from typing import Callable, Optional
 
-# Letters of a room's word, of a name, of a description of a session, of the proof that it is of the same call, of an
-# address and of the part of the description that it belongs to.
-_MOST = {"room": 40, "name": 40, "sdp": 12_000, "proof": 64, "candidate": 600, "mid": 40}
-# What a page says, and its fields. All but the first two is for the other page in the room.
+# Letters of a room's word, of a name, of a page's key, of the number of another page, of a description of a session, of the
+# proof that it is of the same call, of an address and of the part of the description that it belongs to.
+_MOST = {"room": 40, "name": 40, "key": 64, "to": 16, "sdp": 12_000, "proof": 64, "candidate": 600, "mid": 40}
+# What a page says, and its fields. All but the first two is for another page in the room.
 _FIELDS: dict[str, tuple[str, ...]] = {
-    "enter": ("room", "name"),
+    "enter": ("room", "name", "key"),
     "leave": (),
-    "offer": ("sdp", "proof"),
-    "answer": ("sdp", "proof"),
-    "candidate": ("candidate", "mid"),
-    "decline": (),
-    "cancel": (),
+    "offer": ("to", "sdp", "proof"),
+    "answer": ("to", "sdp", "proof"),
+    "candidate": ("to", "candidate", "mid"),
+    "decline": ("to",),
+    "cancel": ("to",),
 }
 # Characters of a page's words, a few more than those of the longest.
 MOST_TEXT = 16_384
-MEMBERS = 2
+MEMBERS = 4
 
 Words = dict[str, str]
 
@@ -54,12 +55,18 @@ def _key(word: str) -> str:
     return " ".join(unicodedata.normalize("NFKC", word).casefold().split())
 
 
+def number_of(key: str) -> str:
+    """What the others know a page by: nobody else has the key that gives it, so a page that comes back keeps its place."""
+    return hashlib.sha256(key.encode()).hexdigest()[: _MOST["to"]]
+
+
 @dataclass(eq=False)
 class Member:
     """A page, and how it is told words."""
 
     tell: Callable[[Words], None]
     name: str = ""
+    number: str = ""
     room: Optional[str] = None
 
 
@@ -79,25 +86,26 @@ class Rooms:
             self._enter(member, words)
         elif words["is"] == "leave":
             self.leave(member)
-        elif other := self._other(member):
-            other.tell(words)
+        elif other := self._other(member, words["to"]):
+            other.tell({**{name: word for name, word in words.items() if name != "to"}, "from": member.number})
 
     def leave(self, member: Member) -> None:
         """A page has gone, or is in its room no longer."""
         if member.room is None:
             return
-        other = self._other(member)
         left = self._members[member.room]
         left.remove(member)
         if not left:
             del self._members[member.room]
         member.room = None
-        if other:
-            other.tell({"is": "left"})
+        for other in left:
+            other.tell({"is": "left", "from": member.number})
 
     def _enter(self, member: Member, words: Words) -> None:
         self.leave(member)
-        key = _key(words["room"])
+        key, number = _key(words["room"]), number_of(words["key"])
+        for one in [one for one in self._members.get(key, []) if one.number == number]:
+            self.leave(one)
         inside = self._members.get(key, [])
         if not key:
             member.tell({"is": "no word"})
@@ -107,15 +115,15 @@ class Rooms:
             member.tell({"is": "no room"})
         else:
             self._members[key] = [*inside, member]
-            member.room, member.name = key, words["name"]
+            member.room, member.name, member.number = key, words["name"], number
             member.tell({"is": "entered"})
             for other in inside:
-                other.tell({"is": "came", "name": member.name})
-                member.tell({"is": "came", "name": other.name})
+                other.tell({"is": "came", "name": member.name, "from": number})
+                member.tell({"is": "came", "name": other.name, "from": other.number})
 
-    def _other(self, member: Member) -> Optional[Member]:
+    def _other(self, member: Member, number: str) -> Optional[Member]:
         inside = self._members.get(member.room, []) if member.room is not None else []
-        return next((one for one in inside if one is not member), None)
+        return next((one for one in inside if one is not member and one.number == number), None)
 
 
 class Allowance:

@@ -16,8 +16,8 @@ from .rooms import MOST_TEXT, Allowance, Member, Refused, Rooms, Words, read_wor
 
 # Connections in all, the oldest that are in no room are closed first; and of one address that isn't this machine.
 MOST_CONNECTIONS, MOST_OF_AN_ADDRESS = 400, 32
-# Words at once, and a second: a call has some forty, half of them in its first second.
-_BURST, _RATE = 120, 10
+# Words at once, and a second: a call with three others has some hundred and twenty, half of them in its first second.
+_BURST, _RATE = 240, 20
 # Seconds in which a page goes into a room, after which one that doesn't answer is gone, and in which it takes its words.
 _IDLE, _HEARTBEAT, _PATIENCE = 10.0, 20.0, 10.0
 # Words that wait for a page.

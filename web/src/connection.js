@@ -179,7 +179,7 @@ export class SelfCall {
   #far = new Side();
   #isDirect = false;
 
-  /** It calls `hear(datagram)`, and `listen(stream)` when there is sound. */
+  /** It calls `hear(datagram)`, and `listen(stream)` when there is sound. The one party has place 0. */
   constructor(network, hear, listen) {
     Object.assign(this, { network, hear });
     this.#near.onDatagram = this.#far.onDatagram = hear;
@@ -211,7 +211,7 @@ export class SelfCall {
   }
 
   soundHeard() {
-    return soundOf(this.#far.peer);
+    return soundOf([this.#far.peer]);
   }
 
   /** Sound doesn't go over the bad network, so it waits for that as well. */
@@ -221,8 +221,8 @@ export class SelfCall {
 
   say() {}
 
-  get isFull() {
-    return this.#near.isFull;
+  get full() {
+    return this.#near.isFull ? [0] : [];
   }
 
   close() {
@@ -231,60 +231,80 @@ export class SelfCall {
   }
 }
 
-/** One's own side of a call with someone else. */
+/** One's own sides of a call with up to three others, each at a place. */
 export class OtherCall {
+  #sides = new Map();
+
   /**
-   * It calls `hear(datagram)`, `heard(words)`, `listen(stream)` when there is sound, `lost()`, and `flooded()` where the
-   * other side sent so much that it was closed.
+   * It calls `hear(datagram, place)`, `heard(words, place)`, `listen(stream, place)` when there is sound, `lost(place)`, and
+   * `flooded(place)` where the other side sent so much that it was closed.
    */
-  constructor(side, { hear, heard, listen, lost, flooded }) {
-    this.side = side;
-    side.onDatagram = hear;
-    side.onSound = listen;
-    side.onWords = heard;
-    side.onFlood = flooded;
-    side.onState = (state) => state === "failed" && lost();
-    side.words.addEventListener("close", lost);
+  constructor(told) {
+    this.told = told;
   }
 
-  /** What comes of sound. */
-  get sound() {
-    return new MediaStream(this.side.peer.getReceivers().map(({ track }) => track));
+  join(place, side) {
+    this.leave(place);
+    this.#sides.set(place, side);
+    const { hear, heard, listen, lost, flooded } = this.told;
+    const once = (act) => (...words) => this.#sides.get(place) === side && act(...words, place);
+    side.onDatagram = once(hear);
+    side.onSound = once(listen);
+    side.onWords = once(heard);
+    side.onFlood = once(flooded);
+    side.onState = (state) => state === "failed" && once(lost)();
+    side.words.addEventListener("close", () => once(lost)());
+    listen(new MediaStream(side.peer.getReceivers().map(({ track }) => track)), place);
   }
 
-  get isFull() {
-    return this.side.isFull;
+  /** One is gone, but what was said last still goes out for so many milliseconds. */
+  leave(place, farewell = 0) {
+    const side = this.#sides.get(place);
+    this.#sides.delete(place);
+    if (side) setTimeout(() => side.close(), farewell);
   }
 
-  send(datagram) {
-    this.side.send(datagram);
+  /** The places whose lines take nothing at present. */
+  get full() {
+    return [...this.#sides].filter(([, { isFull }]) => isFull).map(([place]) => place);
   }
 
-  say(words) {
-    this.side.say(words);
+  send(datagram, to) {
+    for (const place of to) this.#sides.get(place)?.send(datagram);
+  }
+
+  /** To one of them, or to all. */
+  say(words, place) {
+    if (place !== undefined) this.#sides.get(place)?.say(words);
+    else for (const side of this.#sides.values()) side.say(words);
   }
 
   setSound(track) {
-    this.side.setSound(track);
+    for (const side of this.#sides.values()) side.setSound(track);
   }
 
   soundHeard() {
-    return soundOf(this.side.peer);
+    return soundOf([...this.#sides.values()].map(({ peer }) => peer));
   }
 
   setWait(wait) {
-    this.side.setWait(wait);
+    for (const side of this.#sides.values()) side.setWait(wait);
   }
 
   close() {
-    this.side.close();
+    for (const place of [...this.#sides.keys()]) this.leave(place);
   }
 }
 
 /** How many packets of sound came, and how many milliseconds sound waited before it was played. */
-async function soundOf(peer) {
-  const stats = [...(await peer.getStats()).values()];
-  const heard = stats.find(({ type, kind }) => type === "inbound-rtp" && kind === "audio");
-  const { packetsReceived = 0, jitterBufferDelay = 0, jitterBufferEmittedCount = 0 } = heard ?? {};
-  return { packets: packetsReceived, wait: Math.round((1000 * jitterBufferDelay) / Math.max(jitterBufferEmittedCount, 1)) };
+async function soundOf(peers) {
+  const all = { packets: 0, delay: 0, played: 0 };
+  for (const peer of peers) {
+    const stats = [...(await peer.getStats()).values()];
+    const heard = stats.find(({ type, kind }) => type === "inbound-rtp" && kind === "audio");
+    all.packets += heard?.packetsReceived ?? 0;
+    all.delay += heard?.jitterBufferDelay ?? 0;
+    all.played += heard?.jitterBufferEmittedCount ?? 0;
+  }
+  return { packets: all.packets, wait: Math.round((1000 * all.delay) / Math.max(all.played, 1)) };
 }

@@ -20,8 +20,8 @@ export class Invitations {
 
   /**
    * It says texts by `text(name, ..words)`. `prepare()` is awaited before a side is made, and answers its sound: a
-   * browser tells its addresses once the camera is allowed. `begin({ side, name, digits, isCaller })` has the call; `leave()` is
-   * told that none comes about.
+   * browser tells its addresses once the camera is allowed. `begin({ id, side, name, digits, isCaller })` has the call; `leave()`
+   * is told that none comes about.
    */
   constructor({ text, prepare, begin, leave }) {
     Object.assign(this, { text, prepare, begin, leave });
@@ -65,6 +65,7 @@ export class Invitations {
   // A link is good once: no side comes back by it.
   comesBack = false;
   begun() {}
+  left() {}
   ended() {}
   heard() {}
   translate() {}
@@ -139,7 +140,7 @@ export class Invitations {
     this.#side = null;
     const digits = await digitsOf(...descriptions);
     this.reset();
-    this.begin({ side, name, digits, isCaller: descriptions[0].type === "offer" });
+    this.begin({ id: name, side, name, digits, isCaller: descriptions[0].type === "offer" });
   }
 
   async #copy(button, field) {

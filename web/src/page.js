@@ -14,6 +14,10 @@ import { Told } from "./told.js";
 import { hasText, otherLanguage, ownLanguage, text } from "./words.js";
 
 const byId = (id) => document.getElementById(id);
+/** The element of this name, of the party at this place. */
+const ofParty = (id, place) => byId(place ? `${id}_${place + 1}` : id);
+/** Places of other parties. */
+const PARTY_PLACES = Object.freeze([0, 1, 2]);
 /** The sliders: what one step of each is in seconds, or as a share, and the text of its value. */
 const SLIDERS = Object.freeze({
   loss: [0.01, "percent"],
@@ -40,22 +44,23 @@ class Telephone {
   #meeting = new (roomsPath() ? Rooms : Invitations)({
     text: (...words) => this.#text(...words),
     prepare: () => this.#prepare(),
-    begin: (call) => this.#callOther(call),
-    end: (why) => this.#end(why),
-    gone: () => this.#tellGone(),
+    begin: (party) => this.#join(party),
+    gone: (id) => this.#tellGone(this.#placeOf(id)),
+    lost: (id) => this.#leave(this.#placeOf(id), "party_lost"),
     leave: () => this.#call || this.#camera.stop(),
   });
   #call = null;
-  #other = "";
-  #isOtherOff = false;
+  // By their places: who the others are, and whether their cameras are off.
+  #parties = new Map();
   #isBusy = false;
+  #keeps = false;
   #state = ["starting"];
   #ticking = null;
 
   constructor() {
     const heard = {
       ready: () => { this.#isBusy = false; },
-      datagrams: ({ datagrams }) => datagrams.forEach((datagram) => this.#send(datagram)),
+      datagrams: ({ datagrams, to }) => datagrams.forEach((datagram) => this.#call?.send(datagram, to)),
       played: (played) => this.#played(played),
       counts: (counts) => { this.#told.counts = counts; },
       // What a worker says is wrong is a fault of this page.
@@ -74,8 +79,9 @@ class Telephone {
   /** Hands the module and the canvases over to the worker. */
   async start(bytes) {
     const module = await WebAssembly.compile(bytes);
-    const [own, other, ordinary] = ["own", "other", "ordinary"].map((id) => byId(id).transferControlToOffscreen());
-    this.#tell("start", { module, own, other, ordinary }, [own, other, ordinary]);
+    const [own, ordinary] = ["own", "ordinary"].map((id) => byId(id).transferControlToOffscreen());
+    const others = PARTY_PLACES.map((place) => ofParty("other", place).transferControlToOffscreen());
+    this.#tell("start", { module, own, others, ordinary }, [own, ...others, ordinary]);
   }
 
   #text(name, ...words) {
@@ -129,7 +135,8 @@ class Telephone {
     for (const it of document.querySelectorAll("[data-text]")) it.textContent = this.#text(it.dataset.text);
     for (const it of document.querySelectorAll("[data-label]")) it.ariaLabel = this.#text(it.dataset.label);
     byId("language").lang = otherLanguage(this.#language);
-    this.#tellState(...this.#state);
+    if (this.#isWithOther) this.#tellParties();
+    else this.#tellState(...this.#state);
     this.#meeting.translate();
     this.#slide();
     this.#listDevices();
@@ -139,7 +146,19 @@ class Telephone {
   #tellState(...state) {
     this.#state = state;
     byId("state").textContent = this.#text(...state);
-    byId("other_name").textContent = this.#isWithOther ? this.#other : this.#text("what_comes");
+    if (!this.#isWithOther) byId("other_name").textContent = this.#text("what_comes");
+  }
+
+  /** With whom a call is. */
+  #tellParties() {
+    for (const [place, { name }] of this.#parties) ofParty("other_name", place).textContent = name;
+    this.#tellState("with_other", this.#names);
+    const digits = [...this.#parties.values()].map((it) => [it.name, it.digits]);
+    byId("digits").textContent = digits.length > 1 ? this.#text("digits_of_many", digits) : this.#text("digits", digits[0][1]);
+  }
+
+  get #names() {
+    return this.#text("names", [...this.#parties.values()].map(({ name }) => name));
   }
 
   #tellFault(words) {
@@ -152,10 +171,10 @@ class Telephone {
     byId("news").hidden = !words;
   }
 
-  /** What stands in the place of the other side's picture. */
-  #tellNone(words) {
-    byId("other_none").textContent = words;
-    byId("other_none").hidden = !words;
+  /** What stands in the place of a party's picture. */
+  #tellNone(place, words) {
+    ofParty("other_none", place).textContent = words;
+    ofParty("other_none", place).hidden = !words;
   }
 
   // ---- a call ---------------------------------------------------------------------------------
@@ -165,51 +184,110 @@ class Telephone {
     this.#meeting.cancel();
     this.#network.sent = this.#network.lost = 0;
     const listen = (stream) => { byId("sound").srcObject = stream; };
-    const call = new SelfCall(this.#network, (datagram) => this.#hear(call, datagram), listen);
+    const call = new SelfCall(this.#network, (datagram) => this.#hear(call, datagram, 0), listen);
     this.#begin(call, "connecting");
     const [isOpen] = await Promise.all([call.connect(), this.#startCamera()]);
     if (this.#call !== call) return;
     if (!isOpen) this.#tellFault(this.#text("no_connection"));
     this.#beginEnds();
+    this.#tell("join", { place: 0 });
+    this.#putBeside();
     this.#tellState("with_yourself");
   }
 
-  /** A call with another side, or one that goes on after a side was loaded anew. */
-  #callOther({ side, name, digits, isCaller }) {
-    this.#call?.close();
-    this.#other = name || this.#text("other_side");
-    const listen = (stream) => {
-      byId("sound").srcObject = stream;
-      byId("sound").play().catch(() => {});
-    };
-    const call = new OtherCall(side, {
-      hear: (datagram) => this.#hear(call, datagram),
-      heard: (words) => this.#call === call && this.#heard(words),
-      lost: () => this.#call === call && (this.#meeting.comesBack ? this.#meeting.wait() : this.#end("lost")),
-      flooded: () => this.#call === call && this.#end("flooded"),
-      listen,
-    });
-    sessionStorage.setItem(KEPT_NAME, this.#other);
-    this.#begin(call, "with_other", this.#other);
-    byId("digits").textContent = this.#text("digits", digits);
-    this.#tellNone(this.#text("waiting_for", this.#other));
-    this.#beginEnds(isCaller ? { sent: 1, received: 2 } : { sent: 2, received: 1 });
-    this.#meeting.begun(call, isCaller);
+  #placeOf(id) {
+    return [...this.#parties.keys()].find((place) => this.#parties.get(place).id === id);
+  }
+
+  /** One more party is in the call, or one that was loaded anew is back. With the only one the call begins. */
+  #join({ id, side, name, digits, isCaller }) {
+    const known = this.#placeOf(id);
+    const place = known ?? PARTY_PLACES.find((it) => !this.#parties.has(it));
+    if (place === undefined) {
+      side.close();
+      return;
+    }
+    if (!this.#isWithOther || (known !== undefined && this.#parties.size === 1)) this.#beginOther(isCaller);
+    const call = this.#call;
+    const party = { id, digits, name: name || this.#text("other_side"), isOff: false };
+    this.#parties.set(place, party);
+    sessionStorage.setItem(KEPT_NAME, this.#names);
+    this.#told.join(place, party.name);
+    this.#tellParties();
+    this.#tellNone(place, this.#text("waiting_for", party.name));
+    call.join(place, side);
+    call.setWait(this.#value("wait"));
+    this.#tell("join", { place });
+    if (this.#parties.size > 1) this.#beMany();
+    if (this.#keeps) call.say({ is: "keeps" }, place);
+    call.say({ is: "hears_headers" }, place);
+    this.#meeting.begun({ id, isCaller, say: (words) => call.say(words, place) });
     this.#tellCamera();
     this.#tellMicrophone();
-    listen(call.sound);
+  }
+
+  #beginOther(isCaller) {
+    this.#call?.close();
+    const isOwn = (act) => (...words) => this.#call === call && act(...words);
+    const call = new OtherCall({
+      hear: (datagram, place) => this.#hear(call, datagram, place),
+      heard: isOwn((words, place) => this.#heard(words, place)),
+      lost: isOwn((place) => this.#lost(place)),
+      flooded: isOwn((place) => this.#leave(place, "flooded")),
+      listen: (stream, place) => {
+        ofParty("sound", place).srcObject = stream;
+        ofParty("sound", place).play().catch(() => {});
+      },
+    });
+    this.#begin(call, "connecting");
+    this.#beginEnds(isCaller ? { sent: 1, received: 2 } : { sent: 2, received: 1 });
+  }
+
+  /** A record is of two parties alone. */
+  #beMany() {
+    if (this.#keeps) this.#tellNews(this.#text("record_ends"));
+    this.#keeps = false;
+  }
+
+  /** A connection is gone: its party may come back, but the others don't wait for it. */
+  #lost(place) {
+    if (!this.#meeting.comesBack) {
+      this.#leave(place, "party_lost");
+      return;
+    }
+    if (this.#parties.size > 1) this.#tell("leave", { place });
+    this.#meeting.wait(this.#parties.get(place).id);
+  }
+
+  /** A party is no longer in the call, which is over with the last one; `why` is the name of a text. */
+  #leave(place, why) {
+    if (!this.#parties.has(place)) return;
+    if (this.#parties.size === 1) {
+      this.#end(why === "party_lost" ? "lost" : why);
+      return;
+    }
+    const { id, name } = this.#parties.get(place);
+    this.#parties.delete(place);
+    this.#call.leave(place, why === "flooded" ? 0 : FAREWELL);
+    this.#tell("leave", { place });
+    ofParty("sound", place).srcObject = null;
+    this.#told.leave(place);
+    this.#meeting.left(id);
+    this.#tellNews(this.#text(why, name));
+    this.#tellParties();
   }
 
   #begin(call, ...state) {
     this.#call = call;
-    this.#isOtherOff = false;
+    this.#parties.clear();
     byId("saved").hidden = true;
     this.#tellFault("");
     this.#tellNews("");
-    this.#tellNone("");
+    PARTY_PLACES.forEach((place) => this.#tellNone(place, ""));
     document.body.dataset.state = "call";
     document.body.classList.toggle("alone", !this.#isWithOther);
     this.#told.begin();
+    if (!this.#isWithOther) this.#told.join(0, "");
     byId("size").disabled = true;
     this.#tellState(...state);
     this.#tick();
@@ -222,11 +300,9 @@ class Telephone {
     const { loss, delay, jitter } = this.#network;
     const party = isAlone ? { party: "alone", network: { loss, burst: 1, delay, jitter } } : { party: "both", network: null };
     const kept = byId("keep").checked ? { ...party, ...streams } : null;
+    this.#keeps = Boolean(kept);
     this.#call.setWait(this.#value("wait"));
     this.#tell("begin", { format: byId("size").value, wait: this.#value("wait"), isAlone, kept });
-    if (kept) this.#call.say({ is: "keeps" });
-    this.#call.say({ is: "hears_headers" });
-    this.#putBeside();
   }
 
   /** In a call with oneself the browser's own coder goes beside ours, where that is wished for. */
@@ -248,9 +324,10 @@ class Telephone {
     byId("saved").hidden = false;
   }
 
-  #tellGone() {
-    this.#isOtherOff = true;
-    this.#tellNone(this.#text("comes_back", this.#other));
+  #tellGone(place) {
+    const party = this.#parties.get(place);
+    party.isOff = true;
+    this.#tellNone(place, this.#text("comes_back", party.name));
   }
 
   #hangUp() {
@@ -262,48 +339,48 @@ class Telephone {
   #end(why) {
     const { seconds, share } = this.#told;
     const call = this.#call;
+    const names = this.#names;
     this.#call = null;
+    this.#parties.clear();
     sessionStorage.removeItem(KEPT_NAME);
     // What was said last still goes out, again where it is lost.
     setTimeout(() => call?.close(), why ? 0 : FAREWELL);
     this.#tell("end");
     this.#tell("made", { isOn: false });
     this.#camera.stop();
-    byId("sound").srcObject = null;
+    for (const place of PARTY_PLACES) ofParty("sound", place).srcObject = null;
     document.body.dataset.state = "ready";
     byId("size").disabled = false;
     byId("clock").textContent = "";
     this.#tellState("ready");
     this.#meeting.ended();
     const ended = this.#text("ended", Math.round(seconds), share);
-    this.#tellNews(why ? `${this.#text(why, this.#other)} ${ended}` : ended);
+    this.#tellNews(why ? `${this.#text(why, names)} ${ended}` : ended);
     byId("call_yourself").focus();
   }
 
-  #send(datagram) {
-    this.#call?.send(datagram);
+  /** A datagram of a party came; one of a call that is over counts no more. */
+  #hear(call, datagram, place) {
+    if (this.#call === call) this.#tell("datagram", { datagram, place }, [datagram]);
   }
 
-  /** A datagram came; one of a call that is over counts no more. */
-  #hear(call, datagram) {
-    if (this.#call === call) this.#tell("datagram", { datagram }, [datagram]);
-  }
-
-  /** Words of the other side, which may say anything. */
-  #heard(words) {
-    if (words?.is === "bye") this.#end("other_hung_up");
-    if (words?.is === "secret") this.#meeting.heard(words);
-    if (words?.is === "keeps") this.#tellNews(this.#text("other_keeps", this.#other));
-    if (words?.is === "hears_headers") this.#tell("carry");
+  /** Words of a party, which may say anything. */
+  #heard(words, place) {
+    const party = this.#parties.get(place);
+    if (words?.is === "bye") this.#leave(place, "other_hung_up");
+    if (words?.is === "secret") this.#meeting.heard(party.id, words);
+    if (words?.is === "keeps") this.#tellNews(this.#text("other_keeps", party.name));
+    if (words?.is === "hears_headers") this.#tell("carry", { place });
     if (words?.is !== "camera") return;
-    this.#isOtherOff = !words.isOn;
-    this.#tellNone(words.isOn ? "" : this.#text("other_camera_off", this.#other));
+    party.isOff = !words.isOn;
+    this.#tellNone(place, words.isOn ? "" : this.#text("other_camera_off", party.name));
   }
 
   #played(played) {
     if (!this.#call) return;
     this.#told.played(played);
-    if (!this.#isOtherOff && !byId("other_none").hidden) this.#tellNone("");
+    const { place } = played;
+    if (!this.#parties.get(place)?.isOff && !ofParty("other_none", place).hidden) this.#tellNone(place, "");
   }
 
   async #tick() {
@@ -320,7 +397,7 @@ class Telephone {
 
   /** Before a link is made or answered: a browser tells its addresses once the camera is allowed. Answers the sound. */
   async #prepare() {
-    if (!this.#camera.isOn) await this.#openCamera();
+    if (!this.#isWithOther && !this.#camera.isOn) await this.#openCamera();
     return this.#camera.sound;
   }
 
@@ -366,12 +443,12 @@ class Telephone {
 
   /** A frame goes to the worker, if it has done with the one before, and the line isn't full. */
   #give(frame) {
-    if (this.#isBusy || !this.#call || this.#call.isFull) {
+    if (this.#isBusy || !this.#call) {
       this.#told.left++;
       return frame.close();
     }
     this.#isBusy = true;
-    this.#tell("frame", { frame }, [frame]);
+    this.#tell("frame", { frame, full: this.#call.full }, [frame]);
   }
 
   #turnMicrophone() {

@@ -59,6 +59,12 @@ export class Receiving {
     return true;
   }
 
+  /** What comes from now on isn't recorded. */
+  endRecord() {
+    this.#record?.end();
+    this.#record = null;
+  }
+
   close() {
     clearTimeout(this.#timer);
     this.#record?.end();

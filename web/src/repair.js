@@ -62,21 +62,44 @@ function askedIn(view) {
   return places.flatMap((at) => sequencesOf({ packet: view.getUint16(at), following: view.getUint16(at + 2) }));
 }
 
-/** The packets that went out last. Those that are sent again have no more bytes a second than the stream may have. */
+/** The packets that went out last. */
 export class SentPackets {
-  #repeats = new Repeats({ count: KEPT_PACKETS, longest: LIMIT });
+  #repeats = newRepeats();
+
+  keep(packet) {
+    this.#repeats.keep(packet);
+  }
+
+  /** A copy of the newest one with this sequence number; null where it isn't kept. */
+  find(sequence) {
+    return this.#repeats.find(sequence);
+  }
+
+  /** None of them is kept any longer. */
+  forget() {
+    this.close();
+    this.#repeats = newRepeats();
+  }
+
+  close() {
+    this.#repeats.close();
+  }
+}
+
+const newRepeats = () => new Repeats({ count: KEPT_PACKETS, longest: LIMIT });
+
+/** What one receiver is sent again of them: no more bytes a second than the stream may have. */
+export class Repairs {
+  #sent;
   #budget;
   #answered = new Map();
   /** How many were sent again. */
   again = 0;
 
-  /** Of a stream that has so many bytes a second. */
-  constructor(rate) {
+  /** Of what was sent, in a stream that has so many bytes a second. */
+  constructor(sent, rate) {
+    this.#sent = sent;
     this.#budget = new Budget(rate);
-  }
-
-  keep(packet) {
-    this.#repeats.keep(packet);
   }
 
   /** The packets for which a Generic NACK asks at this time, as far as they are kept. */
@@ -91,14 +114,10 @@ export class SentPackets {
 
   #again(sequence, time) {
     if (this.#answered.has(sequence)) return null;
-    const packet = this.#repeats.find(sequence);
+    const packet = this.#sent.find(sequence);
     if (!packet || !this.#budget.take(packet.length)) return null;
     this.#answered.set(sequence, time);
     return packet;
-  }
-
-  close() {
-    this.#repeats.close();
   }
 }
 

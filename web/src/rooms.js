@@ -1,6 +1,7 @@
 /**
- * How a call comes about in a room: where tools/rooms serves this page, both sides go into the room of one word, and
- * the server hands offer, answer and ways from one to the other. A side that is loaded anew comes back into its call.
+ * How a call comes about in a room: where tools/rooms serves this page, up to four go into the room of one word, and the server
+ * hands offers, answers and ways from one to the other. Who is in the call has its secret: by it they find each other, and a
+ * side that is loaded anew comes back. One who hasn't asks to be let in, by any of them.
  * @module
  */
 
@@ -20,10 +21,57 @@ const KEPT_ROOM = "room";
 /** In a link this stands before the room's word. */
 const ROOM_MARK = "#room=";
 const MOST_WORD = 40;
-/** Milliseconds after which nobody answers, for which a call waits for its other side, and before it is called again. */
+/** Milliseconds after which nobody answers, for which a call waits for a party, and before it is called again. */
 const RINGS = 60_000;
 const COMES_BACK = 30_000;
 const CALLED_AGAIN = 2000;
+
+/** Another page, in the room or in the call. */
+class Other {
+  isHere = true;
+  // A connection that comes about: what it is made by, this side of it, whether its offer is proved, the offer that came, and
+  // whether it is being answered, ways that came too early, and until when it rings.
+  making = null;
+  side = null;
+  isProved = false;
+  offer = null;
+  isAnswered = false;
+  ways = [];
+  ringing = null;
+  // In the call: how it is told words, whether this side called it, and until when it is waited for.
+  say = null;
+  isCalled = false;
+  waiting = null;
+
+  constructor(id, name) {
+    Object.assign(this, { id, name });
+  }
+
+  get rings() {
+    return Boolean(this.offer) && !this.isAnswered;
+  }
+
+  get comesAbout() {
+    return Boolean(this.making || this.side || this.offer);
+  }
+
+  get isParty() {
+    return Boolean(this.say);
+  }
+
+  drop() {
+    clearTimeout(this.ringing);
+    this.side?.close();
+    this.making = this.side = this.offer = null;
+    this.isAnswered = false;
+    this.ways = [];
+  }
+
+  leaveCall() {
+    clearTimeout(this.waiting);
+    this.say = this.waiting = null;
+  }
+}
 
 export class Rooms {
   #socket = new RoomSocket({
@@ -32,36 +80,33 @@ export class Rooms {
     lost: () => this.#lostServer(),
   });
   #ring = new Ring();
-  #kept = { word: "", name: "", secret: "" };
-  // Who else is in the room: a name, also an empty one, or null.
-  #other = null;
-  // A call that comes about: this side of it, the offer that came, ways that came too early, and until when it rings.
-  #side = null;
-  #offer = null;
-  #ways = [];
-  #ringing = null;
-  // A call that goes on, whether this side called, and until when it waits for the other one.
-  #call = null;
-  #isCaller = false;
-  #waiting = null;
+  #kept = { word: "", name: "", secret: "", key: newSecret() };
+  #others = new Map();
+  #isCalled = false;
+  #isRinging = false;
+  #step = "";
 
   /**
    * It says texts by `text(name, ..words)`. `prepare()` is awaited before a side is made, and answers its sound;
-   * `begin({ side, name, digits, isCaller })` has the call, and `end(why)` ends it; `gone()` is told that the call waits
-   * for its other side; `leave()` that none comes about.
+   * `begin({ id, side, name, digits, isCaller })` has one more party of the call; `gone(id)` is told that the call waits for it,
+   * and `lost(id)` that it does no longer; `leave()` that no call comes about.
    */
-  constructor({ text, prepare, begin, end, gone, leave }) {
-    Object.assign(this, { text, prepare, begin, end, gone, leave });
+  constructor({ text, prepare, begin, gone, lost, leave }) {
+    Object.assign(this, { text, prepare, begin, gone, lost, leave });
     const pressed = (id, act) => piece(id).addEventListener("click", () => {
       this.#tell("");
       this.#try(act);
     });
     pressed("room_enter", () => this.#goIn());
     pressed("room_leave", () => this.#goOut());
-    pressed("room_call", () => this.#offerCall());
+    pressed("room_call", () => this.#callAll());
     pressed("room_cancel", () => this.#cancel());
-    pressed("room_accept", () => this.#answerCall());
-    pressed("room_decline", () => this.#decline());
+    const ofRinger = (act) => () => {
+      const ringer = this.#ringer;
+      if (ringer) this.#try(() => act(ringer), ringer);
+    };
+    for (const id of ["room_accept", "knock_accept"]) pressed(id, ofRinger((ringer) => this.#answerCall(ringer)));
+    for (const id of ["room_decline", "knock_decline"]) pressed(id, ofRinger((ringer) => this.#decline(ringer)));
     pressed("room_copy", () => this.#copy());
     for (const id of ["room_word", "room_name"]) {
       piece(id).addEventListener("keydown", ({ key }) => key === "Enter" && piece("room_enter").click());
@@ -81,53 +126,68 @@ export class Rooms {
     this.#socket.open();
   }
 
-  /** Whether the other side of the call may come back. */
+  /** Whether the other sides of the call may come back. */
   get comesBack() {
-    return Boolean(this.#call && this.#kept.secret);
+    return Boolean(this.#isCalled && this.#kept.secret);
   }
 
   /** Another call with oneself goes first. */
   cancel() {
-    if (this.#side || this.#offer) this.#cancel();
+    if (this.#comeAbout.length) this.#cancel();
   }
 
   translate() {
-    if (!piece("room_in").hidden) this.#showRoom();
+    this.#show();
   }
 
-  /** A call began; who called tells a secret by which either side comes back. */
-  begun(call, isCaller) {
-    this.#call = call;
-    this.#isCaller = isCaller;
-    clearTimeout(this.#waiting);
-    if (!isCaller) return;
-    this.#keep(newSecret());
-    call.say({ is: "secret", secret: this.#kept.secret });
+  /** A party is in the call, and told words by `say`. Both tell what they know of the call's secret. */
+  begun({ id, isCaller, say }) {
+    const other = this.#others.get(id);
+    this.#isCalled = true;
+    clearTimeout(other.waiting);
+    Object.assign(other, { say, isCalled: isCaller, waiting: null });
+    say({ is: "secret", secret: this.#kept.secret });
+    this.#show();
+  }
+
+  /** A party has left the call. */
+  left(id) {
+    const other = this.#others.get(id);
+    other?.leaveCall();
+    if (other && !other.isHere) this.#others.delete(id);
   }
 
   /** The call is over. */
   ended() {
-    if (!this.#call) return;
-    this.#call = null;
-    clearTimeout(this.#waiting);
-    this.#drop();
+    if (!this.#isCalled) return;
+    this.#isCalled = false;
+    for (const { id } of [...this.#others.values()]) {
+      this.#others.get(id).drop();
+      this.left(id);
+    }
     this.#keep("");
-    this.#showRoom();
+    this.#show();
   }
 
-  /** Words came by the call itself. */
-  heard({ is, secret }) {
-    if (is === "secret" && isSecret(secret)) this.#keep(secret);
+  /** A party's words came by the call itself. Who called first makes the secret; of two secrets the lesser one counts. */
+  heard(id, { is, secret }) {
+    const other = this.#others.get(id);
+    const own = this.#kept.secret;
+    if (is !== "secret" || !other?.isParty) return;
+    if (secret === "" && !own && other.isCalled) this.#share(newSecret());
+    if (!isSecret(secret) || (own && secret >= own)) return;
+    this.#share(secret);
+    for (const one of this.#here) if (!one.isParty) this.#try(() => this.#offerTo(one), one);
   }
 
-  /** The connection of the call is gone. Its other side may be loaded anew; if it isn't, who called calls again. */
-  wait() {
-    this.gone();
-    clearTimeout(this.#waiting);
-    this.#waiting = setTimeout(() => this.#call && this.end("lost"), COMES_BACK);
-    const call = this.#call;
-    const again = () => this.#call === call && !this.#side && this.#other !== null && this.#offerCall();
-    if (this.#isCaller) setTimeout(() => this.#try(again), CALLED_AGAIN);
+  /** The connection to a party is gone. It may be loaded anew; if it isn't, who called calls again. */
+  wait(id) {
+    const other = this.#others.get(id);
+    this.gone(id);
+    clearTimeout(other.waiting);
+    other.waiting = setTimeout(() => other.waiting && this.lost(id), COMES_BACK);
+    const again = () => other.waiting && !other.side && other.isHere && this.#offerTo(other);
+    if (other.isCalled) setTimeout(() => this.#try(again, other), CALLED_AGAIN);
   }
 
   // ---- the room ---------------------------------------------------------------------------------
@@ -135,7 +195,7 @@ export class Rooms {
   #goIn() {
     const word = piece("room_word").value.trim();
     if (!word) return this.#tell("no_word");
-    this.#kept = { word, name: cut(piece("room_name").value), secret: "" };
+    this.#kept = { ...this.#kept, word, name: cut(piece("room_name").value), secret: "" };
     history.replaceState(null, "", `${ROOM_MARK}${encodeURIComponent(word)}`);
     this.#tell("connecting");
     return this.#socket.open();
@@ -145,36 +205,76 @@ export class Rooms {
     this.#socket.close();
     this.#kept = { ...this.#kept, word: "", secret: "" };
     sessionStorage.removeItem(KEPT_ROOM);
-    this.#other = null;
+    this.#others.clear();
     history.replaceState(null, "", location.href.split("#")[0]);
     this.#showStep("room_out", "room_word");
   }
 
   #enter() {
-    this.#socket.say({ is: "enter", room: this.#kept.word, name: this.#kept.name });
+    const { word, name, key } = this.#kept;
+    this.#socket.say({ is: "enter", room: word, name, key });
   }
 
   #lostServer() {
-    this.#other = null;
-    if (this.#call) return;
-    if (this.#side || this.#offer) this.#stop("");
-    piece("room_call").disabled = true;
+    const cameAbout = this.#comeAbout.length;
+    this.#forgetOthers();
+    if (this.#isCalled) return;
+    if (cameAbout) this.#stop("");
+    else this.#show();
     this.#tell("no_server");
   }
 
-  /** Tells who is there; `why` is the name of a text. */
-  #showRoom(why = "") {
-    const isHere = this.#other !== null;
-    piece("room_here").textContent = isHere ? this.text("is_here", this.#otherName) : this.text("nobody_here");
-    piece("room_inside").textContent = this.text("in_room", this.#kept.word);
-    piece("room_link").value = location.href;
-    piece("room_call").disabled = !isHere;
-    this.#showStep("room_in");
-    this.#tell(why);
+  /** Nobody is known to be here, but for the parties of a call. */
+  #forgetOthers() {
+    for (const other of [...this.#others.values()]) {
+      other.isHere = false;
+      if (other.isParty) continue;
+      other.drop();
+      this.#others.delete(other.id);
+    }
   }
 
-  get #otherName() {
-    return this.#other || this.text("someone");
+  get #here() {
+    return [...this.#others.values()].filter(({ isHere }) => isHere);
+  }
+
+  /** With whom a connection comes about. */
+  get #comeAbout() {
+    return [...this.#others.values()].filter(({ comesAbout }) => comesAbout);
+  }
+
+  /** Who calls, or asks to be let in: the first one that isn't answered. */
+  get #ringer() {
+    return [...this.#others.values()].find(({ rings }) => rings);
+  }
+
+  #nameOf(...others) {
+    return this.text("names", others.map(({ name }) => name || this.text("someone")));
+  }
+
+  /** Shows how things are; `why` is the name of a text about this one. */
+  #show(why = "", about = null) {
+    if (!this.#kept.word) return;
+    const ringer = this.#ringer;
+    const here = this.#here;
+    const isHere = ["nobody_here", "is_here", "are_here"][Math.min(here.length, 2)];
+    piece("room_here").textContent = this.text(isHere, this.#nameOf(...here));
+    piece("room_inside").textContent = this.text("in_room", this.#kept.word);
+    piece("room_link").value = location.href;
+    piece("room_call").disabled = !here.length;
+    piece("knock").hidden = !ringer || !this.#isCalled;
+    const calls = ringer ? this.text(this.#isCalled ? "knocks" : "calls", this.#nameOf(ringer)) : "";
+    piece("room_caller").textContent = piece("knock_who").textContent = calls;
+    const called = this.#comeAbout;
+    const isAnswered = called.some(({ offer }) => offer);
+    piece("room_calling").textContent = this.text(isAnswered ? "connecting" : "calling", this.#nameOf(...called));
+    if (ringer) this.#showStep("room_rings", this.#isCalled ? "" : "room_accept");
+    else if (called.length) this.#showStep("room_calls", this.#isCalled ? "" : "room_cancel");
+    else this.#showStep("room_in");
+    if (Boolean(ringer) !== this.#isRinging) this.#ring[ringer ? "start" : "stop"]();
+    this.#isRinging = Boolean(ringer);
+    document.title = calls || this.text("title");
+    this.#tell(why, about);
   }
 
   #keep(secret) {
@@ -182,176 +282,202 @@ export class Rooms {
     sessionStorage.setItem(KEPT_ROOM, JSON.stringify(this.#kept));
   }
 
-  /** Words of the server, or of the other side by way of it, which may say anything. */
+  /** The call has this secret, which all of its parties are told. */
+  #share(secret) {
+    this.#keep(secret);
+    for (const { say } of this.#others.values()) say?.({ is: "secret", secret });
+  }
+
+  /** Words of the server, or of another side by way of it, which may say anything. */
   #heard(words) {
-    const acts = {
+    const own = {
       entered: () => this.#entered(),
       full: () => this.#refused("room_full"),
       "no room": () => this.#refused("no_room"),
       "no word": () => this.#refused("no_word"),
-      came: ({ name = "" }) => this.#came(name),
-      left: () => this.#left(),
-      offer: (offer) => this.#offered(offer),
-      answer: (answer) => this.#answered(answer),
-      candidate: (way) => this.#way(way),
-      decline: () => this.#side && this.#stop(this.#kept.secret ? "call_over" : "was_declined"),
-      cancel: () => this.#offer && this.#stop("was_cancelled"),
+      came: ({ from, name = "" }) => this.#came(from, name),
     };
-    if (Object.hasOwn(acts, words.is)) this.#try(() => acts[words.is](words));
+    const ofOther = {
+      left: (other) => this.#left(other),
+      offer: (other, offer) => this.#offered(other, offer),
+      answer: (other, answer) => this.#answered(other, answer),
+      candidate: (other, way) => this.#way(other, way),
+      decline: (other) => other.side && this.#without(other, this.#whyDeclined),
+      cancel: (other) => other.offer && this.#without(other, "was_cancelled"),
+    };
+    const other = this.#others.get(words.from);
+    if (Object.hasOwn(own, words.is)) this.#try(() => own[words.is](words));
+    else if (other && Object.hasOwn(ofOther, words.is)) this.#try(() => ofOther[words.is](other, words), other);
+  }
+
+  /** In a call somebody may have declined who isn't in it. */
+  get #whyDeclined() {
+    if (this.#isCalled) return "";
+    return this.#kept.secret ? "call_over" : "was_declined";
   }
 
   #entered() {
     this.#keep(this.#kept.secret);
-    this.#other = null;
-    if (!this.#call) this.#showRoom();
+    this.#forgetOthers();
+    this.#show();
   }
 
   #refused(why) {
-    if (this.#call) return;
+    if (this.#isCalled) return;
     this.#goOut();
     this.#tell(why);
   }
 
   /** Another side is there. Who was loaded anew in a call with it goes on. */
-  #came(name) {
-    this.#other = cut(name);
-    if (this.#call) return undefined;
-    this.#showRoom();
-    return this.#kept.secret ? this.#offerCall() : undefined;
+  #came(id, name) {
+    if (typeof id !== "string") return undefined;
+    const other = this.#others.get(id) ?? new Other(id, "");
+    Object.assign(other, { name: cut(name), isHere: true });
+    this.#others.set(id, other);
+    this.#show();
+    return !this.#isCalled && this.#kept.secret ? this.#offerTo(other) : undefined;
   }
 
-  /** The other side has left the room; a call goes on without it, or its connection tells. */
-  #left() {
-    this.#other = null;
-    if (this.#offer || this.#side) this.#stop("was_cancelled");
-    else if (!this.#call) this.#showRoom();
+  /** Another side has left the room; a call goes on without it, or its connection tells. */
+  #left(other) {
+    const { comesAbout } = other;
+    other.isHere = false;
+    if (!other.isParty) this.#others.delete(other.id);
+    if (comesAbout) this.#without(other, "was_cancelled");
+    else this.#show();
   }
 
   // ---- who calls --------------------------------------------------------------------------------
 
-  async #offerCall() {
-    const side = await this.#made();
-    if (!side) return;
-    await this.#say(await side.offer());
-    this.#ringing = setTimeout(() => side === this.#side && this.#cancel("nobody_answers"), RINGS);
+  async #callAll() {
+    for (const other of this.#here) await this.#offerTo(other);
   }
 
-  async #answered({ sdp, proof }) {
-    const side = this.#side;
+  async #offerTo(other) {
+    other.drop();
+    const side = await this.#made(other);
+    if (!side) return;
+    other.isProved = Boolean(this.#kept.secret);
+    await this.#say(other, await side.offer());
+    other.ringing = setTimeout(() => side === other.side && this.#giveUp(other, "nobody_answers"), RINGS);
+  }
+
+  async #answered(other, { sdp, proof }) {
+    const { side } = other;
     if (side?.peer.signalingState !== "have-local-offer") return;
     const answer = { type: "answer", sdp };
-    // A call that went on goes on with the same side alone.
-    if (this.#kept.secret && !(await this.#isProved(answer, proof))) {
-      this.#cancel("call_over");
+    // A call that went on goes on with who was in it alone.
+    if (other.isProved && !(await this.#isSame(answer, proof))) {
+      this.#giveUp(other, "call_over");
       return;
     }
-    clearTimeout(this.#ringing);
+    clearTimeout(other.ringing);
     const own = side.peer.localDescription;
     await side.accept(answer);
-    await this.#opened(side, true, own, answer);
+    await this.#opened(other, true, own, answer);
   }
 
   // ---- who is called ----------------------------------------------------------------------------
 
-  async #offered({ sdp, proof }) {
+  async #offered(other, { sdp, proof }) {
     const offer = { type: "offer", sdp };
     // Where both call at once the greater offer counts.
-    const own = this.#side?.peer.localDescription;
+    const own = other.side?.peer.localDescription;
     if (own?.type === "offer" && sdp < own.sdp) return;
-    const isAgain = this.#kept.secret ? await this.#isProved(offer, proof) : false;
-    if (!isAgain && (proof || this.#call || this.#kept.secret)) {
-      this.#socket.say({ is: "decline" });
+    const isAgain = this.#kept.secret ? await this.#isSame(offer, proof) : false;
+    other.drop();
+    if (!isAgain && (proof || (this.#kept.secret && !this.#isCalled))) {
+      this.#socket.say({ is: "decline", to: other.id });
+      this.#show();
       return;
     }
-    this.#drop();
-    this.#offer = offer;
-    if (isAgain || own) await this.#answerCall();
-    else this.#rings();
+    other.offer = offer;
+    if (isAgain || own) await this.#answerCall(other);
+    else this.#show();
   }
 
-  #rings() {
-    this.#showStep("room_rings", "room_accept");
-    document.title = piece("room_caller").textContent = this.text("calls", this.#otherName);
-    this.#ring.start();
-  }
-
-  async #answerCall() {
-    const offer = this.#offer;
-    const side = await this.#made();
+  async #answerCall(other) {
+    const { offer } = other;
+    other.isAnswered = true;
+    const side = await this.#made(other);
     if (!side) return;
-    await this.#say(await side.answer(offer));
-    await this.#opened(side, false, side.peer.localDescription, offer);
+    await this.#say(other, await side.answer(offer));
+    await this.#opened(other, false, side.peer.localDescription, offer);
   }
 
-  #decline() {
-    this.#socket.say({ is: "decline" });
-    this.#stop("you_declined");
+  #decline(other) {
+    this.#socket.say({ is: "decline", to: other.id });
+    this.#without(other, "you_declined");
   }
 
   // ---- both -------------------------------------------------------------------------------------
 
-  /** This side of a call, or null where the other one is gone before the camera is there. */
-  async #made() {
-    const offer = this.#offer;
-    this.#ring.stop();
-    if (!this.#call) {
-      piece("room_calling").textContent = this.text(offer ? "connecting" : "calling", this.#otherName);
-      this.#showStep("room_calls", "room_cancel");
-    }
+  /** This side of a connection, or null where the other one is gone before the camera is there. */
+  async #made(other) {
+    const making = {};
+    other.making = making;
+    this.#show();
     const sound = await this.prepare();
-    if (this.#other === null || offer !== this.#offer) return null;
+    if (other.making !== making) return null;
     const side = new Side(serversOf(piece("servers").value));
     side.setSound(sound);
-    side.onWay = (way) => side === this.#side && this.#socket.say({ is: "candidate", ...way });
-    side.onState = (state) => state === "failed" && side === this.#side && this.#cancel("no_way");
-    this.#side?.close();
-    this.#side = side;
+    side.onWay = (way) => side === other.side && this.#socket.say({ is: "candidate", to: other.id, ...way });
+    side.onState = (state) => state === "failed" && side === other.side && this.#giveUp(other, "no_way");
+    other.side?.close();
+    Object.assign(other, { side, making: null });
+    this.#show();
     return side;
   }
 
-  async #say({ type, sdp }) {
+  async #say(other, { type, sdp }) {
     const { secret } = this.#kept;
-    this.#socket.say({ is: type, sdp, proof: secret && (await proofOf(secret, { type, sdp })) });
+    this.#socket.say({ is: type, to: other.id, sdp, proof: secret && (await proofOf(secret, { type, sdp })) });
   }
 
-  async #isProved(description, proof) {
+  async #isSame(description, proof) {
     return proof === (await proofOf(this.#kept.secret, description));
   }
 
-  async #way(way) {
+  async #way(other, way) {
     if (!leadsSomewhere(way.candidate)) return;
-    if (this.#side?.peer.remoteDescription) await this.#side.addWay(way);
-    else if (this.#ways.length < MOST_WAYS) this.#ways.push(way);
+    if (other.side?.peer.remoteDescription) await other.side.addWay(way);
+    else if (other.ways.length < MOST_WAYS) other.ways.push(way);
   }
 
-  async #opened(side, isCaller, ...descriptions) {
-    for (const way of this.#ways.splice(0)) await side.addWay(way);
+  async #opened(other, isCaller, ...descriptions) {
+    const { side } = other;
+    for (const way of other.ways.splice(0)) await side.addWay(way);
     await side.isOpen;
-    if (side !== this.#side) return;
-    this.#side = this.#offer = null;
+    if (side !== other.side) return;
+    other.side = null;
+    other.drop();
     const digits = await digitsOf(...descriptions);
-    this.begin({ side, name: this.#other ?? "", digits, isCaller });
+    this.begin({ id: other.id, side, name: other.name, digits, isCaller });
   }
 
-  #drop() {
-    clearTimeout(this.#ringing);
-    this.#ring.stop();
-    this.#side?.close();
-    this.#side = this.#offer = null;
-    this.#ways = [];
+  #giveUp(other, why) {
+    this.#socket.say({ is: "cancel", to: other.id });
+    this.#without(other, why);
+  }
+
+  /** With this one no connection comes about; `why` is the name of a text. */
+  #without(other, why) {
+    other.drop();
+    if (this.#isCalled || this.#comeAbout.length) this.#show(why, other);
+    else this.#stop(why, other);
   }
 
   #cancel(why = "") {
-    this.#socket.say({ is: "cancel" });
+    for (const { id } of this.#comeAbout) this.#socket.say({ is: "cancel", to: id });
     this.#stop(why);
   }
 
   /** No call comes about; one that waits goes on waiting. `why` is the name of a text. */
-  #stop(why) {
-    this.#drop();
-    if (this.#call) return;
+  #stop(why, about = null) {
+    for (const other of this.#others.values()) other.drop();
+    if (this.#isCalled) return;
     if (this.#kept.word) this.#keep("");
-    this.#showRoom(why);
+    this.#show(why, about);
     this.leave();
   }
 
@@ -363,21 +489,21 @@ export class Rooms {
   }
 
   #showStep(step, focused) {
-    this.#ring.stop();
-    document.title = this.text("title");
     for (const id of ROOM_STEPS) piece(id).hidden = id !== step;
-    if (focused) piece(focused).focus();
+    if (focused && step !== this.#step) piece(focused).focus();
+    this.#step = step;
   }
 
-  #tell(name) {
-    piece("room_told").textContent = name && this.text(name, this.#otherName);
+  #tell(name, about) {
+    piece("room_told").textContent = name && this.text(name, about ? this.#nameOf(about) : this.text("someone"));
   }
 
-  async #try(act) {
+  async #try(act, other = null) {
     try {
       await act();
     } catch {
-      this.#cancel("bad_call");
+      if (other) this.#giveUp(other, "bad_call");
+      else this.#cancel("bad_call");
     }
   }
 }
@@ -393,8 +519,9 @@ function decoded(text) {
 /** What the session keeps of before this page was loaded anew, or null. */
 function readKept() {
   try {
-    const { word, name, secret } = JSON.parse(sessionStorage.getItem(KEPT_ROOM));
-    return { word: String(word), name: cut(String(name)), secret: isSecret(secret) ? secret : "" };
+    const { word, name, secret, key } = JSON.parse(sessionStorage.getItem(KEPT_ROOM));
+    const kept = { word: String(word), name: cut(String(name)) };
+    return { ...kept, secret: isSecret(secret) ? secret : "", key: isSecret(key) ? key : newSecret() };
   } catch {
     return null;
   }

@@ -1,13 +1,14 @@
 /**
- * The sending side: pictures to packets.
+ * The sending side: pictures to packets, which all other parties are sent alike.
  * @module
  */
 
-import { Params, Sender } from "../../library/web/h263rps.js";
+import { Group, Params } from "../../library/web/h263rps.js";
 import { LEAD, LIMIT, RATE, SLOTS, TARGETS, TICKS, now } from "./call_settings.js";
 import { LineRate } from "./line_rate.js";
 import { SIZES, covering, fillPlanes } from "./planes.js";
-import { SentPackets } from "./repair.js";
+import { Receivers } from "./receivers.js";
+import { Repairs, SentPackets } from "./repair.js";
 
 /** A picture that comes sooner after the one before is left out: no stream goes on faster than at its rate. */
 const LEAST_STEP = 0.9 / RATE;
@@ -15,13 +16,14 @@ const LEAST_STEP = 0.9 / RATE;
 const KEPT = 256;
 
 export class Sending {
-  #sender;
+  #group;
+  #receivers;
+  #finest;
   #planes;
   #pen;
   #began = null;
   #captured = [];
-  #sent;
-  #rate;
+  #sent = new SentPackets();
   /** When the last picture was captured. */
   last = -Infinity;
   /** Seconds that the last picture took to become planes, and to be coded. */
@@ -29,37 +31,61 @@ export class Sending {
 
   /** Pictures of this format, of so many bytes at the most, of which a record may be kept. */
   constructor(format, record = null, target = TARGETS[format]) {
-    this.record = record;
+    Object.assign(this, { record, target });
     const [width, height] = SIZES[format];
     Object.assign(this, { width, height });
     const params = Params.of(format, { target, limit: LIMIT, slots: SLOTS, lead: LEAD });
-    this.#sender = new Sender(params);
-    this.#rate = new LineRate(target, params.quant);
-    this.#sent = new SentPackets(target * RATE);
+    this.#group = new Group(params);
+    this.#receivers = new Receivers(this.#group);
+    this.#finest = params.quant;
     this.#planes = new Uint8Array((width * height * 3) / 2);
     this.#pen = new OffscreenCanvas(width, height).getContext("2d", { alpha: false, willReadFrequently: true });
   }
 
+  /** The party at this place is sent what comes from now on. */
+  join(place) {
+    const line = new LineRate(this.target, this.#finest);
+    this.#receivers.join(place, line, new Repairs(this.#sent, this.target * RATE), now());
+  }
+
+  leave(place) {
+    this.#receivers.leave(place, now());
+  }
+
+  /** What was sent so far is sent nobody again. */
+  forgetSent() {
+    this.#sent.forget();
+  }
+
   /**
-   * The packets of a picture, with messages in its header: none where it comes too soon, or where the line has no room for it.
+   * The packets of a picture, with messages in its header, and the places to which they go: none where it comes too soon, or
+   * where a line has no room for it. The lines of the places `full` take nothing at present.
    */
-  packets(source, width, height, messages = () => []) {
+  packets(source, width, height, { messages = () => [], full = [] } = {}) {
     const time = now();
-    if (time - this.last < LEAST_STEP || !this.#rate.hasRoom) return [];
+    if (time - this.last < LEAST_STEP || !this.#mayGo(time, full)) return { packets: [], to: [] };
     this.last = time;
     this.#began ??= time;
     this.#fill(source, width, height);
     const filled = now();
-    const { target } = this.#rate;
-    this.#sender.target(target);
-    const coded = this.#sender.code(this.#planes, messages());
+    const { target, places } = this.#receivers;
+    this.#group.target(target);
+    const coded = this.#group.code(this.#planes, messages());
     this.#captured[coded.number % KEPT] = time;
-    const packets = this.#sender.packets(coded);
-    this.#rate.sent(coded.number, packets);
+    const packets = this.#group.packets(coded);
+    const to = places.filter((place) => !full.includes(place));
+    this.#receivers.sent(coded.number, packets, to, time);
     if (this.record) this.#note(coded, packets, time, target);
     this.took = { planes: filled - time, code: now() - filled };
     const ticks = Math.round((time - this.#began) * TICKS);
-    return packets.map((packet) => this.#kept(stamped(packet, ticks)));
+    return { packets: packets.map((packet) => this.#kept(stamped(packet, ticks))), to };
+  }
+
+  /** Whether all who are waited for can take a picture. */
+  #mayGo(time, full) {
+    const receivers = this.#receivers;
+    receivers.settle(time, full);
+    return !receivers.inside.some((place) => full.includes(place)) && receivers.hasRoom;
   }
 
   #kept(packet) {
@@ -67,9 +93,9 @@ export class Sending {
     return packet;
   }
 
-  /** The packets that a Generic NACK asks for. */
-  repeats(nack) {
-    return this.#sent.asked(nack, now());
+  /** The packets that a Generic NACK of this party asks for. */
+  repeats(place, nack) {
+    return this.#receivers.at(place)?.repairs.asked(nack, now()) ?? [];
   }
 
   #fill(source, width, height) {
@@ -88,32 +114,36 @@ export class Sending {
   }
 
   #note({ number, reference }, packets, time, target) {
-    this.record.line("targets", `${target} ${this.#rate.kbits.toFixed(0)}`);
+    const [place] = this.#receivers.inside;
+    this.record.line("targets", `${target} ${this.#receivers.at(place).line.kbits.toFixed(0)}`);
     this.record.entry("send", "S", time);
     for (const packet of packets) this.record.entry("packets", "K", now(), packet);
     this.record.line("send", reference === null ? `${number} intra` : `${number} from ${reference}`);
   }
 
-  /** Takes a message of the other side. */
-  feedback(message) {
+  /** Takes a message of this party. */
+  feedback(place, message) {
+    const member = this.#receivers.at(place);
+    if (!member) return;
     this.record?.entry("send", "B", now(), message);
-    this.#sender.feedback(message);
-    this.#rate.told(message);
+    this.#receivers.said(place, now());
+    if (member.isIn) this.#group.feedback(place, message);
+    member.line.told(message);
   }
 
   /** The next picture refers to none before it. */
   forget() {
-    this.#sender.forget();
+    this.#receivers.forget();
   }
 
   get statistics() {
-    return { ...this.#sender.statistics(), again: this.#sent.again };
+    return { ...this.#group.statistics(), again: this.#receivers.again };
   }
 
   close() {
-    this.#sender.close();
+    this.#group.close();
     this.#sent.close();
-    this.#rate.close();
+    this.#receivers.close();
   }
 }
 

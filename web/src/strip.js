@@ -11,14 +11,16 @@ export class Strip {
   #marks = [];
   #isDue = false;
 
+  #watch = new ResizeObserver(() => this.draw());
+
   constructor(canvas) {
     this.canvas = canvas;
-    new ResizeObserver(() => this.draw()).observe(canvas);
+    this.#watch.observe(canvas);
+    this.draw();
   }
 
-  clear() {
-    this.#marks = [];
-    this.draw();
+  close() {
+    this.#watch.disconnect();
   }
 
   add(mark) {

@@ -12,10 +12,41 @@ const LATE_OF = 60;
 /** Milliseconds over which a rate is taken, at the least. */
 const RATE_OVER = 900;
 
-const place = (id) => document.getElementById(id);
+/** The element of this name, of the party at this place. */
+const place = (id, at = 0) => document.getElementById(at ? `${id}_${at + 1}` : id);
+
+/** What is told of one party's pictures. */
+class Row {
+  constructor(at, name) {
+    Object.assign(this, { at, name, strip: new Strip(place("strip", at)) });
+    this.tellMark("", "");
+    place("line", at).hidden = place("other_view", at).hidden = false;
+  }
+
+  tellMark(mark, words) {
+    place("other_frame", this.at).dataset.mark = place("mark", this.at).dataset.mark = mark;
+    place("mark", this.at).textContent = words;
+  }
+
+  /** Names are told where there is more than one. */
+  tell(text, isOne) {
+    const { counts } = this.strip;
+    const shown = counts.exact + counts.patched + counts.held;
+    place("line_name", this.at).textContent = isOne ? "" : this.name;
+    place("other_share", this.at).textContent = isOne || !shown ? "" : `${percent(counts.exact, shown)} %`;
+    const who = isOne ? "" : `${this.name}. `;
+    place("strip", this.at).ariaLabel = `${who}${text("line_of_time")}. ${text("summary", counts)}`;
+  }
+
+  close() {
+    this.strip.close();
+    // The first ones have a place also where nobody is.
+    place("line", this.at).hidden = place("other_view", this.at).hidden = true;
+  }
+}
 
 export class Told {
-  #strip = new Strip(place("strip"));
+  #rows = new Map();
   #late = [];
   #bytes;
   #began = 0;
@@ -27,7 +58,7 @@ export class Told {
   /** It says texts by `text(name, ..words)`. */
   constructor(text) {
     this.text = text;
-    matchMedia("(prefers-color-scheme: dark)").addEventListener("change", () => this.#strip.draw());
+    matchMedia("(prefers-color-scheme: dark)").addEventListener("change", () => this.#rows.forEach(({ strip }) => strip.draw()));
   }
 
   begin() {
@@ -36,18 +67,34 @@ export class Told {
     this.#late = [];
     this.counts = null;
     this.left = 0;
-    this.#strip.clear();
-    place("other_frame").dataset.mark = place("mark").textContent = place("mark").dataset.mark = "";
+    for (const at of [...this.#rows.keys()]) this.leave(at);
+  }
+
+  /** There are pictures of this party, at this place. */
+  join(at, name) {
+    this.leave(at);
+    this.#rows.set(at, new Row(at, name));
+    this.#tellOthers();
+  }
+
+  leave(at) {
+    this.#rows.get(at)?.close();
+    this.#rows.delete(at);
+    this.#tellOthers();
+  }
+
+  #tellOthers() {
+    document.body.dataset.others = this.#rows.size;
   }
 
   get seconds() {
     return (performance.now() - this.#began) / 1000;
   }
 
-  played({ mark, late }) {
-    this.#strip.add(mark);
-    place("other_frame").dataset.mark = place("mark").dataset.mark = mark;
-    place("mark").textContent = this.text(mark);
+  played({ place: at, mark, late }) {
+    const row = this.#rows.get(at);
+    row?.strip.add(mark);
+    row?.tellMark(mark, this.text(mark));
     if (late === null) return;
     this.#late.push(late);
     if (this.#late.length > LATE_OF) this.#late.shift();
@@ -55,20 +102,21 @@ export class Told {
 
   /** Of the whole call, how many of a hundred pictures were exact. */
   get share() {
-    const { exact = 0, patched = 0, held = 0 } = this.counts?.played ?? {};
+    const { exact, patched, held } = summed(this.counts?.played ?? []);
     return percent(exact, exact + patched + held);
   }
 
   /** The last pictures in words; `network` is the one that is made worse, where there is one. */
   tell(network) {
-    const { counts } = this.#strip;
+    const rows = [...this.#rows.values()];
+    const counts = summed(rows.map(({ strip }) => strip.counts));
     const shown = counts.exact + counts.patched + counts.held;
     const share = percent(counts.exact, shown);
     place("clock").textContent = clockWords(this.seconds);
     this.#tellOrdinary();
     place("share").textContent = shown ? this.text("share", share) : this.text("waiting");
     place("sentence").textContent = shown ? this.#sentence(share, counts.exact === shown, network) : "";
-    place("strip").ariaLabel = `${this.text("line_of_time")}. ${this.text("summary", counts)}`;
+    rows.forEach((row) => row.tell(this.text, rows.length === 1));
     const isTime = shown && Math.floor(this.seconds) % SUMMARY_EACH === 0;
     if (isTime) place("summary").textContent = this.text("summary", counts);
   }
@@ -98,6 +146,11 @@ export class Told {
       sent: Object.values(sent.coded).reduce((sum, count) => sum + count, 0), left: this.left,
       packets: sent.packets, again: sent.again, lost: network?.lost ?? "–",
     });
+    if (this.#rows.size > 1) {
+      const told = this.counts.played.filter((it) => this.#rows.has(it.place));
+      const parties = told.map((it) => this.text("party_figures", { name: this.#rows.get(it.place).name, ...it }));
+      place("figures").textContent += ` · ${parties.join(" · ")}`;
+    }
     const { ordinary } = this.counts;
     if (!ordinary) return;
     const { keys, code, late } = ordinary;
@@ -112,6 +165,12 @@ export class Told {
     }
     return this.#bytes.rate;
   }
+}
+
+/** All the counts together. */
+function summed(counts) {
+  const sum = (mark) => counts.reduce((all, it) => all + it[mark], 0);
+  return { exact: sum("exact"), patched: sum("patched"), held: sum("held") };
 }
 
 /** In whole percent; 100 only where it is all. */

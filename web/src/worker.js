@@ -1,6 +1,6 @@
 /**
- * The worker: both ends, what they are given, and both canvases. The page hands over frames of the camera and
- * datagrams; the worker hands back datagrams, and tells what was played.
+ * The worker: the sending end and one receiving end for each other party, what they are given, and the canvases. The page
+ * hands over frames of the camera and datagrams; the worker hands back datagrams, and tells what was played.
  * @module
  */
 
@@ -21,25 +21,49 @@ const TOLD_EACH = 250;
 
 const tell = (is, words = {}, owned = []) => postMessage({ is, ...words }, owned);
 
+/** Another party: its stream, and where that is shown. */
+class Party {
+  /** Whether it hears what stands in pictures' headers. */
+  hearsHeaders = false;
+  #pen;
+  #image = null;
+
+  constructor(pen, wait, told, record) {
+    this.#pen = pen;
+    this.receiving = new Receiving(wait, { ...told, paint: (picture, format) => this.#paint(picture, format) }, record);
+  }
+
+  #paint(picture, format) {
+    const [width, height] = SIZES[format];
+    if (this.#image?.width !== width) {
+      Object.assign(this.#pen.canvas, { width, height });
+      this.#image = this.#pen.createImageData(width, height);
+    }
+    fillColours(picture, width, height, this.#image.data);
+    this.#pen.putImageData(this.#image, 0, 0);
+  }
+}
+
 class Ends {
   #own;
-  #other;
-  #image = null;
+  #others;
   #sending = null;
-  #receiving = null;
+  #parties = new Map();
   #carried = null;
   #made = null;
   #timers = [];
   #isAlone = false;
+  #wait = 0;
   #record = null;
+  #recorded = null;
   #format = null;
   #ordinary = null;
   #ordinaryPen;
 
-  constructor(own, other, ordinary) {
+  constructor(own, others, ordinary) {
     const penOf = (canvas) => canvas.getContext("2d", { alpha: false });
     this.#own = penOf(own);
-    this.#other = penOf(other);
+    this.#others = others.map(penOf);
     this.#ordinaryPen = penOf(ordinary);
   }
 
@@ -51,48 +75,91 @@ class Ends {
     this.end();
     this.#isAlone = isAlone;
     this.#format = format;
+    this.#wait = wait;
     this.#record = kept ? new Record(now(), { format, wait, target: TARGETS[format], ...kept }) : null;
     this.#sending = new Sending(format, this.#record);
-    const heard = {
-      say: (message) => this.#say(message),
-      ask: (nack) => this.#sendOut([nack]),
-      carried: (message) => this.#sending.feedback(message),
-      tell: (turn) => this.#tellPlayed(turn),
-      paint: (picture, of) => this.#paint(picture, of),
-    };
-    this.#receiving = new Receiving(wait, heard, this.#record && new RecordedRuns(this.#record));
     this.#timers.push(setInterval(() => this.#tellCounts(), TOLD_EACH));
   }
 
-  /** The other side hears what stands in pictures' headers. A log of captures has no messages, so a record has none there. */
-  carry() {
-    if (!this.#record) this.#carried ??= new Carried((message) => this.#sendOut([message]));
+  /** A party comes, at a place of its own. What this side sends goes to it from the next picture on. */
+  join({ place }) {
+    this.leave({ place });
+    const heard = {
+      say: (message) => this.#say(place, message),
+      ask: (nack) => this.#sendOut([nack], [place]),
+      carried: (message) => this.#sending.feedback(place, message),
+      tell: (turn) => this.#tellPlayed(place, turn),
+    };
+    if (this.#parties.size) this.#beMany();
+    const runs = this.#record && new RecordedRuns(this.#record);
+    this.#parties.set(place, new Party(this.#others[place], this.#wait, heard, runs));
+    this.#sending.join(place);
+  }
+
+  leave({ place }) {
+    this.#parties.get(place)?.receiving.close();
+    if (!this.#parties.delete(place)) return;
+    this.#sending.leave(place);
+    if (!this.#parties.size) this.#stopCarrying();
+    this.#carryOn();
+  }
+
+  /** From now on more than one party is sent the same: headers speak to nobody alone, and a record has no place for it. */
+  #beMany() {
+    this.#stopCarrying();
+    this.#sending.forgetSent();
+    this.#keepRecord();
+  }
+
+  /** A party hears what stands in pictures' headers. */
+  carry({ place }) {
+    const party = this.#parties.get(place);
+    if (party) party.hearsHeaders = true;
+    this.#carryOn();
+  }
+
+  /** Headers speak to one party alone. A log of captures has no messages, so a record has none there. */
+  #carryOn() {
+    const [[place, party] = []] = this.#parties;
+    if (this.#record || this.#parties.size !== 1 || !party.hearsHeaders) return;
+    this.#carried ??= new Carried((message) => this.#sendOut([message], [place]));
+  }
+
+  #stopCarrying() {
+    this.#carried?.close();
+    this.#carried = null;
   }
 
   end() {
     this.#timers.forEach(clearInterval);
     this.#timers = [];
     this.#sending?.close();
-    this.#receiving?.close();
-    this.#carried?.close();
-    this.#sending = this.#receiving = this.#carried = null;
+    for (const { receiving } of this.#parties.values()) receiving.close();
+    this.#parties.clear();
+    this.#stopCarrying();
+    this.#sending = null;
     this.#leaveOrdinary();
-    this.#handOver();
+    this.#keepRecord();
+    if (this.#recorded) tell("recorded", this.#recorded);
+    this.#recorded = null;
   }
 
-  /** Gives the page what was recorded. */
-  #handOver() {
+  /** The record ends here; the page is given it at the end of the call. */
+  #keepRecord() {
     const record = this.#record;
+    if (!record) return;
+    for (const { receiving } of this.#parties.values()) receiving.endRecord();
     this.#record = null;
-    if (!record || record.isEmpty) return;
+    if (this.#sending) this.#sending.record = null;
+    if (record.isEmpty) return;
     const name = `call-${new Date().toISOString().slice(0, 19).replace(/[:T]/g, "-")}`;
     const seconds = Math.round(1000 * (now() - record.began)) / 1000;
-    tell("recorded", { name, file: record.file(name, seconds), isCut: record.isCut });
+    this.#recorded = { name, file: record.file(name, seconds), isCut: record.isCut };
   }
 
-  /** A picture of the camera, which is then let go. */
-  frame({ frame }) {
-    this.#send(frame, frame.displayWidth ?? frame.width, frame.displayHeight ?? frame.height);
+  /** A picture of the camera, which is then let go; the lines of the places `full` take nothing at present. */
+  frame({ frame, full }) {
+    this.#send(frame, frame.displayWidth ?? frame.width, frame.displayHeight ?? frame.height, full);
     frame.close();
     tell("ready");
   }
@@ -113,7 +180,9 @@ class Ends {
 
   /** Only a call with oneself changes it. To a session that began anew the next picture says all. */
   wait({ wait }) {
-    if (this.#receiving?.setWait(wait)) this.#sending.forget();
+    this.#wait = wait;
+    const isAnew = [...this.#parties.values()].map(({ receiving }) => receiving.setWait(wait));
+    if (isAnew.some(Boolean)) this.#sending.forget();
   }
 
   /** The browser's own coder goes beside ours, or no longer. */
@@ -150,60 +219,54 @@ class Ends {
     this.#ordinary = null;
   }
 
-  datagram({ datagram }) {
+  /** A datagram of a party. */
+  datagram({ datagram, place }) {
+    const party = this.#parties.get(place);
+    if (!party) return;
     const bytes = new Uint8Array(datagram);
-    if (bytes.length < SHORTEST_PACKET) this.#sending?.feedback(bytes);
-    else if (isNack(new DataView(datagram))) this.#sendOut(this.#sending?.repeats(new DataView(datagram)) ?? []);
-    else this.#receiving?.take(bytes);
+    if (bytes.length < SHORTEST_PACKET) this.#sending.feedback(place, bytes);
+    else if (isNack(new DataView(datagram))) this.#sendOut(this.#sending.repeats(place, new DataView(datagram)), [place]);
+    else party.receiving.take(bytes);
   }
 
   /** What is sent out is handed over, and a record keeps the message itself. */
-  #say(message) {
+  #say(place, message) {
     if (this.#carried) this.#carried.say(message, this.#sending.untilNext);
-    else this.#sendOut([message.slice()]);
+    else this.#sendOut([message.slice()], [place]);
   }
 
-  #sendOut(datagrams) {
-    if (datagrams.length) tell("datagrams", { datagrams }, datagrams.map(({ buffer }) => buffer));
+  #sendOut(datagrams, to) {
+    if (datagrams.length) tell("datagrams", { datagrams, to }, datagrams.map(({ buffer }) => buffer));
   }
 
-  #send(source, width, height) {
+  #send(source, width, height, full = []) {
     const { width: across, height: down } = this.#own.canvas;
     this.#own.drawImage(source, ...covering(width, height, across, down), 0, 0, across, down);
-    const datagrams = this.#sending?.packets(source, width, height, () => this.#carried?.take() ?? []) ?? [];
-    if (datagrams.length) this.#ordinary?.code(source, width, height, this.#sending.last);
-    this.#sendOut(datagrams);
+    if (!this.#sending) return;
+    const { packets, to } = this.#sending.packets(source, width, height, { messages: () => this.#carried?.take() ?? [], full });
+    if (packets.length) this.#ordinary?.code(source, width, height, this.#sending.last);
+    this.#sendOut(packets, to);
   }
 
-  #tellPlayed({ mark, number, reference }) {
+  #tellPlayed(place, { mark, number, reference }) {
     const captured = this.#isAlone ? this.#sending.captured(number) : undefined;
     if (captured !== undefined) this.#ordinary?.follow(captured);
-    tell("played", { mark, number, reference, late: captured === undefined ? null : now() - captured });
-  }
-
-  #paint(picture, format) {
-    const [width, height] = SIZES[format];
-    if (this.#image?.width !== width) {
-      Object.assign(this.#other.canvas, { width, height });
-      this.#image = this.#other.createImageData(width, height);
-    }
-    fillColours(picture, width, height, this.#image.data);
-    this.#other.putImageData(this.#image, 0, 0);
+    tell("played", { place, mark, number, reference, late: captured === undefined ? null : now() - captured });
   }
 
   #tellCounts() {
     const { took, statistics } = this.#sending;
-    const { played, dropped } = this.#receiving;
-    tell("counts", { took, sent: statistics, played, dropped, ordinary: this.#ordinary?.counts ?? null });
+    const played = [...this.#parties].map(([place, { receiving }]) => ({ place, ...receiving.played }));
+    tell("counts", { took, sent: statistics, played, ordinary: this.#ordinary?.counts ?? null });
   }
 }
 
 let ends = null;
 
 /** The first message has the module and the canvases. What came before the module was there waits for it. */
-async function start({ module, own, other, ordinary }) {
+async function start({ module, own, others, ordinary }) {
   await load(module);
-  ends = new Ends(own, other, ordinary);
+  ends = new Ends(own, others, ordinary);
   tell("loaded");
 }
 

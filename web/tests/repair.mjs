@@ -6,50 +6,21 @@ import { readFileSync } from "node:fs";
 import { Params, Sender, load } from "../../library/web/h263rps.js";
 import { LEAD, LIMIT, RATE, SHORTEST_PACKET, SLOTS, TICKS, now } from "../src/call_settings.js";
 import { Receiving } from "../src/receiving.js";
-import { SentPackets, isNack } from "../src/repair.js";
+import { Repairs, SentPackets, isNack } from "../src/repair.js";
+import { chanceOf, made, pass } from "./made_time.mjs";
 
 const SECONDS = 30;
 const LOSS = 0.05;
 const WAIT = 0.1;
 const TARGET = 1800;
 
-/** The time that is made: what is to be done when, the next one first. */
-const made = { time: 0, next: 1, acts: [] };
-performance.now = () => made.time;
-globalThis.setTimeout = (act, wait = 0) => {
-  const id = made.next++;
-  made.acts.push({ id, act, at: made.time + wait });
-  return id;
-};
-globalThis.clearTimeout = (id) => {
-  made.acts = made.acts.filter((it) => it.id !== id);
-};
-
-/** Lets time pass until there is nothing left to do. */
-function pass() {
-  while (made.acts.length) {
-    const next = made.acts.reduce((first, it) => (it.at < first.at || (it.at === first.at && it.id < first.id) ? it : first));
-    made.acts.splice(made.acts.indexOf(next), 1);
-    made.time = Math.max(made.time, next.at);
-    next.act();
-  }
-}
-
-/** Numbers of chance, the same each time. */
-function chanceOf(seed) {
-  let state = seed;
-  return () => {
-    state = (Math.imul(state, 1664525) + 1013904223) >>> 0;
-    return state / 2 ** 32;
-  };
-}
-
 class Call {
   // What is lost at first is the same in each call.
   #chance = chanceOf(7);
   #other = chanceOf(8);
   #sender = new Sender(Params.of("qcif", { target: TARGET, limit: LIMIT, slots: SLOTS, lead: LEAD }));
-  #sent = new SentPackets(TARGET * RATE);
+  #sent = new SentPackets();
+  #repairs = new Repairs(this.#sent, TARGET * RATE);
   #receiving;
   asked = 0;
   bytes = 0;
@@ -76,7 +47,7 @@ class Call {
     const view = new DataView(bytes.buffer);
     if (bytes.length < SHORTEST_PACKET) this.#sender.feedback(bytes);
     else if (!isNack(view)) throw new Error("neither a message nor what asks for packets");
-    else if (this.isRepaired) this.#send(this.#sent.asked(view, now()), this.#other);
+    else if (this.isRepaired) this.#send(this.#repairs.asked(view, now()), this.#other);
   }
 
   picture(number) {
@@ -94,7 +65,7 @@ class Call {
     const { exact, patched, held } = this.#receiving.played;
     const share = (100 * exact) / (exact + patched + held);
     const { bytes } = this;
-    const { again } = this.#sent;
+    const { again } = this.#repairs;
     this.#receiving.close();
     this.#sent.close();
     this.#sender.close();

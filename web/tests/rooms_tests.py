@@ -263,9 +263,6 @@ class LookTest(unittest.TestCase):
             page.begun()
         self.looks(ada, "room_small_call")
         ada.press("hang_up")
-        third = self.enterContext(Page(address=f"{address}#room=tea"))
-        third.press("room_enter")
-        third.until(lambda: third.text("room_told") == "Two are in that room already.")
         for page in pages:
             self.assertEqual([it for it in page.complaints() if "favicon" not in it], [])
 
@@ -326,12 +323,14 @@ class ServerTest(unittest.TestCase):
 
     def test_wrong_words_shut_a_page_out(self) -> None:
         """16 MB, one letter too many, wrong fields, no JSON, no text: each ends its own page, and no other one."""
-        enter = {"is": "enter", "room": "a", "name": "b"}
+        enter = {"is": "enter", "room": "a", "name": "b", "key": ""}
         wrong = [
             "x" * (1 << 24), "x" * 16_385, "", "[]", "5", "null", "{", "[" * 10_000, json.dumps({**enter, "room": "a" * 41}),
             json.dumps({**enter, "more": "x"}), json.dumps({**enter, "name": 5}), json.dumps({"is": "enter"}),
-            json.dumps({"is": "offer", "sdp": "x" * 12_001, "proof": ""}), json.dumps({"is": "bye"}), json.dumps({"is": []}),
-            json.dumps({"is": "offer", "sdp": "", "proof": "x" * 65}), json.dumps({"is": "candidate", "candidate": "x" * 601, "mid": ""}),
+            json.dumps({**enter, "key": "x" * 65}), json.dumps({"is": "bye"}), json.dumps({"is": []}), json.dumps({"is": "decline"}),
+            json.dumps({"is": "offer", "to": "", "sdp": "x" * 12_001, "proof": ""}), json.dumps({"is": "decline", "to": "x" * 17}),
+            json.dumps({"is": "offer", "to": "", "sdp": "", "proof": "x" * 65}), json.dumps({"is": "offer", "sdp": "", "proof": ""}),
+            json.dumps({"is": "candidate", "to": "", "candidate": "x" * 601, "mid": ""}),
         ]
 
         async def act(join: Joining) -> None:
@@ -347,24 +346,55 @@ class ServerTest(unittest.TestCase):
                     await page.send_bytes(b"x")
                     self.assertEqual(await self.is_shut_out(page), 1008)
                 async with join() as page:
-                    await page.send_json({**enter, "room": "TRUE "})
+                    await page.send_json({**enter, "room": "TRUE ", "key": "another"})
                     self.assertEqual([(await page.receive_json())["is"] for _ in range(2)], ["entered", "came"])
                 self.assertEqual((await true_one.receive_json())["is"], "came")
                 self.assertEqual((await true_one.receive_json())["is"], "left")
 
         self.run_pages(act)
 
-    def test_a_third_one_and_what_is_handed_on(self) -> None:
+    async def enters(self, page: aiohttp.ClientWebSocketResponse, name: str, key: str = "") -> dict[str, str]:
+        """A page goes into the room r, by its name as its key; what it is told first."""
+        await page.send_json({"is": "enter", "room": "r", "name": name, "key": key or name})
+        return dict(await page.receive_json())
+
+    def test_a_fifth_one_and_what_is_handed_on(self) -> None:
+        """Words go to the one page that they are for, and from whom they say; nobody else's number can be had."""
+
         async def act(join: Joining) -> None:
-            async with join() as one, join() as other, join() as third:
-                for page, name in ((one, "a"), (other, "b"), (third, "c")):
-                    await page.send_json({"is": "enter", "room": "r", "name": name})
-                    self.assertEqual(await page.receive_json(), {"is": "full" if name == "c" else "entered"})
-                self.assertEqual(await one.receive_json(), {"is": "came", "name": "b"})
-                self.assertEqual(await other.receive_json(), {"is": "came", "name": "a"})
-                for page in (third, other):
-                    await page.send_json({"is": "offer", "sdp": "of " + ("third" if page is third else "b"), "proof": ""})
-                self.assertEqual(await one.receive_json(), {"is": "offer", "sdp": "of b", "proof": ""})
+            async with contextlib.AsyncExitStack() as stack:
+                pages = [await stack.enter_async_context(join()) for _ in range(5)]
+                numbers = [logic.number_of(name) for name in "abcde"]
+                for place, (page, name) in enumerate(zip(pages, "abcde")):
+                    self.assertEqual(await self.enters(page, name), {"is": "full" if name == "e" else "entered"})
+                    for other in range(min(place, 4) if place < 4 else 0):
+                        self.assertEqual(await page.receive_json(), {"is": "came", "name": "abcd"[other], "from": numbers[other]})
+                        self.assertEqual(await pages[other].receive_json(), {"is": "came", "name": name, "from": numbers[place]})
+                for page, name in ((pages[4], "e"), (pages[1], "b"), (pages[2], "c")):
+                    for to in (numbers[0], numbers[3], numbers[4], "nobody"):
+                        await page.send_json({"is": "offer", "to": to, "sdp": f"of {name}", "proof": ""})
+                for page in (pages[0], pages[3]):
+                    for name in "bc":
+                        told = {"is": "offer", "from": logic.number_of(name), "sdp": f"of {name}", "proof": ""}
+                        self.assertEqual(await page.receive_json(), told)
+
+        self.run_pages(act)
+
+    def test_one_that_comes_back(self) -> None:
+        """By its key a page has its number again, also before its old line is known to be gone, and another page never has."""
+
+        async def act(join: Joining) -> None:
+            async with join() as one, join() as old, join() as new, join() as thief:
+                self.assertEqual([(await self.enters(page, name))["is"] for page, name in ((one, "a"), (old, "b"))], ["entered"] * 2)
+                came = {"is": "came", "name": "b", "from": logic.number_of("b")}
+                self.assertEqual((await one.receive_json(), (await old.receive_json())["is"]), (came, "came"))
+                self.assertEqual((await self.enters(new, "b"))["is"], "entered")
+                self.assertEqual([await one.receive_json() for _ in range(2)], [{"is": "left", "from": came["from"]}, came])
+                await self.enters(thief, "b", came["from"])
+                self.assertNotEqual((await one.receive_json())["from"], came["from"])
+                await old.send_json({"is": "cancel", "to": logic.number_of("a")})
+                await new.send_json({"is": "decline", "to": logic.number_of("a")})
+                self.assertEqual(await one.receive_json(), {"is": "decline", "from": came["from"]})
 
         self.run_pages(act)
 
@@ -373,20 +403,18 @@ class ServerTest(unittest.TestCase):
 
         async def act(join: Joining) -> None:
             async with join() as page, contextlib.AsyncExitStack() as idle:
-                await page.send_json({"is": "enter", "room": "r", "name": ""})
-                await page.receive_json()
+                await self.enters(page, "a")
                 async with join() as fast:
                     # It may be shut out before it has said all.
                     with contextlib.suppress(ConnectionResetError):
-                        for _ in range(200):
-                            await fast.send_json({"is": "decline"})
+                        for _ in range(400):
+                            await fast.send_json({"is": "decline", "to": ""})
                     self.assertEqual(await self.is_shut_out(fast), 4008)
                 socks = [socket.create_connection(("127.0.0.1", self.port)) for _ in range(600)]
                 for one in socks:
                     idle.callback(one.close)
                 async with join() as silent, join() as late:
-                    await late.send_json({"is": "enter", "room": "r", "name": ""})
-                    self.assertEqual((await late.receive_json())["is"], "entered")
+                    self.assertEqual((await self.enters(late, "b"))["is"], "entered")
                     self.assertEqual((await page.receive_json())["is"], "came")
                     self.assertEqual(await self.is_shut_out(silent), 1008)
 
@@ -398,7 +426,7 @@ class ServerTest(unittest.TestCase):
         told: list[list[dict[str, str]]] = [[] for _ in range(5)]
         members = [logic.Member(one.append) for one in told]
         for number, member in enumerate(members):
-            found.take(member, {"is": "enter", "room": str(number), "name": ""})
+            found.take(member, {"is": "enter", "room": str(number), "name": "", "key": ""})
         self.assertEqual([one[0]["is"] for one in told], 3 * ["entered"] + 2 * ["no room"])
         for member in members:
             found.leave(member)
@@ -408,8 +436,8 @@ class ServerTest(unittest.TestCase):
         """100,000 texts, words of which a piece is changed: each is read or refused, and nothing else happens."""
         chance = random.Random(5)
         true_ones = [json.dumps(words) for words in (
-            {"is": "enter", "room": "a", "name": "b"}, {"is": "offer", "sdp": "v=0", "proof": ""}, {"is": "leave"},
-            {"is": "candidate", "candidate": "candidate:1 1 udp 1 192.0.2.7 9 typ host", "mid": "0"},
+            {"is": "enter", "room": "a", "name": "b", "key": "c"}, {"is": "offer", "to": "1", "sdp": "v=0", "proof": ""},
+            {"is": "candidate", "to": "1", "candidate": "candidate:1 1 udp 1 192.0.2.7 9 typ host", "mid": "0"}, {"is": "leave"},
         )]
         parts = ['{', '}', '"is"', ':', '"', ',', '1', '[', ']', 'null', '\\ud800', 'x', '', '\\', '1e999', '"name":"x",', '\0']
         read = 0
