@@ -4,21 +4,25 @@
 //! and says what the next one of a kind is to be coded with. The bytes of a picture fall as the
 //! quantiser grows, so their product, the picture's difficulty, is nearly that of the pictures of
 //! its kind before it. A bucket counts what is sent beyond the target: each picture pours its bytes
-//! in and lets the target out. Half of the room is where its level is led to, so that it may err
-//! both ways. Whole numbers alone, and no memory.
+//! in and lets the target out. Intra pictures fill half of the room; predicted ones keep to the
+//! target from wherever that has left the level. Whole numbers alone, and no memory.
 //!
 //! ```rust
 //! let mut pace = FitPace::start(Format::Qcif, 1_000, 8_000);
 //! pace.coded(Kind::I, 9, 3_000);
-//! assert_eq!(rt; pace.quant(Kind::I), 15);
+//! assert_eq!(rt; pace.quant(Kind::I), 11);
 //! ```
 //!
 //! # Decisions
 //!
 //! - **Bytes fall as 1/Q.** Of five contents they fell by the power of 0.7 to 1.6. What the model
 //!   lacks the next picture makes good.
-//! - **A third of what the level is off is made good with each picture.** All of it makes the
-//!   quantiser swing; an eighth leaves seconds 4 to 7 % off.
+//! - **Predicted pictures have a bucket of their own**, the excess, led to one target. If they were to
+//!   fill half of the room as well, a content that becomes difficult slowly would exceed its target by
+//!   30 % in its second second. With two targets, or a third made good, seconds are up to 5 % off.
+//! - **Half of what the excess is off is made good with each predicted picture**, since quantiser 2 has
+//!   a third more bytes than 3. An intra picture takes two thirds of what is left: its quality stays
+//!   for seconds (half loses 0.5 dB, all leaves the second picture nothing).
 //! - **A difficulty is the mean of the last one and the new one.** A reference that lies further
 //!   back is so felt within two pictures; which one it will be isn't known before a picture is coded.
 //! - **Never finer than 2.** A level reaches to 127 (H.263, 5.4.2), so quantiser 1 can't carry the
