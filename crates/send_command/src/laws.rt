@@ -12,6 +12,7 @@ ghost use Rattle.desk_program.specs.Run.{run_from};
 ghost use Rattle.send_command.specs.declared.sending.Sending.{Sending};
 ghost use Rattle.send_command.specs.Followed.{SendsItsLog};
 ghost use Rattle.send_command.specs.Send.{refused_video, send_begin, send_step};
+ghost use Rattle.send_command.specs.Sent.{aim_at_start};
 
 use event_logs::laws::exact_entries;
 use y4m::laws::frame_by_frame;
@@ -40,7 +41,7 @@ pub fn no_second_video()
 pub fn send_follows_its_log()
     ensures log { (setup : Sending) (inputs : Role → List ℕ) (f : Format)
         → head_of (inputs Video) ≡ Ok f
-        → SendsItsLog (record setup.params { format = f }) setup.target inputs
+        → SendsItsLog (record setup.params { format = f }) (aim_at_start setup f) inputs
         (run_from (send_begin setup inputs) send_step 16777216 inputs) }
     ensures no_head { (setup : Sending) (inputs : Role → List ℕ) (fault : Y4mFault)
         → head_of (inputs Video) ≡ Err fault

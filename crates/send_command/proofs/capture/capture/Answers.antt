@@ -1,15 +1,13 @@
-use Rattle.std.proofs.Common.{ℕ, [], sym, subst}
+use Rattle.std.proofs.Common.{[], ap, ◌∙◌, sym}
 use Rattle.h263_planes.specs.Lent.{picture}
-use Rattle.sender_end.specs.Stands.{Stands}
-use Rattle.rate_control.specs.Pace.{first_of, quant_after_sizes, target_of}
+use Rattle.rate_control.specs.declared.send_pace.SendPace.{SendPace}
+use Rattle.sender_end.specs.State.{SenderState}
 use Rattle.send_command.proofs.Captured.{is_captured}
 use Rattle.send_command.proofs.capture.capture.Goals as goal
 
 pub returns-clause-captured : goal.returns-clause-captured
-returns-clause-captured c entries stands =
+returns-clause-captured c run holds =
     let old = c.args.sender.now in
-    let t = target_of old.pace in
-    let quant = first_of old.pace in
-    let st : Stands (quant_after_sizes t quant) old entries = subst (λ (q : ℕ). Stands (quant_after_sizes t q) old entries) (sym c.requires.pace) stands in
-    is_captured t old.params quant (record { picture = picture c.args.frame; messages = [] }) entries c.code.new.self c.code.result c.requires.pace c.code.ensures.params
-    (c.code.ensures.stands entries st) (c.code.ensures.tells entries st)
+    is_captured old.params run c.args.aim.now c.kind_of_next-kind.result c.pace.result (c.kind_of_next-kind.ensures run holds) c.pace.ensures.target c.pace.ensures.first
+    (record { picture = picture c.args.frame; messages = [] }) c.code-coded.new.self c.coded.new.self c.code-coded.result c.code-coded.ensures.params
+    (c.code-coded.ensures.holds run (c.set_pace.ensures.holds run holds)) (c.code-coded.ensures.makes run (c.set_pace.ensures.holds run holds)) c.coded.ensures.value
