@@ -28,9 +28,11 @@ class FitTest(unittest.TestCase):
     def call(self, frames: list[bytes], target: int) -> tuple[bytes, list[int]]:
         """Writes the sender's log of a call in which the pace is asked, and returns the packets' log and the
         quantisers."""
-        lib, back = library.loaded(), deque([[] for _ in range(TRIP)])
-        params = lib.Params.of("qcif")
-        wire, quants, pace = [], [], lib.Pace("qcif", target=target, room=ROOM * target)
+        lib = library.loaded()
+        back: deque[list[bytes]] = deque([[] for _ in range(TRIP)])
+        wire: list[bytes] = []
+        quants: list[int] = []
+        params, pace = lib.Params.of("qcif"), lib.Pace("qcif", target=target, room=ROOM * target)
         with lib.Sender(params) as sender, lib.Receiver(params) as receiver, open(self.room / "log", "wb") as log:
             for number, frame in enumerate(frames):
                 for message in back.popleft():
