@@ -1,5 +1,5 @@
 -- What a sender has done by its log, and what its quantisers follow.
-use Rattle.std.specs.Prelude.{ℕ, ◌*◌, ◌==◌, List, [], ◌∷◌, length, min, Option, Some, None, option_map, if◌then◌else◌}
+use Rattle.std.specs.Prelude.{◌≡◌, ℕ, ◌*◌, ◌==◌, List, [], ◌∷◌, length, min, Option, Some, None, option_map, if◌then◌else◌}
 use Rattle.h263_types.specs.declared.format.Format.{Format}
 use Rattle.h263_types.specs.declared.Kind.{Kind}
 use Rattle.h263_types.specs.declared.Kind.TheVariants.{I, P}
@@ -11,11 +11,11 @@ use Rattle.call_model.specs.Sending.{SenderEntry, Capture, Feedback, bytes_in}
 use Rattle.call_model.specs.Steering.{nothing_done}
 use Rattle.call_decoding.specs.Styles.{Style}
 use Rattle.call_encoding.specs.Frames.{Frame}
-use Rattle.rate_control.specs.Pace.{quant_after_sizes}
+use Rattle.rate_control.specs.Pace.{pace_of, quant_after_sizes}
 use Rattle.picture_pace.specs.declared.fit.FitPace.{FitPace}
 use Rattle.picture_pace.specs.Fitting.{after_coded, fitting_quant, pace_at_start}
 use Rattle.sender_end.specs.Known.{known_in}
-use Rattle.sender_end.specs.Stands.{Run, after_code, after_message, next_in, packets_after}
+use Rattle.sender_end.specs.Stands.{Run, after_code, after_message, next_in, packets_after, run_of}
 use Rattle.send_command.specs.declared.aim.Aim.{Aim}
 use Rattle.send_command.specs.declared.sending.Sending.{Sending}
 
@@ -94,3 +94,15 @@ module _ (p : Params) where
   sent_by aim [] = record { run = nothing_done; aim = aim }
   sent_by aim (Capture frame ∷ past) = after_sent frame (sent_by aim past)
   sent_by aim (Feedback bytes ∷ past) = after_heard bytes (sent_by aim past)
+
+-- ---- without a pace that fits
+
+-- the parameters' quantiser for each picture, or a target with it as the first
+abbrev pub plain_aim : Params → Option ℕ → Aim
+plain_aim p target = record { quant = p.quant; target = target; fit = None }
+
+-- its run is that of the entries, with one target for all
+abbrev pub PlainIsSenderRun : Type 0
+PlainIsSenderRun = (p : Params) (target : Option ℕ) (entries : List (SenderEntry Frame)) →
+    sent_by p (plain_aim p target) entries
+    ≡ record { run = record { run = run_of p (pace_of target p) entries; since = 0 }; aim = plain_aim p target }

@@ -12,9 +12,14 @@ ghost use Rattle.desk_program.specs.Run.{run_from};
 ghost use Rattle.send_command.specs.declared.sending.Sending.{Sending};
 ghost use Rattle.send_command.specs.Followed.{SendsItsLog};
 ghost use Rattle.send_command.specs.Send.{refused_video, send_begin, send_step};
-ghost use Rattle.send_command.specs.Sent.{aim_at_start};
+ghost use Rattle.send_command.specs.Sent.{PlainIsSenderRun, aim_at_start};
 
+use back_messages::MessageFault;
+use call_decoding::{Pictured, Styled};
+use call_encoding::Framed;
+use call_model::laws::forgetting;
 use event_logs::laws::exact_entries;
+use h263_types::Mb;
 use y4m::laws::frame_by_frame;
 
 /// A video that is refused has that fault, and no earlier one.
@@ -32,6 +37,14 @@ pub fn no_second_video()
         → (run_from (send_begin setup inputs) send_step 16777216 inputs).last.status
         ≡ Video2Refused fault → ⊥ }
 {}
+
+/// Where pictures fit no size, the sender's run is that of its entries, with one target for all of
+/// them or with none.
+pub fn one_target()
+    ensures { PlainIsSenderRun }
+{
+    forgetting::<Framed, Styled, Mb, Pictured, MessageFault>();
+}
 
 /// Whatever bytes its log and its video are made of, a sender accepts the first entries of the log.
 /// Each capture takes the next frame of the video, and over these frames and the log's feedback it
