@@ -1,5 +1,5 @@
 -- The run of a sender whose pictures fit no size.
-use Rattle.std.proofs.Common.{◌≡◌, ℕ, refl, ap, ◌∙◌, List, [], ◌∷◌, ◌++◌, Option}
+use Rattle.std.proofs.Common.{ℕ, refl, ap, ◌∙◌, List, [], ◌∷◌, ◌++◌, Option}
 use Rattle.h263_types.specs.declared.params.Params.{Params}
 use Rattle.call_model.specs.Sending as call
 use Rattle.call_model.specs.Sending.{SenderEntry}

@@ -1,4 +1,4 @@
-use Rattle.std.proofs.Common.{ℕ, ap, ◌∙◌}
+use Rattle.std.proofs.Common.{ap, ◌∙◌}
 use Rattle.send_command.specs.Sent.{kind_by}
 use Rattle.send_command.proofs.capture.kind_of_next.Goals as goal
 
