@@ -95,7 +95,7 @@ class Bounds(ctypes.Structure):
 class FitPace(ctypes.Structure):
     _fields_ = [
         *[(name, ctypes.c_uint32) for name in ("target", "room")],
-        *[(name, ctypes.c_uint64) for name in ("level", "intra", "predicted")],
+        *[(name, ctypes.c_uint64) for name in ("level", "intra", "predicted", "excess")],
     ]
 
 

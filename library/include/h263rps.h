@@ -292,6 +292,7 @@ typedef struct h263rps_pace {
     uint64_t level;     /* bytes by which the pictures exceed the target now */
     uint64_t intra;     /* of a picture that is coded by itself: its bytes times its quantiser */
     uint64_t predicted; /* the same of one that is predicted */
+    uint64_t excess;    /* bytes by which predicted pictures exceed the target now */
 } h263rps_pace;
 
 /* A sender's answer to a message. */

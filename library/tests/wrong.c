@@ -117,7 +117,7 @@ static void receiver_calls(h263rps_end *end, uint32_t status) {
     want("nothing is lent", lent.samples == room && lent.length == 77, 1);
 }
 
-static const h263rps_pace paced = {1000, 8000, 0, 1000, 1000};
+static const h263rps_pace paced = {1000, 8000, 0, 1000, 1000, 0};
 
 static void sender_calls(h263rps_end *end, uint32_t status) {
     memset(&coded, 0xAA, sizeof coded);

@@ -135,7 +135,7 @@ function wordOf(table, number) {
 }
 
 /** The bytes of a pace's struct. */
-const PACE_SIZE = 32;
+const PACE_SIZE = 40;
 
 /** Where each parameter stands in its struct, and how many bits it has. */
 const PLACES = Object.freeze({

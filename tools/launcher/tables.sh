@@ -30,6 +30,7 @@ OPTIONS=(
     'join||||packets that follow on, or carry several slices, are joined|recv|'
     'trace|FILE||every packet arrives|what the network does|call duplex|duplex'
     'target|N|1 to 999999|none|bytes a picture|send rate|rate'
+    'fit|N|1 to 999999|none|the same, which pictures fit by their sizes|send|'
     'bucket|N|0 to 999999||bytes that may wait|rate|rate'
 )
 

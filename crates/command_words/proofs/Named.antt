@@ -7,7 +7,7 @@ use Rattle.h263_types.specs.declared.params.Params.{Params}
 use Rattle.command_words.specs.Simple.{Text, Given, Options, gives, value, is_once, is_whole, named as named_by, taken, whole_or_none}
 use Rattle.command_words.specs.declared.command.Command.{Command}
 use Rattle.command_words.specs.declared.command.Command.TheVariants.{Call, Send, Recv, Demo, Rate, Audit, Duplex}
-use Rattle.command_words.specs.Asked.{Asked, Row, call, send, recv, demo, rate, audit, duplex, call_of, send_of, target_or_none, recv_of, demo_of, seed_in, frames_in, rate_of, audit_of, duplex_of, target_in, bucket_in, asked_by, asked, asking, params_of, IsGiven, HasNames}
+use Rattle.command_words.specs.Asked.{Asked, Row, call, send, recv, demo, rate, audit, duplex, call_of, send_of, send_with, target_or_none, recv_of, demo_of, seed_in, frames_in, rate_of, audit_of, duplex_of, target_in, bucket_in, asked_by, asked, asking, params_of, IsGiven, HasNames}
 
 -- a value that is given is there
 value_there : (name : Text) (given : List Given) → gives name given ≡ true → IsGiven (value given name)
@@ -78,7 +78,7 @@ module _ (given : List Given) where
       go (Some p) (Some x) e h = subst named (some_is h) (video, (subst IsGiven (sym e) tt, (pictures, tt)))
 
   pub send_named : (c : Command) → given_all send.places → send_of (value given) ≡ Some c → named c
-  send_named c all is = go (params_of (value given)) is
+  send_named c all is = go (is_some (value given (codes "target")) && is_some (value given (codes "fit"))) is
     where
       video : IsGiven (value given (codes "in"))
       video = first_there (codes "in") (codes "log" ∷ codes "wire" ∷ []) all
@@ -92,14 +92,26 @@ module _ (given : List Given) where
       wire : IsGiven (value given (codes "wire"))
       wire = first_there (codes "wire") [] (rest_there (codes "log") (codes "wire" ∷ []) others)
 
-      with_target : (p : Params) (o : Option (Option ℕ)) → option_map (λ target. Send p target) o ≡ Some c → named c
-      with_target p None h = absurd (cc h)
-      with_target p (Some target) h = subst named (some_is h) (video, (events, (wire, tt)))
+      with_params : (target fit : Option ℕ) (o : Option Params) → option_map (send_with target fit) o ≡ Some c → named c
+      with_params target fit None h = absurd (cc h)
+      with_params target fit (Some p) h = subst named (some_is h) (video, (events, (wire, tt)))
 
-      go : (o : Option Params) → option_and_then (λ params. option_map (λ target. Send params target)
-          (target_or_none (value given (codes "target")))) o ≡ Some c → named c
-      go None h = absurd (cc h)
-      go (Some p) h = with_target p (target_or_none (value given (codes "target"))) h
+      with_fit : (target : Option ℕ) (o : Option (Option ℕ)) →
+          option_and_then (λ fit. option_map (send_with target fit) (params_of (value given))) o ≡ Some c → named c
+      with_fit target None h = absurd (cc h)
+      with_fit target (Some fit) h = with_params target fit (params_of (value given)) h
+
+      with_target : (o : Option (Option ℕ)) →
+          option_and_then (λ target. option_and_then (λ fit. option_map (send_with target fit) (params_of (value given)))
+          (target_or_none (value given (codes "fit")))) o ≡ Some c → named c
+      with_target None h = absurd (cc h)
+      with_target (Some target) h = with_fit target (target_or_none (value given (codes "fit"))) h
+
+      go : (both : Bool) → (if both then None else
+          option_and_then (λ target. option_and_then (λ fit. option_map (send_with target fit) (params_of (value given)))
+          (target_or_none (value given (codes "fit")))) (target_or_none (value given (codes "target")))) ≡ Some c → named c
+      go true h = absurd (cc h)
+      go false h = with_target (target_or_none (value given (codes "target"))) h
 
   pub recv_named : (c : Command) → given_all recv.places → recv_of (value given) ≡ Some c → named c
   recv_named c all is = go (params_of (value given)) (is_some (value given (codes "join"))) is

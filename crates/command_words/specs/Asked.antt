@@ -116,16 +116,21 @@ target_in text = option_and_then some_target (option_and_then (number_in 6) text
 abbrev pub target_or_none : Option Text → Option (Option ℕ)
 target_or_none text = if is_some text then option_map (λ n. Some n) (target_in text) else Some None
 
+abbrev pub send_with : Option ℕ → Option ℕ → Params → Command
+send_with target fit params = Send params target fit
+
+-- a target to follow or one to fit, but not both
 abbrev pub send_of : Lookup → Option Command
-send_of given = option_and_then (λ params. option_map (λ target. Send params target)
-    (target_or_none (given (codes "target")))) (params_of given)
+send_of given = if is_some (given (codes "target")) && is_some (given (codes "fit")) then None
+    else option_and_then (λ target. option_and_then (λ fit. option_map (send_with target fit) (params_of given))
+    (target_or_none (given (codes "fit")))) (target_or_none (given (codes "target")))
 
 abbrev pub send : Row
 send = record {
   word = codes "send";
   places = codes "in" ∷ codes "log" ∷ codes "wire" ∷ [];
   options = taking_values (codes "quant" ∷ codes "keep" ∷ codes "radius"
-      ∷ codes "limit" ∷ codes "slots" ∷ codes "lead" ∷ codes "clock" ∷ codes "target" ∷ []);
+      ∷ codes "limit" ∷ codes "slots" ∷ codes "lead" ∷ codes "clock" ∷ codes "target" ∷ codes "fit" ∷ []);
   asks = send_of;
 }
 
@@ -266,7 +271,7 @@ duplex_roles = (Video, codes "in1") ∷ (Video2, codes "in2") ∷ (Events, codes
 abbrev pub roles : Command → Roles
 roles (Call params false) = plain_roles
 roles (Call params true) = traced_roles
-roles (Send params target) = send_roles
+roles (Send params target fit) = send_roles
 roles (Recv params join) = recv_roles
 roles (Demo params seed frames) = []
 roles (Rate target bucket) = log_roles
@@ -284,8 +289,9 @@ word_for a role = option_and_then a.given (name_in (roles a.command) role)
 -- the numbers of a command are in their ranges
 abbrev pub IsCommand : Command → Type 0
 IsCommand (Call params traced) = IsParams params
-IsCommand (Send params target) =
+IsCommand (Send params target fit) =
     IsParams params × IfSome target (λ n. 1 ≤ n) × IfSome target (λ n. n ≤ 999999)
+    × IfSome fit (λ n. 1 ≤ n) × IfSome fit (λ n. n ≤ 999999)
 IsCommand (Recv params join) = IsParams params
 IsCommand (Demo params seed frames) =
     IsParams params × (seed ≤ 999999999) × (1 ≤ frames) × (frames ≤ 10000)

@@ -10,10 +10,12 @@ pub enum Command {
         params: Params,
         traced: bool,
     },
-    /// The sender alone, with a target of 1 to 999,999 bytes per picture, if one is given.
+    /// The sender alone, with a target of 1 to 999,999 bytes per picture, if one is given, or with
+    /// one that its pictures are to fit.
     Send {
         params: Params,
         target: Option<u32>,
+        fit: Option<u32>,
     },
     /// The receiver alone, after a joiner where `join` is true.
     Recv {

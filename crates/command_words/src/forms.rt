@@ -24,8 +24,8 @@ static CALL_OPTIONS: [&str; 9] = [
 
 static SEND_PLACES: [&str; 3] = ["in", "log", "wire"];
 
-static SEND_OPTIONS: [&str; 8] = [
-    "quant", "keep", "radius", "limit", "slots", "lead", "clock", "target",
+static SEND_OPTIONS: [&str; 9] = [
+    "quant", "keep", "radius", "limit", "slots", "lead", "clock", "target", "fit",
 ];
 
 static RECV_PLACES: [&str; 3] = ["log", "out", "wire"];

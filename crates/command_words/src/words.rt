@@ -1,6 +1,6 @@
 //! The words of a command, read.
 ghost use Rattle.std.specs.Prelude.{◌≡◌, ◌≤◌, IfOk, IfSome, MatchOption, MatchResult, None, Some};
-ghost use Rattle.std.specs.Prelude.{drop, option_map, codes};
+ghost use Rattle.std.specs.Prelude.{drop, is_some, option_map, codes};
 ghost use Rattle.h263_types.specs.Params.{IsParams};
 ghost use Rattle.clap.specs.Words.{first_value, found_of};
 ghost use Rattle.command_words.specs.Asked.{asked, asked_by, call_of, send_of, recv_of, demo_of};
@@ -76,35 +76,47 @@ fn call(given: &ArgMatches<'_>) -> Option<Command>
     })
 }
 
-fn target(given: &ArgMatches<'_>) -> Option<u32>
-    ensures value { result ≡ target_in (first_value (found_of given.now) (codes "target")) }
+fn target(text: Option<&str>) -> Option<u32>
+    ensures value { result ≡ target_in (option_map (λ t. t.now) text.entry) }
     ensures some { IfSome result (λ n. 1 ≤ n) }
     ensures below { IfSome result (λ n. n ≤ 999999) }
 {
-    let target = number_of(given.get_str("target")?, 6)?;
+    let target = number_of(text?, 6)?;
     if 1 <= target { Some(target) } else { None }
 }
 
 // The target of a command that may go without one.
-fn target_or_none(given: &ArgMatches<'_>) -> Option<Option<u32>>
-    ensures value { result ≡ target_or_none (first_value (found_of given.now) (codes "target")) }
+fn target_or_none(text: Option<&str>) -> Option<Option<u32>>
+    ensures value { result ≡ target_or_none (option_map (λ t. t.now) text.entry) }
     ensures some { IfSome result (λ target. IfSome target (λ n. 1 ≤ n)) }
     ensures below { IfSome result (λ target. IfSome target (λ n. n ≤ 999999)) }
 {
-    if given.get_str("target").is_some() {
-        Some(Some(target(given)?))
-    } else {
-        Some(None)
+    match text {
+        Some(text) => Some(Some(target(Some(text))?)),
+        None => Some(None),
     }
 }
 
+fn is_given(given: &ArgMatches<'_>, name: &str) -> bool
+    ensures { result ≡ is_some (first_value (found_of given.now) name.now) }
+{
+    given.get_str(name).is_some()
+}
+
+// A target to follow or one to fit, but not both.
 fn send(given: &ArgMatches<'_>) -> Option<Command>
     ensures value { result ≡ send_of (first_value (found_of given.now)) }
     ensures ready { IfSome result IsCommand }
 {
+    if is_given(given, "target") && is_given(given, "fit") {
+        return None;
+    }
+    let target = target_or_none(given.get_str("target"))?;
+    let fit = target_or_none(given.get_str("fit"))?;
     Some(Command::Send {
         params: params(given)?,
-        target: target_or_none(given)?,
+        target,
+        fit,
     })
 }
 
@@ -163,7 +175,7 @@ fn rate(given: &ArgMatches<'_>) -> Option<Command>
     ensures ready { IfSome result IsCommand }
 {
     Some(Command::Rate {
-        target: target(given)?,
+        target: target(given.get_str("target"))?,
         bucket: bucket(given)?,
     })
 }

@@ -38,7 +38,7 @@ roles_named (Call params false) given names =
     λ i. there Video (given (codes "in")) names.0 i ++ (there Pictures (given (codes "out")) names.1.0 i ++ [])
 roles_named (Call params true) given names =
     λ i. there Video (given (codes "in")) names.0 i ++ (there Events (given (codes "trace")) names.1.0 i ++ (there Pictures (given (codes "out")) names.1.1.0 i ++ []))
-roles_named (Send params target) given names =
+roles_named (Send params target fit) given names =
     λ i. there Video (given (codes "in")) names.0 i ++ (there Events (given (codes "log")) names.1.0 i ++ (there Wire (given (codes "wire")) names.1.1.0 i ++ []))
 roles_named (Recv params join) given names =
     λ i. there Events (given (codes "log")) names.0 i ++ (there Pictures (given (codes "out")) names.1.0 i ++ (there Wire (given (codes "wire")) names.1.1.0 i ++ []))

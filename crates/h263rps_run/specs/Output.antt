@@ -68,7 +68,7 @@ order_from (Some a) = (Report, []) ∷ roles_of a.command a
 abbrev pub source_of : Command → Option Role
 source_of (Call params false) = Some Video
 source_of (Call params true) = Some Events
-source_of (Send params target) = Some Events
+source_of (Send params target fit) = Some Events
 source_of (Recv params join) = Some Events
 source_of (Demo params seed frames) = None
 source_of (Rate target bucket) = Some Events
@@ -90,8 +90,8 @@ abbrev pub terms_of : Params → Bool → Terms
 terms_of params traced = record { params = params; plain = not traced }
 
 -- what a sender alone is asked for
-abbrev pub sending_of : Params → Option ℕ → Sending
-sending_of params target = record { params = params; target = target }
+abbrev pub sending_of : Params → Option ℕ → Option ℕ → Sending
+sending_of params target fit = record { params = params; target = target; fit = fit }
 
 -- what a call on made input is asked for
 abbrev pub demo_terms : Params → ℕ → ℕ → DemoTerms
@@ -105,8 +105,8 @@ bucket_of target bucket = record { target = target; bucket = bucket }
 abbrev pub run_of : Command → (Role → List ℕ) → Run
 run_of (Call params traced) inputs =
     run_from (call_begin (terms_of params traced) inputs) call_step (most_turns (not traced)) inputs
-run_of (Send params target) inputs =
-    run_from (send_begin (sending_of params target) inputs) send_step 16777216 inputs
+run_of (Send params target fit) inputs =
+    run_from (send_begin (sending_of params target fit) inputs) send_step 16777216 inputs
 run_of (Recv params false) inputs = run_from (recv_begin params inputs) recv_step 16777216 inputs
 run_of (Recv params true) inputs = run_from (join_begin params inputs) join_step 16777216 inputs
 run_of (Demo params seed frames) inputs =

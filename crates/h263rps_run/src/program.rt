@@ -52,8 +52,17 @@ pub fn run<D: Desk>(alloc: Global, words: &[&str], desk: &mut D) -> Status
             let plain = !traced;
             perform::<D, Call>(alloc, &Terms { params, plain }, roles, desk)
         }
-        Command::Send { params, target } => {
-            perform::<D, Send>(alloc, &Sending { params, target }, roles, desk)
+        Command::Send {
+            params,
+            target,
+            fit,
+        } => {
+            let setup = Sending {
+                params,
+                target,
+                fit,
+            };
+            perform::<D, Send>(alloc, &setup, roles, desk)
         }
         Command::Recv {
             params,

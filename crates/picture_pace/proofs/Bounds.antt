@@ -40,7 +40,7 @@ step_low most p x low few keeps =
     let l = level_poured x.kind (fitting_quant x.kind p) x.bytes p in
     let r = room_kept x.kind (fitting_quant x.kind p) x.bytes p in
     let h = poured_low (ltb p.room p.level) p.target p.room p.level x.bytes most
-    (difficulty_of x.kind p) (bytes_wanted p) refl low few keeps in
+    (difficulty_of x.kind p) (bytes_wanted x.kind p) refl low few keeps in
     subst (λ (n : ℕ). n ≤ (after_followed p x).room + most) (sym l)
     (subst (λ (n : ℕ). poured_into p.target p.level x.bytes ≤ n + most) (sym r) h)
 

@@ -26,7 +26,7 @@ no_finer false d w r e two less =
 
 pub fits : FinestThatFits
 fits kind p = (
-  fewer (ltb p.room p.level) (difficulty_of kind p) (bytes_wanted p) (omega arith),
-  λ calm r two less. no_finer (ltb p.room p.level) (difficulty_of kind p) (bytes_wanted p) r
+  fewer (ltb p.room p.level) (difficulty_of kind p) (bytes_wanted kind p) (omega arith),
+  λ calm r two less. no_finer (ltb p.room p.level) (difficulty_of kind p) (bytes_wanted kind p) r
       (le-ltb p.room p.level calm) two less,
 )

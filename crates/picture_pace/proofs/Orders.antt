@@ -6,7 +6,7 @@ use Rattle.h263_types.specs.declared.Kind.{Kind}
 use Rattle.h263_types.specs.declared.Kind.TheVariants.{I, P}
 use Rattle.h263_types.specs.Sizes.{mbs_of}
 use Rattle.picture_pace.specs.declared.fit.FitPace.{FitPace}
-use Rattle.picture_pace.specs.Fitting.{after_coded, difficulty_of, fitting, fitting_quant, pace_at_start, bytes_wanted}
+use Rattle.picture_pace.specs.Fitting.{after_coded, bytes_owed, bytes_spared, bytes_wanted, difficulty_of, fitting, fitting_quant, pace_at_start}
 use Rattle.picture_pace.specs.Laws.{IsNoSmaller, LargerIsCoarser, MoreIsFiner, Shot, after_shots}
 
 -- the first has at least as much to give, and owes no more
@@ -16,11 +16,12 @@ record IsFiner (p q : FitPace) : Type 0 where
   pub level : p.level ≤ q.level
   pub intra : p.intra ≤ q.intra
   pub predicted : p.predicted ≤ q.predicted
+  pub excess : p.excess ≤ q.excess
 
 -- ---- one quantiser
 
-third : (a b : ℕ) → a ≤ b → a / 3 ≤ b / 3
-third a b h = omega arith
+two_thirds : (a b : ℕ) → a ≤ b → 2 * a / 3 ≤ 2 * b / 3
+two_thirds a b h = omega arith
 
 half : (a b : ℕ) → a ≤ b → a / 2 ≤ b / 2
 half a b h = omega arith
@@ -35,14 +36,37 @@ join t u x y v w c d h i j k = omega arith
 gap : (a b l m : ℕ) → a ≤ b → m ≤ l → a - l ≤ b - m
 gap a b l m h i = omega arith
 
-wants_less : (t u r s l m : ℕ) → t ≤ u → r ≤ s → m ≤ l
-    → max (max (t + (r / 2 - l) / 3 - (l - r / 2) / 3) (t / 4)) 1
-    ≤ max (max (u + (s / 2 - m) / 3 - (m - s / 2) / 3) (u / 4)) 1
-wants_less t u r s l m h i j =
-    join t u ((r / 2 - l) / 3) ((s / 2 - m) / 3) ((l - r / 2) / 3) ((m - s / 2) / 3) (t / 4) (u / 4) h
-    (third (r / 2 - l) (s / 2 - m) (gap (r / 2) (s / 2) l m (half r s i) j))
-    (third (m - s / 2) (l - r / 2) (gap m l (s / 2) (r / 2) j (half r s i)))
-    (quarter t u h)
+less_of : (a b c d : ℕ) → a ≤ c → b ≤ d → min a b ≤ min c d
+less_of a b c d h i = omega arith
+
+more_of : (a b c d : ℕ) → a ≤ c → b ≤ d → max a b ≤ max c d
+more_of a b c d h i = omega arith
+
+below_less : (p q : FitPace) → IsFiner p q → q.room / 2 - q.level ≤ p.room / 2 - p.level
+below_less p q h = gap (q.room / 2) (p.room / 2) q.level p.level (half q.room p.room h.room) h.level
+
+above_less : (p q : FitPace) → IsFiner p q → p.level - p.room / 2 ≤ q.level - q.room / 2
+above_less p q h = gap p.level q.level (p.room / 2) (q.room / 2) h.level (half q.room p.room h.room)
+
+spares_less : (kind : Kind) (p q : FitPace) → IsFiner p q → bytes_spared kind q ≤ bytes_spared kind p
+spares_less I p q h = two_thirds (q.room / 2 - q.level) (p.room / 2 - p.level) (below_less p q h)
+spares_less P p q h =
+    half (min (q.room / 2 - q.level) (q.target - q.excess)) (min (p.room / 2 - p.level) (p.target - p.excess))
+    (less_of (q.room / 2 - q.level) (q.target - q.excess) (p.room / 2 - p.level) (p.target - p.excess)
+    (below_less p q h) (gap q.target p.target q.excess p.excess h.target h.excess))
+
+owes_less : (kind : Kind) (p q : FitPace) → IsFiner p q → bytes_owed kind p ≤ bytes_owed kind q
+owes_less I p q h = half (p.level - p.room / 2) (q.level - q.room / 2) (above_less p q h)
+owes_less P p q h =
+    half (max (p.level - p.room / 2) (p.excess - p.target)) (max (q.level - q.room / 2) (q.excess - q.target))
+    (more_of (p.level - p.room / 2) (p.excess - p.target) (q.level - q.room / 2) (q.excess - q.target)
+    (above_less p q h) (gap p.excess q.excess p.target q.target h.excess h.target))
+
+wants_less : (kind : Kind) (p q : FitPace) → IsFiner p q → bytes_wanted kind q ≤ bytes_wanted kind p
+wants_less kind p q h =
+    join q.target p.target (bytes_spared kind q) (bytes_spared kind p) (bytes_owed kind q) (bytes_owed kind p)
+    (q.target / 4) (p.target / 4) h.target (spares_less kind p q h) (owes_less kind p q h)
+    (quarter q.target p.target h.target)
 
 quotient : (a b v w : ℕ) → a ≤ b → 1 ≤ v → v ≤ w → a / w ≤ b / v
 quotient a b v w h some more =
@@ -73,8 +97,8 @@ full p q h e =
 quant_less : (kind : Kind) (p q : FitPace) → IsFiner p q → fitting_quant kind p ≤ fitting_quant kind q
 quant_less kind p q h =
     no_coarser (ltb p.room p.level) (ltb q.room q.level) (difficulty_of kind p) (difficulty_of kind q)
-    (bytes_wanted q) (bytes_wanted p) (full p q h) (difficulty_less kind p q h) (omega arith)
-    (wants_less q.target p.target q.room p.room q.level p.level h.target h.room h.level)
+    (bytes_wanted kind q) (bytes_wanted kind p) (full p q h) (difficulty_less kind p q h) (omega arith)
+    (wants_less kind p q h)
 
 -- ---- a picture was coded
 
@@ -99,6 +123,7 @@ coded_less I s t a b p q h i f =
       level = pours_less p.target q.target p.level q.level a b f.target f.level i;
       intra = learns_less s t a b p.intra q.intra h i f.intra;
       predicted = f.predicted;
+      excess = f.excess;
     }
 coded_less P s t a b p q h i f =
     record {
@@ -107,6 +132,7 @@ coded_less P s t a b p q h i f =
       level = pours_less p.target q.target p.level q.level a b f.target f.level i;
       intra = f.intra;
       predicted = learns_less s t a b p.predicted q.predicted h i f.predicted;
+      excess = pours_less p.target q.target p.excess q.excess a b f.target f.excess i;
     }
 
 same_shots : (p q : FitPace) (xs : List Shot) → IsFiner p q → IsFiner (after_shots p xs) (after_shots q xs)
@@ -136,6 +162,7 @@ more_is_finer f target more room more_room xs kind h i =
       level = omega arith;
       intra = le_refl (200 * mbs_of f);
       predicted = le_refl (100 * mbs_of f);
+      excess = omega arith;
     }))
 
 pub larger_is_coarser : LargerIsCoarser
@@ -148,4 +175,5 @@ larger_is_coarser f target room xs ys kind all =
       level = omega arith;
       intra = le_refl (200 * mbs_of f);
       predicted = le_refl (100 * mbs_of f);
+      excess = omega arith;
     }))

@@ -17,9 +17,9 @@ InRange = (kind : Kind) (p : FitPace) → (2 ≤ fitting_quant kind p) × (fitti
 abbrev pub FinestThatFits : Type 0
 FinestThatFits =
     (kind : Kind) (p : FitPace)
-    → (fitting_quant kind p < 31 → difficulty_of kind p < bytes_wanted p * fitting_quant kind p)
+    → (fitting_quant kind p < 31 → difficulty_of kind p < bytes_wanted kind p * fitting_quant kind p)
     × (p.level ≤ p.room → (finer : ℕ) → 2 ≤ finer → finer < fitting_quant kind p
-    → bytes_wanted p * finer ≤ difficulty_of kind p)
+    → bytes_wanted kind p * finer ≤ difficulty_of kind p)
 
 -- ---- what was coded
 

@@ -1,7 +1,7 @@
 //! A pace that fits pictures to a target.
 ghost use Rattle.std.specs.Prelude.{◌≡◌, ◌≤◌};
-ghost use Rattle.picture_pace.specs.Fitting.{after_coded, bytes_wanted, difficulty_of, fitting, fitting_quant};
-ghost use Rattle.picture_pace.specs.Fitting.{learnt, pace_at_start, poured_into, redirected};
+ghost use Rattle.picture_pace.specs.Fitting.{after_coded, bytes_owed, bytes_spared, bytes_wanted, difficulty_of};
+ghost use Rattle.picture_pace.specs.Fitting.{fitting, fitting_quant, learnt, pace_at_start, poured_into, redirected};
 
 use h263_types::{Format, Kind};
 
@@ -9,8 +9,6 @@ use h263_types::{Format, Kind};
 const INTRA: u64 = 200;
 
 const PREDICTED: u64 = 100;
-// The share of what the level is off that a picture makes good.
-const SHARE: u64 = 3;
 // A picture gets this share of the target at least, unless the bucket is full.
 const LEAST: u64 = 4;
 
@@ -27,6 +25,8 @@ pub struct FitPace {
     // The bytes of a picture of each kind, times its quantiser.
     intra: u64,
     predicted: u64,
+    // The bytes by which predicted pictures exceed the target.
+    excess: u64,
 }
 
 impl FitPace {
@@ -41,6 +41,7 @@ impl FitPace {
             level: 0,
             intra: INTRA * format.mbs() as u64,
             predicted: PREDICTED * format.mbs() as u64,
+            excess: 0,
         }
     }
 
@@ -61,7 +62,7 @@ impl FitPace {
         if self.level > self.room as u64 {
             return 31;
         }
-        fitting(self.difficulty(kind), self.wanted())
+        fitting(self.difficulty(kind), self.wanted(kind))
     }
 
     /// A picture of this kind was coded with this quantiser, and has so many bytes.
@@ -70,7 +71,10 @@ impl FitPace {
     {
         match kind {
             Kind::I => self.intra = learnt(self.intra, quant, bytes),
-            Kind::P => self.predicted = learnt(self.predicted, quant, bytes),
+            Kind::P => {
+                self.predicted = learnt(self.predicted, quant, bytes);
+                self.excess = poured_into(self.excess, bytes, self.target);
+            }
         }
         self.level = poured_into(self.level, bytes, self.target);
     }
@@ -82,16 +86,37 @@ impl FitPace {
         self.level
     }
 
-    /// Bytes that the next picture may have, unless the bucket is full.
-    pub fn wanted(&self) -> u64
-        ensures value { result ≡ bytes_wanted self.now }
+    /// Bytes that the next picture may have, where it is of this kind and the bucket isn't full.
+    pub fn wanted(&self, kind: Kind) -> u64
+        ensures value { result ≡ bytes_wanted kind self.now }
         ensures some { 1 ≤ result }
     {
-        let aim = self.room as u64 / 2;
         let target = self.target as u64;
-        let more = target + aim.saturating_sub(self.level) / SHARE;
-        let less = self.level.saturating_sub(aim) / SHARE;
-        more.saturating_sub(less).max(target / LEAST).max(1)
+        let wanted = (target + self.spared(kind)).saturating_sub(self.owed(kind));
+        wanted.max(target / LEAST).max(1)
+    }
+
+    // What a picture of this kind may have beyond the target.
+    fn spared(&self, kind: Kind) -> u64
+        ensures value { result ≡ bytes_spared kind self.now }
+        ensures few { result ≤ 4294967295 }
+    {
+        let below = (self.room as u64 / 2).saturating_sub(self.level);
+        match kind {
+            Kind::I => 2 * below / 3,
+            Kind::P => below.min((self.target as u64).saturating_sub(self.excess)) / 2,
+        }
+    }
+
+    // What it must save.
+    fn owed(&self, kind: Kind) -> u64
+        ensures { result ≡ bytes_owed kind self.now }
+    {
+        let above = self.level.saturating_sub(self.room as u64 / 2);
+        match kind {
+            Kind::I => above / 2,
+            Kind::P => above.max(self.excess.saturating_sub(self.target as u64)) / 2,
+        }
     }
 
     fn difficulty(&self, kind: Kind) -> u64

@@ -1,28 +1,46 @@
--- A capture by a sender whose pace begins with the parameters' quantiser.
-use Rattle.std.proofs.Common.{◌≡◌, ℕ, List, ◌∷◌, length, Option, sym, ap, ◌∙◌, subst}
+-- A capture by a sender with the pace that its aim gives.
+use Rattle.std.proofs.Common.{◌≡◌, ℕ, List, length, sym, ap, ◌∙◌, subst}
+use Rattle.h263_types.specs.declared.Kind.{Kind}
 use Rattle.h263_types.specs.declared.params.Params.{Params}
-use Rattle.call_model.specs.Sending.{SenderEntry, Capture}
 use Rattle.call_encoding.specs.Frames.{Frame}
 use Rattle.sender_end.specs.declared.answers.Coded.{Coded}
 use Rattle.sender_end.specs.State.{SenderState}
-use Rattle.sender_end.specs.Stands.{Stands, Describes, run_of, next_after, last_packets}
+use Rattle.sender_end.specs.Stands.{Describes, Holds, Run, after_code, next_in, packets_after}
 use Rattle.rate_control.specs.declared.send_pace.SendPace.{SendPace}
-use Rattle.rate_control.specs.Pace.{pace_of, quant_after_sizes}
+use Rattle.rate_control.specs.Pace.{first_of, quant_after_sizes, target_of}
+use Rattle.send_command.specs.declared.aim.Aim.{Aim}
+use Rattle.send_command.specs.Sent.{Sent, aim_after, counted_bytes, first_by, next_kind, pace_by, target_by}
 use Rattle.send_command.specs.Stands.{IsCaptured}
 
--- the packets of a sender are those of its entries' last picture
-packets_are : (t : Option ℕ) (p : Params) (state : SenderState SendPace) (entries : List (SenderEntry Frame)) → state.params ≡ p → Stands (pace_of t p) state entries → state.packets ≡ last_packets p (pace_of t p) entries
-packets_are t p state entries same st =
-    sym st.seen.packets ∙ st.stands.packets ∙ ap (λ (q : Params). last_packets q (pace_of t p) entries) same
+-- the packets of a sender are those of its run's last picture
+packets_are : (p : Params) (state : SenderState SendPace) (run : Run) → state.params ≡ p → Holds state run → state.packets ≡ packets_after p run
+packets_are p state run same h =
+    sym h.seen.packets ∙ h.holds.keeps.packets ∙ ap (λ (q : Params). packets_after q run) same
 
--- a capture by a sender whose pace has the parameters' quantiser as its first
-pub is_captured : (t : Option ℕ) (p : Params) (quant : ℕ) (frame : Frame) (entries : List (SenderEntry Frame)) (new : SenderState SendPace) (answer : Coded) → quant ≡ p.quant → new.params ≡ p
-    → Stands (quant_after_sizes t quant) new (Capture frame ∷ entries)
-    → Describes (length (run_of p (quant_after_sizes t quant) entries).coded) (next_after p (quant_after_sizes t quant) frame entries) answer
-    → IsCaptured t frame p entries new answer
-is_captured t p quant frame entries new answer pace same stands tells =
-    let st : Stands (pace_of t p) new (Capture frame ∷ entries) = subst (λ (q : ℕ). Stands (quant_after_sizes t q) new (Capture frame ∷ entries)) pace stands in
-    let told : Describes (length (run_of p (pace_of t p) entries).coded) (next_after p (pace_of t p) frame entries) answer =
-    subst (λ (q : ℕ). Describes (length (run_of p (quant_after_sizes t q) entries).coded) (next_after p (quant_after_sizes t q) frame entries) answer) pace tells
-    in
-    record { stands = st; packets = packets_are t p new (Capture frame ∷ entries) same st; number_is = told.number_is; reference = told.reference }
+module _ (p : Params) (run : Run) (aim : Aim) (kind : Kind) (pace : SendPace) (kind_is : kind ≡ next_kind p run)
+    (target_is : target_of pace ≡ target_by aim.target aim.fit) (first_is : first_of pace ≡ first_by aim.quant kind aim.fit) where
+  abbrev sent : Sent
+  sent = record { run = run; aim = aim }
+
+  abbrev paced : List ℕ → ℕ
+  paced = quant_after_sizes (target_of pace) (first_of pace)
+
+  pace_is : paced ≡ pace_by p sent
+  pace_is = λ i. quant_after_sizes (target_is i) ((first_is ∙ ap (λ (k : Kind). first_by aim.quant k aim.fit) kind_is) i)
+
+  pub is_captured : (frame : Frame) (new : SenderState SendPace) (after : Aim) (answer : Coded) → new.params ≡ p
+      → Holds new (after_code p paced frame run) → Describes (length run.run.coded) (next_in p paced frame run) answer
+      → after ≡ aim_after kind (counted_bytes new.packets) aim → IsCaptured frame p sent new after answer
+  is_captured frame new after answer same holds tells told =
+      let held : Holds new (after_code p (pace_by p sent) frame run) = subst (λ (f : List ℕ → ℕ). Holds new (after_code p f frame run)) pace_is holds in
+      let says : Describes (length run.run.coded) (next_in p (pace_by p sent) frame run) answer =
+      subst (λ (f : List ℕ → ℕ). Describes (length run.run.coded) (next_in p f frame run) answer) pace_is tells
+      in
+      let packets = packets_are p new (after_code p (pace_by p sent) frame run) same held in
+      record {
+        holds = held;
+        follows = told ∙ (λ i. aim_after (kind_is i) (counted_bytes (packets i)) aim);
+        packets = packets;
+        number_is = says.number_is;
+        reference = says.reference;
+      }

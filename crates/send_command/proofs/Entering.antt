@@ -34,7 +34,7 @@ use Rattle.send_command.proofs.Held.{no_entry_held, not_none}
 
 part_of_frame : (s : SendState) (size : ℕ) (r : Result (List ℕ) Y4mFault) (k : Role → ℕ) → (3 ≤ k Events → ⊥) → IsPart (step_turns (frame_step s size r)) k
 part_of_frame s size (Ok frame) k few =
-    no_entry_held (record { taken = and_of (of Events 3) (of Video size); whole = true; texts = capture_texts s.target s.params (captured s.params.format frame) s.entries }) k few
+    no_entry_held (record { taken = and_of (of Events 3) (of Video size); whole = true; texts = capture_texts s.params (captured s.params.format frame) s.sent }) k few
 part_of_frame s size (Err fault) k few = tt
 
 part_of_capture : (s : SendState) (video : List ℕ) (k : Role → ℕ) → (3 ≤ k Events → ⊥) → IsPart (step_turns (capture_step s video)) k

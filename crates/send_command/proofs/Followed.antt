@@ -22,12 +22,13 @@ use Rattle.event_logs.specs.Log.{Found, fault_from, fault_of, found_from, found_
 use Rattle.call_report.specs.declared.status.Status.{Status}
 use Rattle.call_model.specs.Sending.{SenderEntry, Capture, Feedback}
 use Rattle.call_encoding.specs.Frames.{Frame}
-use Rattle.rate_control.specs.Pace.{pace_of}
-use Rattle.sender_end.specs.Stands.{last_packets}
+use Rattle.sender_end.specs.Stands.{packets_after}
 use Rattle.desk_program.specs.Run.{End, Run, Step, Turn, left_after, follow, run_from, run_of, silence, text_of, texts_of}
 use Rattle.desk_program.specs.Run.Step.{Ends}
 use Rattle.desk_program.specs.Texts.{and_of, no_texts, of}
+use Rattle.send_command.specs.declared.aim.Aim.{Aim}
 use Rattle.send_command.specs.declared.sending.Sending.{Sending}
+use Rattle.send_command.specs.Sent.{aim_at_start, sent_by}
 use Rattle.send_command.specs.Send.{SendState, all_read, bad_entry, capture_step, capture_texts, captured, entry_step, feedback_step, first_state, frame_step, head_step, log_step, most_entries, packets_text, send_begin, send_step}
 use Rattle.send_command.specs.Tally.{count_text}
 use Rattle.send_command.specs.Followed.{IsEnd, SendsItsLog, Spares, counted, film, frames_after, frames_with, no_frame_left, past_with, sent_lines, sent_text, told, with_entries}
@@ -90,7 +91,7 @@ more_bytes n = omega arith
 no_more : (n : ℕ) → n + 0 ≡ n
 no_more n = omega arith
 
-module _ (p : Params) (target : Option ℕ) (spelled : IsSpelled) where
+module _ (p : Params) (aim : Aim) (spelled : IsSpelled) where
   -- ---- what a run comes to, where these frames and these entries are still to come
 
   pub record Comes (frames : List Frame) (past : List (SenderEntry Frame)) (ahead : List Found) (fault : Option LogFault) (broken : Option Y4mFault) (run : Run) : Type 0 where
@@ -98,9 +99,9 @@ module _ (p : Params) (target : Option ℕ) (spelled : IsSpelled) where
     pub refused : List Found
     pub read : ahead ≡ accepted ++ refused
     pub taken : length run.turns ≡ length accepted
-    pub wire : sent_text p target (with_entries frames past accepted) ≡ sent_text p target past ++ text_of run Wire
-    pub report : sent_lines p target (with_entries frames past accepted) ++ told run.last.status (count_text (counted p target (with_entries frames past accepted)))
-        ≡ sent_lines p target past ++ text_of run Report
+    pub wire : sent_text p aim (with_entries frames past accepted) ≡ sent_text p aim past ++ text_of run Wire
+    pub report : sent_lines p aim (with_entries frames past accepted) ++ told run.last.status (count_text (counted p aim (with_entries frames past accepted)))
+        ≡ sent_lines p aim past ++ text_of run Report
     pub end : IsEnd fault broken (frames_after frames accepted) refused run.last.status
     pub others : Spares run.last.status run.last.taken
 
@@ -115,8 +116,8 @@ module _ (p : Params) (target : Option ℕ) (spelled : IsSpelled) where
     refused = E;
     read = refl;
     taken = refl;
-    wire = sym (append-nil (sent_text p target past));
-    report = ap (λ (l : List ℕ). sent_lines p target past ++ l) (silent (count_text (counted p target past)));
+    wire = sym (append-nil (sent_text p aim past));
+    report = ap (λ (l : List ℕ). sent_lines p aim past ++ l) (silent (count_text (counted p aim past)));
     end = end;
     others = spares;
   }
@@ -129,13 +130,13 @@ module _ (p : Params) (target : Option ℕ) (spelled : IsSpelled) where
       comes_stopped frames past (found ∷ E) F B rest status taken silent (capture, none, is) spares
 
   comes_end : (frames : List Frame) (past : List (SenderEntry Frame)) (B : Option Y4mFault) (rest : SendState → (Role → ℕ) → Run)
-      → Comes frames past [] None B (follow (stopped (all_read (counted p target past))) rest)
+      → Comes frames past [] None B (follow (stopped (all_read (counted p aim past))) rest)
   comes_end frames past B rest = record {
     accepted = [];
     refused = [];
     read = refl;
     taken = refl;
-    wire = sym (append-nil (sent_text p target past));
+    wire = sym (append-nil (sent_text p aim past));
     report = refl;
     end = refl;
     others = (refl, refl);
@@ -143,8 +144,8 @@ module _ (p : Params) (target : Option ℕ) (spelled : IsSpelled) where
 
   -- an entry more
   comes_more : (found : Found) (frames : List Frame) (past : List (SenderEntry Frame)) (E : List Found) (F : Option LogFault) (B : Option Y4mFault) (turn : Turn) (run : Run)
-      → sent_text p target (past_with frames past found.entry found.bytes) ≡ sent_text p target past ++ turn.texts Wire
-      → sent_lines p target (past_with frames past found.entry found.bytes) ≡ sent_lines p target past ++ turn.texts Report
+      → sent_text p aim (past_with frames past found.entry found.bytes) ≡ sent_text p aim past ++ turn.texts Wire
+      → sent_lines p aim (past_with frames past found.entry found.bytes) ≡ sent_lines p aim past ++ turn.texts Report
       → Comes (frames_with frames found.entry) (past_with frames past found.entry found.bytes) E F B run
       → Comes frames past (found ∷ E) F B (record { turns = turn ∷ run.turns; last = run.last })
   comes_more found frames past E F B turn run wire lines comes = record {
@@ -155,13 +156,13 @@ module _ (p : Params) (target : Option ℕ) (spelled : IsSpelled) where
     wire =
         comes.wire
         ∙ ap (λ (l : List ℕ). l ++ text_of run Wire) wire
-        ∙ append_assoc (sent_text p target past) (turn.texts Wire) (text_of run Wire)
-        ∙ ap (λ (l : List ℕ). sent_text p target past ++ l) (sym (append_assoc (turn.texts Wire) (texts_of run.turns Wire) (run.last.texts Wire)));
+        ∙ append_assoc (sent_text p aim past) (turn.texts Wire) (text_of run Wire)
+        ∙ ap (λ (l : List ℕ). sent_text p aim past ++ l) (sym (append_assoc (turn.texts Wire) (texts_of run.turns Wire) (run.last.texts Wire)));
     report =
         comes.report
         ∙ ap (λ (l : List ℕ). l ++ text_of run Report) lines
-        ∙ append_assoc (sent_lines p target past) (turn.texts Report) (text_of run Report)
-        ∙ ap (λ (l : List ℕ). sent_lines p target past ++ l) (sym (append_assoc (turn.texts Report) (texts_of run.turns Report) (run.last.texts Report)));
+        ∙ append_assoc (sent_lines p aim past) (turn.texts Report) (text_of run Report)
+        ∙ ap (λ (l : List ℕ). sent_lines p aim past ++ l) (sym (append_assoc (turn.texts Report) (texts_of run.turns Report) (run.last.texts Report)));
     end = comes.end;
     others = comes.others;
   }
@@ -170,7 +171,7 @@ module _ (p : Params) (target : Option ℕ) (spelled : IsSpelled) where
 
   abbrev state : List (SenderEntry Frame) → ℕ → ℕ → ℕ → ℕ → SendState
   state past at read video_at more =
-      record { params = p; target = target; entries = past; tally = counted p target past; at = at; read = read; video_at = video_at; more = more }
+      record { params = p; sent = sent_by p aim past; tally = counted p aim past; at = at; read = read; video_at = video_at; more = more }
 
   abbrev ahead_of : ℕ → ℕ → List ℕ → List Frame
   ahead_of more at video = film p (frames_of p.format more at video)
@@ -236,13 +237,13 @@ module _ (p : Params) (target : Option ℕ) (spelled : IsSpelled) where
           (ap (λ (m : ℕ). drop m (inputs Events)) (no_more 3) ∙ ap (drop 3) is_log)
           (ap (λ (m : ℕ). drop m (inputs Video)) (more_bytes size) ∙ ap (drop size) video)
           in
-          let turn : Turn = record { taken = and_of (of Events 3) (of Video size); whole = true; texts = capture_texts target p x past } in
+          let turn : Turn = record { taken = and_of (of Events 3) (of Video size); whole = true; texts = capture_texts p x (sent_by p aim past) } in
           let after = rest (state (Capture x ∷ past) (at + 3) (read + 1) (video_at + size) (more - 1)) (and_of (of Events 3) (of Video size)) in
           let run : Run = record { turns = turn ∷ after.turns; last = after.last } in
           subst (λ (l : List Frame). Comes l past (this ∷ laters 3) (later_fault 3) broken run) (sym frames_are)
           (subst (λ (o : Option Y4mFault). Comes (x ∷ later) past (this ∷ laters 3) (later_fault 3) o run) (sym broken_is)
           (comes_more this (x ∷ later) past (laters 3) (later_fault 3) (broken_of (more - 1) (video_at + size) left) turn after
-          (append_twice (sent_text p target past) (packets_text (last_packets p (pace_of target p) (Capture x ∷ past)))) refl comes))
+          (append_twice (sent_text p aim past) (packets_text (packets_after p (sent_by p aim (Capture x ∷ past)).run))) refl comes))
         where
           append_twice : (l m : List ℕ) → l ++ m ≡ l ++ (m ++ [])
           append_twice l m = ap (λ (k : List ℕ). l ++ k) (sym (append-nil m))
@@ -261,7 +262,7 @@ module _ (p : Params) (target : Option ℕ) (spelled : IsSpelled) where
           let got = bytes (log_entry.Back len) in
           let long : length got ≡ len = length-take len (drop 3 log) ∙ as_long len (length log) (length (drop 3 log)) (length-drop 3 log) within in
           let comes = go (Feedback got ∷ past) (3 + len) video_at more (of Events (3 + len)) (inputs Video) (ap (drop (3 + len)) is_log) refl in
-          comes_more (record { at = at; entry = log_entry.Back len; bytes = got }) frames past (laters (3 + len)) (later_fault (3 + len)) broken _ _ (sym (append-nil (sent_text p target past))) (sym (append-nil (sent_lines p target past)))
+          comes_more (record { at = at; entry = log_entry.Back len; bytes = got }) frames past (laters (3 + len)) (later_fault (3 + len)) broken _ _ (sym (append-nil (sent_text p aim past))) (sym (append-nil (sent_lines p aim past)))
           (subst (λ (k : ℕ). Comes frames (Feedback got ∷ past) (laters (3 + len)) (later_fault (3 + len)) broken (rest (state (Feedback got ∷ past) (at + (3 + k)) (read + 1) video_at more) (of Events (3 + len)))) (sym long) comes)
         where
           as_long : (len whole after : ℕ) → after ≡ whole - 3 → 3 + len ≤ whole → min len after ≡ len
@@ -354,6 +355,9 @@ module _ (spelled : IsSpelled) (setup : Sending) (f : Format) (frame_laws : Fram
   abbrev here_params : Params
   here_params = record setup.params { format = f }
 
+  abbrev here_aim : Aim
+  here_aim = aim_at_start setup f
+
   abbrev video : List ℕ
   video = inputs Video
 
@@ -366,11 +370,11 @@ module _ (spelled : IsSpelled) (setup : Sending) (f : Format) (frame_laws : Fram
   abbrev all : List Frame
   all = film here_params (video_frames video)
 
-  comes : Comes here_params setup.target spelled all [] (found_of sides.Send 16777216 0 (inputs Events)) (fault_of sides.Send 16777216 0 (inputs Events)) (video_fault video) run
+  comes : Comes here_params here_aim spelled all [] (found_of sides.Send 16777216 0 (inputs Events)) (fault_of sides.Send 16777216 0 (inputs Events)) (video_fault video) run
   comes =
-      subst (λ (l : List (List ℕ)). Comes here_params setup.target spelled (film here_params l) [] (found_of sides.Send 16777216 0 (inputs Events)) (fault_of sides.Send 16777216 0 (inputs Events)) (video_fault video) run) (sym (frames_are video f head))
-      (subst (λ (o : Option Y4mFault). Comes here_params setup.target spelled (film here_params (frames_of f 1048576 (head_size video) (drop (head_size video) video))) [] (found_of sides.Send 16777216 0 (inputs Events)) (fault_of sides.Send 16777216 0 (inputs Events)) o run) (sym (fault_is video f head))
-      (run_comes here_params setup.target spelled frame_laws 16777216 [] 0 0 (head_size video) 1048576 (left_after inputs (of Video (head_size video))) (more_bytes 16777216)))
+      subst (λ (l : List (List ℕ)). Comes here_params here_aim spelled (film here_params l) [] (found_of sides.Send 16777216 0 (inputs Events)) (fault_of sides.Send 16777216 0 (inputs Events)) (video_fault video) run) (sym (frames_are video f head))
+      (subst (λ (o : Option Y4mFault). Comes here_params here_aim spelled (film here_params (frames_of f 1048576 (head_size video) (drop (head_size video) video))) [] (found_of sides.Send 16777216 0 (inputs Events)) (fault_of sides.Send 16777216 0 (inputs Events)) o run) (sym (fault_is video f head))
+      (run_comes here_params here_aim spelled frame_laws 16777216 [] 0 0 (head_size video) 1048576 (left_after inputs (of Video (head_size video))) (more_bytes 16777216)))
 
   read_is : log_entries sides.Send (inputs Events) ≡ comes.accepted ++ comes.refused
   unfolding log_entries
@@ -383,9 +387,9 @@ module _ (spelled : IsSpelled) (setup : Sending) (f : Format) (frame_laws : Fram
   one_more : (n : ℕ) → suc n ≡ n + 1
   one_more n = omega arith
 
-  pub sends : SendsItsLog here_params setup.target inputs (run_from (send_begin setup inputs) send_step most_entries inputs)
+  pub sends : SendsItsLog here_params here_aim inputs (run_from (send_begin setup inputs) send_step most_entries inputs)
   sends =
-      subst (λ (r : Result Format Y4mFault). SendsItsLog here_params setup.target inputs (follow (head_step setup (head_size video) r) on_rest)) (sym head)
+      subst (λ (r : Result Format Y4mFault). SendsItsLog here_params here_aim inputs (follow (head_step setup (head_size video) r) on_rest)) (sym head)
       (record {
         accepted = comes.accepted;
         refused = comes.refused;

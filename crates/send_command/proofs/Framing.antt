@@ -45,7 +45,7 @@ frame_held texts size n few = no_frame_held (record { taken = some_of size; whol
 
 frame_part : CutFrames → (s : SendState) (video : List ℕ) (n : ℕ) (r : Result (List ℕ) Y4mFault) → next_frame s.more s.params.format s.video_at video ≡ r → IsErr (frame_of s.params.format s.video_at (take n video)) → IsPart (step_turns (frame_step s (frame_size s.params.format video) r)) (some_of n)
 frame_part cut s video n (Ok frame) is lost =
-    frame_held (capture_texts s.target s.params (captured s.params.format frame) s.entries) (frame_size s.params.format video) n (λ whole. not_an_err _ frame (cut s.params.format s.video_at n video frame (next_is s.more s.params.format s.video_at video frame is) whole).0 lost)
+    frame_held (capture_texts s.params (captured s.params.format frame) s.sent) (frame_size s.params.format video) n (λ whole. not_an_err _ frame (cut s.params.format s.video_at n video frame (next_is s.more s.params.format s.video_at video frame is) whole).0 lost)
 frame_part cut s video n (Err fault) is lost = tt
 
 video_part : CutFrames → (s : SendState) (video : List ℕ) (n : ℕ) → IsErr (frame_of s.params.format s.video_at (take n video)) → IsPart (step_turns (capture_step s video)) (some_of n)
@@ -102,7 +102,7 @@ module _ (laws : TurnLaws) (cut : CutFrames) (s : SendState) (inputs : Role → 
   }
 
   -- after a frame
-  module _ (e : FrameGives (Ok true) reader (inputs Video) out after (mid.left Video)) (new : Outside) (texts : Role → List ℕ) (text_is : texts ≡ capture_texts s.target s.params (captured s.params.format out) s.entries) where
+  module _ (e : FrameGives (Ok true) reader (inputs Video) out after (mid.left Video)) (new : Outside) (texts : Role → List ℕ) (text_is : texts ≡ capture_texts s.params (captured s.params.format out) s.sent) where
     abbrev size : ℕ
     size = frame_size s.params.format (inputs Video)
 
@@ -127,7 +127,7 @@ module _ (laws : TurnLaws) (cut : CutFrames) (s : SendState) (inputs : Role → 
     pub captures : (stands : SendState → (Role → List ℕ) → Type 0) → stands (after_capture s size (captured s.params.format out)) (left_after inputs (and_of (of Events 3) (of Video size))) → new.left ≡ mid.left → Gains texts mid.written new.written → Went (capture_step s (inputs Video)) stands (λ _. true) true inputs before new
     captures stands kept still g = record {
       next = after_capture s size (captured s.params.format out);
-      turn = record { taken = and_of (of Events 3) (of Video size); whole = true; texts = capture_texts s.target s.params (captured s.params.format out) s.entries };
+      turn = record { taken = and_of (of Events 3) (of Video size); whole = true; texts = capture_texts s.params (captured s.params.format out) s.sent };
       could = refl;
       is = frame_is;
       kept = kept;

@@ -1,5 +1,5 @@
 -- How the machine keeps a state from one entry to the next.
-use Rattle.std.proofs.Common.{Global, if◌then◌else◌, ◌≡◌, ◌≢◌, ℕ, ◌+◌, ◌-◌, ◌<◌, ◌≤◌, Bool, true, false, List, ◌∷◌, length, length-drop, take, drop, None, Some, Ok, refl, sym, ap, ◌∙◌, subst, arith}
+use Rattle.std.proofs.Common.{Global, if◌then◌else◌, ◌≡◌, ◌≢◌, ℕ, ◌+◌, ◌-◌, ◌<◌, ◌≤◌, Bool, true, false, List, length, length-drop, take, drop, None, Some, Ok, refl, sym, ap, ◌∙◌, subst, arith}
 use Rattle.std.specs.Prelude.{nat_lt}
 use Rattle.std.proofs.lemmas.Bool.{ltb-false}
 use Rattle.std.proofs.lemmas.List.{length-take, length-take-le}
@@ -8,6 +8,7 @@ use Rattle.h263_outside.specs.Desk.{Outside}
 use Rattle.h263_outside.specs.declared.desk.Role.{Role}
 use Rattle.h263_outside.specs.declared.desk.Role.TheVariants.{Video, Events, Wire, Report}
 use Rattle.back_messages.specs.declared.message.MessageFault.{MessageFault}
+use Rattle.h263_types.specs.declared.params.Params.{Params}
 use Rattle.event_logs.specs.declared.entry.Side.TheVariants as sides
 use Rattle.event_logs.specs.declared.entry.Side.{Side}
 use Rattle.event_logs.specs.declared.entry.Entry.{Entry}
@@ -16,13 +17,13 @@ use Rattle.event_logs.specs.Entry.{begun, bytes_of, entry_in, reach, reach_of}
 use Rattle.event_logs.specs.Place.{LogPlace, IsInLog}
 use Rattle.event_logs.specs.Reader.{EntryGives, Moves}
 use Rattle.y4m.specs.Place.{Y4mPlace}
-use Rattle.call_model.specs.Sending.{Capture, Feedback, Reply, feedback_answer}
+use Rattle.call_model.specs.Sending.{Reply, feedback_answer}
 use Rattle.call_decoding.specs.Rules.{rules_of}
 use Rattle.call_encoding.specs.Frames.{Frame}
 use Rattle.call_encoding.specs.Messages.{read_message}
 use Rattle.sender_end.specs.declared.answers.Coded.{Coded}
 use Rattle.sender_end.specs.State.{SenderState}
-use Rattle.sender_end.specs.Stands.{Stands, run_of, last_packets}
+use Rattle.sender_end.specs.Stands.{Holds, after_message, packets_after}
 use Rattle.desk_program.specs.Run.{left_after}
 use Rattle.desk_program.specs.Ends.{Tells, Went}
 use Rattle.desk_program.specs.Texts.{no_texts, of}
@@ -30,7 +31,8 @@ use Rattle.desk_program.specs.Laws.{TurnLaws}
 use Rattle.send_command.specs.declared.machine.Send.{Send}
 use Rattle.rate_control.specs.declared.send_pace.SendPace.{SendPace}
 use Rattle.send_command.specs.Tally.{with_picture, with_reply}
-use Rattle.rate_control.specs.Pace.{pace_of, target_of}
+use Rattle.send_command.specs.declared.aim.Aim.{Aim}
+use Rattle.send_command.specs.Sent.{Sent, after_sent}
 use Rattle.send_command.specs.Send.{SendState, picture_texts, capture_texts, after_capture, after_feedback, entry_step, send_step}
 use Rattle.send_command.specs.Stands.{HasTaken, IsCaptured, IsFit, SendStands, StoodBefore}
 use Rattle.send_command.proofs.Entering.{CutAfter, IsReadAt, found_is, found_told}
@@ -43,8 +45,15 @@ module _ (m : Send) (s : SendState) (size : ℕ) (stood : StoodBefore m s size) 
   pub params_are : s.params ≡ m.sender.params
   params_are = ap (λ (x : SendState). x.params) stood.is
 
-  pub target_is : s.target ≡ target_of m.sender.pace
-  target_is = ap (λ (x : SendState). x.target) stood.is
+  -- what was done before it
+  abbrev here : Sent
+  here = record { run = s.sent.run; aim = m.aim }
+
+  sent_is : s.sent ≡ here
+  sent_is = ap (λ (x : SendState). x.sent) stood.is
+
+  pub aim_is : s.sent.aim ≡ m.aim
+  aim_is = ap (λ (x : Sent). x.aim) sent_is
 
   pub video_at : m.sender.params.format ≡ m.video.format → IsVideoAt s m.video
   video_at format = record {
@@ -53,72 +62,64 @@ module _ (m : Send) (s : SendState) (size : ℕ) (stood : StoodBefore m s size) 
     more_is = ap (λ (x : SendState). x.more) stood.is;
   }
 
-  -- the sender of a machine stands for its entries
-  pub stood_for : Stands (pace_of (target_of m.sender.pace) m.sender.params) m.sender s.entries
-  stood_for = subst (λ (x : SendState). Stands (pace_of x.target x.params) m.sender s.entries) stood.is stood.sender
-
   -- the texts of a capture
-  pub texts_are : (frame : Frame) (out : Frame) (new : SenderState SendPace) (answer : Coded) → frame ≡ out → IsCaptured (target_of m.sender.pace) frame m.sender.params s.entries new answer
-      → picture_texts new.packets answer.number answer.reference ≡ capture_texts s.target s.params out s.entries
-  texts_are frame out new answer same cap =
+  pub texts_are : (frame : Frame) (out : Frame) (new : SenderState SendPace) (aim : Aim) (answer : Coded) → frame ≡ out → IsCaptured frame m.sender.params here new aim answer
+      → picture_texts new.packets answer.number answer.reference ≡ capture_texts s.params out s.sent
+  texts_are frame out new aim answer same cap =
       (λ i. picture_texts (cap.packets i) (cap.number_is i) (cap.reference i))
-      ∙ (λ i. capture_texts (sym target_is i) (sym params_are i) (same i) s.entries)
+      ∙ (λ i. capture_texts (sym params_are i) (same i) (sym sent_is i))
 
   -- the state after a capture
-  pub keeps_capture : (new : Send) (frame out : Frame) (answer : Coded) (size_of_frame : ℕ) (inputs : Role → List ℕ) → size ≡ 3 → frame ≡ out → IsCaptured (target_of m.sender.pace) frame m.sender.params s.entries new.sender answer
-      → answer.packets ≡ length new.sender.packets → new.sender.params ≡ m.sender.params → new.sender.pace ≡ m.sender.pace → new.log ≡ m.log → new.tally ≡ with_picture answer.packets m.tally
+  pub keeps_capture : (new : Send) (frame out : Frame) (answer : Coded) (size_of_frame : ℕ) (inputs : Role → List ℕ) → size ≡ 3 → frame ≡ out → IsCaptured frame m.sender.params here new.sender new.aim answer
+      → answer.packets ≡ length new.sender.packets → new.sender.params ≡ m.sender.params → new.log ≡ m.log → new.tally ≡ with_picture answer.packets m.tally
       → new.video.at ≡ s.video_at + size_of_frame → new.video.more + 1 ≡ m.video.more
       → SendStands new (after_capture s size_of_frame out) inputs
-  keeps_capture new frame out answer n inputs three same cap count params pace log tally place more =
-      let p = m.sender.params in
+  keeps_capture new frame out answer n inputs three same cap count params log tally place more =
       let old : s.tally ≡ m.tally = ap (λ (x : SendState). x.tally) stood.is in
-      let counted : length (last_packets s.params (pace_of s.target s.params) (Capture out ∷ s.entries)) ≡ answer.packets =
-      (λ i. length (last_packets (params_are i) (pace_of (target_is i) (params_are i)) (Capture (sym same i) ∷ s.entries)))
+      let after_is : after_sent s.params out s.sent ≡ after_sent m.sender.params frame here =
+      (λ i. after_sent (params_are i) (sym same i) (sent_is i))
+      in
+      let counted : length (packets_after s.params (after_sent s.params out s.sent).run) ≡ answer.packets =
+      (λ i. length (packets_after (params_are i) (after_is i).run))
       ∙ ap (λ (l : List (List ℕ)). length l) (sym cap.packets) ∙ sym count
       in
-      let tally_is : with_picture (length (last_packets s.params (pace_of s.target s.params) (Capture out ∷ s.entries))) s.tally ≡ new.tally =
+      let tally_is : with_picture (length (packets_after s.params (after_sent s.params out s.sent).run)) s.tally ≡ new.tally =
       (λ i. with_picture (counted i) (old i)) ∙ sym tally
       in
       let params_is : s.params ≡ new.sender.params = params_are ∙ sym params in
-      let goal_is : s.target ≡ target_of new.sender.pace = target_is ∙ ap target_of (sym pace) in
+      let aim_now : (after_sent s.params out s.sent).aim ≡ new.aim = ap (λ (x : Sent). x.aim) after_is ∙ sym cap.follows in
       let fewer : s.more ≡ m.video.more = ap (λ (x : SendState). x.more) stood.is in
       let more_is : s.more - 1 ≡ new.video.more = omega (arith, more, fewer) in
       let at_is : s.at + 3 ≡ new.log.at = ap (λ (k : ℕ). s.at + k) (sym three) ∙ ap (λ (x : SendState). x.at) stood.is ∙ ap (λ (l : LogPlace). l.at) (sym log) in
       let read_is : s.read + 1 ≡ new.log.entries = ap (λ (x : SendState). x.read) stood.is ∙ ap (λ (l : LogPlace). l.entries) (sym log) in
-      let sender : Stands (pace_of s.target s.params) new.sender (Capture out ∷ s.entries) =
-      subst (λ (f : Frame). Stands (pace_of s.target s.params) new.sender (Capture f ∷ s.entries)) same
-      (subst (λ (x : SendState). Stands (pace_of x.target x.params) new.sender (Capture frame ∷ s.entries)) (sym stood.is) cap.stands)
-      in
       record {
         is = λ i. record {
           params = params_is i;
-          target = goal_is i;
-          entries = Capture out ∷ s.entries;
+          sent = record { run = (after_sent s.params out s.sent).run; aim = aim_now i };
           tally = tally_is i;
           at = at_is i;
           read = read_is i;
           video_at = sym place i;
           more = more_is i;
         };
-        sender = sender;
+        sender = subst (λ (x : Sent). Holds new.sender x.run) (sym after_is) cap.holds;
       }
 
 -- the state after feedback
 pub keeps_feedback : (m : Send) (s : SendState) (len : ℕ) (bytes : List ℕ) (stood : StoodBefore m s (3 + len)) (new : Send) (reply : Reply MessageFault) (inputs : Role → List ℕ) → length bytes ≡ len
-    → Stands (pace_of (target_of m.sender.pace) m.sender.params) new.sender (Feedback bytes ∷ s.entries)
-    → reply ≡ feedback_answer (rules_of m.sender.params) (length (run_of m.sender.params (pace_of (target_of m.sender.pace) m.sender.params) s.entries).coded) (read_message m.sender.params.clock bytes)
-    → new.sender.params ≡ m.sender.params → new.sender.pace ≡ m.sender.pace → new.log ≡ m.log → new.tally ≡ with_reply reply m.tally → new.video ≡ m.video
+    → Holds new.sender (after_message m.sender.params bytes s.sent.run)
+    → reply ≡ feedback_answer (rules_of m.sender.params) (length s.sent.run.run.coded) (read_message m.sender.params.clock bytes)
+    → new.sender.params ≡ m.sender.params → new.aim ≡ m.aim → new.log ≡ m.log → new.tally ≡ with_reply reply m.tally → new.video ≡ m.video
     → SendStands new (after_feedback s bytes) inputs
-keeps_feedback m s len bytes stood new reply inputs long stands answer params pace log tally video =
-    let params_is : s.params ≡ new.sender.params = params_are m s (3 + len) stood ∙ sym params in
-    let was : target_of m.sender.pace ≡ s.target = sym (target_is m s (3 + len) stood) in
-    let goal_is : s.target ≡ target_of new.sender.pace = sym was ∙ ap target_of (sym pace) in
+keeps_feedback m s len bytes stood new reply inputs long holds answer params aim log tally video =
+    let was : s.params ≡ m.sender.params = params_are m s (3 + len) stood in
+    let params_is : s.params ≡ new.sender.params = was ∙ sym params in
+    let aim_now : s.sent.aim ≡ new.aim = aim_is m s (3 + len) stood ∙ sym aim in
     let old : s.tally ≡ m.tally = ap (λ (x : SendState). x.tally) stood.is in
-    let back : m.sender.params ≡ s.params = sym (params_are m s (3 + len) stood) in
-    let answer_is : feedback_answer (rules_of s.params) (length (run_of s.params (pace_of s.target s.params) s.entries).coded) (read_message s.params.clock bytes) ≡ reply =
-    (λ i. feedback_answer (rules_of (sym back i)) (length (run_of (sym back i) (pace_of (sym was i) (sym back i)) s.entries).coded) (read_message (sym back i).clock bytes)) ∙ sym answer
+    let answer_is : feedback_answer (rules_of s.params) (length s.sent.run.run.coded) (read_message s.params.clock bytes) ≡ reply =
+    (λ i. feedback_answer (rules_of (was i)) (length s.sent.run.run.coded) (read_message (was i).clock bytes)) ∙ sym answer
     in
-    let tally_is : with_reply (feedback_answer (rules_of s.params) (length (run_of s.params (pace_of s.target s.params) s.entries).coded) (read_message s.params.clock bytes)) s.tally ≡ new.tally =
+    let tally_is : with_reply (feedback_answer (rules_of s.params) (length s.sent.run.run.coded) (read_message s.params.clock bytes)) s.tally ≡ new.tally =
     (λ i. with_reply (answer_is i) (old i)) ∙ sym tally
     in
     let at_is : s.at + (3 + length bytes) ≡ new.log.at = ap (λ (k : ℕ). s.at + (3 + k)) long ∙ ap (λ (x : SendState). x.at) stood.is ∙ ap (λ (l : LogPlace). l.at) (sym log) in
@@ -128,15 +129,14 @@ keeps_feedback m s len bytes stood new reply inputs long stands answer params pa
     record {
       is = λ i. record {
         params = params_is i;
-        target = goal_is i;
-        entries = Feedback bytes ∷ s.entries;
+        sent = record { run = after_message s.params bytes s.sent.run; aim = aim_now i };
         tally = tally_is i;
         at = at_is i;
         read = read_is i;
         video_at = place_is i;
         more = more_is i;
       };
-      sender = subst (λ (x : SendState). Stands (pace_of x.target x.params) new.sender (Feedback bytes ∷ s.entries)) (sym stood.is) stands;
+      sender = subst (λ (q : Params). Holds new.sender (after_message q bytes s.sent.run)) (sym was) holds;
     }
 
 -- ---- before an entry is read, and after it
@@ -157,8 +157,7 @@ module _ (m : Send) (s : SendState) (inputs : Role → List ℕ) (stands : SendS
       record {
         is = λ i. record {
           params = (stands.is i).params;
-          target = (stands.is i).target;
-          entries = s.entries;
+          sent = (stands.is i).sent;
           tally = (stands.is i).tally;
           at = at_is i;
           read = read_is i;
@@ -217,7 +216,7 @@ fit_after m log bytes old now fit side long attached = record {
   wire = ap (λ (f : Role → Bool). f Wire) attached ∙ fit.wire;
   report = ap (λ (f : Role → Bool). f Report) attached ∙ fit.report;
   format = fit.format;
-  pace = fit.pace;
+  aim = fit.aim;
   frame = fit.frame;
   bytes = long;
   side = side ∙ fit.side;

@@ -11,3 +11,4 @@ pub mod Refusing
 pub mod NoSecond
 mod Apart
 mod Followed
+mod Plain

@@ -19,9 +19,10 @@ use Rattle.call_model.specs.Sending.{SenderEntry, Capture, Feedback, feedback_an
 use Rattle.call_decoding.specs.Rules.{rules_of}
 use Rattle.call_encoding.specs.Frames.{Frame}
 use Rattle.call_encoding.specs.Messages.{read_message}
-use Rattle.sender_end.specs.Stands.{run_of, next_after, last_packets}
+use Rattle.sender_end.specs.Stands.{packets_after}
 use Rattle.desk_program.specs.Run.{Run, text_of}
-use Rattle.rate_control.specs.Pace.{pace_of}
+use Rattle.send_command.specs.declared.aim.Aim.{Aim}
+use Rattle.send_command.specs.Sent.{next_sent, sent_by}
 use Rattle.send_command.specs.declared.tally.Tally.{Tally}
 use Rattle.send_command.specs.Send.{captured, packets_text}
 use Rattle.send_command.specs.Tally.{no_counts, with_picture, with_reply, count_text}
@@ -62,12 +63,12 @@ frames_after frames (found ∷ more) = frames_after (frames_with frames found.en
 
 -- ---- of these captures and this feedback, the newest first
 
-module _ (p : Params) (target : Option ℕ) where
+module _ (p : Params) (aim : Aim) where
   -- the packets of the pictures, in order, as entries of the log that the other end meets
   abbrev pub sent_text : List (SenderEntry Frame) → List ℕ
   sent_text [] = []
   sent_text (Capture frame ∷ past) =
-      sent_text past ++ packets_text (last_packets p (pace_of target p) (Capture frame ∷ past))
+      sent_text past ++ packets_text (packets_after p (sent_by p aim (Capture frame ∷ past)).run)
   sent_text (Feedback bytes ∷ past) = sent_text past
 
   -- the lines of the pictures, each with its number and its reference
@@ -75,17 +76,17 @@ module _ (p : Params) (target : Option ℕ) where
   sent_lines [] = []
   sent_lines (Capture frame ∷ past) =
       sent_lines past
-      ++ picture_text (length (run_of p (pace_of target p) past).coded) None
-      (Some (next_after p (pace_of target p) frame past).reference) None
+      ++ picture_text (length (sent_by p aim past).run.run.coded) None
+      (Some (next_sent p frame (sent_by p aim past)).reference) None
   sent_lines (Feedback bytes ∷ past) = sent_lines past
 
   -- what is counted: the pictures with their packets, and feedback by its answer
   abbrev pub counted : List (SenderEntry Frame) → Tally
   counted [] = no_counts
   counted (Capture frame ∷ past) =
-      with_picture (length (last_packets p (pace_of target p) (Capture frame ∷ past))) (counted past)
+      with_picture (length (packets_after p (sent_by p aim (Capture frame ∷ past)).run)) (counted past)
   counted (Feedback bytes ∷ past) =
-      with_reply (feedback_answer (rules_of p) (length (run_of p (pace_of target p) past).coded)
+      with_reply (feedback_answer (rules_of p) (length (sent_by p aim past).run.run.coded)
       (read_message p.clock bytes)) (counted past)
 
 -- what is told where a log ends with `Ok`
@@ -124,17 +125,17 @@ Spares _ taken = ⊤
 -- reads the video's head. The first capture takes the first frame of the video, and so on. Over these
 -- captures and this feedback the wire has the packets of the sender's run, and the report the lines of
 -- its pictures, with the counts where it ends with `Ok`. It ends because of what comes after them.
-pub record SendsItsLog (p : Params) (target : Option ℕ) (inputs : Role → List ℕ) (run : Run) : Type 0 where
+pub record SendsItsLog (p : Params) (aim : Aim) (inputs : Role → List ℕ) (run : Run) : Type 0 where
   pub accepted : List Found
   pub refused : List Found
   pub read : log_entries sides.Send (inputs Events) ≡ accepted ++ refused
   pub taken : length run.turns ≡ length accepted + 1
   pub wire : text_of run Wire
-      ≡ sent_text p target (with_entries (film p (video_frames (inputs Video))) [] accepted)
+      ≡ sent_text p aim (with_entries (film p (video_frames (inputs Video))) [] accepted)
   pub report : text_of run Report
-      ≡ sent_lines p target (with_entries (film p (video_frames (inputs Video))) [] accepted)
+      ≡ sent_lines p aim (with_entries (film p (video_frames (inputs Video))) [] accepted)
       ++ told run.last.status
-      (count_text (counted p target (with_entries (film p (video_frames (inputs Video))) [] accepted)))
+      (count_text (counted p aim (with_entries (film p (video_frames (inputs Video))) [] accepted)))
   pub end : IsEnd (log_fault sides.Send (inputs Events)) (video_fault (inputs Video))
       (frames_after (film p (video_frames (inputs Video))) accepted) refused run.last.status
   pub others : Spares run.last.status run.last.taken

@@ -21,26 +21,25 @@ use Rattle.event_logs.specs.Text.{entry_text}
 use Rattle.call_report.specs.declared.status.Status.{Status}
 use Rattle.call_report.specs.declared.status.Status.TheVariants.{Ok as Fine, VideoRefused, LogRefused}
 use Rattle.call_report.specs.Text.{picture_text}
-use Rattle.call_model.specs.Sending.{SenderEntry, Capture, Feedback, feedback_answer}
+use Rattle.call_model.specs.Sending.{feedback_answer}
+use Rattle.call_model.specs.Steering.{nothing_done}
 use Rattle.call_decoding.specs.Rules.{rules_of}
 use Rattle.call_encoding.specs.Frames.{Frame}
 use Rattle.call_encoding.specs.Messages.{read_message}
-use Rattle.sender_end.specs.Stands.{run_of, next_after, last_packets}
+use Rattle.sender_end.specs.Stands.{packets_after}
 use Rattle.desk_program.specs.Run.{End, Step}
 use Rattle.desk_program.specs.Run.Step.{Goes, Ends}
 use Rattle.desk_program.specs.Texts.{no_bytes, no_texts, on, then_also, of, and_of}
 use Rattle.send_command.specs.declared.sending.Sending.{Sending}
 use Rattle.send_command.specs.declared.tally.Tally.{Tally}
-use Rattle.rate_control.specs.Pace.{pace_of}
+use Rattle.send_command.specs.Sent.{Sent, after_heard, after_sent, aim_at_start, next_sent}
 use Rattle.send_command.specs.Tally.{no_counts, with_picture, with_reply, count_text}
 
--- the parameters, and the target that the pace follows, if there is one; the entries so far, the
--- newest first, and what was counted of them; the byte where the next entry begins, and how many
--- were read; the byte where the next frame begins, and how many may still come
+-- the parameters; what was done so far, and what was counted of it; the byte where the next entry
+-- begins, and how many were read; the byte where the next frame begins, and how many may still come
 pub record SendState : Type 0 where
   pub params : Params
-  pub target : Option ℕ
-  pub entries : List (SenderEntry Frame)
+  pub sent : Sent
   pub tally : Tally
   pub at : ℕ
   pub read : ℕ
@@ -82,22 +81,19 @@ abbrev pub picture_texts : List (List ℕ) → ℕ → Option ℕ → Role → L
 picture_texts packets number reference =
     then_also (on Wire (packets_text packets)) (on Report (picture_text number None (Some reference) None))
 
--- the texts of a frame that is captured after these entries
-abbrev pub capture_texts : Option ℕ → Params → Frame → List (SenderEntry Frame) → Role → List ℕ
-capture_texts target p frame entries =
-    picture_texts (last_packets p (pace_of target p) (Capture frame ∷ entries))
-    (length (run_of p (pace_of target p) entries).coded)
-    (next_after p (pace_of target p) frame entries).reference
+-- the texts of a frame that is captured after all this
+abbrev pub capture_texts : Params → Frame → Sent → Role → List ℕ
+capture_texts p frame sent =
+    picture_texts (packets_after p (after_sent p frame sent).run) (length sent.run.run.coded)
+    (next_sent p frame sent).reference
 
 -- the state after a capture: three bytes of the log and a frame of the video are gone
 abbrev pub after_capture : SendState → ℕ → Frame → SendState
 after_capture s size frame =
     record {
       params = s.params;
-      target = s.target;
-      entries = Capture frame ∷ s.entries;
-      tally = with_picture (length
-          (last_packets s.params (pace_of s.target s.params) (Capture frame ∷ s.entries))) s.tally;
+      sent = after_sent s.params frame s.sent;
+      tally = with_picture (length (packets_after s.params (after_sent s.params frame s.sent).run)) s.tally;
       at = s.at + 3;
       read = s.read + 1;
       video_at = s.video_at + size;
@@ -111,7 +107,7 @@ frame_step s size (Ok frame) =
     (record {
       taken = and_of (of Events 3) (of Video size);
       whole = true;
-      texts = capture_texts s.target s.params (captured s.params.format frame) s.entries;
+      texts = capture_texts s.params (captured s.params.format frame) s.sent;
     })
 frame_step s size (Err fault) = Ends (refused_video 3 fault)
 
@@ -131,10 +127,8 @@ abbrev pub after_feedback : SendState → List ℕ → SendState
 after_feedback s bytes =
     record {
       params = s.params;
-      target = s.target;
-      entries = Feedback bytes ∷ s.entries;
-      tally = with_reply (feedback_answer (rules_of s.params)
-          (length (run_of s.params (pace_of s.target s.params) s.entries).coded)
+      sent = after_heard s.params bytes s.sent;
+      tally = with_reply (feedback_answer (rules_of s.params) (length s.sent.run.run.coded)
           (read_message s.params.clock bytes)) s.tally;
       at = s.at + (3 + length bytes);
       read = s.read + 1;
@@ -180,8 +174,7 @@ abbrev pub first_state : Sending → Format → ℕ → SendState
 first_state setup f size =
     record {
       params = record setup.params { format = f };
-      target = setup.target;
-      entries = [];
+      sent = record { run = nothing_done; aim = aim_at_start setup f };
       tally = no_counts;
       at = 0;
       read = 0;

@@ -1,5 +1,5 @@
 -- What the machine keeps of a state, and what it is ready for.
-use Rattle.std.specs.Prelude.{◌≡◌, ℕ, ◌+◌, ◌-◌, ◌<◌, ◌≤◌, Bool, true, List, ◌∷◌, length, Option, IfSome}
+use Rattle.std.specs.Prelude.{◌≡◌, ℕ, ◌+◌, ◌-◌, ◌<◌, ◌≤◌, Bool, true, List, length, IfSome}
 use Rattle.h263_outside.specs.Desk.{Outside}
 use Rattle.h263_outside.specs.declared.desk.Role.{Role}
 use Rattle.h263_outside.specs.declared.desk.Role.TheVariants.{Video, Events, Wire, Report}
@@ -8,38 +8,45 @@ use Rattle.h263_types.specs.Params.{IsParams}
 use Rattle.h263_types.specs.Sizes.{size_of_picture}
 use Rattle.y4m.specs.Video.{most_frames}
 use Rattle.event_logs.specs.declared.entry.Side.TheVariants as sides
-use Rattle.call_model.specs.Sending.{SenderEntry, Capture}
 use Rattle.call_encoding.specs.Frames.{Frame}
 use Rattle.sender_end.specs.declared.answers.Coded.{Coded}
 use Rattle.sender_end.specs.State.{SenderState}
-use Rattle.sender_end.specs.Stands.{Stands, run_of, next_after, last_packets}
+use Rattle.sender_end.specs.Stands.{Holds, Run, packets_after}
 use Rattle.desk_program.specs.Run.{left_after}
 use Rattle.desk_program.specs.Ends.{Tells}
 use Rattle.desk_program.specs.Texts.{of}
 use Rattle.send_command.specs.declared.machine.Send.{Send}
 use Rattle.rate_control.specs.declared.send_pace.SendPace.{SendPace}
 use Rattle.send_command.specs.declared.sending.Sending.{Sending}
-use Rattle.rate_control.specs.Pace.{first_of, pace_of, target_of}
+use Rattle.send_command.specs.declared.aim.Aim.{Aim}
+use Rattle.send_command.specs.Sent.{Sent, after_sent, next_sent}
 use Rattle.send_command.specs.Tally.{IsOf}
 use Rattle.send_command.specs.Send.{SendState}
 
--- it may begin: the parameters and the target are in their ranges, and the roles attached
+-- it may begin: the parameters and the targets are in their ranges, and the roles attached
 pub record CanSend (setup : Sending) (attached : Role → Bool) : Type 0 where
   pub params : IsParams setup.params
   pub some : IfSome setup.target (λ n. 1 ≤ n)
   pub few : IfSome setup.target (λ n. n ≤ 999999)
+  pub fit : IfSome setup.fit (λ n. n ≤ 999999)
   pub video : attached Video ≡ true
   pub events : attached Events ≡ true
   pub wire : attached Wire ≡ true
   pub report : attached Report ≡ true
 
--- the state that the machine keeps in mind, but for the entries
-abbrev pub state_of : Send → List (SenderEntry Frame) → SendState
-state_of m entries =
+-- what the quantisers follow is in its range
+pub record IsAim (a : Aim) : Type 0 where
+  pub low : 1 ≤ a.quant
+  pub high : a.quant ≤ 31
+  pub some : IfSome a.target (λ n. 1 ≤ n)
+  pub few : IfSome a.target (λ n. n ≤ 999999)
+
+-- the state that the machine keeps in mind, but for the run of its sender
+abbrev pub state_of : Send → Run → SendState
+state_of m run =
     record {
       params = m.sender.params;
-      target = target_of m.sender.pace;
-      entries = entries;
+      sent = record { run = run; aim = m.aim };
       tally = m.tally;
       at = m.log.at;
       read = m.log.entries;
@@ -47,10 +54,10 @@ state_of m entries =
       more = m.video.more;
     }
 
--- the machine keeps this state in mind: its sender stands for the entries
+-- the machine keeps this state in mind: its sender holds the run
 pub record SendStands (m : Send) (s : SendState) (inputs : Role → List ℕ) : Type 0 where
-  pub is : s ≡ state_of m s.entries
-  pub sender : Stands (pace_of s.target s.params) m.sender s.entries
+  pub is : s ≡ state_of m s.sent.run
+  pub sender : Holds m.sender s.sent.run
 
 -- the roles are attached, the parts fit each other, and as many frames may still come as pictures
 -- may still be sent
@@ -60,7 +67,7 @@ pub record IsFit (m : Send) (attached : Role → Bool) : Type 0 where
   pub wire : attached Wire ≡ true
   pub report : attached Report ≡ true
   pub format : m.sender.params.format ≡ m.video.format
-  pub pace : first_of m.sender.pace ≡ m.sender.params.quant
+  pub aim : IsAim m.aim
   pub frame : length m.frame.items ≡ size_of_picture m.video.format
   pub bytes : length m.bytes.items ≡ 65535
   pub side : m.log.side ≡ sides.Send
@@ -80,19 +87,20 @@ pub record IsAtEntry (m : Send) (attached : Role → Bool) : Type 0 where
 
 -- this was the state before the entry of this many bytes that was read last
 pub record StoodBefore (m : Send) (s : SendState) (size : ℕ) : Type 0 where
-  pub is : record s { at = s.at + size; read = s.read + 1 } ≡ state_of m s.entries
-  pub sender : Stands (pace_of s.target s.params) m.sender s.entries
+  pub is : record s { at = s.at + size; read = s.read + 1 } ≡ state_of m s.sent.run
+  pub sender : Holds m.sender s.sent.run
 
 -- since then this many bytes of the log were taken, and nothing was written
 pub record HasTaken (size : ℕ) (inputs : Role → List ℕ) (old new : Outside) : Type 0 where
   pub left : Tells new (left_after inputs (of Events size))
   pub written : new.written ≡ old.written
 
--- the sender has captured a frame after these entries: it stands for the longer list, its packets
--- are those of the picture, and the answer tells its number and its reference
-pub record IsCaptured (target : Option ℕ) (frame : Frame) (p : Params)
-    (entries : List (SenderEntry Frame)) (new : SenderState SendPace) (answer : Coded) : Type 0 where
-  pub stands : Stands (pace_of target p) new (Capture frame ∷ entries)
-  pub packets : new.packets ≡ last_packets p (pace_of target p) (Capture frame ∷ entries)
-  pub number_is : answer.number ≡ length (run_of p (pace_of target p) entries).coded
-  pub reference : answer.reference ≡ (next_after p (pace_of target p) frame entries).reference
+-- the sender has captured a frame after all this: it holds the longer run, what its quantisers follow
+-- was told, its packets are those of the picture, and the answer tells its number and its reference
+pub record IsCaptured (frame : Frame) (p : Params) (sent : Sent)
+    (new : SenderState SendPace) (aim : Aim) (answer : Coded) : Type 0 where
+  pub holds : Holds new (after_sent p frame sent).run
+  pub follows : aim ≡ (after_sent p frame sent).aim
+  pub packets : new.packets ≡ packets_after p (after_sent p frame sent).run
+  pub number_is : answer.number ≡ length sent.run.run.coded
+  pub reference : answer.reference ≡ (next_sent p frame sent).reference

@@ -12,8 +12,14 @@ ghost use Rattle.desk_program.specs.Run.{run_from};
 ghost use Rattle.send_command.specs.declared.sending.Sending.{Sending};
 ghost use Rattle.send_command.specs.Followed.{SendsItsLog};
 ghost use Rattle.send_command.specs.Send.{refused_video, send_begin, send_step};
+ghost use Rattle.send_command.specs.Sent.{PlainIsSenderRun, aim_at_start};
 
+use back_messages::MessageFault;
+use call_decoding::{Pictured, Styled};
+use call_encoding::Framed;
+use call_model::laws::forgetting;
 use event_logs::laws::exact_entries;
+use h263_types::Mb;
 use y4m::laws::frame_by_frame;
 
 /// A video that is refused has that fault, and no earlier one.
@@ -32,6 +38,14 @@ pub fn no_second_video()
         ≡ Video2Refused fault → ⊥ }
 {}
 
+/// Where pictures fit no size, the sender's run is that of its entries, with one target for all of
+/// them or with none.
+pub fn one_target()
+    ensures { PlainIsSenderRun }
+{
+    forgetting::<Framed, Styled, Mb, Pictured, MessageFault>();
+}
+
 /// Whatever bytes its log and its video are made of, a sender accepts the first entries of the log.
 /// Each capture takes the next frame of the video, and over these frames and the log's feedback it
 /// sends and counts what the sender's run does. It ends where the log is at its end or has its first
@@ -40,7 +54,7 @@ pub fn no_second_video()
 pub fn send_follows_its_log()
     ensures log { (setup : Sending) (inputs : Role → List ℕ) (f : Format)
         → head_of (inputs Video) ≡ Ok f
-        → SendsItsLog (record setup.params { format = f }) setup.target inputs
+        → SendsItsLog (record setup.params { format = f }) (aim_at_start setup f) inputs
         (run_from (send_begin setup inputs) send_step 16777216 inputs) }
     ensures no_head { (setup : Sending) (inputs : Role → List ℕ) (fault : Y4mFault)
         → head_of (inputs Video) ≡ Err fault

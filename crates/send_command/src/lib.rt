@@ -10,12 +10,14 @@
 //! ```
 #![tactic(auto)]
 
+mod aim;
 mod capture;
 pub mod laws;
 mod machine;
 mod sending;
 mod tally;
 
+use aim::Aim;
 pub use machine::Send;
 pub use sending::Sending;
 use tally::Tally;

@@ -6,13 +6,13 @@ ghost use Rattle.h263_outside.specs.declared.desk.Role.{Role};
 ghost use Rattle.h263_outside.specs.declared.desk.Role.TheVariants.{Video};
 
 use crate::capture::{capture, put_picture};
-use crate::{Sending, Tally};
+use crate::{Aim, Sending, Tally};
 use call_report::Status;
 use desk_program::{Begins, Turns, laws as desk_program_laws, put_line};
 use event_logs::{Entry, LogFault, LogReader, Side};
 use h263_outside::{Desk, laws as outside_laws};
 use h263_planes::PictureRef;
-use h263_types::Params;
+use h263_types::{Kind, Params};
 use rate_control::SendPace;
 use sender_end::Sender;
 use std::alloc::Global;
@@ -27,6 +27,7 @@ pub struct Send {
     video: Y4mReader,
     log: LogReader,
     sender: Sender<SendPace>,
+    aim: Aim,
     tally: Tally,
     frame: Vec<u8>,
     bytes: Vec<u8>,
@@ -36,7 +37,6 @@ impl Send {
     ghost use Rattle.desk_program.specs.Ends.{GivesUp, HasCause, IsStop, KeepsRoles, Went};
     ghost use Rattle.desk_program.specs.Ends.{start_status};
     ghost use Rattle.call_report.specs.Status.{phase};
-    ghost use Rattle.rate_control.specs.Pace.{first_of};
     ghost use Rattle.send_command.specs.Send.{SendState, capture_step, after_feedback};
     ghost use Rattle.send_command.specs.Stands.{HasTaken, IsAtEntry, IsFit, SendReady, SendStands};
     ghost use Rattle.send_command.specs.Stands.{StoodBefore};
@@ -70,7 +70,7 @@ impl Send {
             });
         }
         let frame = PictureRef::new(self.video.format(), &self.frame);
-        let coded = capture(&mut self.sender, frame);
+        let coded = capture(&mut self.sender, &mut self.aim, frame);
         self.tally.picture(coded.packets);
         put_picture(desk, &self.sender, &coded)
     }
@@ -78,7 +78,6 @@ impl Send {
     // Takes the feedback that was read last, of this many bytes.
     fn take_feedback(&mut self, len: u32)
         requires bytes { length self.old.bytes.items ≡ 65535 }
-        requires pace { first_of self.old.sender.pace ≡ self.old.sender.params.quant }
         requires few { self.old.log.entries ≤ 16777216 }
         requires some { 0 < self.old.log.entries }
         requires tally { IsOf (self.old.log.entries - 1) self.old.tally }
@@ -168,12 +167,13 @@ impl Begins for Send {
         };
         let frame = vec![in alloc; 0; params.format.size() as usize]?;
         let bytes = vec![in alloc; 0; MAX_BYTES]?;
-        let pace = SendPace::choose(setup.target, params.quant);
-        let sender = Sender::start_without_recon(alloc, &params, pace)?;
+        let aim = Aim::start(setup, params.format);
+        let sender = Sender::start_without_recon(alloc, &params, aim.pace(Kind::I))?;
         Ok(Send {
             video,
             log: LogReader::new(Side::Send),
             sender,
+            aim,
             tally: Tally::new(),
             frame,
             bytes,
@@ -185,6 +185,7 @@ impl Begins for Send {
             video: _,
             log: _,
             sender,
+            aim: _,
             tally: _,
             frame: _,
             bytes: _,

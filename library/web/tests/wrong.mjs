@@ -338,10 +338,10 @@ wanted("TypeError: room: a whole number is wanted", () => new Pace("qcif", { tar
 wanted("TypeError: target: a whole number is wanted", () => new Pace("qcif"));
 withEnds((sender) => {
   const pace = new Pace("qcif", { target: 1000, room: 8000 });
-  wanted("9", () => pace.next(sender));
+  wanted("6", () => pace.next(sender));
   const coded = sender.code(bytes(QCIF));
   pace.coded(coded, 9, 3000);
-  wanted("[2000,15]", () => [pace.level, pace.next(sender)]);
+  wanted("[2000,11]", () => [pace.level, pace.next(sender)]);
   wanted("RangeError: quant: 256 is out of its range", () => pace.coded(coded, 256, 3000));
   wanted("RangeError: size: -1 is out of its range", () => pace.coded(coded, 9, -1));
   wanted("Refused: target: bad params", () => pace.target(0, 8000));

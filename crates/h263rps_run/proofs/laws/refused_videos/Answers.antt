@@ -8,7 +8,7 @@ use Rattle.h263rps_run.proofs.laws.refused_videos.Goals as goal
 
 of_each : (c : goal.After-refused_videos-3) (k : Command) → IsRefusedRightly k
 of_each c (Call params traced) = one_video (Call params traced) (c.refused_videos.ensures (terms_of params traced)) (c.no_second_video.ensures (terms_of params traced))
-of_each c (Send params target) = one_video (Send params target) (c.refused_videos-2.ensures (sending_of params target)) (c.no_second_video-2.ensures (sending_of params target))
+of_each c (Send params target fit) = one_video (Send params target fit) (c.refused_videos-2.ensures (sending_of params target fit)) (c.no_second_video-2.ensures (sending_of params target fit))
 of_each c (Recv params false) = no_video (Recv params false) (c.no_video_refused.ensures.first params) (c.no_video_refused.ensures.second params)
 of_each c (Recv params true) = no_video (Recv params true) (c.no_joined_video_refused.ensures.first params) (c.no_joined_video_refused.ensures.second params)
 of_each c (Demo params seed frames) =

@@ -57,7 +57,7 @@ returns-in-Send g c =
     let says = done.ensures in
     performed_run (texts c.args.words.now) (asked_of c.in-Ok.words) c.in-Ok.ensures.answer (outside c.args.desk.now) (outside c.attach_role.new.desk)
     c.attach_role.ensures.rest c.in_default.ensures.ok_faults c.refused_videos.ensures _ c.put_roles-count.ensures.roles
-    (Send c.in-Send.params c.in-Send.target) (sym c.command.ensures ∙ c.in-Send.is) done.result (outside done.new.desk)
+    (Send c.in-Send.params c.in-Send.target c.in-Send.fit) (sym c.command.ensures ∙ c.in-Send.is) done.result (outside done.new.desk)
     says.status says.texts says.prefixes says.words says.unopened says.flushed says.causes says.attached says.whole_input says.taken_input
 
 pub returns-in-Recv-default-true : goal.returns-in-Recv-default-true

@@ -11,13 +11,12 @@ use Rattle.desk_program.specs.Run.{left_after}
 use Rattle.desk_program.specs.Ends.{GivesUp}
 use Rattle.desk_program.specs.Texts.{of, and_of}
 use Rattle.send_command.specs.declared.machine.Send.{Send}
-use Rattle.rate_control.specs.Pace.{first_of}
 use Rattle.send_command.specs.Send.{captured, capture_step, picture_texts}
 use Rattle.send_command.specs.Stands.{SendStands}
 use Rattle.send_command.proofs.Answering.{if_cut, if_err, on_ok, on_ok_so}
 use Rattle.send_command.proofs.Counting.{one_picture_more}
 use Rattle.send_command.proofs.Framing.{captures, capture_cut, frame_missing, frame_stops, gave, lent, moved, one_less, place_is, whole_still}
-use Rattle.send_command.proofs.Keeping.{keeps_capture, stood_for, texts_are, video_at}
+use Rattle.send_command.proofs.Keeping.{keeps_capture, texts_are, video_at}
 use Rattle.send_command.proofs.machine.Send.take_frame.Goals as goal
 
 pub returns-in_err-frame-clause-err : goal.returns-in_err-frame-clause-err
@@ -44,11 +43,11 @@ returns-clause-ok g c = λ before s inputs stood taken.
     let p = m.sender.params in
     let out = c.frame.new.out in
     let coded = c.capture-coded in
-    let new : Send = record { video = c.frame.new.self; log = m.log; sender = coded.new.sender; tally = c.picture.new.self; frame = with_items m.frame out; bytes = m.bytes } in
+    let new : Send = record { video = c.frame.new.self; log = m.log; sender = coded.new.sender; aim = coded.new.aim; tally = c.picture.new.self; frame = with_items m.frame out; bytes = m.bytes } in
     let at = video_at m s 3 stood c.requires.fit.format in
     let e = gave c.in_ok-frame.field-0 true m.video c.frame.new.self (inputs Video) out _ c.if-not-branch.false (c.in_ok-frame.ensures.gives (inputs Video) (taken.left Video refl)) in
     let moves = moved c.in_ok-frame.field-0 true m.video c.frame.new.self c.if-not-branch.false c.in_ok-frame.ensures.moves in
-    let cap = coded.ensures.captured s.entries (stood_for m s 3 stood) in
+    let cap = coded.ensures.captured s.sent.run stood.sender in
     let bytes_are : c.deref.result.now ≡ out = lent m.frame out c.deref.result.now _ c.deref.ensures.value c.frame.auto.out c.deref_mut.ensures.len in
     let format_is : c.format.result ≡ s.params.format = c.format.ensures ∙ moves.0 ∙ sym at.format in
     let frame : Frame = record { picture = picture c.new-frame.result; messages = [] } in
@@ -56,11 +55,11 @@ returns-clause-ok g c = λ before s inputs stood taken.
     (λ i. record { picture = c.new-frame.ensures.picture i; messages = [] }) ∙ (λ i. captured (format_is i) (bytes_are i))
     in
     let texts = picture_texts coded.new.sender.packets coded.result.number coded.result.reference in
-    let text_is = texts_are m s 3 stood frame (captured s.params.format out) coded.new.sender coded.result same cap in
+    let text_is = texts_are m s 3 stood frame (captured s.params.format out) coded.new.sender coded.new.aim coded.result same cap in
     let place = place_is c.turn_laws.ensures c.cut_after.ensures.frame s inputs before (outside c.args.desk.now) (outside c.frame.new.desk) taken c.frame.ensures.others c.frame.ensures.rest.written m.video c.frame.new.self at out e (outside c.put_picture.new.desk) texts text_is in
     let size = frame_size s.params.format (inputs Video) in
     let kept : SendStands new _ (left_after inputs (and_of (of Events 3) (of Video size))) =
-    keeps_capture m s 3 stood new frame (captured s.params.format out) coded.result size (left_after inputs (and_of (of Events 3) (of Video size))) refl same cap coded.ensures.count coded.ensures.params coded.ensures.pace refl c.picture.ensures place moves.1
+    keeps_capture m s 3 stood new frame (captured s.params.format out) coded.result size (left_after inputs (and_of (of Events 3) (of Video size))) refl same cap coded.ensures.count coded.ensures.params refl c.picture.ensures place moves.1
     in
     on_ok_so _ _ c.put_picture.result c.put_picture.ensures.ok
     (captures c.turn_laws.ensures c.cut_after.ensures.frame s inputs before (outside c.args.desk.now) (outside c.frame.new.desk) taken c.frame.ensures.others c.frame.ensures.rest.written m.video c.frame.new.self at out e (outside c.put_picture.new.desk) texts text_is
@@ -75,7 +74,7 @@ returns-clause-err g c = λ before s inputs stood place taken.
     let at = video_at m s 3 stood c.requires.fit.format in
     let e = gave c.in_ok-frame.field-0 true m.video c.frame.new.self (inputs Video) out _ c.if-not-branch.false (c.in_ok-frame.ensures.gives (inputs Video) (taken.left Video refl)) in
     let moves = moved c.in_ok-frame.field-0 true m.video c.frame.new.self c.if-not-branch.false c.in_ok-frame.ensures.moves in
-    let cap = coded.ensures.captured s.entries (stood_for m s 3 stood) in
+    let cap = coded.ensures.captured s.sent.run stood.sender in
     let bytes_are : c.deref.result.now ≡ out = lent m.frame out c.deref.result.now _ c.deref.ensures.value c.frame.auto.out c.deref_mut.ensures.len in
     let format_is : c.format.result ≡ s.params.format = c.format.ensures ∙ moves.0 ∙ sym at.format in
     let frame : Frame = record { picture = picture c.new-frame.result; messages = [] } in
@@ -83,7 +82,7 @@ returns-clause-err g c = λ before s inputs stood place taken.
     (λ i. record { picture = c.new-frame.ensures.picture i; messages = [] }) ∙ (λ i. captured (format_is i) (bytes_are i))
     in
     let texts = picture_texts coded.new.sender.packets coded.result.number coded.result.reference in
-    let text_is = texts_are m s 3 stood frame (captured s.params.format out) coded.new.sender coded.result same cap in
+    let text_is = texts_are m s 3 stood frame (captured s.params.format out) coded.new.sender coded.new.aim coded.result same cap in
     if_cut _ (λ status. GivesUp (phase status) status (capture_step s (inputs Video)) true inputs before (outside c.put_picture.new.desk)) c.put_picture.result c.put_picture.ensures.kind c.put_picture.ensures.err
     (capture_cut c.turn_laws.ensures c.cut_after.ensures.frame s inputs before (outside c.args.desk.now) (outside c.frame.new.desk) taken c.frame.ensures.others c.frame.ensures.rest.written m.video c.frame.new.self at out e (outside c.put_picture.new.desk) texts text_is)
 
@@ -106,7 +105,7 @@ returns-clause-ready g c =
         wire = ap (λ (f : Role → Bool). f Wire) attached ∙ fit.wire;
         report = ap (λ (f : Role → Bool). f Report) attached ∙ fit.report;
         format = format;
-        pace = ap first_of coded.ensures.pace ∙ fit.pace ∙ ap (λ (q : Params). q.quant) (sym coded.ensures.params);
+        aim = coded.ensures.aim;
         frame = whole_still m.frame c.frame.new.out _ m.video.format c.frame.new.self.format fit.frame c.frame.auto.out c.deref_mut.ensures.len moves.0;
         bytes = fit.bytes;
         side = fit.side;

@@ -1,4 +1,4 @@
-use Rattle.std.proofs.Common.{◌≡◌, ℕ, ◌-◌, true, Bool, [], Option, refl, sym, ap, ◌∙◌, subst, arith}
+use Rattle.std.proofs.Common.{◌≡◌, ℕ, ◌-◌, true, Bool, refl, sym, ap, ◌∙◌, subst, arith}
 use Rattle.h263_outside.specs.declared.desk.Role.{Role}
 use Rattle.h263_outside.specs.declared.desk.Role.TheVariants.{Video, Events, Wire, Report}
 use Rattle.h263_types.specs.declared.params.Params.{Params}
@@ -7,9 +7,9 @@ use Rattle.call_report.specs.declared.status.Status.{Status}
 use Rattle.call_report.specs.Status.{video_stop}
 use Rattle.desk_program.specs.Run.{run_from}
 use Rattle.desk_program.specs.Ends.{HasEnded, silent}
-use Rattle.sender_end.specs.Stands.{Stands}
+use Rattle.call_model.specs.Steering.{nothing_done}
 use Rattle.send_command.specs.declared.machine.Send.{Send}
-use Rattle.rate_control.specs.Pace.{first_of, quant_after_sizes, target_of}
+use Rattle.send_command.specs.Sent.{aim_at_start}
 use Rattle.send_command.specs.Send.{most_entries, send_begin, send_step}
 use Rattle.send_command.specs.Stands.{SendStands}
 use Rattle.send_command.specs.Tally.{IsOf, no_counts}
@@ -36,32 +36,27 @@ returns-clause-goes g c = λ inputs told.
     let reader = c.in_ok-video.video in
     let started = c.in_ok-sender.ensures in
     let state = c.in_ok-sender.sender in
-    let new : Send = record { video = reader; log = c.new.result; sender = c.in_ok-sender.sender; tally = c.new-2.result; frame = c.in_ok-frame.frame; bytes = c.in_ok-bytes.bytes } in
+    let new : Send = record { video = reader; log = c.new.result; sender = c.in_ok-sender.sender; aim = c.start-aim.result; tally = c.new-2.result; frame = c.in_ok-frame.frame; bytes = c.in_ok-bytes.bytes } in
     let e = c.in_ok-video.ensures.gives (inputs Video) (told Video refl) in
     let params_is : record p { format = reader.format } ≡ state.params =
     (λ i. record p { format = sym c.format.ensures i }) ∙ sym started.params
     in
-    let pace = c.in_ok-sender.sender.pace in
-    let target_is : target_of pace ≡ setup.target = ap target_of started.pace ∙ c.choose-pace.ensures.target in
-    let first_is : first_of pace ≡ p.quant = ap first_of started.pace ∙ c.choose-pace.ensures.first in
-    let sender : Stands (quant_after_sizes setup.target p.quant) state [] =
-    subst (λ (t : Option ℕ). Stands (quant_after_sizes t p.quant) state []) target_is
-    (subst (λ (q : ℕ). Stands (quant_after_sizes (target_of pace) q) state []) first_is started.stands)
+    let aim_is : aim_at_start setup reader.format ≡ c.start-aim.result =
+    (λ i. aim_at_start setup (sym c.format.ensures i)) ∙ sym c.start-aim.ensures.value
     in
     c.run_laws.ensures.begins new (send_begin setup inputs) send_step (λ _. true) most_entries inputs (outside c.args.desk.now) (outside c.head.new.desk) (ap (λ (n : ℕ). most_entries - n) c.new.ensures.entries)
     (head_goes c.turn_laws.ensures setup inputs (outside c.args.desk.now) (outside c.head.new.desk) told c.head.ensures.others c.head.ensures.rest.written reader (SendStands new) e
     (record {
       is = λ i. record {
         params = params_is i;
-        target = sym target_is i;
-        entries = [];
+        sent = record { run = nothing_done; aim = aim_is i };
         tally = sym c.new-2.ensures i;
         at = sym c.new.ensures.at i;
         read = sym c.new.ensures.entries i;
         video_at = sym e.1 i;
         more = sym c.in_ok-video.ensures.more i;
       };
-      sender = sender;
+      sender = started.holds;
     }))
 
 none_of : (n : ℕ) → IsOf n no_counts
@@ -78,7 +73,7 @@ returns-clause-ready g c =
         wire = ap (λ (f : Role → Bool). f Wire) attached ∙ c.requires.wire;
         report = ap (λ (f : Role → Bool). f Report) attached ∙ c.requires.report;
         format = ap (λ (q : Params). q.format) started.params ∙ c.format.ensures;
-        pace = ap first_of started.pace ∙ c.choose-pace.ensures.first ∙ ap (λ (q : Params). q.quant) (sym started.params);
+        aim = c.start-aim.ensures.ready;
         frame = omega (arith, c.in_ok-frame.ensures.len, c.in_ok-frame.frame.ok.0, c.size.ensures, ap size_of_picture c.format.ensures);
         bytes = omega (arith, c.in_ok-bytes.ensures.len, c.in_ok-bytes.bytes.ok.0);
         side = c.new.ensures.side;

@@ -1,0 +1,7 @@
+use Rattle.std.proofs.Common.{◌≡◌, take}
+use Rattle.send_command.specs.Sent.{counted_bytes}
+use Rattle.send_command.proofs.capture.bytes_of.Given as goal
+
+-- the packets before `i` were counted
+abbrev pub invariant-loop-i : goal.invariant-loop-i
+invariant-loop-i l = record { bytes : l.bytes ≡ counted_bytes (take l.i l.sender.packets) }
