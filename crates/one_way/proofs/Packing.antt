@@ -117,7 +117,7 @@ module _ (p : Params) (below : Below p) where
       } in
       subst (λ (slices : List (Slice Mb)). Room p (packets_of n sequence (header_from h) slices)) (below.same_cut predicted h mbs fit kind) room
 
-  captured_room : (quant : ℕ) (frame : Frame) (coded : List (Coded Style Mb Picture)) (reference : Option ℕ) (n sequence : ℕ) → IsQuant quant
+  pub captured_room : (quant : ℕ) (frame : Frame) (coded : List (Coded Style Mb Picture)) (reference : Option ℕ) (n sequence : ℕ) → IsQuant quant
       → Room p (let x = capture (pictures p.format) (encoding p) quant frame coded reference in (encoding p).packets n sequence (header_of (rules_of p) n x) x.slices)
   unfolding capture header_of
   captured_room quant frame coded reference n sequence ranged =

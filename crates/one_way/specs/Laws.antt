@@ -1,42 +1,54 @@
 -- What the laws of the crates below say of a call's two ends.
-use Rattle.std.specs.Prelude.{◌≡◌, ℕ, ◌*◌, ◌≤◌, ◌<◌, List, [], ◌∷◌, ◌++◌, length, slice_get, Some, None}
+use Rattle.std.specs.Prelude.{◌≡◌, ℕ, ◌+◌, ◌*◌, ◌≤◌, ◌<◌, List, [], ◌∷◌, ◌++◌, length, slice_get, slice_index_or, Option, Some, None, IfSome}
 use Rattle.one_way.specs.declared.network.Network.{Network}
 use Rattle.one_way.specs.declared.way.Way.{Way}
+use Rattle.one_way.specs.declared.references.References.{References}
+use Rattle.one_way.specs.declared.tally.Tally.{Tally}
+use Rattle.one_way.specs.Counts.{AreCounted, counted}
+use Rattle.one_way.specs.Network.{HasPackets, HasReferences, told_by}
+use Rattle.one_way.specs.References.{AreNoted}
 use Rattle.one_way.specs.Both.{AreJoined, State, both_after, next_of, steady}
 use Rattle.one_way.specs.Refused.{refusal_after}
 use Rattle.one_way.specs.Trace.{delivered}
 use Rattle.one_way.specs.Way.{CanSend, HoldsNetwork, HoldsWay, IsNewNetwork, IsNewWay, MayHappenNow}
-use Rattle.one_way.specs.Seen.{in_both, in_call}
+use Rattle.one_way.specs.Seen.{in_both, in_call, reference_in}
 use Rattle.h263_types.specs.Sizes.{mbs_of}
-use Rattle.call_model.specs.Sending.{SenderEntry, packets_of}
+use Rattle.call_model.specs.CodedPictures.{Coded, capture}
+use Rattle.call_model.specs.Sending.{SenderEntry, header_of, packets_of}
 use Rattle.call_rings.specs.Parts.{size_of}
+use Rattle.call_rings.specs.Keeping.{HoldsPackets, Pictures, kept_of, period_of}
+use Rattle.call_rings.specs.declared.sent_packets.SentPackets.{SentPackets}
 use Rattle.sender_end.specs.Stands as sender_end
 use Rattle.receiver_end.specs.declared.kept.Kept.{Kept}
 use Rattle.receiver_end.specs.State as receiver_end
 use Rattle.h263_planes.specs.Picture.{Picture}
 use Rattle.h263_types.specs.declared.blocks.Mb.{Mb}
+use Rattle.h263_types.specs.declared.Mark.{Mark}
+use Rattle.h263_bits.specs.declared.fault.Fault.{Fault}
+use Rattle.std.specs.Option.{option_map_or}
 use Rattle.h263_types.specs.declared.clock.Clock.{Clock}
 use Rattle.h263_types.specs.declared.params.Params.{Params}
 use Rattle.h263_types.specs.Params.{IsParams}
 use Rattle.back_messages.specs.Said.{text_of}
 use Rattle.back_messages.specs.declared.writing.Said.{Said}
-use Rattle.call_model.specs.Coding.{Header, Message, Slice}
+use Rattle.call_model.specs.Coding.{Header, Message, Shown, Slice}
 use Rattle.call_model.specs.IdealCall.{Event, Send, Deliver, Play, Back, AllMayHappen, ideal}
-use Rattle.call_model.specs.Receiving.{ReceiverEntry}
+use Rattle.call_model.specs.Receiving.{Heard, ReceiverEntry}
 use Rattle.call_model.specs.InTheCall.{AllNearIsAllNearBoth}
 use Rattle.call_model.specs.Rings.{MessagesAreInRing, PacketsAreInRing}
 use Rattle.call_model.specs.Before.{ArrivedWasDelivered, CountsAreThose}
-use Rattle.call_model.specs.JoinedRun.{AllMayHappenBoth, EachEndRuns, joined, new_receiver}
+use Rattle.call_model.specs.JoinedRun.{AllMayHappenBoth, EachEndRuns, SaidMessage, joined, new_receiver, said_to}
 use Rattle.call_model.specs.Lawful.{IsPace}
 use Rattle.call_model.specs.TwoStores.{EndsFollow}
 use Rattle.call_decoding.specs.Rules.{rules_of}
+use Rattle.call_decoding.specs.Samples.{pictures}
 use Rattle.call_decoding.specs.Styles.{Style}
 use Rattle.call_encoding.specs.Encoding.{encoding}
 use Rattle.call_encoding.specs.Frames.{Frame}
 use Rattle.call_encoding.specs.Messages.{write_message}
 use Rattle.coded_call.specs.Bytes.{AreBytes}
 use Rattle.coded_call.specs.Coding.{coding}
-use Rattle.receiver_end.specs.Answers.{IsSaid}
+use Rattle.receiver_end.specs.Answers.{IsMessage, IsSaid, mark_of, said_by}
 
 pub record CallLaws (p : Params) : Type 0 where
   -- each end does what its own run does
@@ -64,10 +76,16 @@ pub record MessageLaws (p : Params) : Type 0 where
   pub count : (number sequence : ℕ) (h : Header Style) (slices : List (Slice Mb))
       → length ((encoding p).packets number sequence h slices) ≡ length slices
 
--- the packets of a picture that a sender coded have room in the ring of packets
+-- The packets of a picture that a sender coded have room in the ring of packets, and so have those of
+-- any picture that was captured, whatever was chosen as its reference.
 pub record PacketLaws (p : Params) : Type 0 where
   pub room : (pace : List ℕ → ℕ) (entries : List (SenderEntry Frame)) (n : ℕ) → IsPace pace
       → let packets = packets_of (encoding p) (rules_of p) (sender_end.run_of p pace entries).coded n in
+      (size_of packets ≤ 1200 * mbs_of p.format) × (length packets ≤ mbs_of p.format)
+  pub captured : (quant : ℕ) (frame : Frame) (coded : List (Coded Style Mb Picture)) (reference : Option ℕ) (n sequence : ℕ)
+      → (0 < quant) × (quant < 32)
+      → let x = capture (pictures p.format) (encoding p) quant frame coded reference in
+      let packets = (encoding p).packets n sequence (header_of (rules_of p) n x) x.slices in
       (size_of packets ≤ 1200 * mbs_of p.format) × (length packets ≤ mbs_of p.format)
 
 -- an event that isn't refused is near, and what it asks for is there
@@ -150,3 +168,36 @@ pub record EventLaws (p : Params) : Type 0 where
   pub message : (before : List ReceiverEntry) (frames : List Frame) (k : ℕ) (past : List Event)
       → (both_after p (steady p) frames before (Back k ∷ past)).sender.coded
       ≡ (both_after p (steady p) frames before past).sender.coded
+
+-- What the rings of a network keep, whatever sender coded the pictures and whoever said the messages.
+pub record RingLaws (p : Params) : Type 0 where
+  -- no picture's packets, and those of one picture more
+  pub none : (ring : SentPackets) → HoldsPackets ring [] → HasPackets p ring []
+  pub packets : (ring new : SentPackets) (coded : List (Coded Style Mb Picture)) (x : Coded Style Mb Picture)
+      (packets : List (List ℕ)) → HasPackets p ring coded
+      → ((pictures : Pictures) → HoldsPackets ring pictures → HoldsPackets new (pictures ++ packets ∷ []))
+      → packets ≡ packets_of (encoding p) (rules_of p) (coded ++ x ∷ []) (length coded)
+      → HasPackets p new (coded ++ x ∷ [])
+  -- the packets of one of the last pictures
+  pub kept : (ring : SentPackets) (coded : List (Coded Style Mb Picture)) (n : ℕ) (has : HasPackets p ring coded)
+      → n < length coded → length coded ≤ n + period_of ring
+      → kept_of (period_of ring) has.pictures n ≡ packets_of (encoding p) (rules_of p) coded n
+  -- the reference of one picture more, and that of one of the last pictures
+  pub noted : (old new : References) (coded : List (Coded Style Mb Picture)) (x : Coded Style Mb Picture)
+      → HasReferences old coded
+      → ((list : List (Option ℕ)) → AreNoted old list → length coded ≡ length list
+      → AreNoted new (list ++ x.reference ∷ [])) → HasReferences new (coded ++ x ∷ [])
+  pub reference : (references : References) (coded : List (Coded Style Mb Picture)) (n : ℕ) (result : Option ℕ)
+      → HasReferences references coded
+      → ((list : List (Option ℕ)) → AreNoted references list → n < length list → length list ≤ n + 512
+      → result ≡ slice_index_or list n None)
+      → n < length coded → length coded ≤ n + 512 → result ≡ reference_in coded n
+  -- what is told of picture n, where a packet has this answer, and where a play says this message
+  pub answered : (n : ℕ) (said : Option Said) (answer : Heard Fault) → IsMessage p.clock said (said_by answer)
+      → IfSome said (λ s. AreBytes (text_of s)) → told_by n said ≡ said_to write_message n answer
+  pub told : (n : ℕ) (said : Option Said) (message : Option Message) → IsMessage p.clock said message
+      → IfSome said (λ s. AreBytes (text_of s))
+      → told_by n said ≡ option_map_or (λ (m : Message). let told : SaidMessage = record { about = n; bytes = write_message m } in told ∷ []) message []
+  -- the mark of one play more
+  pub counted : (mark : Mark) (tally : Tally) (shown : Shown Picture) (plays : List (Shown Picture))
+      → mark ≡ mark_of shown.mark → AreCounted tally plays → AreCounted (counted mark tally) (shown ∷ plays)

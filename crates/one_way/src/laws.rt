@@ -11,7 +11,7 @@ ghost use Rattle.coded_call.specs.Coding.{coding};
 ghost use Rattle.receiver_end.specs.State.{run_of};
 ghost use Rattle.one_way.specs.Both.{steady};
 ghost use Rattle.one_way.specs.Laws.{CallLaws, EventLaws, MessageLaws, NearLaws, PacketLaws};
-ghost use Rattle.one_way.specs.Laws.{ShowTheSame, WayLaws};
+ghost use Rattle.one_way.specs.Laws.{RingLaws, ShowTheSame, WayLaws};
 
 use back_messages::MessageFault;
 use call_decoding::laws::are_rules;
@@ -69,7 +69,7 @@ pub fn ends_agree()
 }
 
 /// The packets of a picture have at most 1,200 bytes together for each macroblock, and there are no
-/// more of them than macroblocks.
+/// more of them than macroblocks. So it is whatever was chosen as its reference.
 pub fn packet_laws()
     ensures { (p : Params) → IsParams p → PacketLaws p }
 {
@@ -105,3 +105,10 @@ pub fn way_laws()
 pub fn event_laws()
     ensures { (p : Params) → EventLaws p }
 {}
+
+/// What the rings of a network keep of pictures and messages.
+pub fn ring_laws()
+    ensures { (p : Params) → RingLaws p }
+{
+    said_bytes();
+}

@@ -1,4 +1,5 @@
-use Rattle.one_way.proofs.Packing.{Below, packets_room}
+use Rattle.std.proofs.Common.{arith}
+use Rattle.one_way.proofs.Packing.{Below, captured_room, packets_room}
 use Rattle.one_way.proofs.laws.packet_laws.Goals as goal
 
 pub returns : goal.returns
@@ -17,5 +18,8 @@ returns c = λ p in_range.
     record {
       room = λ pace entries n paced.
           let room = packets_room p below pace entries n paced in
+          (room.bytes, room.count);
+      captured = λ quant frame coded reference n sequence ranged.
+          let room = captured_room p below quant frame coded reference n sequence (record { low = omega (arith, ranged.0); high = omega (arith, ranged.1) }) in
           (room.bytes, room.count);
     }

@@ -1,0 +1,4 @@
+pub mod Casting
+pub mod Counting
+pub mod Living
+pub mod Calling

@@ -1,0 +1,5 @@
+pub mod Viewing
+pub mod Holding
+pub mod Refused
+pub mod Following
+pub mod One
