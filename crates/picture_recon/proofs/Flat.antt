@@ -52,20 +52,6 @@ inverse_of_first values h y x hy hx =
     ∙ ap (λ (k : ℤ). k *ℤ basis 0 y *ℤ get_or values 0 (pos 0)) (first_basis x hx)
     ∙ ap (λ (k : ℤ). pos 2048 *ℤ k *ℤ get_or values 0 (pos 0)) (first_basis y hy))
 
-rounded_dc : (n : ℕ) → rounded (pos 2048 *ℤ pos 2048 *ℤ (pos 8 *ℤ pos n)) ≡ pos n
-rounded_dc n = omega (arith, ints)
-
-limited_dc : (n : ℕ) (z : ℤ) → IsDc z → pos n ≡ z → n ≡ limited (pos n)
-limited_dc n z h e = omega (arith, ints)
-
-no_values : (one : IsOneOrder) (quant : ℕ) (b : Block) → ((k : ℕ) → 1 ≤ k → k < 64 → level_at b k ≡ pos 0) →
-    (at : ℕ) → 1 ≤ at → at < 64 → get_or (intra_values quant b) at (pos 0) ≡ pos 0
-unfolding intra_values
-no_values one quant b none at some less =
-    get_or-map-range_with_len (intra_value quant b) 0 64 at at (pos 0) less (omega arith)
-    ∙ sym (other_value quant b at some)
-    ∙ ap (value_of quant) (none (zigzag_place_of at) (later (zigzag_place_of at) at (one.from_block at less) some) (within (zigzag_place_of at) at (one.from_block at less) some))
-
 -- the first value of an intra block is 8 times INTRADC
 pub first_value : (quant : ℕ) (b : Block) → get_or (intra_values quant b) 0 (pos 0) ≡ pos 8 *ℤ level_at b 0
 unfolding intra_values
@@ -76,17 +62,16 @@ pub other_values : (quant : ℕ) (b : Block) (at : ℕ) → 1 ≤ at → at < 64
 unfolding intra_values
 other_values quant b at some less = get_or-map-range_with_len (intra_value quant b) 0 64 at at (pos 0) less (omega arith) ∙ sym (other_value quant b at some)
 
-pub flat : (one : IsOneOrder) (quant : ℕ) (b : Block) → IsDc (level_at b 0) → ((k : ℕ) → 1 ≤ k → k < 64 → level_at b k ≡ pos 0) →
-    (n : ℕ) → pos n ≡ level_at b 0 → (y x : ℕ) → y < 8 → x < 8 → n ≡ limited (inverse_at (intra_values quant b) y x)
-flat one quant b dc none n e y x hy hx =
-    let number : inverse_at (intra_values quant b) y x ≡ pos n =
-    inverse_of_first (intra_values quant b) (no_values one quant b none) y x hy hx
-    ∙ ap (λ (k : ℤ). rounded (pos 2048 *ℤ pos 2048 *ℤ k)) (first_value quant b)
-    ∙ ap (λ (k : ℤ). rounded (pos 2048 *ℤ pos 2048 *ℤ (pos 8 *ℤ k))) (sym e)
-    ∙ rounded_dc n in
-    limited_dc n (level_at b 0) dc e ∙ ap limited (sym number)
+limited_dc : (n : ℕ) (z : ℤ) → IsDc z → pos n ≡ z → n ≡ limited (pos n)
+limited_dc n z h e = omega (arith, ints)
 
--- the same of a block of an inter macroblock
+-- a sample of INTRADC itself, to which nothing is added
+pub flat : (dc : ℤ) → IsDc dc → (n : ℕ) → pos n ≡ dc → (number : ℤ) → number ≡ pos 0 → n ≡ limited (dc +ℤ number)
+flat dc range n same number none =
+    let sum : pos n ≡ dc +ℤ number = omega (arith, ints, same, none) in
+    limited_dc n dc range same ∙ ap limited sum
+
+-- the values of a block of an inter macroblock that has its first level alone
 no_values_inter : (one : IsOneOrder) (quant : ℕ) (b : Block) → ((k : ℕ) → 1 ≤ k → k < 64 → level_at b k ≡ pos 0) →
     (at : ℕ) → 1 ≤ at → at < 64 → get_or (inter_values quant b) at (pos 0) ≡ pos 0
 unfolding inter_values

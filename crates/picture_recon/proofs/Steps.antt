@@ -56,6 +56,15 @@ more_blocks f at b value old p q before now plane x y h =
     one_more (mb_of f plane x y) at (block_of plane x y) b (sample_at q plane x y) (sample_at old plane x y) (sample_at p plane x y)
     (λ (k n : ℕ). value k n (y % 8) (x % 8)) (now plane x y h) (before plane x y h)
 
+-- a block whose samples are these numbers
+pub with_samples : (f : Format) (at b : ℕ) (samples : List ℕ) (value : ℕ → ℕ → ℕ) (p q : Picture)
+    → ((y x : ℕ) → y < 8 → x < 8 → get_or samples (8 * y + x) 0 ≡ value y x)
+    → SetsBlock f at b (λ old y x. get_or samples (8 * y + x) 0) p q → SetsBlock f at b (λ old y x. value y x) p q
+with_samples f at b samples value p q same sets plane x y h =
+    sets plane x y h
+    ∙ ap (λ (n : ℕ). cond (nat_eq (mb_of f plane x y) at && nat_eq (block_of plane x y) b) n (sample_at p plane x y))
+    (same (y % 8) (x % 8) (omega arith) (omega arith))
+
 within_macroblock : (m at init predicted old : ℕ) → init ≡ cond (nat_eq m at) predicted old → m ≡ at → init ≡ predicted
 within_macroblock m at init predicted old h e = grind (arith, nat_tests)
 

@@ -12,7 +12,7 @@ use Rattle.h263_types.specs.Marks.{IsMark, without}
 use Rattle.quantiser.specs.Levels.{value_of}
 use Rattle.quantiser.specs.Zigzag.{IsOneOrder, order, block_place_of, zigzag_place_of}
 use Rattle.picture_recon.specs.Samples.{inter_value}
-use Rattle.picture_recon.specs.Marks.{AreMarked, ArePut}
+use Rattle.picture_recon.specs.Marks.{AreMarked, ArePut, HasMarkedValues}
 
 -- a place in the block that isn't the first is one of the order, and not its first
 pub later : (z at : ℕ) → block_place_of z ≡ at → 1 ≤ at → 1 ≤ z
@@ -106,6 +106,17 @@ pub none_later : (b : Block) (marks : ℕ) → AreMarked b.levels marks → mark
 none_later b marks marked first k some less =
     let other : k ≢ 0 = omega arith in
     marked k less (ap (λ (n : ℕ). bit_at n k) first ∙ bit_at-pow_other 0 k other)
+
+-- where the first place alone is marked, and the first value is 0, all values are
+pub no_others : (one : IsOneOrder) (marks : ℕ) (values : List ℤ) → marks ≡ 1 → get_or values 0 (pos 0) ≡ pos 0
+    → HasMarkedValues marks values → (at : ℕ) → at < 64 → get_or values at (pos 0) ≡ pos 0
+no_others one marks values alone first marked zero less = first
+no_others one marks values alone first marked (suc at) less =
+    let some : 1 ≤ suc at = omega arith in
+    let z = zigzag_place_of (suc at) in
+    let past = later z (suc at) (one.from_block (suc at) less) some in
+    let other : z ≢ 0 = let h = past in omega arith in
+    marked (suc at) some less (ap (λ (n : ℕ). bit_at n z) alone ∙ bit_at-pow_other 0 z other)
 
 one_is_not_zero : (bit : ℕ) → bit ≡ 1 → bit ≡ 0 → ⊥
 one_is_not_zero bit set none = absurd (omega arith)

@@ -2,30 +2,20 @@
 use Rattle.std.specs.Prelude.{◌≡◌, ℕ, ◌%◌, pos, ◌+ℤ◌, ◌&&◌, nat_eq, nat_lt, if◌then◌else◌}
 use Rattle.h263_types.specs.declared.blocks.Block.{Block}
 use Rattle.h263_types.specs.declared.format.Format.{Format}
-use Rattle.h263_types.specs.Blocks.{IsInterBlock, IsIntraBlock, IsQuant}
 use Rattle.h263_planes.specs.declared.Plane.{Plane}
 use Rattle.h263_planes.specs.Blocks.{block_of, mb_of}
 use Rattle.h263_planes.specs.Picture.{Picture}
 use Rattle.h263_planes.specs.Samples.{Inside, sample_at}
 use Rattle.idct8.specs.Transform.{inverse_at}
-use Rattle.picture_recon.specs.declared.coded.Coding.{Coding}
-use Rattle.picture_recon.specs.declared.coded.Coding.TheVariants.{Alone, Added}
 use Rattle.picture_recon.specs.Samples.{inter_values, intra_values, limited}
 
--- the quantiser is one
-abbrev pub HasQuantiser : Coding → Type 0
-HasQuantiser (Alone quant) = IsQuant quant
-HasQuantiser (Added quant) = IsQuant quant
+-- the sample in row y and column x of a block of an intra macroblock
+abbrev pub intra_sample : ℕ → Block → ℕ → ℕ → ℕ
+intra_sample quant levels y x = limited (inverse_at (intra_values quant levels) y x)
 
--- the levels are in their range
-abbrev pub IsCodedBlock : Coding → Block → Type 0
-IsCodedBlock (Alone quant) = IsIntraBlock
-IsCodedBlock (Added quant) = IsInterBlock
-
--- the sample in row y and column x of a block, over the one that stood there
-abbrev pub coded_sample : Coding → Block → ℕ → ℕ → ℕ → ℕ
-coded_sample (Alone quant) levels old y x = limited (inverse_at (intra_values quant levels) y x)
-coded_sample (Added quant) levels old y x = limited (pos old +ℤ inverse_at (inter_values quant levels) y x)
+-- the sample in row y and column x of a block of an inter macroblock, over the predicted one
+abbrev pub added_sample : ℕ → Block → ℕ → ℕ → ℕ → ℕ
+added_sample quant levels predicted y x = limited (pos predicted +ℤ inverse_at (inter_values quant levels) y x)
 
 -- block b of macroblock `at` is set, each sample by the one that stood there, its row and its column in the block; all
 -- other samples stay

@@ -1,34 +1,25 @@
 //! The blocks of a macroblock, drawn from their levels (H.263, 6.2 and 6.3).
 ghost use Rattle.std.specs.Prelude.{◌≡◌, ◌<◌, All};
-ghost use Rattle.h263_types.specs.Blocks.{IsInterBlock, IsQuant};
+ghost use Rattle.h263_types.specs.Blocks.{IsInterBlock, IsIntraBlock, IsQuant};
 ghost use Rattle.h263_types.specs.Sizes.{mbs_of};
 ghost use Rattle.h263_planes.specs.Samples.{IsPicture};
 ghost use Rattle.h263_planes.specs.Work.{loan_of, work};
-ghost use Rattle.picture_recon.specs.Coded.{HasQuantiser, IsCodedBlock, SetsBlock, SetsBlocks, coded_sample};
+ghost use Rattle.picture_recon.specs.Coded.{SetsBlock, SetsBlocks, added_sample, intra_sample};
 ghost use Rattle.picture_recon.specs.Marks.{AreMarked, AreMarkedIn};
 ghost use Rattle.picture_recon.specs.Samples.{block_in};
-ghost use Rattle.picture_recon.specs.declared.coded.Coding.TheVariants.{Added};
 
 use crate::blocks::{put_block, put_samples, samples_at};
-use crate::values::{inter_samples, intra_samples};
+use crate::values::{inter_samples, two_intra};
 use h263_planes::{PictureMut, block_corner};
 use h263_types::{Block, Format};
 use idct8::laws as idct8_laws;
 use quantiser::laws as quantiser_laws;
 
-// What a macroblock's levels stand for, by its quantiser: its samples, or what is added to those
-// that stand in the picture, which are the predicted ones.
-#[derive(Clone, Copy)]
-pub(crate) enum Coding {
-    Alone { quant: u8 },
-    Added { quant: u8 },
-}
-
-// Draws the blocks of macroblock `at`, whose marks are given. Luma stands apart from the colours, so that each is compiled
-// for its plane.
+// Draws the blocks of intra macroblock `at`, whose marks are given. Luma stands apart from the colours, so that each is
+// compiled for its plane.
 #[inline(always)]
 pub(crate) fn draw_blocks(
-    coding: Coding,
+    quant: u8,
     blocks: &[Block; 6],
     marks: &[u64; 6],
     at: u32,
@@ -37,54 +28,56 @@ pub(crate) fn draw_blocks(
 )
     requires format { (work out.old).format ≡ format }
     requires at { at < mbs_of format }
-    requires quant { HasQuantiser coding }
-    requires blocks { All (IsCodedBlock coding) blocks.now }
+    requires quant { IsQuant quant }
+    requires blocks { All IsIntraBlock blocks.now }
     requires marks { AreMarkedIn blocks.now marks.now }
     requires whole { IsPicture (work out.old) }
     ensures same_loan { loan_of out.new ≡ loan_of out.old }
     ensures format { (work out.new).format ≡ format }
     ensures whole { IsPicture (work out.new) }
     ensures samples { SetsBlocks format at 6
-        (λ b. coded_sample coding (block_in blocks.now b)) (work out.old) (work out.new) }
+        (λ b old y x. intra_sample quant (block_in blocks.now b) y x)
+        (work out.old) (work out.new) }
 {
-    for block in 0..4u32 {
-        let k = block as usize;
-        draw_block(coding, &blocks[k], marks[k], at, block, format, out);
+    for pair in 0..2u32 {
+        let block = 2 * pair;
+        let (one, next) = two_intra(quant, blocks, marks, block);
+        put_block(out, format, at, block, &one);
+        put_block(out, format, at, block + 1, &next);
     }
-    draw_block(coding, &blocks[4], marks[4], at, 4, format, out);
-    draw_block(coding, &blocks[5], marks[5], at, 5, format, out);
+    let (cb, cr) = two_intra(quant, blocks, marks, 4);
+    put_block(out, format, at, 4, &cb);
+    put_block(out, format, at, 5, &cr);
 }
 
-// Draws block `block` of macroblock `at`.
+// Adds what the levels of an inter macroblock's blocks stand for to the samples of macroblock `at`.
 #[inline(always)]
-fn draw_block(
-    coding: Coding,
-    levels: &Block,
-    marks: u64,
+pub(crate) fn add_blocks(
+    quant: u8,
+    blocks: &[Block; 6],
+    marks: &[u64; 6],
     at: u32,
-    block: u32,
     format: Format,
     out: &mut PictureMut<'_>,
 )
     requires format { (work out.old).format ≡ format }
     requires at { at < mbs_of format }
-    requires block { block < 6 }
-    requires quant { HasQuantiser coding }
-    requires levels { IsCodedBlock coding levels.now }
-    requires marked { AreMarked levels.now.levels marks }
+    requires quant { IsQuant quant }
+    requires blocks { All IsInterBlock blocks.now }
+    requires marks { AreMarkedIn blocks.now marks.now }
     requires whole { IsPicture (work out.old) }
     ensures same_loan { loan_of out.new ≡ loan_of out.old }
     ensures format { (work out.new).format ≡ format }
     ensures whole { IsPicture (work out.new) }
-    ensures samples { SetsBlock format at block
-        (coded_sample coding levels.now) (work out.old) (work out.new) }
+    ensures samples { SetsBlocks format at 6
+        (λ b. added_sample quant (block_in blocks.now b)) (work out.old) (work out.new) }
 {
-    match coding {
-        Coding::Alone { quant } => {
-            put_block(out, format, at, block, &intra_samples(quant, levels, marks));
-        }
-        Coding::Added { quant } => add_block(quant, levels, marks, at, block, format, out),
+    for block in 0..4u32 {
+        let k = block as usize;
+        add_block(quant, &blocks[k], marks[k], at, block, format, out);
     }
+    add_block(quant, &blocks[4], marks[4], at, 4, format, out);
+    add_block(quant, &blocks[5], marks[5], at, 5, format, out);
 }
 
 // Adds what its levels stand for to the samples of block `block` of macroblock `at`.
@@ -109,7 +102,7 @@ fn add_block(
     ensures format { (work out.new).format ≡ format }
     ensures whole { IsPicture (work out.new) }
     ensures samples { SetsBlock format at block
-        (coded_sample (Added quant) levels.now) (work out.old) (work out.new) }
+        (added_sample quant levels.now) (work out.old) (work out.new) }
 {
     if marks == 0 {
         quantiser_laws::one_order();

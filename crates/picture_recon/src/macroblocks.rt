@@ -18,7 +18,7 @@ ghost use Rattle.picture_recon.specs.Marks.{AreMarkedIn, HasMarked};
 ghost use Rattle.picture_recon.specs.Samples.{sample_in};
 ghost use Rattle.picture_recon.specs.Shown.{SetsMb};
 
-use crate::coded::{Coding, draw_blocks};
+use crate::coded::draw_blocks;
 use crate::predicted::put_inter;
 use crate::skipped::put_skipped;
 use crate::values::{marks_of_few, marks_of_six};
@@ -195,7 +195,7 @@ pub(crate) fn put_intra(
     ensures samples { (rounding : ℕ) (reference : Option Picture) →
         SetsMb format rounding reference at (Intra quant blocks.now) (work out.old) (work out.new) }
 {
-    draw_blocks(Coding::Alone { quant }, blocks, marks, at, format, out);
+    draw_blocks(quant, blocks, marks, at, format, out);
 }
 
 /// Sets the samples of the macroblocks of a slice in `out`, a picture of the header's format. `mbs`

@@ -14,7 +14,7 @@ ghost use Rattle.half_sample.specs.Prediction.{ArePredicted, columns_in, predict
 ghost use Rattle.picture_recon.specs.Marks.{AreMarkedIn};
 ghost use Rattle.picture_recon.specs.Shown.{SetsMb};
 
-use crate::coded::{Coding, draw_blocks};
+use crate::coded::add_blocks;
 use crate::squares::square_of;
 use h263_planes::{PictureMut, Plane};
 use h263_types::{Block, Format};
@@ -45,7 +45,7 @@ pub(crate) fn put_inter(
         → SetsMb format r (Some p) at (Inter quant v blocks.now) (work out.old) (work out.new) }
 {
     put_predicted(predicted, at, format, out);
-    draw_blocks(Coding::Added { quant }, blocks, marks, at, format, out);
+    add_blocks(quant, blocks, marks, at, format, out);
 }
 
 // Sets the samples of macroblock `at` to the predicted ones.

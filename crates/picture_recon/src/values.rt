@@ -3,7 +3,8 @@ ghost use Rattle.std.specs.Prelude.{◌≡◌, ℕ, ◌+◌, ◌*◌, ◌<◌, �
 ghost use Rattle.h263_types.specs.Blocks.{IsDc, IsInterBlock, IsIntraBlock, IsLevel, IsQuant, IsValue, level_at};
 ghost use Rattle.idct8.specs.Ranges.{Within};
 ghost use Rattle.idct8.specs.Transform.{inverse_at, rounded};
-ghost use Rattle.picture_recon.specs.Samples.{inter_value, inter_values, intra_values, limited};
+ghost use Rattle.picture_recon.specs.Coded.{intra_sample};
+ghost use Rattle.picture_recon.specs.Samples.{block_in, inter_value, inter_values, limited};
 ghost use Rattle.picture_recon.specs.Marks.{AreMarked, AreMarkedIn, HasMarkedValues};
 
 use crate::classes::inverse_by_marks;
@@ -11,27 +12,56 @@ use h263_types::{Block, laws as types_laws};
 use idct8::laws as idct8_laws;
 use quantiser::{block_place, laws as quantiser_laws, value};
 
-// The samples of a block of an intra macroblock, by rows: INTRADC itself where the block has no
-// other level. Else INTRADC is added to what the others give, which are small: so the transform is
-// quick.
+// The samples of block `first` of an intra macroblock and of the next one, by rows. The values of
+// both are put down before one is transformed: what reads a row of values in lanes waits for each
+// of them that was just written by itself.
 #[inline(always)]
-pub(crate) fn intra_samples(quant: u8, block: &Block, marks: u64) -> [u8; 64]
+pub(crate) fn two_intra(
+    quant: u8,
+    blocks: &[Block; 6],
+    marks: &[u64; 6],
+    first: u32,
+) -> ([u8; 64], [u8; 64])
     requires quant { IsQuant quant }
-    requires block { IsIntraBlock block.now }
-    requires marked { AreMarked block.now.levels marks }
-    ensures { (y x : ℕ) → y < 8 → x < 8
-        → slice_index result (8 * y + x) ≡ limited (inverse_at (intra_values quant block.now) y x) }
+    requires blocks { All IsIntraBlock blocks.now }
+    requires marks { AreMarkedIn blocks.now marks.now }
+    requires first { first ≤ 4 }
+    ensures one { (y x : ℕ) → y < 8 → x < 8 → slice_index result.0 (8 * y + x)
+        ≡ intra_sample quant (block_in blocks.now first) y x }
+    ensures next { (y x : ℕ) → y < 8 → x < 8 → slice_index result.1 (8 * y + x)
+        ≡ intra_sample quant (block_in blocks.now (first + 1)) y x }
+{
+    idct8_laws::first_value_apart();
+    let k = first as usize;
+    let mut values = [0; 64];
+    let mut others = [0; 64];
+    put_values_but_first(quant, &blocks[k], marks[k], &mut values);
+    put_values_but_first(quant, &blocks[k + 1], marks[k + 1], &mut others);
+    let one = intra_samples(&blocks[k], marks[k], &mut values);
+    let next = intra_samples(&blocks[k + 1], marks[k + 1], &mut others);
+    (one, next)
+}
+
+// The samples of a block of an intra macroblock, by rows, from its values but for the first:
+// INTRADC itself where it has no other level. Else INTRADC is added to what the others give, which
+// are small: so the transform is quick.
+#[inline(always)]
+fn intra_samples(block: &Block, marks: u64, values: &mut [i16; 64]) -> [u8; 64]
+    requires dc { IsDc (level_at block.now 0) }
+    requires first { slice_index_or values.old 0 (pos 0) ≡ pos 0 }
+    requires values { All IsValue values.old }
+    requires marked { HasMarkedValues marks values.old }
+    ensures { (y x : ℕ) → y < 8 → x < 8 → slice_index result (8 * y + x)
+        ≡ limited (level_at block.now 0 +ℤ inverse_at values.old y x) }
 {
     quantiser_laws::one_order();
+    idct8_laws::zeros_give_zeros();
     let samples = flat(block.levels[0]);
     if marks == FIRST_ALONE {
         return samples;
     }
-    idct8_laws::first_value_apart();
-    let mut numbers = [0; 64];
-    put_values_but_first(quant, block, marks, &mut numbers);
-    inverse_by_marks(marks, &mut numbers);
-    limited_sums(&samples, &numbers)
+    inverse_by_marks(marks, values);
+    limited_sums(&samples, values)
 }
 
 // A block of samples that are all INTRADC.
