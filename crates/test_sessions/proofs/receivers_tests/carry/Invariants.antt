@@ -1,5 +1,5 @@
 use Rattle.std.proofs.Common.{◌≡◌}
-use Rattle.test_groups.proofs.receivers_tests.carry.Given as goal
+use Rattle.test_sessions.proofs.receivers_tests.carry.Given as goal
 
 -- nothing was played
 abbrev pub invariant-packets : goal.invariant-packets

@@ -1,6 +1,6 @@
 use Rattle.std.proofs.Common.{◌≡◌, ◌+◌, ◌≤◌}
 use Rattle.h263_types.specs.declared.format.Format.TheVariants.{SubQcif}
-use Rattle.test_groups.proofs.receivers_tests.first_wrong.Given as goal
+use Rattle.test_sessions.proofs.receivers_tests.first_wrong.Given as goal
 
 abbrev pub invariant-pictures : goal.invariant-pictures
 invariant-pictures l = (l.group.params.format ≡ SubQcif) × (l.group.sender.sent ≤ l.number)
