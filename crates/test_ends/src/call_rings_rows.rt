@@ -1,10 +1,10 @@
 //! Rings that wrap.
-use crate::answer::Answer;
-use crate::stop::Stop;
 use back_messages::Said;
 use call_rings::{MessageRing, SentPackets, laws};
 use h263_types::OutOfMemory;
 use std::alloc::Global;
+use test_fixtures::answer::Answer;
+use test_fixtures::stop::Stop;
 
 // Two of three pictures are kept. The second has no packet, and the first had more than the third.
 fn three_pictures(alloc: Global) -> Result<[bool; 5], OutOfMemory> {

@@ -1,10 +1,10 @@
 //! Lines with a party's letter, the messages that wait for a header, and the counts of two parties.
-use crate::answer::{Answer, Asked};
 use crate::bytes::call_of;
-use crate::stop::Stop;
 use back_messages::Message;
 use duplex_call::{Carried, Carrier, Counts, Party, party_line};
 use std::alloc::Global;
+use test_fixtures::answer::{Answer, Asked};
+use test_fixtures::stop::Stop;
 
 // A line, in which `_` is a blank and `^` a tab; `$` is nothing.
 fn line(alloc: Global, word: &str, answer: &mut Answer) -> Result<(), Stop> {

@@ -12,10 +12,8 @@ ghost use Rattle.back_messages.specs.Text.{IsMessage};
 ghost use Rattle.duplex_ends.specs.declared.party.PartyEnds.{PartyEnds};
 ghost use Rattle.duplex_ends.specs.Pair.{AreInCall};
 
-use crate::answer::{Answer, Asked};
 use crate::bytes::{call_of, pair_of};
 use crate::duplex_call_rows::party_of;
-use crate::stop::Stop;
 use back_messages::{Message, read};
 use duplex_call::Party;
 use duplex_ends::{
@@ -25,6 +23,8 @@ use h263_planes::PictureRef;
 use h263_types::{FixedPace, Format, Mark, OutOfMemory, Params};
 use sender_end::Sender;
 use std::alloc::Global;
+use test_fixtures::answer::{Answer, Asked};
+use test_fixtures::stop::Stop;
 
 fn send(alloc: Global, own: &mut PartyEnds, far: &PartyEnds, value: u8) -> Result<(), Stop>
     requires { AreInCall own.old far.now }

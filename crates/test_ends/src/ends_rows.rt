@@ -12,9 +12,7 @@
 ghost use Rattle.std.specs.Prelude.{◌≡◌, IfOk, length};
 ghost use Rattle.h263_types.specs.Params.{IsParams};
 
-use crate::answer::{Answer, Asked};
 use crate::bytes::{bytes_of, call_of, pair_of};
-use crate::stop::Stop;
 use back_messages::Said;
 use h263_planes::PictureRef;
 use h263_types::{Clock, FixedPace, Format, Mark, OutOfMemory, Params};
@@ -22,6 +20,8 @@ use receiver_end::{Heard, Receiver};
 use sender_end::{Feedback, Sender};
 use std::alloc::Global;
 use std::fmt::Write;
+use test_fixtures::answer::{Answer, Asked};
+use test_fixtures::stop::Stop;
 
 // A window of two pictures.
 const NARROW: Params = Params {

@@ -1,12 +1,12 @@
 //! The made input of calls.
-use crate::answer::{Answer, Asked};
-use crate::stop::Stop;
 use h263_planes::PictureMut;
 use h263_types::Format;
 use loss_trace::Event;
 use make_input::{TraceMaker, frame};
 use std::alloc::Global;
 use std::fmt::Write;
+use test_fixtures::answer::{Answer, Asked};
+use test_fixtures::stop::Stop;
 
 // Says an event, as a line of a trace has it.
 fn say_event(event: &Event, answer: &mut Answer) -> Result<(), Stop> {

@@ -1,11 +1,11 @@
 //! The quantisers, levels and lines of known sizes.
 ghost use Rattle.std.specs.Prelude.{◌≤◌};
 
-use crate::answer::{Answer, Asked};
-use crate::bytes::pair_of;
-use crate::stop::Stop;
+use crate::bytes::{pair_of, say_line};
 use h263_types::Pace;
 use rate_control::{BucketPace, Meter, Totals, picture_text, totals_text};
+use test_fixtures::answer::{Answer, Asked};
+use test_fixtures::stop::Stop;
 
 // The most bytes of a packet here.
 const MAX_BYTES: usize = 400;
@@ -45,7 +45,7 @@ fn pictures(count: u32, asked: &mut Asked<'_>, answer: &mut Answer) -> Result<()
 fn no_picture(answer: &mut Answer) -> Result<(), Stop> {
     let totals = Meter::new(999_999, 0).close();
     answer.say(&totals)?;
-    answer.say_line(totals_text(&totals).text())
+    say_line(answer, totals_text(&totals).text())
 }
 
 // The line of a picture, and that of totals whose last picture doesn't count for it.
@@ -57,7 +57,7 @@ fn totals(asked: &mut Asked<'_>, answer: &mut Answer) -> Result<(), Stop> {
         over: asked.number(u32::MAX)?,
         refused: asked.number(u32::MAX)?,
     };
-    answer.say_line(totals_text(&totals).text())
+    say_line(answer, totals_text(&totals).text())
 }
 
 /// Answers a row of `rate_control.rows`: does the call of this name by the words after it.
@@ -76,7 +76,7 @@ pub fn answer(call: &str, asked: &mut Asked<'_>, answer: &mut Answer) -> Result<
             let number = asked.number(u32::MAX)?;
             let size = asked.word()?.parse::<u64>()?;
             let level = asked.word()?.parse::<u64>()?;
-            answer.say_line(picture_text(number, size, level).text())
+            say_line(answer, picture_text(number, size, level).text())
         }
         "totals_line" => totals(asked, answer),
         _ => Err(Stop::Row),

@@ -5,12 +5,12 @@
 ghost use Rattle.std.specs.Prelude.{IfOk};
 ghost use Rattle.h263_types.specs.Params.{IsParams};
 
-use crate::answer::{Answer, Asked};
 use crate::bytes::{call_of, pair_of};
-use crate::stop::Stop;
 use back_messages::Message;
 use h263_types::{Clock, Format, Params};
 use reference_selector::{Selector, nearest_below};
+use test_fixtures::answer::{Answer, Asked};
+use test_fixtures::stop::Stop;
 
 // Slots 4 and lead 1, a window of two pictures; or the default, by both clocks.
 fn params_of(name: &str) -> Result<Params, Stop>

@@ -1,15 +1,15 @@
 //! Senders with a pace, and scripts as of both ends.
 ghost use Rattle.std.specs.Prelude.{◌≡◌, length};
 
-use crate::answer::{Answer, Asked};
 use crate::ends_rows;
-use crate::stop::Stop;
 use h263_planes::{PictureRef, Plane};
 use h263_types::{FixedPace, Format, Pace, Params};
 use rate_control::BucketPace;
 use sender_end::Sender;
 use std::alloc::Global;
+use test_fixtures::answer::{Answer, Asked};
 use test_fixtures::codec::SIZE;
+use test_fixtures::stop::Stop;
 
 // Says the packet of the picture that was coded last, if it has one alone.
 fn say_only<P: Pace>(sender: &Sender<P>, count: u32, answer: &mut Answer) -> Result<(), Stop>

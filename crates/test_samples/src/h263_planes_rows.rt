@@ -1,15 +1,16 @@
 //! Where planes, rows and corners lie.
-use crate::answer::{Answer, Asked};
-use crate::stop::Stop;
+use crate::samples::sample;
 use h263_planes::{PictureMut, Plane, block_corner};
 use h263_types::Format;
 use std::fmt::Write;
+use test_fixtures::answer::{Answer, Asked};
 use test_fixtures::codec::SIZE;
+use test_fixtures::stop::Stop;
 
 // Writes 200 over a sample of 7, and says what is there then, and the place of each byte that is
 // another.
 fn set(asked: &mut Asked<'_>, answer: &mut Answer) -> Result<(), Stop> {
-    let (plane, x, y) = asked.sample()?;
+    let (plane, x, y) = sample(asked)?;
     let mut bytes = [7; SIZE];
     let mut picture = PictureMut::new(Format::SubQcif, &mut bytes);
     picture.set(plane, x, y, 200);

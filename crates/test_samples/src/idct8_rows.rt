@@ -3,9 +3,9 @@ ghost use Rattle.std.specs.Prelude.{◌<◌, All};
 ghost use Rattle.h263_types.specs.Blocks.{IsValue};
 ghost use Rattle.idct8.specs.Ranges.{IsSample};
 
-use crate::answer::{Answer, Asked};
-use crate::stop::Stop;
 use idct8::{are_below, forward, inverse, narrow_inverse};
+use test_fixtures::answer::{Answer, Asked};
+use test_fixtures::stop::Stop;
 
 // The number at place `at` of block `kind`: extremes, a ramp, and then a single number at each
 // place.

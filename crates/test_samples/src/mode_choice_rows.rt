@@ -1,16 +1,16 @@
 //! What is chosen for a macroblock.
 ghost use Rattle.std.specs.Prelude.{◌<◌, ◌≤◌};
 
-use crate::answer::{Answer, Asked};
 use crate::idct8_rows::digest_with;
 use crate::pictures::picture;
-use crate::stop::Stop;
 use h263_planes::PictureRef;
 use h263_types::{Block, Format, Kind, Mb, Params};
 use mode_choice::{Chosen, choose, choose_into};
 use picture_header::Header;
 use std::fmt::Write;
+use test_fixtures::answer::{Answer, Asked};
 use test_fixtures::codec::{INTRA, PARAMS, SIZE};
+use test_fixtures::stop::Stop;
 
 // A number that tells of each level of a macroblock.
 fn digest(blocks: &[Block; 6]) -> u32 {

@@ -1,13 +1,13 @@
 //! The vector and the cost that a search finds.
 ghost use Rattle.std.specs.Prelude.{◌<◌, ◌≤◌};
 
-use crate::answer::{Answer, Asked};
 use crate::pictures::picture;
-use crate::stop::Stop;
 use h263_planes::PictureRef;
 use h263_types::{Format, Vector};
 use motion_search::{KeptSums, search, search_from};
+use test_fixtures::answer::{Answer, Asked};
 use test_fixtures::codec::SIZE;
+use test_fixtures::stop::Stop;
 
 // The search in pictures of these bytes, by itself and from a guess that is far off: each vector and
 // its cost.

@@ -8,9 +8,7 @@ ghost use Rattle.h263_planes.specs.References.{HasReferenceOnlyInP};
 ghost use Rattle.picture_header.specs.Ranges.{IsHeader};
 ghost use Rattle.packet_cutter.specs.Cutting.{format_of, limit_of};
 
-use crate::answer::{Answer, Asked};
 use crate::pictures::picture as next_picture;
-use crate::stop::Stop;
 use h263_planes::{PictureMut, PictureRef};
 use h263_types::Params;
 use packet_cutter::Cutter;
@@ -18,7 +16,9 @@ use picture_coder::code_picture;
 use picture_header::Header;
 use std::alloc::Global;
 use std::fmt::Write;
+use test_fixtures::answer::{Answer, Asked};
 use test_fixtures::codec::{INTER, INTRA, PARAMS, SIZE};
+use test_fixtures::stop::Stop;
 
 // Picture 2, which refers to picture 1.
 const THIRD: Header = Header {

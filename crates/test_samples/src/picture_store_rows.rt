@@ -1,12 +1,12 @@
 //! What a slot keeps, and pictures that are lent side by side.
 ghost use Rattle.std.specs.Prelude.{◌≡◌, length};
 
-use crate::answer::Answer;
-use crate::stop::Stop;
 use h263_planes::{PictureMut, PictureRef, Plane};
 use h263_types::{Format, OutOfMemory};
 use picture_store::PictureStore;
 use std::alloc::Global;
+use test_fixtures::answer::Answer;
+use test_fixtures::stop::Stop;
 
 // Whether picture 0 is there before it is kept and after; whether picture 4 is, in the same slot of
 // four; picture 0's first sample; and which of the two is there when picture 4 is kept.

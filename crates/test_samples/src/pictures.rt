@@ -6,12 +6,12 @@
 //! is brighter; `moving FRAME`; `ramps`, one macroblock; and each word of `sample`.
 ghost use Rattle.std.specs.Prelude.{◌<◌, ◌≤◌};
 
-use crate::answer::Asked;
 use crate::moving::moving;
-use crate::stop::Stop;
 use h263_planes::{PictureMut, Plane};
 use h263_types::Format;
+use test_fixtures::answer::Asked;
 use test_fixtures::codec::{SIZE, texture};
+use test_fixtures::stop::Stop;
 
 // The samples of Y, and of one of its colours.
 const LUMA: usize = 12_288;

@@ -2,11 +2,11 @@
 ghost use Rattle.std.specs.Prelude.{IfOk};
 ghost use Rattle.h263_types.specs.Blocks.{IsQuant};
 
-use crate::answer::{Answer, Asked};
-use crate::stop::Stop;
 use quantiser::{
     block_place, factor_of, level_inter, level_intra, level_with_rest, value, zigzag_place,
 };
+use test_fixtures::answer::{Answer, Asked};
+use test_fixtures::stop::Stop;
 
 fn quant(asked: &mut Asked<'_>) -> Result<u8, Stop>
     ensures { IfOk result IsQuant }

@@ -1,9 +1,9 @@
 //! Sums of absolute differences.
 ghost use Rattle.std.specs.Prelude.{◌≤◌};
 
-use crate::answer::{Answer, Asked};
-use crate::stop::Stop;
 use sad_kernel::{sad, sad_of_four, sad_until};
+use test_fixtures::answer::{Answer, Asked};
+use test_fixtures::stop::Stop;
 
 // Says the sum of so many pairs of samples, and the sum up to each number after them.
 fn sums(count: usize, asked: &mut Asked<'_>, answer: &mut Answer) -> Result<(), Stop>

@@ -1,9 +1,9 @@
 //! Messages, alone and in a header.
-use crate::answer::{Answer, Asked, reader_of};
-use crate::stop::Stop;
 use back_messages::{MessageFault, message_bits, read, read_message, write, write_message};
 use h263_bits::{BitReader, BitWriter};
 use h263_types::Clock;
+use test_fixtures::answer::{Answer, Asked, reader_of};
+use test_fixtures::stop::Stop;
 
 // Says a message, and writes it again: its five bytes, and how many of them are meant.
 fn written(clock: Clock, bytes: &[u8], answer: &mut Answer) -> Result<(), Stop> {

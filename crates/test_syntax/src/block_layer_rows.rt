@@ -2,14 +2,14 @@
 ghost use Rattle.std.specs.Prelude.{◌≡◌, ◌≤◌, true, false};
 ghost use Rattle.h263_types.specs.Blocks.{IsIntraBlock, IsInterBlock};
 
-use crate::answer::{Answer, Asked, reader_of};
-use crate::stop::Stop;
 use block_layer::{
     is_coded_by, laws as block_laws, read_inter, read_intra, write_inter, write_intra,
 };
 use h263_bits::{BitReader, BitWriter, Fault};
 use h263_types::Block;
 use std::fmt::Write;
+use test_fixtures::answer::{Answer, Asked, reader_of};
+use test_fixtures::stop::Stop;
 
 // Writes a block. Answers how many bits were written.
 fn written(intra: bool, block: &Block, out: &mut [u8; 256]) -> u32

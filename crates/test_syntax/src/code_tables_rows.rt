@@ -1,12 +1,12 @@
 //! Words of the tables.
-use crate::answer::{Answer, Asked, reader_of};
-use crate::stop::Stop;
 use code_tables::{
     Coefficient, MbClass, Mcbpc, event_number, read_cbpy, read_dquant, read_event, read_mcbpc,
     read_mvd, write_cbpy, write_dquant, write_event, write_mcbpc, write_mvd,
 };
 use h263_bits::BitWriter;
 use h263_types::Kind;
+use test_fixtures::answer::{Answer, Asked, reader_of};
+use test_fixtures::stop::Stop;
 
 // A difference of -63, taken as 1, the longest word of MCBPC in P, the shortest of CBPY, and a step
 // of -2.

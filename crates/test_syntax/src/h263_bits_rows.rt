@@ -1,9 +1,9 @@
 //! Bits that are read and written.
 ghost use Rattle.std.specs.Prelude.{◌≤◌};
 
-use crate::answer::{Answer, Asked, reader_of};
-use crate::stop::Stop;
 use h263_bits::{BitReader, BitWriter, FaultKind};
+use test_fixtures::answer::{Answer, Asked, reader_of};
+use test_fixtures::stop::Stop;
 
 // Reads the bits at a place, and says them with the place after them.
 fn bits_at(from: u32, n: u32, asked: &Asked<'_>, answer: &mut Answer) -> Result<(), Stop>

@@ -1,10 +1,10 @@
 //! Payload headers.
-use crate::answer::{Answer, Asked, reader_of};
-use crate::stop::Stop;
 use h263_bits::{BitWriter, Fault};
 use h263_payload::{Payload, read_opening, read_payload, write_payload};
 use h263_types::Format;
+use test_fixtures::answer::{Answer, Asked, reader_of};
 use test_fixtures::codec::INTRA_OF_CIF;
+use test_fixtures::stop::Stop;
 
 // What is read of a packet after its RTP header.
 fn read(bytes: &[u8], format: Format) -> Result<Payload, Fault> {

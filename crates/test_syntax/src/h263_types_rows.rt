@@ -1,9 +1,9 @@
 //! Formats, reaches, ranges and clocks.
 ghost use Rattle.std.specs.Prelude.{◌≤◌};
 
-use crate::answer::{Answer, Asked};
-use crate::stop::Stop;
 use h263_types::{Block, FixedPace, Format, Pace, Params, reach};
+use test_fixtures::answer::{Answer, Asked};
+use test_fixtures::stop::Stop;
 
 // Changes a parameter to another number: `quant=0`.
 fn change(params: &mut Params, word: &str) -> Result<(), Stop> {

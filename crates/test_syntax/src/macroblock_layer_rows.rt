@@ -2,12 +2,12 @@
 ghost use Rattle.std.specs.Prelude.{IfOk};
 ghost use Rattle.h263_types.specs.Blocks.{IsMb, IsOfKind, IsQuant};
 
-use crate::answer::{Answer, Asked, reader_of};
-use crate::stop::Stop;
 use h263_bits::{BitReader, BitWriter, Fault};
 use h263_types::{Format, Kind, Mb, Reach, Vector, reach};
 use macroblock_layer::{predictor, read_mb, write_mb};
+use test_fixtures::answer::{Answer, Asked, reader_of};
 use test_fixtures::codec::{FAR, head_of, is_stepped};
+use test_fixtures::stop::Stop;
 
 const PREDICTOR: Vector = Vector { x: 31, y: -3 };
 

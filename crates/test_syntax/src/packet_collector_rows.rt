@@ -4,14 +4,14 @@ ghost use Rattle.h263_types.specs.Blocks.{IsHeadOf};
 ghost use Rattle.h263_types.specs.declared.format.Format.TheVariants.{Cif};
 ghost use Rattle.packet_collector.specs.Collected.{IsInRow, IsRowFrom, first_of, format_of, row_of};
 
-use crate::answer::{Answer, Asked, reader_of};
 use crate::slice_layer_rows::UNTOUCHED;
-use crate::stop::Stop;
 use h263_types::{Format, Mb, Params, SliceHead};
 use packet_collector::{Collector, Piece, Place, read_packet};
 use picture_header::{Header, read_header};
 use std::alloc::Global;
+use test_fixtures::answer::{Answer, Asked, reader_of};
 use test_fixtures::codec::{INTRA_OF_CIF, PARAMS_OF_CIF, flat_mb};
+use test_fixtures::stop::Stop;
 
 // How many macroblocks are as they were, how many are Skip, and how many are flat.
 fn counts(mbs: &[Mb; 48]) -> (u32, u32, u32) {

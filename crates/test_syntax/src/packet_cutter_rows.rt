@@ -5,14 +5,14 @@ ghost use Rattle.h263_types.specs.Sizes.{mbs_of};
 ghost use Rattle.picture_header.specs.Ranges.{IsHeader};
 ghost use Rattle.packet_cutter.specs.Cutting.{format_of, kind_of, quant_of, added_of, IsBegun};
 
-use crate::answer::{Answer, Asked};
 use crate::headers::header;
-use crate::stop::Stop;
 use h263_types::{Format, Kind, Mb, Params};
 use packet_cutter::Cutter;
 use picture_header::Header;
 use std::alloc::Global;
+use test_fixtures::answer::{Answer, Asked};
 use test_fixtures::codec::{PARAMS, flat_mb};
+use test_fixtures::stop::Stop;
 
 // Adds a macroblock this many times.
 fn add_times(cutter: &mut Cutter, mb: &Mb, times: u32)

@@ -1,11 +1,11 @@
 //! Packets that are joined.
 ghost use Rattle.std.specs.Prelude.{◌≡◌, [], IfOk};
 
-use crate::answer::{Answer, Asked};
-use crate::stop::Stop;
 use h263_types::Format;
 use payload_join::Joiner;
 use std::alloc::Global;
+use test_fixtures::answer::{Answer, Asked};
+use test_fixtures::stop::Stop;
 
 // Puts what a joiner still gives, one packet after the other. Answers how many bytes there are.
 fn drained(joiner: &mut Joiner, answer: &mut Answer) -> Result<usize, Stop>

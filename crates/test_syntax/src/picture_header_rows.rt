@@ -2,11 +2,11 @@
 ghost use Rattle.std.specs.Prelude.{◌<◌, ◌≤◌, IfOk};
 ghost use Rattle.picture_header.specs.Ranges.{IsHeader};
 
-use crate::answer::{Answer, Asked, reader_of};
-use crate::stop::Stop;
 use h263_bits::BitWriter;
 use h263_types::Format;
 use picture_header::{Header, header_bits, read_header, write_header};
+use test_fixtures::answer::{Answer, Asked, reader_of};
+use test_fixtures::stop::Stop;
 
 // Says how many bits a header has, and writes it up to the end of a byte.
 fn written(header: &Header, answer: &mut Answer) -> Result<(), Stop>

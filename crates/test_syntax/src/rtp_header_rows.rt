@@ -1,7 +1,7 @@
 //! RTP headers.
-use crate::answer::{Answer, Asked};
-use crate::stop::Stop;
 use rtp_header::{read, write};
+use test_fixtures::answer::{Answer, Asked};
+use test_fixtures::stop::Stop;
 
 /// Answers a row of `rtp_header.rows`: does the call of this name by the words after it.
 pub fn answer(call: &str, asked: &mut Asked<'_>, answer: &mut Answer) -> Result<(), Stop> {

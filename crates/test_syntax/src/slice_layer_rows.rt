@@ -1,15 +1,15 @@
 //! Slices that are read.
 ghost use Rattle.picture_header.specs.Ranges.{IsHeader};
 
-use crate::answer::{Answer, Asked, reader_of};
 use crate::headers::header;
-use crate::stop::Stop;
 use h263_bits::BitReader;
 use h263_types::{Block, Format, Mb, Vector};
 use picture_header::{Header, read_header};
 use slice_layer::read_slice;
 use std::fmt::Write;
+use test_fixtures::answer::{Answer, Asked, reader_of};
 use test_fixtures::codec::head_of;
+use test_fixtures::stop::Stop;
 
 /// A macroblock that no row has: where it still stands nothing was written.
 pub const UNTOUCHED: Mb = Mb::Inter {

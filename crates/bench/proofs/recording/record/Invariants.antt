@@ -1,6 +1,6 @@
 use Rattle.std.proofs.Common.{◌≡◌, length}
 use Rattle.h263_types.specs.Sizes.{size_of_picture}
-use Rattle.bench.proofs.recording.record_stills.Given as goal
+use Rattle.bench.proofs.recording.record.Given as goal
 
 abbrev pub invariant-frames : goal.invariant-frames
 invariant-frames l = record {

@@ -164,19 +164,30 @@ impl Bits {
         Ok(())
     }
 
+    fn put_times(&mut self, names: &Names, times: &str, part: &str) -> Result<(), Stop> {
+        for _time in 0..times.parse::<u32>()? {
+            self.put_part(names, part)?;
+        }
+        Ok(())
+    }
+
+    // Changes what stands before, as these words ask.
+    fn set(&mut self, what: &str, value: &str) -> Result<(), Stop> {
+        match what {
+            "bits" => self.keep(value.parse::<usize>()?),
+            "bytes" => self.keep(value.parse::<usize>()?.saturating_mul(8)),
+            "drop" => self.drop_bytes(value.parse::<usize>()?),
+            place => self.change(place.parse::<usize>()?, value),
+        }
+    }
+
     fn put_word(&mut self, names: &Names, word: &str) -> Result<(), Stop> {
         if let Some((times, part)) = word.split_once('*') {
-            for _time in 0..times.parse::<u32>()? {
-                self.put_part(names, part)?;
-            }
-            return Ok(());
+            return self.put_times(names, times, part);
         }
         match word.split_once('=') {
             None => self.put_part(names, word),
-            Some(("bits", len)) => self.keep(len.parse::<usize>()?),
-            Some(("bytes", len)) => self.keep(len.parse::<usize>()?.saturating_mul(8)),
-            Some(("drop", len)) => self.drop_bytes(len.parse::<usize>()?),
-            Some((place, digits)) => self.change(place.parse::<usize>()?, digits),
+            Some((what, value)) => self.set(what, value),
         }
     }
 }

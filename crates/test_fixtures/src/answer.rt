@@ -1,26 +1,27 @@
 //! What a row asks for, and what is answered.
 ghost use Rattle.std.specs.Prelude.{◌≤◌, IfOk};
-ghost use Rattle.h263_types.specs.declared.format.Format.TheVariants.{SubQcif};
-ghost use Rattle.h263_planes.specs.Samples.{Inside};
 
+use crate::bits::Bits;
 use crate::stop::Stop;
-use h263_planes::{PictureRef, Plane};
-use h263_types::{Format, Vector};
+use h263_bits::BitReader;
+use h263_types::{Clock, Format};
 use std::alloc::Global;
 use std::fmt::{Debug, Write};
 use std::str::SplitWhitespace;
-use test_fixtures::codec::SIZE;
 
-/// The words after a call's name, which it reads one after the other.
+/// The words after a call's name, which it reads one after the other, and the bits.
 #[derive(Drop)]
 pub struct Asked<'a> {
     pub words: SplitWhitespace<'a>,
+    pub bytes: Vec<u8>,
+    pub len: u32,
 }
 
-/// The words that are answered.
+/// The words and the bits that are answered.
 #[derive(Drop)]
 pub struct Answer {
     pub words: String,
+    pub bits: Bits,
 }
 
 impl<'a> Asked<'a> {
@@ -51,24 +52,31 @@ impl<'a> Asked<'a> {
         Ok(number)
     }
 
-    /// A vector by its components, in half samples.
-    pub fn vector(&mut self) -> Result<Vector, Stop> {
-        let x = self.word()?.parse::<i8>()?;
-        let y = self.word()?.parse::<i8>()?;
-        Ok(Vector { x, y })
-    }
-
-    /// The plane, the column and the row of a sample of a sub-QCIF picture.
-    pub fn sample(&mut self) -> Result<(Plane, u32, u32), Stop>
-        ensures { IfOk result (λ s. Inside SubQcif s.0 s.1 s.2 1) }
-    {
+    /// A picture clock by its name.
+    pub fn clock(&mut self) -> Result<Clock, Stop> {
         match self.word()? {
-            "y" => Ok((Plane::Y, self.number(127)?, self.number(95)?)),
-            "cb" => Ok((Plane::Cb, self.number(63)?, self.number(47)?)),
-            "cr" => Ok((Plane::Cr, self.number(63)?, self.number(47)?)),
+            "standard" => Ok(Clock::Standard),
+            "custom" => Ok(Clock::Custom),
             _ => Err(Stop::Row),
         }
     }
+
+    /// A format by its name.
+    pub fn format(&mut self) -> Result<Format, Stop> {
+        match self.word()? {
+            "sub-qcif" => Ok(Format::SubQcif),
+            "qcif" => Ok(Format::Qcif),
+            "cif" => Ok(Format::Cif),
+            _ => Err(Stop::Row),
+        }
+    }
+}
+
+/// A reader of the first `len` bits of these bytes, from bit `from` on.
+pub fn reader_of(bytes: &[u8], from: u32, len: u32) -> BitReader<'_> {
+    let bytes = &bytes[..bytes.len().min(65_535)];
+    let to = len.min(8 * bytes.len() as u32);
+    BitReader::new(bytes, from.min(to), to)
 }
 
 impl Answer {
@@ -76,6 +84,7 @@ impl Answer {
     pub fn new(alloc: Global) -> Answer {
         Answer {
             words: String::new(alloc),
+            bits: Bits::new(alloc),
         }
     }
 
@@ -85,17 +94,19 @@ impl Answer {
         Ok(())
     }
 
+    /// Says bytes.
+    pub fn say_bytes(&mut self, bytes: &[u8]) -> Result<(), Stop> {
+        write!(self.words, " x")?;
+        for byte in bytes {
+            write!(self.words, "{byte:02x}")?;
+        }
+        Ok(())
+    }
+
     /// Says so many samples as the row asks for, from the place on that it names.
     pub fn say_some(&mut self, samples: &[u8], asked: &mut Asked<'_>) -> Result<(), Stop> {
         let from = asked.place(samples.len())?;
         let count = asked.place(samples.len() - from)?;
         self.say(&&samples[from..from + count])
-    }
-
-    /// Says the sample of a picture that the row asks for.
-    pub fn say_sample(&mut self, bytes: &[u8; SIZE], asked: &mut Asked<'_>) -> Result<(), Stop> {
-        let (plane, x, y) = asked.sample()?;
-        let picture = PictureRef::new(Format::SubQcif, bytes);
-        self.say(&picture.sample(plane, x, y))
     }
 }
