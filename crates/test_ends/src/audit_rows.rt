@@ -282,17 +282,17 @@ impl Source {
 
 // Says the verdict on a log.
 fn judge(alloc: Global, asked: &mut Asked<'_>, answer: &mut Answer) -> Result<(), Stop> {
-    let source = source_by(alloc, asked.clock()?)?;
+    let source = source_by(alloc, asked.clock())?;
     let mut audit = Audit::start(alloc, &params_by(source.own.clock))?;
     'entries: for word in asked.words.by_ref() {
         source.take(alloc, &mut audit, word)?;
     }
-    answer.say(&audit.close())
+    answer.say_last(&audit.close())
 }
 
 // The line of a verdict.
 fn line(asked: &mut Asked<'_>, answer: &mut Answer) -> Result<(), Stop> {
-    let rule = match asked.word()? {
+    let rule = match asked.word() {
         "yes" => None,
         "packet" => Some(Rule::Packet),
         "number" => Some(Rule::Number),
@@ -302,7 +302,7 @@ fn line(asked: &mut Asked<'_>, answer: &mut Answer) -> Result<(), Stop> {
         "reference" => Some(Rule::Reference),
         _ => return Err(Stop::Row),
     };
-    let number = asked.number(16_777_216)?;
+    let number = asked.number(16_777_216);
     let verdict = match rule {
         None => Verdict::Yes { pictures: number },
         Some(rule) => Verdict::No { number, rule },

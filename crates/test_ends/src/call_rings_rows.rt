@@ -45,8 +45,8 @@ fn many_messages(alloc: Global) -> Result<[bool; 5], OutOfMemory> {
 /// Answers a row of `call_rings.rows`: does the call of this name by the words after it.
 pub fn answer(alloc: Global, call: &str, answer: &mut Answer) -> Result<(), Stop> {
     match call {
-        "three_pictures" => answer.say(&three_pictures(alloc)?.as_slice()),
-        "many_messages" => answer.say(&many_messages(alloc)?.as_slice()),
+        "three_pictures" => answer.say_last(&three_pictures(alloc)?.as_slice()),
+        "many_messages" => answer.say_last(&many_messages(alloc)?.as_slice()),
         _ => Err(Stop::Row),
     }
 }

@@ -16,7 +16,7 @@ fn say_only<P: Pace>(sender: &Sender<P>, count: u32, answer: &mut Answer) -> Res
     requires { count ≡ length sender.now.packets }
 {
     if count != 1 {
-        return answer.say(&count);
+        return answer.say_last(&count);
     }
     answer.say_bytes(sender.packet(0))
 }
@@ -36,7 +36,7 @@ fn two_flat<P: Pace>(alloc: Global, pace: P, answer: &mut Answer) -> Result<(), 
     let sample = sender.recon().sample(Plane::Y, 127, 95);
     sender.finish();
     said?;
-    answer.say(&(before, sample))
+    answer.say_last(&(before, sample))
 }
 
 /// Answers a row of `sender_end.rows`: does the call of this name by the words after it.

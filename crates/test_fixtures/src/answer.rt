@@ -1,5 +1,5 @@
 //! What a row asks for, and what is answered.
-ghost use Rattle.std.specs.Prelude.{◌≤◌, IfOk};
+ghost use Rattle.std.specs.Prelude.{◌≤◌};
 
 use crate::bits::Bits;
 use crate::stop::Stop;
@@ -15,6 +15,9 @@ pub struct Asked<'a> {
     pub words: SplitWhitespace<'a>,
     pub bytes: Vec<u8>,
     pub len: u32,
+    /// Whether a word was missing, or could not be read. The row is refused then, and so whatever
+    /// stands for that word is right.
+    pub wrong: bool,
 }
 
 /// The words and the bits that are answered.
@@ -22,52 +25,70 @@ pub struct Asked<'a> {
 pub struct Answer {
     pub words: String,
     pub bits: Bits,
+    /// Whether there was no memory for all of it.
+    pub cut: bool,
 }
 
 impl<'a> Asked<'a> {
     /// The next word.
-    pub fn word(&mut self) -> Result<&'a str, Stop> {
-        self.words.next().ok_or(Stop::Row)
+    pub fn word(&mut self) -> &'a str {
+        match self.words.next() {
+            Some(word) => word,
+            None => {
+                self.wrong = true;
+                ""
+            }
+        }
     }
 
     /// A number of at most `most`.
-    pub fn number(&mut self, most: u32) -> Result<u32, Stop>
-        ensures { IfOk result (λ n. n ≤ most) }
+    pub fn number(&mut self, most: u32) -> u32
+        ensures { result ≤ most }
     {
-        let number = self.word()?.parse::<u32>()?;
-        if number > most {
-            return Err(Stop::Row);
+        match self.word().parse::<u32>() {
+            Ok(number) if number <= most => number,
+            _ => {
+                self.wrong = true;
+                0
+            }
         }
-        Ok(number)
     }
 
     /// A number of at most `most`, as a place of a slice.
-    pub fn place(&mut self, most: usize) -> Result<usize, Stop>
-        ensures { IfOk result (λ n. n ≤ most) }
+    pub fn place(&mut self, most: usize) -> usize
+        ensures { result ≤ most }
     {
-        let number = self.word()?.parse::<usize>()?;
-        if number > most {
-            return Err(Stop::Row);
+        match self.word().parse::<usize>() {
+            Ok(number) if number <= most => number,
+            _ => {
+                self.wrong = true;
+                0
+            }
         }
-        Ok(number)
     }
 
     /// A picture clock by its name.
-    pub fn clock(&mut self) -> Result<Clock, Stop> {
-        match self.word()? {
-            "standard" => Ok(Clock::Standard),
-            "custom" => Ok(Clock::Custom),
-            _ => Err(Stop::Row),
+    pub fn clock(&mut self) -> Clock {
+        match self.word() {
+            "standard" => Clock::Standard,
+            "custom" => Clock::Custom,
+            _ => {
+                self.wrong = true;
+                Clock::Standard
+            }
         }
     }
 
     /// A format by its name.
-    pub fn format(&mut self) -> Result<Format, Stop> {
-        match self.word()? {
-            "sub-qcif" => Ok(Format::SubQcif),
-            "qcif" => Ok(Format::Qcif),
-            "cif" => Ok(Format::Cif),
-            _ => Err(Stop::Row),
+    pub fn format(&mut self) -> Format {
+        match self.word() {
+            "sub-qcif" => Format::SubQcif,
+            "qcif" => Format::Qcif,
+            "cif" => Format::Cif,
+            _ => {
+                self.wrong = true;
+                Format::SubQcif
+            }
         }
     }
 }
@@ -85,12 +106,33 @@ impl Answer {
         Answer {
             words: String::new(alloc),
             bits: Bits::new(alloc),
+            cut: false,
         }
     }
 
     /// Says a value, as Rust prints it.
-    pub fn say<T: Debug>(&mut self, value: &T) -> Result<(), Stop> {
-        write!(self.words, " {value:?}")?;
+    pub fn say<T: Debug>(&mut self, value: &T) {
+        if write!(self.words, " {value:?}").is_err() {
+            self.cut = true;
+        }
+    }
+
+    /// Says the last value.
+    pub fn say_last<T: Debug>(&mut self, value: &T) -> Result<(), Stop> {
+        self.say(value);
+        Ok(())
+    }
+
+    /// Puts the first `len` bits of these bytes, or all.
+    pub fn put(&mut self, bytes: &[u8], len: u32) {
+        if self.bits.put(bytes, len).is_err() {
+            self.cut = true;
+        }
+    }
+
+    /// Puts the last bits.
+    pub fn put_last(&mut self, bytes: &[u8], len: u32) -> Result<(), Stop> {
+        self.put(bytes, len);
         Ok(())
     }
 
@@ -105,8 +147,8 @@ impl Answer {
 
     /// Says so many samples as the row asks for, from the place on that it names.
     pub fn say_some(&mut self, samples: &[u8], asked: &mut Asked<'_>) -> Result<(), Stop> {
-        let from = asked.place(samples.len())?;
-        let count = asked.place(samples.len() - from)?;
-        self.say(&&samples[from..from + count])
+        let from = asked.place(samples.len());
+        let count = asked.place(samples.len() - from);
+        self.say_last(&&samples[from..from + count])
     }
 }

@@ -54,14 +54,18 @@ fn answered<L: Answers>(
         words: words.split_whitespace(),
         bytes: bits.packed(alloc)?,
         len: bits.len(),
+        wrong: false,
     };
     let mut answer = Answer::new(alloc);
-    let call = asked.word()?;
+    let call = asked.word();
     layer.answer(alloc, call, &mut asked, &mut answer)?;
-    match asked.words.next() {
-        None => Ok(answer),
-        Some(_) => Err(Stop::Row),
+    if answer.cut {
+        return Err(Stop::OutOfMemory);
     }
+    if asked.wrong || asked.words.next().is_some() {
+        return Err(Stop::Row);
+    }
+    Ok(answer)
 }
 
 // What an answer says in place of what is wanted, nothing where it says that.

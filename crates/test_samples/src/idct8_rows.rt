@@ -71,11 +71,11 @@ fn transforms(kind: usize) -> (u32, u32, u32) {
 
 /// Answers a row of `idct8.rows`: does the call of this name by the words after it.
 pub fn answer(call: &str, asked: &mut Asked<'_>, answer: &mut Answer) -> Result<(), Stop> {
-    let kind = asked.place(69)?;
+    let kind = asked.place(69);
     match call {
-        "transforms" => answer.say(&transforms(kind)),
-        "inverse" => answer.say(&inverse(&values_of(kind)).as_slice()),
-        "are_below" => answer.say(&are_below(&samples_of(kind), asked.number(77)?)),
+        "transforms" => answer.say_last(&transforms(kind)),
+        "inverse" => answer.say_last(&inverse(&values_of(kind)).as_slice()),
+        "are_below" => answer.say_last(&are_below(&samples_of(kind), asked.number(77))),
         _ => Err(Stop::Row),
     }
 }

@@ -39,13 +39,13 @@ pub fn answer(call: &str, asked: &mut Asked<'_>, answer: &mut Answer) -> Result<
     }
     let frame = picture(asked)?;
     let reference = picture(asked)?;
-    let mb = asked.number(47)?;
-    let radius = asked.number(15)? as u8;
-    let rounding = asked.number(1)? as u8;
+    let mb = asked.number(47);
+    let radius = asked.number(15) as u8;
+    let rounding = asked.number(1) as u8;
     let [one, again] = found(&frame, &reference, mb, radius, rounding);
-    answer.say(&one)?;
+    answer.say(&one);
     if again != one {
-        answer.say(&again)?;
+        answer.say(&again);
     }
     Ok(())
 }

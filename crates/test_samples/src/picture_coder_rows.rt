@@ -71,20 +71,20 @@ fn say_coded(
     bytes: bool,
     answer: &mut Answer,
 ) -> Result<(), Stop> {
-    answer.say(&cutter.count())?;
+    answer.say(&cutter.count());
     for i in 0..cutter.count() {
         let packet = cutter.packet(i);
         if bytes {
             say_bytes(packet, answer)?;
         } else {
-            answer.say(&(packet.len(), sums(packet)))?;
+            answer.say(&(packet.len(), sums(packet)));
         }
     }
     if bytes && *shown == [shown[0]; SIZE] {
         write!(answer.words, " flat {}", shown[0])?;
         return Ok(());
     }
-    answer.say(&sums(shown))
+    answer.say_last(&sums(shown))
 }
 
 // Codes a picture.
@@ -126,7 +126,7 @@ fn coded(
     requires format { params.now.format ≡ SubQcif }
 {
     let quant = params.quant;
-    let third = asked.number(3)? == 3;
+    let third = asked.number(3) == 3;
     let mut cutter = Cutter::start(alloc, params)?;
     let [mut first, mut second, mut last] = [[0; SIZE]; 3];
     let header = Header { quant, ..INTRA };

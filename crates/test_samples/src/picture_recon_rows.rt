@@ -159,7 +159,7 @@ fn skipped(lent: &[u8; SIZE]) -> [u8; SIZE] {
 fn say_predicted(asked: &mut Asked<'_>, answer: &mut Answer) -> Result<(), Stop> {
     let lent = picture(asked)?;
     let vector = vector(asked)?;
-    let rounding = asked.number(1)? as u8;
+    let rounding = asked.number(1) as u8;
     if !is_in_reach(Format::SubQcif, 9, vector) {
         return Err(Stop::Row);
     }
@@ -173,8 +173,8 @@ fn say_predicted(asked: &mut Asked<'_>, answer: &mut Answer) -> Result<(), Stop>
         }
         samples[k] = seen.sample(plane, x, y);
     }
-    answer.say(&samples.as_slice())?;
-    answer.say(&sum(&bytes).wrapping_sub(128 * (18_432 - 384)))
+    answer.say(&samples.as_slice());
+    answer.say_last(&sum(&bytes).wrapping_sub(128 * (18_432 - 384)))
 }
 
 /// Answers a row of `picture_recon.rows`: does the call of this name by the words after it.
@@ -189,7 +189,7 @@ pub fn answer(call: &str, asked: &mut Asked<'_>, answer: &mut Answer) -> Result<
         }
         "skipped_sum" => {
             let lent = picture(asked)?;
-            answer.say(&sum(&skipped(&lent)).wrapping_sub(128 * (18_432 - 384)))
+            answer.say_last(&sum(&skipped(&lent)).wrapping_sub(128 * (18_432 - 384)))
         }
         _ => Err(Stop::Row),
     }

@@ -59,8 +59,8 @@ fn lends(alloc: Global) -> Result<(u8, u8), OutOfMemory> {
 /// Answers a row of `picture_store.rows`: does the call of this name by the words after it.
 pub fn answer(alloc: Global, call: &str, answer: &mut Answer) -> Result<(), Stop> {
     match call {
-        "keeps" => answer.say(&keeps(alloc)?),
-        "lends" => answer.say(&lends(alloc)?),
+        "keeps" => answer.say_last(&keeps(alloc)?),
+        "lends" => answer.say_last(&lends(alloc)?),
         _ => Err(Stop::Row),
     }
 }

@@ -11,8 +11,8 @@ use test_fixtures::stop::Stop;
 
 /// A vector by its components, in half samples.
 pub fn vector(asked: &mut Asked<'_>) -> Result<Vector, Stop> {
-    let x = asked.word()?.parse::<i8>()?;
-    let y = asked.word()?.parse::<i8>()?;
+    let x = asked.word().parse::<i8>()?;
+    let y = asked.word().parse::<i8>()?;
     Ok(Vector { x, y })
 }
 
@@ -20,10 +20,10 @@ pub fn vector(asked: &mut Asked<'_>) -> Result<Vector, Stop> {
 pub fn sample(asked: &mut Asked<'_>) -> Result<(Plane, u32, u32), Stop>
     ensures { IfOk result (λ s. Inside SubQcif s.0 s.1 s.2 1) }
 {
-    match asked.word()? {
-        "y" => Ok((Plane::Y, asked.number(127)?, asked.number(95)?)),
-        "cb" => Ok((Plane::Cb, asked.number(63)?, asked.number(47)?)),
-        "cr" => Ok((Plane::Cr, asked.number(63)?, asked.number(47)?)),
+    match asked.word() {
+        "y" => Ok((Plane::Y, asked.number(127), asked.number(95))),
+        "cb" => Ok((Plane::Cb, asked.number(63), asked.number(47))),
+        "cr" => Ok((Plane::Cr, asked.number(63), asked.number(47))),
         _ => Err(Stop::Row),
     }
 }
@@ -36,5 +36,5 @@ pub fn say_sample(
 ) -> Result<(), Stop> {
     let (plane, x, y) = sample(asked)?;
     let picture = PictureRef::new(Format::SubQcif, bytes);
-    answer.say(&picture.sample(plane, x, y))
+    answer.say_last(&picture.sample(plane, x, y))
 }

@@ -43,8 +43,17 @@ fn rewritten(
     Ok(written(intra, block, out))
 }
 
-// Says a block's levels that are not 0, each after its place, and writes it again; or says the first
-// fault.
+// Says a block's levels that are not 0, each after its place.
+fn say_levels(block: &Block, answer: &mut Answer) -> Result<(), Stop> {
+    for (place, level) in block.levels.iter().enumerate() {
+        if *level != 0 {
+            write!(answer.words, " {place}:{level}")?;
+        }
+    }
+    Ok(())
+}
+
+// Reads a block, says its levels and writes it again; or says the first fault.
 fn block(intra: bool, coded: bool, asked: &Asked<'_>, answer: &mut Answer) -> Result<(), Stop> {
     let mut block = Block { levels: [7; 64] };
     let mut out = [0; 256];
@@ -55,15 +64,10 @@ fn block(intra: bool, coded: bool, asked: &Asked<'_>, answer: &mut Answer) -> Re
         &mut block,
         &mut out,
     ) {
-        Err(fault) => answer.say(&fault),
+        Err(fault) => answer.say_last(&fault),
         Ok(len) => {
-            for (place, level) in block.levels.iter().enumerate() {
-                if *level != 0 {
-                    write!(answer.words, " {place}:{level}")?;
-                }
-            }
-            answer.bits.put(&out, len)?;
-            Ok(())
+            say_levels(&block, answer)?;
+            answer.put_last(&out, len)
         }
     }
 }

@@ -29,29 +29,28 @@ use std::{fs, io};
 use test_fixtures::rows::{Answers, Rows};
 use test_fixtures::stop::Stop;
 
-// Runs the rows of a layer's file. Whether all are right.
-fn run_rows(rt: &HostRuntime, layer: Layer) -> Result<bool, Stop> {
-    let file = layer.file();
-    println!(rt; "{file}")?;
+// Runs the rows of a layer's file.
+fn run_rows(rt: &HostRuntime, layer: Layer) -> Result<Rows, Stop> {
     let mut rows = Rows::new(rt.alloc());
-    for name in ["packets.rows", file] {
+    for name in ["packets.rows", layer.file()] {
         let text = fs::read_to_string(rt, name)?;
         rows.take_all(rt.alloc(), &layer, text.as_str())?;
     }
     rows.end_test()?;
-    print!(rt; "{}", rows.said)?;
-    Ok(rows.right)
+    Ok(rows)
 }
 
 fn run_all(rt: &HostRuntime) -> io::Result<bool> {
     let mut right = true;
     for layer in LAYERS {
         match run_rows(rt, layer) {
-            Ok(true) => {}
-            Ok(false) => right = false,
+            Ok(rows) => {
+                right = right && rows.right;
+                print!(rt; "{}\n{}", layer.file(), rows.said)?;
+            }
             Err(stop) => {
                 right = false;
-                println!(rt; "{}", stop.text())?;
+                println!(rt; "{}: {}", layer.file(), stop.text())?;
             }
         }
     }

@@ -68,11 +68,11 @@ fn cut_picture(cutter: &mut Cutter, number: u32, header: &Header) -> Result<(), 
 // Says how many packets there are, how many bytes each has, and their bytes.
 fn say_packets(cutter: &Cutter, answer: &mut Answer) -> Result<(), Stop> {
     let count = cutter.count();
-    answer.say(&count)?;
+    answer.say(&count);
     'packets: for place in 0..count {
         let packet = cutter.packet(place);
-        answer.say(&packet.len())?;
-        answer.bits.put(packet, u32::MAX)?;
+        answer.say(&packet.len());
+        answer.put(packet, u32::MAX);
     }
     Ok(())
 }
@@ -114,6 +114,6 @@ pub fn answer(
     if call != "cut" {
         return Err(Stop::Row);
     }
-    let format = asked.format()?;
+    let format = asked.format();
     cut(alloc, format, asked, answer)
 }

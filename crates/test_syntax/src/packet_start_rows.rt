@@ -7,10 +7,10 @@ use test_fixtures::stop::Stop;
 /// Answers a row of `packet_start.rows`: does the call of this name by the words after it.
 pub fn answer(call: &str, asked: &mut Asked<'_>, answer: &mut Answer) -> Result<(), Stop> {
     match call {
-        "find_start" => answer.say(&find_start(&asked.bytes)),
+        "find_start" => answer.say_last(&find_start(&asked.bytes)),
         "read_start" => {
-            let format = asked.format()?;
-            answer.say(&read_start(&asked.bytes, format))
+            let format = asked.format();
+            answer.say_last(&read_start(&asked.bytes, format))
         }
         "packet" => packet(&asked.bytes, answer),
         _ => Err(Stop::Row),

@@ -133,7 +133,7 @@ fn write_all(
             return Err(Stop::Row);
         }
         let (fits, next) = add_run(writer, quant, &mb, times)?;
-        answer.say(&fits)?;
+        answer.say(&fits);
         added += fits;
         quant = next;
     }
@@ -159,8 +159,8 @@ fn write(
         return Err(Stop::Row);
     }
     let size = writer.finish();
-    answer.say(&size)?;
-    answer.bits.put(&bytes, size.saturating_mul(8))?;
+    answer.say(&size);
+    answer.put(&bytes, size.saturating_mul(8));
     Ok(())
 }
 
@@ -169,7 +169,7 @@ pub fn answer(call: &str, asked: &mut Asked<'_>, answer: &mut Answer) -> Result<
     if call != "write" {
         return Err(Stop::Row);
     }
-    let header = header(asked.word()?)?;
-    let first = asked.number(395)?;
+    let header = header(asked.word())?;
+    let first = asked.number(395);
     write(&header, first, asked, answer)
 }
