@@ -1,18 +1,16 @@
 //! Times the parts of a call on the made video.
-//! `bench FRAMES [SLOTS [RUNS [NOISE [STEP [QUANT]]]]]` codes, reads and plays FRAMES frames in
-//! each format, with SLOTS pictures kept at each end (16 if not told), and prints what a frame took
-//! in each part: the least of RUNS runs (1 if not told). NOISE is the most that a made noise
-//! changes a sample by (0 if not told): without one hardly a block of a predicted picture is
-//! transformed. STEP is how far the video goes on from frame to frame: 1 as it is made (if not
-//! told), 0 a still picture, 3 a pan of 6 columns and 3 rows. QUANT is the quantiser (8 if not
-//! told).
+//! `bench FRAMES [SLOTS [RUNS [NOISE [STEP [QUANT]]]]]` codes and reads FRAMES frames in each format,
+//! where SLOTS pictures are kept (16 if not told), and prints what a frame took in each part: the
+//! least of RUNS runs (1 if not told). NOISE is the most that a made noise changes a sample by (0 if
+//! not told): without one hardly a block of a predicted picture is transformed. STEP is how far the
+//! video goes on from frame to frame: 1 as it is made (if not told), 0 a still picture, 3 a pan of 6
+//! columns and 3 rows. QUANT is the quantiser (8 if not told).
 //!
-//! What is timed, in microseconds a frame: `code`, a picture coded whole ([`coding`]); `send`, the
-//! same by a sender; `read`, its packets read and reconstructed ([`reading`]); `receive`, the same
-//! by a receiver, with the play. So `send` over `code` and `receive` over `read` is what the ends
-//! add. `call` is `send` and `receive` together; `code_intra` and `read_intra` are `code` and
-//! `read` where each picture is coded by itself. Nothing is promised of these numbers. Of the code
-//! it is proved that it is safe.
+//! What is timed, in microseconds a frame: `code`, a picture coded whole ([`coding`]), as a sender
+//! codes whose pictures are all known; `read`, its packets read and reconstructed ([`reading`]);
+//! `code_intra` and `read_intra`, the same where each picture is coded by itself. `library/measure`
+//! times the ends around them. Nothing is promised of these numbers. Of the code it is proved that
+//! it is safe.
 #![tactic(auto)]
 
 ghost use Rattle.std.specs.Prelude.{◌≤◌, IfSome};
@@ -42,7 +40,6 @@ struct Words {
     noise: u8,
     step: u32,
     quant: u8,
-    ghost few: { frames ≤ 100000 },
     ghost least: { noise ≤ 64 },
 }
 

@@ -43,9 +43,7 @@ pub struct Times {
     pub frames: u32,
     pub bytes: u64,
     pub code: u64,
-    pub send: u64,
     pub read: u64,
-    pub receive: u64,
     /// The same as `code` and `read` where each picture is coded by itself.
     pub code_intra: u64,
     pub read_intra: u64,
@@ -59,9 +57,7 @@ impl Times {
             frames: self.frames,
             bytes: self.bytes,
             code: self.code.min(other.code),
-            send: self.send.min(other.send),
             read: self.read.min(other.read),
-            receive: self.receive.min(other.receive),
             code_intra: self.code_intra.min(other.code_intra),
             read_intra: self.read_intra.min(other.read_intra),
         }
@@ -91,13 +87,10 @@ impl Display for Times {
         let frames = self.frames;
         write!(
             f,
-            " bytes {} code {} send {} read {} receive {} call {} code_intra {} read_intra {}",
+            " bytes {} code {} read {} code_intra {} read_intra {}",
             self.bytes / frames as u64,
             micros(self.code, frames),
-            micros(self.send, frames),
             micros(self.read, frames),
-            micros(self.receive, frames),
-            micros(self.send.saturating_add(self.receive), frames),
             micros(self.code_intra, frames),
             micros(self.read_intra, frames),
         )

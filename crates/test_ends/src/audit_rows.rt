@@ -11,15 +11,15 @@ ghost use Rattle.h263_planes.specs.Lent.{picture};
 ghost use Rattle.h263_types.specs.declared.clock.Clock.TheVariants.{Custom};
 ghost use Rattle.back_messages.specs.Text.{IsMessage};
 
-use crate::answer::{Answer, Asked};
-use crate::bytes::{bytes_of, call_of};
-use crate::stop::Stop;
+use crate::bytes::{bytes_of, call_of, say_line};
 use back_messages::{Message, write};
 use h263_planes::PictureRef;
 use h263_types::{Clock, FixedPace, Format, OutOfMemory, Params};
 use sender_end::Sender;
 use std::alloc::Global;
 use stream_audit::{Audit, Rule, Verdict, verdict_text};
+use test_fixtures::answer::{Answer, Asked};
+use test_fixtures::stop::Stop;
 
 // Packets of CIF by a clock: the two of picture 0, which is intra, and that of picture 1, which
 // refers to it.
@@ -282,17 +282,17 @@ impl Source {
 
 // Says the verdict on a log.
 fn judge(alloc: Global, asked: &mut Asked<'_>, answer: &mut Answer) -> Result<(), Stop> {
-    let source = source_by(alloc, asked.clock()?)?;
+    let source = source_by(alloc, asked.clock())?;
     let mut audit = Audit::start(alloc, &params_by(source.own.clock))?;
     'entries: for word in asked.words.by_ref() {
         source.take(alloc, &mut audit, word)?;
     }
-    answer.say(&audit.close())
+    answer.say_last(&audit.close())
 }
 
 // The line of a verdict.
 fn line(asked: &mut Asked<'_>, answer: &mut Answer) -> Result<(), Stop> {
-    let rule = match asked.word()? {
+    let rule = match asked.word() {
         "yes" => None,
         "packet" => Some(Rule::Packet),
         "number" => Some(Rule::Number),
@@ -302,12 +302,12 @@ fn line(asked: &mut Asked<'_>, answer: &mut Answer) -> Result<(), Stop> {
         "reference" => Some(Rule::Reference),
         _ => return Err(Stop::Row),
     };
-    let number = asked.number(16_777_216)?;
+    let number = asked.number(16_777_216);
     let verdict = match rule {
         None => Verdict::Yes { pictures: number },
         Some(rule) => Verdict::No { number, rule },
     };
-    answer.say_line(verdict_text(&verdict).text())
+    say_line(answer, verdict_text(&verdict).text())
 }
 
 /// Answers a row of `audit.rows`: does the call of this name by the words after it.

@@ -1,8 +1,9 @@
 //! Bytes in words: `flat` and `skipped`, the packets of two pictures, or digits as `x80ff`; and after
 //! a colon each the changes, `341=81` of a byte, `cut=11` of the length. Numbers in pairs, as `1,0`.
-use crate::stop::Stop;
 use std::alloc::Global;
+use test_fixtures::answer::Answer;
 use test_fixtures::codec::{FLAT_PACKET, SKIPPED_PACKET};
+use test_fixtures::stop::Stop;
 
 // The bytes of digits.
 fn from_digits(alloc: Global, digits: &str) -> Result<Vec<u8>, Stop> {
@@ -57,4 +58,17 @@ pub fn pair_of(word: &str) -> Result<(u32, u32), Stop> {
 /// A word's call, and what it is asked.
 pub fn call_of(word: &str) -> (&str, &str) {
     word.split_once(':').unwrap_or((word, ""))
+}
+
+/// Says a line, in which `_` is a blank and `$` its end.
+pub fn say_line(answer: &mut Answer, line: &[u8]) -> Result<(), Stop> {
+    answer.words.push_str(" ")?;
+    for byte in line {
+        match byte {
+            b' ' => answer.words.push_str("_")?,
+            b'\n' => answer.words.push_str("$")?,
+            _ => answer.words.push(char::from(*byte))?,
+        }
+    }
+    Ok(())
 }

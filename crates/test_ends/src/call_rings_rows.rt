@@ -1,10 +1,10 @@
 //! Rings that wrap.
-use crate::answer::Answer;
-use crate::stop::Stop;
 use back_messages::Said;
 use call_rings::{MessageRing, SentPackets, laws};
 use h263_types::OutOfMemory;
 use std::alloc::Global;
+use test_fixtures::answer::Answer;
+use test_fixtures::stop::Stop;
 
 // Two of three pictures are kept. The second has no packet, and the first had more than the third.
 fn three_pictures(alloc: Global) -> Result<[bool; 5], OutOfMemory> {
@@ -45,8 +45,8 @@ fn many_messages(alloc: Global) -> Result<[bool; 5], OutOfMemory> {
 /// Answers a row of `call_rings.rows`: does the call of this name by the words after it.
 pub fn answer(alloc: Global, call: &str, answer: &mut Answer) -> Result<(), Stop> {
     match call {
-        "three_pictures" => answer.say(&three_pictures(alloc)?.as_slice()),
-        "many_messages" => answer.say(&many_messages(alloc)?.as_slice()),
+        "three_pictures" => answer.say_last(&three_pictures(alloc)?.as_slice()),
+        "many_messages" => answer.say_last(&many_messages(alloc)?.as_slice()),
         _ => Err(Stop::Row),
     }
 }

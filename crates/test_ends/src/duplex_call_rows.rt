@@ -1,10 +1,10 @@
 //! Lines with a party's letter, the messages that wait for a header, and the counts of two parties.
-use crate::answer::{Answer, Asked};
 use crate::bytes::call_of;
-use crate::stop::Stop;
 use back_messages::Message;
 use duplex_call::{Carried, Carrier, Counts, Party, party_line};
 use std::alloc::Global;
+use test_fixtures::answer::{Answer, Asked};
+use test_fixtures::stop::Stop;
 
 // A line, in which `_` is a blank and `^` a tab; `$` is nothing.
 fn line(alloc: Global, word: &str, answer: &mut Answer) -> Result<(), Stop> {
@@ -17,7 +17,7 @@ fn line(alloc: Global, word: &str, answer: &mut Answer) -> Result<(), Stop> {
             _ => text.push(byte)?,
         }
     }
-    answer.say(&party_line(text.as_slice()))
+    answer.say_last(&party_line(text.as_slice()))
 }
 
 // Says acknowledgements to a carrier, and what each load has.
@@ -25,7 +25,7 @@ fn carrier(asked: &mut Asked<'_>, answer: &mut Answer) -> Result<(), Stop> {
     let mut queue = Carrier::new();
     for word in asked.words.by_ref() {
         if word == "load" {
-            answer.say(&queue.load().as_slice())?;
+            answer.say(&queue.load().as_slice());
         } else {
             let number = word.parse::<u16>()?;
             let message = Message::Ack {
@@ -58,7 +58,7 @@ fn count(counts: &mut Counts, party: Party, word: &str, answer: &mut Answer) -> 
             if counts.sent(party) >= 1000 {
                 return Err(Stop::Row);
             }
-            answer.say(&counts.send(party))
+            answer.say_last(&counts.send(party))
         }
         "play" => {
             if counts.played(party) >= counts.sent(party) {
@@ -67,27 +67,27 @@ fn count(counts: &mut Counts, party: Party, word: &str, answer: &mut Answer) -> 
             counts.play(party);
             Ok(())
         }
-        "counts" => answer.say(&(counts.sent(party), counts.played(party))),
+        "counts" => answer.say_last(&(counts.sent(party), counts.played(party))),
         "heard" => {
             let number = rest.parse::<u32>()?;
             if number >= counts.sent(party) {
                 return Err(Stop::Row);
             }
-            answer.say(&counts.heard(party, number))
+            answer.say_last(&counts.heard(party, number))
         }
         "packet" => {
             let number = rest.parse::<u32>()?;
             if number >= counts.sent(party) {
                 return Err(Stop::Row);
             }
-            answer.say(&counts.packet(party, number))
+            answer.say_last(&counts.packet(party, number))
         }
         _ => Err(Stop::Row),
     }
 }
 
 fn count_all(asked: &mut Asked<'_>, answer: &mut Answer) -> Result<(), Stop> {
-    let mut counts = Counts::new(asked.clock()?);
+    let mut counts = Counts::new(asked.clock());
     for word in asked.words.by_ref() {
         let (party, step) = call_of(word);
         count(&mut counts, party_of(party)?, step, answer)?;
@@ -103,7 +103,7 @@ pub fn answer(
     answer: &mut Answer,
 ) -> Result<(), Stop> {
     match call {
-        "line" => line(alloc, asked.word()?, answer),
+        "line" => line(alloc, asked.word(), answer),
         "carrier" => carrier(asked, answer),
         "counts" => count_all(asked, answer),
         _ => Err(Stop::Row),

@@ -12,10 +12,8 @@ ghost use Rattle.back_messages.specs.Text.{IsMessage};
 ghost use Rattle.duplex_ends.specs.declared.party.PartyEnds.{PartyEnds};
 ghost use Rattle.duplex_ends.specs.Pair.{AreInCall};
 
-use crate::answer::{Answer, Asked};
 use crate::bytes::{call_of, pair_of};
 use crate::duplex_call_rows::party_of;
-use crate::stop::Stop;
 use back_messages::{Message, read};
 use duplex_call::Party;
 use duplex_ends::{
@@ -25,6 +23,8 @@ use h263_planes::PictureRef;
 use h263_types::{FixedPace, Format, Mark, OutOfMemory, Params};
 use sender_end::Sender;
 use std::alloc::Global;
+use test_fixtures::answer::{Answer, Asked};
+use test_fixtures::stop::Stop;
 
 fn send(alloc: Global, own: &mut PartyEnds, far: &PartyEnds, value: u8) -> Result<(), Stop>
     requires { AreInCall own.old far.now }
@@ -110,7 +110,7 @@ fn take(
         "send" => send(alloc, own, far, rest.parse::<u8>()?),
         "lose" => {
             let held = lose(alloc, own, far, rest.parse::<u32>()?)?;
-            answer.say(&held)
+            answer.say_last(&held)
         }
         "all" => bring_all(own, far, rest.parse::<u32>()?),
         "packet" => {
@@ -119,11 +119,11 @@ fn take(
         }
         "play" => {
             let mark = play_next(own, far)?;
-            answer.say(&mark)
+            answer.say_last(&mark)
         }
-        "check" => answer.say(&check_delivery(own, far, rest.parse::<u32>()?)),
-        "carries" => answer.say(&own.carried.get(rest.parse::<u32>()?).as_slice()),
-        "refers" => answer.say(&own.way.reference_of(rest.parse::<u32>()?)),
+        "check" => answer.say_last(&check_delivery(own, far, rest.parse::<u32>()?)),
+        "carries" => answer.say_last(&own.carried.get(rest.parse::<u32>()?).as_slice()),
+        "refers" => answer.say_last(&own.way.reference_of(rest.parse::<u32>()?)),
         _ => Err(Stop::Row),
     }
 }
@@ -204,12 +204,12 @@ fn say_first(
     let format = Format::SubQcif;
     let frame = vec![in alloc; 100; format.size() as usize]?;
     let coded = sender.code(PictureRef::new(format, frame.as_slice()), &[message]);
-    answer.say(&coded.packets)?;
+    answer.say(&coded.packets);
     if coded.packets != 1 {
         return Ok(());
     }
     let packet = sender.packet(0);
-    answer.say(&packet.len())?;
+    answer.say(&packet.len());
     answer.say_bytes(packet.get(14..28).unwrap_or(&[]))
 }
 

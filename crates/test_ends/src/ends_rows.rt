@@ -12,9 +12,7 @@
 ghost use Rattle.std.specs.Prelude.{◌≡◌, IfOk, length};
 ghost use Rattle.h263_types.specs.Params.{IsParams};
 
-use crate::answer::{Answer, Asked};
 use crate::bytes::{bytes_of, call_of, pair_of};
-use crate::stop::Stop;
 use back_messages::Said;
 use h263_planes::PictureRef;
 use h263_types::{Clock, FixedPace, Format, Mark, OutOfMemory, Params};
@@ -22,6 +20,8 @@ use receiver_end::{Heard, Receiver};
 use sender_end::{Feedback, Sender};
 use std::alloc::Global;
 use std::fmt::Write;
+use test_fixtures::answer::{Answer, Asked};
+use test_fixtures::stop::Stop;
 
 // A window of two pictures.
 const NARROW: Params = Params {
@@ -177,7 +177,7 @@ impl Ends {
                 write!(answer.words, " Completed")?;
                 self.keep(said, answer)
             }
-            other => answer.say(&other),
+            other => answer.say_last(&other),
         }
     }
 
@@ -190,7 +190,7 @@ impl Ends {
             return Err(Stop::Row);
         }
         let played = self.receiver.play();
-        answer.say(&(played.number, played.mark, played.reference))?;
+        answer.say(&(played.number, played.mark, played.reference));
         if let Some(said) = played.message {
             self.keep(said, answer)?;
         }
@@ -231,7 +231,7 @@ impl Ends {
                 held = held.saturating_add(1);
             }
         }
-        answer.say(&held)
+        answer.say_last(&held)
     }
 
     // Whether the next picture refers to the one before it, is exact, and its message is noted.
@@ -268,7 +268,7 @@ impl Ends {
                 right = right.saturating_add(1);
             }
         }
-        answer.say(&right)
+        answer.say_last(&right)
     }
 
     fn restart(&mut self)
@@ -287,7 +287,7 @@ impl Ends {
         match call {
             "capture" => {
                 let reference = self.capture(alloc, rest.parse::<u8>()?)?;
-                answer.say(&reference)
+                answer.say_last(&reference)
             }
             "deliver" => {
                 let heard = self.deliver(rest.parse::<usize>()?)?;
@@ -304,19 +304,19 @@ impl Ends {
             }
             "back" => {
                 let feedback = self.back(rest.parse::<usize>()?)?;
-                answer.say(&feedback)
+                answer.say_last(&feedback)
             }
             "feedback" => {
                 let bytes = bytes_of(alloc, rest)?;
                 let feedback = self.sender.feedback(bytes.as_slice());
-                answer.say(&feedback)
+                answer.say_last(&feedback)
             }
-            "shown" => answer.say(&self.receiver.shown().bytes().get(rest.parse::<usize>()?)),
+            "shown" => answer.say_last(&self.receiver.shown().bytes().get(rest.parse::<usize>()?)),
             "same" => {
                 let (packet, other) = pair_of(rest)?;
-                answer.say(&self.same(packet, other))
+                answer.say_last(&self.same(packet, other))
             }
-            "counts" => answer.say(&(self.sender.sent(), self.receiver.played())),
+            "counts" => answer.say_last(&(self.sender.sent(), self.receiver.played())),
             "restart" => {
                 self.restart();
                 Ok(())

@@ -1,11 +1,12 @@
 //! The files of rows, and the calls of which they speak.
-use crate::answer::{Answer, Asked};
-use crate::stop::Stop;
 use crate::{
     audit_rows, call_rings_rows, duplex_call_rows, duplex_ends_rows, ends_rows, make_input_rows,
     rate_control_rows, reference_selector_rows, sender_end_rows,
 };
 use std::alloc::Global;
+use test_fixtures::answer::{Answer, Asked};
+use test_fixtures::rows::Answers;
+use test_fixtures::stop::Stop;
 
 /// A layer, and its file of rows.
 #[derive(Clone, Copy)]
@@ -36,9 +37,8 @@ pub const LAYERS: [Layer; 10] = [
     Layer::Audit,
 ];
 
-impl Layer {
-    /// The name of the file.
-    pub fn file(self) -> &'static str {
+impl Answers for Layer {
+    fn file(&self) -> &'static str {
         match self {
             Layer::RateControl => "rate_control.rows",
             Layer::ReferenceSelector => "reference_selector.rows",
@@ -53,14 +53,13 @@ impl Layer {
         }
     }
 
-    /// Answers what is asked.
-    pub fn answer(
-        self,
+    fn answer(
+        &self,
         alloc: Global,
+        call: &str,
         asked: &mut Asked<'_>,
         answer: &mut Answer,
     ) -> Result<(), Stop> {
-        let call = asked.word()?;
         match self {
             Layer::RateControl => rate_control_rows::answer(call, asked, answer),
             Layer::ReferenceSelector => reference_selector_rows::answer(call, asked, answer),

@@ -5,7 +5,6 @@
 //! and the program ends with status 1.
 #![tactic(auto)]
 
-mod answer;
 mod audit_rows;
 mod bytes;
 mod call_rings_rows;
@@ -16,24 +15,34 @@ mod layers;
 mod make_input_rows;
 mod rate_control_rows;
 mod reference_selector_rows;
-mod rows;
 mod sender_end_rows;
-mod stop;
 
-use layers::LAYERS;
-use rows::run_rows;
-use std::io;
+use layers::{LAYERS, Layer};
 use std::process::ExitCode;
+use std::{fs, io};
+use test_fixtures::rows::{Answers, Rows};
+use test_fixtures::stop::Stop;
+
+// Runs the rows of a layer's file.
+fn run_rows(rt: &HostRuntime, layer: Layer) -> Result<Rows, Stop> {
+    let mut rows = Rows::new(rt.alloc());
+    let text = fs::read_to_string(rt, layer.file())?;
+    rows.take_all(rt.alloc(), &layer, text.as_str())?;
+    rows.end_test()?;
+    Ok(rows)
+}
 
 fn run_all(rt: &HostRuntime) -> io::Result<bool> {
     let mut right = true;
     for layer in LAYERS {
         match run_rows(rt, layer) {
-            Ok(true) => {}
-            Ok(false) => right = false,
+            Ok(rows) => {
+                right = right && rows.right;
+                print!(rt; "{}\n{}", layer.file(), rows.said)?;
+            }
             Err(stop) => {
                 right = false;
-                println!(rt; "{}", stop.text())?;
+                println!(rt; "{}: {}", layer.file(), stop.text())?;
             }
         }
     }

@@ -1,11 +1,11 @@
 //! The quantisers, levels and lines of known sizes.
 ghost use Rattle.std.specs.Prelude.{◌≤◌};
 
-use crate::answer::{Answer, Asked};
-use crate::bytes::pair_of;
-use crate::stop::Stop;
+use crate::bytes::{pair_of, say_line};
 use h263_types::Pace;
 use rate_control::{BucketPace, Meter, Totals, picture_text, totals_text};
+use test_fixtures::answer::{Answer, Asked};
+use test_fixtures::stop::Stop;
 
 // The most bytes of a packet here.
 const MAX_BYTES: usize = 400;
@@ -16,9 +16,9 @@ fn quant(count: usize, asked: &mut Asked<'_>, answer: &mut Answer) -> Result<(),
 {
     let mut sizes = [0; 16];
     for k in 0..count {
-        sizes[k] = asked.number(u32::MAX)?;
+        sizes[k] = asked.number(u32::MAX);
     }
-    answer.say(&BucketPace::new(342, 8).quant(&sizes[..count]))
+    answer.say_last(&BucketPace::new(342, 8).quant(&sizes[..count]))
 }
 
 // A packet of the time with room after its header.
@@ -34,49 +34,49 @@ fn pictures(count: u32, asked: &mut Asked<'_>, answer: &mut Answer) -> Result<()
 {
     let mut meter = Meter::new(100, 200);
     'packets: for _packet in 0..count {
-        let (timestamp, len) = pair_of(asked.word()?)?;
+        let (timestamp, len) = pair_of(asked.word())?;
         let bytes = packet_at(timestamp);
-        answer.say(&meter.packet(&bytes[..(len as usize).min(MAX_BYTES)]))?;
+        answer.say(&meter.packet(&bytes[..(len as usize).min(MAX_BYTES)]));
     }
-    answer.say(&meter.close())
+    answer.say_last(&meter.close())
 }
 
 // The totals of a log without a picture, and their line.
 fn no_picture(answer: &mut Answer) -> Result<(), Stop> {
     let totals = Meter::new(999_999, 0).close();
-    answer.say(&totals)?;
-    answer.say_line(totals_text(&totals).text())
+    answer.say(&totals);
+    say_line(answer, totals_text(&totals).text())
 }
 
 // The line of a picture, and that of totals whose last picture doesn't count for it.
 fn totals(asked: &mut Asked<'_>, answer: &mut Answer) -> Result<(), Stop> {
     let totals = Totals {
         last: Some((1, 31, 173)),
-        pictures: asked.number(u32::MAX)?,
-        greatest: asked.word()?.parse::<u64>()?,
-        over: asked.number(u32::MAX)?,
-        refused: asked.number(u32::MAX)?,
+        pictures: asked.number(u32::MAX),
+        greatest: asked.word().parse::<u64>()?,
+        over: asked.number(u32::MAX),
+        refused: asked.number(u32::MAX),
     };
-    answer.say_line(totals_text(&totals).text())
+    say_line(answer, totals_text(&totals).text())
 }
 
 /// Answers a row of `rate_control.rows`: does the call of this name by the words after it.
 pub fn answer(call: &str, asked: &mut Asked<'_>, answer: &mut Answer) -> Result<(), Stop> {
     match call {
         "quant" => {
-            let count = asked.number(16)?;
+            let count = asked.number(16);
             quant(count as usize, asked, answer)
         }
         "pictures" => {
-            let count = asked.number(16)?;
+            let count = asked.number(16);
             pictures(count, asked, answer)
         }
         "no_picture" => no_picture(answer),
         "picture_line" => {
-            let number = asked.number(u32::MAX)?;
-            let size = asked.word()?.parse::<u64>()?;
-            let level = asked.word()?.parse::<u64>()?;
-            answer.say_line(picture_text(number, size, level).text())
+            let number = asked.number(u32::MAX);
+            let size = asked.word().parse::<u64>()?;
+            let level = asked.word().parse::<u64>()?;
+            say_line(answer, picture_text(number, size, level).text())
         }
         "totals_line" => totals(asked, answer),
         _ => Err(Stop::Row),

@@ -5,12 +5,12 @@
 ghost use Rattle.std.specs.Prelude.{IfOk};
 ghost use Rattle.h263_types.specs.Params.{IsParams};
 
-use crate::answer::{Answer, Asked};
 use crate::bytes::{call_of, pair_of};
-use crate::stop::Stop;
 use back_messages::Message;
 use h263_types::{Clock, Format, Params};
 use reference_selector::{Selector, nearest_below};
+use test_fixtures::answer::{Answer, Asked};
+use test_fixtures::stop::Stop;
 
 // Slots 4 and lead 1, a window of two pictures; or the default, by both clocks.
 fn params_of(name: &str) -> Result<Params, Stop>
@@ -57,7 +57,7 @@ fn note(selector: &mut Selector, call: &str, rest: &str, answer: &mut Answer) ->
     if sent >= 1000 {
         return Err(Stop::Row);
     }
-    answer.say(&selector.note(&message, sent))
+    answer.say_last(&selector.note(&message, sent))
 }
 
 fn step(
@@ -73,15 +73,15 @@ fn step(
             selector.coded(number, depth.min(255) as u8);
             Ok(())
         }
-        "choose" => answer.say(&selector.choose(rest.parse::<u32>()?)),
-        "knows" => answer.say(&selector.knows(rest.parse::<u32>()?)),
-        "depth" => answer.say(&selector.depth(rest.parse::<u32>()?)),
+        "choose" => answer.say_last(&selector.choose(rest.parse::<u32>()?)),
+        "knows" => answer.say_last(&selector.knows(rest.parse::<u32>()?)),
+        "depth" => answer.say_last(&selector.depth(rest.parse::<u32>()?)),
         "nearest" => {
             let (tr, sent) = pair_of(rest)?;
             if sent >= 1000 {
                 return Err(Stop::Row);
             }
-            answer.say(&nearest_below(sent, tr.min(1023) as u16, clock))
+            answer.say_last(&nearest_below(sent, tr.min(1023) as u16, clock))
         }
         _ => note(selector, call, rest, answer),
     }

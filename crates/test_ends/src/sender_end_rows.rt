@@ -1,22 +1,22 @@
 //! Senders with a pace, and scripts as of both ends.
 ghost use Rattle.std.specs.Prelude.{◌≡◌, length};
 
-use crate::answer::{Answer, Asked};
 use crate::ends_rows;
-use crate::stop::Stop;
 use h263_planes::{PictureRef, Plane};
 use h263_types::{FixedPace, Format, Pace, Params};
 use rate_control::BucketPace;
 use sender_end::Sender;
 use std::alloc::Global;
+use test_fixtures::answer::{Answer, Asked};
 use test_fixtures::codec::SIZE;
+use test_fixtures::stop::Stop;
 
 // Says the packet of the picture that was coded last, if it has one alone.
 fn say_only<P: Pace>(sender: &Sender<P>, count: u32, answer: &mut Answer) -> Result<(), Stop>
     requires { count ≡ length sender.now.packets }
 {
     if count != 1 {
-        return answer.say(&count);
+        return answer.say_last(&count);
     }
     answer.say_bytes(sender.packet(0))
 }
@@ -36,7 +36,7 @@ fn two_flat<P: Pace>(alloc: Global, pace: P, answer: &mut Answer) -> Result<(), 
     let sample = sender.recon().sample(Plane::Y, 127, 95);
     sender.finish();
     said?;
-    answer.say(&(before, sample))
+    answer.say_last(&(before, sample))
 }
 
 /// Answers a row of `sender_end.rows`: does the call of this name by the words after it.

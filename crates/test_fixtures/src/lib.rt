@@ -1,4 +1,9 @@
-//! What tests of several crates of the codec share. Nothing of it is shipped.
+//! What tests of several crates of the codec share: pictures and packets ([`codec`]), and the rows of
+//! data by which they are run ([`rows`]). Nothing of it is shipped.
 #![tactic(auto)]
 
+pub mod answer;
+pub mod bits;
 pub mod codec;
+pub mod rows;
+pub mod stop;

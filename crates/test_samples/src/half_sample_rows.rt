@@ -3,13 +3,14 @@ ghost use Rattle.std.specs.Prelude.{◌<◌, ◌≤◌};
 ghost use Rattle.h263_types.specs.Vectors.{InReach};
 ghost use Rattle.h263_types.specs.declared.format.Format.TheVariants.{SubQcif};
 
-use crate::answer::{Answer, Asked};
 use crate::pictures::picture;
-use crate::stop::Stop;
+use crate::samples::vector;
 use h263_planes::{PictureRef, Plane};
 use h263_types::{Format, Vector};
 use half_sample::{chroma, luma};
+use test_fixtures::answer::{Answer, Asked};
 use test_fixtures::codec::{SIZE, is_in_reach};
+use test_fixtures::stop::Stop;
 
 fn y_samples(bytes: &[u8; SIZE], mb: u32, vector: Vector, rounding: u8) -> [u8; 256]
     requires mb { mb < 48 }
@@ -40,9 +41,9 @@ fn colour_samples(bytes: &[u8; SIZE], cr: bool, mb: u32, vector: Vector, roundin
 /// Answers a row of `half_sample.rows`: does the call of this name by the words after it.
 pub fn answer(call: &str, asked: &mut Asked<'_>, answer: &mut Answer) -> Result<(), Stop> {
     let bytes = picture(asked)?;
-    let mb = asked.number(47)?;
-    let vector = asked.vector()?;
-    let rounding = asked.number(1)? as u8;
+    let mb = asked.number(47);
+    let vector = vector(asked)?;
+    let rounding = asked.number(1) as u8;
     if !is_in_reach(Format::SubQcif, mb, vector) {
         return Err(Stop::Row);
     }

@@ -3,9 +3,9 @@ ghost use Rattle.std.specs.Prelude.{◌<◌, All};
 ghost use Rattle.h263_types.specs.Blocks.{IsValue};
 ghost use Rattle.idct8.specs.Ranges.{IsSample};
 
-use crate::answer::{Answer, Asked};
-use crate::stop::Stop;
 use idct8::{are_below, forward, inverse, narrow_inverse};
+use test_fixtures::answer::{Answer, Asked};
+use test_fixtures::stop::Stop;
 
 // The number at place `at` of block `kind`: extremes, a ramp, and then a single number at each
 // place.
@@ -71,11 +71,11 @@ fn transforms(kind: usize) -> (u32, u32, u32) {
 
 /// Answers a row of `idct8.rows`: does the call of this name by the words after it.
 pub fn answer(call: &str, asked: &mut Asked<'_>, answer: &mut Answer) -> Result<(), Stop> {
-    let kind = asked.place(69)?;
+    let kind = asked.place(69);
     match call {
-        "transforms" => answer.say(&transforms(kind)),
-        "inverse" => answer.say(&inverse(&values_of(kind)).as_slice()),
-        "are_below" => answer.say(&are_below(&samples_of(kind), asked.number(77)?)),
+        "transforms" => answer.say_last(&transforms(kind)),
+        "inverse" => answer.say_last(&inverse(&values_of(kind)).as_slice()),
+        "are_below" => answer.say_last(&are_below(&samples_of(kind), asked.number(77))),
         _ => Err(Stop::Row),
     }
 }

@@ -1,11 +1,12 @@
 //! The files of rows, and the calls of which they speak.
-use crate::answer::{Answer, Asked};
-use crate::stop::Stop;
 use crate::{
     h263_planes_rows, half_sample_rows, idct8_rows, mode_choice_rows, motion_search_rows,
     picture_coder_rows, picture_recon_rows, picture_store_rows, quantiser_rows, sad_kernel_rows,
 };
 use std::alloc::Global;
+use test_fixtures::answer::{Answer, Asked};
+use test_fixtures::rows::Answers;
+use test_fixtures::stop::Stop;
 
 /// A layer, and its file of rows.
 #[derive(Clone, Copy)]
@@ -36,9 +37,8 @@ pub const LAYERS: [Layer; 10] = [
     Layer::PictureCoder,
 ];
 
-impl Layer {
-    /// The name of the file.
-    pub fn file(self) -> &'static str {
+impl Answers for Layer {
+    fn file(&self) -> &'static str {
         match self {
             Layer::H263Planes => "h263_planes.rows",
             Layer::PictureStore => "picture_store.rows",
@@ -53,14 +53,13 @@ impl Layer {
         }
     }
 
-    /// Answers what is asked.
-    pub fn answer(
-        self,
+    fn answer(
+        &self,
         alloc: Global,
+        call: &str,
         asked: &mut Asked<'_>,
         answer: &mut Answer,
     ) -> Result<(), Stop> {
-        let call = asked.word()?;
         match self {
             Layer::H263Planes => h263_planes_rows::answer(call, asked, answer),
             Layer::PictureStore => picture_store_rows::answer(alloc, call, answer),

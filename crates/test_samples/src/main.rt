@@ -5,7 +5,6 @@
 //! and the program ends with status 1.
 #![tactic(auto)]
 
-mod answer;
 mod h263_planes_rows;
 mod half_sample_rows;
 mod idct8_rows;
@@ -18,24 +17,35 @@ mod picture_recon_rows;
 mod picture_store_rows;
 mod pictures;
 mod quantiser_rows;
-mod rows;
 mod sad_kernel_rows;
-mod stop;
+mod samples;
 
-use layers::LAYERS;
-use rows::run_rows;
-use std::io;
+use layers::{LAYERS, Layer};
 use std::process::ExitCode;
+use std::{fs, io};
+use test_fixtures::rows::{Answers, Rows};
+use test_fixtures::stop::Stop;
+
+// Runs the rows of a layer's file.
+fn run_rows(rt: &HostRuntime, layer: Layer) -> Result<Rows, Stop> {
+    let mut rows = Rows::new(rt.alloc());
+    let text = fs::read_to_string(rt, layer.file())?;
+    rows.take_all(rt.alloc(), &layer, text.as_str())?;
+    rows.end_test()?;
+    Ok(rows)
+}
 
 fn run_all(rt: &HostRuntime) -> io::Result<bool> {
     let mut right = true;
     for layer in LAYERS {
         match run_rows(rt, layer) {
-            Ok(true) => {}
-            Ok(false) => right = false,
+            Ok(rows) => {
+                right = right && rows.right;
+                print!(rt; "{}\n{}", layer.file(), rows.said)?;
+            }
             Err(stop) => {
                 right = false;
-                println!(rt; "{}", stop.text())?;
+                println!(rt; "{}: {}", layer.file(), stop.text())?;
             }
         }
     }

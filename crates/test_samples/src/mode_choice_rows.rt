@@ -1,16 +1,16 @@
 //! What is chosen for a macroblock.
 ghost use Rattle.std.specs.Prelude.{◌<◌, ◌≤◌};
 
-use crate::answer::{Answer, Asked};
 use crate::idct8_rows::digest_with;
 use crate::pictures::picture;
-use crate::stop::Stop;
 use h263_planes::PictureRef;
 use h263_types::{Block, Format, Kind, Mb, Params};
 use mode_choice::{Chosen, choose, choose_into};
 use picture_header::Header;
 use std::fmt::Write;
+use test_fixtures::answer::{Answer, Asked};
 use test_fixtures::codec::{INTRA, PARAMS, SIZE};
+use test_fixtures::stop::Stop;
 
 // A number that tells of each level of a macroblock.
 fn digest(blocks: &[Block; 6]) -> u32 {
@@ -73,7 +73,7 @@ fn chosen_intra(frame: &[u8; SIZE], mb: u32, keep: u8) -> Mb
 // Says the quantiser of an intra macroblock, and each level that is not 0 by its block and its place.
 fn say_intra(mb: &Mb, answer: &mut Answer) -> Result<(), Stop> {
     if let Mb::Intra { quant, blocks } = mb {
-        answer.say(quant)?;
+        answer.say(quant);
         for (at, block) in blocks.iter().enumerate() {
             for (place, level) in block.levels.iter().enumerate() {
                 if *level != 0 {
@@ -90,15 +90,15 @@ pub fn answer(call: &str, asked: &mut Asked<'_>, answer: &mut Answer) -> Result<
     let frame = picture(asked)?;
     match call {
         "in_i" => {
-            let mb = asked.number(47)?;
-            let keep = asked.number(64)? as u8;
+            let mb = asked.number(47);
+            let keep = asked.number(64) as u8;
             say_intra(&chosen_intra(&frame, mb, keep), answer)
         }
         "in_p" => {
             let reference = picture(asked)?;
-            let mb = asked.number(47)?;
-            let keep = asked.number(64)? as u8;
-            let rounding = asked.number(1)? as u8;
+            let mb = asked.number(47);
+            let keep = asked.number(64) as u8;
+            let rounding = asked.number(1) as u8;
             say_inter(&chosen(&frame, &reference, mb, keep, rounding), answer)
         }
         _ => Err(Stop::Row),

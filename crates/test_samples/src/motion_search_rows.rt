@@ -1,13 +1,13 @@
 //! The vector and the cost that a search finds.
 ghost use Rattle.std.specs.Prelude.{◌<◌, ◌≤◌};
 
-use crate::answer::{Answer, Asked};
 use crate::pictures::picture;
-use crate::stop::Stop;
 use h263_planes::PictureRef;
 use h263_types::{Format, Vector};
 use motion_search::{KeptSums, search, search_from};
+use test_fixtures::answer::{Answer, Asked};
 use test_fixtures::codec::SIZE;
+use test_fixtures::stop::Stop;
 
 // The search in pictures of these bytes, by itself and from a guess that is far off: each vector and
 // its cost.
@@ -39,13 +39,13 @@ pub fn answer(call: &str, asked: &mut Asked<'_>, answer: &mut Answer) -> Result<
     }
     let frame = picture(asked)?;
     let reference = picture(asked)?;
-    let mb = asked.number(47)?;
-    let radius = asked.number(15)? as u8;
-    let rounding = asked.number(1)? as u8;
+    let mb = asked.number(47);
+    let radius = asked.number(15) as u8;
+    let rounding = asked.number(1) as u8;
     let [one, again] = found(&frame, &reference, mb, radius, rounding);
-    answer.say(&one)?;
+    answer.say(&one);
     if again != one {
-        answer.say(&again)?;
+        answer.say(&again);
     }
     Ok(())
 }

@@ -8,9 +8,7 @@ ghost use Rattle.h263_planes.specs.References.{HasReferenceOnlyInP};
 ghost use Rattle.picture_header.specs.Ranges.{IsHeader};
 ghost use Rattle.packet_cutter.specs.Cutting.{format_of, limit_of};
 
-use crate::answer::{Answer, Asked};
 use crate::pictures::picture as next_picture;
-use crate::stop::Stop;
 use h263_planes::{PictureMut, PictureRef};
 use h263_types::Params;
 use packet_cutter::Cutter;
@@ -18,7 +16,9 @@ use picture_coder::code_picture;
 use picture_header::Header;
 use std::alloc::Global;
 use std::fmt::Write;
+use test_fixtures::answer::{Answer, Asked};
 use test_fixtures::codec::{INTER, INTRA, PARAMS, SIZE};
+use test_fixtures::stop::Stop;
 
 // Picture 2, which refers to picture 1.
 const THIRD: Header = Header {
@@ -71,20 +71,20 @@ fn say_coded(
     bytes: bool,
     answer: &mut Answer,
 ) -> Result<(), Stop> {
-    answer.say(&cutter.count())?;
+    answer.say(&cutter.count());
     for i in 0..cutter.count() {
         let packet = cutter.packet(i);
         if bytes {
             say_bytes(packet, answer)?;
         } else {
-            answer.say(&(packet.len(), sums(packet)))?;
+            answer.say(&(packet.len(), sums(packet)));
         }
     }
     if bytes && *shown == [shown[0]; SIZE] {
         write!(answer.words, " flat {}", shown[0])?;
         return Ok(());
     }
-    answer.say(&sums(shown))
+    answer.say_last(&sums(shown))
 }
 
 // Codes a picture.
@@ -126,7 +126,7 @@ fn coded(
     requires format { params.now.format ≡ SubQcif }
 {
     let quant = params.quant;
-    let third = asked.number(3)? == 3;
+    let third = asked.number(3) == 3;
     let mut cutter = Cutter::start(alloc, params)?;
     let [mut first, mut second, mut last] = [[0; SIZE]; 3];
     let header = Header { quant, ..INTRA };

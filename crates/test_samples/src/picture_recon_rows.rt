@@ -4,14 +4,15 @@ ghost use Rattle.h263_types.specs.Blocks.{IsInterBlock, IsLevel, IsMb, IsOfKind}
 ghost use Rattle.h263_types.specs.Vectors.{InReach};
 ghost use Rattle.h263_types.specs.References.{ReachesInside};
 
-use crate::answer::{Answer, Asked};
 use crate::pictures::picture;
-use crate::stop::Stop;
+use crate::samples::{say_sample, vector};
 use h263_planes::{PictureMut, PictureRef, Plane};
 use h263_types::{Block, Format, Kind, Mb, SliceHead, Vector};
 use picture_header::Header;
 use picture_recon::{recon_mb, recon_slice};
+use test_fixtures::answer::{Answer, Asked};
 use test_fixtures::codec::{INTRA, SIZE, intra_block, is_in_reach};
+use test_fixtures::stop::Stop;
 
 // The header of an I picture.
 const HEADER: Header = Header { quant: 31, ..INTRA };
@@ -157,8 +158,8 @@ fn skipped(lent: &[u8; SIZE]) -> [u8; SIZE] {
 // the macroblock, which are 128.
 fn say_predicted(asked: &mut Asked<'_>, answer: &mut Answer) -> Result<(), Stop> {
     let lent = picture(asked)?;
-    let vector = asked.vector()?;
-    let rounding = asked.number(1)? as u8;
+    let vector = vector(asked)?;
+    let rounding = asked.number(1) as u8;
     if !is_in_reach(Format::SubQcif, 9, vector) {
         return Err(Stop::Row);
     }
@@ -172,23 +173,23 @@ fn say_predicted(asked: &mut Asked<'_>, answer: &mut Answer) -> Result<(), Stop>
         }
         samples[k] = seen.sample(plane, x, y);
     }
-    answer.say(&samples.as_slice())?;
-    answer.say(&sum(&bytes).wrapping_sub(128 * (18_432 - 384)))
+    answer.say(&samples.as_slice());
+    answer.say_last(&sum(&bytes).wrapping_sub(128 * (18_432 - 384)))
 }
 
 /// Answers a row of `picture_recon.rows`: does the call of this name by the words after it.
 pub fn answer(call: &str, asked: &mut Asked<'_>, answer: &mut Answer) -> Result<(), Stop> {
     match call {
-        "intra" => answer.say_sample(&intra(), asked),
-        "slice" => answer.say_sample(&slice(), asked),
+        "intra" => say_sample(answer, &intra(), asked),
+        "slice" => say_sample(answer, &slice(), asked),
         "predicted" => say_predicted(asked, answer),
         "skipped" => {
             let lent = picture(asked)?;
-            answer.say_sample(&skipped(&lent), asked)
+            say_sample(answer, &skipped(&lent), asked)
         }
         "skipped_sum" => {
             let lent = picture(asked)?;
-            answer.say(&sum(&skipped(&lent)).wrapping_sub(128 * (18_432 - 384)))
+            answer.say_last(&sum(&skipped(&lent)).wrapping_sub(128 * (18_432 - 384)))
         }
         _ => Err(Stop::Row),
     }

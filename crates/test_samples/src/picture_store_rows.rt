@@ -1,12 +1,12 @@
 //! What a slot keeps, and pictures that are lent side by side.
 ghost use Rattle.std.specs.Prelude.{◌≡◌, length};
 
-use crate::answer::Answer;
-use crate::stop::Stop;
 use h263_planes::{PictureMut, PictureRef, Plane};
 use h263_types::{Format, OutOfMemory};
 use picture_store::PictureStore;
 use std::alloc::Global;
+use test_fixtures::answer::Answer;
+use test_fixtures::stop::Stop;
 
 // Whether picture 0 is there before it is kept and after; whether picture 4 is, in the same slot of
 // four; picture 0's first sample; and which of the two is there when picture 4 is kept.
@@ -59,8 +59,8 @@ fn lends(alloc: Global) -> Result<(u8, u8), OutOfMemory> {
 /// Answers a row of `picture_store.rows`: does the call of this name by the words after it.
 pub fn answer(alloc: Global, call: &str, answer: &mut Answer) -> Result<(), Stop> {
     match call {
-        "keeps" => answer.say(&keeps(alloc)?),
-        "lends" => answer.say(&lends(alloc)?),
+        "keeps" => answer.say_last(&keeps(alloc)?),
+        "lends" => answer.say_last(&lends(alloc)?),
         _ => Err(Stop::Row),
     }
 }

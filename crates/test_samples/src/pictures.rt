@@ -6,12 +6,12 @@
 //! is brighter; `moving FRAME`; `ramps`, one macroblock; and each word of `sample`.
 ghost use Rattle.std.specs.Prelude.{◌<◌, ◌≤◌};
 
-use crate::answer::Asked;
 use crate::moving::moving;
-use crate::stop::Stop;
 use h263_planes::{PictureMut, Plane};
 use h263_types::Format;
+use test_fixtures::answer::Asked;
 use test_fixtures::codec::{SIZE, texture};
+use test_fixtures::stop::Stop;
 
 // The samples of Y, and of one of its colours.
 const LUMA: usize = 12_288;
@@ -71,12 +71,12 @@ fn textured(modulus: usize, right: usize, down: usize) -> [u8; SIZE]
 }
 
 fn texture_of(asked: &mut Asked<'_>) -> Result<[u8; SIZE], Stop> {
-    let modulus = asked.place(256)?;
+    let modulus = asked.place(256);
     if modulus == 0 {
         return Err(Stop::Row);
     }
-    let right = asked.place(31)?;
-    Ok(textured(modulus, right, asked.place(31)?))
+    let right = asked.place(31);
+    Ok(textured(modulus, right, asked.place(31)))
 }
 
 // What lies half a sample to the right and down of each sample of Y; the last column and row stand
@@ -141,18 +141,18 @@ fn ramps() -> [u8; SIZE] {
 
 /// The picture that the next words name.
 pub fn picture(asked: &mut Asked<'_>) -> Result<[u8; SIZE], Stop> {
-    match asked.word()? {
-        "flat" => Ok([asked.number(255)? as u8; SIZE]),
+    match asked.word() {
+        "flat" => Ok([asked.number(255) as u8; SIZE]),
         "flat_but" => {
-            let sample = asked.number(255)? as u8;
-            let count = asked.place(256)?;
-            Ok(flat_but(sample, count, asked.number(255)? as u8))
+            let sample = asked.number(255) as u8;
+            let count = asked.place(256);
+            Ok(flat_but(sample, count, asked.number(255) as u8))
         }
         "texture" => texture_of(asked),
         "half_moved" => Ok(half_moved(&texture_of(asked)?)),
-        "brighter_y" => Ok(brighter(false, asked.number(255)? as u8)),
-        "brighter_cr" => Ok(brighter(true, asked.number(255)? as u8)),
-        "moving" => Ok(moving(asked.number(2)?)),
+        "brighter_y" => Ok(brighter(false, asked.number(255) as u8)),
+        "brighter_cr" => Ok(brighter(true, asked.number(255) as u8)),
+        "moving" => Ok(moving(asked.number(2))),
         "ramps" => Ok(ramps()),
         word => by_formula(word),
     }

@@ -2,14 +2,14 @@
 ghost use Rattle.std.specs.Prelude.{◌≡◌, ◌≤◌, true, false};
 ghost use Rattle.h263_types.specs.Blocks.{IsIntraBlock, IsInterBlock};
 
-use crate::answer::{Answer, Asked, reader_of};
-use crate::stop::Stop;
 use block_layer::{
     is_coded_by, laws as block_laws, read_inter, read_intra, write_inter, write_intra,
 };
 use h263_bits::{BitReader, BitWriter, Fault};
 use h263_types::Block;
 use std::fmt::Write;
+use test_fixtures::answer::{Answer, Asked, reader_of};
+use test_fixtures::stop::Stop;
 
 // Writes a block. Answers how many bits were written.
 fn written(intra: bool, block: &Block, out: &mut [u8; 256]) -> u32
@@ -43,8 +43,17 @@ fn rewritten(
     Ok(written(intra, block, out))
 }
 
-// Says a block's levels that are not 0, each after its place, and writes it again; or says the first
-// fault.
+// Says a block's levels that are not 0, each after its place.
+fn say_levels(block: &Block, answer: &mut Answer) -> Result<(), Stop> {
+    for (place, level) in block.levels.iter().enumerate() {
+        if *level != 0 {
+            write!(answer.words, " {place}:{level}")?;
+        }
+    }
+    Ok(())
+}
+
+// Reads a block, says its levels and writes it again; or says the first fault.
 fn block(intra: bool, coded: bool, asked: &Asked<'_>, answer: &mut Answer) -> Result<(), Stop> {
     let mut block = Block { levels: [7; 64] };
     let mut out = [0; 256];
@@ -55,15 +64,10 @@ fn block(intra: bool, coded: bool, asked: &Asked<'_>, answer: &mut Answer) -> Re
         &mut block,
         &mut out,
     ) {
-        Err(fault) => answer.say(&fault),
+        Err(fault) => answer.say_last(&fault),
         Ok(len) => {
-            for (place, level) in block.levels.iter().enumerate() {
-                if *level != 0 {
-                    write!(answer.words, " {place}:{level}")?;
-                }
-            }
-            answer.bits.put(&out, len)?;
-            Ok(())
+            say_levels(&block, answer)?;
+            answer.put_last(&out, len)
         }
     }
 }

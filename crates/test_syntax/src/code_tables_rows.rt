@@ -1,12 +1,12 @@
 //! Words of the tables.
-use crate::answer::{Answer, Asked, reader_of};
-use crate::stop::Stop;
 use code_tables::{
     Coefficient, MbClass, Mcbpc, event_number, read_cbpy, read_dquant, read_event, read_mcbpc,
     read_mvd, write_cbpy, write_dquant, write_event, write_mcbpc, write_mvd,
 };
 use h263_bits::BitWriter;
 use h263_types::Kind;
+use test_fixtures::answer::{Answer, Asked, reader_of};
+use test_fixtures::stop::Stop;
 
 // A difference of -63, taken as 1, the longest word of MCBPC in P, the shortest of CBPY, and a step
 // of -2.
@@ -45,10 +45,10 @@ fn events_written(answer: &mut Answer) -> Result<(), Stop> {
     write_event(&mut writer, &second);
     write_event(&mut writer, &third);
     let len = writer.len();
-    answer.say(&event_number(&first))?;
-    answer.say(&event_number(&second))?;
-    answer.say(&event_number(&third))?;
-    Ok(answer.bits.put(&bytes, len)?)
+    answer.say(&event_number(&first));
+    answer.say(&event_number(&second));
+    answer.say(&event_number(&third));
+    answer.put_last(&bytes, len)
 }
 
 // Reads words one after the other, each of the kind that is named, and says each, or its fault, and
@@ -57,14 +57,14 @@ fn read_words(asked: &mut Asked<'_>, answer: &mut Answer) -> Result<(), Stop> {
     let mut reader = reader_of(&asked.bytes, 0, asked.len);
     for word in asked.words.by_ref() {
         match word {
-            "event" => answer.say(&read_event(&mut reader))?,
-            "mvd" => answer.say(&read_mvd(&mut reader))?,
-            "cbpy_intra" => answer.say(&read_cbpy(&mut reader, true))?,
-            "cbpy_inter" => answer.say(&read_cbpy(&mut reader, false))?,
-            "mcbpc_i" => answer.say(&read_mcbpc(&mut reader, Kind::I))?,
-            "mcbpc_p" => answer.say(&read_mcbpc(&mut reader, Kind::P))?,
-            "dquant" => answer.say(&read_dquant(&mut reader))?,
-            "rest" => answer.say(&reader.rest())?,
+            "event" => answer.say(&read_event(&mut reader)),
+            "mvd" => answer.say(&read_mvd(&mut reader)),
+            "cbpy_intra" => answer.say(&read_cbpy(&mut reader, true)),
+            "cbpy_inter" => answer.say(&read_cbpy(&mut reader, false)),
+            "mcbpc_i" => answer.say(&read_mcbpc(&mut reader, Kind::I)),
+            "mcbpc_p" => answer.say(&read_mcbpc(&mut reader, Kind::P)),
+            "dquant" => answer.say(&read_dquant(&mut reader)),
+            "rest" => answer.say(&reader.rest()),
             _ => return Err(Stop::Row),
         }
     }
@@ -75,7 +75,7 @@ fn read_words(asked: &mut Asked<'_>, answer: &mut Answer) -> Result<(), Stop> {
 pub fn answer(call: &str, asked: &mut Asked<'_>, answer: &mut Answer) -> Result<(), Stop> {
     match call {
         "read" => read_words(asked, answer),
-        "words_written" => Ok(answer.bits.put(&words_written(), 16)?),
+        "words_written" => answer.put_last(&words_written(), 16),
         "events_written" => events_written(answer),
         _ => Err(Stop::Row),
     }

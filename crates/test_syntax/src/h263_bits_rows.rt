@@ -1,30 +1,30 @@
 //! Bits that are read and written.
 ghost use Rattle.std.specs.Prelude.{◌≤◌};
 
-use crate::answer::{Answer, Asked, reader_of};
-use crate::stop::Stop;
 use h263_bits::{BitReader, BitWriter, FaultKind};
+use test_fixtures::answer::{Answer, Asked, reader_of};
+use test_fixtures::stop::Stop;
 
 // Reads the bits at a place, and says them with the place after them.
 fn bits_at(from: u32, n: u32, asked: &Asked<'_>, answer: &mut Answer) -> Result<(), Stop>
     requires { n ≤ 32 }
 {
     let mut reader = reader_of(&asked.bytes, from, asked.len);
-    answer.say(&reader.bits(n))?;
-    answer.say(&reader.at())
+    answer.say(&reader.bits(n));
+    answer.say_last(&reader.at())
 }
 
 // A reader that ends inside the bits: what fits is read, and what doesn't changes nothing.
 fn ends_inside(asked: &Asked<'_>, answer: &mut Answer) -> Result<(), Stop> {
     let mut reader = reader_of(&asked.bytes, 3, asked.len);
-    answer.say(&reader.bits(5))?;
-    answer.say(&reader.bits(7))?;
-    answer.say(&(reader.at(), reader.rest()))?;
+    answer.say(&reader.bits(5));
+    answer.say(&reader.bits(7));
+    answer.say(&(reader.at(), reader.rest()));
     if reader.rest() >= 6 {
-        answer.say(&reader.peek(6))?;
+        answer.say(&reader.peek(6));
     }
-    answer.say(&reader.fixed(2, 0b10, FaultKind::Cpm))?;
-    answer.say(&reader.bits(4))
+    answer.say(&reader.fixed(2, 0b10, FaultKind::Cpm));
+    answer.say_last(&reader.bits(4))
 }
 
 // Puts five numbers of 6, 8, 2, 32 and, after a cut at 36 bits, 3 bits, and aligns them.
@@ -44,15 +44,15 @@ fn written(bytes: &mut [u8; 6]) -> u32 {
 pub fn answer(call: &str, asked: &mut Asked<'_>, answer: &mut Answer) -> Result<(), Stop> {
     match call {
         "bits_at" => {
-            let from = asked.number(1000)?;
-            let n = asked.number(32)?;
+            let from = asked.number(1000);
+            let n = asked.number(32);
             bits_at(from, n, asked, answer)
         }
         "ends_inside" => ends_inside(asked, answer),
         "written" => {
             let mut bytes = [0xff; 6];
             let len = written(&mut bytes);
-            Ok(answer.bits.put(&bytes, len)?)
+            answer.put_last(&bytes, len)
         }
         _ => Err(Stop::Row),
     }

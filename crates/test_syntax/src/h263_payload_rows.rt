@@ -1,10 +1,10 @@
 //! Payload headers.
-use crate::answer::{Answer, Asked, reader_of};
-use crate::stop::Stop;
 use h263_bits::{BitWriter, Fault};
 use h263_payload::{Payload, read_opening, read_payload, write_payload};
 use h263_types::Format;
+use test_fixtures::answer::{Answer, Asked, reader_of};
 use test_fixtures::codec::INTRA_OF_CIF;
+use test_fixtures::stop::Stop;
 
 // What is read of a packet after its RTP header.
 fn read(bytes: &[u8], format: Format) -> Result<Payload, Fault> {
@@ -32,18 +32,18 @@ fn written_later() -> [u8; 11] {
 pub fn answer(call: &str, asked: &mut Asked<'_>, answer: &mut Answer) -> Result<(), Stop> {
     match call {
         "read" => {
-            let format = asked.format()?;
-            answer.say(&read(&asked.bytes, format))
+            let format = asked.format();
+            answer.say_last(&read(&asked.bytes, format))
         }
-        "written_first" => Ok(answer.bits.put(&written_first(), 16)?),
-        "written_later" => Ok(answer.bits.put(&written_later(), 88)?),
+        "written_first" => answer.put_last(&written_first(), 16),
+        "written_later" => answer.put_last(&written_later(), 88),
         "opening" => {
-            let follow_on = asked.number(1)? == 1;
+            let follow_on = asked.number(1) == 1;
             let mut reader = reader_of(&asked.bytes, 0, asked.len);
             let opening = read_opening(&mut reader, follow_on);
-            answer.say(&opening)?;
+            answer.say(&opening);
             if opening.is_ok() {
-                answer.say(&reader.rest())?;
+                answer.say(&reader.rest());
             }
             Ok(())
         }

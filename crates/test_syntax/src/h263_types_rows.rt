@@ -1,9 +1,9 @@
 //! Formats, reaches, ranges and clocks.
 ghost use Rattle.std.specs.Prelude.{◌≤◌};
 
-use crate::answer::{Answer, Asked};
-use crate::stop::Stop;
 use h263_types::{Block, FixedPace, Format, Pace, Params, reach};
+use test_fixtures::answer::{Answer, Asked};
+use test_fixtures::stop::Stop;
 
 // Changes a parameter to another number: `quant=0`.
 fn change(params: &mut Params, word: &str) -> Result<(), Stop> {
@@ -25,17 +25,17 @@ fn change(params: &mut Params, word: &str) -> Result<(), Stop> {
 
 // What a check says of parameters, the given ones of which are changed.
 fn check(asked: &mut Asked<'_>, answer: &mut Answer) -> Result<(), Stop> {
-    let mut params = Params::of(asked.format()?);
+    let mut params = Params::of(asked.format());
     for word in asked.words.by_ref() {
         change(&mut params, word)?;
     }
-    answer.say(&params.check())
+    answer.say_last(&params.check())
 }
 
 fn format(format: Format, answer: &mut Answer) -> Result<(), Stop> {
-    answer.say(&(format.width(), format.height()))?;
-    answer.say(&(format.columns(), format.rows(), format.mbs()))?;
-    answer.say(&format.size())
+    answer.say(&(format.width(), format.height()));
+    answer.say(&(format.columns(), format.rows(), format.mbs()));
+    answer.say_last(&format.size())
 }
 
 // The marks of a block of zeros, but for the levels that are given after their places.
@@ -49,27 +49,27 @@ fn marks(asked: &mut Asked<'_>, answer: &mut Answer) -> Result<(), Stop> {
         }
         levels[place] = level.parse::<i16>()?;
     }
-    answer.say(&Block { levels }.marks())
+    answer.say_last(&Block { levels }.marks())
 }
 
 /// Answers a row of `h263_types.rows`: does the call of this name by the words after it.
 pub fn answer(call: &str, asked: &mut Asked<'_>, answer: &mut Answer) -> Result<(), Stop> {
     match call {
-        "format" => format(asked.format()?, answer),
+        "format" => format(asked.format(), answer),
         "reach" => {
-            let format = asked.format()?;
-            let mb = asked.number(395)?;
+            let format = asked.format();
+            let mb = asked.number(395);
             if mb >= format.mbs() {
                 return Err(Stop::Row);
             }
-            answer.say(&reach(format, mb))
+            answer.say_last(&reach(format, mb))
         }
         "check" => check(asked, answer),
         "clock" => {
-            let clock = asked.clock()?;
-            answer.say(&(clock.half(), clock.period()))
+            let clock = asked.clock();
+            answer.say_last(&(clock.half(), clock.period()))
         }
-        "pace_of_8" => answer.say(&FixedPace { quant: 8 }.quant(&[342, 31])),
+        "pace_of_8" => answer.say_last(&FixedPace { quant: 8 }.quant(&[342, 31])),
         "marks" => marks(asked, answer),
         _ => Err(Stop::Row),
     }

@@ -2,10 +2,10 @@
 ghost use Rattle.std.specs.Prelude.{IfOk};
 ghost use Rattle.picture_header.specs.Ranges.{IsHeader};
 
-use crate::stop::Stop;
 use h263_types::Clock;
 use picture_header::Header;
 use test_fixtures::codec::{INTER, INTER_OF_CIF, INTRA, INTRA_OF_CIF};
+use test_fixtures::stop::Stop;
 
 // The P picture of 128 x 96 whose only slice an independent encoder wrote.
 const SENT_P: Header = Header { quant: 31, ..INTER };

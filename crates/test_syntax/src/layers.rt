@@ -1,6 +1,4 @@
 //! The files of rows, and the calls of which they speak.
-use crate::answer::{Answer, Asked};
-use crate::stop::Stop;
 use crate::{
     back_messages_rows, block_layer_rows, code_tables_rows, h263_bits_rows, h263_payload_rows,
     h263_types_rows, macroblock_layer_rows, packet_collector_rows, packet_cutter_rows,
@@ -8,6 +6,9 @@ use crate::{
     slice_writer_rows,
 };
 use std::alloc::Global;
+use test_fixtures::answer::{Answer, Asked};
+use test_fixtures::rows::Answers;
+use test_fixtures::stop::Stop;
 
 /// A layer, and its file of rows.
 #[derive(Clone, Copy)]
@@ -48,9 +49,8 @@ pub const LAYERS: [Layer; 15] = [
     Layer::PayloadJoin,
 ];
 
-impl Layer {
-    /// The name of the file.
-    pub fn file(self) -> &'static str {
+impl Answers for Layer {
+    fn file(&self) -> &'static str {
         match self {
             Layer::H263Types => "h263_types.rows",
             Layer::H263Bits => "h263_bits.rows",
@@ -70,14 +70,13 @@ impl Layer {
         }
     }
 
-    /// Answers what is asked.
-    pub fn answer(
-        self,
+    fn answer(
+        &self,
         alloc: Global,
+        call: &str,
         asked: &mut Asked<'_>,
         answer: &mut Answer,
     ) -> Result<(), Stop> {
-        let call = asked.word()?;
         match self {
             Layer::H263Types => h263_types_rows::answer(call, asked, answer),
             Layer::H263Bits => h263_bits_rows::answer(call, asked, answer),

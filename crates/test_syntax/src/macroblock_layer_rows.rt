@@ -2,12 +2,12 @@
 ghost use Rattle.std.specs.Prelude.{IfOk};
 ghost use Rattle.h263_types.specs.Blocks.{IsMb, IsOfKind, IsQuant};
 
-use crate::answer::{Answer, Asked, reader_of};
-use crate::stop::Stop;
 use h263_bits::{BitReader, BitWriter, Fault};
 use h263_types::{Format, Kind, Mb, Reach, Vector, reach};
 use macroblock_layer::{predictor, read_mb, write_mb};
+use test_fixtures::answer::{Answer, Asked, reader_of};
 use test_fixtures::codec::{FAR, head_of, is_stepped};
+use test_fixtures::stop::Stop;
 
 const PREDICTOR: Vector = Vector { x: 31, y: -3 };
 
@@ -29,7 +29,7 @@ fn put_mb(
         write_mb(&mut writer, kind, quant, predicted, mb);
     }
     let len = writer.len();
-    answer.bits.put(&out, len)?;
+    answer.put(&out, len);
     Ok(())
 }
 
@@ -55,9 +55,9 @@ pub fn read_one(
 fn rewritten(kind: Kind, reach: Reach, asked: &Asked<'_>, answer: &mut Answer) -> Result<(), Stop> {
     let mut reader = reader_of(&asked.bytes, 0, asked.len);
     match read_one(&mut reader, kind, 8, PREDICTOR, reach) {
-        Err(fault) => answer.say(&fault),
+        Err(fault) => answer.say_last(&fault),
         Ok(mb) => {
-            answer.say(&head_of(&mb))?;
+            answer.say(&head_of(&mb));
             put_mb(kind, 8, PREDICTOR, &mb, answer)
         }
     }
@@ -110,15 +110,15 @@ pub fn answer(call: &str, asked: &mut Asked<'_>, answer: &mut Answer) -> Result<
         "p_near" => rewritten(Kind::P, near, asked, answer),
         "i" => rewritten(Kind::I, FAR, asked, answer),
         "picture" => {
-            answer.bits.put(&asked.bytes, 5)?;
+            answer.put(&asked.bytes, 5);
             let mut reader = reader_of(&asked.bytes, 5, asked.len);
             let left = picture_rewritten(&mut reader, answer)?;
-            answer.say(&left)
+            answer.say_last(&left)
         }
         "predictor" => {
-            let first = asked.number(8)?;
-            let mb = asked.number(8)?;
-            answer.say(&predicted(first, mb))
+            let first = asked.number(8);
+            let mb = asked.number(8);
+            answer.say_last(&predicted(first, mb))
         }
         _ => Err(Stop::Row),
     }

@@ -5,9 +5,7 @@
 //! it, and the program ends with status 1.
 #![tactic(auto)]
 
-mod answer;
 mod back_messages_rows;
-mod bits;
 mod block_layer_rows;
 mod code_tables_rows;
 mod h263_bits_rows;
@@ -21,26 +19,38 @@ mod packet_cutter_rows;
 mod packet_start_rows;
 mod payload_join_rows;
 mod picture_header_rows;
-mod rows;
 mod rtp_header_rows;
 mod slice_layer_rows;
 mod slice_writer_rows;
-mod stop;
 
-use layers::LAYERS;
-use rows::run_rows;
-use std::io;
+use layers::{LAYERS, Layer};
 use std::process::ExitCode;
+use std::{fs, io};
+use test_fixtures::rows::{Answers, Rows};
+use test_fixtures::stop::Stop;
+
+// Runs the rows of a layer's file.
+fn run_rows(rt: &HostRuntime, layer: Layer) -> Result<Rows, Stop> {
+    let mut rows = Rows::new(rt.alloc());
+    for name in ["packets.rows", layer.file()] {
+        let text = fs::read_to_string(rt, name)?;
+        rows.take_all(rt.alloc(), &layer, text.as_str())?;
+    }
+    rows.end_test()?;
+    Ok(rows)
+}
 
 fn run_all(rt: &HostRuntime) -> io::Result<bool> {
     let mut right = true;
     for layer in LAYERS {
         match run_rows(rt, layer) {
-            Ok(true) => {}
-            Ok(false) => right = false,
+            Ok(rows) => {
+                right = right && rows.right;
+                print!(rt; "{}\n{}", layer.file(), rows.said)?;
+            }
             Err(stop) => {
                 right = false;
-                println!(rt; "{}", stop.text())?;
+                println!(rt; "{}: {}", layer.file(), stop.text())?;
             }
         }
     }

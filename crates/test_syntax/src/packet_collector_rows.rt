@@ -4,14 +4,14 @@ ghost use Rattle.h263_types.specs.Blocks.{IsHeadOf};
 ghost use Rattle.h263_types.specs.declared.format.Format.TheVariants.{Cif};
 ghost use Rattle.packet_collector.specs.Collected.{IsInRow, IsRowFrom, first_of, format_of, row_of};
 
-use crate::answer::{Answer, Asked, reader_of};
 use crate::slice_layer_rows::UNTOUCHED;
-use crate::stop::Stop;
 use h263_types::{Format, Mb, Params, SliceHead};
 use packet_collector::{Collector, Piece, Place, read_packet};
 use picture_header::{Header, read_header};
 use std::alloc::Global;
+use test_fixtures::answer::{Answer, Asked, reader_of};
 use test_fixtures::codec::{INTRA_OF_CIF, PARAMS_OF_CIF, flat_mb};
+use test_fixtures::stop::Stop;
 
 // How many macroblocks are as they were, how many are Skip, and how many are flat.
 fn counts(mbs: &[Mb; 48]) -> (u32, u32, u32) {
@@ -36,9 +36,9 @@ fn counts(mbs: &[Mb; 48]) -> (u32, u32, u32) {
 pub fn packet(bytes: &[u8], answer: &mut Answer) -> Result<(), Stop> {
     let mut mbs = [UNTOUCHED; 48];
     let piece = read_packet(bytes, Format::SubQcif, &mut mbs);
-    answer.say(&piece)?;
+    answer.say(&piece);
     if piece.is_ok() {
-        answer.say(&counts(&mbs))?;
+        answer.say(&counts(&mbs));
     }
     Ok(())
 }
@@ -48,7 +48,7 @@ fn number_in_row(asked: &mut Asked<'_>, first: u32) -> Result<u32, Stop>
     ensures low { IfOk result (λ n. first ≤ n) }
     ensures high { IfOk result (λ n. n < first + 4) }
 {
-    let number = asked.number(100)?;
+    let number = asked.number(100);
     if number < first || number - first >= 4 {
         return Err(Stop::Row);
     }
@@ -59,8 +59,8 @@ fn number_in_row(asked: &mut Asked<'_>, first: u32) -> Result<u32, Stop>
 fn slice_head(asked: &mut Asked<'_>) -> Result<SliceHead, Stop>
     ensures { IfOk result (IsHeadOf Cif) }
 {
-    let first = asked.number(396)?;
-    let count = asked.number(396)?;
+    let first = asked.number(396);
+    let count = asked.number(396);
     if count == 0 || first + count > 396 {
         return Err(Stop::Row);
     }
@@ -85,9 +85,9 @@ fn add(
     match collector.place(number, &piece) {
         Place::Fresh => {
             collector.add(number, &piece);
-            answer.say(&Place::Fresh)
+            answer.say_last(&Place::Fresh)
         }
-        place => answer.say(&place),
+        place => answer.say_last(&place),
     }
 }
 
@@ -104,12 +104,12 @@ fn ask(
     requires format { format_of collector.now ≡ Cif }
 {
     match step {
-        "any" => answer.say(&collector.any(number)),
-        "whole" => answer.say(&collector.whole(number)),
-        "has" => answer.say(&collector.has(number, asked.number(395)?)),
+        "any" => answer.say_last(&collector.any(number)),
+        "whole" => answer.say_last(&collector.whole(number)),
+        "has" => answer.say_last(&collector.has(number, asked.number(395))),
         "place" => {
             let head = slice_head(asked)?;
-            answer.say(&collector.place(number, &Piece { header, head }))
+            answer.say_last(&collector.place(number, &Piece { header, head }))
         }
         _ => Err(Stop::Row),
     }
@@ -152,8 +152,8 @@ fn collect(
 // Says whether a new collector has anything of picture 0, and all of it.
 fn start(alloc: Global, format: Format, answer: &mut Answer) -> Result<(), Stop> {
     let collector = Collector::start(alloc, &Params::of(format))?;
-    answer.say(&collector.any(0))?;
-    answer.say(&collector.whole(0))
+    answer.say(&collector.any(0));
+    answer.say_last(&collector.whole(0))
 }
 
 /// Answers a row of `packet_collector.rows`: does the call of this name by the words after it.
@@ -165,7 +165,7 @@ pub fn answer(
 ) -> Result<(), Stop> {
     match call {
         "packet" => packet(&asked.bytes, answer),
-        "start" => start(alloc, asked.format()?, answer),
+        "start" => start(alloc, asked.format(), answer),
         "collect" => collect(alloc, INTRA_OF_CIF, asked, answer),
         "collect_header" => {
             let mut reader = reader_of(&asked.bytes, 0, asked.len);

@@ -5,14 +5,14 @@ ghost use Rattle.h263_types.specs.Sizes.{mbs_of};
 ghost use Rattle.picture_header.specs.Ranges.{IsHeader};
 ghost use Rattle.packet_cutter.specs.Cutting.{format_of, kind_of, quant_of, added_of, IsBegun};
 
-use crate::answer::{Answer, Asked};
 use crate::headers::header;
-use crate::stop::Stop;
 use h263_types::{Format, Kind, Mb, Params};
 use packet_cutter::Cutter;
 use picture_header::Header;
 use std::alloc::Global;
+use test_fixtures::answer::{Answer, Asked};
 use test_fixtures::codec::{PARAMS, flat_mb};
+use test_fixtures::stop::Stop;
 
 // Adds a macroblock this many times.
 fn add_times(cutter: &mut Cutter, mb: &Mb, times: u32)
@@ -68,11 +68,11 @@ fn cut_picture(cutter: &mut Cutter, number: u32, header: &Header) -> Result<(), 
 // Says how many packets there are, how many bytes each has, and their bytes.
 fn say_packets(cutter: &Cutter, answer: &mut Answer) -> Result<(), Stop> {
     let count = cutter.count();
-    answer.say(&count)?;
+    answer.say(&count);
     'packets: for place in 0..count {
         let packet = cutter.packet(place);
-        answer.say(&packet.len())?;
-        answer.bits.put(packet, u32::MAX)?;
+        answer.say(&packet.len());
+        answer.put(packet, u32::MAX);
     }
     Ok(())
 }
@@ -114,6 +114,6 @@ pub fn answer(
     if call != "cut" {
         return Err(Stop::Row);
     }
-    let format = asked.format()?;
+    let format = asked.format();
     cut(alloc, format, asked, answer)
 }

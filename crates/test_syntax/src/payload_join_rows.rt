@@ -1,11 +1,11 @@
 //! Packets that are joined.
 ghost use Rattle.std.specs.Prelude.{◌≡◌, [], IfOk};
 
-use crate::answer::{Answer, Asked};
-use crate::stop::Stop;
 use h263_types::Format;
 use payload_join::Joiner;
 use std::alloc::Global;
+use test_fixtures::answer::{Answer, Asked};
+use test_fixtures::stop::Stop;
 
 // Puts what a joiner still gives, one packet after the other. Answers how many bytes there are.
 fn drained(joiner: &mut Joiner, answer: &mut Answer) -> Result<usize, Stop>
@@ -14,7 +14,7 @@ fn drained(joiner: &mut Joiner, answer: &mut Answer) -> Result<usize, Stop>
     let mut used: usize = 0;
     while let Some(packet) = joiner.next() {
         used = used.saturating_add(packet.len());
-        answer.bits.put(packet, u32::MAX)?;
+        answer.put(packet, u32::MAX);
     }
     Ok(used)
 }
@@ -36,9 +36,9 @@ fn take_all(
             return Err(Stop::Row);
         }
         let took = joiner.take(&asked.bytes[from..to], format);
-        answer.say(&took)?;
+        answer.say(&took);
         let bytes = drained(joiner, answer)?;
-        answer.say(&bytes)?;
+        answer.say(&bytes);
         from = to;
     }
     if from != asked.bytes.len() {
@@ -57,7 +57,7 @@ pub fn answer(
     if call != "join" {
         return Err(Stop::Row);
     }
-    let format = asked.format()?;
+    let format = asked.format();
     let mut joiner = Joiner::start(alloc)?;
     let taken = take_all(&mut joiner, format, asked, answer);
     joiner.finish();

@@ -2,24 +2,24 @@
 ghost use Rattle.std.specs.Prelude.{◌<◌, ◌≤◌, IfOk};
 ghost use Rattle.picture_header.specs.Ranges.{IsHeader};
 
-use crate::answer::{Answer, Asked, reader_of};
-use crate::stop::Stop;
 use h263_bits::BitWriter;
 use h263_types::Format;
 use picture_header::{Header, header_bits, read_header, write_header};
+use test_fixtures::answer::{Answer, Asked, reader_of};
+use test_fixtures::stop::Stop;
 
 // Says how many bits a header has, and writes it up to the end of a byte.
 fn written(header: &Header, answer: &mut Answer) -> Result<(), Stop>
     requires { IsHeader header.now }
 {
     let bits = header_bits(header);
-    answer.say(&bits)?;
+    answer.say(&bits);
     let mut bytes = [0xff; 32];
     let mut writer = BitWriter::new(&mut bytes);
     write_header(&mut writer, header);
     writer.align();
     let len = writer.len();
-    answer.bits.put(&bytes, len)?;
+    answer.put(&bytes, len);
     Ok(())
 }
 
@@ -27,9 +27,9 @@ fn written(header: &Header, answer: &mut Answer) -> Result<(), Stop>
 fn read(format: Format, asked: &Asked<'_>, answer: &mut Answer) -> Result<(), Stop> {
     let mut reader = reader_of(&asked.bytes, 0, asked.len);
     let header = read_header(&mut reader, format);
-    answer.say(&header)?;
+    answer.say(&header);
     if let Ok(header) = header {
-        answer.say(&reader.at())?;
+        answer.say(&reader.at());
         written(&header, answer)?;
     }
     Ok(())
@@ -39,10 +39,10 @@ fn read(format: Format, asked: &Asked<'_>, answer: &mut Answer) -> Result<(), St
 fn intra(asked: &mut Asked<'_>) -> Result<Header, Stop>
     ensures { IfOk result IsHeader }
 {
-    let format = asked.format()?;
-    let clock = asked.clock()?;
-    let tr = asked.number(1023)?;
-    let quant = asked.number(31)?;
+    let format = asked.format();
+    let clock = asked.clock();
+    let tr = asked.number(1023);
+    let quant = asked.number(31);
     if tr >= clock.period() || quant == 0 {
         return Err(Stop::Row);
     }
@@ -64,22 +64,22 @@ fn predicted(first: Header, rounding: u32, trp: u32) -> Result<Header, Stop>
 // A header of a P picture, and whether it is the same as one with another TRP.
 fn same(asked: &mut Asked<'_>, answer: &mut Answer) -> Result<(), Stop> {
     let first = intra(asked)?;
-    let rounding = asked.number(1)?;
-    let one = predicted(first, rounding, asked.number(1023)?)?;
-    let other = predicted(first, rounding, asked.number(1023)?)?;
-    answer.say(&one)?;
-    answer.say(&one.is_same(&other))
+    let rounding = asked.number(1);
+    let one = predicted(first, rounding, asked.number(1023))?;
+    let other = predicted(first, rounding, asked.number(1023))?;
+    answer.say(&one);
+    answer.say_last(&one.is_same(&other))
 }
 
 /// Answers a row of `picture_header.rows`: does the call of this name by the words after it.
 pub fn answer(call: &str, asked: &mut Asked<'_>, answer: &mut Answer) -> Result<(), Stop> {
     match call {
         "read" => {
-            let format = asked.format()?;
+            let format = asked.format();
             read(format, asked, answer)
         }
-        "blank" => answer.say(&Header::blank(asked.format()?)),
-        "intra" => answer.say(&intra(asked)?),
+        "blank" => answer.say_last(&Header::blank(asked.format())),
+        "intra" => answer.say_last(&intra(asked)?),
         "predicted_and_other" => same(asked, answer),
         _ => Err(Stop::Row),
     }

@@ -1,15 +1,15 @@
 //! Slices that are read.
 ghost use Rattle.picture_header.specs.Ranges.{IsHeader};
 
-use crate::answer::{Answer, Asked, reader_of};
 use crate::headers::header;
-use crate::stop::Stop;
 use h263_bits::BitReader;
 use h263_types::{Block, Format, Mb, Vector};
 use picture_header::{Header, read_header};
 use slice_layer::read_slice;
 use std::fmt::Write;
+use test_fixtures::answer::{Answer, Asked, reader_of};
 use test_fixtures::codec::head_of;
+use test_fixtures::stop::Stop;
 
 /// A macroblock that no row has: where it still stands nothing was written.
 pub const UNTOUCHED: Mb = Mb::Inter {
@@ -33,7 +33,7 @@ fn say_heads(mbs: &[Mb], answer: &mut Answer) -> Result<(), Stop> {
 fn say_levels(mbs: &[Mb], answer: &mut Answer) -> Result<(), Stop> {
     for mb in mbs {
         if let Mb::Intra { quant: _, blocks } = mb {
-            answer.say(&&blocks[0].levels[..10])?;
+            answer.say(&&blocks[0].levels[..10]);
         }
     }
     Ok(())
@@ -51,7 +51,7 @@ fn slice(
     let mut room = [UNTOUCHED; 396];
     let mbs = &mut room[..header.format.mbs() as usize];
     let head = read_slice(reader, header, begins, mbs);
-    answer.say(&head)?;
+    answer.say(&head);
     if head.is_ok() {
         say_heads(mbs, answer)?;
         say_levels(mbs, answer)?;
@@ -63,8 +63,8 @@ fn slice(
 fn picture(asked: &Asked<'_>, answer: &mut Answer) -> Result<(), Stop> {
     let mut reader = reader_of(&asked.bytes, 0, asked.len);
     let header = read_header(&mut reader, Format::SubQcif);
-    answer.say(&header)?;
-    answer.say(&reader.at())?;
+    answer.say(&header);
+    answer.say(&reader.at());
     if let Ok(header) = header {
         return slice(&mut reader, &header, true, answer);
     }
@@ -76,7 +76,7 @@ pub fn answer(call: &str, asked: &mut Asked<'_>, answer: &mut Answer) -> Result<
     if call == "picture" {
         return picture(asked, answer);
     }
-    let header = header(asked.word()?)?;
+    let header = header(asked.word())?;
     let begins = match call {
         "first" => true,
         "later" => false,

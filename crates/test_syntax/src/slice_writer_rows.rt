@@ -7,15 +7,15 @@ ghost use Rattle.picture_header.specs.Ranges.{IsHeader};
 ghost use Rattle.slice_layer.specs.Around.{quant_after};
 ghost use Rattle.slice_layer.specs.Writer.{kind_of, format_of, first_of, next_of, quant_of, GoesOn};
 
-use crate::answer::{Answer, Asked, reader_of};
 use crate::headers::header;
 use crate::macroblock_layer_rows::read_one;
-use crate::stop::Stop;
 use h263_bits::BitReader;
 use h263_types::{Kind, Mb, Vector};
 use picture_header::Header;
 use slice_layer::{Added, MbRoom, SliceWriter};
+use test_fixtures::answer::{Answer, Asked, reader_of};
 use test_fixtures::codec::{FAR, is_stepped};
+use test_fixtures::stop::Stop;
 
 // The quantiser after a macroblock.
 fn next_quant(from: u8, mb: &Mb) -> u8
@@ -133,7 +133,7 @@ fn write_all(
             return Err(Stop::Row);
         }
         let (fits, next) = add_run(writer, quant, &mb, times)?;
-        answer.say(&fits)?;
+        answer.say(&fits);
         added += fits;
         quant = next;
     }
@@ -159,8 +159,8 @@ fn write(
         return Err(Stop::Row);
     }
     let size = writer.finish();
-    answer.say(&size)?;
-    answer.bits.put(&bytes, size.saturating_mul(8))?;
+    answer.say(&size);
+    answer.put(&bytes, size.saturating_mul(8));
     Ok(())
 }
 
@@ -169,7 +169,7 @@ pub fn answer(call: &str, asked: &mut Asked<'_>, answer: &mut Answer) -> Result<
     if call != "write" {
         return Err(Stop::Row);
     }
-    let header = header(asked.word()?)?;
-    let first = asked.number(395)?;
+    let header = header(asked.word())?;
+    let first = asked.number(395);
     write(&header, first, asked, answer)
 }

@@ -1,5 +1,0 @@
-use Rattle.call_session.specs.Whole.{IsSession}
-use Rattle.test_runs.proofs.call_session_tests.exact_after.Given as goal
-
-abbrev pub invariant-pictures : goal.invariant-pictures
-invariant-pictures l = IsSession l.session

@@ -1,5 +1,0 @@
-use Rattle.call_session.specs.Whole.{IsSession}
-use Rattle.test_runs.proofs.call_session_tests.packets_too_fast.Given as goal
-
-abbrev pub invariant-packets : goal.invariant-packets
-invariant-packets g l = IsSession l.session
