@@ -198,7 +198,7 @@ class GroupTableTest(unittest.TestCase):
         self.assertIn("| 100 ms | 5 % | 8 | 80/30.0/10 | 90/30.0/10 |  |  |", group_told.short_of(rows))
 
 
-class CutTest(unittest.TestCase):
+class UnitsTest(unittest.TestCase):
     def test_units_of_h264(self) -> None:
         sets, unit = b"\0\0\0\1\x67ab\0\0\1\x68c", b"\x65" + bytes(range(1, 256)) * 10
         cut = rivals.cut_of_h264(b"\0\0\1\x06info" + sets + b"\0\0\1" + unit)

@@ -11,6 +11,7 @@ import ctypes
 import mmap
 import pickle
 import sys
+from functools import partial
 from pathlib import Path
 from typing import Callable
 
@@ -171,19 +172,22 @@ for same in (copy.copy(params), copy.deepcopy(params), pickle.loads(pickle.dumps
     wanted("(3, False)", lambda: (params.quant, same == params))
 wanted("True", lambda: "quant=3," in repr(params) and "target=0" in repr(params))
 
+
+def cannot_be_written(lent: memoryview) -> memoryview:
+    """Tries each way that leads to a picture that is lent, and returns a slice of it."""
+    wanted("(True, 18432, 1, 'B')", lambda: (lent.readonly, lent.nbytes, lent.ndim, lent.format))
+    for view in (lent, lent.obj, memoryview(lent.obj), lent[3:], lent[3:].obj):
+        wanted("TypeError: cannot modify read-only memory", partial(view.__setitem__, 0, 1))
+    wanted("128", lambda: lent[0])
+    return lent.obj[5:]
+
+
 # What is lent can't be written, by none of the ways that lead there.
 with Receiver(Params.of("sub-qcif")) as receiver:
     for lend in (receiver.shown, lambda: receiver.play_lent().picture):
-        lent = lend()
-        wanted("(True, 18432, 1, 'B')", lambda: (lent.readonly, lent.nbytes, lent.ndim, lent.format))
-        for view in (lent, lent.obj, memoryview(lent.obj), lent[3:], lent[3:].obj):
-            wanted("TypeError: cannot modify read-only memory", lambda: view.__setitem__(0, 1))
-        del view
-        wanted("128", lambda: lent[0])
-        held = lent.obj[5:]
-        told = "BufferError: the picture that was lent is still held, by a slice or an array"
-        wanted(told, receiver.play)
-        del held, lent
+        held = cannot_be_written(lend())
+        wanted("BufferError: the picture that was lent is still held, by a slice or an array", receiver.play)
+        del held
 
 # Words with their texts, and those of the header are the same.
 with Receiver(Params.of("sub-qcif")) as receiver:

@@ -301,12 +301,12 @@ class Call:
     def _capture(self, camera: Camera, now: int) -> None:
         chance = self._chance
         self._steer(camera, now)
-        for time, packet in camera.picture(now):
-            self._at(time, partial(self._come, packet))
+        for when, packet in camera.picture(now):
+            self._at(when, partial(self._come, packet))
             if chance.random() < self._junk:
-                self._at(time + chance.randrange(50 * MILLI), partial(self._come, junk(chance, packet)))
+                self._at(when + chance.randrange(50 * MILLI), partial(self._come, junk(chance, packet)))
             if chance.random() < self._floods:
-                self._at(time, partial(self._flood, packet))
+                self._at(when, partial(self._flood, packet))
         step = camera.until_next()
         self._length += step if step > SECOND and self._length < 100 * SECOND else 0
         self._at(now + step, partial(self._capture, camera))

@@ -36,7 +36,12 @@ class AsyncLoop(Loop):
 
     def at(self, when: float, call: Call) -> Timer:
         timer = Timer(call)
-        self.asyncio.call_at(when, lambda: timer.call and self.call(timer.call))
+
+        def come() -> None:
+            if timer.call:
+                self.call(timer.call)
+
+        self.asyncio.call_at(when, come)
         return timer
 
     def call(self, call: Call) -> None:

@@ -1,23 +1,11 @@
 """The sockets of a call: to the other party, or alone between two parties over a bad network."""
 
 from dataclasses import dataclass
-from typing import Callable, Optional, Protocol
+from typing import Callable, Optional
 
 from .bad_network import BadLink, BadNetwork
 from .loop import Loop
-from .udp import Address, Channel
-
-
-class AnyChannel(Protocol):
-    """What a party asks of a channel, encrypted or not."""
-
-    on_datagram: Callable[[bytes], None]
-    bytes_in: int
-    bytes_out: int
-    unreached: int
-
-    def send(self, data: bytes) -> None:
-        """A datagram goes out."""
+from .udp import Address, AnyChannel, Channel
 
 
 @dataclass(frozen=True)

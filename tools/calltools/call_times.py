@@ -118,10 +118,17 @@ def _times_of(joined: Joined) -> CallTimes:
 
 def _processor(record: Record) -> Optional[float]:
     counts = record.told.get("counts")
-    told = [counts.get(name) for name in ("processor_seconds", "seconds")] if isinstance(counts, dict) else []
-    if not all(type(value) in (int, float) and 0 < value < 1e9 for value in told) or not told:
+    if not isinstance(counts, dict):
         return None
-    return told[0] / told[1]
+    spent, seconds = _seconds(counts.get("processor_seconds")), _seconds(counts.get("seconds"))
+    return spent / seconds if spent and seconds else None
+
+
+def _seconds(told: object) -> Optional[float]:
+    # A record may say anything.
+    if isinstance(told, bool) or not isinstance(told, (int, float)) or not 0 < told < 1e9:
+        return None
+    return float(told)
 
 
 def _spread(name: str, values: list[float]) -> str:

@@ -20,7 +20,7 @@ def chart_of(rows: Rows) -> str:
     count = max(map(len, rows.by_letter.values()))
     cell = 24 if count <= 60 else 12 if count <= 240 else 5
     parts: list[str] = []
-    below = MARGIN
+    below: float = MARGIN
     for letter, pictures in rows.by_letter.items():
         longest = max((p.number - p.reference for p in pictures if p.reference is not None), default=0)
         top = below + min(longest * cell / 2, 160) + 8

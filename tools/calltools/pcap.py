@@ -121,7 +121,7 @@ def _parts_of_a_second(order: str, options: bytes) -> int:
             break
         if code == 9 and size == 1:
             unit = options[at + 4]
-            return 2 ** (unit & 0x7F) if unit & 0x80 else 10**unit
+            return 1 << (unit & 0x7F) if unit & 0x80 else int(10**unit)
         at += 4 + (size + 3) // 4 * 4
     return 10**6
 

@@ -20,4 +20,5 @@ def named(asked: argparse.Namespace) -> Path:
     if not (asked.program.is_file() and os.access(asked.program, os.X_OK)):
         raise BadInput(str(asked.program), "no program", "rt ci proves and builds it")
     # A name without a folder would be looked for in PATH alone.
-    return asked.program.absolute()
+    path: Path = asked.program
+    return path.absolute()

@@ -11,7 +11,7 @@ from .y4m import Size
 try:  # the sums are the same with it, and quicker
     import numpy
 except ImportError:
-    numpy = None  # type: ignore[assignment]
+    numpy = None
 
 _SQUARES = [difference * difference for difference in range(256)]
 MOST_DRAWN = 60.0
@@ -73,8 +73,8 @@ def curve_of(luma: list[float], pictures: Optional[list[Picture]]) -> str:
 
     width = max(left + step * len(luma) + 20, 320)
     parts = []
-    for value in range(least, most + 1, 10):
-        parts += [svg.line(left, y(value), width - 20, y(value)), svg.text(left - 6, y(value) + 4, f"{value} dB", "end")]
+    for level in range(least, most + 1, 10):
+        parts += [svg.line(left, y(level), width - 20, y(level)), svg.text(left - 6, y(level) + 4, f"{level} dB", "end")]
     parts += [
         svg.text(x(number), top + height + 16, str(number), size=10) for number in range(0, len(luma), 10)
     ]

@@ -119,10 +119,11 @@ def _named(run: dict[str, Any], names: tuple[str, ...]) -> tuple[str, ...]:
 
 
 def _is_rate(rate: object) -> bool:
+    # In a number with an exponent a few digits would say millions.
+    if not isinstance(rate, str) or not _RATE.fullmatch(rate):
+        return False
     try:
-        # In a number with an exponent a few digits would say millions.
-        is_text = isinstance(rate, str) and _RATE.fullmatch(rate)
-        return bool(is_text) and Fraction(1, 10) <= Fraction(rate) <= 1000  # type: ignore[arg-type]
+        return Fraction(1, 10) <= Fraction(rate) <= 1000
     except ZeroDivisionError:
         return False
 

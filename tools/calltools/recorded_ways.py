@@ -68,7 +68,7 @@ def _add(time: Optional[float], shift: float) -> Optional[float]:
     return None if time is None else time + shift
 
 
-def _item(times: Sequence, number: int) -> Optional[float]:
+def _item(times: Sequence[Optional[float]], number: int) -> Optional[float]:
     return times[number] if 0 <= number < len(times) else None
 
 
@@ -165,8 +165,8 @@ class Joined:
         for heard in self.sender.heard:
             time = (heard.time or 0.0) + self.shift
             equal = by_body.get(heard.body)
-            if equal and (number := equal.take(time + _TOO_LATE)) is not None:
-                found[number] = time
+            if equal and (place := equal.take(time + _TOO_LATE)) is not None:
+                found[place] = time
         return found
 
     def _packets(self) -> Iterator[way.Packet]:

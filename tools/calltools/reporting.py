@@ -144,7 +144,7 @@ class Reporting:
     @property
     def _is_sender(self) -> bool:
         # Whether packets went out since the report before the last one (6.4).
-        return bool(self._sent) and self._sent.packets > self._told[0]
+        return self._sent is not None and self._sent.packets > self._told[0]
 
     def _interval(self) -> float:
         hears = self.reception is not None

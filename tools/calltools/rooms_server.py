@@ -119,7 +119,8 @@ class RoomServer:
         idle = [one for one in open_ones if not self._is_in_room(one)]
         for one in idle[: max(0, len(open_ones) + 1 - MOST_CONNECTIONS)]:
             one.abort()
-        return server()
+        answer: asyncio.Protocol = server()
+        return answer
 
     def _is_in_room(self, transport: asyncio.Transport) -> bool:
         member = self._places.get(transport)

@@ -113,7 +113,8 @@ class WithItself(SecureNetwork):
         near, far = (_address(one) for one in own)
         for way, end in zip(self.ways, (near, far)):
             way.connect(end)
-        for name, one, other in (("forth", *self.ways), ("back", *reversed(self.ways))):
+        forth, back = self.ways
+        for name, one, other in (("forth", forth, back), ("back", back, forth)):
             one.on_datagram = BadLink(self._loop, self._network, name, other.send).take
         told = [_moved(one, way.address) for one, way in zip(own, reversed(self.ways))]
         self._loop.complete(self._connect(own, told))

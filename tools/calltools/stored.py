@@ -35,7 +35,8 @@ def encoded(size: Size, samples: bytes, quality: Optional[int]) -> bytes:
 
 def decoded(image: bytes) -> bytes:
     """The samples that a page shows of an image."""
-    return Image.open(io.BytesIO(image), formats=("WEBP",)).convert("RGB").getchannel(0).tobytes()
+    samples: bytes = Image.open(io.BytesIO(image), formats=("WEBP",)).convert("RGB").getchannel(0).tobytes()
+    return samples
 
 
 @dataclass(frozen=True)

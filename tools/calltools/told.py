@@ -105,8 +105,7 @@ class TerminalStatus:
 
 def _copy(tally: Tally) -> Tally:
     # What a status looks back on.
-    rates = {"bytes_out": tally.bytes_out, "bytes_in": tally.bytes_in}
-    return Tally(**rates, marks=tally.marks.copy())
+    return Tally(bytes_out=tally.bytes_out, bytes_in=tally.bytes_in, marks=tally.marks.copy())
 
 
 def _kbits(count: int, seconds: float) -> str:

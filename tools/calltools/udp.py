@@ -35,7 +35,7 @@ def named(address: Sequence[Any]) -> Address:
     return f"{host}%{scope}" if scope else host, port
 
 
-def full(family: int, address: Address) -> Sequence[Any]:
+def full(family: int, address: Address) -> tuple[Any, ...]:
     """The same as a socket takes it: a scope stands apart from the host there."""
     return socket.getaddrinfo(*address, family, socket.SOCK_DGRAM)[0][4]
 
@@ -53,7 +53,19 @@ def _bound(family: int, at: Address) -> socket.socket:
     return net
 
 
-class Channel:
+class AnyChannel:
+    """What a party asks of a channel, encrypted or not."""
+
+    def __init__(self) -> None:
+        self.on_datagram: Callable[[bytes], None] = lambda _: None
+        self.bytes_in = self.bytes_out = self.unreached = 0
+
+    def send(self, data: bytes) -> None:
+        """A datagram goes out."""
+        raise NotImplementedError
+
+
+class Channel(AnyChannel):
     """Datagrams to and from one address.
 
     The system hands on what comes from there, and another socket of the same port gets what
@@ -61,14 +73,13 @@ class Channel:
     """
 
     def __init__(self, loop: Loop, at: Address, to: Optional[Address] = None) -> None:
+        super().__init__()
         family, own = resolved(*at)
         self._loop = loop
         self._net = _bound(family, own)
         self._others: Optional[socket.socket] = None
         self.address: Address = named(self._net.getsockname())
-        self.on_datagram: Callable[[bytes], None] = lambda _: None
-        self.strangers = self.unreached = self.long = 0
-        self.bytes_in = self.bytes_out = 0
+        self.strangers = self.long = 0
         if to:
             self.connect(to)
         loop.on_readable(self._net.fileno(), self._read)

@@ -13,6 +13,10 @@ MOST_SIDE = 16_384
 COLOURS = {"C420", "C420jpeg", "C420mpeg2", "C420paldv"}
 
 
+# `bytes` within a `Size` is how many it has.
+_Samples = bytes
+
+
 @dataclass(frozen=True)
 class Size:
     """Width and height of Y in samples; Cb and Cr have half of each."""
@@ -32,7 +36,7 @@ class Size:
     def bytes(self) -> int:
         return self.luma + 2 * self.colour
 
-    def planes(self, samples: bytes) -> tuple[bytes, bytes, bytes]:
+    def planes(self, samples: _Samples) -> tuple[_Samples, _Samples, _Samples]:
         """Y, Cb and Cr of a picture's bytes."""
         cb, cr = self.luma, self.luma + self.colour
         return samples[:cb], samples[cb:cr], samples[cr:]

@@ -2,7 +2,7 @@
 
 from collections import defaultdict
 from dataclasses import dataclass
-from typing import Iterable, Optional, Sequence
+from typing import Any, Iterable, Optional, Sequence
 
 from .calling import Row
 from .intervals import Interval, interval_of
@@ -48,7 +48,7 @@ class Asked:
 class Found:
     """A choice of options, by the worst of the networks and videos that it was tried on."""
 
-    options: dict[str, object]
+    options: dict[str, Any]
     delay: int
     exact: Interval
     longest: int
@@ -107,7 +107,7 @@ class Advice:
 
 def found_in(rows: Iterable[Row]) -> list[Found]:
     """Each choice of options that was tried with acknowledgements."""
-    choices: dict[tuple, list[Row]] = defaultdict(list)
+    choices: dict[tuple[object, ...], list[Row]] = defaultdict(list)
     for row in rows:
         if row["sender"] == "acknowledged":
             choices[(*(row[name] for name in CHOSEN + _ALSO), row["hold"], row["delay"])].append(
@@ -122,7 +122,7 @@ def _counts(row: Row) -> bool:
 
 
 def _found(rows: Sequence[Row]) -> Found:
-    places: dict[tuple, list[Row]] = defaultdict(list)
+    places: dict[tuple[object, ...], list[Row]] = defaultdict(list)
     for row in rows:
         if _counts(row):
             places[tuple(row[name] for name in _PLACE)].append(row)
@@ -153,7 +153,7 @@ def advised(found: Sequence[Found], asked: Asked, by_bytes: bool = False) -> Adv
     """The cheapest: the least delay and then bytes, or the other way round, and then the fewest
     slots."""
 
-    def cost(one: Found) -> tuple:
+    def cost(one: Found) -> tuple[float, ...]:
         delay, size = one.delay, round(one.bytes)
         slots = one.options["slots"] or 0
         return ((size, delay) if by_bytes else (delay, size)) + (slots, -one.exact.mean)

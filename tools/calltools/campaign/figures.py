@@ -85,7 +85,7 @@ def _draw_lines(axis: Any, lines: Lines, curves: Curves, styles: dict[str, int])
     span = places[-1] - places[0] if are_numbers else 0
     for name, points in lines.items():
         style, found = styles[name], list(points.values())
-        look = {"color": COLOURS[style % len(COLOURS)], "marker": _MARKERS[style % len(_MARKERS)]}
+        look: dict[str, object] = {"color": COLOURS[style % len(COLOURS)], "marker": _MARKERS[style % len(_MARKERS)]}
         # The first is seen below one that lies on it.
         look |= {"lw": 1.5, "markersize": 4} if style else {"lw": 4, "markersize": 8}
         # Side by side, so that none hides another.
@@ -166,7 +166,7 @@ def _scatter(axis: Any, advice: Advice, place: Any) -> None:
         if many:
             halves = _halves([it.exact for it in many], True)
             where = [place(it) for it in many], [it.exact.mean for it in many]
-            look = {"color": colour, "label": label, "markersize": size, "lw": 1, "capsize": 2}
+            look: dict[str, object] = {"color": colour, "label": label, "markersize": size, "lw": 1, "capsize": 2}
             axis.errorbar(*where, halves, fmt="o", **look)
 
     picked = [it for it in (advice.best, advice.second) if it]

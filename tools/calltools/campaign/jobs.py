@@ -6,7 +6,7 @@ import random
 from dataclasses import asdict, dataclass
 from functools import cache
 from pathlib import Path
-from typing import Any, Iterator, Optional
+from typing import Any, Iterator, Optional, cast
 
 from .. import captured, joined, loss, made, y4m
 from ..errors import BadInput
@@ -85,7 +85,8 @@ class Jobs:
     def _video(self, video: plans.Video) -> tuple[str, int, str]:
         # Its hash, how many pictures are sent, and its format.
         data = self._video_bytes(video)
-        reader = y4m.Y4mReader(io.BufferedReader(io.BytesIO(data)), video.name)
+        raw = cast(io.RawIOBase, io.BytesIO(data))
+        reader = y4m.Y4mReader(io.BufferedReader(raw), video.name)
         form = y4m.format_of(reader.size, str(video.file or video.name))
         count = sum(1 for _ in reader)
         wanted = self._plan.pictures or count
@@ -224,8 +225,8 @@ class Jobs:
         if network.kind == "independent":
             return loss.Independent(values["rate"], draws)
         if network.kind == "elliott":
-            chances = (values[key] for key in plans.MODELS["elliott"])
-            return loss.Elliott(*chances, draws)
+            changes, shares = (values["to_bad"], values["to_good"]), (values["lost_in_good"], values["lost_in_bad"])
+            return loss.Elliott(*changes, *shares, draws)
         return loss.Pattern(self._pattern(network.file), draws)
 
     @cache

@@ -5,7 +5,7 @@ import itertools
 import re
 from dataclasses import dataclass, field
 from pathlib import Path
-from typing import Any, Callable, Iterator, Optional, Union
+from typing import Any, Callable, Iterator, Mapping, Optional, Union
 
 from .. import y4m
 from ..errors import BadInput
@@ -35,7 +35,7 @@ class Numbers:
 
     def fault(self, value: Any) -> Optional[str]:
         """Why a value isn't one of them."""
-        kinds = int if self.is_whole else (int, float)
+        kinds: tuple[type, ...] = (int,) if self.is_whole else (int, float)
         if isinstance(value, bool) or not isinstance(value, kinds):
             return f"{value!r} is no {'whole ' if self.is_whole else ''}number"
         if not self.least <= value <= self.most:
@@ -124,7 +124,7 @@ class Network:
     name: str
     line: int
     kind: str  # a model's name, `capture` or `trace`
-    values: dict[str, Value]
+    values: dict[str, Any]
     file: Optional[Path] = None
 
     def is_drawn(self) -> bool:
@@ -156,7 +156,7 @@ class Plan:
     videos: list[Video]
     networks: list[Network]
     senders: list[Sender]
-    options: list[dict[str, Value]]
+    options: list[dict[str, Any]]
 
 
 class _Reader:
@@ -221,7 +221,9 @@ class _Reader:
             raise self.fault(at, f"{at[-1]}: the range has more than {MOST_CALLS:,} values")
         return list(range(given["from"], given["to"] + 1, step))
 
-    def product(self, at: places.Path, table: dict[str, Any], kinds: dict[str, Kind]) -> list[dict]:
+    def product(
+        self, at: places.Path, table: dict[str, Any], kinds: Mapping[str, Kind]
+    ) -> list[dict[str, Any]]:
         """Each choice of a value for every key that the table has."""
         names = [name for name in kinds if name in table]
         lists = [self.values((*at, name), kinds[name], table[name]) for name in names]
@@ -234,7 +236,7 @@ class _Reader:
 
     def file(self, at: places.Path, given: Any) -> Path:
         """A file that is named; a relative name counts from the plan's folder."""
-        path = self.path.parent / self.one(at, Words(), given)
+        path: Path = self.path.parent / self.one(at, Words(), given)
         if not path.exists():
             raise self.fault(at, f"{given}: there is no such file")
         if not path.is_file():
@@ -243,7 +245,7 @@ class _Reader:
 
     def name(self, at: places.Path, table: dict[str, Any], used: set[str]) -> str:
         """The name of a table, which no other one has."""
-        name = self.one((*at, "name"), Words(), table.get("name", ""))
+        name: str = self.one((*at, "name"), Words(), table.get("name", ""))
         if not _NAME.fullmatch(name):
             told = (
                 "has no name"
@@ -323,7 +325,7 @@ def _tables(
         yield (name, number), table
 
 
-def _named(reader: _Reader, document: dict[str, Any], name: str, read: Callable) -> Iterator[Any]:
+def _named(reader: _Reader, document: dict[str, Any], name: str, read: Callable[..., Any]) -> Iterator[Any]:
     used: set[str] = set()
     for at, table in _tables(reader, document, name):
         yield read(reader, at, table, used)
@@ -355,7 +357,7 @@ def _networks(reader: _Reader, at: places.Path, table: Any, used: set[str]) -> l
         reader.known(at, table, {"name", "trace"})
         return [Network(name, line, kind, {}, reader.file((*at, "trace"), table["trace"]))]
     if kind == "capture":
-        own = {**_COMMON, **_HOLD, **_CAPTURE}
+        own: dict[str, Kind] = {**_COMMON, **_HOLD, **_CAPTURE}
         reader.known(at, table, {"name", "capture", *own})
         file = reader.file((*at, "capture"), table["capture"])
         return [
@@ -366,7 +368,7 @@ def _networks(reader: _Reader, at: places.Path, table: Any, used: set[str]) -> l
 
 def _models(reader: _Reader, at: places.Path, table: Any, name: str) -> list[Network]:
     model = reader.one((*at, "loss"), Words(tuple(MODELS)), table["loss"])
-    own = {**MODELS[model], **_COMMON, "jitter": _SOME, **_IN_TIME, **_HOLD}
+    own: dict[str, Kind] = {**MODELS[model], **_COMMON, "jitter": _SOME, **_IN_TIME, **_HOLD}
     reader.known(at, table, {"name", "loss", *own})
     for wanted in MODELS[model]:
         if wanted not in table:
@@ -399,15 +401,17 @@ def _senders(reader: _Reader, document: dict[str, Any]) -> list[Sender]:
     return list(dict.fromkeys(found)) or [Sender("acknowledged")]
 
 
-def _options(reader: _Reader, document: dict[str, Any]) -> list[dict[str, Value]]:
+def _options(reader: _Reader, document: dict[str, Any]) -> list[dict[str, Any]]:
     given = document.get("options", {})
     many = given if isinstance(given, list) else [given]
-    found: list[dict[str, Value]] = []
+    found: list[dict[str, Any]] = []
     for number, table in enumerate(many):
-        at: places.Path = ("options", number) if isinstance(given, list) else ("options",)
+        at: places.Path = ("options",)
+        if isinstance(given, list):
+            at = ("options", number)
         reader.known(at, table, set(OPTIONS))
         for chosen in reader.product(at, table, OPTIONS):
-            options = {**DEFAULTS, **chosen}
+            options: dict[str, Any] = {**DEFAULTS, **chosen}
             if options["lead"] > options["slots"] - 2:
                 told = f"lead {options['lead']} is more than slots {options['slots']} less 2"
                 raise reader.fault((*at, "lead"), told)

@@ -76,7 +76,9 @@ def opened(path: Path, is_new_allowed: bool = True) -> Table:
         raise BadInput(str(path), "no table", "there is no such file")
     if not path.absolute().parent.is_dir():
         raise BadInput(str(path), "its folder", "there is no such folder")
-    return _SqliteTable(path) if is_sqlite(path) else _CsvTable(path)
+    if is_sqlite(path):
+        return _SqliteTable(path)
+    return _CsvTable(path)
 
 
 class _SqliteTable:
