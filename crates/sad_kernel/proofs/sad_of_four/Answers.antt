@@ -1,3 +1,4 @@
+-- No partial sum overflows, and their total is the sum of the absolute differences.
 use Rattle.std.proofs.Common.{◌∙◌, arith, w32, sym}
 use Rattle.std.proofs.lemmas.Simd.{adds_fit, sum_fits, fold-sum, sum-zip2}
 use Rattle.sad_kernel.proofs.Sums.{sum_small, sum_of, sums, sum_of_four}

@@ -1,3 +1,4 @@
+-- A message of three bytes and one of five are each the one that the bytes spell; any other length is its fault.
 use Rattle.std.proofs.Common.{◌≡◌, ℕ, ◌+◌, ◌*◌, ◌<◌, List, [], ◌∷◌, length, take, drop, get_or, refl, sym, ◌∙◌, arith}
 use Rattle.h263_bits.specs.Bits.{bits_of, number}
 use Rattle.h263_bits.proofs.SyntaxLaws.{number-push}

@@ -1,3 +1,4 @@
+-- From mark to mark: what is written and what waits is the text of the events so far.
 use Rattle.std.proofs.Common.{◌≡◌, ◌+◌, ◌/◌, ◌^◌, ◌++◌, Bool, List, length, ap, sym, ◌∙◌, subst, append_assoc, arith, refl}
 use lib.Count.{count_trailing_zeros}
 use Rattle.h263_bits.specs.Written.{written}

@@ -1,3 +1,4 @@
+-- A whole conversation from its turns: what the last one left is what the definition of the run says.
 use Rattle.std.proofs.Common.{[], ap, sym, rules}
 use Rattle.call_command.specs.Call.{call_step, first_state, may_read, most_turns}
 use Rattle.call_command.specs.Converse.{talk_end}

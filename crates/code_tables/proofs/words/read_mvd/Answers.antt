@@ -1,3 +1,4 @@
+-- The word and its sign are the difference that they spell, and 32 is no difference but -32.
 use Rattle.std.proofs.Common.{◌≡◌, ◌++◌, Bool, List, Result, Ok, Err, rules, ap, sym, ◌∙◌, arith}
 use Rattle.std.specs.Prelude.{IfOk, IfErr, IsOkAnd, ℤ, pos, negsuc, ◌≤ℤ◌}
 use mir.Val.{SFits, to_z, of_z}

@@ -1,3 +1,4 @@
+-- The word of a difference's size, and its sign unless that is 0, spell the difference.
 use Rattle.std.proofs.Common.{◌≡◌, ◌<◌, ◌+◌, ◌≤◌, ◌++◌, ◌∷◌, [], Bool, List, length, length-append, subst, sym, ap, ◌∙◌, w8, arith}
 use Rattle.std.specs.Prelude.{ℤ, pos, int_lt}
 use Rattle.std.proofs.lemmas.Int.{to_z-of_z}

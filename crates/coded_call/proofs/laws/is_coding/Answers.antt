@@ -1,3 +1,4 @@
+-- The coding meets each law of a call by the laws of its layers.
 use Rattle.std.proofs.Common.{◌≡◌, ℕ, ◌<◌, Ok, Result, sym, ap, ◌∙◌, subst, arith, List, length}
 use Rattle.std.specs.Prelude.{slice_get, slice_index_or}
 use Rattle.h263_bits.specs.declared.fault.Fault.{Fault}

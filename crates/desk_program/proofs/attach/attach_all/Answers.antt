@@ -1,3 +1,4 @@
+-- The roles before the place are attached, and no others are.
 use Rattle.std.proofs.Common.{Bool, List, [], ◌∙◌, ap, subst, arith}
 use Rattle.h263_outside.specs.declared.desk.Role.{Role}
 use Rattle.h263_outside.specs.declared.desk.Role.TheVariants.{Video}

@@ -1,3 +1,4 @@
+-- The turns so far follow the steps of the run, up to its end or the first stop.
 use Rattle.std.proofs.Common.{true, false, refl, ◌∙◌, arith}
 use Rattle.desk_program.proofs.Running.{state_on, left_last, left_err, on_settled, goes_on, comes_to_its_end, stops, gave, fell, on_going, on_end, read_out_since, not_read_out, later_stop, roles_on, stop_at_start}
 use Rattle.call_report.specs.declared.status.Status.TheVariants.{Ok as Fine}

@@ -1,3 +1,4 @@
+-- One event of a party, by its kind: what is done, or which refusal ends the run.
 use Rattle.std.proofs.Common.{◌≡◌, length, None, Err, refl, ap}
 use Rattle.h263_outside.specs.declared.desk.Role.TheVariants.{Events}
 use Rattle.loss_trace.specs.declared.event.Event.TheVariants as says

@@ -1,3 +1,4 @@
+-- A party's frame that was read is sent; one that can't be read ends the run.
 use Rattle.std.proofs.Common.{◌≡◌, Bool, true, false, Ok, Err, refl, sym, ap, subst, ◌∙◌, arith}
 use Rattle.h263_outside.specs.declared.desk.Role.TheVariants.{Video, Events, Pictures}
 use Rattle.h263_types.specs.Sizes.{size_of_picture}

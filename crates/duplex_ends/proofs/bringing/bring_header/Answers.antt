@@ -1,3 +1,4 @@
+-- The messages before the place were brought, in the order of the header.
 use Rattle.std.proofs.Common.{◌≡◌, ◌+◌, [], ◌∷◌, List, None, Some, Option, drop, ap, subst, ◌∙◌, arith, refl}
 use Rattle.std.proofs.lemmas.List.{drop_more, drop_all}
 use Rattle.h263_types.specs.declared.pace.FixedPace.{FixedPace}

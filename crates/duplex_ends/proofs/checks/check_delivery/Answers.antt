@@ -1,3 +1,4 @@
+-- A delivery is refused exactly where its picture or one of its messages may not happen.
 use Rattle.std.proofs.Common.{◌≡◌, ◌+◌, length, [], List, Option, None, Result, Err, sym, ap, subst, ◌∙◌}
 use Rattle.std.specs.Prelude.{slice_index_or}
 use Rattle.h263_types.specs.declared.clock.Clock.{Clock}

@@ -1,3 +1,4 @@
+-- The messages of a header are brought where a packet stands at the place, and else none.
 use Rattle.std.proofs.Common.{◌≡◌, ℕ, List, [], Option, sym, ap, subst, ◌∙◌, arith}
 use Rattle.std.specs.Prelude.{slice_index_or}
 use Rattle.h263_types.specs.declared.clock.Clock.{Clock}

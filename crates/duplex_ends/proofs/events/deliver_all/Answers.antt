@@ -1,3 +1,4 @@
+-- The packets before the place were delivered, in their order.
 use Rattle.std.proofs.Common.{◌≡◌, ◌+◌, ℕ, suc, [], length, refl, subst, ◌∙◌, arith}
 use Rattle.call_model.specs.IdealCall.{slices_at}
 use Rattle.duplex_call.specs.Duplex.{other, way}

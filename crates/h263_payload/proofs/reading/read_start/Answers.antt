@@ -1,3 +1,4 @@
+-- The first two bits say whether a start code begins, which has to agree with P and the extra header.
 use Rattle.std.proofs.Common.{◌≡◌, ℕ, ◌≤◌, Bool, true, false, cond, Option, Some, None, Ok, refl, ap, sym, ◌∙◌, arith, eq-eqb}
 use Rattle.std.specs.Prelude.{◌==◌, not, is_some, is_none}
 use Rattle.std.proofs.Math.Bool.{beq}

@@ -1,3 +1,4 @@
+-- Each command's arm meets what is promised of a run, by the contract of its own crate.
 use Rattle.std.proofs.Common.{Bool, true, false, ℕ, List, Option, ◌∙◌, sym, ap, subst, arith}
 use Rattle.std.proofs.lemmas.List.{length-take-le}
 use Rattle.h263_outside.specs.declared.desk.Role.{Role}

@@ -1,3 +1,4 @@
+-- The rows above the place are predicted at each of the eight half places around.
 use Rattle.std.proofs.Common.{◌≡◌, ℕ, ◌+◌, ◌∙◌, subst, arith, rules, true, false}
 use Rattle.std.specs.Int.RustNames.{bit_xor}
 use Rattle.h263_planes.specs.Lent.{picture}

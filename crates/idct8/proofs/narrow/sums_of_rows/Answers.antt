@@ -1,3 +1,4 @@
+-- Lane j of sum k is sum k of row j, within its bound.
 use Rattle.std.proofs.Common.{◌≡◌, ℕ, ◌+◌, ◌*◌, ◌^◌, ◌<◌, ◌≤◌, ◌∙◌, List, ℤ, pos, map, ap, sym, refl, arith, lit≤, length, length-set, replicate, w16, w32, to_z, of_z, Bool, true, false, nat_le}
 use Rattle.std.proofs.lemmas.Bool.{leb-true, leb-false}
 use Rattle.idct8.specs.Passes.{row_sums}

@@ -1,3 +1,4 @@
+-- Halves that mirrored columns share stay within their bounds, and give the columns of the basis.
 use Rattle.std.proofs.Common.{◌≡◌, ◌^◌, ◌∙◌, lit≤, lit<, pos}
 use Rattle.idct8.specs.declared.passes.Direction.TheVariants.{Inverse}
 use Rattle.idct8.specs.Vectors.{lane, EightWithin, list_at, row_at}

@@ -1,3 +1,4 @@
+-- Neither half's sum overflows, and the result is at least each of them.
 use Rattle.std.proofs.Common.{arith, lit<}
 use Rattle.idct8.proofs.Squares.{size_read}
 use Rattle.idct8.proofs.small.larger_half.Goals as goal

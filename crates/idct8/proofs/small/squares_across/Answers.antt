@@ -1,3 +1,4 @@
+-- No square or sum of squares overflows, and their total is that of the columns.
 use Rattle.std.proofs.Common.{◌∙◌, lit≤, lit<}
 use Rattle.idct8.proofs.Rotations.{sum_of, difference_of}
 use Rattle.idct8.proofs.Squares.{same_squares}

@@ -1,3 +1,4 @@
+-- Each of the seven additions stays within 32 bits, so the total is the sum of the lanes.
 use Rattle.std.proofs.Common.{arith, lit≤, lit<, map, of_z, to_z, refl, unsigned_abs, w32}
 use Rattle.idct8.specs.Vectors.{lane}
 use Rattle.idct8.proofs.Squares.{size_within, up_read}

@@ -1,3 +1,4 @@
+-- The bytes before the place are those of the line, up to its newline or the room's end.
 use Rattle.std.proofs.Common.{◌≡◌, ℕ, List, length, drop, Option, Some, subst, ap, ◌∙◌, arith}
 use Rattle.std.proofs.lemmas.List.{drop-drop}
 use Rattle.loss_trace.proofs.Firsts.{Came, byte_there, no_byte, nothing, unclosed, closed, goes_on, too_long}

@@ -1,3 +1,4 @@
+-- The levels whose marks are gone stand at their places of the zigzag order.
 use Rattle.std.proofs.Common.{◌≡◌, ◌≢◌, ◌<◌, ap, ◌∙◌, subst, sym, ℕ, ℤ, pos, get_or, to_z, of_z, w16, w64}
 use Rattle.std.specs.Int.{bit_at, trailing_zeros}
 use Rattle.h263_types.specs.Blocks.{IsLevel}

@@ -1,3 +1,4 @@
+-- The areas of the rows before the place have their sums, with those of the columns beside them.
 use Rattle.std.proofs.Common.{◌≡◌, refl, ap, subst, ◌∙◌, arith, below_more, ℕ, ◌+◌, ◌*◌, ◌≤◌, inl, get_or}
 use Rattle.h263_planes.specs.Lent.{picture}
 use Rattle.motion_search.specs.Areas.{area_sum, AreColumns}

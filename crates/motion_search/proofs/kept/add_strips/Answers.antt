@@ -1,3 +1,4 @@
+-- The strips before the place have the sums of their areas.
 use Rattle.std.proofs.Common.{refl, ◌∙◌, arith, ◌+◌, ◌-◌, ◌*◌}
 use Rattle.h263_planes.specs.Lent.{picture}
 use Rattle.motion_search.specs.Areas.{samples_from}

@@ -1,3 +1,4 @@
+-- No vector of the rows above the place is better than the one that is held.
 use Rattle.std.proofs.Common.{◌≡◌, ap, ◌∙◌, sym, subst, false, arith, below_more, ℕ, ◌<◌, ◌+◌, ◌*◌}
 use Rattle.std.specs.Int.{bit_at}
 use Rattle.std.proofs.lemmas.Nat.Bits.{bit_at-zero}

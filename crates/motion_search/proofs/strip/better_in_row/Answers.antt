@@ -1,3 +1,4 @@
+-- A column is looked at where it is in the square, and else nothing is lost.
 use Rattle.std.proofs.Common.{◌≡◌, sym, subst, arith, false}
 use Rattle.h263_types.specs.declared.vector.Vector.{Vector}
 use Rattle.h263_types.specs.Vectors.{InReach}

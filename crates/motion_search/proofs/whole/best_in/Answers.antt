@@ -1,3 +1,4 @@
+-- The vector that is found first only spares work: the best one is the first of the whole square.
 use Rattle.std.proofs.Common.{◌≡◌, ◌∙◌, ap, sym, subst, arith, ℕ, ◌+◌, ◌*◌, ◌/◌, ◌≤◌, List, ℤ, ◌↔◌, ◌<◌, false}
 use Rattle.h263_types.specs.declared.format.Format.{Format}
 use Rattle.h263_types.specs.Sizes.{columns_of, height_of, mbs_of}

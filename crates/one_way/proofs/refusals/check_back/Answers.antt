@@ -1,3 +1,4 @@
+-- A message that has left the ring is one whose picture is too far back.
 use Rattle.std.proofs.Common.{◌≡◌, ℕ, ◌+◌, ◌<◌, ◌≤◌, length, map, Option, Err, refl, sym, subst, ◌∙◌, arith, None}
 use Rattle.back_messages.specs.declared.writing.Said.{Said}
 use Rattle.call_model.specs.IdealCall.{Back}

@@ -1,3 +1,4 @@
+-- A unit's own starts of pictures and slices are where a first fault shows that its front ends.
 use Rattle.std.proofs.Common.{Some, ap, sym, ◌∙◌}
 use Rattle.std.specs.Prelude.{not}
 use Rattle.payload_join.specs.Packet.{bytes_between}

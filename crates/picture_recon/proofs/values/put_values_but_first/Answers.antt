@@ -1,3 +1,4 @@
+-- The values of the levels whose marks are gone stand at their places of the block.
 use Rattle.std.proofs.Common.{◌≢◌, ℕ, ◌<◌, arith, ap, ◌∙◌, subst, sym, to_z, of_z, w16, w64, lit<, slice_set}
 use Rattle.std.specs.Int.{trailing_zeros}
 use Rattle.std.proofs.lemmas.Nat.Bits.{bit_at_clear_same, bit_at_clear_other}

@@ -1,3 +1,4 @@
+-- The bytes before the place are those of the line, up to its newline, the room's end or the video's.
 use Rattle.std.proofs.Common.{◌≡◌, ℕ, ◌+◌, ◌-◌, ◌<◌, ◌≤◌, ◌++◌, max, List, length, take, drop, Some, sym, ap, subst, ◌∙◌, arith, length-take, length-drop, length-append, take-take}
 use Rattle.std.proofs.lemmas.List.{drop-drop, take-append-le}
 use Rattle.h263_outside.specs.declared.desk.Role.TheVariants.{Video}

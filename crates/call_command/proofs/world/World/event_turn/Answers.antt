@@ -1,3 +1,4 @@
+-- One event of a trace, by its kind: what is done, or which refusal ends the run.
 use Rattle.std.proofs.Common.{◌≡◌, ℕ, ◌<◌, List, ◌∷◌, ◌++◌, length, None, Result, Ok, Err, OnOk, refl, ap, subst, ◌∙◌, arith}
 use Rattle.h263_types.specs.declared.params.Params.{Params}
 use Rattle.h263_types.specs.declared.pace.FixedPace.{FixedPace}

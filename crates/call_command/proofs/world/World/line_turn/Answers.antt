@@ -1,3 +1,4 @@
+-- A line that was read, that can't be read, or that isn't there, is the turn that the definition has.
 use Rattle.std.proofs.Common.{◌≡◌, ℕ, Bool, List, [], Option, Some, None, Result, Ok, Err, refl, sym, ap, subst}
 use Rattle.std.specs.Prelude.{if◌then◌else◌}
 use Rattle.h263_outside.specs.declared.desk.Role.TheVariants.{Video, Events}

@@ -1,3 +1,4 @@
+-- A packet of the call's pictures is taken by its stream, or costs its budget and is dropped.
 use Rattle.std.proofs.Common.{Bool, true, false, ap, subst, ◌∙◌}
 use Rattle.stream_choice.specs.declared.streams.Taker.{Taker}
 use Rattle.session_runs.specs.Lines.{run_of}

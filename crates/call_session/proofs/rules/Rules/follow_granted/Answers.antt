@@ -1,3 +1,4 @@
+-- A granted packet goes to the stream that the choice names, or to none.
 use Rattle.std.proofs.Common.{ℕ, Option, refl, ap, sym, subst, ◌∙◌}
 use Rattle.stream_choice.specs.declared.streams.Run.{Run}
 use Rattle.session_intake.specs.declared.settings.Settings.{Settings}

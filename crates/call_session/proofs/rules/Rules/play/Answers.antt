@@ -1,3 +1,4 @@
+-- A picture is played where one is due, and nothing changes where none is.
 use Rattle.std.proofs.Common.{ℕ, Some, None, ap, subst, ◌∙◌}
 use Rattle.session_intake.specs.declared.counts.Counts.{Counts}
 use Rattle.session_intake.specs.Counts.{after_play}

@@ -1,3 +1,4 @@
+-- A datagram that can't be read leaves its cause; one that can is what the rules make of it.
 use Rattle.std.proofs.Common.{ℕ, List, length, take, drop, Result, ap, subst, ◌∙◌}
 use Rattle.h263_types.specs.declared.params.Params.{Params}
 use Rattle.rtp_source.specs.Source.{renamed}

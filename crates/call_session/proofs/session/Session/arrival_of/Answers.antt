@@ -1,3 +1,4 @@
+-- The same where one stream alone is looked at: others are dropped before they cost anything.
 use Rattle.std.proofs.Common.{ℕ, List, length, take, drop, Result, ap, subst, ◌∙◌}
 use Rattle.h263_types.specs.declared.params.Params.{Params}
 use Rattle.rtp_source.specs.Source.{renamed}

@@ -1,3 +1,4 @@
+-- A demonstration stands before its first line, or ends for want of memory.
 use Rattle.std.proofs.Common.{◌≡◌, ℕ, true, List, [], length, refl, rules, ap, sym, subst}
 use Rattle.loss_trace.specs.declared.event.Event.{Event as Line}
 use Rattle.h263_types.specs.Sizes.{size_of_picture}

@@ -1,3 +1,4 @@
+-- A turn takes the next line of the made trace, or tells the counts after the last one.
 use Rattle.std.proofs.Common.{◌≡◌, ◌+◌, List, length, ap, subst, sym, ◌∙◌, arith}
 use Rattle.loss_trace.specs.declared.event.Event.{Event as Line}
 use Rattle.make_input.specs.Left.{lines_left}

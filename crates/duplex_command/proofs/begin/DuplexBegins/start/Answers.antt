@@ -1,3 +1,4 @@
+-- Both heads are read and both parties stand, or the run ends as the first fault says.
 use Rattle.std.proofs.Common.{rules, subst}
 use Rattle.h263_types.specs.declared.format.Format.{Format}
 use Rattle.call_report.specs.declared.status.Status.TheVariants.{OutOfMemory}

@@ -1,3 +1,4 @@
+-- A line is the turn of the party that it names, with the parties' places exchanged for the second one.
 use Rattle.std.proofs.Common.{ℕ, List, length, Option, Some, None, Ok, Err, refl, sym, ap, subst, ◌∙◌, arith}
 use Rattle.std.specs.Vec.{with_items}
 use Rattle.std.proofs.lemmas.List.{with_items_is}

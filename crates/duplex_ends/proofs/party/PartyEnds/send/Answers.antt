@@ -1,3 +1,4 @@
+-- The picture that is sent carries the last messages that wait, at most four.
 use Rattle.std.proofs.Common.{◌≡◌, ℕ, List, [], ◌∷◌, length, Option, Some, take, refl, sym, ap, subst, ◌∙◌}
 use Rattle.std.specs.Prelude.{drop, map, slice_get}
 use Rattle.h263_types.specs.declared.clock.Clock.{Clock}

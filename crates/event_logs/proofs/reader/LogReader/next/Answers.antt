@@ -1,3 +1,4 @@
+-- An entry, the end of the log, and each fault at its byte, as the definition of a log has them.
 use Rattle.std.proofs.Common.{◌≡◌, ◌<◌, ℕ, List, length, take, drop, Some, None, refl, sym, ap, subst, ◌∙◌, arith}
 use Rattle.event_logs.specs.Entry.{bytes_of, begun, reach_of}
 use Rattle.event_logs.specs.Place.{LogPlace}

@@ -1,3 +1,4 @@
+-- The group's next picture is the sender's, by the newest picture that all have.
 use Rattle.std.proofs.Common.{◌≡◌, ℕ, ◌+◌, ◌&&◌, ◌∙◌, ◌∷◌, ◌++◌, [], List, Option, ap, arith, leb, length, refl, subst, sym}
 use Rattle.std.proofs.lemmas.List.{length-append, with_items_is}
 use Rattle.h263_types.specs.declared.blocks.Mb.{Mb}

@@ -1,3 +1,4 @@
+-- A message changes what is known of its receiver alone.
 use Rattle.std.proofs.Common.{◌≡◌, ℕ, ◌∙◌, Bool, false, Option, Some, None, Result, Ok, Err, ap, length, refl, sym}
 use Rattle.std.specs.Prelude.{if◌then◌else◌, is_some}
 use Rattle.std.specs.Option.{option_map}

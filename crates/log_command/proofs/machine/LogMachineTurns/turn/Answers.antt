@@ -1,3 +1,4 @@
+-- An entry is what the command does with it, or ends the run by its fault or the command's own.
 use Rattle.std.proofs.Common.{◌≡◌, ◌+◌, ◌<◌, ◌≤◌, ℕ, Bool, Some, None, true, min, take, drop, refl, sym, ap, ◌∙◌, subst, arith}
 use Rattle.std.specs.Vec.{with_items}
 use Rattle.h263_outside.specs.declared.desk.Role.{Role}

@@ -1,3 +1,4 @@
+-- A play and its answer are those of the receiver's run.
 use Rattle.std.proofs.Common.{◌≡◌, ℕ, List, ◌++◌, Option, IfSome, refl, sym, ap, subst, ◌∙◌}
 use Rattle.back_messages.specs.Said.{text_of}
 use Rattle.back_messages.specs.declared.writing.Said.{Said}

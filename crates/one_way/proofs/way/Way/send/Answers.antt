@@ -1,3 +1,4 @@
+-- The picture that is sent, its packets and its reference are those of the sender's run.
 use Rattle.std.proofs.Common.{◌≡◌, ℕ, ◌*◌, List, [], ◌∷◌, ◌++◌, length, Option, sym, ap, subst, ◌∙◌, arith}
 use Rattle.std.specs.Prelude.{slice_get}
 use Rattle.h263_types.specs.Sizes.{mbs_of}

@@ -1,3 +1,4 @@
+-- What the collector holds tells whether a piece is fresh, a repeat, or overlaps.
 use Rattle.std.proofs.Common.{not, refl, ap, ◌∙◌, sym}
 use Rattle.std.specs.List.{list_all}
 use Rattle.packet_collector.specs.Collected.{header_in}

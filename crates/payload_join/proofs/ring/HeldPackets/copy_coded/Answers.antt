@@ -1,3 +1,4 @@
+-- The bytes of a packet that is held are copied to the place, and those before it stay.
 use Rattle.std.proofs.Common.{ℕ, ◌+◌, Some, None, length, sym, ap, subst, ◌∙◌, arith}
 use Rattle.h263_region.specs.Slots.{Slots, bytes_in}
 use Rattle.payload_join.specs.Packet.{bytes_between}

@@ -1,3 +1,4 @@
+-- A packet of the next picture ends the one before it, whose line is told.
 use Rattle.std.proofs.Common.{ℕ, [], ◌∷◌, ◌++◌, OnOk, OnErr, sym, ◌∙◌, subst, arith, rules}
 use Rattle.std.proofs.lemmas.List.{length_push}
 use Rattle.desk_program.specs.Ends.{Gains, GainsFronts}

@@ -1,3 +1,4 @@
+-- A slice of an open picture is judged by its header, its reference and what was taken before.
 use Rattle.std.proofs.Common.{refl, ap, sym, subst, arith}
 use Rattle.receiver_end.specs.Answers.{IsHeard, takes}
 use Rattle.receiver_end.proofs.Judged.{other_header, missing, repeats, overlaps, is_fresh}

@@ -1,3 +1,4 @@
+-- What a packet does is what `packet` does; its picture's number is that of its header.
 use Rattle.std.proofs.Common.{◌≡◌, List, length, Ok, Err, refl, ap, sym, ◌∙◌, subst}
 use Rattle.std.proofs.lemmas.List.{with_items_is}
 use Rattle.h263_types.specs.declared.blocks.Mb.{Mb}

@@ -1,3 +1,4 @@
+-- Feedback is counted by what the sender answers, and changes what is known alone.
 use Rattle.std.proofs.Common.{◌≡◌, ℕ, ◌+◌, List, length, take, refl, ap, ◌∙◌, subst, arith}
 use Rattle.std.proofs.lemmas.List.{length-take-le}
 use Rattle.h263_types.specs.declared.params.Params.{Params}

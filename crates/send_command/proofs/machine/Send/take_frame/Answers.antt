@@ -1,3 +1,4 @@
+-- A capture is the sender's next picture by the aim's quantiser; a fault of the video ends the run.
 use Rattle.std.proofs.Common.{◌≡◌, Bool, true, false, [], refl, sym, ap, ◌∙◌, arith}
 use Rattle.std.specs.Vec.{with_items}
 use Rattle.h263_outside.specs.declared.desk.Role.{Role}

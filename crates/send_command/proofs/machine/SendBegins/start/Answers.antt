@@ -1,3 +1,4 @@
+-- The sender stands before its first picture, or the run ends by the video's fault or for want of memory.
 use Rattle.std.proofs.Common.{◌≡◌, ℕ, ◌-◌, true, Bool, refl, sym, ap, ◌∙◌, subst, arith}
 use Rattle.h263_outside.specs.declared.desk.Role.{Role}
 use Rattle.h263_outside.specs.declared.desk.Role.TheVariants.{Video, Events, Wire, Report}

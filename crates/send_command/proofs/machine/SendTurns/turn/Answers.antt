@@ -1,3 +1,4 @@
+-- An entry of the log is a capture or feedback; its fault or the log's end ends the run.
 use Rattle.std.proofs.Common.{◌≡◌, ℕ, ◌+◌, true, List, length, take, drop, Option, None, Some, refl, sym, ap, ◌∙◌, subst, arith}
 use Rattle.std.specs.Vec.{with_items}
 use Rattle.h263_outside.specs.declared.desk.Role.{Role}

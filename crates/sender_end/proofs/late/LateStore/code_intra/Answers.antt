@@ -1,3 +1,4 @@
+-- An intra picture is drawn, or its levels are kept, as the store was asked for.
 use Rattle.std.proofs.Common.{rules, ◌≡◌, ℕ, ◌-◌, false, refl, sym, ap, ◌∙◌, subst, arith, List, None, length, set}
 use Rattle.std.specs.Box.{boxed_slice_items}
 use Rattle.h263_types.specs.Sizes.{size_of_picture}

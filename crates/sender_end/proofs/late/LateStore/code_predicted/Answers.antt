@@ -1,3 +1,4 @@
+-- A predicted picture refers to a kept one, which is drawn first.
 use Rattle.std.proofs.Common.{rules, ◌≡◌, ℕ, ◌%◌, ◌<◌, refl, sym, ap, ◌∙◌, subst, arith, mod-lt, List, Option, Some, length}
 use Rattle.std.specs.Box.{boxed_slice_items}
 use Rattle.h263_types.specs.Sizes.{size_of_picture}

@@ -1,3 +1,4 @@
+-- A drawn picture is the one that its levels stood for, so the view of the store stays.
 use Rattle.std.proofs.Common.{◌≡◌, ℕ, ◌-◌, ◌%◌, ◌<◌, sym, ap, ◌∙◌, subst, arith, mod-lt, List, length, set, get_or, length-set}
 use Rattle.std.specs.Box.{boxed_slice_items}
 use Rattle.std.proofs.lemmas.List.{get_or_default}

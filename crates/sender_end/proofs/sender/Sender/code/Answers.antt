@@ -1,3 +1,4 @@
+-- The reference is the newest known picture in the window, and the picture is the run's next one.
 use Rattle.std.proofs.Common.{◌≡◌, ℕ, ◌+◌, ◌%◌, ◌<◌, ◌≤◌, sym, ap, ◌∙◌, subst, IfSome, ◌∷◌, length}
 use Rattle.std.specs.Option.{option_map_or}
 use Rattle.h263_types.specs.declared.blocks.Mb.{Mb}

@@ -1,3 +1,4 @@
+-- With its reference and depth the picture is coded, cut and kept as the run has it.
 use Rattle.std.proofs.Common.{◌≡◌, ℕ, ◌+◌, ◌%◌, ◌<◌, ◌≤◌, false, refl, sym, ap, ◌∙◌, subst, arith, IfSome, List, Option, length, is_some}
 use Rattle.std.specs.Option.{option_map_or}
 use Rattle.std.proofs.lemmas.Option.{IfSome_then}

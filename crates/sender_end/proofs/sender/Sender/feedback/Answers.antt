@@ -1,3 +1,4 @@
+-- A message changes which of the last pictures are known, and nothing else.
 use Rattle.std.proofs.Common.{◌≡◌, Ok, sym, ap, ◌∙◌, subst, ◌∷◌}
 use Rattle.h263_planes.specs.Picture.{Picture}
 use Rattle.reference_selector.specs.Messages.{message_of}

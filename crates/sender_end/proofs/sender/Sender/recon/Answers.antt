@@ -1,3 +1,4 @@
+-- The picture that was coded last is drawn, and is the run's reconstruction.
 use Rattle.std.proofs.Common.{◌≡◌, inl, inr, ℕ, ◌-◌, ◌%◌, ◌<◌, Option, Some, None, IfSome, sym, ap, ◌∙◌, subst, arith, length}
 use Rattle.std.specs.Option.{option_map}
 use Rattle.std.proofs.lemmas.Option.{slice_get_cases}

@@ -1,3 +1,4 @@
+-- The first packet of the next picture makes a row of its own.
 use Rattle.std.proofs.Common.{◌≡◌, ◌∙◌, ℕ, ◌+◌, ◌-◌, Some, true, false, List, ◌∷◌, refl, sym, ap, subst, arith}
 use Rattle.std.proofs.lemmas.Bool.{false_from_ne_true}
 use Rattle.h263_types.specs.declared.format.Format.{Format}

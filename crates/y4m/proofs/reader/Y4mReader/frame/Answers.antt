@@ -1,3 +1,4 @@
+-- A frame, the end of the video, and each fault at its byte, as the definition of a video has them.
 use Rattle.std.proofs.Common.{◌≡◌, ◌<◌, ◌+◌, ℕ, max, [], List, length, take, drop, Some, Ok, Err, refl, sym, ap, ◌∙◌, arith, length-take, None}
 use Rattle.std.proofs.Math.Seq.{drop-nil}
 use Rattle.std.proofs.lemmas.List.{drop-drop}
