@@ -13,11 +13,13 @@ from pathlib import Path
 from typing import Any, Callable, Optional
 
 from calltools import library as own_library
-from calltools import live_settings, made, receiving, recorded, recorded_ways, sending, y4m
-from calltools.call_context import CallContext
-from calltools.loop import Timer
-from calltools.recording import Recorder
-from calltools.tally import StatusLine, Tally
+from calltools import made_video, y4m
+from calltools.live import receiving, sending, settings as live_settings
+from calltools.recording import recorded, recorded_ways
+from calltools.live.call_context import CallContext
+from calltools.network.loop import Timer
+from calltools.recording.recorder import Recorder
+from calltools.live.tally import StatusLine, Tally
 from live_tests import TOOLS, Calls, needs_library
 
 
@@ -139,7 +141,7 @@ def frames() -> list[bytes]:
         draws, count = random.Random(1), _QCIF.width * _QCIF.height
         mask = int.from_bytes(bytes([63]) * count, "big")
         for number in range(64):
-            frame = made.made_frame(_QCIF, 1, number)
+            frame = made_video.made_frame(_QCIF, 1, number)
             noise = int.from_bytes(draws.randbytes(count), "big") & mask
             noisy = int.from_bytes(frame[:count], "big") + noise
             _MADE.append(noisy.to_bytes(count, "big") + frame[count:])

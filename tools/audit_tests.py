@@ -10,7 +10,9 @@ import tempfile
 import unittest
 from pathlib import Path
 
-from calltools import errors, logs, pcap, rtcp, rtp
+from calltools import errors
+from calltools.network import pcap, rtcp, rtp
+from calltools.recording import logs
 from tool_modules import TOOLS, tool
 
 # Calls of an independent program: the sender's log, and the packets that it writes.

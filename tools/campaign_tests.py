@@ -22,22 +22,11 @@ from collections import Counter
 from pathlib import Path
 from typing import Any, Optional
 
-from calltools import captured, errors, logs, loss, pcap, quality, rtp
-from calltools.campaign import (
-    advice,
-    calling,
-    content,
-    curves,
-    engines,
-    intervals,
-    jitter,
-    jobs,
-    measures,
-    places,
-    plan,
-    progress,
-    table,
-)
+from calltools import errors
+from calltools.network import captured, loss, pcap, rtp
+from calltools.recording import logs
+from calltools.report import quality
+from calltools.campaign import advice, calling, content, curves, engines, intervals, jitter, jobs, measures, places, plan, progress, table
 from stub_program import STUB
 from tool_modules import TOOLS, tool
 

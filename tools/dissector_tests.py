@@ -9,7 +9,8 @@ import unittest
 from pathlib import Path
 from typing import Iterator, Optional
 
-from calltools import logs, pcap, rtcp
+from calltools.network import pcap, rtcp
+from calltools.recording import logs
 from tool_modules import TOOLS
 
 EXAMPLES = TOOLS.parent / "examples"

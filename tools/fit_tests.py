@@ -7,7 +7,8 @@ import unittest
 from collections import deque
 from pathlib import Path
 
-from calltools import contents, library, logs, program, y4m
+from calltools import formula_videos, library, program, y4m
+from calltools.recording import logs
 from live_tests import needs_library
 
 PROGRAM = Path(os.environ.get("H263RPS_PROGRAM", program.OWN))
@@ -51,7 +52,7 @@ class FitTest(unittest.TestCase):
 
     def test_the_command_writes_what_the_library_sends(self) -> None:
         size = y4m.Size(*y4m.FORMATS["qcif"])
-        content = next(it for it in contents.CONTENTS if it.name == "textures")
+        content = next(it for it in formula_videos.CONTENTS if it.name == "textures")
         frames, video = list(content.frames(size, PICTURES)), self.room / "video"
         with open(video, "wb") as file:
             y4m.write_head(file, size)

@@ -10,8 +10,9 @@ from typing import Any, Callable, Optional
 
 import made_packets
 from adapt_tests import Clock, SimulatedCall
-from calltools import library, rtp
-from calltools.loop import Timer
+from calltools import library
+from calltools.network import rtp
+from calltools.network.loop import Timer
 from live_tests import Call, Calls, bound, free_port, needs_library, wait_for_port
 
 # How many streams of three packets are forged a second.

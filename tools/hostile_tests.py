@@ -12,7 +12,7 @@ import xml.etree.ElementTree
 from pathlib import Path
 from typing import Any
 
-from calltools import logs, recorded, recorded_ways
+from calltools.recording import logs, recorded, recorded_ways
 from page_tests import MARKS, Folder, Room, as_shown, frames, message, needs_pillow, packet, whole_folder
 from tool_modules import TOOLS
 

@@ -22,8 +22,13 @@ from typing import Any, Callable, Sequence
 from unittest import mock
 
 import made_packets
-from calltools import bad_network, errors, library, live_settings, logs, loop, messages, pipes
-from calltools import picture_start, program, reports, rtcp, rtp, udp, y4m, y4m_pipe
+from calltools import errors, library
+from calltools.live import settings
+from calltools.network import bad_network, loop, messages, pipes
+from calltools.recording import logs
+from calltools import program, y4m
+from calltools.live import y4m_pipe
+from calltools.network import picture_start, reports, rtcp, rtp, udp
 
 TOOLS = Path(__file__).resolve().parent
 EXAMPLES = TOOLS.parent / "examples"
@@ -101,13 +106,13 @@ class PartsTest(unittest.TestCase):
 
     def test_lead_and_slots_hold_the_wait(self) -> None:
         rate = y4m.RATE
-        self.assertEqual([live_settings.lead_for(wait, rate, None) for wait in (0, 0.1, 0.101, 1.9)], [3, 6, 7, 60])
-        self.assertEqual([live_settings.slots_for(lead, None) for lead in (3, 6, 31, 60)], [36, 39, 64, 64])
-        self.assertEqual(live_settings.lead_for(0.1, rate, 4), 4)
+        self.assertEqual([settings.lead_for(wait, rate, None) for wait in (0, 0.1, 0.101, 1.9)], [3, 6, 7, 60])
+        self.assertEqual([settings.slots_for(lead, None) for lead in (3, 6, 31, 60)], [36, 39, 64, 64])
+        self.assertEqual(settings.lead_for(0.1, rate, 4), 4)
         refused: list[tuple[Callable[[], int], str]] = [
-            (lambda: live_settings.lead_for(0.1, rate, 3), "--lead: 3: it can't hold --wait 100, for which 4 is the least"),
-            (lambda: live_settings.lead_for(2.01, rate, None), "--wait: 2010 ms: 2002 is the most"),
-            (lambda: live_settings.slots_for(6, 7), "--slots: 7: they can't hold a lead of 6, for which 8 is the least"),
+            (lambda: settings.lead_for(0.1, rate, 3), "--lead: 3: it can't hold --wait 100, for which 4 is the least"),
+            (lambda: settings.lead_for(2.01, rate, None), "--wait: 2010 ms: 2002 is the most"),
+            (lambda: settings.slots_for(6, 7), "--slots: 7: they can't hold a lead of 6, for which 8 is the least"),
         ]
         for call, told in refused:
             with self.assertRaises(errors.BadInput) as caught:

@@ -3,7 +3,8 @@
 import functools
 from typing import Any
 
-from calltools import library, rtp
+from calltools import library
+from calltools.network import rtp
 
 _FORMATS = {"sub-qcif": 1, "qcif": 2, "cif": 3}
 # A picture of each format that has one packet.

@@ -15,7 +15,8 @@ from typing import Callable
 
 import made_packets
 from adapt_tests import frames
-from calltools import library, repair, rtcp, rtp, y4m
+from calltools import library, y4m
+from calltools.network import repair, rtcp, rtp
 from live_tests import Call, Calls, bound, free_port, needs_library, wait_for_port
 
 # Within these words a program runs before all others.

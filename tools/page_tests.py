@@ -16,11 +16,13 @@ from collections import Counter
 from pathlib import Path
 from typing import Any, Optional, Sequence
 
-from calltools import errors, logs, made, recorded, recorded_ways, report, traced, way, y4m
+from calltools import errors, made_video, y4m
+from calltools.recording import logs, recorded, recorded_ways, way
+from calltools.report import picture_lines, traced_way
 from tool_modules import TOOLS, tool
 
 try:
-    from calltools import stored
+    from calltools.page import stored_pictures as stored
 except ImportError:
     stored = None  # type: ignore[assignment]
 
@@ -58,7 +60,7 @@ def frames(path: Path = VIDEO) -> list[bytes]:
 
 
 def burst_marks() -> list[Optional[str]]:
-    told = report.read_report(BURST.read_text().splitlines(), str(BURST))
+    told = picture_lines.read_report(BURST.read_text().splitlines(), str(BURST))
     return [picture.mark for picture in told.pictures]
 
 
@@ -80,7 +82,7 @@ def as_shown(pictures: Sequence[bytes], marks: Sequence[Optional[str]]) -> list[
 
 def noisy(count: int) -> list[bytes]:
     draws = random.Random(7)
-    return [made.with_noise(SMALL, made.made_frame(SMALL, 1, n), 4, draws) for n in range(count)]
+    return [made_video.with_noise(SMALL, made_video.made_frame(SMALL, 1, n), 4, draws) for n in range(count)]
 
 
 def call_of(page: Path) -> dict[str, Any]:
@@ -316,22 +318,22 @@ class PageTest(Room):
         """What comes in time, late, early and again, what is lost, and the messages in order."""
         text = "S,D 0.0,D 0.0,D 2.*,S,D 1.*,S,S,D 3.*,P,B 1,P,P,D 2.1,P".split(",")
         lines = ["0 patched intra", "1 exact intra", "2 held from 1", "3 exact from 1"]
-        told = report.read_report(lines, "report")
-        found = traced.way_of_report(told, SMALL, traced.Trace("trace", text, lead=2))
+        told = picture_lines.read_report(lines, "report")
+        found = traced_way.way_of_report(told, SMALL, traced_way.Trace("trace", text, lead=2))
         fates = [(packet.picture, packet.fate, packet.is_all) for packet in found.packets]
         wanted = [(0, "taken", False), (0, "again", False), (0, "lost", False), (1, "taken", True)]
         self.assertEqual(fates, wanted + [(2, "late", False), (3, "early", True)])
         said = [(message.picture, message.is_ack, message.fate) for message in found.messages]
         self.assertEqual(said[:2], [(1, True, "lost"), (0, False, "taken")])
         sizes = {0: [90, 80], 1: [70], 2: [60, 50], 3: [40]}
-        found = traced.way_of_report(told, SMALL, traced.Trace("trace", text, 2, sizes))
+        found = traced_way.way_of_report(told, SMALL, traced_way.Trace("trace", text, 2, sizes))
         by_size = [(packet.picture, packet.fate, packet.size) for packet in found.packets]
         first = [(0, "taken", 90), (0, "again", 90), (0, "lost", 80), (1, "taken", 70)]
         self.assertEqual(by_size, first + [(2, "late", 50), (2, "lost", 60), (3, "early", 40)])
 
     def test_colours_can_be_read(self) -> None:
         """Words and marks have a contrast of 4.5 at least in both schemes."""
-        style = (TOOLS / "calltools" / "web" / "page.css").read_text()
+        style = (TOOLS / "calltools" / "page" / "web" / "page.css").read_text()
         for scheme in style.split("prefers-color-scheme: dark"):
             found = dict(re.findall(r"--(\w+): (#\w{6})", scheme))
             words = ("ink", "quiet", "exact", "patched", "held", "late", "message", "none")

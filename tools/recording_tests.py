@@ -11,7 +11,8 @@ import unittest
 from pathlib import Path
 from unittest import mock
 
-from calltools import errors, logs, recorded, recorded_ways, recording
+from calltools import errors
+from calltools.recording import logs, recorded, recorded_ways, recorder as recording
 from live_tests import Calls, free_port, needs_library
 from page_tests import HEARD, MARKS, ROWS, SAID, Folder, Room, as_shown, frames, is_pillow_here, whole_folder
 from tool_modules import TOOLS, tool

@@ -12,11 +12,12 @@ from typing import Any, Optional
 
 from adapt_tests import Clock
 from calltools import library as own_library
-from calltools import live_settings, receiving, rtp
-from calltools.call_context import CallContext
-from calltools.recording import Recorder
-from calltools.rtcp import Bye
-from calltools.tally import Tally
+from calltools.live import receiving, settings as live_settings
+from calltools.network import rtp
+from calltools.live.call_context import CallContext
+from calltools.recording.recorder import Recorder
+from calltools.network.rtcp import Bye
+from calltools.live.tally import Tally
 from live_tests import needs_library, of_run, shown_again
 from way_scenarios import CLOCK, STEP, Scenario, lead_of, scenarios
 

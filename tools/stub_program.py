@@ -8,7 +8,8 @@ from tool_modules import TOOLS
 STUB = f"""#!{sys.executable}
 import sys
 sys.path.insert(0, {str(TOOLS)!r})
-from calltools import logs, rtp
+from calltools.network import rtp
+from calltools.recording import logs
 log, wire = (sys.argv[3], sys.argv[4]) if sys.argv[1] == "send" else (sys.argv[2], sys.argv[4])
 count, newest, came = 0, None, set()
 with open(log, "rb") as read, open(wire, "wb") as write:

@@ -6,9 +6,12 @@ from collections import Counter
 from typing import Any, Callable, Optional
 
 from adapt_tests import Clock, frames
-from calltools import header_messages, library, live_settings, parties, recording, rtcp, screens, tally
-from calltools.call_context import CallContext
-from calltools.call_network import Line
+from calltools import library
+from calltools.live import parties, screens, settings as live_settings, tally
+from calltools.network import header_messages, rtcp
+from calltools.recording import recorder as recording
+from calltools.live.call_context import CallContext
+from calltools.network.call_network import Line
 from live_tests import needs_library
 
 _WAY = 0.025

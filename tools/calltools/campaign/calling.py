@@ -11,12 +11,14 @@ from functools import lru_cache
 from pathlib import Path
 from typing import Any, Iterable, Iterator, Optional, Sequence
 
-from .. import joined, plain, quality, rtp, y4m
+from .. import lone_ends, plain_coder, y4m
+from ..network import rtp
+from ..report import quality
 from ..errors import BadInput
-from ..wire import packets_of_pictures
-from ..logs import read_log
+from ..recording.wire import packets_of_pictures
+from ..recording.logs import read_log
 from .content import Store
-from .jobs import LABELS, Job
+from .jobs import Job, LABELS
 from .measures import MEASURES, Shown, marks_measured, references_measured
 
 # A run of the program that takes longer has failed, in seconds.
@@ -36,7 +38,7 @@ class Spent:
 
 
 @dataclass(frozen=True)
-class MeasuredCall(joined.Call):
+class MeasuredCall(lone_ends.Call):
     """A call that notes what the last run of each command took."""
 
     spent: dict[str, Spent] = field(default_factory=dict)
@@ -89,7 +91,7 @@ def _measured(job: Job, store: Store, room: Path) -> Row:
 
 def _own_measured(job: Job, store: Store, room: Path, trace: list[str]) -> Row:
     call = MeasuredCall(store.get(job.program), store.get(job.video), job.options, room)
-    report = joined.joined_call(call, trace)
+    report = lone_ends.joined_call(call, trace)
     with open(call.file("packets.log"), "rb") as file:
         packets = packets_of_pictures(read_log(file, "packets.log"), "packets.log")
     came = in_time(trace, int(job.options["lead"]))
@@ -144,10 +146,10 @@ def _plain_measured(job: Job, store: Store, room: Path, trace: list[str]) -> Row
     target = int(job.options["target"]) if "target" in job.options else None
     chosen = _Plain(store.get(job.video), pictures, job.labels["every"], int(job.options["limit"]))
     stream, size = _stream(chosen, target, int(job.options["quant"]))
-    cut = [plain.packets_of(picture, chosen.limit) for picture in stream.pictures]
+    cut = [plain_coder.packets_of(picture, chosen.limit) for picture in stream.pictures]
     arrived = in_time(trace, int(job.options["lead"]))
     came = [_came(packets, here) for packets, here in zip(cut, arrived)]
-    frames = list(plain.shown_of_parts(stream, came, size, room))
+    frames = list(plain_coder.shown_of_parts(stream, came, size, room))
     shown = [
         Shown(_mark(part, frame == whole), part == picture)
         for part, picture, frame, whole in zip(came, stream.pictures, frames, stream.shown)
@@ -184,7 +186,7 @@ class _Plain:
 @lru_cache(maxsize=8)
 def _stream(
     chosen: _Plain, target: Optional[int], quant: int
-) -> tuple[plain.PlainStream, y4m.Size]:
+) -> tuple[plain_coder.PlainStream, y4m.Size]:
     """The plain stream at the quantiser, or at the least one that keeps the target."""
     if target is None:
         return _coded(chosen, quant)
@@ -198,17 +200,17 @@ def _stream(
     return _coded(chosen, least)
 
 
-def _bytes_of(stream: plain.PlainStream, chosen: _Plain) -> float:
-    packets = [it for picture in stream.pictures for it in plain.packets_of(picture, chosen.limit)]
+def _bytes_of(stream: plain_coder.PlainStream, chosen: _Plain) -> float:
+    packets = [it for picture in stream.pictures for it in plain_coder.packets_of(picture, chosen.limit)]
     return sum(len(it) + rtp.HEADER_BYTES for it in packets) / chosen.pictures
 
 
-def _coded(chosen: _Plain, quant: int) -> tuple[plain.PlainStream, y4m.Size]:
-    coder = (*plain.sliced(chosen.limit), "-frames:v", chosen.pictures)
+def _coded(chosen: _Plain, quant: int) -> tuple[plain_coder.PlainStream, y4m.Size]:
+    coder = (*plain_coder.sliced(chosen.limit), "-frames:v", chosen.pictures)
     with open(chosen.video, "rb") as file:
         size = y4m.Y4mReader(file, str(chosen.video)).size
     with tempfile.TemporaryDirectory(prefix="campaign-") as room:
-        stream = plain.coded(
+        stream = plain_coder.coded(
             _named_y4m(chosen.video, Path(room)), size, quant, chosen.every, Path(room), coder
         )
     if len(stream.pictures) != chosen.pictures:

@@ -5,7 +5,7 @@ from typing import Any, Sequence
 
 from ..errors import BadInput
 from .advice import Advice, Found
-from .curves import SHARES, Curves, Lines
+from .curves import Curves, Lines, SHARES
 from .intervals import Interval
 from .measures import MEASURES
 

@@ -3,7 +3,7 @@
 import random
 from typing import Optional
 
-from ..loss import Losses
+from ..network.loss import Losses
 
 # Deviations at which the distribution is cut (RFC 8868, 4.5.3).
 CUT = 3

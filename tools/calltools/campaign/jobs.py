@@ -8,10 +8,11 @@ from functools import cache
 from pathlib import Path
 from typing import Any, Iterator, Optional, cast
 
-from .. import captured, joined, loss, made, y4m
+from .. import lone_ends, made_video, y4m
+from ..network import captured, loss
 from ..errors import BadInput
-from ..trace import Drawn, Fates, Network as Timing, trace_of_fates
-from ..traced import PERIOD
+from ..report.trace import Drawn, Fates, Network as Timing, trace_of_fates
+from ..report.traced_way import PERIOD
 from . import plan as plans
 from .content import Store, hash_of
 from .jitter import BoundedJitter
@@ -105,7 +106,7 @@ class Jobs:
         out = io.BytesIO()
         y4m.write_head(out, size)
         count = self._plan.pictures or 60
-        for frame in made.frames(
+        for frame in made_video.frames(
             size, count, video.made["noise"], video.made["seed"], video.made["step"]
         ):
             y4m.write_frame(out, frame)
@@ -164,7 +165,7 @@ class Jobs:
 
     def _file_lines(self, path: Optional[Path], pictures: int) -> list[str]:
         assert path
-        lines = joined.read_trace(path)
+        lines = lone_ends.read_trace(path)
         sent = lines.count("S")
         if not 0 < sent <= pictures:
             raise BadInput(

@@ -3,7 +3,7 @@
 from dataclasses import dataclass
 from typing import Optional, Sequence
 
-from ..report import Picture
+from ..report.picture_lines import Picture
 
 # Each measure by its name, with what it counts.
 MEASURES = {

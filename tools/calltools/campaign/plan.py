@@ -76,7 +76,7 @@ OPTIONS: dict[str, Kind] = {
 }
 DEFAULTS: dict[str, Value] = {"slots": 16, "lead": 3, "limit": 1_400, "quant": 8}
 
-# What each model of losses wants (calltools/loss.py).
+# What each model of losses wants (calltools/network/loss.py).
 MODELS: dict[str, dict[str, Kind]] = {
     "gilbert": {"rate": _SHARE, "burst": Numbers(1, 1_000, is_whole=False)},
     "independent": {"rate": _SHARE},

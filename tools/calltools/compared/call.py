@@ -8,7 +8,7 @@ from typing import Any, Callable, Optional, Protocol, Sequence, Union
 
 from ..y4m import Size
 from .coders import squares
-from .network import CODING, MILLISECOND, PER, RATE, Cover, Message, Network, Packet, Parity, Recovery, capture_of
+from .network import CODING, Cover, MILLISECOND, Message, Network, PER, Packet, Parity, RATE, Recovery, capture_of
 
 # Pictures that are sent after the last one that counts, so that each loss has something after it.
 AFTER = 12

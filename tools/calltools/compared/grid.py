@@ -10,20 +10,9 @@ from typing import Any, Callable, Iterator
 from .. import library
 from . import coders, videos
 from .call import Call, Line, Receiver, Sender, Video
-from .network import MILLISECOND, PER, RATE, Network
-from .ours import OurReceiver, Ours, OurSender
-from .rivals import (
-    H264,
-    VP8,
-    AcknowledgingReceiver,
-    AcknowledgingSender,
-    ChainReceiver,
-    Coded,
-    KeptCoder,
-    Kind,
-    LiveCoder,
-    RivalSender,
-)
+from .network import MILLISECOND, Network, PER, RATE
+from .ours import OurReceiver, OurSender, Ours
+from .rivals import AcknowledgingReceiver, AcknowledgingSender, ChainReceiver, Coded, H264, KeptCoder, Kind, LiveCoder, RivalSender, VP8
 
 # On the wire, messages included, in bits a second.
 RATES = {"qcif": 128_000, "cif": 384_000}

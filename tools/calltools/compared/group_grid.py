@@ -10,9 +10,9 @@ from .. import library
 from . import coders, videos
 from .call import Receiver, Video
 from .groups import GroupCall, ManySender, Ways
-from .network import MILLISECOND, PER, RATE, Message, Network
+from .network import MILLISECOND, Message, Network, PER, RATE
 from .ours import OurGroup, OurReceiver, Ours
-from .rivals import H264, VP8, ChainReceiver, LiveCoder, RivalSender
+from .rivals import ChainReceiver, H264, LiveCoder, RivalSender, VP8
 
 # How many receivers there are; the share of packets that each loses; milliseconds of a round trip, and of the wait between a
 # picture's arrival and its play; how often the losses are drawn; and bits a second on the line of each.

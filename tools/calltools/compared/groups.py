@@ -7,10 +7,10 @@ import random
 from dataclasses import dataclass
 from typing import Any, Callable, Optional, Protocol, Sequence
 
-from ..loss import Independent, Losses
+from ..network.loss import Independent, Losses
 from .call import AFTER, Receiver, Video
 from .coders import squares
-from .network import CODING, MILLISECOND, PER, RATE, Message, Network, Packet, capture_of
+from .network import CODING, MILLISECOND, Message, Network, PER, Packet, RATE, capture_of
 
 # A picture is looked at so long after it is due.
 _LOOK = MILLISECOND

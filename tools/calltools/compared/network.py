@@ -4,7 +4,7 @@ import random
 from dataclasses import dataclass
 from typing import Any, Optional
 
-from ..loss import GilbertElliott, Independent, Losses
+from ..network.loss import GilbertElliott, Independent, Losses
 
 SECOND, MILLISECOND = 10**9, 10**6
 # Pictures a second, as a fraction.

@@ -4,7 +4,7 @@ from dataclasses import dataclass
 from types import ModuleType
 from typing import Any, Optional
 
-from .network import LIMIT, PER, RATE, UNDER_RTP, Message, Packet, not_there, selection
+from .network import LIMIT, Message, PER, Packet, RATE, UNDER_RTP, not_there, selection
 
 # Pictures that each end keeps, and that may come before their turn: as of the elements by default.
 SLOTS, LEAD = 39, 6

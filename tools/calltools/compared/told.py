@@ -4,7 +4,7 @@ from collections import defaultdict
 from dataclasses import dataclass
 from typing import Callable, Iterable, Optional
 
-from .. import svg
+from ..report import svg
 from .grid import RATES, Row
 
 NAMES = {

@@ -1,0 +1,1 @@
+"""A live call: its parties, cameras and screens."""

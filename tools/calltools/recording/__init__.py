@@ -1,0 +1,1 @@
+"""The folder of a recorded call, written and read."""

@@ -1,0 +1,1 @@
+"""Reports and traces of the program, and what is drawn of them."""
