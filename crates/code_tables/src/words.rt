@@ -11,12 +11,13 @@ ghost use Rattle.h263_bits.specs.Elements.{IsWordOf, IsWordFault};
 ghost use Rattle.code_tables.specs.EventWords.{IsEventFault};
 ghost use Rattle.code_tables.specs.Tables.{cbpy, cbpy_texts, cbpy_text, magnitude_texts, size_of, sign_text, mvd_text, cbpy_words, magnitude_table, event_table, mvd, mvd_words, Coefficient as Event, signed, level_of, mvd_parts, event, event_parts, byte_of, escape_fields, event_text, IsEvent};
 ghost use Rattle.code_tables.specs.Events.{event_of_code, coefficient_of};
+ghost use Rattle.code_tables.specs.Seen.{IsNextEvent};
 
 use crate::code::{
     Coefficient, Level, read_code, search_code, signed_number, write_code, write_signed_code,
 };
 use crate::difference_bits::seen_difference;
-use crate::event_bits::{escape_level, level_at, seen_escape, seen_event, with_sign};
+use crate::event_bits::{SeenEvent, escape_level, level_at, seen_escape, seen_event, with_sign};
 use crate::event_tables::{EVENTS, LAST_0_ROWS, LAST_1_ROWS, LEVELS, Row};
 use crate::tables::{CBPY, CBPY_FAST, MAGNITUDES, MAGNITUDES_FAST, MAGNITUDES_LONG};
 use h263_bits::{BitReader, BitWriter, Fault, FaultKind};
@@ -183,6 +184,18 @@ pub fn read_event(reader: &mut BitReader<'_>) -> Result<Coefficient, Fault>
         }
     }
     read_rare_event(reader)
+}
+
+/// The event that the next bits are, by one look at 13 of them. None where fewer than 64 are left,
+/// or where they begin with no word of an event: [`read_event`] reads what stands there.
+#[inline(always)]
+pub fn look_at_event(reader: &BitReader<'_>) -> Option<SeenEvent>
+    ensures { IfSome result (IsNextEvent reader.now) }
+{
+    if reader.rest() < 64 {
+        return None;
+    }
+    seen_event(reader.peek_early(13))
 }
 
 fn write_pattern(writer: &mut BitWriter<'_>, pattern: usize)
