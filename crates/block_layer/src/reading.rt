@@ -6,7 +6,7 @@ ghost use Rattle.h263_types.specs.Blocks.{IsIntraBlock, IsInterBlock};
 ghost use Rattle.block_layer.specs.Text.{event_turn, events, allowed_place, placed, dc_of, intra_dc, intra_block, inter_block, IsIntraText, IsInterText, intra_block_fault, inter_block_fault};
 ghost use Rattle.block_layer.specs.Placed.{placed_of};
 
-use code_tables::{laws as code_tables_laws, look_at_event, read_event};
+use code_tables::{Coefficient, laws as code_tables_laws, look_at_event, read_event};
 use h263_bits::{BitReader, Fault, FaultKind};
 use h263_types::Block;
 
@@ -42,6 +42,14 @@ fn read_placed(reader: &mut BitReader<'_>, place: usize) -> Result<Placed, Fault
     })
 }
 
+// LEVEL, as a block has it.
+#[inline(always)]
+fn level_of(event: &Coefficient) -> i16
+    ensures { result ≡ event.now.level }
+{
+    i16::from(event.level)
+}
+
 // Events from a place on, up to the one with LAST 1.
 fn read_events(reader: &mut BitReader<'_>, from: usize, levels: &mut [i16; 64]) -> Result<(), Fault>
     requires { from ≤ 64 }
@@ -56,7 +64,7 @@ fn read_events(reader: &mut BitReader<'_>, from: usize, levels: &mut [i16; 64]) 
                 return Err(FaultKind::PastEnd.at(reader.at()));
             }
             reader.skip(found.len);
-            levels[at] = i16::from(found.event.level);
+            levels[at] = level_of(&found.event);
             if found.event.last {
                 return Ok(());
             }
