@@ -42,8 +42,10 @@ mod words;
 
 pub use code::Coefficient;
 pub use event_bits::SeenEvent;
-pub use macroblock::{MbClass, Mcbpc, read_dquant, read_mcbpc, write_dquant, write_mcbpc};
+pub use macroblock::{
+    MbClass, Mcbpc, mcbpc_number, read_dquant, read_mcbpc, write_dquant, write_mcbpc,
+};
 pub use words::{
-    event_number, look_at_event, read_cbpy, read_event, read_mvd, write_cbpy, write_event,
-    write_mvd,
+    cbpy_number, event_number, look_at_event, mvd_number, read_cbpy, read_event, read_mvd,
+    write_cbpy, write_event, write_mvd,
 };

@@ -14,7 +14,8 @@ ghost use Rattle.code_tables.specs.Events.{event_of_code, coefficient_of};
 ghost use Rattle.code_tables.specs.Seen.{IsNextEvent};
 
 use crate::code::{
-    Coefficient, Level, read_code, search_code, signed_number, write_code, write_signed_code,
+    Coefficient, Level, code_number, read_code, search_code, signed_number, write_code,
+    write_signed_code,
 };
 use crate::difference_bits::seen_difference;
 use crate::event_bits::{SeenEvent, escape_level, level_at, seen_escape, seen_event, with_sign};
@@ -222,6 +223,31 @@ pub fn write_cbpy(writer: &mut BitWriter<'_>, intra: bool, cbpy: u8)
     }
 }
 
+fn pattern_number(pattern: usize) -> (u32, u32)
+    requires pattern { pattern < 16 }
+    ensures text { spelled result.1 result.0 ≡ text_at cbpy_texts pattern }
+    ensures fits { result.0 < 2 ^ result.1 }
+    ensures few { result.1 < 16 }
+{
+    code_number(&CBPY, pattern)
+}
+
+/// CBPY as a number, and how many bits it has. An inter macroblock has the word of the complement.
+#[inline(always)]
+#[tactic(auto, unfolding(crate::specs::Tables::cbpy_text))]
+pub fn cbpy_number(intra: bool, cbpy: u8) -> (u32, u32)
+    requires pattern { cbpy < 16 }
+    ensures text { spelled result.1 result.0 ≡ cbpy_text intra cbpy }
+    ensures fits { result.0 < 2 ^ result.1 }
+    ensures few { result.1 < 16 }
+{
+    if intra {
+        pattern_number(cbpy as usize)
+    } else {
+        pattern_number(15 - cbpy as usize)
+    }
+}
+
 // The size of a number.
 fn size(value: i8) -> usize
     ensures { result ≡ size_of value }
@@ -246,6 +272,23 @@ pub fn write_mvd(writer: &mut BitWriter<'_>, value: i8)
         write_code(writer, &MAGNITUDES, size);
     } else {
         write_signed_code(writer, &MAGNITUDES, size, value < 0);
+    }
+}
+
+/// MVD, a difference of vectors in half samples, -32 to 31, as a number, and how many bits it has.
+#[inline(always)]
+pub fn mvd_number(value: i8) -> (u32, u32)
+    requires low { negsuc 31 ≤ℤ value }
+    requires high { value ≤ℤ pos 31 }
+    ensures text { spelled result.1 result.0 ≡ mvd_text value }
+    ensures fits { result.0 < 2 ^ result.1 }
+    ensures few { result.1 ≤ 16 }
+{
+    let size = size(value);
+    if size == 0 {
+        code_number(&MAGNITUDES, size)
+    } else {
+        signed_number(&MAGNITUDES, size, value < 0)
     }
 }
 
