@@ -9,3 +9,4 @@ pub mod Spelt
 pub mod FaultRows
 pub mod Sixes
 mod Joined
+mod InI

@@ -26,5 +26,5 @@ mod reading;
 mod writing;
 
 pub use prediction::predictor;
-pub use reading::{pass_skipped, read_mb};
+pub use reading::{pass_skipped, read_mb, read_mb_in_i};
 pub use writing::{marks_in, write_marked, write_mb};
