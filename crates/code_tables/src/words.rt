@@ -87,8 +87,8 @@ pub fn read_mvd(reader: &mut BitReader<'_>) -> Result<i8, Fault>
     ensures low { IfOk result (λ v. negsuc 31 ≤ℤ v) }
     ensures high { IfOk result (λ v. v ≤ℤ pos 31) }
 {
-    if reader.rest() >= 13 {
-        let seen = reader.peek(13);
+    if reader.rest() >= 64 {
+        let seen = reader.peek_early(13);
         if let Some(found) = seen_difference(seen) {
             reader.skip(found.len);
             return Ok(found.value);
