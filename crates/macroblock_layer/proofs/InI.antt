@@ -1,5 +1,5 @@
 -- A macroblock of an I picture has no vector: its reach and its predictor are never asked for.
-use Rattle.std.proofs.Common.{◌≡◌, ℕ, Result, Ok, Err, refl, ◌∙◌, sym}
+use Rattle.std.proofs.Common.{◌≡◌, ℕ, Result, Ok, Err, refl}
 use Rattle.h263_types.specs.declared.Kind.TheVariants as kinds
 use Rattle.h263_types.specs.declared.vector.Vector.{Vector}
 use Rattle.h263_types.specs.declared.vector.Reach.{Reach}

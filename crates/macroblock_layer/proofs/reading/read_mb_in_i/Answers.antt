@@ -1,10 +1,7 @@
-use Rattle.std.proofs.Common.{Result, subst, sym}
-use Rattle.h263_types.specs.declared.Kind.TheVariants as kinds
+use Rattle.std.proofs.Common.{Result, subst}
 use Rattle.h263_types.specs.declared.blocks.Mb.{Mb}
 use Rattle.h263_bits.specs.declared.fault.Fault.{Fault}
 use Rattle.h263_bits.specs.Reading.{Bits, Gives}
-use Rattle.h263_bits.specs.Syntax.{reading}
-use Rattle.macroblock_layer.specs.Text.{mb}
 use Rattle.macroblock_layer.proofs.InI.{same_in_i}
 use Rattle.macroblock_layer.proofs.reading.read_mb_in_i.Goals as goal
 

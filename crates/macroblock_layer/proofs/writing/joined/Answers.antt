@@ -1,4 +1,4 @@
-use Rattle.std.proofs.Common.{◌≡◌, ◌+◌, ◌*◌, ◌%◌, ◌^◌, ◌<◌, ℕ, ap, ◌∙◌, subst, sym, arith}
+use Rattle.std.proofs.Common.{◌+◌, ◌^◌, ◌<◌, ℕ, ap, ◌∙◌, subst, sym}
 use Rattle.h263_bits.specs.Bits.{spelled}
 use Rattle.h263_bits.proofs.SyntaxLaws.{spelled-append}
 use Rattle.macroblock_layer.proofs.Joined.{both_fit, below_32, kept}

@@ -1,9 +1,8 @@
-use Rattle.std.proofs.Common.{◌≡◌, ◌+◌, ◌++◌, length, ap, ◌∙◌, arith, length-append}
+use Rattle.std.proofs.Common.{◌≡◌, ap, ◌∙◌, arith, length-append}
 use Rattle.std.specs.Prelude.{◌-ℤ◌}
 use Rattle.std.specs.Int.{w8}
 use mir.Val.{to_z, of_z}
 use Rattle.std.proofs.lemmas.Int.{to_z-of_z}
-use Rattle.h263_bits.specs.Bits.{spelled}
 use Rattle.code_tables.specs.Tables.{mvd_text}
 use Rattle.macroblock_layer.specs.Text.{wrapped}
 use Rattle.macroblock_layer.specs.Written.{vector_text}

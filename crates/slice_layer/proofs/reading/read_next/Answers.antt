@@ -1,4 +1,3 @@
-use Rattle.std.proofs.Common.{◌≡◌}
 use Rattle.slice_layer.proofs.Ranges.{next_in_i}
 use Rattle.slice_layer.proofs.reading.read_next.Goals as goal
 
