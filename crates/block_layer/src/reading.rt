@@ -6,7 +6,7 @@ ghost use Rattle.h263_types.specs.Blocks.{IsIntraBlock, IsInterBlock};
 ghost use Rattle.block_layer.specs.Text.{event_turn, events, allowed_place, placed, dc_of, intra_dc, intra_block, inter_block, IsIntraText, IsInterText, intra_block_fault, inter_block_fault};
 ghost use Rattle.block_layer.specs.Placed.{placed_of};
 
-use code_tables::{laws as code_tables_laws, read_event};
+use code_tables::{Coefficient, laws as code_tables_laws, look_at_event, read_event};
 use h263_bits::{BitReader, Fault, FaultKind};
 use h263_types::Block;
 
@@ -18,7 +18,9 @@ struct Placed {
     last: bool,
 }
 
-// An event, from the place at which its run starts.
+// An event that isn't seen at one look, from the place at which its run starts. Few are read here,
+// out of the way of those that are.
+#[inline(never)]
 #[tactic(auto, unfolding(crate::specs::Text::placed, h263_bits::specs::Syntax::reading))]
 fn read_placed(reader: &mut BitReader<'_>, place: usize) -> Result<Placed, Fault>
     requires { place ≤ 64 }
@@ -40,6 +42,14 @@ fn read_placed(reader: &mut BitReader<'_>, place: usize) -> Result<Placed, Fault
     })
 }
 
+// LEVEL, as a block has it.
+#[inline(always)]
+fn level_of(event: &Coefficient) -> i16
+    ensures { result ≡ event.now.level }
+{
+    i16::from(event.level)
+}
+
 // Events from a place on, up to the one with LAST 1.
 fn read_events(reader: &mut BitReader<'_>, from: usize, levels: &mut [i16; 64]) -> Result<(), Fault>
     requires { from ≤ 64 }
@@ -48,6 +58,19 @@ fn read_events(reader: &mut BitReader<'_>, from: usize, levels: &mut [i16; 64]) 
 {
     let mut place = from;
     'events: loop {
+        if let Some(found) = look_at_event(reader) {
+            let at = place + found.event.run as usize;
+            if at > 63 {
+                return Err(FaultKind::PastEnd.at(reader.at()));
+            }
+            reader.skip(found.len);
+            levels[at] = level_of(&found.event);
+            if found.event.last {
+                return Ok(());
+            }
+            place = at + 1;
+            continue 'events;
+        }
         let next = read_placed(reader, place)?;
         levels[next.place as usize] = next.level;
         if next.last {

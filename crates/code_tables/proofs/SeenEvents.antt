@@ -18,8 +18,9 @@ use Rattle.code_tables.specs.declared.code.Level.{Level}
 use Rattle.code_tables.specs.declared.event_tables.TheConstants.{EVENTS, LEVELS}
 use Rattle.code_tables.specs.Words.{listed, is_code, starts, code_at}
 use Rattle.code_tables.specs.Tables.{Event, Coefficient, tcoef_words, last_0_texts, last_1_texts, event, event_parts, event_table, signed, level_of}
-use Rattle.code_tables.specs.Events.{event_of_code}
-use Rattle.code_tables.specs.Seen.{IsWordIn}
+use Rattle.code_tables.specs.declared.event_bits.SeenEvent.{SeenEvent}
+use Rattle.code_tables.specs.Events.{event_of_code, coefficient_of}
+use Rattle.code_tables.specs.Seen.{IsWordIn, IsEventIn, IsNextEvent}
 use Rattle.code_tables.proofs.Search.{word_at-map, front_number, named_stands, word_found}
 
 abbrev pub event_at : ℕ → Option Event
@@ -143,3 +144,13 @@ escape_read b seen z word some great enough is value =
 pub event_read : (b c : Bits) (x : Coefficient) → reading event_parts b ≡ Ok (x, c) → reading event b ≡ Ok (x, c)
 unfolding event reading
 event_read b c x e = rw e refl
+
+-- what the number of the first bits tells of all bits that begin so, it tells of these
+pub next_event : (n seen : ℕ) (b : Bits) (o : Option SeenEvent) → IfSome o (λ found. IsEventIn n seen found) → n ≤ length b.bits → number (take n b.bits) ≡ seen → IfSome o (IsNextEvent b)
+next_event n seen b None all enough is = tt
+next_event n seen b (Some found) all enough is =
+    let first = all b enough is in
+    record {
+      whole = omega (arith, first.few);
+      read = event_read b (skip found.len b) (coefficient_of found.event) first.read;
+    }

@@ -29,6 +29,12 @@
 //! - **Events and differences are one look at 13 bits.** A word and its sign have no more; an
 //!   escape is one look at 22. All else, with a difference of 32, which has no minus
 //!   (`IsDifferenceIn`), is read field by field, which finds the fault.
+//!
+//! - **What is looked up is so where 64 bits are left** (`peek_early`), and searched for in a
+//!   packet's last eight bytes: one test for two, five instructions fewer a word.
+//!
+//! - **A word is a number to a writer**: `event_number`, `mcbpc_number` and their like give it, so
+//!   that a caller may put several at once.
 #![tactic(auto)]
 
 mod code;
@@ -41,7 +47,11 @@ mod tables;
 mod words;
 
 pub use code::Coefficient;
-pub use macroblock::{MbClass, Mcbpc, read_dquant, read_mcbpc, write_dquant, write_mcbpc};
+pub use event_bits::SeenEvent;
+pub use macroblock::{
+    MbClass, Mcbpc, mcbpc_number, read_dquant, read_mcbpc, write_dquant, write_mcbpc,
+};
 pub use words::{
-    event_number, read_cbpy, read_event, read_mvd, write_cbpy, write_event, write_mvd,
+    cbpy_number, event_number, look_at_event, mvd_number, read_cbpy, read_event, read_mvd,
+    write_cbpy, write_event, write_mvd,
 };

@@ -1,5 +1,6 @@
 //! The words of a macroblock's head: MCBPC and DQUANT, read and written.
-ghost use Rattle.std.specs.Prelude.{◌≡◌, ℕ, ℤ, ◌<◌, ◌+◌, ◌++◌, ◌≤◌, List, Bool, IfOk, IfErr, IsOkAnd, length, slice_get, Some};
+ghost use Rattle.std.specs.Prelude.{◌≡◌, ℕ, ℤ, ◌<◌, ◌+◌, ◌^◌, ◌++◌, ◌≤◌, List, Bool, IfOk, IfErr, IsOkAnd, length, slice_get, Some};
+ghost use Rattle.h263_bits.specs.Bits.{spelled};
 ghost use Rattle.h263_bits.specs.Reading.{Gives, Takes};
 ghost use Rattle.h263_bits.specs.Syntax.{reading, word_at, Spells};
 ghost use Rattle.h263_bits.specs.Elements.{IsWordOf, IsWordFault};
@@ -9,7 +10,7 @@ ghost use Rattle.h263_bits.specs.Written.{Appends, len_of, room_of};
 ghost use Rattle.code_tables.specs.Mcbpc.{mcbpc, mcbpc_words, dquant, dquant_words, IsInTable, IsStep, mcbpc_text, dquant_text};
 ghost use Rattle.code_tables.specs.Places.{class_place_of, inter_place_of, intra_place_of, step_place_of};
 
-use crate::code::{read_code, write_code};
+use crate::code::{code_number, read_code, write_code};
 use crate::tables::{
     INTER_MCBPC, INTER_MCBPC_FAST, INTER_MCBPC_SYMBOLS, INTRA_MCBPC, INTRA_MCBPC_FAST,
     INTRA_MCBPC_SYMBOLS, STEP_SYMBOLS, STEPS, STEPS_FAST,
@@ -181,6 +182,20 @@ pub fn write_mcbpc(writer: &mut BitWriter<'_>, kind: Kind, word: &Mcbpc)
     match kind {
         Kind::I => write_intra_mcbpc(writer, *word),
         Kind::P => write_inter_mcbpc(writer, *word),
+    }
+}
+
+/// MCBPC of a kind of picture as a number, and how many bits it has.
+#[inline(always)]
+pub fn mcbpc_number(kind: Kind, word: &Mcbpc) -> (u32, u32)
+    requires { IsInTable kind word.now }
+    ensures text { spelled result.1 result.0 ≡ mcbpc_text kind word.now }
+    ensures fits { result.0 < 2 ^ result.1 }
+    ensures few { result.1 < 16 }
+{
+    match kind {
+        Kind::I => code_number(&INTRA_MCBPC, intra_place(*word)),
+        Kind::P => code_number(&INTER_MCBPC, inter_place(*word)),
     }
 }
 

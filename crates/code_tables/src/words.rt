@@ -11,12 +11,14 @@ ghost use Rattle.h263_bits.specs.Elements.{IsWordOf, IsWordFault};
 ghost use Rattle.code_tables.specs.EventWords.{IsEventFault};
 ghost use Rattle.code_tables.specs.Tables.{cbpy, cbpy_texts, cbpy_text, magnitude_texts, size_of, sign_text, mvd_text, cbpy_words, magnitude_table, event_table, mvd, mvd_words, Coefficient as Event, signed, level_of, mvd_parts, event, event_parts, byte_of, escape_fields, event_text, IsEvent};
 ghost use Rattle.code_tables.specs.Events.{event_of_code, coefficient_of};
+ghost use Rattle.code_tables.specs.Seen.{IsNextEvent};
 
 use crate::code::{
-    Coefficient, Level, read_code, search_code, signed_number, write_code, write_signed_code,
+    Coefficient, Level, code_number, read_code, search_code, signed_number, write_code,
+    write_signed_code,
 };
 use crate::difference_bits::seen_difference;
-use crate::event_bits::{escape_level, level_at, seen_escape, seen_event, with_sign};
+use crate::event_bits::{SeenEvent, escape_level, level_at, seen_escape, seen_event, with_sign};
 use crate::event_tables::{EVENTS, LAST_0_ROWS, LAST_1_ROWS, LEVELS, Row};
 use crate::tables::{CBPY, CBPY_FAST, MAGNITUDES, MAGNITUDES_FAST, MAGNITUDES_LONG};
 use h263_bits::{BitReader, BitWriter, Fault, FaultKind};
@@ -85,8 +87,8 @@ pub fn read_mvd(reader: &mut BitReader<'_>) -> Result<i8, Fault>
     ensures low { IfOk result (λ v. negsuc 31 ≤ℤ v) }
     ensures high { IfOk result (λ v. v ≤ℤ pos 31) }
 {
-    if reader.rest() >= 13 {
-        let seen = reader.peek(13);
+    if reader.rest() >= 64 {
+        let seen = reader.peek_early(13);
         if let Some(found) = seen_difference(seen) {
             reader.skip(found.len);
             return Ok(found.value);
@@ -185,6 +187,18 @@ pub fn read_event(reader: &mut BitReader<'_>) -> Result<Coefficient, Fault>
     read_rare_event(reader)
 }
 
+/// The event that the next bits are, by one look at 13 of them. None where fewer than 64 are left,
+/// or where they begin with no word of an event: [`read_event`] reads what stands there.
+#[inline(always)]
+pub fn look_at_event(reader: &BitReader<'_>) -> Option<SeenEvent>
+    ensures { IfSome result (IsNextEvent reader.now) }
+{
+    if reader.rest() < 64 {
+        return None;
+    }
+    seen_event(reader.peek_early(13))
+}
+
 fn write_pattern(writer: &mut BitWriter<'_>, pattern: usize)
     requires pattern { pattern < 16 }
     requires room { len_of writer.old + length (text_at cbpy_texts pattern) ≤ room_of writer.old }
@@ -206,6 +220,31 @@ pub fn write_cbpy(writer: &mut BitWriter<'_>, intra: bool, cbpy: u8)
         write_pattern(writer, cbpy as usize);
     } else {
         write_pattern(writer, 15 - cbpy as usize);
+    }
+}
+
+fn pattern_number(pattern: usize) -> (u32, u32)
+    requires pattern { pattern < 16 }
+    ensures text { spelled result.1 result.0 ≡ text_at cbpy_texts pattern }
+    ensures fits { result.0 < 2 ^ result.1 }
+    ensures few { result.1 < 16 }
+{
+    code_number(&CBPY, pattern)
+}
+
+/// CBPY as a number, and how many bits it has. An inter macroblock has the word of the complement.
+#[inline(always)]
+#[tactic(auto, unfolding(crate::specs::Tables::cbpy_text))]
+pub fn cbpy_number(intra: bool, cbpy: u8) -> (u32, u32)
+    requires pattern { cbpy < 16 }
+    ensures text { spelled result.1 result.0 ≡ cbpy_text intra cbpy }
+    ensures fits { result.0 < 2 ^ result.1 }
+    ensures few { result.1 < 16 }
+{
+    if intra {
+        pattern_number(cbpy as usize)
+    } else {
+        pattern_number(15 - cbpy as usize)
     }
 }
 
@@ -233,6 +272,23 @@ pub fn write_mvd(writer: &mut BitWriter<'_>, value: i8)
         write_code(writer, &MAGNITUDES, size);
     } else {
         write_signed_code(writer, &MAGNITUDES, size, value < 0);
+    }
+}
+
+/// MVD, a difference of vectors in half samples, -32 to 31, as a number, and how many bits it has.
+#[inline(always)]
+pub fn mvd_number(value: i8) -> (u32, u32)
+    requires low { negsuc 31 ≤ℤ value }
+    requires high { value ≤ℤ pos 31 }
+    ensures text { spelled result.1 result.0 ≡ mvd_text value }
+    ensures fits { result.0 < 2 ^ result.1 }
+    ensures few { result.1 ≤ 16 }
+{
+    let size = size(value);
+    if size == 0 {
+        code_number(&MAGNITUDES, size)
+    } else {
+        signed_number(&MAGNITUDES, size, value < 0)
     }
 }
 

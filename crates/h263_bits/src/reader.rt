@@ -85,6 +85,19 @@ fn number_from(bytes: &[u8], at: u32, n: u32) -> u32
     bits_above(last_bytes(&bytes[first..]), 8 * left as u32 - at % 8 - n, n)
 }
 
+// The number of the n bits from a place on that has 64 bits before the end: one load has them.
+#[inline(always)]
+fn number_early(bytes: &[u8], at: u32, n: u32) -> u32
+    requires some { 0 < n }
+    requires few { n ≤ 32 }
+    requires many { at + 64 ≤ 8 * length bytes.now }
+    requires short { length bytes.now ≤ 65535 }
+    ensures value { result ≡ number (take n (drop at (bits_of bytes.now))) }
+    ensures below { result < 2 ^ n }
+{
+    bits_above(eight_bytes(bytes, (at / 8) as usize), 64 - at % 8 - n, n)
+}
+
 impl<'a> BitReader<'a> {
     /// A reader of the bits from place `from` up to place `to`.
     pub fn new(bytes: &'a [u8], from: u32, to: u32) -> BitReader<'a>
@@ -137,6 +150,19 @@ impl<'a> BitReader<'a> {
         ensures below { result < 2 ^ n }
     {
         number_from(self.bytes, self.at, n)
+    }
+
+    /// The next n bits as a number, as [`peek`](BitReader::peek) has it, where 64 or more are left:
+    /// so the bytes needn't be counted.
+    #[inline(always)]
+    pub fn peek_early(&self, n: u32) -> u32
+        requires some { 0 < n }
+        requires few { n ≤ 32 }
+        requires many { 64 ≤ length self.now.bits }
+        ensures value { result ≡ number (take n self.now.bits) }
+        ensures below { result < 2 ^ n }
+    {
+        number_early(self.bytes, self.at, n)
     }
 
     /// Passes over n bits.

@@ -8,3 +8,5 @@ pub mod Lengths
 pub mod Spelt
 pub mod FaultRows
 pub mod Sixes
+mod Joined
+mod InI

@@ -29,7 +29,7 @@ use Rattle.macroblock_layer.specs.Text.{after_mcbpc, class_turn, lead_turn, lead
 -- ---- what stands first
 
 -- a picture of kind I has intra classes alone
-LeadOfKind : Kind → Lead → Type 0
+unfoldable pub LeadOfKind : Kind → Lead → Type 0
 LeadOfKind kinds.P l = Unit {0}
 LeadOfKind kinds.I Skipped = ⊥
 LeadOfKind kinds.I (Coded class cbpc) = is_intra class ≡ true
@@ -59,7 +59,7 @@ unfolding Spells lead_turn class_turn
 turns_intra zero u l text h = after_intra h.0 l (word_intra h.0 h.1 h.4) h.6.0
 turns_intra (suc n) u l text h = turns_intra n h.0 l h.2 h.5
 
-lead_within : (kind : Kind) (l : Lead) (text : List Bool) → Spells (lead kind) l text → LeadOfKind kind l
+pub lead_within : (kind : Kind) (l : Lead) (text : List Bool) → Spells (lead kind) l text → LeadOfKind kind l
 unfolding Spells lead LeadOfKind
 lead_within kinds.P l text h = tt
 lead_within kinds.I l text h = turns_intra h.0 tt l text h.1

@@ -1,6 +1,6 @@
 -- The text that is written of a macroblock: without stuffing, of a plain class where the quantiser
 -- is as before, and of a Q class else.
-use Rattle.std.specs.Prelude.{◌≡◌, ◌<◌, ℕ, ◌+◌, ◌*◌, ◌≤◌, List, [], ◌∷◌, ◌++◌, slice_index_or, Bool, true, false, not, ◌==◌, if◌then◌else◌, ℤ, pos, ◌-ℤ◌}
+use Rattle.std.specs.Prelude.{ℕ, ◌+◌, ◌*◌, ◌≤◌, List, [], ◌∷◌, ◌++◌, slice_index_or, Bool, true, false, not, ◌==◌, if◌then◌else◌, ℤ, pos, ◌-ℤ◌}
 use Rattle.h263_types.specs.declared.Kind.{Kind}
 use Rattle.h263_types.specs.declared.Kind.TheVariants as kinds
 use Rattle.h263_types.specs.declared.vector.Vector.{Vector}

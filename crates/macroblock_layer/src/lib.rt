@@ -18,6 +18,13 @@
 //!
 //! - **Vectors are handled by component.** Workaround: the checker passes a signed number as its
 //!   bits, so `moved_by` and `median` take one component.
+//!
+//! - **Few numbers are put.** COD, MCBPC and CBPY are one, both differences of the vector another: of
+//!   five stores two are left, 44,000 instructions fewer in a predicted picture of CIF.
+//!
+//! - **A macroblock of an I picture is read without reach and prediction** (`read_mb_in_i`): 41,000
+//!   instructions fewer a picture. Tried, and rejected: six blocks that aren't coded cleared at once,
+//!   which takes as many instructions as one by one.
 #![tactic(auto)]
 
 pub mod laws;
@@ -26,5 +33,5 @@ mod reading;
 mod writing;
 
 pub use prediction::predictor;
-pub use reading::{pass_skipped, read_mb};
+pub use reading::{pass_skipped, read_mb, read_mb_in_i};
 pub use writing::{marks_in, write_marked, write_mb};

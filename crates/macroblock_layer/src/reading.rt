@@ -3,6 +3,7 @@ ghost use Rattle.std.specs.Prelude.{◌≡◌, ℕ, ℤ, List, Bool, ◌++◌, �
 ghost use Rattle.h263_bits.specs.Reading.{Gives, Takes, first_fault};
 ghost use Rattle.h263_bits.specs.Syntax.{reading, Turn};
 ghost use Rattle.h263_types.specs.Blocks.{IsQuant, IsMb, IsOfKind};
+ghost use Rattle.h263_types.specs.declared.Kind.TheVariants as kinds;
 ghost use Rattle.h263_types.specs.declared.blocks.Mb.{Mb};
 ghost use Rattle.h263_types.specs.declared.blocks.Mb.TheVariants.{Skip};
 ghost use Rattle.h263_types.specs.declared.vector.Reach.{Reach};
@@ -458,4 +459,20 @@ pub fn read_mb(
         predictor,
     };
     read_after_lead(reader, near, lead, out)
+}
+
+/// Reads a macroblock of an I picture, as [`read_mb`] does. It has no vector, so what is read is the
+/// same whatever the reach and the prediction are, and these needn't be worked out.
+pub fn read_mb_in_i(reader: &mut BitReader<'_>, quant: u8, out: &mut Mb) -> Result<(), Fault>
+    ensures exact { (reach : Reach) (predictor : Vector) → Gives
+        (λ _. out.new) result reader.new (reading (mb kinds.I quant reach predictor) reader.old) }
+    ensures range { IsQuant quant → IfOk result (λ _. IsMb out.new × IsOfKind kinds.I out.new) }
+{
+    let none = Reach {
+        left: 0,
+        right: 0,
+        up: 0,
+        down: 0,
+    };
+    read_mb(reader, Kind::I, quant, Vector::ZERO, none, out)
 }

@@ -1,5 +1,6 @@
 //! Writes a macroblock, from COD to its last block (H.263, 5.3).
-ghost use Rattle.std.specs.Prelude.{◌≡◌, ◌≢◌, ℕ, ◌+◌, ◌*◌, ◌<◌, ◌≤◌, ◌++◌, List, Bool, ℤ, true, false, [], length, All, slice_index_or, pos, negsuc, ◌≤ℤ◌, ◌+ℤ◌, ◌-ℤ◌, ◌==◌, if◌then◌else◌};
+ghost use Rattle.std.specs.Prelude.{◌≡◌, ◌≢◌, ℕ, ◌+◌, ◌*◌, ◌^◌, ◌<◌, ◌≤◌, ◌++◌, List, Bool, ℤ, true, false, [], length, All, slice_index_or, pos, negsuc, ◌≤ℤ◌, ◌+ℤ◌, ◌-ℤ◌, ◌==◌, if◌then◌else◌};
+ghost use Rattle.h263_bits.specs.Bits.{spelled};
 ghost use Rattle.h263_bits.specs.Written.{Appends, len_of, room_of};
 ghost use Rattle.h263_types.specs.declared.Kind.TheVariants as kinds;
 ghost use Rattle.h263_types.specs.declared.vector.Reach.{Reach};
@@ -17,7 +18,7 @@ ghost use Rattle.macroblock_layer.specs.Written.{levels_at, cbpy_of, cbpc_of, cl
 use crate::laws;
 use crate::reading::wrapped;
 use block_layer::{is_coded_by, write_inter_marked, write_intra_marked};
-use code_tables::{MbClass, Mcbpc, write_cbpy, write_dquant, write_mcbpc, write_mvd};
+use code_tables::{MbClass, Mcbpc, cbpy_number, mcbpc_number, mvd_number, write_dquant};
 use h263_bits::BitWriter;
 use h263_types::{Block, Kind, Mb, Vector};
 
@@ -105,28 +106,32 @@ fn class(intra: bool, same: bool) -> MbClass
     }
 }
 
-// COD of a macroblock that is coded.
-#[tactic(auto, unfolding(h263_bits::specs::Bits::spelled))]
-fn write_cod(writer: &mut BitWriter<'_>, kind: Kind)
-    requires room { len_of writer.old + length (cod_text kind) ≤ room_of writer.old }
-    ensures bits { Appends writer.old writer.new (cod_text kind) }
-    ensures len { len_of writer.new ≡ len_of writer.old + length (cod_text kind) }
+// The bits of a number and those of another after it, as one.
+#[inline(always)]
+fn joined(first: u32, n: u32, second: u32, m: u32) -> u32
+    requires first { first < 2 ^ n }
+    requires second { second < 2 ^ m }
+    requires few { n + m ≤ 32 }
+    requires some { m < 32 }
+    ensures text { spelled (n + m) result ≡ spelled n first ++ spelled m second }
+    ensures fits { result < 2 ^ (n + m) }
 {
-    match kind {
-        Kind::I => {}
-        Kind::P => writer.put(0, 1),
-    }
+    (first << m) + second
 }
 
+// COD of a macroblock that is coded, and MCBPC, as a number, and how many bits it has.
 #[tactic(auto, unfolding(crate::specs::Written::class_text))]
-fn write_class(writer: &mut BitWriter<'_>, kind: Kind, class: MbClass, cbpc: u8)
+fn class_number(kind: Kind, class: MbClass, cbpc: u8) -> (u32, u32)
     requires table { IsInTable kind (Word class cbpc) }
-    requires room { len_of writer.old + length (class_text kind class cbpc) ≤ room_of writer.old }
-    ensures bits { Appends writer.old writer.new (class_text kind class cbpc) }
-    ensures len { len_of writer.new ≡ len_of writer.old + length (class_text kind class cbpc) }
+    ensures text { spelled result.1 result.0 ≡ class_text kind class cbpc }
+    ensures fits { result.0 < 2 ^ result.1 }
+    ensures few { result.1 ≤ 16 }
 {
-    write_cod(writer, kind);
-    write_mcbpc(writer, kind, &Mcbpc::Word { class, cbpc });
+    let (word, len) = mcbpc_number(kind, &Mcbpc::Word { class, cbpc });
+    match kind {
+        Kind::I => (word, len),
+        Kind::P => (joined(0, 1, word, len), 1 + len),
+    }
 }
 
 // DQUANT, where the quantiser changes.
@@ -165,8 +170,9 @@ fn write_head(
     ensures len { len_of writer.new
         ≡ len_of writer.old + length (head_text kind quant new intra pattern.cbpy pattern.cbpc) }
 {
-    write_class(writer, kind, class(intra, new == quant), pattern.cbpc);
-    write_cbpy(writer, intra, pattern.cbpy);
+    let (first, n) = class_number(kind, class(intra, new == quant), pattern.cbpc);
+    let (second, m) = cbpy_number(intra, pattern.cbpy);
+    writer.put(joined(first, n, second, m), n + m);
     write_step(writer, quant, new);
 }
 
@@ -193,8 +199,9 @@ fn write_vector(writer: &mut BitWriter<'_>, predictor: Vector, vector: Vector)
     ensures bits { Appends writer.old writer.new (vector_text predictor vector) }
     ensures len { len_of writer.new ≡ len_of writer.old + length (vector_text predictor vector) }
 {
-    write_mvd(writer, difference_across(vector, predictor));
-    write_mvd(writer, difference_along(vector, predictor));
+    let (across, n) = mvd_number(difference_across(vector, predictor));
+    let (along, m) = mvd_number(difference_along(vector, predictor));
+    writer.put(joined(across, n, along, m), n + m);
 }
 
 fn write_intra_blocks(writer: &mut BitWriter<'_>, blocks: &[Block; 6], marks: &[u64; 6])

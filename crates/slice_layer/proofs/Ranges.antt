@@ -3,6 +3,7 @@ use Rattle.std.proofs.Common.{◌≡◌, ℕ, Bool, true, false, cond, List, Non
 use Rattle.std.specs.Prelude.{IfOk, int_le}
 use Rattle.std.proofs.lemmas.Float.{T_from_true}
 use Rattle.h263_types.specs.declared.Kind.{Kind}
+use Rattle.h263_types.specs.declared.Kind.TheVariants as kinds
 use Rattle.h263_types.specs.declared.vector.Vector.{Vector}
 use Rattle.h263_types.specs.declared.vector.Reach.{Reach}
 use Rattle.h263_types.specs.declared.blocks.Mb.{Mb}
@@ -66,3 +67,13 @@ pub next_within : {X : Type 0} (r : Result X Fault) (old new : Bits) (h : Header
     → IfOk r (λ _. Takes old new (IsMbText h.kind quant reach predictor m)) → IfOk r (λ _. IsMb m × IsOfKind h.kind m) → IfOk r (λ _. IsMbAt h k m)
 next_within (Ok x) old new h k quant reach predictor m same p q = record { in_range = q.0; of_kind = q.1; reach = inside h k reach m same (mb_reached h.kind quant reach predictor m p.0 p.3) }
 next_within (Err e) old new h k quant reach predictor m same p q = tt
+
+no_vector : (h : Header) (k : ℕ) (m : Mb) → IsOfKind kinds.I m → ReachesInside h.format k m
+no_vector h k mbs.Skip is = tt
+no_vector h k (mbs.Intra quant blocks) is = tt
+no_vector h k (mbs.Inter quant v blocks) is = absurd is
+
+-- and in an I picture, where it has no vector
+pub next_in_i : {X : Type 0} (r : Result X Fault) (h : Header) (k : ℕ) (m : Mb) → h.kind ≡ kinds.I → IfOk r (λ _. IsMb m × IsOfKind kinds.I m) → IfOk r (λ _. IsMbAt h k m)
+next_in_i (Ok x) h k m is q = record { in_range = q.0; of_kind = subst (λ (kind : Kind). IsOfKind kind m) (sym is) q.1; reach = no_vector h k m q.1 }
+next_in_i (Err e) h k m is q = tt

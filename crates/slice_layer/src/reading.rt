@@ -16,8 +16,10 @@ ghost use Rattle.slice_layer.specs.Filled.{Fills, IsMbAt, IsSliceIn, AreOthersSa
 use crate::head::read_head;
 use crate::shared::{quant_after, vector_of};
 use h263_bits::{BitReader, Fault, FaultKind};
-use h263_types::{Format, Mb, Reach, SliceHead, Vector, reach};
-use macroblock_layer::{laws as macroblock_layer_laws, pass_skipped, predictor, read_mb};
+use h263_types::{Format, Kind, Mb, Reach, SliceHead, Vector, reach};
+use macroblock_layer::{
+    laws as macroblock_layer_laws, pass_skipped, predictor, read_mb, read_mb_in_i,
+};
 use picture_header::Header;
 
 // Whether fewer than 8 bits are left, all 0.
@@ -49,8 +51,8 @@ struct Next {
     quant: u8,
 }
 
-// The next macroblock; the vectors are those before it.
-fn read_next(
+// The next macroblock by its reach and its prediction; the vectors are those before it.
+fn read_near(
     reader: &mut BitReader<'_>,
     header: &Header,
     next: Next,
@@ -73,6 +75,29 @@ fn read_next(
     let predictor = predictor(vectors, next.first, next.at, header.format.columns());
     let reach = reach_of(header.format, next.at);
     read_mb(reader, header.kind, next.quant, predictor, reach, out)
+}
+
+// The next macroblock. In an I picture no vector is predicted.
+fn read_next(
+    reader: &mut BitReader<'_>,
+    header: &Header,
+    next: Next,
+    vectors: &[Vector],
+    out: &mut Mb,
+) -> Result<(), Fault>
+    requires quant { IsQuant next.quant }
+    requires order { next.first ≤ next.at }
+    requires within { next.at < mbs_of header.now.format }
+    requires vectors { length vectors.now ≡ next.at }
+    ensures reads { Gives (λ _. out.new) result reader.new
+        (reading (mb header.now.kind next.quant (reach_of header.now.format next.at)
+        (predictor_of vectors.now next.first next.at (columns_of header.now.format))) reader.old) }
+    ensures range { IfOk result (λ _. IsMbAt header.now next.at out.new) }
+{
+    match header.kind {
+        Kind::I => read_mb_in_i(reader, next.quant, out),
+        Kind::P => read_near(reader, header, next, vectors, out),
+    }
 }
 
 // The macroblocks of a slice from number `first` on, up to the padding, into their places.

@@ -41,7 +41,7 @@ every r old new e =
 pub returns-in-Some : goal.returns-in-Some
 returns-in-Some c =
     let old = c.args.reader.now in
-    let first = c.in-Some.ensures old (omega (arith, c.rest.ensures, c.if-rest-ge13.true)) (sym c.peek-seen.ensures.value) in
+    let first = c.in-Some.ensures old (omega (arith, c.rest.ensures, c.if-rest-ge64.true)) (sym c.peek_early-seen.ensures.value) in
     let value = c.in-Some.found.value in
     let after = skip c.in-Some.found.len old in
     let view = λ (v : ℤ). v in
