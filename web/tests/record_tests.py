@@ -16,7 +16,7 @@ from browsers import Page
 TOP = Path(__file__).resolve().parents[2]
 PROGRAM = Path(os.environ.get("H263RPS_PROGRAM", TOP / "crates" / "h263rps" / "out" / "h263rps"))
 sys.path.insert(0, str(TOP / "tools"))
-from calltools import logs, recorded, recorded_ways  # noqa: E402
+from calltools.recording import logs, recorded, recorded_ways  # noqa: E402
 
 
 def recorded_call(page: Page, room: Path, seconds: float, act=lambda: None) -> Path:

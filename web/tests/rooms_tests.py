@@ -23,7 +23,7 @@ from browsers import FAINT, PAGE, UNNAMED, NamespacesTest, Page
 
 TOOLS = Path(__file__).resolve().parents[2] / "tools"
 sys.path.insert(0, str(TOOLS))
-from calltools import rooms as logic  # noqa: E402
+from calltools.network import rooms as logic  # noqa: E402
 
 ROOMS = TOOLS / "rooms"
 # Opens a page's WebSocket.
