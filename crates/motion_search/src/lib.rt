@@ -43,7 +43,8 @@
 //! - **A half step predicts eight neighbours in one pass.** Where all are in reach (`luma_around`),
 //!   neighbours above and below share fifteen rows, which saves 330,000 instructions of a predicted
 //!   picture of grain. Tried, and rejected: a test after each quarter of the rows, which took a
-//!   third more on a moving texture with noise.
+//!   third more on a moving texture with noise. The rows stand beside the sums, in a place that
+//!   isn't cleared for each macroblock: in plain Rust some 34,000 instructions fewer (`KeptSums`).
 #![tactic(auto)]
 
 ghost use Rattle.std.specs.Prelude.{◌≡◌, ◌<◌, ◌≤◌};
@@ -139,7 +140,7 @@ pub fn search_from(
     let block = samples(frame, mb);
     let area = SearchArea { radius, guess };
     let whole = best_of_whole(&block, reference, mb, area, sums);
-    let best = best_of_neighbours(&block, reference, mb, rounding, whole);
+    let best = best_of_neighbours(&block, reference, mb, rounding, whole, &mut sums.around);
     (best.vector, best.cost)
 }
 
