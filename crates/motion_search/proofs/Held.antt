@@ -289,3 +289,13 @@ pub top_inside : (f : Format) (mb : ℕ) → mb < mbs_of f → 16 * (mb / column
 top_inside SubQcif mb h = omega (arith, h)
 top_inside Qcif mb h = omega (arith, h)
 top_inside Cif mb h = omega (arith, h)
+
+-- what else stands beside the sums doesn't matter
+pub sums_alone : (p : Picture) (s t : KeptSums) → AreSumsOf p s → t.sums ≡ s.sums → t.first ≡ s.first → t.end ≡ s.end → AreSumsOf p t
+sums_alone p s t are same first end = record {
+  whole = ap length same ∙ are.whole;
+  order = omega (arith, are.order, first, end);
+  room = omega (arith, are.room, first, end);
+  sums = λ x k hx hk. ap (λ (xs : List ℕ). get_or xs (384 * k + x) 0) same ∙ are.sums x k hx (omega (arith, hk, first, end)) ∙ ap (λ (n : ℕ). area_sum (sample_at p Y) x (n + k)) (sym first);
+  small = λ k. let e : get_or t.sums k 0 ≡ get_or s.sums k 0 = ap (λ (xs : List ℕ). get_or xs k 0) same in omega (arith, e, are.small k);
+}

@@ -30,6 +30,13 @@ first_is radius first a b e h = subst (λ (z : ℤ). IsFirst radius z first) e h
 pub end_is : (radius end : ℕ) (a b : ℤ) → a ≡ b → IsEnd radius a end → IsEnd radius b end
 end_is radius end a b e h = subst (λ (z : ℤ). IsEnd radius z end) e h
 
+-- the first row in reach isn't below the middle one, which leads nowhere
+pub first_row_in : (f : Format) (mb radius first : ℕ) (reach : Reach) → Reaches f mb reach → mb < mbs_of f → IsFirst radius reach.up first → (first ≤ radius) × IsInRows radius reach first
+first_row_in f mb radius first reach is h at_first =
+    let zero = ((is (pos 0) (pos 0)).0 (zero_reaches f mb h)).1 in
+    let near : first ≤ radius = (at_first radius).1 (omega (arith, ints, zero.0)) in
+    (near, ((at_first first).0 (omega arith), omega (arith, ints, near, zero.1)))
+
 module _ (f : Format) (mb radius : ℕ) (reach : Reach) (is : Reaches f mb reach) (row : ℕ) where
   -- a place in reach lies between the ends
   pub from_first : (first i : ℕ) → IsFirst radius reach.left first → InReach f mb (whole_component radius i) (whole_component radius row) → first ≤ i

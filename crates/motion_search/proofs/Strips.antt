@@ -1,5 +1,5 @@
 -- Sixteen vectors beside each other, by the sums of areas.
-use Rattle.std.proofs.Common.{◌≡◌, ◌≢◌, ◌⊎◌, inl, inr, sym, ap, subst, ◌∙◌, arith, ℕ, ◌+◌, ◌*◌, ◌/◌, ◌%◌, ◌<◌, ◌≤◌, List, false, pos, ◌-ℤ◌, ◌≤ℤ◌, ◌<ℤ◌}
+use Rattle.std.proofs.Common.{◌≡◌, ◌≢◌, ◌⊎◌, inl, inr, sym, ap, subst, ◌∙◌, arith, ℕ, ◌+◌, ◌-◌, ◌*◌, ◌/◌, ◌%◌, ◌<◌, ◌≤◌, List, false, pos, ◌-ℤ◌, ◌≤ℤ◌, ◌<ℤ◌}
 use Rattle.std.proofs.lemmas.Int.{ints}
 use Rattle.std.specs.Int.{int_shr}
 use Rattle.std.proofs.lemmas.Bool.{cases_order}
@@ -30,6 +30,13 @@ next_place at x radius k i h = omega (arith, ints, h, half_of_even k radius, hal
 -- a row of the square leads no more than the radius up or down
 pub row_near : (top y radius row : ℕ) → pos y ≡ whole_place top (whole_component radius row) → row ≤ 2 * radius → (top ≤ y + radius) × (y ≤ top + radius)
 row_near top y radius row h few = (omega (arith, ints, h, half_of_even row radius, few), omega (arith, ints, h, half_of_even row radius, few))
+
+-- where a row of the square leads to, by whole samples
+pub place_adds : (top y radius row : ℕ) → pos y ≡ whole_place top (whole_component radius row) → y + radius ≡ top + row
+place_adds top y radius row h = omega (arith, ints, h, half_of_even row radius)
+
+pub place_of_row : (top radius row : ℕ) → pos 0 ≤ℤ whole_place top (whole_component radius row) → pos (top + row - radius) ≡ whole_place top (whole_component radius row)
+place_of_row top radius row h = omega (arith, ints, h, half_of_even row radius)
 
 -- a vector that leaves more differences than the best one costs doesn't come before it
 dear_not_before : (block : List ℕ) (p : Picture) (mb n : ℕ) (v : Vector) (best : Candidate) → n ≡ difference_of block p mb 0 v → best.cost <ℤ pos n →

@@ -121,13 +121,15 @@ fn differences_of_rows(block: &[u8; 256], rows: &[u8; 272], at: usize) -> u32
 
 // The differences of a block from what the eight neighbours of a vector of whole samples predict,
 // where all of them are in reach. The one above the vector and the one below it, as those on its
-// left and on its right, lie one whole sample apart: they have fifteen rows in common.
+// left and on its right, lie one whole sample apart: they have fifteen rows in common. These are
+// written into `rows`, whatever that holds.
 pub(crate) fn differences_around(
     block: &[u8; 256],
     reference: PictureRef<'_>,
     mb: u32,
     rounding: u8,
     vector: Vector,
+    rows: &mut Around,
 ) -> [u32; 8]
     requires mb { mb < mbs_of (picture reference).format }
     requires vector { IsVector vector }
@@ -139,14 +141,7 @@ pub(crate) fn differences_around(
         block.now (picture reference.entry) mb rounding (around vector (n + n / 4)) }
     ensures most { (n : ℕ) → n < 8 → slice_index result n ≤ 65280 }
 {
-    let mut rows = Around {
-        left: [0; 272],
-        right: [0; 272],
-        up: [0; 272],
-        up_left: [0; 272],
-        up_right: [0; 272],
-    };
-    luma_around(reference, mb, neighbour(vector, 0), rounding, &mut rows);
+    luma_around(reference, mb, neighbour(vector, 0), rounding, rows);
     [
         differences_of_rows(block, &rows.up_left, 0),
         differences_of_rows(block, &rows.up, 0),

@@ -15,6 +15,7 @@ use crate::predicted::better_predicted;
 use crate::within::{are_within, is_within};
 use h263_planes::PictureRef;
 use h263_types::{Reach, Vector, reach};
+use half_sample::Around;
 
 // The first of a candidate and those of its neighbours that are in reach, each by itself: at the
 // picture's edge.
@@ -51,6 +52,7 @@ fn best_inside(
     mb: u32,
     rounding: u8,
     best: Candidate,
+    rows: &mut Around,
 ) -> Candidate
     requires mb { mb < mbs_of (picture reference).format }
     requires inside { (k : ℕ) → k < 9
@@ -62,7 +64,7 @@ fn best_inside(
     ensures best { result ≡ best_near block.now (picture reference.entry) mb rounding best }
     ensures cost { IsCost result.cost }
 {
-    let sums = differences_around(block, reference, mb, rounding, best.vector);
+    let sums = differences_around(block, reference, mb, rounding, best.vector, rows);
     let mut so_far = best;
     for n in 0..8u32 {
         so_far = better_neighbour(so_far, best.vector, n, sums[n as usize]);
@@ -101,13 +103,15 @@ fn is_below(cost: i32, sum: u32) -> bool
     cost < sum as i32
 }
 
-// The first of a candidate of whole samples and its neighbours.
+// The first of a candidate of whole samples and its neighbours. `rows` is a place for what these
+// predict, whatever it holds.
 pub(crate) fn best_of_neighbours(
     block: &[u8; 256],
     reference: PictureRef<'_>,
     mb: u32,
     rounding: u8,
     best: Candidate,
+    rows: &mut Around,
 ) -> Candidate
     requires mb { mb < mbs_of (picture reference).format }
     requires rounding { rounding ≤ 1 }
@@ -124,7 +128,7 @@ pub(crate) fn best_of_neighbours(
     let up_left = neighbour(best.vector, 0);
     let down_right = neighbour(best.vector, 7);
     if are_within(reach, up_left, down_right) {
-        best_inside(block, reference, mb, rounding, best)
+        best_inside(block, reference, mb, rounding, best, rows)
     } else {
         best_at_edge(block, reference, mb, rounding, reach, best)
     }

@@ -11,6 +11,7 @@ use crate::areas::{Columns, areas, no_rows, with_row, without_row};
 use crate::lent::known;
 use h263_planes::{PictureRef, Plane};
 use h263_types::Format;
+use half_sample::Around;
 use std::simd::prelude::*;
 
 // From the sum of an area to that of the area one row below.
@@ -29,6 +30,9 @@ pub struct KeptSums {
     // the first row of areas, and the one after the last
     pub(crate) first: u32,
     pub(crate) end: u32,
+    // a place for what the neighbours half a sample away predict, which isn't cleared for each
+    // macroblock
+    pub(crate) around: Around,
 }
 
 // Rows of areas that are added to those that are kept: from row `begin` to before row `end` of
@@ -51,6 +55,7 @@ impl KeptSums {
             sums: [0; STRIDE * ROWS],
             first: 0,
             end: 0,
+            around: no_samples(),
         }
     }
 
@@ -144,6 +149,18 @@ impl KeptSums {
         let kept = (self.end - self.first) as usize;
         self.sums.copy_within(STRIDE * dropped..STRIDE * kept, 0);
         self.first = from;
+    }
+}
+
+// A place for what eight neighbours predict.
+#[inline(always)]
+fn no_samples() -> Around {
+    Around {
+        left: [0; 272],
+        right: [0; 272],
+        up: [0; 272],
+        up_left: [0; 272],
+        up_right: [0; 272],
     }
 }
 

@@ -53,28 +53,27 @@ fn most(best: Candidate) -> u16
     if best.cost < 0 { 0 } else { best.cost as u16 }
 }
 
-// Of the sixteen vectors that lead to columns `x` to `x + 15` of row `y`, those whose differences may
-// be within the limit, which is the same in all lanes, by the sums of quarters: bit i for the one in
-// column i.
+// Of the sixteen vectors that lead to sixteen columns beside each other of one row, those whose
+// differences may be within the limit, which is the same in all lanes, by the sums of quarters, which
+// stand from place `at` on: bit i for the one in column i.
 #[inline(always)]
 fn marks_in_row(
     window: Window<'_>,
     quarters: Quarters,
     sums: &KeptSums,
-    x: u32,
-    y: u32,
+    at: usize,
     limit: u16x16,
 ) -> u64
     requires quarters { AreQuarters window.block.now quarters }
     requires sums { AreSumsOf (picture window.reference) sums.now }
-    requires held { (sums.now.first ≤ y) × (y + 8 < sums.now.end) }
-    requires across { x + 16 ≤ width_of (picture window.reference).format }
-    ensures { (most i : ℕ) → limit ≡ replicate 16 most → i < 16 → bit_at result i ≡ 0
+    requires room { at + 3096 ≤ 14976 }
+    ensures { (x y most i : ℕ) → sums.now.first ≤ y → y + 8 < sums.now.end
+        → at + 384 * sums.now.first ≡ 384 * y + x
+        → limit ≡ replicate 16 most → i < 16 → bit_at result i ≡ 0
         → x + i + 16 ≤ width_of (picture window.entry.reference).format
         → most < differences window.entry.block.now (square (λ k j. samples_from
         (picture window.entry.reference) x (i + k) (y + j))) }
 {
-    let at = STRIDE * (y - sums.first) as usize + x as usize;
     let upper = half_away(&sums.sums, at, quarters.top_left, quarters.top_right);
     let below = at + 8 * STRIDE;
     let lower = half_away(
@@ -147,7 +146,7 @@ fn best_of_marked(
 }
 
 // The first of the best one and the vectors in sixteen columns of the square from `column` on. A row
-// without marks leaves the limit as it stands in its lanes.
+// without marks leaves the limit as it stands in its lanes. The place of a row's sums runs on.
 #[inline(always)]
 pub(crate) fn best_of_strip(
     window: Window<'_>,
@@ -171,10 +170,12 @@ pub(crate) fn best_of_strip(
     let x = place(window.left, column, window.radius);
     let down = down(window.reach);
     let first_row = first_in(window.radius, down);
+    let top = place(window.top, first_row, window.radius);
+    let mut at = STRIDE * (top - sums.first) as usize + x as usize;
     let mut first = led_by(best);
     for row in first_row..end_in(window.radius, down) {
-        let y = place(window.top, row, window.radius);
-        let marks = marks_in_row(window, quarters, sums, x, y, first.limit);
+        let marks = marks_in_row(window, quarters, sums, at, first.limit);
+        at += STRIDE;
         if marks != 0 {
             first = led_by(best_of_marked(window, column, row, marks, first.best));
         }

@@ -1,8 +1,8 @@
-use Rattle.std.proofs.Common.{arith, ℕ, ◌+◌, ◌-◌, ◌*◌, get_or, refl}
+use Rattle.std.proofs.Common.{arith, ℕ, ◌+◌, get_or}
 use Rattle.h263_planes.specs.Lent.{picture}
 use Rattle.std.specs.Int.{abs_diff}
 use Rattle.motion_search.proofs.AreaSums.{block_area_small, half_small}
-use Rattle.motion_search.proofs.Held.{ruled_out_by_kept, width_small}
+use Rattle.motion_search.proofs.Held.{ruled_out_by_kept}
 use Rattle.motion_search.proofs.strip.marks_in_row.Goals as goal
 
 pub half_away-upper-requires-clause-left : goal.half_away-upper-requires-clause-left
@@ -18,12 +18,10 @@ pub half_away-lower-requires-clause-right : goal.half_away-lower-requires-clause
 half_away-lower-requires-clause-right c = block_area_small c.args.window.block.now c.args.quarters.bottom_right 8 8 c.requires.quarters.samples c.requires.quarters.bottom_right
 
 pub half_away-upper-requires-clause-room : goal.half_away-upper-requires-clause-room
-half_away-upper-requires-clause-room c =
-    omega (arith, c.requires.sums.whole, c.requires.sums.room, c.requires.held.0, c.requires.held.1, c.requires.across, width_small (picture c.args.window.reference).format)
+half_away-upper-requires-clause-room c = omega (arith, c.requires.sums.whole, c.requires.room)
 
 pub half_away-lower-requires-clause-room : goal.half_away-lower-requires-clause-room
-half_away-lower-requires-clause-room c =
-    omega (arith, c.requires.sums.whole, c.requires.sums.room, c.requires.held.0, c.requires.held.1, c.requires.across, width_small (picture c.args.window.reference).format)
+half_away-lower-requires-clause-room c = omega (arith, c.requires.sums.whole, c.requires.room)
 
 pub half_away-upper-requires-clause-small : goal.half_away-upper-requires-clause-small
 half_away-upper-requires-clause-small c = c.requires.sums.small
@@ -32,19 +30,19 @@ pub half_away-lower-requires-clause-small : goal.half_away-lower-requires-clause
 half_away-lower-requires-clause-small c = c.requires.sums.small
 
 pub returns : goal.returns
-returns c = λ most i limit hi unmarked inside.
+returns c = λ x y most i low high place limit hi unmarked inside.
     let w = c.args.window in
     let p = picture w.reference in
     let s = c.args.sums.now in
     let q = c.args.quarters in
-    let at = 384 * (c.args.y - s.first) + c.args.x in
+    let at = c.args.at in
     let g = λ (k : ℕ). get_or s.sums k 0 in
     let are = c.requires.sums in
     let own = c.requires.quarters in
     let small = λ (n u v : ℕ). block_area_small w.block.now n u v own.samples in
     let top = λ (k : ℕ). abs_diff (g (at + k)) q.top_left + abs_diff (g (at + 8 + k)) q.top_right in
     let bottom = λ (k : ℕ). abs_diff (g (at + 3072 + k)) q.bottom_left + abs_diff (g (at + 3072 + 8 + k)) q.bottom_right in
-    ruled_out_by_kept p s w.block.now q c.args.x c.args.y i at most are own c.requires.held.0 c.requires.held.1 inside refl
+    ruled_out_by_kept p s w.block.now q x y i at most are own low high inside (omega (arith, place, low))
     (c.marks_of.ensures top bottom most c.half_away-upper.ensures c.half_away-lower.ensures limit
     (λ k. omega (
       arith,
