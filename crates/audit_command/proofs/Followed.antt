@@ -26,7 +26,8 @@ use Rattle.audit_command.specs.Followed.{AuditsItsLog, entries_in, judged_as, wi
 
 -- ---- how many entries there may be
 
-few_from : (o : Option Entry) (at : ℕ) (log : List ℕ) (more : List Found) (n : ℕ) → length more ≤ n → length (found_from o at log more) ≤ suc n
+few_from : (o : Option Entry) (at : ℕ) (log : List ℕ) (more : List Found) (n : ℕ) → length more ≤ n
+    → length (found_from o at log more) ≤ suc n
 few_from None at log more n few = omega arith
 few_from (Some e) at log more n few = omega (arith, few)
 
@@ -58,16 +59,19 @@ module _ (p : Params) where
   abbrev state : List LogEntry → AuditState
   state past = record { params = p; past = past }
 
-  mind_is : (past : List LogEntry) (e : Entry) (bytes : List ℕ) → mind_with audit_rules (state past) e bytes ≡ state (judged_as e bytes ∷ past)
+  mind_is : (past : List LogEntry) (e : Entry) (bytes : List ℕ) → mind_with audit_rules (state past) e bytes
+      ≡ state (judged_as e bytes ∷ past)
   mind_is past (Packet len) bytes = refl
   mind_is past Capture bytes = refl
   mind_is past (Back len) bytes = refl
   mind_is past Play bytes = refl
 
-  minds_are : (found : List Found) (past : List LogEntry) → mind_after audit_rules (state past) found ≡ state (with_entries past found)
+  minds_are : (found : List Found) (past : List LogEntry) → mind_after audit_rules (state past) found
+      ≡ state (with_entries past found)
   minds_are [] past = refl
   minds_are (x ∷ more) past =
-      ap (λ (s : AuditState). mind_after audit_rules s more) (mind_is past x.entry x.bytes) ∙ minds_are more (judged_as x.entry x.bytes ∷ past)
+      ap (λ (s : AuditState). mind_after audit_rules s more) (mind_is past x.entry x.bytes)
+          ∙ minds_are more (judged_as x.entry x.bytes ∷ past)
 
   quiet : (s : AuditState) (e : Entry) (bytes : List ℕ) → text_with audit_rules s e bytes Report ≡ []
   quiet s (Packet len) bytes = refl
@@ -78,7 +82,8 @@ module _ (p : Params) where
   all_quiet : (found : List Found) (s : AuditState) → text_after audit_rules s found Report ≡ []
   all_quiet [] s = refl
   all_quiet (x ∷ more) s =
-      ap (λ (l : List ℕ). l ++ text_after audit_rules (mind_with audit_rules s x.entry x.bytes) more Report) (quiet s x.entry x.bytes)
+      ap (λ (l : List ℕ). l ++ text_after audit_rules (mind_with audit_rules s x.entry x.bytes) more Report)
+          (quiet s x.entry x.bytes)
       ∙ all_quiet more (mind_with audit_rules s x.entry x.bytes)
 
   turn_count : (found : List Found) (s : AuditState) → length (turns_over audit_rules s found) ≡ length found
@@ -86,11 +91,13 @@ module _ (p : Params) where
   turn_count (x ∷ more) s = ap suc (turn_count more (mind_with audit_rules s x.entry x.bytes))
 
   -- there are no plays, so nothing is one too many
-  all_accepted : (fault : Option LogFault) (accepted refused : List Found) (status : Status) → IsEnd fault 0 refused status → (accepted ++ refused ≡ accepted) × (status ≡ read_out fault)
+  all_accepted : (fault : Option LogFault) (accepted refused : List Found) (status : Status)
+      → IsEnd fault 0 refused status → (accepted ++ refused ≡ accepted) × (status ≡ read_out fault)
   all_accepted fault accepted [] status end = (append-nil accepted, end)
   all_accepted fault accepted (x ∷ more) status end = absurd (omega (arith, end.1))
 
-  module _ (tells : LineTells p) (inputs : Role → List ℕ) (run : Run) (f : FollowsItsLog audit_rules (nothing_sent p) no_texts inputs run) where
+  module _ (tells : LineTells p) (inputs : Role
+      → List ℕ) (run : Run) (f : FollowsItsLog audit_rules (nothing_sent p) no_texts inputs run) where
     abbrev fault : Option LogFault
     fault = log_fault OfStream (inputs Events)
 
@@ -109,14 +116,18 @@ module _ (p : Params) where
     report_is : text_of run Report ≡ told run.last.status (verdict_line (verdict_on p past))
     report_is =
         f.texts Report
-        ∙ ap (λ (l : List ℕ). l ++ told run.last.status (audit_rules.end_text (mind_after audit_rules (nothing_sent p) f.accepted) Report)) (all_quiet f.accepted (nothing_sent p))
+        ∙ ap (λ (l : List ℕ). l ++ told run.last.status
+            (audit_rules.end_text (mind_after audit_rules (nothing_sent p) f.accepted) Report))
+            (all_quiet f.accepted (nothing_sent p))
         ∙ ap (λ (s : AuditState). told run.last.status (audit_rules.end_text s Report)) minds
 
     few : length past ≤ 16777216
     few = omega (arith, longer (log_entries OfStream (inputs Events)) [], few_entries (inputs Events))
 
     -- the verdict that is told is that on the entries
-    by_fault : (o : Option LogFault) (v : Verdict) → number_told v < 2 ^ 32 → told (read_out o) (verdict_line (verdict_on p past)) ≡ verdict_line v → (read_out o ≡ Fine) × (verdict_on p past ≡ v)
+    by_fault : (o : Option LogFault) (v : Verdict) → number_told v < 2 ^ 32
+        → told (read_out o) (verdict_line (verdict_on p past)) ≡ verdict_line v
+        → (read_out o ≡ Fine) × (verdict_on p past ≡ v)
     by_fault None v small same = (refl, tells past v few small same)
     by_fault (Some broken) v small same = absurd (no_line v same)
 
@@ -128,6 +139,7 @@ module _ (p : Params) where
       status = whole.1;
       report = report_is;
       verdict = λ v small same.
-          let told_as = by_fault fault v small (ap (λ (s : Status). told s (verdict_line (verdict_on p past))) (sym whole.1) ∙ sym report_is ∙ same) in
+          let told_as = by_fault fault v small (ap (λ (s : Status). told s (verdict_line (verdict_on p past)))
+              (sym whole.1) ∙ sym report_is ∙ same) in
           (whole.1 ∙ told_as.0, told_as.1);
     }

@@ -25,7 +25,8 @@ first_number type urf tr marker rtr = type * 2 ^ 22 + urf * 2 ^ 21 + tr * 2 ^ 11
 
 -- and its bits
 pub first_number_text : (type urf tr marker rtr : ℕ) → type < 4 → urf < 2 → tr < 2 ^ 10 → marker < 2 → rtr < 2 ^ 10
-    → spelled 24 (first_number type urf tr marker rtr) ≡ fields ((2, type) ∷ (1, urf) ∷ (10, tr) ∷ (1, marker) ∷ (10, rtr) ∷ [])
+    → spelled 24 (first_number type urf tr marker rtr)
+        ≡ fields ((2, type) ∷ (1, urf) ∷ (10, tr) ∷ (1, marker) ∷ (10, rtr) ∷ [])
 first_number_text type urf tr marker rtr k u t m r =
     let low : ℕ = tr * 2 ^ 11 + (marker * 2 ^ 10 + rtr) in
     let whole : first_number type urf tr marker rtr ≡ type * 2 ^ 22 + (urf * 2 ^ 21 + low) = omega arith in
@@ -42,12 +43,14 @@ first_number_text type urf tr marker rtr k u t m r =
     )
 
 -- the fields of a type and two temporal references
-pub code_text : (type urf tr rtr : ℕ) → type < 4 → urf < 2 → tr < 2 ^ 10 → rtr < 2 ^ 10 → spelled 24 (code_from type urf tr rtr) ≡ fields ((2, type) ∷ (1, urf) ∷ (10, tr) ∷ (1, 1) ∷ (10, rtr) ∷ [])
+pub code_text : (type urf tr rtr : ℕ) → type < 4 → urf < 2 → tr < 2 ^ 10 → rtr < 2 ^ 10
+    → spelled 24 (code_from type urf tr rtr) ≡ fields ((2, type) ∷ (1, urf) ∷ (10, tr) ∷ (1, 1) ∷ (10, rtr) ∷ [])
 code_text type urf tr rtr k u t r =
     let same : code_from type urf tr rtr ≡ first_number type urf tr 1 rtr = omega arith in
     ap (spelled 24) same ∙ first_number_text type urf tr 1 rtr k u t (omega arith) r
 
-pub code_below : (type urf tr rtr : ℕ) → type < 4 → urf < 2 → tr < 2 ^ 10 → rtr < 2 ^ 10 → code_from type urf tr rtr < 2 ^ 24
+pub code_below : (type urf tr rtr : ℕ) → type < 4 → urf < 2 → tr < 2 ^ 10 → rtr < 2 ^ 10
+    → code_from type urf tr rtr < 2 ^ 24
 code_below type urf tr rtr k u t r = omega arith
 
 pub urf_low : (marks : Option ℕ) → urf_of marks < 2
@@ -63,12 +66,16 @@ period_low Standard tr h = omega arith
 period_low Custom tr h = omega arith
 
 pub first_is : (clock : Clock) (m : Message) → IsMessage clock m → spelled 24 (code_of m) ≡ first_text m
-first_is clock (Ack tr marks) h = let t = period_low clock tr h.0 in code_text 3 (urf_of marks) tr tr (omega arith) (urf_low marks) t t
-first_is clock (Nack tr rtr marks) h = code_text 2 (urf_of marks) tr rtr (omega arith) (urf_low marks) (period_low clock tr h.0) (period_low clock rtr h.1)
+first_is clock (Ack tr marks) h = let t = period_low clock tr h.0 in
+    code_text 3 (urf_of marks) tr tr (omega arith) (urf_low marks) t t
+first_is clock (Nack tr rtr marks) h = code_text 2 (urf_of marks) tr rtr (omega arith) (urf_low marks)
+    (period_low clock tr h.0) (period_low clock rtr h.1)
 
 pub first_below : (clock : Clock) (m : Message) → IsMessage clock m → code_of m < 2 ^ 24
-first_below clock (Ack tr marks) h = let t = period_low clock tr h.0 in code_below 3 (urf_of marks) tr tr (omega arith) (urf_low marks) t t
-first_below clock (Nack tr rtr marks) h = code_below 2 (urf_of marks) tr rtr (omega arith) (urf_low marks) (period_low clock tr h.0) (period_low clock rtr h.1)
+first_below clock (Ack tr marks) h = let t = period_low clock tr h.0 in
+    code_below 3 (urf_of marks) tr tr (omega arith) (urf_low marks) t t
+first_below clock (Nack tr rtr marks) h = code_below 2 (urf_of marks) tr rtr (omega arith) (urf_low marks)
+    (period_low clock tr h.0) (period_low clock rtr h.1)
 
 pub wide : (clock : Clock) (m : Message) → IsMessage clock m → IsMessage Custom m
 wide Standard (Ack tr marks) h = (omega (arith, h.0), h.1)
@@ -106,7 +113,8 @@ pub record IsFaultless (clock : Clock) (long : Bool) (type urf tr marker rtr : �
   pub rtr_low : rtr < period_of clock
   pub pair : type ≡ 3 → tr ≡ rtr
 
-faultless : (clock : Clock) (long : Bool) (type urf tr marker rtr : ℕ) → fault_of clock long type urf tr marker rtr ≡ None → IsFaultless clock long type urf tr marker rtr
+faultless : (clock : Clock) (long : Bool) (type urf tr marker rtr : ℕ) → fault_of clock long type urf tr marker rtr
+    ≡ None → IsFaultless clock long type urf tr marker rtr
 faultless clock long type urf tr marker rtr e =
     let a = passed _ _ _ e in
     let n = passed _ _ _ a.1 in
@@ -128,8 +136,10 @@ pub record IsValue (clock : Clock) (n : ℕ) (m : Message) : Type 0 where
   pub range : IsMessage clock m
   pub code : code_of m ≡ n
 
-value_is : (clock : Clock) (long : Bool) (type urf tr marker rtr n : ℕ) (marks : Option ℕ) → IsFaultless clock long type urf tr marker rtr → urf ≡ urf_of marks → AreMarks marks → type < 4 → marker < 2
-    → type * 2 ^ 22 + urf * 2 ^ 21 + tr * 2 ^ 11 + marker * 2 ^ 10 + rtr ≡ n → IsValue clock n (value_of type tr rtr marks)
+value_is : (clock : Clock) (long : Bool) (type urf tr marker rtr n : ℕ) (marks : Option ℕ)
+    → IsFaultless clock long type urf tr marker rtr → urf ≡ urf_of marks → AreMarks marks → type < 4 → marker < 2
+    → type * 2 ^ 22 + urf * 2 ^ 21 + tr * 2 ^ 11 + marker * 2 ^ 10 + rtr ≡ n
+        → IsValue clock n (value_of type tr rtr marks)
 value_is clock long type urf tr marker rtr n marks f u are t k e = at_type (type == 2) refl
   where
     one : marker ≡ 1
@@ -149,28 +159,33 @@ Agrees true (Some marks) = Unit {0}
 Agrees false None = Unit {0}
 Agrees false (Some marks) = ⊥
 
-urf_agrees : (long : Bool) (urf : ℕ) (marks : Option ℕ) → urf < 2 → long ≡ (urf == 1) → Agrees long marks → urf ≡ urf_of marks
+urf_agrees : (long : Bool) (urf : ℕ) (marks : Option ℕ) → urf < 2 → long ≡ (urf == 1) → Agrees long marks
+    → urf ≡ urf_of marks
 urf_agrees true urf None low e a = absurd a
 urf_agrees true urf (Some marks) low e a = eqb-true urf 1 (sym e)
 urf_agrees false urf None low e a = let no = eqb-false urf 1 (sym e) in omega (arith, no)
 urf_agrees false urf (Some marks) low e a = absurd a
 
-pub faultless_value : (clock : Clock) (long : Bool) (n : ℕ) (marks : Option ℕ) → n < 2 ^ 24 → message_fault clock long n ≡ None → Agrees long marks → AreMarks marks → IsValue clock n (message_value n marks)
+pub faultless_value : (clock : Clock) (long : Bool) (n : ℕ) (marks : Option ℕ) → n < 2 ^ 24 → message_fault clock long n
+    ≡ None → Agrees long marks → AreMarks marks → IsValue clock n (message_value n marks)
 unfolding message_fault message_value
 faultless_value clock long n marks h e a are =
     let f = faultless clock long (n / 2 ^ 22) (n / 2 ^ 21 % 2) (n / 2 ^ 11 % 2 ^ 10) (n / 2 ^ 10 % 2) (n % 2 ^ 10) e in
     let u = urf_agrees long (n / 2 ^ 21 % 2) marks (omega arith) f.length a in
-    value_is clock long (n / 2 ^ 22) (n / 2 ^ 21 % 2) (n / 2 ^ 11 % 2 ^ 10) (n / 2 ^ 10 % 2) (n % 2 ^ 10) n marks f u are (omega arith) (omega arith) (omega arith)
+    value_is clock long (n / 2 ^ 22) (n / 2 ^ 21 % 2) (n / 2 ^ 11 % 2 ^ 10) (n / 2 ^ 10 % 2) (n % 2 ^ 10) n marks f u
+        are (omega arith) (omega arith) (omega arith)
 
 pub fault_length : (clock : Clock) (long : Bool) (n : ℕ) → message_fault clock long n ≡ None → long ≡ is_long n
 unfolding message_fault
-fault_length clock long n e = (faultless clock long (n / 2 ^ 22) (n / 2 ^ 21 % 2) (n / 2 ^ 11 % 2 ^ 10) (n / 2 ^ 10 % 2) (n % 2 ^ 10) e).length
+fault_length clock long n e = (faultless clock long (n / 2 ^ 22) (n / 2 ^ 21 % 2) (n / 2 ^ 11 % 2 ^ 10) (n / 2 ^ 10 % 2)
+    (n % 2 ^ 10) e).length
 
 pub value_marks : (n : ℕ) (marks : Option ℕ) → marks_of (message_value n marks) ≡ marks
 unfolding message_value
 value_marks n marks = at_type (n / 2 ^ 22 == 2)
   where
-    at_type : (b : Bool) → marks_of (cond b (Nack (n / 2 ^ 11 % 2 ^ 10) (n % 2 ^ 10) marks) (Ack (n / 2 ^ 11 % 2 ^ 10) marks)) ≡ marks
+    at_type : (b : Bool) → marks_of (cond b (Nack (n / 2 ^ 11 % 2 ^ 10) (n % 2 ^ 10) marks)
+        (Ack (n / 2 ^ 11 % 2 ^ 10) marks)) ≡ marks
     at_type true = refl
     at_type false = refl
 
@@ -188,10 +203,12 @@ urf_is (Some marks) = refl
 below_test : (clock : Clock) (tr : ℕ) → tr < period_of clock → nat_le (period_of clock) tr ≡ false
 below_test clock tr h = lt-leb (period_of clock) tr h
 
-ack_free : (clock : Clock) (tr : ℕ) (marks : Option ℕ) → tr < period_of clock → fault_of clock (is_marked_by marks) 3 (urf_of marks) tr 1 tr ≡ None
+ack_free : (clock : Clock) (tr : ℕ) (marks : Option ℕ) → tr < period_of clock
+    → fault_of clock (is_marked_by marks) 3 (urf_of marks) tr 1 tr ≡ None
 ack_free clock tr marks h = rw (urf_is marks, below_test clock tr h, eq-eqb tr tr refl) refl
 
-nack_free : (clock : Clock) (tr rtr : ℕ) (marks : Option ℕ) → tr < period_of clock → rtr < period_of clock → fault_of clock (is_marked_by marks) 2 (urf_of marks) tr 1 rtr ≡ None
+nack_free : (clock : Clock) (tr rtr : ℕ) (marks : Option ℕ) → tr < period_of clock → rtr < period_of clock
+    → fault_of clock (is_marked_by marks) 2 (urf_of marks) tr 1 rtr ≡ None
 nack_free clock tr rtr marks h k = rw (urf_is marks, below_test clock tr h, below_test clock rtr k) refl
 
 -- the parts of a message's number
@@ -202,14 +219,18 @@ pub record HasParts (n type urf tr rtr : ℕ) : Type 0 where
   pub marker_is : n / 2 ^ 10 % 2 ≡ 1
   pub rtr_is : n % 2 ^ 10 ≡ rtr
 
-parts : (type urf tr rtr : ℕ) → type < 4 → urf < 2 → tr < 2 ^ 10 → rtr < 2 ^ 10 → HasParts (code_from type urf tr rtr) type urf tr rtr
-parts type urf tr rtr k u t r = record { type_is = omega arith; urf_is = omega arith; tr_is = omega arith; marker_is = omega arith; rtr_is = omega arith }
+parts : (type urf tr rtr : ℕ) → type < 4 → urf < 2 → tr < 2 ^ 10 → rtr < 2 ^ 10
+    → HasParts (code_from type urf tr rtr) type urf tr rtr
+parts type urf tr rtr k u t r = record { type_is = omega arith; urf_is = omega arith; tr_is = omega arith;
+    marker_is = omega arith; rtr_is = omega arith }
 
-fault_parts : (clock : Clock) (long : Bool) (n type urf tr rtr : ℕ) → HasParts n type urf tr rtr → message_fault clock long n ≡ fault_of clock long type urf tr 1 rtr
+fault_parts : (clock : Clock) (long : Bool) (n type urf tr rtr : ℕ) → HasParts n type urf tr rtr
+    → message_fault clock long n ≡ fault_of clock long type urf tr 1 rtr
 unfolding message_fault
 fault_parts clock long n type urf tr rtr p = rw (p.type_is, p.urf_is, p.tr_is, p.marker_is, p.rtr_is) refl
 
-value_parts : (n type urf tr rtr : ℕ) (marks : Option ℕ) → HasParts n type urf tr rtr → message_value n marks ≡ value_of type tr rtr marks
+value_parts : (n type urf tr rtr : ℕ) (marks : Option ℕ) → HasParts n type urf tr rtr
+    → message_value n marks ≡ value_of type tr rtr marks
 unfolding message_value
 value_parts n type urf tr rtr marks p = rw (p.type_is, p.tr_is, p.rtr_is) refl
 
@@ -222,10 +243,13 @@ pub code_is : (clock : Clock) (m : Message) → IsMessage clock m → IsCode clo
 code_is clock (Ack tr marks) h =
     let t = period_low clock tr h.0 in
     let p = parts 3 (urf_of marks) tr tr (omega arith) (urf_low marks) t t in
-    record { free = fault_parts clock _ _ 3 (urf_of marks) tr tr p ∙ ack_free clock tr marks h.0; value = value_parts _ 3 (urf_of marks) tr tr marks p }
+    record { free = fault_parts clock _ _ 3 (urf_of marks) tr tr p ∙ ack_free clock tr marks h.0;
+        value = value_parts _ 3 (urf_of marks) tr tr marks p }
 code_is clock (Nack tr rtr marks) h =
-    let p = parts 2 (urf_of marks) tr rtr (omega arith) (urf_low marks) (period_low clock tr h.0) (period_low clock rtr h.1) in
-    record { free = fault_parts clock _ _ 2 (urf_of marks) tr rtr p ∙ nack_free clock tr rtr marks h.0 h.1; value = value_parts _ 2 (urf_of marks) tr rtr marks p }
+    let p = parts 2 (urf_of marks) tr rtr (omega arith) (urf_low marks) (period_low clock tr h.0)
+        (period_low clock rtr h.1) in
+    record { free = fault_parts clock _ _ 2 (urf_of marks) tr rtr p ∙ nack_free clock tr rtr marks h.0 h.1;
+        value = value_parts _ 2 (urf_of marks) tr rtr marks p }
 
 pub range_marks : (clock : Clock) (m : Message) → IsMessage clock m → AreMarks (marks_of m)
 range_marks clock (Ack tr marks) h = h.1

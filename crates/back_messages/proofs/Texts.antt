@@ -33,7 +33,8 @@ three_bytes n h =
     )
 
 -- and with one of 16 bits after it, five
-pub five_bytes : (n m : ℕ) → n < 2 ^ 24 → m < 2 ^ 16 → bits_of (n / 65536 ∷ n / 256 % 256 ∷ n % 256 ∷ m / 256 ∷ m % 256 ∷ []) ≡ spelled 24 n ++ spelled 16 m
+pub five_bytes : (n m : ℕ) → n < 2 ^ 24 → m < 2 ^ 16
+    → bits_of (n / 65536 ∷ n / 256 % 256 ∷ n % 256 ∷ m / 256 ∷ m % 256 ∷ []) ≡ spelled 24 n ++ spelled 16 m
 unfolding bits_of
 five_bytes n m h k =
     let whole : n ≡ n / 65536 * 2 ^ 16 + (n / 256 % 256 * 2 ^ 8 + n % 256) = omega arith in
@@ -41,9 +42,12 @@ five_bytes n m h k =
     let first : spelled 24 n ≡ spelled 8 (n / 65536) ++ (spelled 8 (n / 256 % 256) ++ spelled 8 (n % 256)) =
     ap (spelled 24) whole ∙ spelled-append 8 16 (n / 65536) (n / 256 % 256 * 2 ^ 8 + n % 256) (omega arith)
     ∙ ap (λ (x : List Bool). spelled 8 (n / 65536) ++ x) (spelled-append 8 8 (n / 256 % 256) (n % 256) (omega arith)) in
-    let second : spelled 16 m ≡ spelled 8 (m / 256) ++ spelled 8 (m % 256) = ap (spelled 16) two ∙ spelled-append 8 8 (m / 256) (m % 256) (omega arith) in
-    regroup (spelled 8 (n / 65536)) (spelled 8 (n / 256 % 256)) (spelled 8 (n % 256)) (spelled 8 (m / 256)) (spelled 8 (m % 256))
-    ∙ ap (λ (t : List Bool). t ++ (spelled 8 (m / 256) ++ spelled 8 (m % 256))) (sym first) ∙ ap (λ (t : List Bool). spelled 24 n ++ t) (sym second)
+    let second : spelled 16 m ≡ spelled 8 (m / 256) ++ spelled 8 (m % 256) = ap (spelled 16) two
+        ∙ spelled-append 8 8 (m / 256) (m % 256) (omega arith) in
+    regroup (spelled 8 (n / 65536)) (spelled 8 (n / 256 % 256)) (spelled 8 (n % 256)) (spelled 8 (m / 256))
+        (spelled 8 (m % 256))
+    ∙ ap (λ (t : List Bool). t ++ (spelled 8 (m / 256) ++ spelled 8 (m % 256))) (sym first)
+        ∙ ap (λ (t : List Bool). spelled 24 n ++ t) (sym second)
   where
     regroup : (a b c d e : List Bool) → a ++ (b ++ (c ++ (d ++ (e ++ [])))) ≡ (a ++ (b ++ c)) ++ (d ++ e)
     regroup a b c d e = simp (append_assoc, append-nil)
@@ -52,7 +56,8 @@ pub text_short : (m : Message) → marks_of m ≡ None → message_text m ≡ fi
 unfolding message_text
 text_short m none = ap (λ (o : Option ℕ). first_text m ++ flags_text o) none ∙ append-nil (first_text m)
 
-pub text_long : (m : Message) (marks : ℕ) → marks_of m ≡ Some marks → message_text m ≡ first_text m ++ flags_text (Some marks)
+pub text_long : (m : Message) (marks : ℕ) → marks_of m ≡ Some marks → message_text m ≡ first_text m
+    ++ flags_text (Some marks)
 unfolding message_text
 text_long m marks some = ap (λ (o : Option ℕ). first_text m ++ flags_text o) some
 
@@ -62,18 +67,22 @@ marks_below clock m marks h some = let P : Option ℕ → Type 0 = AreMarks in s
 number_is : (n v : ℕ) (bits : List Bool) → v < 2 ^ n → bits ≡ spelled n v → number bits ≡ v
 number_is n v bits lt e = ap number e ∙ number-spelled n v ∙ mod-eq_of_lt lt
 
-short_read : (clock : Clock) (m : Message) (bytes : List ℕ) → IsMessage clock m → marks_of m ≡ None → bits_of bytes ≡ first_text m → message_in clock bytes ≡ Ok m
+short_read : (clock : Clock) (m : Message) (bytes : List ℕ) → IsMessage clock m → marks_of m ≡ None
+    → bits_of bytes ≡ first_text m → message_in clock bytes ≡ Ok m
 unfolding message_in
 short_read clock m bytes h none e =
     let c = code_is clock m h in
     let bits : bits_of bytes ≡ spelled 24 (code_of m) = e ∙ sym (first_is clock m h) in
     let len : length bytes ≡ 3 = omega (arith, length-bits_of bytes, ap length bits, length-spelled 24 (code_of m)) in
-    let value : number (bits_of bytes) ≡ code_of m = number_is 24 (code_of m) (bits_of bytes) (first_below clock m h) bits in
-    let free : message_fault clock false (code_of m) ≡ None = ap (λ (o : Option ℕ). message_fault clock (is_marked_by o) (code_of m)) (sym none) ∙ c.free in
+    let value : number (bits_of bytes) ≡ code_of m = number_is 24 (code_of m) (bits_of bytes)
+        (first_below clock m h) bits in
+    let free : message_fault clock false (code_of m)
+        ≡ None = ap (λ (o : Option ℕ). message_fault clock (is_marked_by o) (code_of m)) (sym none) ∙ c.free in
     let is : message_value (code_of m) None ≡ m = ap (message_value (code_of m)) (sym none) ∙ c.value in
     rw (len, value, free, is) refl
 
-long_read : (clock : Clock) (m : Message) (marks : ℕ) (bytes : List ℕ) → IsMessage clock m → marks_of m ≡ Some marks → bits_of bytes ≡ first_text m ++ flags_text (Some marks) → message_in clock bytes ≡ Ok m
+long_read : (clock : Clock) (m : Message) (marks : ℕ) (bytes : List ℕ) → IsMessage clock m → marks_of m ≡ Some marks
+    → bits_of bytes ≡ first_text m ++ flags_text (Some marks) → message_in clock bytes ≡ Ok m
 unfolding message_in
 long_read clock m marks bytes h some e =
     let c = code_is clock m h in
@@ -81,20 +90,27 @@ long_read clock m marks bytes h some e =
     let r = flags_read marks (marks_below clock m marks h some) in
     let a = spelled 24 (code_of m) in
     let b = spelled 16 k in
-    let bits : bits_of bytes ≡ a ++ b = e ∙ ap (λ (t : List Bool). t ++ flags_text (Some marks)) (sym (first_is clock m h)) ∙ ap (λ (t : List Bool). a ++ t) (sym (marks_text marks)) in
+    let bits : bits_of bytes ≡ a ++ b = e
+        ∙ ap (λ (t : List Bool). t ++ flags_text (Some marks)) (sym (first_is clock m h))
+        ∙ ap (λ (t : List Bool). a ++ t) (sym (marks_text marks)) in
     let len_a : length a ≡ 24 = length-spelled 24 (code_of m) in
-    let len : length bytes ≡ 5 = omega (arith, length-bits_of bytes, ap length bits, length-append a b, len_a, length-spelled 16 k) in
-    let first : bits_of (take 3 bytes) ≡ a = bits_of-take 3 bytes (omega (arith, len)) ∙ ap (take 24) bits ∙ take_at a b 24 len_a in
+    let len : length bytes ≡ 5 = omega (arith, length-bits_of bytes, ap length bits, length-append a b, len_a,
+        length-spelled 16 k) in
+    let first : bits_of (take 3 bytes) ≡ a = bits_of-take 3 bytes (omega (arith, len)) ∙ ap (take 24) bits
+        ∙ take_at a b 24 len_a in
     let second : bits_of (drop 3 bytes) ≡ b = bits_of-drop 3 bytes ∙ ap (drop 24) bits ∙ drop_at a b 24 len_a in
     let code : number (bits_of (take 3 bytes)) ≡ code_of m = number_is 24 (code_of m) _ (first_below clock m h) first in
-    let flagged : number (bits_of (drop 3 bytes)) ≡ k = number_is 16 k _ (omega (arith, turned_low marks, turned_low (marks / 2 ^ 7))) second in
-    let free : message_fault clock true (code_of m) ≡ None = ap (λ (o : Option ℕ). message_fault clock (is_marked_by o) (code_of m)) (sym some) ∙ c.free in
+    let flagged : number (bits_of (drop 3 bytes))
+        ≡ k = number_is 16 k _ (omega (arith, turned_low marks, turned_low (marks / 2 ^ 7))) second in
+    let free : message_fault clock true (code_of m)
+        ≡ None = ap (λ (o : Option ℕ). message_fault clock (is_marked_by o) (code_of m)) (sym some) ∙ c.free in
     let is : message_value (code_of m) (Some marks) ≡ m = ap (message_value (code_of m)) (sym some) ∙ c.value in
     let mark : marked k ≡ Some marks = rw (r.markers, r.marks_are) refl in
     rw (len, code, flagged, free, mark, is) refl
 
 -- the text of a message is read as that message
-pub text_read : (clock : Clock) (m : Message) (bytes : List ℕ) → IsMessage clock m → bits_of bytes ≡ message_text m → message_in clock bytes ≡ Ok m
+pub text_read : (clock : Clock) (m : Message) (bytes : List ℕ) → IsMessage clock m → bits_of bytes ≡ message_text m
+    → message_in clock bytes ≡ Ok m
 text_read clock m bytes h e = at_marks (marks_of m) refl
   where
     at_marks : (o : Option ℕ) → marks_of m ≡ o → message_in clock bytes ≡ Ok m
@@ -103,7 +119,8 @@ text_read clock m bytes h e = at_marks (marks_of m) refl
 
 -- ---- and nothing else is
 
-unless_ok : (o : Option MessageFault) (r : Result Message MessageFault) (m : Message) → unless o r ≡ Ok m → (o ≡ None) × (r ≡ Ok m)
+unless_ok : (o : Option MessageFault) (r : Result Message MessageFault) (m : Message) → unless o r ≡ Ok m
+    → (o ≡ None) × (r ≡ Ok m)
 unless_ok None r m e = (refl, e)
 unless_ok (Some x) r m e = absurd cc
 
@@ -120,21 +137,25 @@ number_small n bits len = subst (λ (k : ℕ). number bits < 2 ^ k) len (number-
 pub number_text : (n : ℕ) (bits : List Bool) → length bits ≡ n → bits ≡ spelled n (number bits)
 number_text n bits len = sym (spelled-number bits) ∙ ap (λ (k : ℕ). spelled k (number bits)) len
 
-pub short_is : (clock : Clock) (n : ℕ) (m : Message) → n < 2 ^ 24 → message_fault clock false n ≡ None → message_value n None ≡ m → IsRead clock m (spelled 24 n)
+pub short_is : (clock : Clock) (n : ℕ) (m : Message) → n < 2 ^ 24 → message_fault clock false n ≡ None
+    → message_value n None ≡ m → IsRead clock m (spelled 24 n)
 short_is clock n m small free is =
     let v = subst (IsValue clock n) is (faultless_value clock false n None small free tt tt) in
     let none : marks_of m ≡ None = ap marks_of (sym is) ∙ value_marks n None in
     (v.range, ap (spelled 24) (sym v.code) ∙ first_is clock m v.range ∙ sym (text_short m none))
 
-pub long_is : (clock : Clock) (n k : ℕ) (m : Message) → n < 2 ^ 24 → k < 2 ^ 16 → message_fault clock true n ≡ None → has_markers k ≡ true → message_value n (Some (marks_in k)) ≡ m → IsRead clock m (spelled 24 n ++ spelled 16 k)
+pub long_is : (clock : Clock) (n k : ℕ) (m : Message) → n < 2 ^ 24 → k < 2 ^ 16 → message_fault clock true n ≡ None
+    → has_markers k ≡ true → message_value n (Some (marks_in k)) ≡ m → IsRead clock m (spelled 24 n ++ spelled 16 k)
 long_is clock n k m small low free marks is =
     let v = subst (IsValue clock n) is (faultless_value clock true n (Some (marks_in k)) small free tt (marks_low k)) in
     let some : marks_of m ≡ Some (marks_in k) = ap marks_of (sym is) ∙ value_marks n (Some (marks_in k)) in (
       v.range,
-      ap (λ (t : List Bool). t ++ spelled 16 k) (ap (spelled 24) (sym v.code) ∙ first_is clock m v.range) ∙ ap (λ (t : List Bool). first_text m ++ t) (marked_text k low marks) ∙ sym (text_long m (marks_in k) some),
+      ap (λ (t : List Bool). t ++ spelled 16 k) (ap (spelled 24) (sym v.code) ∙ first_is clock m v.range)
+          ∙ ap (λ (t : List Bool). first_text m ++ t) (marked_text k low marks) ∙ sym (text_long m (marks_in k) some),
     )
 
-read_short : (clock : Clock) (m : Message) (bytes : List ℕ) → length bytes ≡ 3 → short_message clock (number (bits_of bytes)) ≡ Ok m → IsRead clock m (bits_of bytes)
+read_short : (clock : Clock) (m : Message) (bytes : List ℕ) → length bytes ≡ 3
+    → short_message clock (number (bits_of bytes)) ≡ Ok m → IsRead clock m (bits_of bytes)
 read_short clock m bytes len e =
     let n = number (bits_of bytes) in
     let u = unless_ok (message_fault clock false n) (Ok (message_value n None)) m e in
@@ -142,14 +163,18 @@ read_short clock m bytes len e =
     let s = short_is clock n m (number_small 24 (bits_of bytes) long) u.0 (same_message _ m u.1) in
     (s.0, number_text 24 (bits_of bytes) long ∙ s.1)
 
-marked_is : (n k : ℕ) (m : Message) → with_marks n (marked k) ≡ Ok m → (has_markers k ≡ true) × (message_value n (Some (marks_in k)) ≡ m)
+marked_is : (n k : ℕ) (m : Message) → with_marks n (marked k) ≡ Ok m → (has_markers k ≡ true)
+    × (message_value n (Some (marks_in k)) ≡ m)
 marked_is n k m e = at_test (has_markers k) refl e
   where
-    at_test : (t : Bool) → has_markers k ≡ t → with_marks n (cond t (Some (marks_in k)) None) ≡ Ok m → (has_markers k ≡ true) × (message_value n (Some (marks_in k)) ≡ m)
+    at_test : (t : Bool) → has_markers k ≡ t → with_marks n (cond t (Some (marks_in k)) None) ≡ Ok m
+        → (has_markers k ≡ true) × (message_value n (Some (marks_in k)) ≡ m)
     at_test true is found = (is, same_message _ m found)
     at_test false is found = absurd cc
 
-read_long : (clock : Clock) (m : Message) (bytes : List ℕ) → length bytes ≡ 5 → long_message clock (number (bits_of (take 3 bytes))) (number (bits_of (drop 3 bytes))) ≡ Ok m → IsRead clock m (bits_of bytes)
+read_long : (clock : Clock) (m : Message) (bytes : List ℕ) → length bytes ≡ 5
+    → long_message clock (number (bits_of (take 3 bytes))) (number (bits_of (drop 3 bytes))) ≡ Ok m
+    → IsRead clock m (bits_of bytes)
 read_long clock m bytes len e =
     let a = bits_of (take 3 bytes) in
     let b = bits_of (drop 3 bytes) in
@@ -161,18 +186,27 @@ read_long clock m bytes len e =
     let len_b : length b ≡ 16 = omega (arith, length-bits_of (drop 3 bytes), length-drop 3 bytes, len) in
     let s = long_is clock n k m (number_small 24 a len_a) (number_small 16 b len_b) u.0 f.0 f.1 in
     let whole : bits_of bytes ≡ a ++ b =
-    sym (take-append-drop 24 (bits_of bytes)) ∙ ap (λ (t : List Bool). t ++ drop 24 (bits_of bytes)) (sym (bits_of-take 3 bytes (omega (arith, len)))) ∙ ap (λ (t : List Bool). a ++ t) (sym (bits_of-drop 3 bytes)) in
-    (s.0, whole ∙ ap (λ (t : List Bool). t ++ b) (number_text 24 a len_a) ∙ ap (λ (t : List Bool). spelled 24 n ++ t) (number_text 16 b len_b) ∙ s.1)
+    sym (take-append-drop 24 (bits_of bytes))
+        ∙ ap (λ (t : List Bool). t ++ drop 24 (bits_of bytes)) (sym (bits_of-take 3 bytes (omega (arith, len))))
+        ∙ ap (λ (t : List Bool). a ++ t) (sym (bits_of-drop 3 bytes)) in
+    (s.0, whole ∙ ap (λ (t : List Bool). t ++ b) (number_text 24 a len_a)
+        ∙ ap (λ (t : List Bool). spelled 24 n ++ t) (number_text 16 b len_b) ∙ s.1)
 
-pub read_text : (clock : Clock) (m : Message) (bytes : List ℕ) → message_in clock bytes ≡ Ok m → IsRead clock m (bits_of bytes)
+pub read_text : (clock : Clock) (m : Message) (bytes : List ℕ) → message_in clock bytes ≡ Ok m
+    → IsRead clock m (bits_of bytes)
 unfolding message_in
 read_text clock m bytes e = at_three (length bytes == 3) refl e
   where
-    at_five : (b : Bool) → (length bytes == 5) ≡ b → cond b (long_message clock (number (bits_of (take 3 bytes))) (number (bits_of (drop 3 bytes)))) (Err Length) ≡ Ok m → IsRead clock m (bits_of bytes)
+    at_five : (b : Bool) → (length bytes == 5) ≡ b
+        → cond b (long_message clock (number (bits_of (take 3 bytes))) (number (bits_of (drop 3 bytes)))) (Err Length)
+        ≡ Ok m → IsRead clock m (bits_of bytes)
     at_five true is found = read_long clock m bytes (eqb-true (length bytes) 5 is) found
     at_five false is found = absurd cc
 
-    at_three : (b : Bool) → (length bytes == 3) ≡ b → cond b (short_message clock (number (bits_of bytes))) (cond (length bytes == 5) (long_message clock (number (bits_of (take 3 bytes))) (number (bits_of (drop 3 bytes)))) (Err Length)) ≡ Ok m → IsRead clock m (bits_of bytes)
+    at_three : (b : Bool) → (length bytes == 3) ≡ b
+        → cond b (short_message clock (number (bits_of bytes)))
+        (cond (length bytes == 5) (long_message clock (number (bits_of (take 3 bytes)))
+        (number (bits_of (drop 3 bytes)))) (Err Length)) ≡ Ok m → IsRead clock m (bits_of bytes)
     at_three true is found = read_short clock m bytes (eqb-true (length bytes) 3 is) found
     at_three false is found = at_five (length bytes == 5) refl found
 
@@ -184,7 +218,9 @@ flags_spelt marks h =
     let k : ℕ = flags_code (turned marks) (turned (marks / 2 ^ 7)) in
     let r = flags_read marks h in
     let low : k < 2 ^ 16 = omega (arith, turned_low marks, turned_low (marks / 2 ^ 7)) in
-    spells_whole _ marks _ _ (append-nil (spelled 16 k) ∙ marks_text marks) (spells_field 16 allowed_markers _ marks k [] low (rw r.markers refl) (subst (λ (v : ℕ). Spells (done v) marks []) (sym r.marks_are) (spells_done marks)))
+    spells_whole _ marks _ _ (append-nil (spelled 16 k)
+        ∙ marks_text marks) (spells_field 16 allowed_markers _ marks k [] low (rw r.markers refl)
+        (subst (λ (v : ℕ). Spells (done v) marks []) (sym r.marks_are) (spells_done marks)))
 
 done_is : (v m : Message) → v ≡ m → Spells (done v) m []
 done_is v m is = subst (λ (x : Message). Spells (done x) m []) (sym is) (spells_done m)
@@ -196,16 +232,26 @@ field_spells clock m h =
     let c = code_is clock m h in
     let n : ℕ = code_of m in
     let long : is_marked_by (marks_of m) ≡ is_long n = fault_length clock (is_marked_by (marks_of m)) n c.free in
-    let free : allowed_message clock n ≡ None = ap (λ (b : Bool). is_fault (message_fault clock b n)) (sym long) ∙ ap is_fault c.free in
-    let more : Spells (either (is_long n) (part flags any (λ marks. done (message_value n (Some marks)))) (done (message_value n None))) m (flags_text (marks_of m)) =
-    subst (λ (b : Bool). Spells (either b (part flags any (λ marks. done (message_value n (Some marks)))) (done (message_value n None))) m (flags_text (marks_of m))) long (at_marks (marks_of m) refl c.value) in
-    let text : spelled 24 n ++ flags_text (marks_of m) ≡ message_text m = ap (λ (t : List Bool). t ++ flags_text (marks_of m)) (first_is clock m h) in
-    spells_whole _ m _ _ text (spells_field 24 (allowed_message clock) _ m n (flags_text (marks_of m)) (first_below clock m h) free more)
+    let free : allowed_message clock n ≡ None = ap (λ (b : Bool). is_fault (message_fault clock b n)) (sym long)
+        ∙ ap is_fault c.free in
+    let more : Spells (either (is_long n) (part flags any (λ marks. done (message_value n (Some marks))))
+        (done (message_value n None))) m (flags_text (marks_of m)) =
+    subst (λ (b : Bool). Spells (either b (part flags any (λ marks. done (message_value n (Some marks))))
+        (done (message_value n None))) m (flags_text (marks_of m))) long (at_marks (marks_of m) refl c.value) in
+    let text : spelled 24 n ++ flags_text (marks_of m) ≡ message_text m = ap (λ (t : List Bool). t
+        ++ flags_text (marks_of m)) (first_is clock m h) in
+    spells_whole _ m _ _ text (spells_field 24 (allowed_message clock) _ m n (flags_text (marks_of m))
+        (first_below clock m h) free more)
   where
-    at_marks : (o : Option ℕ) → marks_of m ≡ o → message_value (code_of m) (marks_of m) ≡ m → Spells (either (is_marked_by o) (part flags any (λ marks. done (message_value (code_of m) (Some marks)))) (done (message_value (code_of m) None))) m (flags_text o)
+    at_marks : (o : Option ℕ) → marks_of m ≡ o → message_value (code_of m) (marks_of m) ≡ m
+        → Spells (either (is_marked_by o) (part flags any (λ marks. done (message_value (code_of m) (Some marks))))
+        (done (message_value (code_of m) None))) m (flags_text o)
     at_marks None is value = done_is _ m (ap (message_value (code_of m)) (sym is) ∙ value)
     at_marks (Some marks) is value =
-        spells_whole _ m _ _ (append-nil (flags_text (Some marks))) (spells_part flags any _ m marks (flags_text (Some marks)) [] (flags_spelt marks (marks_below clock m marks h is)) refl (done_is _ m (ap (message_value (code_of m)) (sym is) ∙ value)))
+        spells_whole _ m _ _ (append-nil (flags_text (Some marks)))
+            (spells_part flags any _ m marks (flags_text (Some marks)) []
+            (flags_spelt marks (marks_below clock m marks h is)) refl
+            (done_is _ m (ap (message_value (code_of m)) (sym is) ∙ value)))
 
 free_is : (o : Option MessageFault) → is_fault o ≡ None → o ≡ None
 free_is None e = refl
@@ -237,22 +283,27 @@ flags_are marks bits h = record {
 }
 
 -- what spells a message spells one in its ranges, and is its text
-pub spelled_field : (clock : Clock) (m : Message) (bits : List Bool) → Spells (message clock) m bits → IsRead clock m bits
+pub spelled_field : (clock : Clock) (m : Message) (bits : List Bool) → Spells (message clock) m bits
+    → IsRead clock m bits
 unfolding message Spells
 spelled_field clock m bits h =
     let n = h.0 in
     let free = free_is (message_fault clock (is_long n) n) h.3 in
     at_length (is_long n) h.1 free h.5 h.4
   where
-    at_length : (b : Bool) (rest : List Bool) → message_fault clock b h.0 ≡ None → Spells (either b (part flags any (λ marks. done (message_value h.0 (Some marks)))) (done (message_value h.0 None))) m rest → bits ≡ spelled 24 h.0 ++ rest → IsRead clock m bits
+    at_length : (b : Bool) (rest : List Bool) → message_fault clock b h.0 ≡ None
+        → Spells (either b (part flags any (λ marks. done (message_value h.0 (Some marks))))
+        (done (message_value h.0 None))) m rest → bits ≡ spelled 24 h.0 ++ rest → IsRead clock m bits
     at_length false rest free s e =
         let r = short_is clock h.0 m h.2 free (sym s.0) in
         (r.0, e ∙ ap (λ (t : List Bool). spelled 24 h.0 ++ t) s.1 ∙ append-nil (spelled 24 h.0) ∙ r.1)
     at_length true rest free s e =
         let f = flags_are s.0 s.1 s.4 in
-        let value : message_value h.0 (Some (marks_in f.number)) ≡ m = ap (λ (k : ℕ). message_value h.0 (Some k)) (sym f.value) ∙ sym s.6.0 in
+        let value : message_value h.0 (Some (marks_in f.number)) ≡ m = ap (λ (k : ℕ). message_value h.0 (Some k))
+            (sym f.value) ∙ sym s.6.0 in
         let r = long_is clock h.0 f.number m h.2 f.low free f.markers value in
-        let text : rest ≡ spelled 16 f.number = s.3 ∙ ap (λ (t : List Bool). s.1 ++ t) s.6.1 ∙ append-nil s.1 ∙ f.text in
+        let text : rest ≡ spelled 16 f.number = s.3 ∙ ap (λ (t : List Bool). s.1 ++ t) s.6.1 ∙ append-nil s.1
+            ∙ f.text in
         (r.0, e ∙ ap (λ (t : List Bool). spelled 24 h.0 ++ t) text ∙ r.1)
 
 flags_productive : IsProductive flags
@@ -262,7 +313,9 @@ flags_productive = λ n. tt
 -- a message takes a bit at least
 pub message_productive : (clock : Clock) → IsProductive (message clock)
 unfolding message IsProductive
-message_productive clock n = either_productive (is_long n) (part flags any (λ marks. done (message_value n (Some marks)))) (done (message_value n None)) (flags_productive, λ marks. tt) one
+message_productive clock n = either_productive (is_long n)
+    (part flags any (λ marks. done (message_value n (Some marks)))) (done (message_value n None)) (flags_productive,
+    λ marks. tt) one
   where
     one : IsProductive (done (message_value n None))
     one = tt
@@ -281,9 +334,11 @@ length-flags_text (Some marks) =
 
 pub length-message_text : (m : Message) → length (message_text m) ≡ message_bits m
 unfolding message_text
-length-message_text m = omega (arith, length-append (first_text m) (flags_text (marks_of m)), length-first_text m, length-flags_text (marks_of m))
+length-message_text m = omega (arith, length-append (first_text m) (flags_text (marks_of m)), length-first_text m,
+    length-flags_text (marks_of m))
 
 -- what is read of bytes has numbers of the clock
-pub read_range : (clock : Clock) (bytes : List ℕ) (r : Result Message MessageFault) → r ≡ message_in clock bytes → IfOk r (IsMessage clock)
+pub read_range : (clock : Clock) (bytes : List ℕ) (r : Result Message MessageFault) → r ≡ message_in clock bytes
+    → IfOk r (IsMessage clock)
 read_range clock bytes (Ok m) e = (read_text clock m bytes (sym e)).0
 read_range clock bytes (Err fault) e = tt

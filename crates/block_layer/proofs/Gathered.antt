@@ -8,7 +8,8 @@ use Rattle.h263_bits.proofs.SyntaxLaws.{spelled-append}
 -- a number after another has fewer bits than both have room for
 pub both_fit : (a b i j : ℕ) → a < 2 ^ i → b < 2 ^ j → a * 2 ^ j + b < 2 ^ (i + j)
 both_fit a b i j first second =
-    let more : (a + 1) * 2 ^ j ≤ 2 ^ i * 2 ^ j = mul-le-mul (let next : a + 1 ≤ 2 ^ i = omega (arith, first) in next) (let same : 2 ^ j ≤ 2 ^ j = omega arith in same) in
+    let more : (a + 1) * 2 ^ j ≤ 2 ^ i * 2 ^ j = mul-le-mul (let next : a + 1 ≤ 2 ^ i = omega (arith, first) in
+        next) (let same : 2 ^ j ≤ 2 ^ j = omega arith in same) in
     omega (arith, more, second, pow-add 2 i j)
 
 -- fewer bits than 54 are few enough for 64
@@ -25,12 +26,14 @@ in_two n i j =
     ap (spelled (i + j)) (sym parts) ∙ spelled-append i j (n / 2 ^ j) (n % 2 ^ j) (mod-lt n some)
 
 -- they wait
-pub more_wait : (old : List Bool) (a b i j : ℕ) → b < 2 ^ j → old ++ spelled (i + j) (a * 2 ^ j + b) ≡ (old ++ spelled i a) ++ spelled j b
+pub more_wait : (old : List Bool) (a b i j : ℕ) → b < 2 ^ j → old ++ spelled (i + j) (a * 2 ^ j + b)
+    ≡ (old ++ spelled i a) ++ spelled j b
 more_wait old a b i j fits =
     ap (λ (t : List Bool). old ++ t) (spelled-append i j a b fits) ∙ sym (append_assoc old (spelled i a) (spelled j b))
 
 -- the first 32 of them are written
-pub some_written : (old new : List Bool) (n count rest : ℕ) → count ≡ 32 + rest → new ≡ old ++ spelled 32 (n / 2 ^ rest) →
+pub some_written : (old new : List Bool) (n count rest : ℕ) → count ≡ 32 + rest
+    → new ≡ old ++ spelled 32 (n / 2 ^ rest) →
     new ++ spelled rest (n % 2 ^ rest) ≡ old ++ spelled count n
 some_written old new n count rest many is =
     ap (λ (t : List Bool). t ++ spelled rest (n % 2 ^ rest)) is

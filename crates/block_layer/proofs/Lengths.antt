@@ -24,7 +24,8 @@ unfolding last_0_texts last_1_texts is_short row_short
 all_short false = refl
 all_short true = refl
 
-at_place : {X : Type 0} (test : X → Bool) (xs : List X) (i : ℕ) (x : X) → list_all test xs ≡ true → slice_get xs i ≡ Some x → test x ≡ true
+at_place : {X : Type 0} (test : X → Bool) (xs : List X) (i : ℕ) (x : X) → list_all test xs ≡ true
+    → slice_get xs i ≡ Some x → test x ≡ true
 at_place test [] i x all e = cc
 at_place {X} test (y ∷ xs) zero x all e =
     let same : y ≡ x = cc in
@@ -36,7 +37,8 @@ word_short : (last : Bool) (run size : ℕ) (w : List Bool) → triple_text last
 unfolding triple_text is_short row_short
 word_short last run size w e = at (slice_get (rows_of last) run) refl e
   where
-    at : (o : Option (List (List Bool))) → slice_get (rows_of last) run ≡ o → option_and_then (λ row. slice_get row (size - 1)) o ≡ Some w → length w ≤ 12
+    at : (o : Option (List (List Bool))) → slice_get (rows_of last) run ≡ o
+        → option_and_then (λ row. slice_get row (size - 1)) o ≡ Some w → length w ≤ 12
     at None is got = cc
     at (Some row) is got =
         let short : row_short row ≡ true = at_place row_short (rows_of last) run row (all_short last) is in
@@ -56,7 +58,8 @@ event_short e = at (triple_text e.last e.run (size_of e.level)) refl
   where
     at : (o : Option (List Bool)) → triple_text e.last e.run (size_of e.level) ≡ o → length (word_or_escape e o) ≤ 22
     at None is = omega (arith, length-fields (escape_fields e))
-    at (Some w) is = omega (arith, word_short e.last e.run (size_of e.level) w is, sign_short e.level, length-append w (sign_text e.level))
+    at (Some w) is = omega (arith, word_short e.last e.run (size_of e.level) w is, sign_short e.level,
+        length-append w (sign_text e.level))
 
 -- ---- a block
 
@@ -65,10 +68,13 @@ unfolding events_of events_text
 events_short run [] = omega arith
 events_short run (z ∷ zs) = at (is_zero z) (events_short (run + 1) zs) (events_short 0 zs)
   where
-    at : (t : Bool) → length (events_text (events_of (run + 1) zs)) ≤ 22 * length zs → length (events_text (events_of 0 zs)) ≤ 22 * length zs
-        → length (events_text (cond t (events_of (run + 1) zs) (one_event (none_left zs) run z ∷ events_of 0 zs))) ≤ 22 * length (z ∷ zs)
+    at : (t : Bool) → length (events_text (events_of (run + 1) zs)) ≤ 22 * length zs
+        → length (events_text (events_of 0 zs)) ≤ 22 * length zs
+        → length (events_text (cond t (events_of (run + 1) zs) (one_event (none_left zs) run z ∷ events_of 0 zs))) ≤ 22
+            * length (z ∷ zs)
     at true more again = omega arith
-    at false more again = omega (arith, event_short (one_event (none_left zs) run z), length-append (event_text (one_event (none_left zs) run z)) (events_text (events_of 0 zs)))
+    at false more again = omega (arith, event_short (one_event (none_left zs) run z),
+        length-append (event_text (one_event (none_left zs) run z)) (events_text (events_of 0 zs)))
 
 inter_short : (levels : List ℤ) → length levels ≡ 64 → length (inter_text levels) ≤ 64 * 22
 unfolding inter_text levels_text

@@ -45,7 +45,8 @@ level_size n lt e = at (cases_lt n 128)
         let size : size_of (neg_ℤ (pos (256 - n))) ≡ 256 - n = neg_size (256 - n) in
         rw (le-ltb n 128 high) (omega (arith, size, not_level n e))
 
-after_size : (o : Option Event) (x : Coefficient) (text : List Bool) → is_small o ≡ true → Spells (after_word o) x text → size_of x.level < 128
+after_size : (o : Option Event) (x : Coefficient) (text : List Bool) → is_small o ≡ true → Spells (after_word o) x text
+    → size_of x.level < 128
 unfolding Spells is_small
 after_size (Some e) x text small h =
     let is : x ≡ record { last = e.last; run = e.run; level = signed h.0 e.size } = h.5.0 in
@@ -60,7 +61,8 @@ event_size : (x : Coefficient) (text : List Bool) → Spells event x text → si
 unfolding Spells event event_parts event_table
 event_size x text h =
     let inner = h.4 in
-    let small = after_size inner.1 h.0 inner.2 (stands_within is_small tcoef_words (inner.0, inner.1) all_small inner.3) inner.5 in
+    let small = after_size inner.1 h.0 inner.2 (stands_within is_small tcoef_words (inner.0, inner.1) all_small inner.3)
+        inner.5 in
     subst (λ (c : Coefficient). size_of c.level < 128) (sym h.6.0) small
 
 is_level_of : (z : ℤ) → size_of z < 128 → IsLevel z
@@ -73,7 +75,8 @@ is_level_of (negsuc n) lt = record { low = omega (arith, ints); high = omega (ar
 abbrev AreAll : (ℕ → ℤ → Type 0) → List ℤ → Type 0
 AreAll P levels = (k : ℕ) → P k (level_at levels k)
 
-set_within : (P : ℕ → ℤ → Type 0) (levels : List ℤ) (p : ℕ) (z : ℤ) → AreAll P levels → P p z → AreAll P (slice_set levels p z)
+set_within : (P : ℕ → ℤ → Type 0) (levels : List ℤ) (p : ℕ) (z : ℤ) → AreAll P levels → P p z
+    → AreAll P (slice_set levels p z)
 set_within P [] p z all one = all
 set_within P (x ∷ levels) zero z all one = at
   where
@@ -104,7 +107,8 @@ no_levels_within = record { levels = λ k lt. zeros_within 64 k }
 -- ---- the events of a block, from a place on
 
 module _ (P : ℕ → ℤ → Type 0) (from : ℕ) (behind : (k : ℕ) (z : ℤ) → from ≤ k → IsLevel z → P k z) where
-  placed_within : (place : ℕ) (x : Placed) (text : List Bool) → from ≤ place → Spells (placed place) x text → (place ≤ x.place) × IsLevel x.level
+  placed_within : (place : ℕ) (x : Placed) (text : List Bool) → from ≤ place → Spells (placed place) x text
+      → (place ≤ x.place) × IsLevel x.level
   unfolding Spells placed
   placed_within place x text after h =
       let is = h.6.0 in
@@ -117,40 +121,48 @@ module _ (P : ℕ → ℤ → Type 0) (from : ℕ) (behind : (k : ℕ) (z : ℤ)
   Leaves (again s) = (from ≤ s.place) × AreAll P s.levels
   Leaves (finally levels) = AreAll P levels
 
-  after_within : (s : Events) (x : Placed) → from ≤ s.place → AreAll P s.levels → s.place ≤ x.place → IsLevel x.level → Leaves (after_event s.levels x)
+  after_within : (s : Events) (x : Placed) → from ≤ s.place → AreAll P s.levels → s.place ≤ x.place → IsLevel x.level
+      → Leaves (after_event s.levels x)
   unfolding Leaves
   after_within s x after all past level = at x.last
     where
       set : AreAll P (slice_set s.levels x.place x.level)
       set = set_within P s.levels x.place x.level all (behind x.place x.level (omega arith) level)
 
-      at : (t : Bool) → Leaves (cond t (finally (slice_set s.levels x.place x.level)) (again (record { place = x.place + 1; levels = slice_set s.levels x.place x.level })))
+      at : (t : Bool) → Leaves (cond t (finally (slice_set s.levels x.place x.level))
+          (again (record { place = x.place + 1; levels = slice_set s.levels x.place x.level })))
       at true = set
       at false = (omega arith, set)
 
-  turn_within : (s : Events) (t : Turn Events (List ℤ)) (text : List Bool) → from ≤ s.place → AreAll P s.levels → Spells (event_turn s) t text → Leaves t
+  turn_within : (s : Events) (t : Turn Events (List ℤ)) (text : List Bool) → from ≤ s.place → AreAll P s.levels
+      → Spells (event_turn s) t text → Leaves t
   unfolding Spells event_turn
   turn_within s t text after all h =
       let one = placed_within s.place h.0 h.1 after h.4 in
       subst (λ (u : Turn Events (List ℤ)). Leaves u) (sym h.6.0) (after_within s h.0 after all one.0 one.1)
 
-  turns_within : (n : ℕ) (s : Events) (out : List ℤ) (text : List Bool) → from ≤ s.place → AreAll P s.levels → Turns (λ t x front. Spells (event_turn t) x front) n s out text → AreAll P out
+  turns_within : (n : ℕ) (s : Events) (out : List ℤ) (text : List Bool) → from ≤ s.place → AreAll P s.levels
+      → Turns (λ t x front. Spells (event_turn t) x front) n s out text → AreAll P out
   unfolding Leaves
   turns_within zero s out text after all h = turn_within s (finally out) text after all h
   turns_within (suc n) s out text after all h =
       let left = turn_within s (again h.0) h.1 after all h.4 in
       turns_within n h.0 out h.2 left.0 left.1 h.5
 
-  events_within : (levels out : List ℤ) (text : List Bool) → AreAll P levels → Spells (events from levels) out text → AreAll P out
+  events_within : (levels out : List ℤ) (text : List Bool) → AreAll P levels → Spells (events from levels) out text
+      → AreAll P out
   unfolding Spells events
-  events_within levels out text all h = turns_within h.0 (record { place = from; levels = levels }) out text (omega arith) all h.1
+  events_within levels out text all h = turns_within h.0 (record { place = from; levels = levels }) out text
+      (omega arith) all h.1
 
 -- ---- whole blocks
 
-pub inter_within : (levels : List ℤ) (text : List Bool) → Spells inter_block levels text → IsInterBlock (record { levels = levels })
+pub inter_within : (levels : List ℤ) (text : List Bool) → Spells inter_block levels text
+    → IsInterBlock (record { levels = levels })
 unfolding inter_block
 inter_within levels text h =
-    let all = events_within (λ k z. IsLevel z) 0 (λ k z after level. level) no_levels levels text (λ k. zeros_within 64 k) h in
+    let all = events_within (λ k z. IsLevel z) 0 (λ k z after level. level) no_levels levels text
+        (λ k. zeros_within 64 k) h in
     record { levels = λ k lt. all k }
 
 -- what stands at each place of a block of an intra macroblock
@@ -181,7 +193,8 @@ unfolding IsPlaced
 after_dc zero z after level = absurd (omega arith)
 after_dc (suc k) z after level = level
 
-either_within : (coded : Bool) (levels out : List ℤ) (text : List Bool) → AreAll IsPlaced levels → Spells (either coded (events 1 levels) (done levels)) out text → AreAll IsPlaced out
+either_within : (coded : Bool) (levels out : List ℤ) (text : List Bool) → AreAll IsPlaced levels
+    → Spells (either coded (events 1 levels) (done levels)) out text → AreAll IsPlaced out
 unfolding Spells
 either_within true levels out text all h = events_within IsPlaced 1 after_dc levels out text all h
 either_within false levels out text all h = subst (λ (l : List ℤ). AreAll IsPlaced l) (sym h.0) all
@@ -191,7 +204,8 @@ unfolding IsPlaced
 placed_level zero z after is = absurd (omega arith)
 placed_level (suc k) z after is = is
 
-pub intra_within : (coded : Bool) (levels : List ℤ) (text : List Bool) → Spells (intra_block coded) levels text → IsIntraBlock (record { levels = levels })
+pub intra_within : (coded : Bool) (levels : List ℤ) (text : List Bool) → Spells (intra_block coded) levels text
+    → IsIntraBlock (record { levels = levels })
 unfolding Spells intra_block IsPlaced
 intra_within coded levels text h =
     let all = either_within coded h.0 levels h.2 (dc_within h.0 h.1 h.4) h.6 in

@@ -12,12 +12,15 @@ use Rattle.block_layer.specs.Step.{level_at}
 abbrev pub left_text : ℕ → ℕ → List ℤ → List Bool
 left_text run place levels = events_text (events_of run (drop place levels))
 
-pub none_text : (run place : ℕ) (levels : List ℤ) → none_left (drop place levels) ≡ true → left_text run place levels ≡ []
+pub none_text : (run place : ℕ) (levels : List ℤ) → none_left (drop place levels) ≡ true → left_text run place levels
+    ≡ []
 unfolding events_text
 none_text run place levels none = rw (no_events run (drop place levels) none) refl
 
-pub ended : (run place : ℕ) (levels : List ℤ) (new all : List Bool) → none_left (drop place levels) ≡ true → new ++ left_text run place levels ≡ all → new ≡ all
-ended run place levels new all none h = sym (append-nil new) ∙ ap (λ (l : List Bool). new ++ l) (sym (none_text run place levels none)) ∙ h
+pub ended : (run place : ℕ) (levels : List ℤ) (new all : List Bool) → none_left (drop place levels) ≡ true
+    → new ++ left_text run place levels ≡ all → new ≡ all
+ended run place levels new all none h = sym (append-nil new)
+    ∙ ap (λ (l : List Bool). new ++ l) (sym (none_text run place levels none)) ∙ h
 
 pub text_is : (from : ℕ) (levels : List ℤ) → left_text 0 from levels ≡ levels_text from levels
 unfolding levels_text
@@ -33,14 +36,17 @@ coded_is levels = at (none_left (drop 1 levels)) refl
     at false some = refl
 
 -- after INTRADC
-pub intra_is : (levels : List ℤ) (dc : ℕ) → dc ≡ dc_code (level_at levels 0) → spelled 8 dc ++ levels_text 1 levels ≡ intra_text levels
+pub intra_is : (levels : List ℤ) (dc : ℕ) → dc ≡ dc_code (level_at levels 0) → spelled 8 dc ++ levels_text 1 levels
+    ≡ intra_text levels
 unfolding intra_text
-intra_is levels dc is = ap (λ (n : ℕ). spelled 8 n ++ levels_text 1 levels) is ∙ ap (λ (l : List Bool). spelled 8 (dc_code (level_at levels 0)) ++ l) (sym (coded_is levels))
+intra_is levels dc is = ap (λ (n : ℕ). spelled 8 n ++ levels_text 1 levels) is
+    ∙ ap (λ (l : List Bool). spelled 8 (dc_code (level_at levels 0)) ++ l) (sym (coded_is levels))
 
 -- an intra block's text is eight bits of INTRADC and the events
 pub intra_length : (levels : List ℤ) → length (intra_text levels) ≡ 8 + length (coded_text levels)
 unfolding intra_text
-intra_length levels = let dc = dc_code (level_at levels 0) in length-append (spelled 8 dc) (coded_text levels) ∙ ap (λ (n : ℕ). n + length (coded_text levels)) (length-spelled 8 dc)
+intra_length levels = let dc = dc_code (level_at levels 0) in length-append (spelled 8 dc) (coded_text levels)
+    ∙ ap (λ (n : ℕ). n + length (coded_text levels)) (length-spelled 8 dc)
 
 -- nothing is written of a block with no level
 pub none_inter : (levels : List ℤ) → none_left levels ≡ true → inter_text levels ≡ []

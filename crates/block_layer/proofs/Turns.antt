@@ -41,25 +41,33 @@ pub turn_some : (t u : Events) → Spells (event_turn t) (again u) [] → ⊥
 unfolding event_turn
 turn_some t u h = part_some (placed t.place) any _ (again u) (placed_some t.place) h
 
-pub turn_more : (place : ℕ) (levels : List ℤ) (b c : Bits) (p : ℕ) (level : ℤ) → reading (placed place) b ≡ Ok (next p level false, c) → reading (event_turn (at_place place levels)) b ≡ Ok (again (at_place (p + 1) (slice_set levels p level)), c)
+pub turn_more : (place : ℕ) (levels : List ℤ) (b c : Bits) (p : ℕ) (level : ℤ) → reading (placed place) b
+    ≡ Ok (next p level false, c) → reading (event_turn (at_place place levels)) b
+    ≡ Ok (again (at_place (p + 1) (slice_set levels p level)), c)
 unfolding reading event_turn
 turn_more place levels b c p level e = rw e refl
 
-pub turn_last : (place : ℕ) (levels : List ℤ) (b c : Bits) (p : ℕ) (level : ℤ) → reading (placed place) b ≡ Ok (next p level true, c) → reading (event_turn (at_place place levels)) b ≡ Ok (finally (slice_set levels p level), c)
+pub turn_last : (place : ℕ) (levels : List ℤ) (b c : Bits) (p : ℕ) (level : ℤ) → reading (placed place) b
+    ≡ Ok (next p level true, c) → reading (event_turn (at_place place levels)) b
+    ≡ Ok (finally (slice_set levels p level), c)
 unfolding reading event_turn
 turn_last place levels b c p level e = rw e refl
 
-pub turn_fault : (place : ℕ) (levels : List ℤ) (b : Bits) (f : Fault) → reading (placed place) b ≡ Err f → reading (event_turn (at_place place levels)) b ≡ Err f
+pub turn_fault : (place : ℕ) (levels : List ℤ) (b : Bits) (f : Fault) → reading (placed place) b ≡ Err f
+    → reading (event_turn (at_place place levels)) b ≡ Err f
 unfolding reading event_turn
 turn_fault place levels b f e = rw e refl
 
 -- an event that is seen, where its place is in the block
-pub placed_there : (place : ℕ) (b c : Bits) (found : SeenEvent) (last : Bool) → IsNextEvent b found → place + found.event.run < 64 → found.event.last ≡ last → c ≡ skip found.len b
+pub placed_there : (place : ℕ) (b c : Bits) (found : SeenEvent) (last : Bool) → IsNextEvent b found
+    → place + found.event.run < 64 → found.event.last ≡ last → c ≡ skip found.len b
     → reading (placed place) b ≡ Ok (next (place + found.event.run) found.event.level last, c)
 unfolding reading placed
-placed_there place b c found last e inside same after = rw (sym same, after, e.read, lt-ltb (place + found.event.run) 64 inside) refl
+placed_there place b c found last e inside same after = rw (sym same, after, e.read,
+    lt-ltb (place + found.event.run) 64 inside) refl
 
 -- and where it is past it
-pub placed_past : (place : ℕ) (b : Bits) (found : SeenEvent) → IsNextEvent b found → 64 ≤ place + found.event.run → reading (placed place) b ≡ Err (record { kind = faults.PastEnd; at = b.at })
+pub placed_past : (place : ℕ) (b : Bits) (found : SeenEvent) → IsNextEvent b found → 64 ≤ place + found.event.run
+    → reading (placed place) b ≡ Err (record { kind = faults.PastEnd; at = b.at })
 unfolding reading placed
 placed_past place b found e past = rw (e.read, le-ltb (place + found.event.run) 64 past) refl

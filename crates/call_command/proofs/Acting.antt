@@ -8,7 +8,8 @@ use Rattle.call_report.specs.Status.Phase.{finished, refused, unread, unwritten,
 use Rattle.desk_program.specs.Ends.{ComesAtStart, ComesLater, IsLater, IsReadOut, IsUnstarted, ReadOutIn}
 
 -- it has read nothing out
-pub not_read_out : (status : Status) (source : Option Role) (now : Outside) → IsUnstarted status → IsReadOut status source now
+pub not_read_out : (status : Status) (source : Option Role) (now : Outside) → IsUnstarted status
+    → IsReadOut status source now
 not_read_out status source now stop = by_phase (phase status) stop
   where
     by_phase : (ph : Phase) → ComesAtStart ph → ReadOutIn ph source now

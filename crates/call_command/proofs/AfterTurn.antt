@@ -51,7 +51,8 @@ use Rattle.call_command.proofs.Lines.{nothing_after}
 
 -- the parts stood at the state before it
 pub stood_after : (x : Parts) (s : CallState) (inputs : Role → List ℕ) → PartsStand x s inputs → x.terms.plain ≡ false
-    → (trace : TracePlace) (left : Option (List ℕ)) → trace.lines ≡ x.link.trace.lines + 1 → Passes (inputs Events) trace left
+    → (trace : TracePlace) (left : Option (List ℕ)) → trace.lines ≡ x.link.trace.lines + 1
+        → Passes (inputs Events) trace left
     → StoodBefore (record x { link = record x.link { trace = trace } }) (state_of x s.before s.frames s.past) inputs
 stood_after x s inputs k recorded trace left lines passes = record {
   is = λ i. record (state_of x s.before s.frames s.past) { lines = sym lines i; ended = sym passes.ends i };
@@ -95,12 +96,15 @@ module _ (x : Parts) (s : CallState) (inputs : Role → List ℕ) (k : StoodBefo
   pub refusal_later : LaterFramesBoth (coding p) (rules_of p) → (e : Event) (later : List Frame)
       → refusal_after p s.before (s.frames ++ later) s.past e ≡ refusal_after p s.before s.frames s.past e
   refusal_later frames_law e later =
-      ap (λ (both : Joined Style Mb Picture). refusal_of both e) (frames_law (receiver_end.run_of p s.before) (steady p) s.frames later s.past done_here.way_holds.near).0
+      ap (λ (both : Joined Style Mb Picture). refusal_of both e) (frames_law (receiver_end.run_of p s.before)
+          (steady p) s.frames later s.past done_here.way_holds.near).0
 
   -- ---- a refused event
 
-  module _ (laws : TurnLaws) (before mid : Outside) (taken : HasTaken inputs before mid) (told : Told) (line : ℕ) (number : line ≡ s.lines + 1) (fault : TraceFault) (fault_is : fault ≡ fault_at line told) where
-    event_refused : (e : Event) (step : Step CallState) → IsAllowed (Err told) e (refusal_after p s.before s.frames s.past e)
+  module _ (laws : TurnLaws) (before mid : Outside) (taken : HasTaken inputs before mid) (told : Told) (line : ℕ)
+      (number : line ≡ s.lines + 1) (fault : TraceFault) (fault_is : fault ≡ fault_at line told) where
+    event_refused : (e : Event) (step : Step CallState)
+        → IsAllowed (Err told) e (refusal_after p s.before s.frames s.past e)
         → Ended (unless s trace e (refusal_at by_ends s e) step) (TraceRefused fault) inputs before mid
     event_refused e step refused =
         let told_so = refused.2 in
@@ -119,23 +123,28 @@ module _ (x : Parts) (s : CallState) (inputs : Role → List ℕ) (k : StoodBefo
 
   -- ---- an event that may happen
 
-  step_is : (e : Event) (step : Step CallState) → refusal_after p s.before s.frames s.past e ≡ None → unless s trace e (refusal_at by_ends s e) step ≡ step
+  step_is : (e : Event) (step : Step CallState) → refusal_after p s.before s.frames s.past e ≡ None
+      → unless s trace e (refusal_at by_ends s e) step ≡ step
   step_is e step none = ap (λ (o : Option Refusal). unless s trace e o step) (refusal_here e ∙ none)
 
   -- where a capture is not far, its frame is asked for
-  pub capture_is : refusal_at by_ends s Send ≡ None → event_step by_ends s inputs trace says.Send ≡ capture_step s trace (inputs Video)
+  pub capture_is : refusal_at by_ends s Send ≡ None → event_step by_ends s inputs trace says.Send
+      ≡ capture_step s trace (inputs Video)
   capture_is none = ap (λ (o : Option Refusal). unless s trace Send o (capture_step s trace (inputs Video))) none
 
   pub packet_is : (n j : ℕ) → refusal_after p s.before s.frames s.past (Deliver n j) ≡ None
-      → event_step by_ends s inputs trace (says.Packet n j) ≡ Goes (after_line (with_packet s n j) trace) (line_turn trace no_texts)
+      → event_step by_ends s inputs trace (says.Packet n j)
+          ≡ Goes (after_line (with_packet s n j) trace) (line_turn trace no_texts)
   packet_is n j none = step_is (Deliver n j) _ none
 
   pub packets_is : (n : ℕ) → refusal_after p s.before s.frames s.past (Deliver n 0) ≡ None
-      → event_step by_ends s inputs trace (says.All n) ≡ Goes (after_line (with_packets by_ends s n) trace) (line_turn trace no_texts)
+      → event_step by_ends s inputs trace (says.All n) ≡ Goes (after_line (with_packets by_ends s n) trace)
+          (line_turn trace no_texts)
   packets_is n none = step_is (Deliver n 0) _ none
 
   pub message_is : (m : ℕ) → refusal_after p s.before s.frames s.past (Back m) ≡ None
-      → event_step by_ends s inputs trace (says.Back m) ≡ Goes (after_line (with_message s m) trace) (line_turn trace no_texts)
+      → event_step by_ends s inputs trace (says.Back m)
+          ≡ Goes (after_line (with_message s m) trace) (line_turn trace no_texts)
   message_is m none = step_is (Back m) _ none
 
   -- the reader of the video is where the state says
@@ -153,7 +162,8 @@ module _ (x : Parts) (s : CallState) (inputs : Role → List ℕ) (k : StoodBefo
 
   -- ---- an event that takes no frame
 
-  module _ (sender : State) (receiver : Kept) (link : Link) (trace_same : link.trace ≡ x.link.trace) (sent_same : sender.sent ≡ x.sender.sent) where
+  module _ (sender : State) (receiver : Kept) (link : Link) (trace_same : link.trace ≡ x.link.trace)
+      (sent_same : sender.sent ≡ x.sender.sent) where
     abbrev y : Parts
     y = record { terms = x.terms; video = x.video; sender = sender; receiver = receiver; link = link }
 
@@ -171,14 +181,18 @@ module _ (x : Parts) (s : CallState) (inputs : Role → List ℕ) (k : StoodBefo
         with_events st events = record st { past = events }
 
         read_to : TracePlace → List Event → CallState
-        read_to reader events = record (state_of x s.before s.frames events) { lines = reader.lines; ended = reader.ended }
+        read_to reader events = record (state_of x s.before s.frames events) { lines = reader.lines;
+            ended = reader.ended }
 
-    pub event_goes : TurnLaws → (before mid : Outside) → HasTaken inputs before mid → (event : Line) (events : List Event)
-        → event_step by_ends s inputs trace event ≡ Goes (after_line (record s { past = events }) trace) (line_turn trace no_texts)
+    pub event_goes : TurnLaws → (before mid : Outside) → HasTaken inputs before mid
+        → (event : Line) (events : List Event)
+        → event_step by_ends s inputs trace event ≡ Goes (after_line (record s { past = events }) trace)
+            (line_turn trace no_texts)
         → ((later : List Frame) → HasDone y s.before (s.frames ++ later) events)
         → Went (event_step by_ends s inputs trace event) (PartsStand y) may_read true inputs before mid
     event_goes laws before mid taken event events is holds =
-        line_goes s inputs before mid taken (record s { past = events }) no_texts _ (PartsStand y) is (stands_event events holds) mid refl (laws.no_text mid.written mid.written refl)
+        line_goes s inputs before mid taken (record s { past = events }) no_texts _ (PartsStand y) is
+            (stands_event events holds) mid refl (laws.no_text mid.written mid.written refl)
 
   -- ---- all packets of a picture
 
@@ -186,7 +200,8 @@ module _ (x : Parts) (s : CallState) (inputs : Role → List ℕ) (k : StoodBefo
   count_in q frames n = length (slices_at (both_after q (steady q) frames s.before s.past).sender.coded n)
 
   -- their number is the same whatever frames come after, and by the state
-  pub count_same : LaterFramesBoth (coding p) (rules_of p) → (n : ℕ) (later : List Frame) → count_in p (s.frames ++ later) n ≡ length (slices_at (by_ends s).coded n)
+  pub count_same : LaterFramesBoth (coding p) (rules_of p) → (n : ℕ) (later : List Frame)
+      → count_in p (s.frames ++ later) n ≡ length (slices_at (by_ends s).coded n)
   count_same frames_law n later =
       ap (λ (both : Joined Style Mb Picture). length (slices_at both.sender.coded n))
       (frames_law (receiver_end.run_of p s.before) (steady p) s.frames later s.past done_here.way_holds.near).0
@@ -194,7 +209,8 @@ module _ (x : Parts) (s : CallState) (inputs : Role → List ℕ) (k : StoodBefo
 
   -- ---- the frame that the line asks for was sent
 
-  module _ (out : List ℕ) (video : Y4mPlace) (sender : State) (link : Link) (trace_same : link.trace ≡ x.link.trace) where
+  module _ (out : List ℕ) (video : Y4mPlace) (sender : State) (link : Link) (trace_same : link.trace
+      ≡ x.link.trace) where
     abbrev f : Frame
     f = bare (picture_of s.params.format out)
 
@@ -203,15 +219,18 @@ module _ (x : Parts) (s : CallState) (inputs : Role → List ℕ) (k : StoodBefo
 
     pub stands_sent : (size : ℕ) → video.at ≡ s.at + size → video.more + 1 ≡ s.more → sender.sent ≡ x.sender.sent + 1
         → ((later : List Frame) → HasDone sent_parts s.before (s.frames ++ f ∷ later) (Send ∷ s.past))
-        → PartsStand sent_parts (record (after_line (with_frame s f) trace) { at = s.at + size; more = s.more - 1 }) (left_after inputs (and_of taken_line (of Video size)))
+        → PartsStand sent_parts (record (after_line (with_frame s f) trace) { at = s.at + size; more = s.more - 1 })
+            (left_after inputs (and_of taken_line (of Video size)))
     stands_sent size place fewer sent holds = record {
       is = let less : s.more - 1 ≡ video.more = omega (arith, fewer) in
           ap (λ (st : CallState). sent_from st (s.at + size) (s.more - 1)) k.is
           ∙ (λ i. read_to (sym trace_same i) (sym place i) (less i));
       begun = k.begun;
       sent = sent ∙ ap (λ (n : ℕ). n + 1) k.sent ∙ sym (longer s.frames f);
-      over = λ ended. ap (λ (n : ℕ). drop n trace) (nothing_more (line_size trace)) ∙ k.over (ap (λ (r : TracePlace). r.ended) (sym trace_same) ∙ ended);
-      holds = λ later. subst (λ (l : List Frame). HasDone sent_parts s.before l (Send ∷ s.past)) (sym (push_then s.frames later f)) (holds later);
+      over = λ ended. ap (λ (n : ℕ). drop n trace) (nothing_more (line_size trace))
+          ∙ k.over (ap (λ (r : TracePlace). r.ended) (sym trace_same) ∙ ended);
+      holds = λ later. subst (λ (l : List Frame). HasDone sent_parts s.before l (Send ∷ s.past))
+          (sym (push_then s.frames later f)) (holds later);
     }
       where
         nothing_more : (n : ℕ) → n + 0 ≡ n
@@ -221,7 +240,8 @@ module _ (x : Parts) (s : CallState) (inputs : Role → List ℕ) (k : StoodBefo
         sent_from st at more = record st { frames = s.frames ++ f ∷ []; past = Send ∷ s.past; at = at; more = more }
 
         read_to : TracePlace → ℕ → ℕ → CallState
-        read_to reader at more = record (state_of x s.before (s.frames ++ f ∷ []) (Send ∷ s.past)) { at = at; more = more; lines = reader.lines; ended = reader.ended }
+        read_to reader at more = record (state_of x s.before (s.frames ++ f ∷ []) (Send ∷ s.past)) { at = at;
+            more = more; lines = reader.lines; ended = reader.ended }
 
   -- ---- the next picture was played
 
@@ -231,74 +251,95 @@ module _ (x : Parts) (s : CallState) (inputs : Role → List ℕ) (k : StoodBefo
   texts_are : WayLaws p → texts_at p x.receiver.played ≡ play_texts (by_ends (with_play s)) (by_ends s).played
   texts_are laws =
       ap (texts_at p) (laws.played x.sender x.receiver s.before s.frames s.past done_here.way_holds.joined)
-      ∙ sym (ap (λ (q : Params). texts_at q (both_after q (steady q) s.frames s.before s.past).receiver.played) params_is)
+      ∙ sym (ap (λ (q : Params). texts_at q (both_after q (steady q) s.frames s.before s.past).receiver.played)
+          params_is)
 
-  module _ (laws : WayLaws p) (before old new : Outside) (taken : HasTaken inputs before old) (still : new.left ≡ old.left) (none : refusal_after p s.before s.frames s.past Play ≡ None) where
+  module _ (laws : WayLaws p) (before old new : Outside) (taken : HasTaken inputs before old) (still : new.left
+      ≡ old.left) (none : refusal_after p s.before s.frames s.past Play ≡ None) where
     abbrev shown : Role → List ℕ
     shown = play_texts (by_ends (with_play s)) (by_ends s).played
 
-    play_is : event_step by_ends s inputs trace says.Play ≡ Goes (after_line (with_play s) trace) (line_turn trace shown)
+    play_is : event_step by_ends s inputs trace says.Play
+        ≡ Goes (after_line (with_play s) trace) (line_turn trace shown)
     play_is = step_is Play (Goes (after_line (with_play s) trace) (line_turn trace shown)) none
 
-    pub play_goes : (stands : CallState → (Role → List ℕ) → Type 0) → stands (after_line (with_play s) trace) (left_after inputs taken_line)
-        → Gains (texts_at p x.receiver.played) old.written new.written → Went (event_step by_ends s inputs trace says.Play) stands may_read true inputs before new
+    pub play_goes : (stands : CallState → (Role → List ℕ) → Type 0)
+        → stands (after_line (with_play s) trace) (left_after inputs taken_line)
+        → Gains (texts_at p x.receiver.played) old.written new.written
+            → Went (event_step by_ends s inputs trace says.Play) stands may_read true inputs before new
     play_goes stands kept gains =
-        line_goes s inputs before old taken (with_play s) shown _ stands play_is kept new still (subst (λ (t : Role → List ℕ). Gains t old.written new.written) (texts_are laws) gains)
+        line_goes s inputs before old taken (with_play s) shown _ stands play_is kept new still
+            (subst (λ (t : Role → List ℕ). Gains t old.written new.written) (texts_are laws) gains)
 
-    pub play_cut : GainsFronts (texts_at p x.receiver.played) old.written new.written → GainsFronts (step_texts (event_step by_ends s inputs trace says.Play)) before.written new.written
+    pub play_cut : GainsFronts (texts_at p x.receiver.played) old.written new.written
+        → GainsFronts (step_texts (event_step by_ends s inputs trace says.Play)) before.written new.written
     play_cut gains =
         subst (λ (step : Step CallState). GainsFronts (step_texts step) before.written new.written) (sym play_is)
-        (subst (λ (w : Role → Option (List ℕ)). GainsFronts shown w new.written) taken.written (subst (λ (t : Role → List ℕ). GainsFronts t old.written new.written) (texts_are laws) gains))
+        (subst (λ (w : Role → Option (List ℕ)). GainsFronts shown w new.written) taken.written
+            (subst (λ (t : Role → List ℕ). GainsFronts t old.written new.written) (texts_are laws) gains))
 
 -- ---- what a line's turn is, by what the line says
 
 -- one that is not refused has no refusal
-pub none_so : (r : Result Unit Told) (e : Event) (refusal : Option Refusal) → IsNotRefused r → IsAllowed r e refusal → refusal ≡ None
+pub none_so : (r : Result Unit Told) (e : Event) (refusal : Option Refusal) → IsNotRefused r → IsAllowed r e refusal
+    → refusal ≡ None
 none_so (Ok u) e refusal free allowed = allowed
 none_so (Err told) e refusal free allowed = absurd free
 
 -- a line whose event is refused
-pub line_stops : (x : World) (line : ℕ) (event said : Line) (r : Result Bool Status) (status : Status) (checked : Result Unit Told) (now : Outside) → event ≡ said
+pub line_stops : (x : World) (line : ℕ) (event said : Line) (r : Result Bool Status) (status : Status)
+    (checked : Result Unit Told) (now : Outside) → event ≡ said
     → IsErrAnd r (λ z. z ≡ status) → IsRefusedWith line checked status → x.terms.plain ≡ false → TurnLaws → StepLaws
-    → ((old : Outside) (s : CallState) (inputs : Role → List ℕ) → IsRead (parts_of x) line now old s inputs → IsChecked checked said (refusal_after x.terms.params s.before s.frames s.past))
+    → ((old : Outside) (s : CallState) (inputs : Role → List ℕ) → IsRead (parts_of x) line now old s inputs
+        → IsChecked checked said (refusal_after x.terms.params s.before s.frames s.past))
     → TakesLine x x line event r now now
 line_stops x line event said r status (Ok u) now is answer refused recorded laws steps checks = absurd refused
 line_stops x line event said r status (Err told) now is answer refused recorded laws steps checks =
     subst (λ (e : Line). TakesLine x x line e r now now) (sym is)
-    (gave_up x x now now (IsRead (parts_of x) line now) (λ s inputs. event_step by_ends s inputs (inputs Events) said) (λ _. true) (more_of (parts_of x) + 1)
-    r (TraceRefused (fault_at line told)) (subst (λ (w : Status). IsErrAnd r (λ z. z ≡ w)) refused answer) refl recorded tt tt (steps.none now)
-    (λ o s inputs b. line_is_refused (parts_of x) s inputs b.stood laws o now b.taken told line b.number (fault_at line told) refl said (checks o s inputs b))
+    (gave_up x x now now (IsRead (parts_of x) line now) (λ s inputs. event_step by_ends s inputs (inputs Events) said)
+        (λ _. true) (more_of (parts_of x) + 1)
+    r (TraceRefused (fault_at line told)) (subst (λ (w : Status). IsErrAnd r (λ z. z ≡ w)) refused answer)
+        refl recorded tt tt (steps.none now)
+    (λ o s inputs b. line_is_refused (parts_of x) s inputs b.stood laws o now b.taken told line b.number
+        (fault_at line told) refl said (checks o s inputs b))
     (λ s stand. stand))
 
 -- a line whose event is done
-pub line_goes_on : (x y : World) (line : ℕ) (event said : Line) (mid new : Outside) → event ≡ said → names_of y ≡ names_of x
+pub line_goes_on : (x y : World) (line : ℕ) (event said : Line) (mid new : Outside) → event ≡ said
+    → names_of y ≡ names_of x
     → more_of (parts_of y) ≡ more_of (parts_of x) → PartsReady (parts_of y) new.attached → KeepsRoles mid new
     → ((old : Outside) (s : CallState) (inputs : Role → List ℕ) → IsRead (parts_of x) line mid old s inputs
     → Went (event_step by_ends s inputs (inputs Events) said) (PartsStand (parts_of y)) may_read true inputs old new)
     → TakesLine x y line event (Ok true) mid new
 line_goes_on x y line event said mid new is names more ready rest gives =
     subst (λ (e : Line). TakesLine x y line e (Ok true) mid new) (sym is)
-    (goes_on x y mid new (IsRead (parts_of x) line mid) (λ s inputs. event_step by_ends s inputs (inputs Events) said) (λ _. true) (more_of (parts_of x) + 1)
+    (goes_on x y mid new (IsRead (parts_of x) line mid) (λ s inputs. event_step by_ends s inputs (inputs Events) said)
+        (λ _. true) (more_of (parts_of x) + 1)
     names (ap (λ (n : ℕ). n + 1) more) ready rest gives)
 
 -- one that can't write
-pub line_was_cut : (x y : World) (line : ℕ) (event said : Line) (r : Result Bool Status) (status : Status) (mid new : Outside) → event ≡ said → IsErrAnd r (λ z. z ≡ status) → names_of y ≡ names_of x
+pub line_was_cut : (x y : World) (line : ℕ) (event said : Line) (r : Result Bool Status) (status : Status)
+    (mid new : Outside) → event ≡ said → IsErrAnd r (λ z. z ≡ status) → names_of y ≡ names_of x
     → status ≡ WriteFault → Rose mid.faults.write new.faults.write → KeepsRoles mid new
     → ((old : Outside) (s : CallState) (inputs : Role → List ℕ) → IsRead (parts_of x) line mid old s inputs
     → GainsFronts (step_texts (event_step by_ends s inputs (inputs Events) said)) old.written new.written)
     → TakesLine x y line event r mid new
 line_was_cut x y line event said r status mid new is answer names kind rose rest gives =
     subst (λ (e : Line). TakesLine x y line e r mid new) (sym is)
-    (was_cut x y mid new (IsRead (parts_of x) line mid) (λ s inputs. event_step by_ends s inputs (inputs Events) said) (λ _. true) (more_of (parts_of x) + 1)
+    (was_cut x y mid new (IsRead (parts_of x) line mid) (λ s inputs. event_step by_ends s inputs (inputs Events) said)
+        (λ _. true) (more_of (parts_of x) + 1)
     r status answer names kind rose rest gives)
 
 -- a line that asks for a frame
-pub asks_frame : (x y : World) (line : ℕ) (event : Line) (r : Result Bool Status) (mid new : Outside) → event ≡ says.Send → TakesFrame x y line r mid new
-    → ((old : Outside) (s : CallState) (inputs : Role → List ℕ) → IsRead (parts_of x) line mid old s inputs → refusal_at by_ends s Send ≡ None)
+pub asks_frame : (x y : World) (line : ℕ) (event : Line) (r : Result Bool Status) (mid new : Outside)
+    → event ≡ says.Send → TakesFrame x y line r mid new
+    → ((old : Outside) (s : CallState) (inputs : Role → List ℕ) → IsRead (parts_of x) line mid old s inputs
+        → refusal_at by_ends s Send ≡ None)
     → TakesLine x y line event r mid new
 asks_frame x y line event r mid new is t none = subst (λ (e : Line). TakesLine x y line e r mid new) (sym is) (record {
   gives = λ old s inputs b.
-      subst (λ (step : Step CallState). TurnGives r step (PartsStand (parts_of y)) may_read true inputs old new) (sym (capture_is (parts_of x) s inputs b.stood (none old s inputs b)))
+      subst (λ (step : Step CallState). TurnGives r step (PartsStand (parts_of y)) may_read true inputs old new)
+          (sym (capture_is (parts_of x) s inputs b.stood (none old s inputs b)))
       (t.gives old s inputs (is_asked old s inputs b));
   whole = λ old s inputs b. t.whole old s inputs (is_asked old s inputs b);
   keeps = t.keeps;
@@ -311,5 +352,6 @@ asks_frame x y line event r mid new is t none = subst (λ (e : Line). TakesLine 
   rest = t.rest;
 })
   where
-    is_asked : (old : Outside) (s : CallState) (inputs : Role → List ℕ) → IsRead (parts_of x) line mid old s inputs → IsAsked (parts_of x) line mid old s inputs
+    is_asked : (old : Outside) (s : CallState) (inputs : Role → List ℕ) → IsRead (parts_of x) line mid old s inputs
+        → IsAsked (parts_of x) line mid old s inputs
     is_asked old s inputs b = record { read = b; none = none old s inputs b }

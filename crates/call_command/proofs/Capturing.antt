@@ -26,35 +26,44 @@ use Rattle.call_command.proofs.Lines.{double_not, frame_held, refused_by, with_f
 
 -- ---- a part of a frame holds no turn
 
-frame_part : VideoLaws → (s : CallState) (trace video : List ℕ) (n : ℕ) (r : Result (List ℕ) Y4mFault) → next_frame s.more s.params.format s.at video ≡ r
-    → IsErr (frame_of s.params.format s.at (take n video)) → IsPart (step_turns (captured_step s trace (frame_size s.params.format video) r)) (with_frame_bytes trace n)
+frame_part : VideoLaws → (s : CallState) (trace video : List ℕ) (n : ℕ) (r : Result (List ℕ) Y4mFault)
+    → next_frame s.more s.params.format s.at video ≡ r
+    → IsErr (frame_of s.params.format s.at (take n video))
+        → IsPart (step_turns (captured_step s trace (frame_size s.params.format video) r)) (with_frame_bytes trace n)
 frame_part laws s trace video n (Ok frame) is lost =
     frame_held trace (frame_size s.params.format video) n
-    (λ whole. not_an_err _ frame (laws.frame s.params.format s.at n video frame (next_is s.more s.params.format s.at video frame is) whole).0 lost)
+    (λ whole. not_an_err _ frame (laws.frame s.params.format s.at n video frame
+        (next_is s.more s.params.format s.at video frame is) whole).0 lost)
 frame_part laws s trace video n (Err fault) is lost = tt
 
-video_part : VideoLaws → (s : CallState) (trace video : List ℕ) (n : ℕ) → IsErr (frame_of s.params.format s.at (take n video))
+video_part : VideoLaws → (s : CallState) (trace video : List ℕ) (n : ℕ)
+    → IsErr (frame_of s.params.format s.at (take n video))
     → IsPart (step_turns (capture_step s trace video)) (with_frame_bytes trace n)
 video_part laws s trace [] n lost = tt
-video_part laws s trace (b ∷ rest) n lost = frame_part laws s trace (b ∷ rest) n (next_frame s.more s.params.format s.at (b ∷ rest)) refl lost
+video_part laws s trace (b ∷ rest) n lost = frame_part laws s trace (b ∷ rest) n (next_frame s.more s.params.format s.at
+    (b ∷ rest)) refl lost
 
 -- ---- which step it is
 
-video_next : (s : CallState) (trace video : List ℕ) (r : Result (List ℕ) Y4mFault) → 0 < length video → next_frame s.more s.params.format s.at video ≡ r
+video_next : (s : CallState) (trace video : List ℕ) (r : Result (List ℕ) Y4mFault) → 0 < length video
+    → next_frame s.more s.params.format s.at video ≡ r
     → capture_step s trace video ≡ captured_step s trace (frame_size s.params.format video) r
 video_next s trace [] r some is = absurd (omega arith)
 video_next s trace (b ∷ rest) r some is = ap (captured_step s trace (frame_size s.params.format (b ∷ rest))) is
 
 -- ---- the capture: `old` is the desk after the line, `mid` after the read of the frame
 
-module _ (turns : TurnLaws) (laws : VideoLaws) (s : CallState) (inputs : Role → List ℕ) (before old mid : Outside) (taken : HasTaken inputs before old) (others : (r : Role) → r ≢ Video → mid.left r ≡ old.left r) (same : mid.written ≡ old.written) (reader : Y4mPlace) (out : List ℕ) where
+module _ (turns : TurnLaws) (laws : VideoLaws) (s : CallState) (inputs : Role → List ℕ) (before old mid : Outside)
+    (taken : HasTaken inputs before old) (others : (r : Role) → r ≢ Video → mid.left r ≡ old.left r) (same : mid.written
+    ≡ old.written) (reader : Y4mPlace) (out : List ℕ) where
   abbrev trace : List ℕ
   trace = inputs Events
 
   abbrev step : Step CallState
   step = capture_step s trace (inputs Video)
 
-  video_told : (k : ℕ) → mid.left Video ≡ Some (drop k (inputs Video)) → Tells mid (left_after inputs (with_frame_bytes trace k))
+  video_told : (k : ℕ) → mid.left Video ≡ Some (drop k (inputs Video))
+      → Tells mid (left_after inputs (with_frame_bytes trace k))
   video_told k gone =
       turns.both_reads (of Events (line_size trace)) (of Video k) mid inputs
       (turns.one_read Video k old mid (left_after inputs (of Events (line_size trace))) taken.left gone others)
@@ -82,9 +91,11 @@ module _ (turns : TurnLaws) (laws : VideoLaws) (s : CallState) (inputs : Role �
   frame_missing line is e = record {
     last = refused_line trace (NoFrame (s.lines + 1));
     is = ap (capture_step s trace) e.0;
-    by = subst (λ (n : ℕ). EndsBy (refused_line trace (NoFrame (s.lines + 1))) (TraceRefused (NoFrame n)) inputs before mid) (sym is)
+    by = subst (λ (n : ℕ). EndsBy (refused_line trace (NoFrame (s.lines + 1))) (TraceRefused (NoFrame n)) inputs before
+        mid) (sym is)
         (refused_by turns (NoFrame (s.lines + 1)) inputs before mid (record {
-          left = turns.none_read Video old mid (left_after inputs (of Events (line_size trace))) taken.left e.0 e.1 others;
+          left = turns.none_read Video old mid (left_after inputs (of Events (line_size trace))) taken.left e.0 e.1
+              others;
           written = same ∙ taken.written;
         }));
   }
@@ -95,9 +106,11 @@ module _ (turns : TurnLaws) (laws : VideoLaws) (s : CallState) (inputs : Role �
     size = frame_size s.params.format (inputs Video)
 
     abbrev sent : CallState
-    sent = record (after_line (with_frame s (bare (picture_of s.params.format out))) trace) { at = s.at + size; more = s.more - 1 }
+    sent = record (after_line (with_frame s (bare (picture_of s.params.format out))) trace) { at = s.at + size;
+        more = s.more - 1 }
 
-    pub frame_sent : (stands : CallState → (Role → List ℕ) → Type 0) → stands sent (left_after inputs (with_frame_bytes trace size))
+    pub frame_sent : (stands : CallState → (Role → List ℕ) → Type 0)
+        → stands sent (left_after inputs (with_frame_bytes trace size))
         → Went step stands may_read true inputs before mid
     frame_sent stands kept = record {
       next = sent;

@@ -41,9 +41,11 @@ parts_with begun link =
     }
 
 -- its parts stand
-pub lent_first : (x : Parts) (before : List ReceiverEntry) (inputs : Role → List ℕ) → WayLaws x.terms.params → IsFresh x.terms x.link
+pub lent_first : (x : Parts) (before : List ReceiverEntry) (inputs : Role → List ℕ) → WayLaws x.terms.params
+    → IsFresh x.terms x.link
     → x.sender.params ≡ x.terms.params → sender_end.Stands (steady x.terms.params) x.sender [] → x.sender.sent ≡ 0
-    → x.video.more ≡ 1048576 → x.receiver.params ≡ x.terms.params → x.receiver.played ≡ 0 → receiver_end.Stands x.receiver before
+    → x.video.more ≡ 1048576 → x.receiver.params ≡ x.terms.params → x.receiver.played ≡ 0
+        → receiver_end.Stands x.receiver before
     → PartsStand x (first_state x.terms before x.video.at) inputs
 lent_first x before inputs laws fresh sender_params sends sent more receiver_params played receives =
     stands_first x fresh laws sender_params sends sent more before x.video.at inputs refl receiver_params receives
@@ -67,7 +69,8 @@ alone_under_way x lines more kept talk run inputs start now u =
     let most = most_turns x.terms.plain in
     let same : run_of talk_step (more_of x) u.state u.rest ≡ run_of call_step most u.state u.rest =
     ap (λ (n : ℕ). run_of talk_step n u.state u.rest) (most_is x lines more)
-    ∙ subst (λ (s : CallState). run_of talk_step most s u.rest ≡ run_of call_step most s u.rest) (sym u.kept) (talk x.video.at most u.rest)
+    ∙ subst (λ (s : CallState). run_of talk_step most s u.rest ≡ run_of call_step most s u.rest) (sym u.kept)
+        (talk x.video.at most u.rest)
     in
     record {
       done = u.done;
@@ -82,7 +85,8 @@ alone_under_way x lines more kept talk run inputs start now u =
       written = u.written;
     }
 
-module _ (x : Parts) (before : List ReceiverEntry) (inputs : Role → List ℕ) (now : Outside) (lines : x.link.trace.lines ≡ 0) (more : x.video.more ≡ 1048576)
+module _ (x : Parts) (before : List ReceiverEntry) (inputs : Role → List ℕ) (now : Outside) (lines : x.link.trace.lines
+    ≡ 0) (more : x.video.more ≡ 1048576)
     (kept : PartsStand x (first_state x.terms before x.video.at) inputs) (told : Tells now inputs) where
   abbrev first : CallState
   first = first_state x.terms before x.video.at
@@ -91,7 +95,8 @@ module _ (x : Parts) (before : List ReceiverEntry) (inputs : Role → List ℕ) 
   more_is = most_is x lines more
 
   pub under_way : TurnLaws
-      → IsUnderWay talk_step may_read (talk_of x.terms before x.video.at inputs) inputs now.written (PartsStand x) (more_of x) now
+      → IsUnderWay talk_step may_read (talk_of x.terms before x.video.at inputs) inputs now.written (PartsStand x)
+          (more_of x) now
   under_way laws = record {
     done = [];
     state = first;
@@ -128,22 +133,27 @@ after_all status P Q leads p = by_phase (phase status) p
     by_phase (unopened role) p = tt
 
 -- the ends of the machine stand where it stood before its last turn
-pub left_standing : (status : Status) (s : CallState) (w : World) → AfterAll status (LeftIn WorldStands LeavesEnds s w) → AfterAll status (EndsStand w.terms w.sender.now w.receiver.now s)
-left_standing status s w = after_all status (LeftIn WorldStands LeavesEnds s w) (EndsStand w.terms w.sender.now w.receiver.now s) ends
+pub left_standing : (status : Status) (s : CallState) (w : World) → AfterAll status (LeftIn WorldStands LeavesEnds s w)
+    → AfterAll status (EndsStand w.terms w.sender.now w.receiver.now s)
+left_standing status s w = after_all status (LeftIn WorldStands LeavesEnds s w)
+    (EndsStand w.terms w.sender.now w.receiver.now s) ends
   where
     ends : LeftIn WorldStands LeavesEnds s w → EndsStand w.terms w.sender.now w.receiver.now s
     ends l = l.left s (ends_stand (parts_of l.last) s l.rest l.stood)
 
 -- what stays of a machine, by what it was itself
-pub stays_itself : {old new : World} → ((first : World) → WorldStays first old → WorldStays first new) → names_of new ≡ names_of old
+pub stays_itself : {old new : World} → ((first : World) → WorldStays first old → WorldStays first new)
+    → names_of new ≡ names_of old
 stays_itself {old} {new} stays = (stays old (record { names = refl })).names
 
 -- how it is answered, likewise
-pub answers_itself : {w : World} (status : Status) → ((first : World) → WorldStays first w → WorldAnswers first status) → IsAnswer w.terms.plain status
+pub answers_itself : {w : World} (status : Status) → ((first : World) → WorldStays first w → WorldAnswers first status)
+    → IsAnswer w.terms.plain status
 answers_itself {w} status answers = answers w (record { names = refl })
 
 -- what was lent stands, too
-pub lent_stand : (status : Status) (s : CallState) (t u : Terms) (sender their_sender : State) (receiver their_receiver : Kept)
+pub lent_stand : (status : Status) (s : CallState) (t u : Terms) (sender their_sender : State)
+    (receiver their_receiver : Kept)
     → u ≡ t → their_sender ≡ sender → their_receiver ≡ receiver
     → AfterAll status (EndsStand u their_sender their_receiver s) → AfterAll status (EndsStand t sender receiver s)
 lent_stand status s t u sender their_sender receiver their_receiver terms senders receivers stand =

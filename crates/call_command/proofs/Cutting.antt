@@ -30,7 +30,8 @@ module _ (s : CallState) (inputs : Role → List ℕ) (trace : List ℕ) where
   more_size : (n m : ℕ) → n ≤ n + m
   more_size n m = omega arith
 
-  turn_unless : (e : Event) (o : Option Refusal) (step : Step CallState) → IsLineTurn trace step → IsLineTurn trace (unless s trace e o step)
+  turn_unless : (e : Event) (o : Option Refusal) (step : Step CallState) → IsLineTurn trace step
+      → IsLineTurn trace (unless s trace e o step)
   turn_unless e None step is = is
   turn_unless e (Some r) step is = tt
 
@@ -45,8 +46,10 @@ module _ (s : CallState) (inputs : Role → List ℕ) (trace : List ℕ) where
   turn_event : (line : Line) → IsLineTurn trace (event_step by_ends s inputs trace line)
   turn_event says.Nothing = (refl, same_size (line_size trace))
   turn_event says.Send = turn_unless Send (refusal_at by_ends s Send) _ (turn_capture (inputs Video))
-  turn_event (says.Packet n j) = turn_unless (Deliver n j) (refusal_at by_ends s (Deliver n j)) _ (refl, same_size (line_size trace))
-  turn_event (says.All n) = turn_unless (Deliver n 0) (refusal_at by_ends s (Deliver n 0)) _ (refl, same_size (line_size trace))
+  turn_event (says.Packet n j) = turn_unless (Deliver n j) (refusal_at by_ends s (Deliver n j)) _ (refl,
+      same_size (line_size trace))
+  turn_event (says.All n) = turn_unless (Deliver n 0) (refusal_at by_ends s (Deliver n 0)) _ (refl,
+      same_size (line_size trace))
   turn_event (says.Back k) = turn_unless (Back k) (refusal_at by_ends s (Back k)) _ (refl, same_size (line_size trace))
   turn_event says.Play = turn_unless Play (refusal_at by_ends s Play) _ (refl, same_size (line_size trace))
 
@@ -54,13 +57,18 @@ module _ (s : CallState) (inputs : Role → List ℕ) (trace : List ℕ) where
   turn_line None = tt
   turn_line (Some line) = turn_event line
 
-  turn_choice : (b : Bool) (o : Option Line) → IsLineTurn trace (if b then line_step by_ends s inputs trace o else Ends (bad_line (TooMany (s.lines + 1))))
+  turn_choice : (b : Bool) (o : Option Line)
+      → IsLineTurn trace (if b then line_step by_ends s inputs trace o else Ends (bad_line (TooMany (s.lines + 1))))
   turn_choice true o = turn_line o
   turn_choice false o = tt
 
-turn_trace : (s : CallState) (inputs : Role → List ℕ) (trace : List ℕ) → IsLineTurn trace (trace_step by_ends s inputs trace)
+turn_trace : (s : CallState) (inputs : Role → List ℕ) (trace : List ℕ)
+    → IsLineTurn trace (trace_step by_ends s inputs trace)
 turn_trace s inputs [] = tt
-turn_trace s inputs (b ∷ trace) = turn_choice s inputs (b ∷ trace) (nat_lt s.lines 16777216) (event_in (first_line (b ∷ trace)))
+turn_trace s inputs (b ∷ trace) = turn_choice s inputs (b ∷ trace) (nat_lt s.lines 16777216)
+    (event_in (first_line (b ∷ trace)))
 
-pub trace_part : (s : CallState) (inputs : Role → List ℕ) (trace : List ℕ) (k : ℕ) → NoNewline (take k trace) → IsPart (step_turns (trace_step by_ends s inputs trace)) (of Events k)
-trace_part s inputs trace k free = line_part trace k (step_turns (trace_step by_ends s inputs trace)) free (turn_trace s inputs trace)
+pub trace_part : (s : CallState) (inputs : Role → List ℕ) (trace : List ℕ) (k : ℕ) → NoNewline (take k trace)
+    → IsPart (step_turns (trace_step by_ends s inputs trace)) (of Events k)
+trace_part s inputs trace k free = line_part trace k (step_turns (trace_step by_ends s inputs trace)) free
+    (turn_trace s inputs trace)

@@ -35,38 +35,46 @@ module _ (frame_laws : FrameLaws) (fault : Y4mFault) where
     Refuses step = (follow step rest).last.status ≡ VideoRefused fault
 
     -- the fault stands after the first frame
-    after_it : (b : ℕ) (v planes : List ℕ) → inputs Video ≡ b ∷ v → next_frame s.more s.params.format s.at (b ∷ v) ≡ Ok planes
+    after_it : (b : ℕ) (v planes : List ℕ) → inputs Video ≡ b ∷ v → next_frame s.more s.params.format s.at (b ∷ v)
+        ≡ Ok planes
         → let size = frame_size s.params.format (b ∷ v) in
         fault_of s.params.format (s.more - 1) (s.at + size) (drop size (inputs Video)) ≡ Some fault
         → fault_of s.params.format s.more s.at (b ∷ v) ≡ Some fault
     after_it b v planes video is later =
         let f = s.params.format in
         let size = frame_size f (b ∷ v) in
-        let e = frame_laws.next f s.more (s.more - 1) s.at (b ∷ v) planes (some_left s.more s.at f (b ∷ v) planes is) (omega arith) is in
+        let e = frame_laws.next f s.more (s.more - 1) s.at (b ∷ v) planes (some_left s.more s.at f (b ∷ v) planes is)
+            (omega arith) is in
         e.fault ∙ sym (λ i. fault_of f (s.more - 1) (s.at + size) (drop size (video i))) ∙ later
 
-    at_fault : (b : ℕ) (v : List ℕ) (broken : Y4mFault) → next_frame s.more s.params.format s.at (b ∷ v) ≡ Err broken → VideoRefused broken ≡ VideoRefused fault
+    at_fault : (b : ℕ) (v : List ℕ) (broken : Y4mFault) → next_frame s.more s.params.format s.at (b ∷ v) ≡ Err broken
+        → VideoRefused broken ≡ VideoRefused fault
         → fault_of s.params.format s.more s.at (b ∷ v) ≡ Some fault
     at_fault b v broken is ends =
-        (frame_laws.stops s.params.format s.more s.at (b ∷ v) broken (omega arith) is).1 ∙ ap (λ (x : Y4mFault). Some x) (refused_is broken fault ends)
+        (frame_laws.stops s.params.format s.more s.at (b ∷ v) broken (omega arith) is).1
+            ∙ ap (λ (x : Y4mFault). Some x) (refused_is broken fault ends)
 
     -- ---- over the plain trace
 
-    at_frame : (b : ℕ) (v : List ℕ) → inputs Video ≡ b ∷ v → (r : Result (List ℕ) Y4mFault) → next_frame s.more s.params.format s.at (b ∷ v) ≡ r
+    at_frame : (b : ℕ) (v : List ℕ) → inputs Video ≡ b ∷ v → (r : Result (List ℕ) Y4mFault)
+        → next_frame s.more s.params.format s.at (b ∷ v) ≡ r
         → Refuses (frame_step by_call s (b ∷ v) r) → fault_of s.params.format s.more s.at (b ∷ v) ≡ Some fault
     at_frame b v video (Ok planes) is ends =
         after_it b v planes video is (more _ (of Video (frame_size s.params.format (b ∷ v))) ends)
     at_frame b v video (Err broken) is ends = at_fault b v broken is ends
 
-    at_video : (video : List ℕ) → inputs Video ≡ video → Refuses (video_step by_call s video) → fault_of s.params.format s.more s.at video ≡ Some fault
+    at_video : (video : List ℕ) → inputs Video ≡ video → Refuses (video_step by_call s video)
+        → fault_of s.params.format s.more s.at video ≡ Some fault
     at_video [] is ends = absurd (cc ends)
     at_video (b ∷ v) is ends = at_frame b v is (next_frame s.more s.params.format s.at (b ∷ v)) refl ends
 
     -- ---- over a recorded trace
 
     module _ (trace : List ℕ) where
-      at_captured : (b : ℕ) (v : List ℕ) → inputs Video ≡ b ∷ v → (r : Result (List ℕ) Y4mFault) → next_frame s.more s.params.format s.at (b ∷ v) ≡ r
-          → Refuses (captured_step s trace (frame_size s.params.format (b ∷ v)) r) → fault_of s.params.format s.more s.at (b ∷ v) ≡ Some fault
+      at_captured : (b : ℕ) (v : List ℕ) → inputs Video ≡ b ∷ v → (r : Result (List ℕ) Y4mFault)
+          → next_frame s.more s.params.format s.at (b ∷ v) ≡ r
+          → Refuses (captured_step s trace (frame_size s.params.format (b ∷ v)) r)
+              → fault_of s.params.format s.more s.at (b ∷ v) ≡ Some fault
       at_captured b v video (Ok planes) is ends =
           let f = s.params.format in
           let size = frame_size f (b ∷ v) in
@@ -76,7 +84,8 @@ module _ (frame_laws : FrameLaws) (fault : Y4mFault) where
           (more _ (and_of (of Events (line_size trace)) (of Video size)) ends))
       at_captured b v video (Err broken) is ends = at_fault b v broken is ends
 
-      at_capture : (video : List ℕ) → inputs Video ≡ video → Refuses (capture_step s trace video) → fault_of s.params.format s.more s.at video ≡ Some fault
+      at_capture : (video : List ℕ) → inputs Video ≡ video → Refuses (capture_step s trace video)
+          → fault_of s.params.format s.more s.at video ≡ Some fault
       at_capture [] is ends = absurd (cc ends)
       at_capture (b ∷ v) is ends = at_captured b v is (next_frame s.more s.params.format s.at (b ∷ v)) refl ends
 
@@ -87,7 +96,8 @@ module _ (frame_laws : FrameLaws) (fault : Y4mFault) where
       at_unless e None step later ends = later ends
       at_unless e (Some refusal) step later ends = absurd (cc ends)
 
-      at_line : (o : Option Line) → Refuses (line_step by_call s inputs trace o) → fault_of s.params.format s.more s.at (inputs Video) ≡ Some fault
+      at_line : (o : Option Line) → Refuses (line_step by_call s inputs trace o)
+          → fault_of s.params.format s.more s.at (inputs Video) ≡ Some fault
       at_line None ends = absurd (cc ends)
       at_line (Some says.Nothing) ends = more _ (of Events (line_size trace)) ends
       at_line (Some says.Send) ends = at_unless Send (refusal_at by_call s Send) _ (at_capture (inputs Video) refl) ends
@@ -97,9 +107,11 @@ module _ (frame_laws : FrameLaws) (fault : Y4mFault) where
           at_unless (Deliver n 0) (refusal_at by_call s (Deliver n 0)) _ (more _ (of Events (line_size trace))) ends
       at_line (Some (says.Back k)) ends =
           at_unless (Back k) (refusal_at by_call s (Back k)) _ (more _ (of Events (line_size trace))) ends
-      at_line (Some says.Play) ends = at_unless Play (refusal_at by_call s Play) _ (more _ (of Events (line_size trace))) ends
+      at_line (Some says.Play) ends = at_unless Play (refusal_at by_call s Play) _
+          (more _ (of Events (line_size trace))) ends
 
-    at_trace : (trace : List ℕ) → Refuses (trace_step by_call s inputs trace) → fault_of s.params.format s.more s.at (inputs Video) ≡ Some fault
+    at_trace : (trace : List ℕ) → Refuses (trace_step by_call s inputs trace)
+        → fault_of s.params.format s.more s.at (inputs Video) ≡ Some fault
     at_trace [] ends = absurd (cc ends)
     at_trace (b ∷ trace) ends = within (nat_lt s.lines 16777216) refl ends
       where
@@ -108,26 +120,33 @@ module _ (frame_laws : FrameLaws) (fault : Y4mFault) where
         within true is ends = at_line (b ∷ trace) (event_in (first_line (b ∷ trace))) (rw is at ends)
         within false is ends = absurd (cc (rw is at ends))
 
-    at_turn : (plain : Bool) → Refuses (if plain then video_step by_call s (inputs Video) else trace_step by_call s inputs (inputs Events))
+    at_turn : (plain : Bool)
+        → Refuses (if plain then video_step by_call s (inputs Video) else trace_step by_call s inputs (inputs Events))
         → fault_of s.params.format s.more s.at (inputs Video) ≡ Some fault
     at_turn true ends = at_video (inputs Video) refl ends
     at_turn false ends = at_trace (inputs Events) ends
 
-  run_refused : (n : ℕ) (s : CallState) (inputs : Role → List ℕ) → (run_of call_step n s inputs).last.status ≡ VideoRefused fault
+  run_refused : (n : ℕ) (s : CallState) (inputs : Role → List ℕ) → (run_of call_step n s inputs).last.status
+      ≡ VideoRefused fault
       → fault_of s.params.format s.more s.at (inputs Video) ≡ Some fault
   unfolding run_of
-  run_refused zero s inputs ends = at_turn s inputs (λ next taken. silence) (λ next taken is. absurd (cc is)) s.plain ends
+  run_refused zero s inputs ends = at_turn s inputs (λ next taken. silence) (λ next taken is. absurd (cc is)) s.plain
+      ends
   run_refused (suc n) s inputs ends =
-      at_turn s inputs (λ next taken. run_of call_step n next (left_after inputs taken)) (λ next taken is. run_refused n next (left_after inputs taken) is) s.plain ends
+      at_turn s inputs (λ next taken. run_of call_step n next (left_after inputs taken))
+          (λ next taken is. run_refused n next (left_after inputs taken) is) s.plain ends
 
-  pub video_refused : (t : Terms) (inputs : Role → List ℕ) → (run_from (call_begin t inputs) call_step (most_turns t.plain) inputs).last.status ≡ VideoRefused fault
+  pub video_refused : (t : Terms) (inputs : Role → List ℕ)
+      → (run_from (call_begin t inputs) call_step (most_turns t.plain) inputs).last.status ≡ VideoRefused fault
       → video_fault (inputs Video) ≡ Some fault
   unfolding video_fault
   video_refused t inputs ends = by_head (head_of (inputs Video)) refl ends
     where
       by_head : (r : Result Format Y4mFault) → head_of (inputs Video) ≡ r
-          → (follow (head_step t (inputs Video) r) (λ next taken. run_of call_step (most_turns t.plain) next (left_after inputs taken))).last.status ≡ VideoRefused fault
+          → (follow (head_step t (inputs Video) r) (λ next taken. run_of call_step (most_turns t.plain) next
+              (left_after inputs taken))).last.status ≡ VideoRefused fault
           → fault_after_head r (head_size (inputs Video)) (drop (head_size (inputs Video)) (inputs Video)) ≡ Some fault
       by_head (Ok f) is ends =
-          run_refused (most_turns t.plain) (first_state (with_format t f) [] (head_size (inputs Video))) (left_after inputs (of Video (head_size (inputs Video)))) ends
+          run_refused (most_turns t.plain) (first_state (with_format t f) [] (head_size (inputs Video)))
+              (left_after inputs (of Video (head_size (inputs Video)))) ends
       by_head (Err broken) is ends = ap (λ (x : Y4mFault). Some x) (refused_is broken fault ends)

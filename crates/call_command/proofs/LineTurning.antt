@@ -35,7 +35,8 @@ use Rattle.call_command.proofs.Lines.{bad_by, double_not, has_taken, over_by, re
 abbrev chosen : Bool → CallState → (Role → List ℕ) → List ℕ → Option Line → Step CallState
 chosen b s inputs trace o = if b then line_step by_ends s inputs trace o else Ends (bad_line (TooMany (s.lines + 1)))
 
-pub line_is : (s : CallState) (inputs : Role → List ℕ) (trace : List ℕ) (o : Option Line) → 0 < length trace → s.lines < 16777216 → event_in (first_line trace) ≡ o
+pub line_is : (s : CallState) (inputs : Role → List ℕ) (trace : List ℕ) (o : Option Line) → 0 < length trace
+    → s.lines < 16777216 → event_in (first_line trace) ≡ o
     → trace_step by_ends s inputs trace ≡ line_step by_ends s inputs trace o
 line_is s inputs [] o some few is = absurd (omega arith)
 line_is s inputs (b ∷ trace) o some few is =
@@ -46,7 +47,8 @@ pub many_is : (s : CallState) (inputs : Role → List ℕ) (trace : List ℕ) �
     → trace_step by_ends s inputs trace ≡ Ends (bad_line (TooMany (s.lines + 1)))
 many_is s inputs [] some many = absurd (omega arith)
 many_is s inputs (b ∷ trace) some many =
-    ap (λ (t : Bool). chosen t s inputs (b ∷ trace) (event_in (first_line (b ∷ trace)))) (le-ltb s.lines 16777216 (omega (arith, many)))
+    ap (λ (t : Bool). chosen t s inputs (b ∷ trace) (event_in (first_line (b ∷ trace))))
+        (le-ltb s.lines 16777216 (omega (arith, many)))
 
 -- ---- a line that is done, or refused
 
@@ -58,18 +60,23 @@ module _ (s : CallState) (inputs : Role → List ℕ) (before mid : Outside) (ta
   trace = inputs Events
 
   -- a refused line is taken, and nothing of the video
-  pub line_refused : TurnLaws → (status : Status) (fault : TraceFault) (step : Step CallState) → status ≡ TraceRefused fault → step ≡ step_of (refused_line trace fault)
+  pub line_refused : TurnLaws → (status : Status) (fault : TraceFault) (step : Step CallState)
+      → status ≡ TraceRefused fault → step ≡ step_of (refused_line trace fault)
       → Ended step status inputs before mid
   line_refused laws status fault step status_is is = record {
     last = refused_line trace fault;
     is = is;
-    by = subst (λ (z : Status). EndsBy (refused_line trace fault) z inputs before mid) (sym status_is) (refused_by laws fault inputs before mid taken);
+    by = subst (λ (z : Status). EndsBy (refused_line trace fault) z inputs before mid) (sym status_is)
+        (refused_by laws fault inputs before mid taken);
   }
 
   -- one that is done goes on, and writes these texts
-  pub line_goes : (next : CallState) (texts : Role → List ℕ) (step : Step CallState) (stands : CallState → (Role → List ℕ) → Type 0)
-      → step ≡ Goes (after_line next trace) (line_turn trace texts) → stands (after_line next trace) (left_after inputs (of Events (line_size trace)))
-      → (new : Outside) → new.left ≡ mid.left → Gains texts mid.written new.written → Went step stands may_read true inputs before new
+  pub line_goes : (next : CallState) (texts : Role → List ℕ) (step : Step CallState) (stands : CallState
+      → (Role → List ℕ) → Type 0)
+      → step ≡ Goes (after_line next trace) (line_turn trace texts)
+          → stands (after_line next trace) (left_after inputs (of Events (line_size trace)))
+      → (new : Outside) → new.left ≡ mid.left → Gains texts mid.written new.written
+          → Went step stands may_read true inputs before new
   line_goes next texts step stands is kept new still gains = record {
     next = after_line next trace;
     turn = line_turn trace texts;
@@ -88,15 +95,20 @@ pub record IsReadAt (s : CallState) (reader : TracePlace) : Type 0 where
   pub lines_are : s.lines ≡ reader.lines
   pub ended_is : s.ended ≡ reader.ended
 
-module _ (laws : TurnLaws) (s : CallState) (inputs : Role → List ℕ) (old mid : Outside) (read : ReadsTrace inputs old mid) (reader after : TracePlace) (at : IsReadAt s reader) where
+module _ (laws : TurnLaws) (s : CallState) (inputs : Role
+    → List ℕ) (old mid : Outside) (read : ReadsTrace inputs old mid) (reader after : TracePlace)
+    (at : IsReadAt s reader) where
   going : reader.ended ≡ false → may_read s ≡ true
   going is = ap not (at.ended_is ∙ is)
 
-  bad_ends : (fault : TraceFault) (step : Step CallState) → step ≡ step_of (bad_line fault) → Ended step (TraceRefused fault) inputs old mid
+  bad_ends : (fault : TraceFault) (step : Step CallState) → step ≡ step_of (bad_line fault)
+      → Ended step (TraceRefused fault) inputs old mid
   bad_ends fault step is = record { last = bad_line fault; is = is; by = bad_by laws inputs old mid read fault }
 
-  pub trace_stops : (stop : TraceStop) → EventGives (Err stop) reader (inputs Events) after (mid.left Events) → Moves {A = Line} (Err stop) reader after
-      → GivesUp (phase (trace_stop stop)) (trace_stop stop) (trace_step by_ends s inputs (inputs Events)) (may_read s) inputs old mid
+  pub trace_stops : (stop : TraceStop) → EventGives (Err stop) reader (inputs Events) after (mid.left Events)
+      → Moves {A = Line} (Err stop) reader after
+      → GivesUp (phase (trace_stop stop)) (trace_stop stop) (trace_step by_ends s inputs (inputs Events))
+          (may_read s) inputs old mid
   trace_stops stops.Read e moves = record {
     part = of Events e.taken;
     partly = trace_part s inputs (inputs Events) e.taken e.free;
@@ -119,7 +131,8 @@ module _ (laws : TurnLaws) (s : CallState) (inputs : Role → List ℕ) (old mid
       ∙ ap (λ (n : ℕ). step_of (bad_line (TooMany n))) (omega (arith, at.lines_are, moves.1, moves.2)))
 
   -- after a line
-  module _ (found : ℕ × Line) (e : EventGives (Ok (Some found)) reader (inputs Events) after (mid.left Events)) (moves : Moves (Ok (Some found)) reader after) where
+  module _ (found : ℕ × Line) (e : EventGives (Ok (Some found)) reader (inputs Events) after (mid.left Events))
+      (moves : Moves (Ok (Some found)) reader after) where
     pub found_is : trace_step by_ends s inputs (inputs Events) ≡ event_step by_ends s inputs (inputs Events) found.1
     found_is = line_is s inputs (inputs Events) (Some found.1) e.0.some (omega (arith, moves.1, at.lines_are)) e.1
 
@@ -133,7 +146,8 @@ module _ (laws : TurnLaws) (s : CallState) (inputs : Role → List ℕ) (old mid
     found_could = going moves.0
 
   -- the end of the trace
-  module _ (e : EventGives (Ok None) reader (inputs Events) after (mid.left Events)) (over : reader.ended ≡ true → inputs Events ≡ []) (new : Outside) (still : new.left ≡ mid.left) where
+  module _ (e : EventGives (Ok None) reader (inputs Events) after (mid.left Events)) (over : reader.ended ≡ true
+      → inputs Events ≡ []) (new : Outside) (still : new.left ≡ mid.left) where
     out : IsPlayedOut inputs old mid new
     out = over_by laws inputs old mid read reader new e over still
 
@@ -143,15 +157,20 @@ module _ (laws : TurnLaws) (s : CallState) (inputs : Role → List ℕ) (old mid
     pub read_out : new.left Events ≡ Some []
     read_out = out.told Events refl ∙ ap (λ (l : List ℕ). Some l) out.nothing
 
-    pub trace_ends : (text : List ℕ) → text ≡ call_text (by_ends s) → Gains (on Report text) mid.written new.written → Ended (trace_step by_ends s inputs (inputs Events)) Fine inputs old new
+    pub trace_ends : (text : List ℕ) → text ≡ call_text (by_ends s) → Gains (on Report text) mid.written new.written
+        → Ended (trace_step by_ends s inputs (inputs Events)) Fine inputs old new
     trace_ends text is gains = record {
       last = all_played (by_ends s);
       is = end_is;
-      by = out.ends (on Report (call_text (by_ends s))) (subst (λ (l : List ℕ). Gains (on Report l) mid.written new.written) is gains);
+      by = out.ends (on Report (call_text (by_ends s)))
+          (subst (λ (l : List ℕ). Gains (on Report l) mid.written new.written) is gains);
     }
 
-    pub trace_cut : (text : List ℕ) → text ≡ call_text (by_ends s) → GainsFronts (on Report text) mid.written new.written → GainsFronts (step_texts (trace_step by_ends s inputs (inputs Events))) old.written new.written
+    pub trace_cut : (text : List ℕ) → text ≡ call_text (by_ends s)
+        → GainsFronts (on Report text) mid.written new.written
+        → GainsFronts (step_texts (trace_step by_ends s inputs (inputs Events))) old.written new.written
     trace_cut text is gains =
         subst (λ (x : Step CallState). GainsFronts (step_texts x) old.written new.written) (sym end_is)
-        (subst (λ (w : Role → Option (List ℕ)). GainsFronts (on Report (call_text (by_ends s))) w new.written) read.written
+        (subst (λ (w : Role → Option (List ℕ)). GainsFronts (on Report (call_text (by_ends s))) w new.written)
+            read.written
         (subst (λ (l : List ℕ). GainsFronts (on Report l) mid.written new.written) is gains))

@@ -45,22 +45,26 @@ line_gone trace = drop_min (length (first_line trace) + 1) trace
 -- after one that has no newline there is nothing
 pub nothing_after : (trace : List ℕ) → is_closed trace ≡ false → drop (line_size trace) trace ≡ []
 nothing_after trace open_end =
-    line_gone trace ∙ drop_all (length (first_line trace) + 1) trace (omega (arith, ltb-false (length (first_line trace)) (length trace) open_end))
+    line_gone trace ∙ drop_all (length (first_line trace) + 1) trace
+        (omega (arith, ltb-false (length (first_line trace)) (length trace) open_end))
 
 pub double_not : (b : Bool) → not (not b) ≡ b
 double_not true = refl
 double_not false = refl
 
 -- bytes without a newline are shorter than a line that has one
-line_cut : (trace : List ℕ) (k : ℕ) → NoNewline (take k trace) → length (first_line trace) + 1 ≤ length trace → length (first_line trace) + 1 ≤ k → ⊥
+line_cut : (trace : List ℕ) (k : ℕ) → NoNewline (take k trace) → length (first_line trace) + 1 ≤ length trace
+    → length (first_line trace) + 1 ≤ k → ⊥
 line_cut [] k free closed few = absurd (omega (arith, closed))
 line_cut (b ∷ trace) zero free closed few = absurd (omega (arith, few))
-line_cut (b ∷ trace) (suc k) free closed few = by_newline (b == 10) refl (line_cut trace k (All-tail (λ c. c ≢ 10) b (take k trace) free))
+line_cut (b ∷ trace) (suc k) free closed few = by_newline (b == 10) refl
+    (line_cut trace k (All-tail (λ c. c ≢ 10) b (take k trace) free))
   where
     one_further : (n : ℕ) → suc n ≡ n + 1
     one_further n = omega arith
 
-    by_newline : (t : Bool) → (b == 10) ≡ t → (length (first_line trace) + 1 ≤ length trace → length (first_line trace) + 1 ≤ k → ⊥) → ⊥
+    by_newline : (t : Bool) → (b == 10) ≡ t → (length (first_line trace) + 1 ≤ length trace
+        → length (first_line trace) + 1 ≤ k → ⊥) → ⊥
     by_newline true is cut = All-head (λ c. c ≢ 10) b (take k trace) free (eqb-true b 10 is)
     by_newline false is cut =
         let same : length (first_line (b ∷ trace)) ≡ length (first_line trace) + 1 =
@@ -78,28 +82,36 @@ not_held size k few = at_test (nat_le size k) refl
     at_test false is = refl
 
 open_held : (t : Turn) (k : Role → ℕ) → t.whole ≡ false → holds t k ≡ false
-open_held t k is = ap (λ (b : Bool). b && nat_le (t.taken Video) (k Video) && nat_le (t.taken Events) (k Events) && nat_le (t.taken Video2) (k Video2)) is
+open_held t k is = ap (λ (b : Bool). b && nat_le (t.taken Video) (k Video) && nat_le (t.taken Events)
+    (k Events) && nat_le (t.taken Video2) (k Video2)) is
 
 short_held : (t : Turn) (k : Role → ℕ) → (t.taken Events ≤ k Events → ⊥) → holds t k ≡ false
 short_held t k few =
-    ap (λ (b : Bool). t.whole && nat_le (t.taken Video) (k Video) && b && nat_le (t.taken Video2) (k Video2)) (not_held (t.taken Events) (k Events) few)
-    ∙ ap (λ (b : Bool). b && nat_le (t.taken Video2) (k Video2)) (and-false (t.whole && nat_le (t.taken Video) (k Video)))
+    ap (λ (b : Bool). t.whole && nat_le (t.taken Video) (k Video) && b && nat_le (t.taken Video2) (k Video2))
+        (not_held (t.taken Events) (k Events) few)
+    ∙ ap (λ (b : Bool). b && nat_le (t.taken Video2) (k Video2))
+        (and-false (t.whole && nat_le (t.taken Video) (k Video)))
 
 no_frame_held : (t : Turn) (k : Role → ℕ) → (t.taken Video ≤ k Video → ⊥) → holds t k ≡ false
 no_frame_held t k few =
-    ap (λ (b : Bool). t.whole && b && nat_le (t.taken Events) (k Events) && nat_le (t.taken Video2) (k Video2)) (not_held (t.taken Video) (k Video) few)
-    ∙ ap (λ (b : Bool). b && nat_le (t.taken Events) (k Events) && nat_le (t.taken Video2) (k Video2)) (and-false t.whole)
+    ap (λ (b : Bool). t.whole && b && nat_le (t.taken Events) (k Events) && nat_le (t.taken Video2) (k Video2))
+        (not_held (t.taken Video) (k Video) few)
+    ∙ ap (λ (b : Bool). b && nat_le (t.taken Events) (k Events) && nat_le (t.taken Video2) (k Video2))
+        (and-false t.whole)
 
 -- bytes of the trace without a newline hold none
-pub line_part : (trace : List ℕ) (k : ℕ) (turns : List Turn) → NoNewline (take k trace) → CoversLine trace turns → IsPart turns (of Events k)
+pub line_part : (trace : List ℕ) (k : ℕ) (turns : List Turn) → NoNewline (take k trace) → CoversLine trace turns
+    → IsPart turns (of Events k)
 line_part trace k [] free takes = tt
 line_part trace k (turn ∷ turns) free takes = by_end (is_closed trace) refl
   where
     by_end : (b : Bool) → is_closed trace ≡ b → holds turn (of Events k) ≡ false
     by_end false open_end = open_held turn (of Events k) (takes.0 ∙ open_end)
     by_end true closed =
-        let whole : length (first_line trace) + 1 ≤ length trace = omega (arith, ltb-true (length (first_line trace)) (length trace) closed) in
-        short_held turn (of Events k) (λ all. line_cut trace k free whole (omega (arith, min_is (length (first_line trace) + 1) (length trace) whole, takes.1, all)))
+        let whole : length (first_line trace) + 1 ≤ length trace = omega (arith,
+            ltb-true (length (first_line trace)) (length trace) closed) in
+        short_held turn (of Events k) (λ all. line_cut trace k free whole
+            (omega (arith, min_is (length (first_line trace) + 1) (length trace) whole, takes.1, all)))
       where
         min_is : (a b : ℕ) → a ≤ b → min a b ≡ a
         min_is a b le = omega (arith, le)
@@ -111,19 +123,22 @@ with_frame_bytes trace n = and_of (of Events (line_size trace)) (of Video n)
 pub frame_held : (trace : List ℕ) (size k : ℕ) → (size ≤ k → ⊥)
     → holds (capture_turn trace size) (with_frame_bytes trace k) ≡ false
 frame_held trace size k few =
-    no_frame_held (capture_turn trace size) (with_frame_bytes trace k) (λ (whole : 0 + size ≤ 0 + k). few (omega (arith, whole)))
+    no_frame_held (capture_turn trace size) (with_frame_bytes trace k)
+        (λ (whole : 0 + size ≤ 0 + k). few (omega (arith, whole)))
 
 -- ---- a line that is refused: it is taken, and nothing of the video
 
 pub refused_by : TurnLaws → (fault : TraceFault) (inputs : Role → List ℕ) (old mid : Outside) → HasTaken inputs old mid
     → EndsBy (refused_line (inputs Events) fault) (TraceRefused fault) inputs old mid
 refused_by laws fault inputs old mid taken =
-    laws.ends (TraceRefused fault) (of Events (line_size (inputs Events))) no_texts inputs old mid taken.left (laws.no_text old.written mid.written taken.written)
+    laws.ends (TraceRefused fault) (of Events (line_size (inputs Events))) no_texts inputs old mid taken.left
+        (laws.no_text old.written mid.written taken.written)
 
 -- ---- where the trace alone was read
 
 module _ (laws : TurnLaws) (inputs : Role → List ℕ) (old mid : Outside) (read : ReadsTrace inputs old mid) where
-  pub some_read : (k : ℕ) → mid.left Events ≡ Some (drop k (inputs Events)) → Tells mid (left_after inputs (of Events k))
+  pub some_read : (k : ℕ) → mid.left Events ≡ Some (drop k (inputs Events))
+      → Tells mid (left_after inputs (of Events k))
   some_read k gone = laws.one_read Events k old mid inputs read.told gone read.others
 
   pub has_taken : mid.left Events ≡ Some (later_lines (inputs Events)) → HasTaken inputs old mid
@@ -139,10 +154,13 @@ module _ (laws : TurnLaws) (inputs : Role → List ℕ) (old mid : Outside) (rea
       zero_is : (k : ℕ) → 0 ≡ k → 0 ≡ 0 + k
       zero_is k is = omega (arith, is)
 
-      untouched : (r : Role) → IsInput r → r ≢ Events → (k : ℕ) → 0 ≡ k → mid.left r ≡ Some (left_after inputs (λ _. 0 + k) r)
-      untouched r input other k none = read.others r other ∙ read.told r input ∙ ap (λ (n : ℕ). Some (drop n (inputs r))) (zero_is k none)
+      untouched : (r : Role) → IsInput r → r ≢ Events → (k : ℕ) → 0 ≡ k
+          → mid.left r ≡ Some (left_after inputs (λ _. 0 + k) r)
+      untouched r input other k none = read.others r other ∙ read.told r input
+          ∙ ap (λ (n : ℕ). Some (drop n (inputs r))) (zero_is k none)
 
-      left_at : (r : Role) → IsInput r → (k : ℕ) → (bad_line fault).taken r ≡ Some k → mid.left r ≡ Some (left_after inputs (λ _. 0 + k) r)
+      left_at : (r : Role) → IsInput r → (k : ℕ) → (bad_line fault).taken r ≡ Some k
+          → mid.left r ≡ Some (left_after inputs (λ _. 0 + k) r)
       left_at Video input k said = untouched Video input (λ same. cc) k (cc said)
       left_at Events input k said = absurd (cc said)
       left_at Video2 input k said = untouched Video2 input (λ same. cc) k (cc said)
@@ -152,12 +170,14 @@ module _ (laws : TurnLaws) (inputs : Role → List ℕ) (old mid : Outside) (rea
       left_at Pictures2 input k said = absurd (cc input)
 
   -- no line is left
-  pub over_by : (reader : TracePlace) (new : Outside) → IsOver reader (inputs Events) (mid.left Events) → (reader.ended ≡ true → inputs Events ≡ []) → new.left ≡ mid.left
+  pub over_by : (reader : TracePlace) (new : Outside) → IsOver reader (inputs Events) (mid.left Events)
+      → (reader.ended ≡ true → inputs Events ≡ []) → new.left ≡ mid.left
       → IsPlayedOut inputs old mid new
   over_by reader new is over still = record {
     nothing = nothing;
     told = told;
-    ends = λ texts gains. laws.ends Fine no_bytes texts inputs old new told (subst (λ (w : Role → Option (List ℕ)). Gains texts w new.written) read.written gains);
+    ends = λ texts gains. laws.ends Fine no_bytes texts inputs old new told
+        (subst (λ (w : Role → Option (List ℕ)). Gains texts w new.written) read.written gains);
   }
     where
       by_end : (b : Bool) → reader.ended ≡ b → inputs Events ≡ []
@@ -168,4 +188,6 @@ module _ (laws : TurnLaws) (inputs : Role → List ℕ) (old mid : Outside) (rea
       nothing = by_end reader.ended refl
 
       told : Tells new inputs
-      told r input = ap (λ (l : Role → Option (List ℕ)). l r) still ∙ laws.none_read Events old mid inputs read.told nothing (is.0 ∙ ap (λ (l : List ℕ). Some l) nothing) read.others r input
+      told r input = ap (λ (l : Role → Option (List ℕ)). l r) still
+          ∙ laws.none_read Events old mid inputs read.told nothing (is.0
+          ∙ ap (λ (l : List ℕ). Some l) nothing) read.others r input

@@ -45,7 +45,8 @@ module _ (fault : Y4mFault) where
       at_capture (b ∷ v) ends =
           at_captured (frame_size s.params.format (b ∷ v)) (next_frame s.more s.params.format s.at (b ∷ v)) ends
 
-      at_unless : (e : Event) (o : Option Refusal) (step : Step CallState) → (Refuses step → ⊥) → Refuses (unless s trace e o step) → ⊥
+      at_unless : (e : Event) (o : Option Refusal) (step : Step CallState) → (Refuses step → ⊥)
+          → Refuses (unless s trace e o step) → ⊥
       at_unless e None step later ends = later ends
       at_unless e (Some refusal) step later ends = absurd (cc ends)
 
@@ -53,7 +54,8 @@ module _ (fault : Y4mFault) where
       at_line None ends = absurd (cc ends)
       at_line (Some says.Nothing) ends = more _ _ ends
       at_line (Some says.Send) ends = at_unless Send (refusal_at by_call s Send) _ (at_capture (inputs Video)) ends
-      at_line (Some (says.Packet n j)) ends = at_unless (Deliver n j) (refusal_at by_call s (Deliver n j)) _ (more _ _) ends
+      at_line (Some (says.Packet n j)) ends = at_unless (Deliver n j) (refusal_at by_call s (Deliver n j)) _
+          (more _ _) ends
       at_line (Some (says.All n)) ends = at_unless (Deliver n 0) (refusal_at by_call s (Deliver n 0)) _ (more _ _) ends
       at_line (Some (says.Back k)) ends = at_unless (Back k) (refusal_at by_call s (Back k)) _ (more _ _) ends
       at_line (Some says.Play) ends = at_unless Play (refusal_at by_call s Play) _ (more _ _) ends
@@ -66,20 +68,27 @@ module _ (fault : Y4mFault) where
         within true is ends = at_line (b ∷ trace) (event_in (first_line (b ∷ trace))) (rw is at ends)
         within false is ends = absurd (cc (rw is at ends))
 
-    at_turn : (plain : Bool) → Refuses (if plain then video_step by_call s (inputs Video) else trace_step by_call s inputs (inputs Events)) → ⊥
+    at_turn : (plain : Bool)
+        → Refuses (if plain then video_step by_call s (inputs Video) else trace_step by_call s inputs (inputs Events))
+        → ⊥
     at_turn true ends = at_video (inputs Video) ends
     at_turn false ends = at_trace (inputs Events) ends
 
-  run_refuses_none : (n : ℕ) (s : CallState) (inputs : Role → List ℕ) → (run_of call_step n s inputs).last.status ≡ Video2Refused fault → ⊥
+  run_refuses_none : (n : ℕ) (s : CallState) (inputs : Role → List ℕ) → (run_of call_step n s inputs).last.status
+      ≡ Video2Refused fault → ⊥
   unfolding run_of
-  run_refuses_none zero s inputs ends = at_turn s inputs (λ next taken. silence) (λ next taken is. absurd (cc is)) s.plain ends
+  run_refuses_none zero s inputs ends = at_turn s inputs (λ next taken. silence) (λ next taken is. absurd (cc is))
+      s.plain ends
   run_refuses_none (suc n) s inputs ends =
-      at_turn s inputs (λ next taken. run_of call_step n next (left_after inputs taken)) (λ next taken is. run_refuses_none n next (left_after inputs taken) is) s.plain ends
+      at_turn s inputs (λ next taken. run_of call_step n next (left_after inputs taken))
+          (λ next taken is. run_refuses_none n next (left_after inputs taken) is) s.plain ends
 
-  pub none_refused : (t : Terms) (inputs : Role → List ℕ) → (run_from (call_begin t inputs) call_step (most_turns t.plain) inputs).last.status ≡ Video2Refused fault → ⊥
+  pub none_refused : (t : Terms) (inputs : Role → List ℕ)
+      → (run_from (call_begin t inputs) call_step (most_turns t.plain) inputs).last.status ≡ Video2Refused fault → ⊥
   none_refused t inputs ends = by_head (head_of (inputs Video)) ends
     where
       by_head : (r : Result Format Y4mFault)
-          → (follow (head_step t (inputs Video) r) (λ next taken. run_of call_step (most_turns t.plain) next (left_after inputs taken))).last.status ≡ Video2Refused fault → ⊥
+          → (follow (head_step t (inputs Video) r) (λ next taken. run_of call_step (most_turns t.plain) next
+              (left_after inputs taken))).last.status ≡ Video2Refused fault → ⊥
       by_head (Ok f) ends = run_refuses_none (most_turns t.plain) _ _ ends
       by_head (Err broken) ends = absurd (cc ends)

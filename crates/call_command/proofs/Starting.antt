@@ -29,9 +29,13 @@ in_format p f is = record {
   messages_high = is.messages_high;
 }
 
-module _ (x : Parts) (fresh : IsFresh x.terms x.link) (laws : WayLaws x.terms.params) (sender_params : x.sender.params ≡ x.terms.params) (sends : sender_end.Stands (steady x.terms.params) x.sender []) (sent : x.sender.sent ≡ 0) (more : x.video.more ≡ 1048576) where
-  pub stands_first : (before : List ReceiverEntry) (at : ℕ) (inputs : Role → List ℕ) → x.video.at ≡ at → x.receiver.params ≡ x.terms.params
-      → receiver_end.Stands x.receiver before → (receiver_end.run_of x.terms.params before).played ≡ 0 → PartsStand x (first_state x.terms before at) inputs
+module _ (x : Parts) (fresh : IsFresh x.terms x.link) (laws : WayLaws x.terms.params) (sender_params : x.sender.params
+    ≡ x.terms.params) (sends : sender_end.Stands (steady x.terms.params) x.sender []) (sent : x.sender.sent
+    ≡ 0) (more : x.video.more ≡ 1048576) where
+  pub stands_first : (before : List ReceiverEntry) (at : ℕ) (inputs : Role → List ℕ) → x.video.at ≡ at
+      → x.receiver.params ≡ x.terms.params
+      → receiver_end.Stands x.receiver before → (receiver_end.run_of x.terms.params before).played ≡ 0
+          → PartsStand x (first_state x.terms before at) inputs
   stands_first before at inputs place receiver_params receives begun = record {
     is = λ i. record {
       params = x.terms.params;
@@ -47,5 +51,6 @@ module _ (x : Parts) (fresh : IsFresh x.terms x.link) (laws : WayLaws x.terms.pa
     begun = begun;
     sent = sent;
     over = λ ended. absurd (cc (fresh.ended, ended));
-    holds = λ later. laws.first (pictures_kept x.terms) x.link.network x.sender x.receiver before later fresh.network_is sender_params sends receiver_params receives;
+    holds = λ later. laws.first (pictures_kept x.terms) x.link.network x.sender x.receiver before later fresh.network_is
+        sender_params sends receiver_params receives;
   }

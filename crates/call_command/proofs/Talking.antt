@@ -54,7 +54,8 @@ module _ (p : Params) (frames_law : LaterFramesBoth (coding p) (rules_of p)) (ev
 
   abbrev state : Bool → List Frame → List Event → ℕ → ℕ → ℕ → Bool → CallState
   state plain frames past at more lines ended =
-      record { params = p; plain = plain; before = []; frames = frames; past = past; at = at; more = more; lines = lines; ended = ended }
+      record { params = p; plain = plain; before = []; frames = frames; past = past; at = at; more = more;
+          lines = lines; ended = ended }
 
   -- its events are near, and each of its frames was sent; over the plain trace each was played, too
   record IsOn (plain : Bool) (frames : List Frame) (past : List Event) : Type 0 where
@@ -79,7 +80,8 @@ module _ (p : Params) (frames_law : LaterFramesBoth (coding p) (rules_of p)) (ev
 
   -- ---- one frame more
 
-  module _ (frames : List Frame) (past : List Event) (near : Near frames past) (sent : length (both frames past).sender.coded ≡ length frames) (f : Frame) where
+  module _ (frames : List Frame) (past : List Event) (near : Near frames past)
+      (sent : length (both frames past).sender.coded ≡ length frames) (f : Frame) where
     abbrev all : List Frame
     all = frames ++ f ∷ []
 
@@ -127,7 +129,8 @@ module _ (p : Params) (frames_law : LaterFramesBoth (coding p) (rules_of p)) (ev
 
         coded_after : length (both all after_it).sender.coded ≡ n + 1
         coded_after =
-            ap (λ (run : SenderRun Style Mb Picture). length run.coded) (events_law.sender [] all n count (Send ∷ past)) ∙ coded_now
+            ap (λ (run : SenderRun Style Mb Picture). length run.coded) (events_law.sender [] all n count (Send ∷ past))
+                ∙ coded_now
 
         played_after : (both all after_it).receiver.played ≡ n
         played_after = events_law.played [] all n count (Send ∷ past) ∙ played_all ∙ level
@@ -144,10 +147,12 @@ module _ (p : Params) (frames_law : LaterFramesBoth (coding p) (rules_of p)) (ev
 
   -- ---- the steps
 
-  module _ (near_laws : NearLaws p) (agree : (frames : List Frame) (past : List Event) → Near frames past → ShowTheSame p frames past) where
+  module _ (near_laws : NearLaws p) (agree : (frames : List Frame) (past : List Event) → Near frames past
+      → ShowTheSame p frames past) where
     -- over the plain trace
 
-    module _ (frames : List Frame) (past : List Event) (place more lines : ℕ) (ended : Bool) (inputs : Role → List ℕ) (on : IsOn true frames past) where
+    module _ (frames : List Frame) (past : List Event) (place more lines : ℕ) (ended : Bool) (inputs : Role
+        → List ℕ) (on : IsOn true frames past) where
       abbrev here : CallState
       here = state true frames past place more lines ended
 
@@ -160,7 +165,8 @@ module _ (p : Params) (frames_law : LaterFramesBoth (coding p) (rules_of p)) (ev
           (λ planes.
           let f = bare (picture_of p.format planes) in (
             agree (frames ++ f ∷ []) (Send ∷ past) (sends frames past on.near on.sent f (on.level refl)),
-            agree (frames ++ f ∷ []) (passed_on (length frames) (count_of_slices f) past) (near_passed frames past on.near on.sent f (on.level refl) (count_of_slices f)),
+            agree (frames ++ f ∷ []) (passed_on (length frames) (count_of_slices f) past)
+                (near_passed frames past on.near on.sent f (on.level refl) (count_of_slices f)),
           ))
 
       keeps_frame : (video : List ℕ) (r : Result (List ℕ) Y4mFault) → Keeps true (frame_step by_ends here video r)
@@ -184,7 +190,8 @@ module _ (p : Params) (frames_law : LaterFramesBoth (coding p) (rules_of p)) (ev
 
     -- over a recorded trace
 
-    module _ (frames : List Frame) (past : List Event) (place more lines : ℕ) (ended : Bool) (inputs : Role → List ℕ) (on : IsOn false frames past) where
+    module _ (frames : List Frame) (past : List Event) (place more lines : ℕ) (ended : Bool) (inputs : Role
+        → List ℕ) (on : IsOn false frames past) where
       abbrev now : CallState
       now = state false frames past place more lines ended
 
@@ -204,13 +211,16 @@ module _ (p : Params) (frames_law : LaterFramesBoth (coding p) (rules_of p)) (ev
       near_back k none = (near_laws.back [] frames past k none, on.near)
 
       recorded_same : trace_step by_ends now inputs (inputs Events) ≡ call_step now inputs
-      recorded_same = trace_agrees now inputs (inputs Events) (agree frames past on.near) (λ none. agree frames (Play ∷ past) (near_play none))
+      recorded_same = trace_agrees now inputs (inputs Events) (agree frames past on.near)
+          (λ none. agree frames (Play ∷ past) (near_play none))
 
       -- events that leave the pictures as many as they are
-      on_event : (events : List Event) → Near frames events → length (both frames events).sender.coded ≡ length frames → IsOn false frames events
+      on_event : (events : List Event) → Near frames events → length (both frames events).sender.coded ≡ length frames
+          → IsOn false frames events
       on_event events near sent = record { near = near; sent = sent; level = λ is. absurd (cc is) }
 
-      leads : (trace : List ℕ) (events : List Event) → IsOn false frames events → IsOnWay false (after_line (state false frames events place more lines ended) trace)
+      leads : (trace : List ℕ) (events : List Event) → IsOn false frames events
+          → IsOnWay false (after_line (state false frames events place more lines ended) trace)
       leads trace events on = record {
         frames = frames;
         past = events;
@@ -222,20 +232,24 @@ module _ (p : Params) (frames_law : LaterFramesBoth (coding p) (rules_of p)) (ev
         on = on;
       }
 
-      keeps_unless : (trace : List ℕ) (e : Event) (o : Option Refusal) (step : Step CallState) → (o ≡ None → Keeps false step) → Keeps false (unless now trace e o step)
+      keeps_unless : (trace : List ℕ) (e : Event) (o : Option Refusal) (step : Step CallState)
+          → (o ≡ None → Keeps false step) → Keeps false (unless now trace e o step)
       keeps_unless trace e None step keeps = keeps refl
       keeps_unless trace e (Some r) step keeps = tt
 
       abbrev refusal_of : Seen → Option Refusal
       refusal_of x = first_refusal (rules_of p) (length x.coded + 1) (length x.coded) x.played x.abouts Send
 
-      keeps_captured : (trace : List ℕ) (size : ℕ) (r : Result (List ℕ) Y4mFault) → refusal_at by_ends now Send ≡ None → Keeps false (captured_step now trace size r)
+      keeps_captured : (trace : List ℕ) (size : ℕ) (r : Result (List ℕ) Y4mFault) → refusal_at by_ends now Send ≡ None
+          → Keeps false (captured_step now trace size r)
       keeps_captured trace size (Ok planes) none =
           let f = bare (picture_of p.format planes) in
           let all = frames ++ f ∷ [] in
           let same = same_all frames past on.near on.sent f in
-          let there : length (both all past).sender.coded < length all = omega (arith, coded_all frames past on.near on.sent f, longer frames f) in
-          let first = near_laws.capture [] all past (ap (λ (x : Joined Style Mb Picture). refusal_of (in_both x)) same ∙ none) there in
+          let there : length (both all past).sender.coded < length all = omega (arith,
+              coded_all frames past on.near on.sent f, longer frames f) in
+          let first = near_laws.capture [] all past (ap (λ (x : Joined Style Mb Picture). refusal_of (in_both x)) same
+              ∙ none) there in
           record {
             frames = frames ++ f ∷ [];
             past = Send ∷ past;
@@ -252,18 +266,21 @@ module _ (p : Params) (frames_law : LaterFramesBoth (coding p) (rules_of p)) (ev
           }
       keeps_captured trace size (Err fault) none = tt
 
-      keeps_capture : (trace video : List ℕ) → refusal_at by_ends now Send ≡ None → Keeps false (capture_step now trace video)
+      keeps_capture : (trace video : List ℕ) → refusal_at by_ends now Send ≡ None
+          → Keeps false (capture_step now trace video)
       keeps_capture trace [] none = tt
       keeps_capture trace (b ∷ video) none = keeps_captured trace _ (next_frame more p.format place (b ∷ video)) none
 
       keeps_event : (trace : List ℕ) (line : Line) → Keeps false (event_step by_ends now inputs trace line)
       keeps_event trace says.Nothing = leads trace past on
-      keeps_event trace says.Send = keeps_unless trace Send (refusal_at by_ends now Send) _ (keeps_capture trace (inputs Video))
+      keeps_event trace says.Send = keeps_unless trace Send (refusal_at by_ends now Send) _
+          (keeps_capture trace (inputs Video))
       keeps_event trace (says.Packet n j) =
           keeps_unless trace (Deliver n j) (refusal_at by_ends now (Deliver n j)) _
           (λ none.
           leads trace (Deliver n j ∷ past) (on_event (Deliver n j ∷ past) (near_packet n j none)
-          (ap (λ (run : SenderRun Style Mb Picture). length run.coded) (events_law.packet [] frames n j past) ∙ on.sent)))
+          (ap (λ (run : SenderRun Style Mb Picture). length run.coded) (events_law.packet [] frames n j past)
+              ∙ on.sent)))
       keeps_event trace (says.All n) =
           let count = length (slices_at seen.coded n) in
           keeps_unless trace (Deliver n 0) (refusal_at by_ends now (Deliver n 0)) _
@@ -271,19 +288,22 @@ module _ (p : Params) (frames_law : LaterFramesBoth (coding p) (rules_of p)) (ev
           let first = (near_packet n 0 none).0 in
           leads trace (delivered n count ++ past) (on_event (delivered n count ++ past)
           (events_law.near [] frames n count 0 past first on.near)
-          (ap (λ (run : SenderRun Style Mb Picture). length run.coded) (events_law.sender [] frames n count past) ∙ on.sent)))
+          (ap (λ (run : SenderRun Style Mb Picture). length run.coded) (events_law.sender [] frames n count past)
+              ∙ on.sent)))
       keeps_event trace (says.Back k) =
           keeps_unless trace (Back k) (refusal_at by_ends now (Back k)) _
           (λ none. leads trace (Back k ∷ past) (on_event (Back k ∷ past) (near_back k none)
           (ap (λ (l : List (Coded Style Mb Picture)). length l) (events_law.message [] frames k past) ∙ on.sent)))
       keeps_event trace says.Play =
-          keeps_unless trace Play (refusal_at by_ends now Play) _ (λ none. leads trace (Play ∷ past) (on_event (Play ∷ past) (near_play none) on.sent))
+          keeps_unless trace Play (refusal_at by_ends now Play) _
+              (λ none. leads trace (Play ∷ past) (on_event (Play ∷ past) (near_play none) on.sent))
 
       keeps_line : (trace : List ℕ) (o : Option Line) → Keeps false (line_step by_ends now inputs trace o)
       keeps_line trace None = tt
       keeps_line trace (Some line) = keeps_event trace line
 
-      keeps_choice : (b : Bool) (trace : List ℕ) (o : Option Line) → Keeps false (if b then line_step by_ends now inputs trace o else Ends (bad_line (TooMany (lines + 1))))
+      keeps_choice : (b : Bool) (trace : List ℕ) (o : Option Line)
+          → Keeps false (if b then line_step by_ends now inputs trace o else Ends (bad_line (TooMany (lines + 1))))
       keeps_choice true trace o = keeps_line trace o
       keeps_choice false trace o = tt
 
@@ -293,43 +313,63 @@ module _ (p : Params) (frames_law : LaterFramesBoth (coding p) (rules_of p)) (ev
 
     -- ---- a turn
 
-    same_here : (plain : Bool) (frames : List Frame) (past : List Event) (place more lines : ℕ) (ended : Bool) (inputs : Role → List ℕ) → IsOn plain frames past
-        → talk_step (state plain frames past place more lines ended) inputs ≡ call_step (state plain frames past place more lines ended) inputs
-    same_here true frames past place more lines ended inputs on = plain_same frames past place more lines ended inputs on
-    same_here false frames past place more lines ended inputs on = recorded_same frames past place more lines ended inputs on
+    same_here : (plain : Bool) (frames : List Frame) (past : List Event) (place more lines : ℕ) (ended : Bool)
+        (inputs : Role → List ℕ) → IsOn plain frames past
+        → talk_step (state plain frames past place more lines ended) inputs
+            ≡ call_step (state plain frames past place more lines ended) inputs
+    same_here true frames past place more lines ended inputs on = plain_same frames past place more lines ended inputs
+        on
+    same_here false frames past place more lines ended inputs on = recorded_same frames past place more lines ended
+        inputs on
 
-    keeps_here : (plain : Bool) (frames : List Frame) (past : List Event) (place more lines : ℕ) (ended : Bool) (inputs : Role → List ℕ) → IsOn plain frames past
+    keeps_here : (plain : Bool) (frames : List Frame) (past : List Event) (place more lines : ℕ) (ended : Bool)
+        (inputs : Role → List ℕ) → IsOn plain frames past
         → Keeps plain (talk_step (state plain frames past place more lines ended) inputs)
-    keeps_here true frames past place more lines ended inputs on = keeps_video frames past place more lines ended inputs on (inputs Video)
-    keeps_here false frames past place more lines ended inputs on = keeps_trace frames past place more lines ended inputs on (inputs Events)
+    keeps_here true frames past place more lines ended inputs on = keeps_video frames past place more lines ended inputs
+        on (inputs Video)
+    keeps_here false frames past place more lines ended inputs on =
+        keeps_trace frames past place more lines ended inputs on (inputs Events)
 
-    same_turn : (plain : Bool) (s : CallState) (inputs : Role → List ℕ) → IsOnWay plain s → talk_step s inputs ≡ call_step s inputs
+    same_turn : (plain : Bool) (s : CallState) (inputs : Role → List ℕ) → IsOnWay plain s
+        → talk_step s inputs ≡ call_step s inputs
     same_turn plain s inputs k =
-        subst (λ (y : CallState). talk_step y inputs ≡ call_step y inputs) (sym k.is) (same_here plain k.frames k.past k.place k.more k.lines k.ended inputs k.on)
+        subst (λ (y : CallState). talk_step y inputs ≡ call_step y inputs) (sym k.is)
+            (same_here plain k.frames k.past k.place k.more k.lines k.ended inputs k.on)
 
-    keeps_turn : (plain : Bool) (s : CallState) (inputs : Role → List ℕ) → IsOnWay plain s → Keeps plain (talk_step s inputs)
+    keeps_turn : (plain : Bool) (s : CallState) (inputs : Role → List ℕ) → IsOnWay plain s
+        → Keeps plain (talk_step s inputs)
     keeps_turn plain s inputs k =
-        subst (λ (y : CallState). Keeps plain (talk_step y inputs)) (sym k.is) (keeps_here plain k.frames k.past k.place k.more k.lines k.ended inputs k.on)
+        subst (λ (y : CallState). Keeps plain (talk_step y inputs)) (sym k.is)
+            (keeps_here plain k.frames k.past k.place k.more k.lines k.ended inputs k.on)
 
     -- ---- a run
 
     follow_same : (plain : Bool) (step : Step CallState) (a b : CallState → (Role → ℕ) → Run) → Keeps plain step
-        → ((next : CallState) → IsOnWay plain next → (taken : Role → ℕ) → a next taken ≡ b next taken) → follow step a ≡ follow step b
+        → ((next : CallState) → IsOnWay plain next → (taken : Role → ℕ) → a next taken ≡ b next taken)
+            → follow step a ≡ follow step b
     follow_same plain (Goes next turn) a b keeps same =
-        ap (λ (run : Run). let longer_run : Run = record { turns = turn ∷ run.turns; last = run.last } in longer_run) (same next keeps turn.taken)
+        ap (λ (run : Run). let longer_run : Run = record { turns = turn ∷ run.turns; last = run.last } in
+            longer_run) (same next keeps turn.taken)
     follow_same plain (Ends last) a b keeps same = refl
 
-    same_run : (turns : ℕ) (plain : Bool) (s : CallState) (inputs : Role → List ℕ) → IsOnWay plain s → run_of talk_step turns s inputs ≡ run_of call_step turns s inputs
+    same_run : (turns : ℕ) (plain : Bool) (s : CallState) (inputs : Role → List ℕ) → IsOnWay plain s
+        → run_of talk_step turns s inputs ≡ run_of call_step turns s inputs
     unfolding run_of
-    same_run zero plain s inputs k = ap (λ (step : Step CallState). follow step (λ next taken. silence)) (same_turn plain s inputs k)
+    same_run zero plain s inputs k = ap (λ (step : Step CallState). follow step (λ next taken. silence))
+        (same_turn plain s inputs k)
     same_run (suc turns) plain s inputs k =
-        follow_same plain (talk_step s inputs) (λ next taken. run_of talk_step turns next (left_after inputs taken)) (λ next taken. run_of call_step turns next (left_after inputs taken)) (keeps_turn plain s inputs k)
+        follow_same plain (talk_step s inputs) (λ next taken. run_of talk_step turns next (left_after inputs taken))
+            (λ next taken. run_of call_step turns next (left_after inputs taken)) (keeps_turn plain s inputs k)
         (λ next on taken. same_run turns plain next (left_after inputs taken) on)
-        ∙ ap (λ (step : Step CallState). follow step (λ next taken. run_of call_step turns next (left_after inputs taken))) (same_turn plain s inputs k)
+        ∙ ap (λ (step : Step CallState). follow step (λ next taken. run_of call_step turns next
+            (left_after inputs taken))) (same_turn plain s inputs k)
 
 -- from the first state on
-pub talk_is_the_call : (t : Terms) → LaterFramesBoth (coding t.params) (rules_of t.params) → EventLaws t.params → NearLaws t.params
-    → ((frames : List Frame) (past : List Event) → AllMayHappenBoth (coding t.params) (rules_of t.params) (receiver_end.run_of t.params []) (steady t.params) frames past → ShowTheSame t.params frames past)
+pub talk_is_the_call : (t : Terms) → LaterFramesBoth (coding t.params) (rules_of t.params) → EventLaws t.params
+    → NearLaws t.params
+    → ((frames : List Frame) (past : List Event)
+        → AllMayHappenBoth (coding t.params) (rules_of t.params) (receiver_end.run_of t.params [])
+        (steady t.params) frames past → ShowTheSame t.params frames past)
     → TalkIsTheCall t
 talk_is_the_call t frames_law events_law near_laws agree at turns inputs =
     same_run t.params frames_law events_law near_laws agree turns t.plain (first_state t [] at) inputs

@@ -25,31 +25,39 @@ pub on_err : {T E P : Type 0} (r : Result T E) → P → OnErr r P
 on_err (Ok x) p = tt
 on_err (Err e) p = p
 
-module _ (turns : TurnLaws) (number : ℕ) (mark : Mark) (reference : Option ℕ) (picture : Picture) (old mid : Role → Option (List ℕ)) where
+module _ (turns : TurnLaws) (number : ℕ) (mark : Mark) (reference : Option ℕ) (picture : Picture) (old mid : Role
+    → Option (List ℕ)) where
   abbrev line : List ℕ
   line = picture_text number (Some mark) (Some reference) None
 
-  pub first_front : GainsFronts (on Pictures (frame_text mark picture)) old mid → GainsFronts (row_texts number mark reference picture) old mid
+  pub first_front : GainsFronts (on Pictures (frame_text mark picture)) old mid
+      → GainsFronts (row_texts number mark reference picture) old mid
   first_front fronts = turns.front_of_first (on Pictures (frame_text mark picture)) (on Report line) old mid fronts
 
-  module _ (new : Role → Option (List ℕ)) (text : List ℕ) (text_is : text ≡ line) (first : Gains (on Pictures (frame_text mark picture)) old mid) where
+  module _ (new : Role → Option (List ℕ)) (text : List ℕ) (text_is : text
+      ≡ line) (first : Gains (on Pictures (frame_text mark picture)) old mid) where
     pub both_gain : Gains (on Report text) mid new → Gains (row_texts number mark reference picture) old new
     both_gain gains =
         turns.both_texts (on Pictures (frame_text mark picture)) (on Report line) old mid new first
         (subst (λ (l : List ℕ). Gains (on Report l) mid new) text_is gains)
 
-    pub second_front : GainsFronts (on Report text) mid new → GainsFronts (row_texts number mark reference picture) old new
+    pub second_front : GainsFronts (on Report text) mid new
+        → GainsFronts (row_texts number mark reference picture) old new
     second_front fronts =
         turns.front_of_second (on Pictures (frame_text mark picture)) (on Report line) old mid new first
         (subst (λ (l : List ℕ). GainsFronts (on Report l) mid new) text_is fronts)
 
 -- the row of a play that is told so
-pub row_is : (p : Params) (before : List ReceiverEntry) (frames : List Frame) (past : List Event) (number : ℕ) (mark : Mark) (reference : Option ℕ) (picture : Picture) {played : ℕ}
+pub row_is : (p : Params) (before : List ReceiverEntry) (frames : List Frame) (past : List Event) (number : ℕ)
+    (mark : Mark) (reference : Option ℕ) (picture : Picture) {played : ℕ}
     → number ≡ played → played ≡ (both_after p (steady p) frames before past).receiver.played
-    → mark ≡ mark_of (played_mark (decoding p.format) (rules_of p) (both_after p (steady p) frames before past).receiver)
+    → mark ≡ mark_of (played_mark (decoding p.format) (rules_of p)
+        (both_after p (steady p) frames before past).receiver)
     → reference ≡ reference_in (both_after p (steady p) frames before past).sender.coded number
     → picture ≡ (both_after p (steady p) frames before (Play ∷ past)).receiver.screen
-    → row_texts number mark reference picture ≡ play_texts (in_both (both_after p (steady p) frames before (Play ∷ past))) played
+    → row_texts number mark reference picture
+        ≡ play_texts (in_both (both_after p (steady p) frames before (Play ∷ past))) played
 row_is p before frames past number mark reference picture {played} number_is played_is mark_is reference_is shown =
-    (λ i. then_also (on Pictures (frame_text (mark_is i) (shown i))) (on Report (picture_text number (Some (mark_is i)) (Some (reference_is i)) None)))
+    (λ i. then_also (on Pictures (frame_text (mark_is i) (shown i)))
+        (on Report (picture_text number (Some (mark_is i)) (Some (reference_is i)) None)))
     ∙ ap (play_texts (in_both (both_after p (steady p) frames before (Play ∷ past)))) number_is

@@ -38,9 +38,11 @@ bytes_back zero [] long = refl
 bytes_back zero (b ∷ bits) long = absurd (omega (arith, long))
 bytes_back (suc n) bits long =
     let eight : length (take 8 bits) ≡ 8 = omega (arith, long, length-take 8 bits) in
-    let first : spelled 8 (number (take 8 bits)) ≡ take 8 bits = ap (λ (k : ℕ). spelled k (number (take 8 bits))) (sym eight) ∙ spelled-number (take 8 bits) in
+    let first : spelled 8 (number (take 8 bits)) ≡ take 8 bits = ap (λ (k : ℕ). spelled k (number (take 8 bits)))
+        (sym eight) ∙ spelled-number (take 8 bits) in
     let others = bytes_back n (drop 8 bits) (length-drop 8 bits ∙ omega (arith, long)) in
-    ap (λ (l : List Bool). l ++ bits_of (bytes_from n (drop 8 bits))) first ∙ ap (λ (l : List Bool). take 8 bits ++ l) others ∙ take-append-drop 8 bits
+    ap (λ (l : List Bool). l ++ bits_of (bytes_from n (drop 8 bits))) first
+        ∙ ap (λ (l : List Bool). take 8 bits ++ l) others ∙ take-append-drop 8 bits
 
 whole_bytes : (marks : Option ℕ) → bits_with marks ≡ 8 * (bits_with marks / 8)
 whole_bytes None = refl
@@ -48,7 +50,8 @@ whole_bytes (Some marks) = refl
 
 pub text_of_written : MessageLaws → (m : Message) → bits_of (written m) ≡ message_text m
 unfolding written
-text_of_written laws m = bytes_back (message_bits m / 8) (message_text m) (laws.length m ∙ whole_bytes (text.marks_of m))
+text_of_written laws m = bytes_back (message_bits m / 8) (message_text m) (laws.length m
+    ∙ whole_bytes (text.marks_of m))
 
 -- ---- flags
 
@@ -70,25 +73,31 @@ few_marks : (flags : List Bool) → IsCount (length flags) → AreMarks (marks_o
 few_marks [] count = tt
 few_marks (flag ∷ flags) (inl none) = absurd (omega (arith, none))
 few_marks (flag ∷ flags) (inr all) =
-    subst (λ (n : ℕ). number (reverse (flag ∷ flags)) < 2 ^ n) (length-reverse (flag ∷ flags) ∙ all) (number-lt (reverse (flag ∷ flags)))
+    subst (λ (n : ℕ). number (reverse (flag ∷ flags)) < 2 ^ n) (length-reverse (flag ∷ flags)
+        ∙ all) (number-lt (reverse (flag ∷ flags)))
 
 -- ---- the message
 
 marked_back : (m : call.Message) → IsCount (length (message_flags m)) → message_of (marked m) ≡ m
 marked_back (call.Ack number flags) count = ap (λ (l : List Bool). call.Ack number l) (flags_back flags count)
-marked_back (call.Nack number offered flags) count = ap (λ (l : List Bool). call.Nack number offered l) (flags_back flags count)
+marked_back (call.Nack number offered flags) count = ap (λ (l : List Bool). call.Nack number offered l)
+    (flags_back flags count)
 
-marked_fits : (p : Params) (m : call.Message) → IsInPeriod (rules_of p) m → IsCount (length (message_flags m)) → IsMessage p.clock (marked m)
+marked_fits : (p : Params) (m : call.Message) → IsInPeriod (rules_of p) m → IsCount (length (message_flags m))
+    → IsMessage p.clock (marked m)
 marked_fits p (call.Ack number flags) fits count = (fits, few_marks flags count)
 marked_fits p (call.Nack number offered flags) fits count = (fits.0, fits.1, few_marks flags count)
 
 -- what reading says of a text
 abbrev ReadsTexts : Type 0
-ReadsTexts = (clock : Clock) (m : Message) (bytes : List ℕ) → IsMessage clock m → bits_of bytes ≡ message_text m → message_in clock bytes ≡ Ok m
+ReadsTexts = (clock : Clock) (m : Message) (bytes : List ℕ) → IsMessage clock m → bits_of bytes ≡ message_text m
+    → message_in clock bytes ≡ Ok m
 
-pub message_again : MessageLaws → ReadsTexts → (p : Params) (m : call.Message) → IsInPeriod (rules_of p) m → length (message_flags m) ≡ (rules_of p).flags
+pub message_again : MessageLaws → ReadsTexts → (p : Params) (m : call.Message) → IsInPeriod (rules_of p) m
+    → length (message_flags m) ≡ (rules_of p).flags
     → read_message p.clock (write_message m) ≡ Ok m
 message_again laws reads p m fits count =
     let some : IsCount (length (message_flags m)) = count_of_flags p.messages (length (message_flags m)) count in
-    let read = reads p.clock (marked m) (written (marked m)) (marked_fits p m fits some) (text_of_written laws (marked m)) in
+    let read = reads p.clock (marked m) (written (marked m)) (marked_fits p m fits some)
+        (text_of_written laws (marked m)) in
     ap as_read read ∙ ap Ok (marked_back m some)

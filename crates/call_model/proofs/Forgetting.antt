@@ -19,7 +19,8 @@ turned false false = refl
 pub among_filtered : (p : ℕ → Bool) (known : List ℕ) (m : ℕ) → is_among (filter p known) m ≡ (p m && is_among known m)
 among_filtered p known m = any-filter_same (λ (k : ℕ). eqb k m) p (p m) (λ k e. ap p (eqb-true k m e)) known
 
-pub among_from : (floor : ℕ) (known : List ℕ) (m : ℕ) → is_among (known_from floor known) m ≡ (is_among known m && leb floor m)
+pub among_from : (floor : ℕ) (known : List ℕ) (m : ℕ) → is_among (known_from floor known) m
+    ≡ (is_among known m && leb floor m)
 among_from floor known m = among_filtered (leb floor) known m ∙ turned (leb floor m) (is_among known m)
 
 pub no_floor : NoFloor
@@ -67,7 +68,8 @@ floor_is_known rules depth known floor n = go (greatest all n) refl
         three true false c e f = cc
         three false b c e f = cc
 
-    chain_floor : (m : ℕ) (b : Bool) → leb floor m ≡ b → option_and_then kept (if b then Some m else None) ≡ from_floor floor (kept m)
+    chain_floor : (m : ℕ) (b : Bool) → leb floor m ≡ b → option_and_then kept (if b then Some m else None)
+        ≡ from_floor floor (kept m)
     chain_floor m true e = chained (ltb (depth m) rules.chain)
       where
         chained : (c : Bool) → (if c then Some m else None) ≡ from_floor floor (if c then Some m else None)
@@ -79,10 +81,12 @@ floor_is_known rules depth known floor n = go (greatest all n) refl
         forgotten true = rw e refl
         forgotten false = refl
 
-    at : (m : ℕ) → greatest all n ≡ Some m → (b : Bool) → leb floor m ≡ b → greatest some n ≡ (if b then Some m else None)
+    at : (m : ℕ) → greatest all n ≡ Some m → (b : Bool) → leb floor m ≡ b
+        → greatest some n ≡ (if b then Some m else None)
     at m is true e =
         let passes = greatest_passes all n m is in
-        greatest_found some n m (here m passes.0 e) passes.1 (λ k above lt. none_of k (greatest_above all n m is k above lt))
+        greatest_found some n m (here m passes.0 e) passes.1
+            (λ k above lt. none_of k (greatest_above all n m is k above lt))
     at m is false e =
         greatest_none some n (λ k lt. elim (cases_lt m k) [
           | inl above ↦ none_of k (greatest_above all n m is k above lt)
@@ -92,30 +96,40 @@ floor_is_known rules depth known floor n = go (greatest all n) refl
         under : (k : ℕ) → k ≤ m → leb floor k ≡ false
         under k low = let far : m < floor = leb-false floor m e in lt-leb floor k (omega (arith, low, far))
 
-    go : (o : Option ℕ) → greatest all n ≡ o → option_and_then kept (greatest some n) ≡ from_floor floor (option_and_then kept (greatest all n))
+    go : (o : Option ℕ) → greatest all n ≡ o → option_and_then kept (greatest some n)
+        ≡ from_floor floor (option_and_then kept (greatest all n))
     go None is =
         let none = greatest_none some n (λ k lt. none_of k (greatest_none_below all n is k lt)) in
         rw (none, is) refl
     go (Some m) is =
-        ap (option_and_then kept) (at m is (leb floor m) refl) ∙ chain_floor m (leb floor m) refl ∙ sym (ap (λ (o : Option ℕ). from_floor floor (option_and_then kept o)) is)
+        ap (option_and_then kept) (at m is (leb floor m) refl) ∙ chain_floor m (leb floor m) refl
+            ∙ sym (ap (λ (o : Option ℕ). from_floor floor (option_and_then kept o)) is)
 
-module _ {Frame Style Mb Picture MessageFault : Type 0} (pictures : Pictures Style Mb Picture) (encoding : Encoding Frame Style Mb Picture MessageFault) (rules : Rules) where
+module _ {Frame Style Mb Picture MessageFault : Type 0} (pictures : Pictures Style Mb Picture)
+    (encoding : Encoding Frame Style Mb Picture MessageFault) (rules : Rules) where
   pub never_below : NeverBelow pictures encoding rules
   unfolding capture
   never_below pace frame r m e =
-      let h = reference_chosen rules (depth_at r.run.coded) (is_among (known_from r.since r.run.known)) (length r.run.coded) m e in
+      let h = reference_chosen rules (depth_at r.run.coded) (is_among (known_from r.since r.run.known))
+          (length r.run.coded) m e in
       let both = and_parts (is_among r.run.known m) (leb r.since m) (sym (among_from r.since r.run.known m) ∙ h.2) in
       leb-true r.since m both.1
 
   pub forget_is_intra : ForgetIsIntra pictures encoding rules
   unfolding capture
-  forget_is_intra pace frame r = go (reference_for rules (depth_at r.run.coded) (is_among (known_from (length r.run.coded) r.run.known)) (length r.run.coded)) refl
+  forget_is_intra pace frame r =
+      go (reference_for rules (depth_at r.run.coded) (is_among (known_from (length r.run.coded) r.run.known))
+      (length r.run.coded)) refl
     where
-      go : (o : Option ℕ) → reference_for rules (depth_at r.run.coded) (is_among (known_from (length r.run.coded) r.run.known)) (length r.run.coded) ≡ o
-          → reference_for rules (depth_at r.run.coded) (is_among (known_from (length r.run.coded) r.run.known)) (length r.run.coded) ≡ None
+      go : (o : Option ℕ) → reference_for rules (depth_at r.run.coded)
+          (is_among (known_from (length r.run.coded) r.run.known)) (length r.run.coded) ≡ o
+          → reference_for rules (depth_at r.run.coded) (is_among (known_from (length r.run.coded) r.run.known))
+              (length r.run.coded) ≡ None
       go None is = is
       go (Some m) is =
-          let h = reference_chosen rules (depth_at r.run.coded) (is_among (known_from (length r.run.coded) r.run.known)) (length r.run.coded) m is in
-          let both = and_parts (is_among r.run.known m) (leb (length r.run.coded) m) (sym (among_from (length r.run.coded) r.run.known m) ∙ h.2) in
+          let h = reference_chosen rules (depth_at r.run.coded) (is_among (known_from (length r.run.coded) r.run.known))
+              (length r.run.coded) m is in
+          let both = and_parts (is_among r.run.known m) (leb (length r.run.coded) m)
+              (sym (among_from (length r.run.coded) r.run.known m) ∙ h.2) in
           let low : length r.run.coded ≤ m = leb-true (length r.run.coded) m both.1 in
           absurd (omega (arith, low, h.0))

@@ -38,7 +38,9 @@ module _ (rules : Rules) (n rest : ℕ) (small : rest < period rules) where
   unfolding nearest_below first_from
   forth m e = go (ltb first (period rules)) refl e
     where
-      go : (b : Bool) → ltb first (period rules) ≡ b → (let o : Option ℕ = if b then None else Some (first - period rules) in o) ≡ Some m → (m < n) × (n ≤ m + period rules) × (m % period rules ≡ rest)
+      go : (b : Bool) → ltb first (period rules) ≡ b
+          → (let o : Option ℕ = if b then None else Some (first - period rules) in o) ≡ Some m
+          → (m < n) × (n ≤ m + period rules) × (m % period rules ≡ rest)
       go true is e = cc
       go false is e =
           let value : first - period rules ≡ m = cc in
@@ -56,7 +58,8 @@ module _ (rules : Rules) (n rest : ℕ) (small : rest < period rules) where
   unfolding nearest_below first_from
   none_low e = go (ltb first (period rules)) refl e
     where
-      go : (b : Bool) → ltb first (period rules) ≡ b → (let o : Option ℕ = if b then None else Some (first - period rules) in o) ≡ None → n ≤ period rules
+      go : (b : Bool) → ltb first (period rules) ≡ b
+          → (let o : Option ℕ = if b then None else Some (first - period rules) in o) ≡ None → n ≤ period rules
       go true is e = omega (arith, ltb-true _ _ is, first_low)
       go false is e = cc
 
@@ -102,5 +105,6 @@ nearest_is_greatest rules n rest small = go (nearest_below rules n rest) refl
           eq-eqb (m % period rules) rest f.2,
           f.0,
           λ k above below.
-              not_rest k (λ is. let far : m + period rules ≤ k = one_rest_is_far (period rules) m k (omega (arith, small)) (f.2 ∙ sym is) above in omega (arith, far, below, f.1)),
+              not_rest k (λ is. let far : m + period rules ≤ k = one_rest_is_far (period rules) m k
+                  (omega (arith, small)) (f.2 ∙ sym is) above in omega (arith, far, below, f.1)),
         ))

@@ -51,7 +51,8 @@ module _ (rules : Rules) (slots lead : ℕ) where
   }
 
   -- temporal references and flags are the same by the numbers of both
-  header_same : {Style Mb Picture : Type 0} (n : ℕ) (x : Coded Style Mb Picture) → header_of rules n x ≡ header_of own n x
+  header_same : {Style Mb Picture : Type 0} (n : ℕ) (x : Coded Style Mb Picture)
+      → header_of rules n x ≡ header_of own n x
   unfolding header_of
   header_same n x = refl
 
@@ -77,7 +78,8 @@ module _ (rules : Rules) (slots lead : ℕ) where
       same_style_is = lawful.same_style_is;
     }
 
-    own_picture : IsWideEnough rules slots lead → (c : Call Style Mb Picture) (x : Coded Style Mb Picture) → IsSoundPicture decoding.pictures rules c x → IsSoundPicture decoding.pictures own c x
+    own_picture : IsWideEnough rules slots lead → (c : Call Style Mb Picture) (x : Coded Style Mb Picture)
+        → IsSoundPicture decoding.pictures rules c x → IsSoundPicture decoding.pictures own c x
     own_picture wide c x sound = record {
       covers = sound.covers;
       picture = sound.picture;
@@ -86,60 +88,83 @@ module _ (rules : Rules) (slots lead : ℕ) where
           (in_wider (length c.coded) m (window rules) (window own) wide.window h.0, h.1);
     }
 
-    own_packet : (packets : List (List ℕ)) (n j : ℕ) (x : Coded Style Mb Picture) → IsPacket decoding rules packets n j x → IsPacket decoding own packets n j x
+    own_packet : (packets : List (List ℕ)) (n j : ℕ) (x : Coded Style Mb Picture)
+        → IsPacket decoding rules packets n j x → IsPacket decoding own packets n j x
     own_packet packets n j x is = record {
       read_as = λ slice at_j.
           let got = is.read_as slice at_j in
-          (got.0, got.1, got.2 ∙ ap (λ (h : Header Style). Ok (record { header = h; slice = slice })) (header_same n x));
+          (got.0, got.1, got.2 ∙ ap (λ (h : Header Style). Ok (record { header = h; slice = slice }))
+              (header_same n x));
       no_other = is.no_other;
     }
 
-    understood : (c : Call Style Mb Picture) (note : NumberedMessage) → IsUnderstood decoding own c note → IsUnderstood decoding rules c note
+    understood : (c : Call Style Mb Picture) (note : NumberedMessage) → IsUnderstood decoding own c note
+        → IsUnderstood decoding rules c note
     understood c note is = record {
       in_period = subst (IsInPeriod rules) (travelling_same note) (in_period_same (travelling own note) is.in_period);
       flags = ap (λ (message : Message). length (message_flags message)) (sym (travelling_same note)) ∙ is.flags;
-      known = λ near. ap (made_known rules (length c.coded)) (sym (travelling_same note)) ∙ known_same (length c.coded) (travelling own note) ∙ is.known near;
+      known = λ near. ap (made_known rules (length c.coded)) (sym (travelling_same note))
+          ∙ known_same (length c.coded) (travelling own note) ∙ is.known near;
     }
 
     module _ (wide : IsWideEnough rules slots lead) where
-      own_event : (source : Source Style Mb Picture) (packets : Packets Style Mb Picture) (c : Call Style Mb Picture) (e : Event) → IsSoundEvent decoding rules source packets c e → IsSoundEvent decoding own source packets c e
+      own_event : (source : Source Style Mb Picture) (packets : Packets Style Mb Picture) (c : Call Style Mb Picture)
+          (e : Event) → IsSoundEvent decoding rules source packets c e → IsSoundEvent decoding own source packets c e
       own_event source packets c Send sound = λ x is. own_picture wide c x (sound x is)
       own_event source packets c (Deliver n j) sound = λ x at_n. own_packet (packets c.coded n) n j x (sound x at_n)
       own_event source packets c Play sound = tt
       own_event source packets c (Back k) sound = tt
 
-      pub own_sound : (source : Source Style Mb Picture) (packets : Packets Style Mb Picture) → SoundToSenderIsSound decoding rules slots lead source packets
+      pub own_sound : (source : Source Style Mb Picture) (packets : Packets Style Mb Picture)
+          → SoundToSenderIsSound decoding rules slots lead source packets
       own_sound source packets [] sound = tt
-      own_sound source packets (e ∷ past) sound = (own_event source packets _ e sound.0, own_sound source packets past sound.1)
+      own_sound source packets (e ∷ past) sound = (own_event source packets _ e sound.0,
+          own_sound source packets past sound.1)
 
       pub any_is_followed : IsDecoding decoding rules → IsRules rules → AnySenderIsFollowed decoding rules slots lead
       any_is_followed lawful ruled source packets count past near sound =
-          let follows = any_sound_sender decoding own (own_decoding lawful) (own_rules ruled wide) source packets count past near (own_sound source packets past sound) in
+          let follows = any_sound_sender decoding own (own_decoding lawful) (own_rules ruled wide) source packets count
+              past near (own_sound source packets past sound) in
           record {
             follows = follows;
-            understood = λ k note there. understood (own_call decoding rules slots lead source packets past) note (follows.messages k note there);
+            understood = λ k note there. understood (own_call decoding rules slots lead source packets past) note
+                (follows.messages k note there);
           }
 
-module _ {Frame Style Mb Picture Fault MessageFault : Type 0} (coding : Coding Frame Style Mb Picture Fault MessageFault) (rules : Rules) (slots lead : ℕ) (lawful : IsCoding coding rules) (ruled : IsRules rules) (wide : IsWideEnough rules slots lead) where
+module _ {Frame Style Mb Picture Fault MessageFault : Type 0}
+    (coding : Coding Frame Style Mb Picture Fault MessageFault) (rules : Rules) (slots lead : ℕ)
+    (lawful : IsCoding coding rules) (ruled : IsRules rules) (wide : IsWideEnough rules slots lead) where
   -- both encoders are sound by their own numbers
-  steered_sound : (quant : Call Style Mb Picture → ℕ) (may : Call Style Mb Picture → ℕ → Bool) (frames : List Frame) (past : List Event) → AreQuants quant → AllSoundToSender coding.decoding rules slots lead (steered coding rules quant may frames) (packets_of coding.encoding rules) past
+  steered_sound : (quant : Call Style Mb Picture → ℕ) (may : Call Style Mb Picture → ℕ
+      → Bool) (frames : List Frame) (past : List Event) → AreQuants quant
+      → AllSoundToSender coding.decoding rules slots lead (steered coding rules quant may frames)
+      (packets_of coding.encoding rules) past
   steered_sound quant may frames [] range = tt
-  steered_sound quant may frames (e ∷ past) range = (steering.sound_event coding rules lawful ruled (with_own rules slots lead) quant may frames range past e, steered_sound quant may frames past range)
+  steered_sound quant may frames (e ∷ past) range =
+      (steering.sound_event coding rules lawful ruled (with_own rules slots lead) quant may frames range past e,
+      steered_sound quant may frames past range)
 
-  encoder_sound : (pace : List ℕ → ℕ) (frames : List Frame) (past : List Event) → IsPace pace → AllSoundToSender coding.decoding rules slots lead (encoded coding rules pace frames) (packets_of coding.encoding rules) past
+  encoder_sound : (pace : List ℕ → ℕ) (frames : List Frame) (past : List Event) → IsPace pace
+      → AllSoundToSender coding.decoding rules slots lead (encoded coding rules pace frames)
+      (packets_of coding.encoding rules) past
   encoder_sound pace frames [] range = tt
-  encoder_sound pace frames (e ∷ past) range = (capturing.sound_event coding rules lawful ruled (with_own rules slots lead) pace frames range past e, encoder_sound pace frames past range)
+  encoder_sound pace frames (e ∷ past) range =
+      (capturing.sound_event coding rules lawful ruled (with_own rules slots lead) pace frames range past e,
+      encoder_sound pace frames past range)
 
   pub steered_is_sound_to_own : SteeredIsSoundToOwn coding rules slots lead
   steered_is_sound_to_own quant may frames past range =
-      own_sound rules slots lead coding.decoding wide (steered coding rules quant may frames) (packets_of coding.encoding rules) past (steered_sound quant may frames past range)
+      own_sound rules slots lead coding.decoding wide (steered coding rules quant may frames)
+          (packets_of coding.encoding rules) past (steered_sound quant may frames past range)
 
   pub steered_is_followed_by_own : SteeredIsFollowedByOwn coding rules slots lead
   steered_is_followed_by_own quant may frames past range near =
-      any_is_followed rules slots lead coding.decoding wide lawful.decodes ruled (steered coding rules quant may frames) (packets_of coding.encoding rules) (length frames) past near
+      any_is_followed rules slots lead coding.decoding wide lawful.decodes ruled (steered coding rules quant may frames)
+          (packets_of coding.encoding rules) (length frames) past near
       (steered_sound quant may frames past range)
 
   pub encoder_is_followed_by_own : EncoderIsFollowedByOwn coding rules slots lead
   encoder_is_followed_by_own pace frames past range near =
-      any_is_followed rules slots lead coding.decoding wide lawful.decodes ruled (encoded coding rules pace frames) (packets_of coding.encoding rules) (length frames) past near
+      any_is_followed rules slots lead coding.decoding wide lawful.decodes ruled (encoded coding rules pace frames)
+          (packets_of coding.encoding rules) (length frames) past near
       (encoder_sound pace frames past range)

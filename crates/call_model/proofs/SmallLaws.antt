@@ -20,7 +20,8 @@ one place mb = record { first = place; mbs = mb ∷ [] }
 abbrev cut : List SmallMb → List (Slice SmallMb)
 cut mbs = one 0 (slice_index_or mbs 0 Same) ∷ one 1 (slice_index_or mbs 1 Same) ∷ []
 
-cut_at : (mbs : List SmallMb) (j : ℕ) (slice : Slice SmallMb) → slice_get (cut mbs) j ≡ Some slice → (j < 2) × (one j (slice_index_or mbs j Same) ≡ slice)
+cut_at : (mbs : List SmallMb) (j : ℕ) (slice : Slice SmallMb) → slice_get (cut mbs) j ≡ Some slice
+    → (j < 2) × (one j (slice_index_or mbs j Same) ≡ slice)
 cut_at mbs zero slice e = (omega arith, cc)
 cut_at mbs (suc zero) slice e = (omega arith, cc)
 cut_at mbs (suc (suc j)) slice e = cc
@@ -29,7 +30,8 @@ has_one : (place : ℕ) (mb : SmallMb) (k : ℕ) → has_mb (one place mb) k ≡
 unfolding has_mb
 has_one place mb k =
     elim (cases_eq place k) [
-      | inl same ↦ and_from _ _ (le-leb place k (omega arith)) (lt-ltb k (place + 1) (omega arith)) ∙ sym (eq-eqb place k same)
+      | inl same ↦ and_from _ _ (le-leb place k (omega arith)) (lt-ltb k (place + 1) (omega arith))
+          ∙ sym (eq-eqb place k same)
       | inr differ ↦ (elim (cases_lt k place) [
         | inl below ↦ and_left _ _ (lt-leb place k below)
         | inr above ↦ and_right _ _ (le-ltb k (place + 1) (omega arith))
@@ -40,11 +42,13 @@ option_back : (o : Option ℕ) → word_option (option_word o) ≡ o
 option_back None = refl
 option_back (Some m) = refl
 
-read_one : (header : Header SmallStyle) (place : ℕ) (mb : SmallMb) → place < 2 → small_read (small_packet header (one place mb)) ≡ Ok (record { header = header; slice = one place mb })
+read_one : (header : Header SmallStyle) (place : ℕ) (mb : SmallMb) → place < 2
+    → small_read (small_packet header (one place mb)) ≡ Ok (record { header = header; slice = one place mb })
 read_one header place Same lt = rw (le-leb (place + 1) 2 (omega arith), option_back header.reference) refl
 read_one header place (Value value) lt = rw (le-leb (place + 1) 2 (omega arith), option_back header.reference) refl
 
-none_left : (header : Header SmallStyle) (slices : List (Slice SmallMb)) (j : ℕ) → slice_get slices j ≡ None → slice_get (map (small_packet header) slices) j ≡ None
+none_left : (header : Header SmallStyle) (slices : List (Slice SmallMb)) (j : ℕ) → slice_get slices j ≡ None
+    → slice_get (map (small_packet header) slices) j ≡ None
 none_left header slices j e = slice_get-map (small_packet header) slices j ∙ ap (option_map (small_packet header)) e
 
 flags_back : (flags : List Bool) → word_flags (flag_words flags) ≡ flags
@@ -59,13 +63,16 @@ message_back (Nack n q flags) = rw (flags_back flags) refl
 abbrev IsInside : Piece SmallStyle SmallMb → Type 0
 IsInside piece = (0 < length piece.slice.mbs) × (piece.slice.first + length piece.slice.mbs ≤ 2)
 
-inside_piece : (header : Header SmallStyle) (place : ℕ) (mbs : List SmallMb) (piece : Piece SmallStyle SmallMb) → 0 < length mbs → small_piece header place mbs ≡ Ok piece → IsInside piece
+inside_piece : (header : Header SmallStyle) (place : ℕ) (mbs : List SmallMb) (piece : Piece SmallStyle SmallMb)
+    → 0 < length mbs → small_piece header place mbs ≡ Ok piece → IsInside piece
 inside_piece header place mbs piece some e = go (leb (place + length mbs) 2) refl e
   where
     read : Piece SmallStyle SmallMb
     read = record { header = header; slice = record { first = place; mbs = mbs } }
 
-    go : (t : Bool) → leb (place + length mbs) 2 ≡ t → (let answer : Result (Piece SmallStyle SmallMb) SmallFault = if t then Ok read else Err Unread in answer) ≡ Ok piece → IsInside piece
+    go : (t : Bool) → leb (place + length mbs) 2 ≡ t
+        → (let answer : Result (Piece SmallStyle SmallMb) SmallFault = if t then Ok read else Err Unread in answer)
+        ≡ Ok piece → IsInside piece
     go true is got =
         let same : read ≡ piece = cc in
         subst IsInside same (some, leb-true (place + length mbs) 2 is)
@@ -79,8 +86,10 @@ inside (a ∷ b ∷ c ∷ []) piece e = cc
 inside (a ∷ b ∷ c ∷ d ∷ []) piece e = cc
 inside (a ∷ b ∷ c ∷ d ∷ f ∷ []) piece e = cc
 inside (a ∷ b ∷ c ∷ d ∷ f ∷ g ∷ []) piece e = inside_piece (small_header a b c d f) g (Same ∷ []) piece (omega arith) e
-inside (a ∷ b ∷ c ∷ d ∷ f ∷ g ∷ h ∷ []) piece e = inside_piece (small_header a b c d f) g (Value h ∷ []) piece (omega arith) e
-inside (a ∷ b ∷ c ∷ d ∷ f ∷ g ∷ h ∷ i ∷ []) piece e = inside_piece (small_header a b c d f) g (Value h ∷ Value i ∷ []) piece (omega arith) e
+inside (a ∷ b ∷ c ∷ d ∷ f ∷ g ∷ h ∷ []) piece e = inside_piece (small_header a b c d f) g (Value h ∷ []) piece
+    (omega arith) e
+inside (a ∷ b ∷ c ∷ d ∷ f ∷ g ∷ h ∷ i ∷ []) piece e = inside_piece (small_header a b c d f) g (Value h ∷ Value i ∷ [])
+    piece (omega arith) e
 inside (a ∷ b ∷ c ∷ d ∷ f ∷ g ∷ h ∷ i ∷ k ∷ bytes) piece e = cc
 
 sample_back : (f : ℕ → ℕ) (s : ℕ) → s < 2 → small_sample (record { left = f 0; right = f 1 }) s ≡ f s
@@ -99,10 +108,12 @@ same_style_test a b = (forth, back)
         let parts = and_parts (eqb a.depth b.depth) (eqb a.quant b.quant) e in
         let depth : a.depth ≡ b.depth = eqb-true a.depth b.depth parts.0 in
         let quant : a.quant ≡ b.quant = eqb-true a.quant b.quant parts.1 in
-        ap (λ (d : ℕ). let s : SmallStyle = record { depth = d; quant = a.quant } in s) depth ∙ ap (λ (q : ℕ). let s : SmallStyle = record { depth = b.depth; quant = q } in s) quant
+        ap (λ (d : ℕ). let s : SmallStyle = record { depth = d; quant = a.quant } in s) depth
+            ∙ ap (λ (q : ℕ). let s : SmallStyle = record { depth = b.depth; quant = q } in s) quant
 
     back : a ≡ b → (eqb a.depth b.depth && eqb a.quant b.quant) ≡ true
-    back e = and_from _ _ (eq-eqb a.depth b.depth (ap (λ (s : SmallStyle). s.depth) e)) (eq-eqb a.quant b.quant (ap (λ (s : SmallStyle). s.quant) e))
+    back e = and_from _ _ (eq-eqb a.depth b.depth (ap (λ (s : SmallStyle). s.depth) e))
+        (eq-eqb a.quant b.quant (ap (λ (s : SmallStyle). s.quant) e))
 
 small_divides : (count : ℕ) → count ≡ 2 → (mbs : List SmallMb) → Divides Same count (cut mbs) mbs
 small_divides count two mbs = record {
@@ -114,14 +125,17 @@ small_divides count two mbs = record {
         subst (λ (s : Slice SmallMb). has_mb s k ≡ eqb j k) at.1 (has_one j (slice_index_or mbs j Same) k);
     inside = λ j slice e.
         let at = cut_at mbs j slice e in
-        subst (λ (s : Slice SmallMb). (0 < length s.mbs) × (s.first + length s.mbs ≤ count)) at.1 (omega arith, omega (arith, at.0));
+        subst (λ (s : Slice SmallMb). (0 < length s.mbs) × (s.first + length s.mbs ≤ count)) at.1 (omega arith,
+            omega (arith, at.0));
   };
   same = λ j k slice e has.
       let at = cut_at mbs j slice e in
-      let has_k : has_mb (one j (slice_index_or mbs j Same)) k ≡ true = subst (λ (s : Slice SmallMb). has_mb s k ≡ true) (sym at.1) has in
+      let has_k : has_mb (one j (slice_index_or mbs j Same)) k ≡ true = subst (λ (s : Slice SmallMb). has_mb s k
+          ≡ true) (sym at.1) has in
       let is : j ≡ k = same_place j k (slice_index_or mbs j Same) mbs has_k in
       let none : k - j ≡ 0 = omega arith in
-      subst (λ (s : Slice SmallMb). slice_index_or s.mbs (k - s.first) Same ≡ slice_index_or mbs k Same) at.1 (rw none (ap (λ (i : ℕ). slice_index_or mbs i Same) is));
+      subst (λ (s : Slice SmallMb). slice_index_or s.mbs (k - s.first) Same ≡ slice_index_or mbs k Same) at.1
+          (rw none (ap (λ (i : ℕ). slice_index_or mbs i Same) is));
 }
 
 pub small_decodes : (rules : Rules) → rules.mbs ≡ 2 → IsDecoding small_decoding rules
@@ -150,7 +164,8 @@ small_lawful rules two = record {
       let at = cut_at mbs j slice e in (
         small_packet header slice,
         slice_get-map (small_packet header) (cut mbs) j ∙ ap (option_map (small_packet header)) e,
-        subst (λ (s : Slice SmallMb). small_read (small_packet header s) ≡ Ok (record { header = header; slice = s })) at.1 (read_one header j (slice_index_or mbs j Same) at.0),
+        subst (λ (s : Slice SmallMb). small_read (small_packet header s) ≡ Ok (record { header = header; slice = s }))
+            at.1 (read_one header j (slice_index_or mbs j Same) at.0),
       );
   no_packet = λ n sequence header slices j e. none_left header slices j e;
 }
@@ -159,8 +174,10 @@ small_lawful rules two = record {
 pub scenes_agree : ScenesAgree
 unfolding small
 scenes_agree scene fits passed =
-    let near = (passed_where_near small_pictures scene.rules (encoded small scene.rules scene.pace scene.frames) (length scene.frames) (reverse scene.events)).0 passed in
-    (two_stores small scene.rules (small_lawful scene.rules fits.two) fits.rules scene.pace scene.frames fits.pace (reverse scene.events) near).agree
+    let near = (passed_where_near small_pictures scene.rules (encoded small scene.rules scene.pace scene.frames)
+        (length scene.frames) (reverse scene.events)).0 passed in
+    (two_stores small scene.rules (small_lawful scene.rules fits.two) fits.rules scene.pace scene.frames fits.pace
+        (reverse scene.events) near).agree
 
 steady_pace : IsPace steady
 steady_pace sizes few = (omega arith, omega arith)
@@ -168,7 +185,8 @@ steady_pace sizes few = (omega arith, omega arith)
 small_rules : (rules : Rules) → rules.mbs ≡ 2 → rules.lead + 2 ≤ rules.slots → rules.slots ≤ rules.half → IsRules rules
 small_rules rules two lead slots = record { some_mbs = omega (arith, two); lead_small = lead; slots_small = slots }
 
-steady_scene : (scene : Scene) → scene.rules.mbs ≡ 2 → scene.rules.lead + 2 ≤ scene.rules.slots → scene.rules.slots ≤ scene.rules.half → scene.pace ≡ steady → IsScene scene
+steady_scene : (scene : Scene) → scene.rules.mbs ≡ 2 → scene.rules.lead + 2 ≤ scene.rules.slots
+    → scene.rules.slots ≤ scene.rules.half → scene.pace ≡ steady → IsScene scene
 steady_scene scene two lead slots pace = record {
   two = two;
   rules = small_rules scene.rules two lead slots;
@@ -176,7 +194,8 @@ steady_scene scene two lead slots pace = record {
 }
 
 sizes_pace : IsPace by_sizes
-sizes_pace sizes few = let small : sum sizes % 31 < 31 = mod-lt (sum sizes) (omega arith) in (omega arith, omega (arith, small))
+sizes_pace sizes few = let small : sum sizes % 31 < 31 = mod-lt (sum sizes) (omega arith) in
+    (omega arith, omega (arith, small))
 
 pub scenes_are_lawful : ScenesAreLawful
 scenes_are_lawful = (

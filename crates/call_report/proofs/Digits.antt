@@ -12,10 +12,12 @@ gap_short [] = omega arith
 gap_short (_ ∷ _) = omega arith
 
 -- a word and its number take 22 bytes more than the word at most
-pub pair_short : (text word : Text) (number : ℕ) → number < 2 ^ 64 → length (with_pair text word number) ≤ length text + length word + 22
+pub pair_short : (text word : Text) (number : ℕ) → number < 2 ^ 64
+    → length (with_pair text word number) ≤ length text + length word + 22
 pair_short text word number h =
     simp length-append (omega (arith, gap_short text, decimal_short number h))
 
-pub pair_fits : (text word : Text) (number : ℕ) → number < 2 ^ 64 → HasRoom text word number → length (with_pair text word number) ≤ 256
+pub pair_fits : (text word : Text) (number : ℕ) → number < 2 ^ 64 → HasRoom text word number
+    → length (with_pair text word number) ≤ 256
 pair_fits text word number h (inl room) = omega (arith, pair_short text word number h)
 pair_fits text word number h (inr fits) = fits

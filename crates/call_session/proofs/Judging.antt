@@ -27,7 +27,8 @@ run_in None = None
 run_in (Some x) = Some x.0
 
 -- this one takes it
-pub somebody : (s : Settings) (taker : Taker) (r : Option Run) (packet : Packet) (bytes : List ℕ) (now : ℕ) (f : Follows)
+pub somebody : (s : Settings) (taker : Taker) (r : Option Run) (packet : Packet) (bytes : List ℕ) (now : ℕ)
+    (f : Follows)
     (run : Run) (a : Arrived) → AreTaken s taker r packet bytes now f (Some (run, a)) → r ≡ Some run
 somebody s taker None packet bytes now f run a x = absurd cc
 somebody s taker (Some other) packet bytes now f run a x = sym (ap run_in x.1)

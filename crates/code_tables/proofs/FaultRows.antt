@@ -59,15 +59,19 @@ parts_productive = mvd_productive.0
 
 spelt_32 : Spells mvd_parts (pos 32) (word "000000000010" ++ word "0")
 unfolding mvd_parts spelled
-spelt_32 = spells_code magnitude_table _ _ (word "000000000010") 32 (word "0") listed_32 (spells_field 1 any (λ sign. done (signed sign 32)) (pos 32) 0 [] (omega arith) refl (spells_done (pos 32)))
+spelt_32 = spells_code magnitude_table _ _ (word "000000000010") 32 (word "0") listed_32
+    (spells_field 1 any (λ sign. done (signed sign 32)) (pos 32) 0 [] (omega arith) refl (spells_done (pos 32)))
 
 mvd_bad : HasFault mvd (word "000000000010" ++ word "0") BadCode 0
 unfolding mvd
-mvd_bad = fault_of_text (element mvd_parts allowed_difference done) ((word "000000000010" ++ word "0") ++ []) (word "000000000010" ++ word "0") BadCode 0 refl (fault_of_element mvd_parts allowed_difference done (pos 32) (word "000000000010" ++ word "0") [] BadCode parts_productive spelt_32 refl)
+mvd_bad = fault_of_text (element mvd_parts allowed_difference done) ((word "000000000010" ++ word "0")
+    ++ []) (word "000000000010" ++ word "0") BadCode 0 refl (fault_of_element mvd_parts allowed_difference done (pos 32)
+    (word "000000000010" ++ word "0") [] BadCode parts_productive spelt_32 refl)
 
 event_bad : HasFault event (word "000000000") BadCode 0
 unfolding event event_parts event_table tcoef_words last_0_texts last_1_texts begins
-event_bad = fault_in_element event_parts any done (word "000000000") BadCode 0 (fault_of_no_word event_table after_word (word "000000000") refl)
+event_bad = fault_in_element event_parts any done (word "000000000") BadCode 0 (fault_of_no_word event_table after_word
+    (word "000000000") refl)
 
 have_bad_codes : HaveBadCodes
 have_bad_codes = record { mcbpc = mcbpc_bad; cbpy = cbpy_bad; mvd = mvd_bad; event = event_bad }
@@ -78,7 +82,8 @@ sign_cut : (w : List Bool) (e : Event) → IsIn (w, Some e) tcoef_words → Ends
 unfolding event event_parts event_table
 sign_cut w e h =
     λ at. ap (λ (t : List Bool). reading event (record { at = at; bits = t })) (sym (append-nil w))
-    ∙ ends_in_element event_parts any done (w ++ []) Ended (length w + 0) (ends_after_word event_table after_word w (Some e) [] Ended 0 h (fault_of_cut 1 any _ [] (omega arith))) at
+    ∙ ends_in_element event_parts any done (w ++ []) Ended (length w + 0) (ends_after_word event_table after_word w
+        (Some e) [] Ended 0 h (fault_of_cut 1 any _ [] (omega arith))) at
 
 pub in_after : {X : Type 0} (x : X) (xs ys : List X) → IsIn x ys → IsIn x (xs ++ ys)
 in_after x [] ys h = h
@@ -86,14 +91,19 @@ in_after x (v ∷ xs) ys h = inr (in_after x xs ys h)
 
 escape_in : IsIn (word "0000011", None) event_table.list
 unfolding event_table tcoef_words
-escape_in = in_after (word "0000011", None) (from_runs false 0 last_0_texts) (from_runs true 0 last_1_texts ++ (word "0000011", None) ∷ []) (in_after (word "0000011", None) (from_runs true 0 last_1_texts) ((word "0000011", None) ∷ []) (inl refl))
+escape_in = in_after (word "0000011", None) (from_runs false 0 last_0_texts) (from_runs true 0 last_1_texts
+    ++ (word "0000011", None) ∷ []) (in_after (word "0000011", None) (from_runs true 0 last_1_texts)
+    ((word "0000011", None) ∷ []) (inl refl))
 
 -- the fields of an escape, up to a LEVEL that is refused
-pub level_row : (last run level : ℕ) → last < 2 → run < 64 → level < 256 → allowed_level level ≡ Some BadLevel → HasFault event (word "0000011" ++ fields ((1, last) ∷ (6, run) ∷ (8, level) ∷ [])) BadLevel 0
+pub level_row : (last run level : ℕ) → last < 2 → run < 64 → level < 256 → allowed_level level ≡ Some BadLevel
+    → HasFault event (word "0000011" ++ fields ((1, last) ∷ (6, run) ∷ (8, level) ∷ [])) BadLevel 0
 unfolding event event_parts
 level_row last run level l r v refused =
-    fault_in_element event_parts any done (word "0000011" ++ fields ((1, last) ∷ (6, run) ∷ (8, level) ∷ [])) BadLevel 14
-    (fault_after_word event_table after_word (word "0000011") None (fields ((1, last) ∷ (6, run) ∷ (8, level) ∷ [])) BadLevel 7 escape_in
+    fault_in_element event_parts any done (word "0000011" ++ fields ((1, last) ∷ (6, run) ∷ (8, level) ∷ [])) BadLevel
+        14
+    (fault_after_word event_table after_word (word "0000011") None (fields ((1, last) ∷ (6, run) ∷ (8, level) ∷ []))
+        BadLevel 7 escape_in
     (fault_after_field 1 any _ last (fields ((6, run) ∷ (8, level) ∷ [])) BadLevel 6 l refl
     (fault_after_field 6 any _ run (fields ((8, level) ∷ [])) BadLevel 0 r refl
     (fault_here 8 allowed_level _ level [] BadLevel v refused))))

@@ -45,8 +45,10 @@ all_listed kinds.P = refl
 
 pub mcbpc_within : (kind : Kind) (m : Mcbpc) (text : List Bool) → Spells (mcbpc kind) m text → IsInTable kind m
 unfolding Spells mcbpc mcbpc_table
-mcbpc_within kinds.I m text h = in_table kinds.I m (subst (λ (x : Mcbpc). is_listed kinds.I x ≡ true) (sym h.5.0) (stands_within (is_listed kinds.I) (mcbpc_words kinds.I) (h.0, h.1) (all_listed kinds.I) h.3))
-mcbpc_within kinds.P m text h = in_table kinds.P m (subst (λ (x : Mcbpc). is_listed kinds.P x ≡ true) (sym h.5.0) (stands_within (is_listed kinds.P) (mcbpc_words kinds.P) (h.0, h.1) (all_listed kinds.P) h.3))
+mcbpc_within kinds.I m text h = in_table kinds.I m (subst (λ (x : Mcbpc). is_listed kinds.I x ≡ true) (sym h.5.0)
+    (stands_within (is_listed kinds.I) (mcbpc_words kinds.I) (h.0, h.1) (all_listed kinds.I) h.3))
+mcbpc_within kinds.P m text h = in_table kinds.P m (subst (λ (x : Mcbpc). is_listed kinds.P x ≡ true) (sym h.5.0)
+    (stands_within (is_listed kinds.P) (mcbpc_words kinds.P) (h.0, h.1) (all_listed kinds.P) h.3))
 
 -- ---- CBPY
 
@@ -56,7 +58,8 @@ all_small = refl
 
 pub cbpy_within : (intra : Bool) (pattern : ℕ) (text : List Bool) → Spells (cbpy intra) pattern text → pattern < 16
 unfolding Spells cbpy cbpy_table
-cbpy_within true pattern text h = let lt = ltb-true h.1 16 (stands_within (λ n. nat_lt n 16) cbpy_words (h.0, h.1) all_small h.3) in subst (λ (n : ℕ). n < 16) (sym h.5.0) lt
+cbpy_within true pattern text h = let lt = ltb-true h.1 16 (stands_within (λ n. nat_lt n 16) cbpy_words (h.0,
+    h.1) all_small h.3) in subst (λ (n : ℕ). n < 16) (sym h.5.0) lt
 cbpy_within false pattern text h = let lt : 15 - h.1 < 16 = omega arith in subst (λ (n : ℕ). n < 16) (sym h.5.0) lt
 
 -- ---- DQUANT
@@ -68,7 +71,8 @@ is_step (negsuc n) = (n == 0) || (n == 1)
 step_is : (z : ℤ) → is_step z ≡ true → IsStep z
 unfolding is_step
 step_is (pos n) e = elim (or_cases (n == 1) (n == 2) e) [ inl h ↦ inl (eqb-true n 1 h) | inr h ↦ inr (eqb-true n 2 h) ]
-step_is (negsuc n) e = elim (or_cases (n == 0) (n == 1) e) [ inl h ↦ inl (eqb-true n 0 h) | inr h ↦ inr (eqb-true n 1 h) ]
+step_is (negsuc n) e = elim (or_cases (n == 0) (n == 1) e) [ inl h ↦ inl (eqb-true n 0 h)
+    | inr h ↦ inr (eqb-true n 1 h) ]
 
 all_steps : list_all (λ w. is_step w.1) dquant_words ≡ true
 unfolding dquant_words is_step
@@ -76,7 +80,8 @@ all_steps = refl
 
 pub dquant_within : (step : ℤ) (text : List Bool) → Spells dquant step text → IsStep step
 unfolding Spells dquant dquant_table
-dquant_within step text h = step_is step (subst (λ (z : ℤ). is_step z ≡ true) (sym h.5.0) (stands_within is_step dquant_words (h.0, h.1) all_steps h.3))
+dquant_within step text h = step_is step (subst (λ (z : ℤ). is_step z ≡ true) (sym h.5.0)
+    (stands_within is_step dquant_words (h.0, h.1) all_steps h.3))
 
 -- ---- MVD
 

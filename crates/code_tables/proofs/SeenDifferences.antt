@@ -31,22 +31,27 @@ abbrev none : Code
 none = record { bits = 0; len = 0 }
 
 -- what the tables name for the first twelve of 13 bits is the word that they begin with
-pub magnitude_in : (seen place len : ℕ) → place < 33 → starts (seen / 2 ^ 1) 12 (code_at MAGNITUDES place) ≡ true → len ≡ (code_at MAGNITUDES place).len → IsMagnitudeIn seen place len
+pub magnitude_in : (seen place len : ℕ) → place < 33 → starts (seen / 2 ^ 1) 12 (code_at MAGNITUDES place) ≡ true
+    → len ≡ (code_at MAGNITUDES place).len → IsMagnitudeIn seen place len
 magnitude_in seen place len lt there many b enough is =
-    let twelve : seen / 2 ^ 1 ≡ number (take 12 b.bits) = sym (front_number b.bits 12 13 (omega arith) enough ∙ ap (λ (v : ℕ). v / 2 ^ 1) is) in
+    let twelve : seen / 2 ^ 1 ≡ number (take 12 b.bits) = sym (front_number b.bits 12 13 (omega arith) enough
+        ∙ ap (λ (v : ℕ). v / 2 ^ 1) is) in
     let stands = named_stands MAGNITUDES b.bits 12 (seen / 2 ^ 1) place all_codes apart (omega arith) twelve lt there in
     rw (many, same_words) (word_found MAGNITUDES place b none stands)
 
 -- the sign after a word of `len` bits
-sign_there : (b : Bits) (len seen : ℕ) → len ≤ 12 → 13 ≤ length b.bits → number (take 13 b.bits) ≡ seen → number_at 1 (skip len b) ≡ Ok (seen / 2 ^ (12 - len) % 2, skip (len + 1) b)
+sign_there : (b : Bits) (len seen : ℕ) → len ≤ 12 → 13 ≤ length b.bits → number (take 13 b.bits) ≡ seen
+    → number_at 1 (skip len b) ≡ Ok (seen / 2 ^ (12 - len) % 2, skip (len + 1) b)
 unfolding number_at
 sign_there b len seen le enough is =
     let long = le-ltb (length (drop len b.bits)) 1 (omega (arith, length-drop len b.bits)) in
-    let value : number (take 1 (drop len b.bits)) ≡ seen / 2 ^ (12 - len) % 2 = field_in b.bits len 1 (12 - len) 13 (omega arith) enough ∙ ap (λ (v : ℕ). v / 2 ^ (12 - len) % 2) is in
+    let value : number (take 1 (drop len b.bits)) ≡ seen / 2 ^ (12 - len) % 2 = field_in b.bits len 1 (12 - len) 13
+        (omega arith) enough ∙ ap (λ (v : ℕ). v / 2 ^ (12 - len) % 2) is in
     rw (long, value) (ap (λ (c : Bits). Ok (seen / 2 ^ (12 - len) % 2, c)) (skip-skip len 1 b))
 
 -- 0 has no sign
-pub zero_read : (b : Bits) (seen len : ℕ) → IsMagnitudeIn seen 0 len → 13 ≤ length b.bits → number (take 13 b.bits) ≡ seen → reading mvd b ≡ Ok (pos 0, skip len b)
+pub zero_read : (b : Bits) (seen len : ℕ) → IsMagnitudeIn seen 0 len → 13 ≤ length b.bits → number (take 13 b.bits)
+    ≡ seen → reading mvd b ≡ Ok (pos 0, skip len b)
 unfolding reading mvd mvd_parts magnitude_table
 zero_read b seen len word enough is = rw (word b enough is) refl
 
@@ -60,24 +65,31 @@ allowed_below sign size lt = at_test (eqb sign 0) size lt
     at_test false (suc k) lt = refl
 
 -- what follows the word of a size that isn't 0
-after_size : (plain : Bool) (size s : ℕ) (c d : Bits) → plain ≡ false → number_at 1 c ≡ Ok (s, d) → reading (either plain (done (pos 0)) (field 1 any λ sign. done (signed sign size))) c ≡ Ok (signed s size, d)
+after_size : (plain : Bool) (size s : ℕ) (c d : Bits) → plain ≡ false → number_at 1 c ≡ Ok (s, d)
+    → reading (either plain (done (pos 0)) (field 1 any λ sign. done (signed sign size))) c ≡ Ok (signed s size, d)
 unfolding reading
 after_size true size s c d e sign = absurd cc
 after_size false size s c d e sign = rw sign refl
 
-signed_parts : (b : Bits) (seen size len : ℕ) → len ≤ 12 → (size ≡ 0 → ⊥) → IsMagnitudeIn seen size len → 13 ≤ length b.bits → number (take 13 b.bits) ≡ seen
+signed_parts : (b : Bits) (seen size len : ℕ) → len ≤ 12 → (size ≡ 0 → ⊥) → IsMagnitudeIn seen size len
+    → 13 ≤ length b.bits → number (take 13 b.bits) ≡ seen
     → reading mvd_parts b ≡ Ok (signed (seen / 2 ^ (12 - len) % 2) size, skip (len + 1) b)
 unfolding reading mvd_parts magnitude_table
 signed_parts b seen size len short some word enough is =
-    rw (word b enough is) (after_size (size == 0) size (seen / 2 ^ (12 - len) % 2) (skip len b) (skip (len + 1) b) (ne_eqb size 0 some) (sign_there b len seen short enough is))
+    rw (word b enough is) (after_size (size == 0) size (seen / 2 ^ (12 - len) % 2) (skip len b) (skip (len + 1) b)
+        (ne_eqb size 0 some) (sign_there b len seen short enough is))
 
 -- a difference is read where its parts are, and it isn't refused
-difference_read : (b c : Bits) (v : ℤ) → reading mvd_parts b ≡ Ok (v, c) → allowed_difference v ≡ None → reading mvd b ≡ Ok (v, c)
+difference_read : (b c : Bits) (v : ℤ) → reading mvd_parts b ≡ Ok (v, c) → allowed_difference v ≡ None
+    → reading mvd b ≡ Ok (v, c)
 unfolding mvd reading
 difference_read b c v e allowed = rw (e, allowed) refl
 
-pub signed_read : (b : Bits) (seen size len : ℕ) (z : ℤ) → len ≤ 12 → size < 32 → (size ≡ 0 → ⊥) → IsMagnitudeIn seen size len → 13 ≤ length b.bits → number (take 13 b.bits) ≡ seen → z ≡ signed (seen / 2 ^ (12 - len) % 2) size
+pub signed_read : (b : Bits) (seen size len : ℕ) (z : ℤ) → len ≤ 12 → size < 32 → (size ≡ 0 → ⊥)
+    → IsMagnitudeIn seen size len → 13 ≤ length b.bits → number (take 13 b.bits) ≡ seen
+    → z ≡ signed (seen / 2 ^ (12 - len) % 2) size
     → reading mvd b ≡ Ok (z, skip (len + 1) b)
 signed_read b seen size len z short small some word enough is value =
     let sign = seen / 2 ^ (12 - len) % 2 in
-    rw value (difference_read b (skip (len + 1) b) (signed sign size) (signed_parts b seen size len short some word enough is) (allowed_below sign size small))
+    rw value (difference_read b (skip (len + 1) b) (signed sign size)
+        (signed_parts b seen size len short some word enough is) (allowed_below sign size small))

@@ -34,7 +34,8 @@ same_words = refl
 read : (b : Bits) → word_at tcoef_words b ≡ (word_at (listed 0 EVENTS) b >>= λ x. Ok (event_at x.0, x.1))
 read b = ap (λ (t : List (List Bool × Option Event)). word_at t b) same_words ∙ word_at-map event_at (listed 0 EVENTS) b
 
-pub found : (b c : Bits) (i : ℕ) (o : Option Event) → word_at (listed 0 EVENTS) b ≡ Ok (i, c) → o ≡ event_at i → word_at tcoef_words b ≡ Ok (o, c)
+pub found : (b c : Bits) (i : ℕ) (o : Option Event) → word_at (listed 0 EVENTS) b ≡ Ok (i, c) → o ≡ event_at i
+    → word_at tcoef_words b ≡ Ok (o, c)
 found b c i o e s = read b ∙ rw (e, s) refl
 
 pub fault : (b : Bits) (f : Fault) → word_at (listed 0 EVENTS) b ≡ Err f → word_at tcoef_words b ≡ Err f
@@ -43,7 +44,8 @@ fault b f e = read b ∙ rw e refl
 pub is_small : Level → Bool
 is_small level = ltb level.size 128
 
-pub small : (levels : List Level) (i : ℕ) → list_all is_small levels ≡ true → IfSome (slice_get levels i) (λ level. level.size < 128)
+pub small : (levels : List Level) (i : ℕ) → list_all is_small levels ≡ true
+    → IfSome (slice_get levels i) (λ level. level.size < 128)
 unfolding is_small
 small [] i e = tt
 small (l ∷ levels) zero e = ltb-true l.size 128 (and_both (is_small l) (list_all is_small levels) e).0
@@ -56,12 +58,14 @@ all_small = refl
 -- ---- by the first bits
 
 -- n bits from place o on, from the number of the first m
-pub field_in : (bits : List Bool) (o n s m : ℕ) → o + n + s ≡ m → m ≤ length bits → number (take n (drop o bits)) ≡ number (take m bits) / 2 ^ s % 2 ^ n
+pub field_in : (bits : List Bool) (o n s m : ℕ) → o + n + s ≡ m → m ≤ length bits → number (take n (drop o bits))
+    ≡ number (take m bits) / 2 ^ s % 2 ^ n
 field_in bits o n s m e le =
     let len : length (take m bits) ≡ m = omega (arith, length-take m bits) in
     let parts : m ≡ o + (n + s) = omega arith in
     let inside : take n (drop o (take m bits)) ≡ take n (drop o bits) =
-    ap (λ (j : ℕ). take n (drop o (take j bits))) parts ∙ ap (take n) (drop-take o (n + s) bits) ∙ take-take n (n + s) (drop o bits) (omega arith) (omega (arith, length-drop o bits)) in
+    ap (λ (j : ℕ). take n (drop o (take j bits))) parts ∙ ap (take n) (drop-take o (n + s) bits)
+        ∙ take-take n (n + s) (drop o bits) (omega arith) (omega (arith, length-drop o bits)) in
     ap number (sym inside) ∙ number-middle (take m bits) o n s (omega (arith, len))
 
 pub skip-skip : (j k : ℕ) (b : Bits) → skip k (skip j b) ≡ skip (j + k) b
@@ -70,11 +74,13 @@ skip-skip j k b =
     rw (at, drop-drop k j b.bits) refl
 
 -- a field of k bits after the first o, where s more of the n follow
-pub field_there : (b : Bits) (n o k s seen : ℕ) → o + k + s ≡ n → n ≤ length b.bits → number (take n b.bits) ≡ seen → number_at k (skip o b) ≡ Ok (seen / 2 ^ s % 2 ^ k, skip (o + k) b)
+pub field_there : (b : Bits) (n o k s seen : ℕ) → o + k + s ≡ n → n ≤ length b.bits → number (take n b.bits) ≡ seen
+    → number_at k (skip o b) ≡ Ok (seen / 2 ^ s % 2 ^ k, skip (o + k) b)
 unfolding number_at
 field_there b n o k s seen e le is =
     let enough = le-ltb (length (drop o b.bits)) k (omega (arith, length-drop o b.bits)) in
-    let value : number (take k (drop o b.bits)) ≡ seen / 2 ^ s % 2 ^ k = field_in b.bits o k s n e le ∙ ap (λ (v : ℕ). v / 2 ^ s % 2 ^ k) is in
+    let value : number (take k (drop o b.bits)) ≡ seen / 2 ^ s % 2 ^ k = field_in b.bits o k s n e le
+        ∙ ap (λ (v : ℕ). v / 2 ^ s % 2 ^ k) is in
     rw (enough, value) (ap (λ (c : Bits). Ok (seen / 2 ^ s % 2 ^ k, c)) (skip-skip o k b))
 
 all_codes : list_all is_code EVENTS ≡ true
@@ -88,10 +94,13 @@ abbrev none : Code
 none = record { bits = 0; len = 0 }
 
 -- the code that the first twelve of n bits begin with is the word that they begin with
-pub named_word : (n seen place : ℕ) → 12 ≤ n → place < 103 → starts (seen / 2 ^ (n - 12)) 12 (code_at EVENTS place) ≡ true → IsWordIn n seen (event_at place) (code_at EVENTS place).len
+pub named_word : (n seen place : ℕ) → 12 ≤ n → place < 103 → starts (seen / 2 ^ (n - 12)) 12 (code_at EVENTS place)
+    ≡ true → IsWordIn n seen (event_at place) (code_at EVENTS place).len
 named_word n seen place le lt there b enough is =
-    let twelve : seen / 2 ^ (n - 12) ≡ number (take 12 b.bits) = sym (front_number b.bits 12 n le enough ∙ ap (λ (v : ℕ). v / 2 ^ (n - 12)) is) in
-    let stands = named_stands EVENTS b.bits 12 (seen / 2 ^ (n - 12)) place all_codes apart (omega arith) twelve lt there in
+    let twelve : seen / 2 ^ (n - 12) ≡ number (take 12 b.bits) = sym (front_number b.bits 12 n le enough
+        ∙ ap (λ (v : ℕ). v / 2 ^ (n - 12)) is) in
+    let stands = named_stands EVENTS b.bits 12 (seen / 2 ^ (n - 12)) place all_codes apart (omega arith) twelve lt there
+        in
     found b (skip (code_at EVENTS place).len b) place (event_at place) (word_found EVENTS place b none stands) refl
 
 pub word_short : (seen : ℕ) (c : Code) → starts seen 12 c ≡ true → c.len ≤ 12
@@ -122,22 +131,28 @@ level_of_fits n lt ne =
     ]
 
 -- a word and its sign
-pub word_read : (b : Bits) (e : Event) (len seen : ℕ) (z : ℤ) → len ≤ 12 → IsWordIn 13 seen (Some e) len → 13 ≤ length b.bits → number (take 13 b.bits) ≡ seen → z ≡ signed (seen / 2 ^ (12 - len) % 2) e.size
+pub word_read : (b : Bits) (e : Event) (len seen : ℕ) (z : ℤ) → len ≤ 12 → IsWordIn 13 seen (Some e) len
+    → 13 ≤ length b.bits → number (take 13 b.bits) ≡ seen → z ≡ signed (seen / 2 ^ (12 - len) % 2) e.size
     → reading event_parts b ≡ Ok (record { last = e.last; run = e.run; level = z }, skip (len + 1) b)
 unfolding reading event_parts event_table
 word_read b e len seen z short word enough is value =
-    let sign : number_at 1 (skip len b) ≡ Ok (seen / 2 ^ (12 - len) % 2, skip (len + 1) b) = field_there b 13 len 1 (12 - len) seen (omega arith) enough is in
+    let sign : number_at 1 (skip len b) ≡ Ok (seen / 2 ^ (12 - len) % 2, skip (len + 1) b) =
+        field_there b 13 len 1 (12 - len) seen (omega arith) enough is in
     rw (word b enough is, sign, value) refl
 
 -- the escape and its fields
-pub escape_read : (b : Bits) (seen : ℕ) (z : ℤ) → IsWordIn 22 seen None 7 → (seen % 256 ≡ 0 → ⊥) → (seen % 256 ≡ 128 → ⊥) → 22 ≤ length b.bits → number (take 22 b.bits) ≡ seen → z ≡ level_of (seen % 256)
-    → reading event_parts b ≡ Ok (record { last = eqb (seen / 2 ^ 14 % 2) 1; run = seen / 2 ^ 8 % 64; level = z }, skip 22 b)
+pub escape_read : (b : Bits) (seen : ℕ) (z : ℤ) → IsWordIn 22 seen None 7 → (seen % 256 ≡ 0 → ⊥)
+    → (seen % 256 ≡ 128 → ⊥) → 22 ≤ length b.bits → number (take 22 b.bits) ≡ seen → z ≡ level_of (seen % 256)
+    → reading event_parts b ≡ Ok (record { last = eqb (seen / 2 ^ 14 % 2) 1; run = seen / 2 ^ 8 % 64; level = z },
+        skip 22 b)
 unfolding reading event_parts event_table
 escape_read b seen z word some great enough is value =
-    let last : number_at 1 (skip 7 b) ≡ Ok (seen / 2 ^ 14 % 2, skip 8 b) = field_there b 22 7 1 14 seen refl enough is in
+    let last : number_at 1 (skip 7 b) ≡ Ok (seen / 2 ^ 14 % 2, skip 8 b) = field_there b 22 7 1 14 seen
+        refl enough is in
     let run : number_at 6 (skip 8 b) ≡ Ok (seen / 2 ^ 8 % 64, skip 14 b) = field_there b 22 8 6 8 seen refl enough is in
     let whole : seen / 2 ^ 0 ≡ seen = omega arith in
-    let level : number_at 8 (skip 14 b) ≡ Ok (seen % 256, skip 22 b) = field_there b 22 14 8 0 seen refl enough is ∙ ap (λ (v : ℕ). Ok (v % 256, skip 22 b)) whole in
+    let level : number_at 8 (skip 14 b) ≡ Ok (seen % 256, skip 22 b) = field_there b 22 14 8 0 seen refl enough is
+        ∙ ap (λ (v : ℕ). Ok (v % 256, skip 22 b)) whole in
     rw (word b enough is, last, run, level, ne_eqb (seen % 256) 0 some, ne_eqb (seen % 256) 128 great, value) refl
 
 -- an event is read where its parts are
@@ -146,7 +161,8 @@ unfolding event reading
 event_read b c x e = rw e refl
 
 -- what the number of the first bits tells of all bits that begin so, it tells of these
-pub next_event : (n seen : ℕ) (b : Bits) (o : Option SeenEvent) → IfSome o (λ found. IsEventIn n seen found) → n ≤ length b.bits → number (take n b.bits) ≡ seen → IfSome o (IsNextEvent b)
+pub next_event : (n seen : ℕ) (b : Bits) (o : Option SeenEvent) → IfSome o (λ found. IsEventIn n seen found)
+    → n ≤ length b.bits → number (take n b.bits) ≡ seen → IfSome o (IsNextEvent b)
 next_event n seen b None all enough is = tt
 next_event n seen b (Some found) all enough is =
     let first = all b enough is in

@@ -19,7 +19,8 @@ use Rattle.code_tables.proofs.Texts.{magnitude_text}
 use Rattle.code_tables.proofs.Rows.{event_word}
 
 -- that number has the bits of the word, and then the sign
-pub signed_word : (len bits : ℕ) (minus : Bool) → spelled (len + 1) (2 * bits + bool_byte minus) ≡ spelled len bits ++ minus ∷ []
+pub signed_word : (len bits : ℕ) (minus : Bool) → spelled (len + 1) (2 * bits + bool_byte minus) ≡ spelled len bits
+    ++ minus ∷ []
 unfolding spelled
 signed_word len bits true =
     let same : 2 * bits + 1 ≡ bits * 2 ^ 1 + 1 = omega arith in
@@ -33,13 +34,16 @@ pub signed_fits : (len bits : ℕ) (minus : Bool) → bits < 2 ^ len → 2 * bit
 signed_fits len bits true fits = omega (arith, fits, pow-add 2 len 1)
 signed_fits len bits false fits = omega (arith, fits, pow-add 2 len 1)
 
-code_in : (codes : List Code) (k : ℕ) (d : Code) → list_all is_code codes ≡ true → k < length codes → is_code (get_or codes k d) ≡ true
+code_in : (codes : List Code) (k : ℕ) (d : Code) → list_all is_code codes ≡ true → k < length codes
+    → is_code (get_or codes k d) ≡ true
 code_in [] k d all lt = absurd (omega arith)
 code_in (c ∷ codes) zero d all lt = (and_both (is_code c) (list_all is_code codes) all).0
-code_in (c ∷ codes) (suc k) d all lt = code_in codes k d (and_both (is_code c) (list_all is_code codes) all).1 (omega arith)
+code_in (c ∷ codes) (suc k) d all lt = code_in codes k d (and_both (is_code c) (list_all is_code codes) all).1
+    (omega arith)
 
 -- a code of a table has fewer than 16 bits
-pub code_fits : (codes : List Code) (k : ℕ) (d : Code) → list_all is_code codes ≡ true → k < length codes → ((get_or codes k d).len < 16) × ((get_or codes k d).bits < 2 ^ (get_or codes k d).len)
+pub code_fits : (codes : List Code) (k : ℕ) (d : Code) → list_all is_code codes ≡ true → k < length codes
+    → ((get_or codes k d).len < 16) × ((get_or codes k d).bits < 2 ^ (get_or codes k d).len)
 code_fits codes k d all lt =
     let c = get_or codes k d in
     let p = and_both (ltb c.len 16) (ltb c.bits (2 ^ c.len)) (code_in codes k d all lt) in
@@ -59,17 +63,22 @@ no_sign (pos n) e = rw e refl
 no_sign (negsuc n) e = absurd (omega (arith, e))
 
 -- an event that has a word: the word and the sign
-pub signed_event : (e : Coefficient) (n p : ℕ) → n ≡ size_of e.level → 0 < size_of e.level → place_in (starts_of e.last) e.run n ≡ Some p → word_of (code_at EVENTS p) ++ int_lt e.level (pos 0) ∷ [] ≡ event_text e
-signed_event e n p same some at = ap (λ (t : List Bool). word_of (code_at EVENTS p) ++ t) (sym (sign_is e.level some)) ∙ event_word e n p same some at
+pub signed_event : (e : Coefficient) (n p : ℕ) → n ≡ size_of e.level → 0 < size_of e.level
+    → place_in (starts_of e.last) e.run n ≡ Some p → word_of (code_at EVENTS p) ++ int_lt e.level (pos 0) ∷ []
+    ≡ event_text e
+signed_event e n p same some at = ap (λ (t : List Bool). word_of (code_at EVENTS p) ++ t) (sym (sign_is e.level some))
+    ∙ event_word e n p same some at
 
 -- a difference of vectors: the word of 0 alone, and else the word of the size and the sign
 pub no_difference : (v : ℤ) (n : ℕ) → n ≡ size_of v → n ≡ 0 → word_of (code_at MAGNITUDES n) ≡ mvd_text v
 unfolding mvd_text
 no_difference v n same none =
     magnitude_text n (omega (arith, none)) ∙ ap (text_at magnitude_texts) same
-    ∙ sym (append-nil (text_at magnitude_texts (size_of v))) ∙ ap (λ (t : List Bool). text_at magnitude_texts (size_of v) ++ t) (sym (no_sign v (sym same ∙ none)))
+    ∙ sym (append-nil (text_at magnitude_texts (size_of v)))
+        ∙ ap (λ (t : List Bool). text_at magnitude_texts (size_of v) ++ t) (sym (no_sign v (sym same ∙ none)))
 
-pub signed_difference : (v : ℤ) (n : ℕ) → n ≡ size_of v → 0 < n → n < 33 → word_of (code_at MAGNITUDES n) ++ int_lt v (pos 0) ∷ [] ≡ mvd_text v
+pub signed_difference : (v : ℤ) (n : ℕ) → n ≡ size_of v → 0 < n → n < 33 → word_of (code_at MAGNITUDES n)
+    ++ int_lt v (pos 0) ∷ [] ≡ mvd_text v
 unfolding mvd_text
 signed_difference v n same some few =
     ap (λ (t : List Bool). t ++ int_lt v (pos 0) ∷ []) (magnitude_text n few ∙ ap (text_at magnitude_texts) same)
@@ -83,21 +92,27 @@ size_below (negsuc n) low high = omega (arith, ints)
 -- ---- an escape
 
 escape_text : (last run byte : ℕ) → last < 2 → run < 64 → byte < 256
-    → spelled 22 (((6 + last) * 64 + run) * 256 + byte) ≡ spelled 7 3 ++ (spelled 1 last ++ (spelled 6 run ++ (spelled 8 byte ++ [])))
+    → spelled 22 (((6 + last) * 64 + run) * 256 + byte) ≡ spelled 7 3
+        ++ (spelled 1 last ++ (spelled 6 run ++ (spelled 8 byte ++ [])))
 escape_text last run byte l r b =
     let same : ((6 + last) * 64 + run) * 256 + byte ≡ ((3 * 2 ^ 1 + last) * 2 ^ 6 + run) * 2 ^ 8 + byte = omega arith in
     ap (spelled 22) same
     ∙ spelled-append 14 8 ((3 * 2 ^ 1 + last) * 2 ^ 6 + run) byte (omega arith)
-    ∙ ap (λ (t : List Bool). t ++ spelled 8 byte) (spelled-append 8 6 (3 * 2 ^ 1 + last) run (omega arith) ∙ ap (λ (t : List Bool). t ++ spelled 6 run) (spelled-append 7 1 3 last (omega arith)))
+    ∙ ap (λ (t : List Bool). t ++ spelled 8 byte) (spelled-append 8 6 (3 * 2 ^ 1 + last) run (omega arith)
+        ∙ ap (λ (t : List Bool). t ++ spelled 6 run) (spelled-append 7 1 3 last (omega arith)))
     ∙ append_assoc (spelled 7 3 ++ spelled 1 last) (spelled 6 run) (spelled 8 byte)
     ∙ append_assoc (spelled 7 3) (spelled 1 last) (spelled 6 run ++ spelled 8 byte)
-    ∙ ap (λ (t : List Bool). spelled 7 3 ++ (spelled 1 last ++ (spelled 6 run ++ t))) (sym (append-nil (spelled 8 byte)))
+    ∙ ap (λ (t : List Bool). spelled 7 3 ++ (spelled 1 last ++ (spelled 6 run ++ t)))
+        (sym (append-nil (spelled 8 byte)))
 
 -- the four fields of an escape are the bits of one number
-pub escape_is : (last : Bool) (run byte : ℕ) → run < 64 → byte < 256 → spelled 22 (((6 + bool_byte last) * 64 + run) * 256 + byte) ≡ fields ((7, 3) ∷ (1, bit_of last) ∷ (6, run) ∷ (8, byte) ∷ [])
+pub escape_is : (last : Bool) (run byte : ℕ) → run < 64 → byte < 256
+    → spelled 22 (((6 + bool_byte last) * 64 + run) * 256 + byte)
+    ≡ fields ((7, 3) ∷ (1, bit_of last) ∷ (6, run) ∷ (8, byte) ∷ [])
 escape_is true run byte r b = escape_text 1 run byte (omega arith) r b
 escape_is false run byte r b = escape_text 0 run byte (omega arith) r b
 
-pub escape_fits : (last : Bool) (run byte : ℕ) → run < 64 → byte < 256 → ((6 + bool_byte last) * 64 + run) * 256 + byte < 2 ^ 22
+pub escape_fits : (last : Bool) (run byte : ℕ) → run < 64 → byte < 256
+    → ((6 + bool_byte last) * 64 + run) * 256 + byte < 2 ^ 22
 escape_fits true run byte r b = omega arith
 escape_fits false run byte r b = omega arith

@@ -24,7 +24,8 @@ in_right x (z ∷ xs) ys h = inr (in_right x xs ys h)
 abbrev stands : Bool → ℕ → ℕ → Option Event
 stands last run size = Some (record { last = last; run = run; size = size })
 
-in_row_words : (last : Bool) (run k i : ℕ) (row : List (List Bool)) (w : List Bool) → slice_get row i ≡ Some w → IsIn (w, stands last run (k + i)) (sized last run k row)
+in_row_words : (last : Bool) (run k i : ℕ) (row : List (List Bool)) (w : List Bool) → slice_get row i ≡ Some w
+    → IsIn (w, stands last run (k + i)) (sized last run k row)
 in_row_words last run k i [] w e = cc
 in_row_words last run k zero (t ∷ row) w e =
     let same : t ≡ w = cc in
@@ -32,66 +33,85 @@ in_row_words last run k zero (t ∷ row) w e =
     inl (ap (λ (u : List Bool). (u, stands last run k)) same ∙ ap (λ (n : ℕ). (w, stands last run n)) size)
 in_row_words last run k (suc i) (t ∷ row) w e =
     let size : k + 1 + i ≡ k + suc i = omega arith in
-    inr (subst (λ (n : ℕ). IsIn (w, stands last run n) (sized last run (k + 1) row)) size (in_row_words last run (k + 1) i row w e))
+    inr (subst (λ (n : ℕ). IsIn (w, stands last run n) (sized last run (k + 1) row)) size
+        (in_row_words last run (k + 1) i row w e))
 
-in_runs : (last : Bool) (k run i : ℕ) (rows : List (List (List Bool))) (row : List (List Bool)) (w : List Bool) → slice_get rows run ≡ Some row → slice_get row i ≡ Some w → IsIn (w, stands last (k + run) (1 + i)) (from_runs last k rows)
+in_runs : (last : Bool) (k run i : ℕ) (rows : List (List (List Bool))) (row : List (List Bool)) (w : List Bool)
+    → slice_get rows run ≡ Some row → slice_get row i ≡ Some w
+    → IsIn (w, stands last (k + run) (1 + i)) (from_runs last k rows)
 in_runs last k run i [] row w at e = cc
 in_runs last k zero i (r ∷ rows) row w at e =
     let same : r ≡ row = cc in
     let first : slice_get r i ≡ Some w = ap (λ (s : List (List Bool)). slice_get s i) same ∙ e in
     let number : k ≡ k + 0 = omega arith in
-    in_left _ (sized last k 1 r) (from_runs last (k + 1) rows) (subst (λ (n : ℕ). IsIn (w, stands last n (1 + i)) (sized last k 1 r)) number (in_row_words last k 1 i r w first))
+    in_left _ (sized last k 1 r) (from_runs last (k + 1) rows)
+        (subst (λ (n : ℕ). IsIn (w, stands last n (1 + i)) (sized last k 1 r)) number
+        (in_row_words last k 1 i r w first))
 in_runs last k (suc run) i (r ∷ rows) row w at e =
     let number : k + 1 + run ≡ k + suc run = omega arith in
-    in_right _ (sized last k 1 r) (from_runs last (k + 1) rows) (subst (λ (n : ℕ). IsIn (w, stands last n (1 + i)) (from_runs last (k + 1) rows)) number (in_runs last (k + 1) run i rows row w at e))
+    in_right _ (sized last k 1 r) (from_runs last (k + 1) rows)
+        (subst (λ (n : ℕ). IsIn (w, stands last n (1 + i)) (from_runs last (k + 1) rows)) number
+        (in_runs last (k + 1) run i rows row w at e))
 
 -- the words of a LAST are among all
 in_all : (last : Bool) (x : List Bool × Option Event) → IsIn x (from_runs last 0 (rows_of last)) → IsIn x tcoef_words
 unfolding tcoef_words
-in_all false x h = in_left x (from_runs false 0 last_0_texts ++ from_runs true 0 last_1_texts) ((word "0000011", None) ∷ []) (in_left x (from_runs false 0 last_0_texts) (from_runs true 0 last_1_texts) h)
-in_all true x h = in_left x (from_runs false 0 last_0_texts ++ from_runs true 0 last_1_texts) ((word "0000011", None) ∷ []) (in_right x (from_runs false 0 last_0_texts) (from_runs true 0 last_1_texts) h)
+in_all false x h = in_left x (from_runs false 0 last_0_texts ++ from_runs true 0 last_1_texts)
+    ((word "0000011", None) ∷ []) (in_left x (from_runs false 0 last_0_texts) (from_runs true 0 last_1_texts) h)
+in_all true x h = in_left x (from_runs false 0 last_0_texts ++ from_runs true 0 last_1_texts)
+    ((word "0000011", None) ∷ []) (in_right x (from_runs false 0 last_0_texts) (from_runs true 0 last_1_texts) h)
 
 escape_in : IsIn (word "0000011", None) tcoef_words
 unfolding tcoef_words
-escape_in = in_right (word "0000011", None) (from_runs false 0 last_0_texts ++ from_runs true 0 last_1_texts) ((word "0000011", None) ∷ []) (inl refl)
+escape_in = in_right (word "0000011", None) (from_runs false 0 last_0_texts ++ from_runs true 0 last_1_texts)
+    ((word "0000011", None) ∷ []) (inl refl)
 
 -- the word of a triple is in the table
-triple_in : (last : Bool) (run size : ℕ) (w : List Bool) → 0 < size → triple_text last run size ≡ Some w → IsIn (w, stands last run size) tcoef_words
+triple_in : (last : Bool) (run size : ℕ) (w : List Bool) → 0 < size → triple_text last run size ≡ Some w
+    → IsIn (w, stands last run size) tcoef_words
 unfolding triple_text
 triple_in last run size w some e = go (slice_get (rows_of last) run) refl e
   where
-    go : (o : Option (List (List Bool))) → slice_get (rows_of last) run ≡ o → option_and_then (λ row. slice_get row (size - 1)) o ≡ Some w → IsIn (w, stands last run size) tcoef_words
+    go : (o : Option (List (List Bool))) → slice_get (rows_of last) run ≡ o
+        → option_and_then (λ row. slice_get row (size - 1)) o ≡ Some w → IsIn (w, stands last run size) tcoef_words
     go None at got = cc
     go (Some row) at got =
         let number : 0 + run ≡ run = omega arith in
         let whole : 1 + (size - 1) ≡ size = omega arith in
         in_all last (w, stands last run size)
         (subst (λ (n : ℕ). IsIn (w, stands last n size) (from_runs last 0 (rows_of last))) number
-        (subst (λ (n : ℕ). IsIn (w, stands last (0 + run) n) (from_runs last 0 (rows_of last))) whole (in_runs last 0 run (size - 1) (rows_of last) row w at got)))
+        (subst (λ (n : ℕ). IsIn (w, stands last (0 + run) n) (from_runs last 0 (rows_of last))) whole
+            (in_runs last 0 run (size - 1) (rows_of last) row w at got)))
 
 -- ---- a word with its sign
 
 abbrev with_level : Bool → ℕ → ℤ → Coefficient
 with_level last run level = record { last = last; run = run; level = level }
 
-one_sign : (last : Bool) (run size sign : ℕ) (level : ℤ) (text : List Bool) → sign < 2 → spelled 1 sign ≡ text → level ≡ signed sign size → Spells (after_word (stands last run size)) (with_level last run level) text
+one_sign : (last : Bool) (run size sign : ℕ) (level : ℤ) (text : List Bool) → sign < 2 → spelled 1 sign ≡ text
+    → level ≡ signed sign size → Spells (after_word (stands last run size)) (with_level last run level) text
 one_sign last run size sign level text lt same is =
-    spells_whole (after_word (stands last run size)) (with_level last run level) (spelled 1 sign ++ []) text (append-nil _ ∙ same)
+    spells_whole (after_word (stands last run size)) (with_level last run level) (spelled 1 sign
+        ++ []) text (append-nil _ ∙ same)
     (spells_field 1 any (λ s. done (with_level last run (signed s size))) (with_level last run level) sign [] lt refl
-    (subst (λ (z : ℤ). Spells (done (with_level last run z)) (with_level last run level) []) is (spells_done (with_level last run level))))
+    (subst (λ (z : ℤ). Spells (done (with_level last run z)) (with_level last run level) []) is
+        (spells_done (with_level last run level))))
 
-signed_level : (last : Bool) (run : ℕ) (level : ℤ) → 0 < size_of level → Spells (after_word (stands last run (size_of level))) (with_level last run level) (sign_text level)
+signed_level : (last : Bool) (run : ℕ) (level : ℤ) → 0 < size_of level
+    → Spells (after_word (stands last run (size_of level))) (with_level last run level) (sign_text level)
 unfolding spelled
 signed_level last run (pos zero) some = absurd (omega arith)
 signed_level last run (pos (suc n)) some =
     let not_zero : eqb (suc n) 0 ≡ false = ne_eqb (suc n) 0 (λ (e : suc n ≡ 0). omega (arith, e)) in
     let text : sign_text (pos (suc n)) ≡ false ∷ [] = rw not_zero refl in
-    subst (λ (t : List Bool). Spells (after_word (stands last run (suc n))) (with_level last run (pos (suc n))) t) (sym text) (one_sign last run (suc n) 0 (pos (suc n)) (false ∷ []) (omega arith) refl refl)
+    subst (λ (t : List Bool). Spells (after_word (stands last run (suc n))) (with_level last run (pos (suc n))) t)
+        (sym text) (one_sign last run (suc n) 0 (pos (suc n)) (false ∷ []) (omega arith) refl refl)
 signed_level last run (negsuc n) some = one_sign last run (suc n) 1 (negsuc n) (true ∷ []) (omega arith) refl refl
 
 -- ---- an escape
 
-level_back : (z : ℤ) → 0 < size_of z → size_of z < 128 → (z ≡ level_of (byte_of z)) × (allowed_level (byte_of z) ≡ None) × (byte_of z < 256)
+level_back : (z : ℤ) → 0 < size_of z → size_of z < 128 → (z ≡ level_of (byte_of z)) × (allowed_level (byte_of z) ≡ None)
+    × (byte_of z < 256)
 level_back (pos n) some lt =
     let a : eqb n 0 ≡ false = ne_eqb n 0 (λ (e : n ≡ 0). omega (arith, e)) in
     let b : eqb n 128 ≡ false = ne_eqb n 128 (λ (e : n ≡ 128). omega (arith, e)) in
@@ -114,17 +134,21 @@ escape_spelled : (e : Coefficient) → IsEvent e → Spells event_parts e (field
 unfolding event_parts event_table spelled
 escape_spelled e is =
     let back = level_back e.level is.some is.level in
-    let same : e ≡ record { last = eqb (bit_of e.last) 1; run = e.run; level = level_of (byte_of e.level) } = ap (λ (b : Bool). with_level b e.run e.level) (last_back e.last) ∙ ap (λ (z : ℤ). with_level (eqb (bit_of e.last) 1) e.run z) back.0 in
+    let same : e ≡ record { last = eqb (bit_of e.last) 1; run = e.run; level = level_of (byte_of e.level) } =
+        ap (λ (b : Bool). with_level b e.run e.level) (last_back e.last)
+        ∙ ap (λ (z : ℤ). with_level (eqb (bit_of e.last) 1) e.run z) back.0 in
     spells_code event_table after_word e (word "0000011") None _ escape_in
     (spells_field 1 any _ e (bit_of e.last) _ (bit_small e.last) refl
     (spells_field 6 any _ e e.run _ is.run refl
     (spells_field 8 allowed_level _ e (byte_of e.level) [] back.2 back.1
     (subst (λ (f : Coefficient). Spells (done f) e []) same (spells_done e)))))
 
-word_spelled : (e : Coefficient) → IsEvent e → (w : List Bool) → triple_text e.last e.run (size_of e.level) ≡ Some w → Spells event_parts e (w ++ sign_text e.level)
+word_spelled : (e : Coefficient) → IsEvent e → (w : List Bool) → triple_text e.last e.run (size_of e.level) ≡ Some w
+    → Spells event_parts e (w ++ sign_text e.level)
 unfolding event_parts event_table
 word_spelled e is w at =
-    spells_code event_table after_word e w (stands e.last e.run (size_of e.level)) (sign_text e.level) (triple_in e.last e.run (size_of e.level) w is.some at) (signed_level e.last e.run e.level is.some)
+    spells_code event_table after_word e w (stands e.last e.run (size_of e.level)) (sign_text e.level)
+        (triple_in e.last e.run (size_of e.level) w is.some at) (signed_level e.last e.run e.level is.some)
 
 -- ---- both
 
@@ -132,15 +156,18 @@ parts_written : (e : Coefficient) → IsEvent e → Spells event_parts e (event_
 unfolding event_text
 parts_written e is = go (triple_text e.last e.run (size_of e.level)) refl
   where
-    go : (o : Option (List Bool)) → triple_text e.last e.run (size_of e.level) ≡ o → Spells event_parts e (word_or_escape e o)
+    go : (o : Option (List Bool)) → triple_text e.last e.run (size_of e.level) ≡ o
+        → Spells event_parts e (word_or_escape e o)
     go None at = escape_spelled e is
     go (Some w) at = word_spelled e is w at
 
 pub event_written : (e : Coefficient) → IsEvent e → Spells event e (event_text e)
 unfolding event
 event_written e is =
-    spells_whole event e (event_text e ++ []) _ (append-nil _) (spells_element event_parts any (λ f. done f) e e (event_text e) [] (parts_written e is) refl (spells_done e))
+    spells_whole event e (event_text e ++ []) _ (append-nil _) (spells_element event_parts any (λ f. done f) e e
+        (event_text e) [] (parts_written e is) refl (spells_done e))
 
 -- the texts that are written of the events spell them
 pub are_spelt : AreSpelt
-are_spelt = record { mcbpc = mcbpc_written; cbpy = cbpy_written; dquant = dquant_written; mvd = mvd_written; event = event_written }
+are_spelt = record { mcbpc = mcbpc_written; cbpy = cbpy_written; dquant = dquant_written; mvd = mvd_written;
+    event = event_written }

@@ -29,11 +29,13 @@ is_meant packed (Some l) =
 abbrev pub is_packed_at : ℕ → ℕ → ℕ → Option ℕ → Bool
 is_packed_at width front packed None = false
 is_packed_at width front packed (Some place) =
-    starts front width (code_at EVENTS place) && (((code_at EVENTS place).len == packed_len packed) && is_meant packed (slice_get LEVELS place))
+    starts front width (code_at EVENTS place) && (((code_at EVENTS place).len == packed_len packed) && is_meant packed
+        (slice_get LEVELS place))
 
 -- whether `width` bits begin with the word of what is packed
 abbrev pub is_packed : ℕ → ℕ → ℕ → Bool
-is_packed width front packed = is_packed_at width front packed (place_in (starts_of (packed_last packed)) (packed_run packed) (packed_size packed))
+is_packed width front packed = is_packed_at width front packed (place_in (starts_of (packed_last packed))
+    (packed_run packed) (packed_size packed))
 
 -- the same for each prefix from one on, where 0 is no event
 abbrev pub are_packed : ℕ → ℕ → List ℕ → Bool

@@ -16,7 +16,8 @@ both true true e = (refl, refl)
 both true false e = cc
 both false b e = cc
 
-pub number_short : (most : ℕ) (text : Text) → is_number most text ≡ true → (0 < length text) × (length text ≤ most) × (list_all is_ascii_digit text ≡ true)
+pub number_short : (most : ℕ) (text : Text) → is_number most text ≡ true → (0 < length text) × (length text ≤ most)
+    × (list_all is_ascii_digit text ≡ true)
 number_short most text h =
     let first = both (nat_lt 0 (length text)) (nat_le (length text) most && list_all is_ascii_digit text) h in
     let second = both (nat_le (length text) most) (list_all is_ascii_digit text) first.1 in
@@ -27,7 +28,8 @@ number_below most text h =
     let s = number_short most text h in
     digits_value_short own text most s.2 s.1
 
-pub number_read : (E : Type 0) (most : ℕ) (text : Text) (r : Result ℕ E) → is_number most text ≡ true → most ≤ 9 → ParsesUnsigned 32 10 text r → r ≡ Ok (digits_value 10 text)
+pub number_read : (E : Type 0) (most : ℕ) (text : Text) (r : Result ℕ E) → is_number most text ≡ true → most ≤ 9
+    → ParsesUnsigned 32 10 text r → r ≡ Ok (digits_value 10 text)
 number_read E most text r h small parses =
     let s = number_short most text h in
     let short : length text ≤ 9 = omega arith in

@@ -18,12 +18,15 @@ asks : (row : Row) (words : List Text) (m : ArgMatches) → Finds m (taken row.p
     → asked_by row words ≡ asking_of row (first_value (found_of m))
 asks row words m finds = go (taken row.places row.options words) refl finds
   where
-    go : (o : Option (List Given)) → taken row.places row.options words ≡ o → Finds m o → asked_by row words ≡ asking_of row (first_value (found_of m))
+    go : (o : Option (List Given)) → taken row.places row.options words ≡ o → Finds m o
+        → asked_by row words ≡ asking_of row (first_value (found_of m))
     go None e f = absurd f
-    go (Some given) e f = ap (option_and_then (λ (g : List Given). asking_of row (value g))) e ∙ ap (asking_of row) (sym (fun_ext f))
+    go (Some given) e f = ap (option_and_then (λ (g : List Given). asking_of row (value g))) e
+        ∙ ap (asking_of row) (sym (fun_ext f))
 
 -- the command that was read, or none
-pub answered : (row : Row) (whole words : List Text) (m : ArgMatches) (o : Option Command) → asked whole ≡ asked_by row words
+pub answered : (row : Row) (whole words : List Text) (m : ArgMatches) (o : Option Command)
+    → asked whole ≡ asked_by row words
     → Finds m (taken row.places row.options words) → o ≡ row.asks (first_value (found_of m))
     → asked whole ≡ option_map (asking (first_value (found_of m))) o
 answered row whole words m o is finds same =

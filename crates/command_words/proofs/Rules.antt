@@ -76,14 +76,16 @@ filled_places i (p ∷ places) names switches h =
     rw next (ap (λ (rs : List Rule). place_at i p ∷ rs) (filled_places (suc i) places names switches small))
 
 pub filled_rules : (places : List Text) (options : Options) → length places ≤ 16
-    → filled_from 1 ((map place_rule places ++ map option_rule options.valued) ++ map switch_rule options.switches) ≡ rules_of places options
+    → filled_from 1 ((map place_rule places ++ map option_rule options.valued) ++ map switch_rule options.switches)
+        ≡ rules_of places options
 filled_rules places options h = filled_places 1 places options.valued options.switches (omega arith)
 
 -- ---- what is found
 
 -- an argument of this name has one value
 abbrev pub Known : List Rule → Text → Type 0
-Known c name = (required : Bool) × (long : Option Text) × (index : Option ℕ) × (arg_by_id c name ≡ Some (valued required long index name))
+Known c name = (required : Bool) × (long : Option Text) × (index : Option ℕ)
+    × (arg_by_id c name ≡ Some (valued required long index name))
 
 abbrev pub IsValued : Rule → Type 0
 IsValued a = (required : Bool) × (long : Option Text) × (index : Option ℕ) × (a ≡ valued required long index a.id)
@@ -105,10 +107,12 @@ known_by_id : (c : List Rule) (name : Text) → AllValued c → is_some (arg_by_
 known_by_id [] name all h = cc
 known_by_id (a ∷ c) name all h = go (bytes_eq a.id name) refl h (λ k. known_by_id c name all.1 k)
   where
-    go : (t : Bool) → bytes_eq a.id name ≡ t → is_some (arg_by_id (a ∷ c) name) ≡ true → (is_some (arg_by_id c name) ≡ true → Known c name) → Known (a ∷ c) name
+    go : (t : Bool) → bytes_eq a.id name ≡ t → is_some (arg_by_id (a ∷ c) name) ≡ true
+        → (is_some (arg_by_id c name) ≡ true → Known c name) → Known (a ∷ c) name
     go true e k rest =
         let same : a.id ≡ name = (bytes_eq-Decides a.id name).0 e in
-        let is : a ≡ valued all.0.0 all.0.1 all.0.2 name = all.0.3 ∙ ap (λ (n : Text). valued all.0.0 all.0.1 all.0.2 n) same in
+        let is : a ≡ valued all.0.0 all.0.1 all.0.2 name = all.0.3
+            ∙ ap (λ (n : Text). valued all.0.0 all.0.1 all.0.2 n) same in
         (all.0.0, all.0.1, all.0.2, rw e (ap (λ (x : Rule). Some x) is))
     go false e k rest =
         let found = rest (rw e at k) in
@@ -117,20 +121,24 @@ known_by_id (a ∷ c) name all h = go (bytes_eq a.id name) refl h (λ k. known_b
 pub same_bytes : (name : Text) → bytes_eq name name ≡ true
 same_bytes name = (bytes_eq-Decides name name).1 refl
 
-option_there : (options : List Text) (name : Text) → is_among options name ≡ true → is_some (arg_by_id (map option_at options) name) ≡ true
+option_there : (options : List Text) (name : Text) → is_among options name ≡ true
+    → is_some (arg_by_id (map option_at options) name) ≡ true
 option_there [] name h = cc
 option_there (o ∷ options) name h = go (bytes_eq o name) refl h (option_there options name)
   where
-    go : (t : Bool) → bytes_eq o name ≡ t → is_among (o ∷ options) name ≡ true → (is_among options name ≡ true → is_some (arg_by_id (map option_at options) name) ≡ true)
+    go : (t : Bool) → bytes_eq o name ≡ t → is_among (o ∷ options) name ≡ true
+        → (is_among options name ≡ true → is_some (arg_by_id (map option_at options) name) ≡ true)
         → is_some (arg_by_id (map option_at (o ∷ options)) name) ≡ true
     go true e k rest = rw e refl
     go false e k rest = rw e (rest (rw e at k))
 
-after_front : (front rest : List Rule) (name : Text) → is_some (arg_by_id rest name) ≡ true → is_some (arg_by_id (front ++ rest) name) ≡ true
+after_front : (front rest : List Rule) (name : Text) → is_some (arg_by_id rest name) ≡ true
+    → is_some (arg_by_id (front ++ rest) name) ≡ true
 after_front [] rest name h = h
 after_front (a ∷ front) rest name h = go (bytes_eq a.id name) refl (after_front front rest name h)
   where
-    go : (t : Bool) → bytes_eq a.id name ≡ t → is_some (arg_by_id (front ++ rest) name) ≡ true → is_some (arg_by_id (a ∷ (front ++ rest)) name) ≡ true
+    go : (t : Bool) → bytes_eq a.id name ≡ t → is_some (arg_by_id (front ++ rest) name) ≡ true
+        → is_some (arg_by_id (a ∷ (front ++ rest)) name) ≡ true
     go true e k = rw e refl
     go false e k = rw e k
 
@@ -147,14 +155,17 @@ options_no_index (o ∷ options) i = options_no_index options i
 abbrev Passes : List Rule → ℕ → Type 0
 Passes front i = (j : ℕ) → i ≤ j → (rest : List Rule) → arg_by_index (front ++ rest) j ≡ arg_by_index rest j
 
-passes_more : (front : List Rule) (i : ℕ) (name : Text) → Passes front i → Passes (front ++ place_at i name ∷ []) (suc i)
+passes_more : (front : List Rule) (i : ℕ) (name : Text) → Passes front i
+    → Passes (front ++ place_at i name ∷ []) (suc i)
 passes_more front i name h j le rest =
     let other : eqb i j ≡ false = ne_eqb i j (λ e. omega arith) in
     rw append_assoc (h j (omega arith) (place_at i name ∷ rest) ∙ rw other refl)
 
-left_of : (front : List Rule) (i : ℕ) (names options : List Text) (c : List Rule) → AllValued c → Passes front i → i + length names < 1000
+left_of : (front : List Rule) (i : ℕ) (names options : List Text) (c : List Rule) → AllValued c → Passes front i
+    → i + length names < 1000
     → c ≡ front ++ (places_from i names ++ map option_at options) → Left c i names
-left_of front i [] options c all h small is = rw is (h i (omega arith) (map option_at options) ∙ options_no_index options i)
+left_of front i [] options c all h small is = rw is (h i (omega arith) (map option_at options)
+    ∙ options_no_index options i)
 left_of front i (name ∷ names) options c all h small is =
     let rest = places_from (suc i) names ++ map option_at options in
     let here : arg_by_index (place_at i name ∷ rest) i ≡ Some (place_at i name) = rw ((Decides-eqb i i).1 refl) refl in
@@ -175,27 +186,34 @@ named_in options name =
     else if is_among options.switches name then Some (switch_at name)
     else None
 
-switches_by_long : (switches : List Text) (name : Text) → arg_by_long (map switch_at switches) name ≡ (if is_among switches name then Some (switch_at name) else None)
+switches_by_long : (switches : List Text) (name : Text) → arg_by_long (map switch_at switches) name
+    ≡ (if is_among switches name then Some (switch_at name) else None)
 switches_by_long [] name = refl
 switches_by_long (s ∷ switches) name = go (bytes_eq s name) refl (switches_by_long switches name)
   where
-    go : (t : Bool) → bytes_eq s name ≡ t → arg_by_long (map switch_at switches) name ≡ (if is_among switches name then Some (switch_at name) else None)
-        → arg_by_long (map switch_at (s ∷ switches)) name ≡ (if is_among (s ∷ switches) name then Some (switch_at name) else None)
+    go : (t : Bool) → bytes_eq s name ≡ t → arg_by_long (map switch_at switches) name
+        ≡ (if is_among switches name then Some (switch_at name) else None)
+        → arg_by_long (map switch_at (s ∷ switches)) name
+            ≡ (if is_among (s ∷ switches) name then Some (switch_at name) else None)
     go true e rest = rw e (ap (λ (n : Text). Some (switch_at n)) ((bytes_eq-Decides s name).0 e))
     go false e rest = rw e rest
 
 options_by_long : (names switches : List Text) (name : Text)
-    → arg_by_long (map option_at names ++ map switch_at switches) name ≡ named_in (record { valued = names; switches = switches }) name
+    → arg_by_long (map option_at names ++ map switch_at switches) name
+        ≡ named_in (record { valued = names; switches = switches }) name
 options_by_long [] switches name = switches_by_long switches name
 options_by_long (o ∷ names) switches name = go (bytes_eq o name) refl (options_by_long names switches name)
   where
-    go : (t : Bool) → bytes_eq o name ≡ t → arg_by_long (map option_at names ++ map switch_at switches) name ≡ named_in (record { valued = names; switches = switches }) name
-        → arg_by_long (map option_at (o ∷ names) ++ map switch_at switches) name ≡ named_in (record { valued = o ∷ names; switches = switches }) name
+    go : (t : Bool) → bytes_eq o name ≡ t → arg_by_long (map option_at names ++ map switch_at switches) name
+        ≡ named_in (record { valued = names; switches = switches }) name
+        → arg_by_long (map option_at (o ∷ names) ++ map switch_at switches) name
+            ≡ named_in (record { valued = o ∷ names; switches = switches }) name
     go true e rest = rw e (ap (λ (n : Text). Some (option_at n)) ((bytes_eq-Decides o name).0 e))
     go false e rest = rw e rest
 
 all_by_long : (i : ℕ) (places names switches : List Text) (name : Text)
-    → arg_by_long ((places_from i places ++ map option_at names) ++ map switch_at switches) name ≡ named_in (record { valued = names; switches = switches }) name
+    → arg_by_long ((places_from i places ++ map option_at names) ++ map switch_at switches) name
+        ≡ named_in (record { valued = names; switches = switches }) name
 all_by_long i [] names switches name = options_by_long names switches name
 all_by_long i (p ∷ places) names switches name = all_by_long (suc i) places names switches name
 
@@ -203,7 +221,8 @@ switches_by_short : (switches : List Text) (x : ℕ) → arg_by_short (map switc
 switches_by_short [] x = refl
 switches_by_short (s ∷ switches) x = switches_by_short switches x
 
-options_by_short : (names switches : List Text) (x : ℕ) → arg_by_short (map option_at names ++ map switch_at switches) x ≡ None
+options_by_short : (names switches : List Text) (x : ℕ) → arg_by_short (map option_at names ++ map switch_at switches) x
+    ≡ None
 options_by_short [] switches x = switches_by_short switches x
 options_by_short (o ∷ names) switches x = options_by_short names switches x
 
@@ -217,19 +236,23 @@ all_by_short i (p ∷ places) names switches x = all_by_short (suc i) places nam
 abbrev pub is_missing : List Given → Rule → Bool
 is_missing given a = a.required && not (is_given a.id (rows_for given))
 
-switches_missing : (switches : List Text) (given : List Given) → list_any (is_missing given) (map switch_at switches) ≡ false
+switches_missing : (switches : List Text) (given : List Given) → list_any (is_missing given) (map switch_at switches)
+    ≡ false
 switches_missing [] given = refl
 switches_missing (s ∷ switches) given = switches_missing switches given
 
-options_missing : (names switches : List Text) (given : List Given) → list_any (is_missing given) (map option_at names ++ map switch_at switches) ≡ false
+options_missing : (names switches : List Text) (given : List Given)
+    → list_any (is_missing given) (map option_at names ++ map switch_at switches) ≡ false
 options_missing [] switches given = switches_missing switches given
 options_missing (o ∷ names) switches given = options_missing names switches given
 
 missing : (i : ℕ) (places names switches : List Text) (given : List Given)
-    → list_any (is_missing given) ((places_from i places ++ map option_at names) ++ map switch_at switches) ≡ not (list_all (λ name. gives name given) places)
+    → list_any (is_missing given) ((places_from i places ++ map option_at names) ++ map switch_at switches)
+        ≡ not (list_all (λ name. gives name given) places)
 missing i [] names switches given = options_missing names switches given
 missing i (p ∷ places) names switches given =
-    rw (is_there p given, missing (suc i) places names switches given) (join (gives p given) (list_all (λ name. gives name given) places))
+    rw (is_there p given, missing (suc i) places names switches given)
+        (join (gives p given) (list_all (λ name. gives name given) places))
   where
     join : (a b : Bool) → (not a || not b) ≡ not (a && b)
     join true true = refl
@@ -242,7 +265,8 @@ abbrev pub HaveNoDefault : List Rule → Type 0
 HaveNoDefault [] = Unit {0}
 HaveNoDefault (a ∷ c) = (a.defaults ≡ []) × HaveNoDefault c
 
-default_none : (a : Rule) (rows : List Row) → a.defaults ≡ [] → (default_fault rows a ≡ []) × (with_default rows a ≡ rows)
+default_none : (a : Rule) (rows : List Row) → a.defaults ≡ [] → (default_fault rows a ≡ [])
+    × (with_default rows a ≡ rows)
 default_none a rows none = go (has_row a.id rows) refl
   where
     no_values : is_empty a.defaults ≡ true
@@ -252,7 +276,8 @@ default_none a rows none = go (has_row a.id rows) refl
     go true e = (rw e refl, rw e refl)
     go false e = (rw (e, no_values) refl, rw (e, none) refl)
 
-pub no_defaults : (c : List Rule) (rows : List Row) → HaveNoDefault c → (defaults_fault rows c ≡ []) × (fold with_default rows c ≡ rows)
+pub no_defaults : (c : List Rule) (rows : List Row) → HaveNoDefault c → (defaults_fault rows c ≡ [])
+    × (fold with_default rows c ≡ rows)
 unfolding defaults_fault
 no_defaults [] rows all = (refl, refl)
 no_defaults (a ∷ c) rows all =
@@ -268,17 +293,20 @@ options_plain : (names switches : List Text) → HaveNoDefault (map option_at na
 options_plain [] switches = switches_plain switches
 options_plain (o ∷ names) switches = (refl, options_plain names switches)
 
-all_plain : (i : ℕ) (places names switches : List Text) → HaveNoDefault ((places_from i places ++ map option_at names) ++ map switch_at switches)
+all_plain : (i : ℕ) (places names switches : List Text) → HaveNoDefault ((places_from i places ++ map option_at names)
+    ++ map switch_at switches)
 all_plain i [] names switches = options_plain names switches
 all_plain i (p ∷ places) names switches = (refl, all_plain (suc i) places names switches)
 
 -- ---- what is found before the switches is found
 
-first_by_id : (front rest : List Rule) (name : Text) (a : Rule) → arg_by_id front name ≡ Some a → arg_by_id (front ++ rest) name ≡ Some a
+first_by_id : (front rest : List Rule) (name : Text) (a : Rule) → arg_by_id front name ≡ Some a
+    → arg_by_id (front ++ rest) name ≡ Some a
 first_by_id [] rest name a h = absurd (cc h)
 first_by_id (b ∷ front) rest name a h = go (bytes_eq b.id name) refl h (first_by_id front rest name a)
   where
-    go : (t : Bool) → bytes_eq b.id name ≡ t → arg_by_id (b ∷ front) name ≡ Some a → (arg_by_id front name ≡ Some a → arg_by_id (front ++ rest) name ≡ Some a)
+    go : (t : Bool) → bytes_eq b.id name ≡ t → arg_by_id (b ∷ front) name ≡ Some a
+        → (arg_by_id front name ≡ Some a → arg_by_id (front ++ rest) name ≡ Some a)
         → arg_by_id (b ∷ (front ++ rest)) name ≡ Some a
     go true e k more = rw e (rw e at k)
     go false e k more = rw e (more (rw e at k))
@@ -290,16 +318,20 @@ switches_no_index : (switches : List Text) (i : ℕ) → arg_by_index (map switc
 switches_no_index [] i = refl
 switches_no_index (s ∷ switches) i = switches_no_index switches i
 
-first_by_index : (front rest : List Rule) (i : ℕ) (o : Option Rule) → arg_by_index rest i ≡ None → arg_by_index front i ≡ o → arg_by_index (front ++ rest) i ≡ o
+first_by_index : (front rest : List Rule) (i : ℕ) (o : Option Rule) → arg_by_index rest i ≡ None
+    → arg_by_index front i ≡ o → arg_by_index (front ++ rest) i ≡ o
 first_by_index [] rest i o none h = none ∙ h
-first_by_index (b ∷ front) rest i o none h = go (option_map_or (λ k. k == i) b.index false) refl h (first_by_index front rest i o none)
+first_by_index (b ∷ front) rest i o none h = go (option_map_or (λ k. k == i) b.index false) refl h
+    (first_by_index front rest i o none)
   where
-    go : (t : Bool) → option_map_or (λ k. k == i) b.index false ≡ t → arg_by_index (b ∷ front) i ≡ o → (arg_by_index front i ≡ o → arg_by_index (front ++ rest) i ≡ o)
+    go : (t : Bool) → option_map_or (λ k. k == i) b.index false ≡ t → arg_by_index (b ∷ front) i ≡ o
+        → (arg_by_index front i ≡ o → arg_by_index (front ++ rest) i ≡ o)
         → arg_by_index (b ∷ (front ++ rest)) i ≡ o
     go true e k more = rw e (rw e at k)
     go false e k more = rw e (more (rw e at k))
 
-left_first : (front : List Rule) (switches : List Text) (i : ℕ) (names : List Text) → Left front i names → Left (front ++ map switch_at switches) i names
+left_first : (front : List Rule) (switches : List Text) (i : ℕ) (names : List Text) → Left front i names
+    → Left (front ++ map switch_at switches) i names
 left_first front switches i [] l = first_by_index front (map switch_at switches) i None (switches_no_index switches i) l
 left_first front switches i (name ∷ names) l = (
   first_by_index front (map switch_at switches) i (Some (place_at i name)) (switches_no_index switches i) l.0,
@@ -330,4 +362,5 @@ setting_of places options = record {
 pub all_left : (places : List Text) (options : Options) → length places ≤ 16 → Left (rules_of places options) 1 places
 all_left places options h =
     left_first (valued_rules places options.valued) options.switches 1 places
-    (left_of [] 1 places options.valued (valued_rules places options.valued) (all_valued 1 places options.valued) (λ j le rest. refl) (omega arith) refl)
+    (left_of [] 1 places options.valued (valued_rules places options.valued) (all_valued 1 places options.valued)
+        (λ j le rest. refl) (omega arith) refl)

@@ -20,7 +20,8 @@ use Rattle.demo_command.specs.declared.terms.DemoTerms.{DemoTerms}
 use Rattle.demo_command.specs.Machine.{AreInPlace, LineReady}
 use Rattle.demo_command.proofs.Lines.{made_in_place, made_lines_few}
 
-pub ready_first : (m : Demo) → WayLaws m.terms.params → IsParams m.terms.params → IsNewNetwork m.terms.params (clocks.period_of m.terms.params.clock) m.network
+pub ready_first : (m : Demo) → WayLaws m.terms.params → IsParams m.terms.params
+    → IsNewNetwork m.terms.params (clocks.period_of m.terms.params.clock) m.network
     → length m.frame.items ≡ size_of_picture m.terms.params.format → m.both.sender.params ≡ m.terms.params
     → sender_end.Stands (steady m.terms.params) m.both.sender [] → m.both.sender.pace.quant ≡ m.terms.params.quant
     → m.both.sender.sent ≡ 0 → m.both.receiver.played ≡ 0 → LineReady m
@@ -30,28 +31,36 @@ ready_first m laws in_range new frame sender_params sends quant sent played =
       params = in_range;
       frame = frame;
       sender_params = sender_params;
-      can = laws.can (clocks.period_of m.terms.params.clock) (way_of m.network) m.both.sender in_range way sender_params sends quant sent;
+      can = laws.can (clocks.period_of m.terms.params.clock) (way_of m.network) m.both.sender in_range way sender_params
+          sends quant sent;
       period = way.period;
       few = omega (arith, sent);
       counted = way.total ∙ sym played;
     }
 
-pub first_in_place : (t : DemoTerms) (sent : ℕ) (lines : List Line) → t.frames ≤ 10000 → sent ≡ 0 → lines ≡ made_trace t.seed t.frames → AreInPlace 10000 sent lines
+pub first_in_place : (t : DemoTerms) (sent : ℕ) (lines : List Line) → t.frames ≤ 10000 → sent ≡ 0
+    → lines ≡ made_trace t.seed t.frames → AreInPlace 10000 sent lines
 first_in_place t sent lines few none is =
-    subst (λ (n : ℕ). AreInPlace 10000 n lines) (sym none) (subst (λ (l : List Line). AreInPlace 10000 0 l) (sym is) (made_in_place t.seed t.frames few))
+    subst (λ (n : ℕ). AreInPlace 10000 n lines) (sym none) (subst (λ (l : List Line). AreInPlace 10000 0 l) (sym is)
+        (made_in_place t.seed t.frames few))
 
-pub first_said : (t : DemoTerms) (said : ℕ) (lines : List Line) → t.frames ≤ 10000 → said ≡ 0 → lines ≡ made_trace t.seed t.frames → said + 400 * length lines < 2 ^ 64
+pub first_said : (t : DemoTerms) (said : ℕ) (lines : List Line) → t.frames ≤ 10000 → said ≡ 0
+    → lines ≡ made_trace t.seed t.frames → said + 400 * length lines < 2 ^ 64
 first_said t said lines few none is =
     let long : length lines ≡ length (made_trace t.seed t.frames) = ap (λ (l : List Line). length l) is in
     omega (arith, few, none, long, made_lines_few t.seed t.frames)
 
-pub first_plays : (t : DemoTerms) (played : ℕ) (lines : List Line) → t.frames ≤ 10000 → played ≡ 0 → lines ≡ made_trace t.seed t.frames → played + length lines ≤ 2 ^ 20
+pub first_plays : (t : DemoTerms) (played : ℕ) (lines : List Line) → t.frames ≤ 10000 → played ≡ 0
+    → lines ≡ made_trace t.seed t.frames → played + length lines ≤ 2 ^ 20
 first_plays t played lines few none is =
     let long : length lines ≡ length (made_trace t.seed t.frames) = ap (λ (l : List Line). length l) is in
     omega (arith, few, none, long, made_lines_few t.seed t.frames)
 
 -- a start that found no memory
-pub ends_starved : {Machine : Type 0} (r : Result Machine Status) (status : Status) (run : Run) (inputs : Role → List ℕ) (start : Role → Option (List ℕ)) (now : Outside)
-    → IsErrAnd r (λ x. x ≡ status) → HasEnded run silent status inputs start now → IfErr r (λ x. HasEnded run silent x inputs start now)
+pub ends_starved : {Machine : Type 0} (r : Result Machine Status) (status : Status) (run : Run) (inputs : Role
+    → List ℕ) (start : Role → Option (List ℕ)) (now : Outside)
+    → IsErrAnd r (λ x. x ≡ status) → HasEnded run silent status inputs start now
+        → IfErr r (λ x. HasEnded run silent x inputs start now)
 ends_starved (Ok m) status run inputs start now is ended = absurd is
-ends_starved (Err x) status run inputs start now is ended = subst (λ (y : Status). HasEnded run silent y inputs start now) (sym is) ended
+ends_starved (Err x) status run inputs start now is ended =
+    subst (λ (y : Status). HasEnded run silent y inputs start now) (sym is) ended

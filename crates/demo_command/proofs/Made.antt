@@ -40,7 +40,8 @@ as_many f (x ∷ xs) = ap (λ (n : ℕ). suc n) (as_many f xs)
 pub video_is : (t : DemoTerms) → length (made_video t) ≡ t.frames
 video_is t = as_many (made_frame t) (range_with_len 0 t.frames) ∙ length-range_with_len 0 t.frames
 
-frame_there : {X : Type 0} (f : ℕ → X) (from count n : ℕ) → n < count → slice_get (map f (range_with_len from count)) n ≡ Some (f (from + n))
+frame_there : {X : Type 0} (f : ℕ → X) (from count n : ℕ) → n < count → slice_get (map f (range_with_len from count)) n
+    ≡ Some (f (from + n))
 frame_there f from zero n lt = absurd (omega arith)
 frame_there f from (suc count) zero lt =
     let same : from ≡ from + 0 = omega arith in
@@ -57,7 +58,8 @@ frame_is t n lt =
 
 -- ---- events
 
-module _ {Style Mb Picture : Type 0} (pictures : Pictures Style Mb Picture) (rules : Rules) (source : Source Style Mb Picture) (left : ℕ) where
+module _ {Style Mb Picture : Type 0} (pictures : Pictures Style Mb Picture) (rules : Rules)
+    (source : Source Style Mb Picture) (left : ℕ) where
   abbrev Near : List Event → Type 0
   Near past = AllMayHappenFrom pictures rules source left past
 
@@ -65,7 +67,8 @@ module _ {Style Mb Picture : Type 0} (pictures : Pictures Style Mb Picture) (rul
   near_onto [] past near = near
   near_onto (e ∷ events) past near = (near_onto events (e ∷ past) near).1
 
-  pub near_before : (lines : List Line) (past : List Event) → Near (expanded pictures rules source past lines) → Near past
+  pub near_before : (lines : List Line) (past : List Event) → Near (expanded pictures rules source past lines)
+      → Near past
   unfolding expanded
   near_before [] past near = near
   near_before (l ∷ lines) past near =
@@ -77,15 +80,19 @@ module _ (t : DemoTerms) where
   p = t.params
 
   -- what the lines say after a line
-  pub after_line : (past : List Event) (line : Line) (lines : List Line) → made_events t past (line ∷ lines) ≡ made_events t (with_line t past line) lines
+  pub after_line : (past : List Event) (line : Line) (lines : List Line) → made_events t past (line ∷ lines)
+      ≡ made_events t (with_line t past line) lines
   unfolding expanded
   after_line past line lines = refl
 
-  pub near_line : (past : List Event) (line : Line) (lines : List Line) → AllMayHappen (coding p) (rules_of p) (steady p) (made_video t) (made_events t past (line ∷ lines))
+  pub near_line : (past : List Event) (line : Line) (lines : List Line)
+      → AllMayHappen (coding p) (rules_of p) (steady p) (made_video t) (made_events t past (line ∷ lines))
       → AllMayHappen (coding p) (rules_of p) (steady p) (made_video t) (with_line t past line)
   near_line past line lines near =
-      near_before (pictures_of (coding p)) (rules_of p) (encoded (coding p) (rules_of p) (steady p) (made_video t)) (length (made_video t)) lines (with_line t past line)
-      (subst (λ (l : List Event). AllMayHappen (coding p) (rules_of p) (steady p) (made_video t) l) (after_line past line lines) near)
+      near_before (pictures_of (coding p)) (rules_of p) (encoded (coding p) (rules_of p) (steady p) (made_video t))
+          (length (made_video t)) lines (with_line t past line)
+      (subst (λ (l : List Event). AllMayHappen (coding p) (rules_of p) (steady p) (made_video t) l)
+          (after_line past line lines) near)
 
 -- ---- slices
 
@@ -93,24 +100,29 @@ module _ {Style Mb Picture : Type 0} where
   abbrev HaveSlices : List (Coded Style Mb Picture) → Type 0
   HaveSlices coded = (n : ℕ) → n < length coded → 0 < length (slices_at coded n)
 
-  one_more : (coded : List (Coded Style Mb Picture)) (x : Coded Style Mb Picture) → HaveSlices coded → 0 < length x.slices → HaveSlices (coded ++ x ∷ [])
+  one_more : (coded : List (Coded Style Mb Picture)) (x : Coded Style Mb Picture) → HaveSlices coded
+      → 0 < length x.slices → HaveSlices (coded ++ x ∷ [])
   unfolding slices_at
   one_more [] x before some zero lt = some
   one_more [] x before some (suc n) lt = absurd (omega (arith, lt))
   one_more (y ∷ ys) x before some zero lt = before 0 (omega arith)
-  one_more (y ∷ ys) x before some (suc n) lt = one_more ys x (λ m below. before (suc m) (omega (arith, below))) some n (omega (arith, lt))
+  one_more (y ∷ ys) x before some (suc n) lt = one_more ys x (λ m below. before (suc m) (omega (arith, below))) some n
+      (omega (arith, lt))
 
-  if_more : (coded : List (Coded Style Mb Picture)) (o : Option (Coded Style Mb Picture)) → HaveSlices coded → ((x : Coded Style Mb Picture) → o ≡ Some x → 0 < length x.slices)
+  if_more : (coded : List (Coded Style Mb Picture)) (o : Option (Coded Style Mb Picture)) → HaveSlices coded
+      → ((x : Coded Style Mb Picture) → o ≡ Some x → 0 < length x.slices)
       → HaveSlices (coded ++ option_map_or (λ x. x ∷ []) o [])
   if_more coded None before some = subst HaveSlices (sym (append-nil coded)) before
   if_more coded (Some x) before some = one_more coded x before (some x refl)
 
-module _ (t : DemoTerms) (sound : EncoderIsSound (coding t.params) (rules_of t.params)) (rules : IsRules (rules_of t.params)) (paced : IsPace (steady t.params)) where
+module _ (t : DemoTerms) (sound : EncoderIsSound (coding t.params) (rules_of t.params))
+    (rules : IsRules (rules_of t.params)) (paced : IsPace (steady t.params)) where
   pub some_slices : (past : List Event) → HaveSlices (made_call t past).coded
   some_slices [] = λ n lt. absurd (omega (arith, lt))
   some_slices (Send ∷ past) =
       let c = made_call t past in
-      if_more c.coded (encoded (coding t.params) (rules_of t.params) (steady t.params) (made_video t) c) (some_slices past)
+      if_more c.coded (encoded (coding t.params) (rules_of t.params) (steady t.params) (made_video t) c)
+          (some_slices past)
       (λ x is.
       let covers = ((sound (steady t.params) (made_video t) (Send ∷ past) paced).0 x is).covers in
       omega (arith, covers.below 0 rules.some_mbs))

@@ -27,7 +27,8 @@ silent t (line ∷ lines) past inputs =
     let rest = silent t lines (with_line t past line) (left_after inputs no_bytes) in
     record { last = rest.last; texts = rest.texts }
 
-pub tells : (t : DemoTerms) (inputs : Role → List ℕ) → TellsCounts t (run_from (demo_begin t inputs) demo_step (most_turns t) inputs)
+pub tells : (t : DemoTerms) (inputs : Role → List ℕ)
+    → TellsCounts t (run_from (demo_begin t inputs) demo_step (most_turns t) inputs)
 tells t inputs =
     let run = silent t (made_trace t.seed t.frames) [] (left_after inputs no_bytes) in
     record {

@@ -13,7 +13,8 @@ use Rattle.desk_program.specs.Ends.{CauseIn, ComesAtStop, HasCause, IsStop, Keep
 -- ---- how the answers of two steps add up
 
 -- where a turn gave up after a read, the count rose since before the read
-pub cause_since : (r : Result Bool Status) (old mid new : Faults) → NoneFalls old mid → ((a b c : ℕ) → a ≤ b → Rose b c → Rose a c) → IfErr r IsStop → HasCause (turn_status r) mid new
+pub cause_since : (r : Result Bool Status) (old mid new : Faults) → NoneFalls old mid
+    → ((a b c : ℕ) → a ≤ b → Rose b c → Rose a c) → IfErr r IsStop → HasCause (turn_status r) mid new
     → HasCause (turn_status r) old new
 cause_since (Ok goes) old mid new still rose stop cause = tt
 cause_since (Err status) old mid new still rose stop cause = by_phase (phase status) stop cause
@@ -60,7 +61,8 @@ pub video_stops : (stop : VideoStop) → IsStop (video_stop stop)
 video_stops video.Read = tt
 video_stops (video.Refused fault) = tt
 
-pub video_cause : (stop : VideoStop) (old new : Faults) → (stop ≡ video.Read → Rose old.read new.read) → HasCause (video_stop stop) old new
+pub video_cause : (stop : VideoStop) (old new : Faults) → (stop ≡ video.Read → Rose old.read new.read)
+    → HasCause (video_stop stop) old new
 video_cause video.Read old new rose = rose refl
 video_cause (video.Refused fault) old new rose = tt
 
@@ -69,7 +71,8 @@ trace_halts trace.Read = tt
 trace_halts (trace.Bad line) = tt
 trace_halts (trace.TooMany line) = tt
 
-pub trace_cause : (stop : TraceStop) (old new : Faults) → (stop ≡ trace.Read → Rose old.read new.read) → HasCause (trace_stop stop) old new
+pub trace_cause : (stop : TraceStop) (old new : Faults) → (stop ≡ trace.Read → Rose old.read new.read)
+    → HasCause (trace_stop stop) old new
 trace_cause trace.Read old new rose = rose refl
 trace_cause (trace.Bad line) old new rose = tt
 trace_cause (trace.TooMany line) old new rose = tt

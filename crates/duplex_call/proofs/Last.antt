@@ -13,7 +13,8 @@ placed_more (a ∷ b ∷ c ∷ d ∷ more) x = Some b ∷ Some c ∷ Some d ∷ 
 
 module _ {X : Type 0} where
   -- behind k elements there are four: with one more there are four behind k + 1
-  four : (k : ℕ) (xs : List X) (x : X) → length xs ≡ k + 4 → placed (drop (k + 1) (xs ++ x ∷ [])) ≡ placed_more (drop k xs) x
+  four : (k : ℕ) (xs : List X) (x : X) → length xs ≡ k + 4 → placed (drop (k + 1) (xs ++ x ∷ []))
+      ≡ placed_more (drop k xs) x
   four zero [] x long = absurd (omega (arith, long))
   four zero (a ∷ []) x long = absurd (omega (arith, long))
   four zero (a ∷ b ∷ []) x long = absurd (omega (arith, long))
@@ -37,35 +38,45 @@ module _ {X : Type 0} where
       ap (λ (k : ℕ). placed (drop k (xs ++ x ∷ []))) now ∙ four (length xs - 4) xs x (omega arith)
 
   -- the first place that is free takes it
-  pub free_0 : (m : List X) (x : X) → is_some (slice_index_or (placed m) 0 None) ≡ false → Some x ∷ None ∷ None ∷ None ∷ [] ≡ placed_more m x
+  pub free_0 : (m : List X) (x : X) → is_some (slice_index_or (placed m) 0 None) ≡ false
+      → Some x ∷ None ∷ None ∷ None ∷ [] ≡ placed_more m x
   free_0 [] x free = refl
   free_0 (a ∷ []) x free = cc
   free_0 (a ∷ b ∷ []) x free = cc
   free_0 (a ∷ b ∷ c ∷ []) x free = cc
   free_0 (a ∷ b ∷ c ∷ d ∷ more) x free = cc
 
-  pub free_1 : (m : List X) (x : X) → is_some (slice_index_or (placed m) 0 None) ≡ true → is_some (slice_index_or (placed m) 1 None) ≡ false → slice_index_or (placed m) 0 None ∷ Some x ∷ None ∷ None ∷ [] ≡ placed_more m x
+  pub free_1 : (m : List X) (x : X) → is_some (slice_index_or (placed m) 0 None) ≡ true
+      → is_some (slice_index_or (placed m) 1 None) ≡ false
+      → slice_index_or (placed m) 0 None ∷ Some x ∷ None ∷ None ∷ [] ≡ placed_more m x
   free_1 [] x taken free = cc
   free_1 (a ∷ []) x taken free = refl
   free_1 (a ∷ b ∷ []) x taken free = cc
   free_1 (a ∷ b ∷ c ∷ []) x taken free = cc
   free_1 (a ∷ b ∷ c ∷ d ∷ more) x taken free = cc
 
-  pub free_2 : (m : List X) (x : X) → is_some (slice_index_or (placed m) 1 None) ≡ true → is_some (slice_index_or (placed m) 2 None) ≡ false → slice_index_or (placed m) 0 None ∷ slice_index_or (placed m) 1 None ∷ Some x ∷ None ∷ [] ≡ placed_more m x
+  pub free_2 : (m : List X) (x : X) → is_some (slice_index_or (placed m) 1 None) ≡ true
+      → is_some (slice_index_or (placed m) 2 None) ≡ false
+      → slice_index_or (placed m) 0 None ∷ slice_index_or (placed m) 1 None ∷ Some x ∷ None ∷ [] ≡ placed_more m x
   free_2 [] x taken free = cc
   free_2 (a ∷ []) x taken free = cc
   free_2 (a ∷ b ∷ []) x taken free = refl
   free_2 (a ∷ b ∷ c ∷ []) x taken free = cc
   free_2 (a ∷ b ∷ c ∷ d ∷ more) x taken free = cc
 
-  pub free_3 : (m : List X) (x : X) → is_some (slice_index_or (placed m) 2 None) ≡ true → is_some (slice_index_or (placed m) 3 None) ≡ false → slice_index_or (placed m) 0 None ∷ slice_index_or (placed m) 1 None ∷ slice_index_or (placed m) 2 None ∷ Some x ∷ [] ≡ placed_more m x
+  pub free_3 : (m : List X) (x : X) → is_some (slice_index_or (placed m) 2 None) ≡ true
+      → is_some (slice_index_or (placed m) 3 None) ≡ false
+      → slice_index_or (placed m) 0 None ∷ slice_index_or (placed m) 1 None ∷ slice_index_or (placed m) 2 None ∷ Some
+      x ∷ [] ≡ placed_more m x
   free_3 [] x taken free = cc
   free_3 (a ∷ []) x taken free = cc
   free_3 (a ∷ b ∷ []) x taken free = cc
   free_3 (a ∷ b ∷ c ∷ []) x taken free = refl
   free_3 (a ∷ b ∷ c ∷ d ∷ more) x taken free = cc
 
-  pub full : (m : List X) (x : X) → is_some (slice_index_or (placed m) 3 None) ≡ true → slice_index_or (placed m) 1 None ∷ slice_index_or (placed m) 2 None ∷ slice_index_or (placed m) 3 None ∷ Some x ∷ [] ≡ placed_more m x
+  pub full : (m : List X) (x : X) → is_some (slice_index_or (placed m) 3 None) ≡ true
+      → slice_index_or (placed m) 1 None ∷ slice_index_or (placed m) 2 None ∷ slice_index_or (placed m) 3 None ∷ Some
+      x ∷ [] ≡ placed_more m x
   full [] x taken = cc
   full (a ∷ []) x taken = cc
   full (a ∷ b ∷ []) x taken = cc

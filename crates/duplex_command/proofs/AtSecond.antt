@@ -42,22 +42,30 @@ module _ (a b : ℕ) (old new : Outside) where
   -- what is left of all inputs but the second video
   pub others_at_second : ((r : Role) → r ≢ Video → (exchanged_outside b new).left r ≡ (exchanged_outside a old).left r)
       → (r : Role) → r ≢ Video2 → new.left r ≡ old.left r
-  others_at_second same r other = subst (λ (q : Role). new.left q ≡ old.left q) (twice r) (same (exchanged r) (λ is. other (sym (twice r) ∙ ap exchanged is)))
+  others_at_second same r other = subst (λ (q : Role). new.left q ≡ old.left q) (twice r)
+      (same (exchanged r) (λ is. other (sym (twice r) ∙ ap exchanged is)))
 
-  gains : (text : List ℕ) → Gains (on Pictures text) (exchanged_outside a old).written (exchanged_outside b new).written → Gains (on Pictures2 text) old.written new.written
+  gains : (text : List ℕ) → Gains (on Pictures text) (exchanged_outside a old).written (exchanged_outside b new).written
+      → Gains (on Pictures2 text) old.written new.written
   gains text gained_so = λ r. subst (λ (t : List ℕ). new.written r ≡ gained (old.written r) t) (on_second text r)
-      (subst (λ (q : Role). new.written q ≡ gained (old.written q) (on Pictures text (exchanged r))) (twice r) (gained_so (exchanged r)))
+      (subst (λ (q : Role). new.written q ≡ gained (old.written q) (on Pictures text (exchanged r))) (twice r)
+          (gained_so (exchanged r)))
 
-  fronts : (text : List ℕ) → GainsFronts (on Pictures text) (exchanged_outside a old).written (exchanged_outside b new).written → GainsFronts (on Pictures2 text) old.written new.written
+  fronts : (text : List ℕ)
+      → GainsFronts (on Pictures text) (exchanged_outside a old).written (exchanged_outside b new).written
+      → GainsFronts (on Pictures2 text) old.written new.written
   fronts text so = λ r. subst (λ (t : List ℕ). Front t (old.written r) (new.written r)) (on_second text r)
-      (subst (λ (q : Role). Front (on Pictures text (exchanged r)) (old.written q) (new.written q)) (twice r) (so (exchanged r)))
+      (subst (λ (q : Role). Front (on Pictures text (exchanged r)) (old.written q) (new.written q)) (twice r)
+          (so (exchanged r)))
 
   pub gains_at_second : {T : Type 0} (r : Result T Status) (text : List ℕ)
-      → OnOk r (Gains (on Pictures text) (exchanged_outside a old).written (exchanged_outside b new).written) → OnOk r (Gains (on Pictures2 text) old.written new.written)
+      → OnOk r (Gains (on Pictures text) (exchanged_outside a old).written (exchanged_outside b new).written)
+          → OnOk r (Gains (on Pictures2 text) old.written new.written)
   gains_at_second (Ok x) text so = gains text so
   gains_at_second (Err x) text so = so
 
   pub fronts_at_second : {T : Type 0} (r : Result T Status) (text : List ℕ)
-      → OnErr r (GainsFronts (on Pictures text) (exchanged_outside a old).written (exchanged_outside b new).written) → OnErr r (GainsFronts (on Pictures2 text) old.written new.written)
+      → OnErr r (GainsFronts (on Pictures text) (exchanged_outside a old).written (exchanged_outside b new).written)
+          → OnErr r (GainsFronts (on Pictures2 text) old.written new.written)
   fronts_at_second (Ok x) text so = so
   fronts_at_second (Err x) text so = fronts text so

@@ -43,11 +43,13 @@ module _ (q : Params) (frames : List Frame) where
 
 module _ (p : Party → Params) where
   -- what may be brought still may be, after another message
-  one_heard : (y : Party) (w : WayRun Frame) (l : ℕ) (ks : List ℕ) → MayBeBrought (sides p) y w ks → MayBeBrought (sides p) y (record w { past = Back l ∷ w.past }) ks
+  one_heard : (y : Party) (w : WayRun Frame) (l : ℕ) (ks : List ℕ) → MayBeBrought (sides p) y w ks
+      → MayBeBrought (sides p) y (record w { past = Back l ∷ w.past }) ks
   one_heard y w l [] may = may
   one_heard y w l (k ∷ ks) may = (may.0, one_heard y w l ks may.1)
 
-  all_heard : (y : Party) (w : WayRun Frame) (ls ks : List ℕ) → MayBeBrought (sides p) y w ks → MayBeBrought (sides p) y (record w { past = brought ls w.past }) ks
+  all_heard : (y : Party) (w : WayRun Frame) (ls ks : List ℕ) → MayBeBrought (sides p) y w ks
+      → MayBeBrought (sides p) y (record w { past = brought ls w.past }) ks
   all_heard y w [] ks may = may
   all_heard y w (l ∷ ls) ks may = all_heard y (record w { past = Back l ∷ w.past }) ls ks (one_heard y w l ks may)
 
@@ -102,7 +104,8 @@ module _ (p : Party → Params) where
       frames B A = refl
       frames B B = refl
 
-      sent : (x y : Party) → sent_before (way y (with_delivery (sides p) x n j ways)).past ≡ sent_before (way y ways).past
+      sent : (x y : Party) → sent_before (way y (with_delivery (sides p) x n j ways)).past
+          ≡ sent_before (way y ways).past
       sent A A = refl
       sent A B = sent_brought (heard_at A ways n j) ways.b.past
       sent B A = sent_brought (heard_at B ways n j) ways.a.past
@@ -133,7 +136,8 @@ module _ (p : Party → Params) where
       plays B B = refl
 
   -- of the other party what may be brought still may be
-  heard_delivery : (x : Party) (n j : ℕ) (ways : WayRuns Frame) (ks : List ℕ) → MayBeBrought (sides p) (other x) (way (other x) ways) ks
+  heard_delivery : (x : Party) (n j : ℕ) (ways : WayRuns Frame) (ks : List ℕ)
+      → MayBeBrought (sides p) (other x) (way (other x) ways) ks
       → MayBeBrought (sides p) (other x) (way (other x) (with_delivery (sides p) x n j ways)) ks
   heard_delivery A n j ways ks may = all_heard B ways.b (heard_at A ways n j) ks may
   heard_delivery B n j ways ks may = all_heard A ways.a (heard_at B ways n j) ks may
@@ -146,36 +150,49 @@ module _ (p : Party → Params) where
       both_kept (with_places p x n (suc j) ways) (with_places p x n j ways) ways
       (kept_delivery x n j (with_places p x n j ways)) (kept_places x n j ways)
 
-  heard_places : (x : Party) (n count : ℕ) (ways : WayRuns Frame) (ks : List ℕ) → MayBeBrought (sides p) (other x) (way (other x) ways) ks
+  heard_places : (x : Party) (n count : ℕ) (ways : WayRuns Frame) (ks : List ℕ)
+      → MayBeBrought (sides p) (other x) (way (other x) ways) ks
       → MayBeBrought (sides p) (other x) (way (other x) (with_places p x n count ways)) ks
   heard_places x n zero ways ks may = may
-  heard_places x n (suc j) ways ks may = heard_delivery x n j (with_places p x n j ways) ks (heard_places x n j ways ks may)
+  heard_places x n (suc j) ways ks may = heard_delivery x n j (with_places p x n j ways) ks
+      (heard_places x n j ways ks may)
 
   -- where a packet of the picture may be delivered, each may be after those at the places before it
-  may_place : (x : Party) (n left i j count : ℕ) (ways : WayRuns Frame) → MayHappenOf (sides p) left x (Deliver n i) ways → MayHappenOf (sides p) left x (Deliver n j) (with_places p x n count ways)
+  may_place : (x : Party) (n left i j count : ℕ) (ways : WayRuns Frame)
+      → MayHappenOf (sides p) left x (Deliver n i) ways
+      → MayHappenOf (sides p) left x (Deliver n j) (with_places p x n count ways)
   may_place x n left i j count ways may =
       let kept = kept_places x n count ways in
       let coded = kept.coded x in
       let played = kept.played x in (
-        (subst (λ (l : List (Coded Style Mb Picture)). n < length l) (sym coded) may.0.0, subst (λ (m : ℕ). m < n + (rules_of (p x)).half) (sym played) may.0.1),
+        (subst (λ (l : List (Coded Style Mb Picture)). n < length l) (sym coded) may.0.0,
+            subst (λ (m : ℕ). m < n + (rules_of (p x)).half) (sym played) may.0.1),
         heard_places x n count ways (slice_index_or (way x (with_places p x n count ways)).carried n [])
-            (subst (λ (l : List (List ℕ)). MayBeBrought (sides p) (other x) (way (other x) ways) (slice_index_or l n [])) (sym (kept.carried x)) may.1),
+            (subst (λ (l : List (List ℕ)). MayBeBrought (sides p) (other x) (way (other x) ways)
+                (slice_index_or l n [])) (sym (kept.carried x)) may.1),
       )
 
   module _ (captures : Party → List Picture) where
-    pub ways_packets : (x : Party) (n count : ℕ) (past : List Lettered) → with_places p x n count (ways_of p captures past) ≡ ways_of p captures (with_packets p captures x n count past)
+    pub ways_packets : (x : Party) (n count : ℕ) (past : List Lettered)
+        → with_places p x n count (ways_of p captures past)
+        ≡ ways_of p captures (with_packets p captures x n count past)
     ways_packets x n zero past = refl
     ways_packets x n (suc j) past = ap (with_delivery (sides p) x n j) (ways_packets x n j past)
 
-    pub near_packets : (x : Party) (n i count : ℕ) (past : List Lettered) → MayHappenOf (sides p) (length (captures x)) x (Deliver n i) (ways_of p captures past)
-        → AllMayHappenOf (sides p) captures past → AllMayHappenOf (sides p) captures (with_packets p captures x n count past)
+    pub near_packets : (x : Party) (n i count : ℕ) (past : List Lettered)
+        → MayHappenOf (sides p) (length (captures x)) x (Deliver n i) (ways_of p captures past)
+        → AllMayHappenOf (sides p) captures past
+            → AllMayHappenOf (sides p) captures (with_packets p captures x n count past)
     near_packets x n i zero past may near = near
     near_packets x n i (suc j) past may near = (
-      subst (MayHappenOf (sides p) (length (captures x)) x (Deliver n j)) (ways_packets x n j past) (may_place x n (length (captures x)) i j j (ways_of p captures past) may),
+      subst (MayHappenOf (sides p) (length (captures x)) x (Deliver n j)) (ways_packets x n j past)
+          (may_place x n (length (captures x)) i j j (ways_of p captures past) may),
       near_packets x n i j past may near,
     )
 
     -- nothing is told of them
-    pub told_packets : (x : Party) (n count : ℕ) (past : List Lettered) → told_lines p captures (with_packets p captures x n count past) ≡ told_lines p captures past
+    pub told_packets : (x : Party) (n count : ℕ) (past : List Lettered)
+        → told_lines p captures (with_packets p captures x n count past) ≡ told_lines p captures past
     told_packets x n zero past = refl
-    told_packets x n (suc j) past = append-nil (told_lines p captures (with_packets p captures x n j past)) ∙ told_packets x n j past
+    told_packets x n (suc j) past = append-nil (told_lines p captures (with_packets p captures x n j past))
+        ∙ told_packets x n j past

@@ -32,24 +32,30 @@ more_size : (n m : ℕ) → n ≤ n + m
 more_size n m = omega arith
 
 module _ (s : DuplexState) (trace : List ℕ) where
-  turn_unless : (e : Event) (o : Option Refusal) (step : Step DuplexState) → IsLineTurn trace step → IsLineTurn trace (unless s trace e o step)
+  turn_unless : (e : Event) (o : Option Refusal) (step : Step DuplexState) → IsLineTurn trace step
+      → IsLineTurn trace (unless s trace e o step)
   turn_unless e None step is = is
   turn_unless e (Some r) step is = tt
 
 module _ (video pictures : Role) (refuses : Y4mFault → Status) (x : Party) (s : DuplexState) (trace : List ℕ) where
-  turn_captured : (size : ℕ) (r : Result (List ℕ) Y4mFault) → IsLineTurn trace (captured_step video pictures refuses x s trace size r)
+  turn_captured : (size : ℕ) (r : Result (List ℕ) Y4mFault)
+      → IsLineTurn trace (captured_step video pictures refuses x s trace size r)
   turn_captured size (Ok planes) = (refl, more_size (line_size trace) (of video size Events))
   turn_captured size (Err fault) = tt
 
   turn_capture : (rest : List ℕ) → IsLineTurn trace (capture_step video pictures refuses x s trace rest)
   turn_capture [] = tt
-  turn_capture (b ∷ rest) = turn_captured (frame_size (s.params x).format (b ∷ rest)) (next_frame (place_of x s).more (s.params x).format (place_of x s).at (b ∷ rest))
+  turn_capture (b ∷ rest) = turn_captured (frame_size (s.params x).format (b ∷ rest))
+      (next_frame (place_of x s).more (s.params x).format (place_of x s).at (b ∷ rest))
 
-  turn_event : (inputs : Role → List ℕ) (line : Line) → IsLineTurn trace (event_step video pictures refuses x s trace inputs line)
+  turn_event : (inputs : Role → List ℕ) (line : Line)
+      → IsLineTurn trace (event_step video pictures refuses x s trace inputs line)
   turn_event inputs says.Nothing = (refl, same_size (line_size trace))
   turn_event inputs says.Send = turn_unless s trace Send (refusal_at x s Send) _ (turn_capture (inputs video))
-  turn_event inputs (says.Packet n j) = turn_unless s trace (Deliver n j) (refusal_at x s (Deliver n j)) _ (refl, same_size (line_size trace))
-  turn_event inputs (says.All n) = turn_unless s trace (Deliver n 0) (refusal_at x s (Deliver n 0)) _ (refl, same_size (line_size trace))
+  turn_event inputs (says.Packet n j) = turn_unless s trace (Deliver n j) (refusal_at x s (Deliver n j)) _ (refl,
+      same_size (line_size trace))
+  turn_event inputs (says.All n) = turn_unless s trace (Deliver n 0) (refusal_at x s (Deliver n 0)) _ (refl,
+      same_size (line_size trace))
   turn_event inputs (says.Back k) = tt
   turn_event inputs says.Play = turn_unless s trace Play (refusal_at x s Play) _ (refl, same_size (line_size trace))
 
@@ -57,9 +63,11 @@ module _ (s : DuplexState) (inputs : Role → List ℕ) where
   turn_line : (o : Option (Option (Party × Line))) → IsLineTurn (inputs Events) (line_step s inputs o)
   turn_line None = tt
   turn_line (Some None) = (refl, same_size (line_size (inputs Events)))
-  turn_line (Some (Some said)) = turn_event (video_of said.0) (pictures_of said.0) (refused_video said.0) said.0 s (inputs Events) inputs said.1
+  turn_line (Some (Some said)) = turn_event (video_of said.0) (pictures_of said.0) (refused_video said.0) said.0 s
+      (inputs Events) inputs said.1
 
-  turn_choice : (b : Bool) (o : Option (Option (Party × Line))) → IsLineTurn (inputs Events) (if b then line_step s inputs o else Ends (bad_line (TooMany (s.lines + 1))))
+  turn_choice : (b : Bool) (o : Option (Option (Party × Line)))
+      → IsLineTurn (inputs Events) (if b then line_step s inputs o else Ends (bad_line (TooMany (s.lines + 1))))
   turn_choice true o = turn_line o
   turn_choice false o = tt
 
@@ -67,5 +75,7 @@ module _ (s : DuplexState) (inputs : Role → List ℕ) where
   turn_trace [] is = tt
   turn_trace (b ∷ trace) is = turn_choice (nat_lt s.lines 16777216) (party_event (first_line (b ∷ trace)))
 
-pub trace_part : LineLaws → (s : DuplexState) (inputs : Role → List ℕ) (k : ℕ) → NoNewline (take k (inputs Events)) → IsPart (step_turns (trace_step s inputs (inputs Events))) (of Events k)
-trace_part laws s inputs k free = laws.line_part (inputs Events) k (step_turns (trace_step s inputs (inputs Events))) free (turn_trace s inputs (inputs Events) refl)
+pub trace_part : LineLaws → (s : DuplexState) (inputs : Role → List ℕ) (k : ℕ) → NoNewline (take k (inputs Events))
+    → IsPart (step_turns (trace_step s inputs (inputs Events))) (of Events k)
+trace_part laws s inputs k free = laws.line_part (inputs Events) k (step_turns (trace_step s inputs (inputs Events)))
+    free (turn_trace s inputs (inputs Events) refl)

@@ -50,7 +50,8 @@ one_left p x ways = length (call_in p x ways).coded + 1
 abbrev pub Refusals : Type 0
 Refusals = (p : Party → Params) → NoneWhereItMayHappenOf (sides p)
 
-pub may_happen : Refusals → (p : Party → Params) (x : Party) (ways : WayRuns Frame) (e : Event) → refusal_of (sides p) (one_left p x ways) x e ways ≡ None
+pub may_happen : Refusals → (p : Party → Params) (x : Party) (ways : WayRuns Frame) (e : Event)
+    → refusal_of (sides p) (one_left p x ways) x e ways ≡ None
     → MayHappenOf (sides p) (one_left p x ways) x e ways
 may_happen laws p x ways e none = (laws p (one_left p x ways) x e ways).0 none
 
@@ -58,7 +59,8 @@ pub is_in_call : (own far : PartyEnds) → AreInCall own far → IsInCall own
 is_in_call own far k = record { far = far; both = k }
 
 -- a station is as ready as it was, where its ends have the same parameters and sent the same
-pub station_kept : (station : Station) (ends : PartyEnds) (room : ℕ) → StationReady station room → ends.params ≡ station.ends.params → ends.sender.sent ≡ station.ends.sender.sent
+pub station_kept : (station : Station) (ends : PartyEnds) (room : ℕ) → StationReady station room
+    → ends.params ≡ station.ends.params → ends.sender.sent ≡ station.ends.sender.sent
     → StationReady (record station { ends = ends }) room
 station_kept station ends room r params sent =
     let same = ap (λ (p : Params). p.format) params in
@@ -69,7 +71,8 @@ station_kept station ends room r params sent =
     }
 
 -- both are, after a delivery
-stations_delivered : (own far : Station) (own_ends far_ends : PartyEnds) (room : ℕ) → StationsReady own far room → AreInCall own_ends far_ends → KeepsInDelivery own.ends far.ends own_ends far_ends
+stations_delivered : (own far : Station) (own_ends far_ends : PartyEnds) (room : ℕ) → StationsReady own far room
+    → AreInCall own_ends far_ends → KeepsInDelivery own.ends far.ends own_ends far_ends
     → StationsReady (record own { ends = own_ends }) (record far { ends = far_ends }) room
 stations_delivered own far own_ends far_ends room r ends keeps = record {
   own_ready = station_kept own own_ends room r.own_ready keeps.own_params (ap (λ s. s.sent) keeps.own_sender);
@@ -78,7 +81,8 @@ stations_delivered own far own_ends far_ends room r ends keeps = record {
 }
 
 -- one that is not refused has no refusal
-pub none_so : (r : Result Unit Told) (e : Event) (refusal : Option Refusal) → IsNotRefused r → IsAllowed r e refusal → refusal ≡ None
+pub none_so : (r : Result Unit Told) (e : Event) (refusal : Option Refusal) → IsNotRefused r → IsAllowed r e refusal
+    → refusal ≡ None
 none_so (Ok u) e refusal free allowed = allowed
 none_so (Err told) e refusal free allowed = absurd free
 
@@ -89,7 +93,8 @@ may_so (Err told) free may = absurd free
 
 -- ---- the line of a party
 
-module _ (x : Party) (own far : Station) (line : ℕ) (trace_new : TracePlace) (before mid : Outside) (s : DuplexState) (inputs : Role → List ℕ) (b : IsRead x own far line trace_new mid before s inputs) where
+module _ (x : Party) (own far : Station) (line : ℕ) (trace_new : TracePlace) (before mid : Outside) (s : DuplexState)
+    (inputs : Role → List ℕ) (b : IsRead x own far line trace_new mid before s inputs) where
   abbrev trace : List ℕ
   trace = inputs Events
 
@@ -102,14 +107,16 @@ module _ (x : Party) (own far : Station) (line : ℕ) (trace_new : TracePlace) (
   -- ---- a refused event
 
   module _ (laws : LineLaws) (told : Told) (fault : TraceFault) (fault_is : fault ≡ fault_at line told) where
-    event_refused : (e : Event) (step : Step DuplexState) → IsAllowed (Err told) e (refusal_at x s e) → Ended (unless s trace e (refusal_at x s e) step) (TraceRefused fault) inputs before mid
+    event_refused : (e : Event) (step : Step DuplexState) → IsAllowed (Err told) e (refusal_at x s e)
+        → Ended (unless s trace e (refusal_at x s e) step) (TraceRefused fault) inputs before mid
     event_refused e step refused =
         let told_so = refused.2 in
         line_refused s inputs before mid b.taken laws (TraceRefused fault) (fault_of (s.lines + 1) e refused.0) _
         (ap (λ (f : TraceFault). TraceRefused f) fault_is ∙ (λ i. TraceRefused (fault_at (b.number i) (told_so i))))
         (ap (λ (o : Option Refusal). unless s trace e o step) refused.1)
 
-    pub line_is_refused : (event : Line) → IsChecked (Err told) event (λ e. refusal_at x s e) → Ended (step_of event) (TraceRefused fault) inputs before mid
+    pub line_is_refused : (event : Line) → IsChecked (Err told) event (λ e. refusal_at x s e)
+        → Ended (step_of event) (TraceRefused fault) inputs before mid
     line_is_refused says.Nothing refused = absurd refused
     line_is_refused says.Send refused = event_refused Send _ refused
     line_is_refused (says.Packet n j) refused = event_refused (Deliver n j) _ refused
@@ -119,16 +126,21 @@ module _ (x : Party) (own far : Station) (line : ℕ) (trace_new : TracePlace) (
 
   -- ---- an event that may happen
 
-  pub step_is : (e : Event) (step : Step DuplexState) → refusal_at x s e ≡ None → unless s trace e (refusal_at x s e) step ≡ step
+  pub step_is : (e : Event) (step : Step DuplexState) → refusal_at x s e ≡ None
+      → unless s trace e (refusal_at x s e) step ≡ step
   step_is e step none = ap (λ (o : Option Refusal). unless s trace e o step) none
 
   -- the stations where both ways are these
-  pub stands_event : (own_new far_new : Station) (ways : WayRuns Frame) → own_new.video ≡ own.video → far_new.video ≡ far.video
+  pub stands_event : (own_new far_new : Station) (ways : WayRuns Frame) → own_new.video ≡ own.video
+      → far_new.video ≡ far.video
       → HoldsPair s.params x own_new.ends far_new.ends ways
-      → StationsStand x own_new far_new trace_new (after_line (record s { ways = ways }) trace) (left_after inputs taken_line Events)
+      → StationsStand x own_new far_new trace_new (after_line (record s { ways = ways }) trace)
+          (left_after inputs taken_line Events)
   stands_event own_new far_new ways own_same far_same holds = record {
-    own_place = place_same x (after_line (record s { ways = ways }) trace) (after_line s trace) refl refl ∙ b.stood.own_place ∙ ap place_in (sym own_same);
-    far_place = place_same (other x) (after_line (record s { ways = ways }) trace) (after_line s trace) refl refl ∙ b.stood.far_place ∙ ap place_in (sym far_same);
+    own_place = place_same x (after_line (record s { ways = ways }) trace) (after_line s trace) refl refl
+        ∙ b.stood.own_place ∙ ap place_in (sym own_same);
+    far_place = place_same (other x) (after_line (record s { ways = ways }) trace) (after_line s trace) refl refl
+        ∙ b.stood.far_place ∙ ap place_in (sym far_same);
     lines = b.stood.lines;
     ended = b.stood.ended;
     over = b.stood.over;
@@ -142,11 +154,14 @@ module _ (x : Party) (own far : Station) (line : ℕ) (trace_new : TracePlace) (
   pub format_is : own.video.format ≡ own.ends.params.format → own.video.format ≡ (s.params x).format
   format_is is = is ∙ ap (λ (p : Params). p.format) b.stood.holds.own_holds.params
 
-  pub event_goes : TurnLaws → (own_new far_new : Station) (event : Line) (ways : WayRuns Frame) → own_new.video ≡ own.video → far_new.video ≡ far.video
+  pub event_goes : TurnLaws → (own_new far_new : Station) (event : Line) (ways : WayRuns Frame)
+      → own_new.video ≡ own.video → far_new.video ≡ far.video
       → step_of event ≡ quiet_step s trace ways → HoldsPair s.params x own_new.ends far_new.ends ways
-      → Went (step_of event) (λ next rest. StationsStand x own_new far_new trace_new next (rest Events)) may_read true inputs before mid
+      → Went (step_of event) (λ next rest. StationsStand x own_new far_new trace_new next (rest Events)) may_read true
+          inputs before mid
   event_goes laws own_new far_new event ways own_same far_same is holds =
-      line_goes s inputs before mid b.taken (record s { ways = ways }) no_texts _ (λ next rest. StationsStand x own_new far_new trace_new next (rest Events)) is
+      line_goes s inputs before mid b.taken (record s { ways = ways }) no_texts _
+          (λ next rest. StationsStand x own_new far_new trace_new next (rest Events)) is
       (stands_event own_new far_new ways own_same far_same holds) mid refl (laws.no_text mid.written mid.written refl)
 
   -- ---- the next picture was played
@@ -158,27 +173,35 @@ module _ (x : Party) (own far : Station) (line : ℕ) (trace_new : TracePlace) (
     play_is : step_of says.Play ≡ Goes (after_line (with_next x s) trace) (line_turn trace shown)
     play_is = step_is Play (play_step Video Pictures VideoRefused x s trace) none
 
-    pub play_goes : (stands : DuplexState → (Role → List ℕ) → Type 0) → stands (after_line (with_next x s) trace) (left_after inputs taken_line)
+    pub play_goes : (stands : DuplexState → (Role → List ℕ) → Type 0)
+        → stands (after_line (with_next x s) trace) (left_after inputs taken_line)
         → Gains shown mid.written new.written → Went (step_of says.Play) stands may_read true inputs before new
-    play_goes stands kept gains = line_goes s inputs before mid b.taken (with_next x s) shown _ stands play_is kept new still gains
+    play_goes stands kept gains = line_goes s inputs before mid b.taken (with_next x s) shown _ stands play_is kept new
+        still gains
 
-    pub play_cut : GainsFronts shown mid.written new.written → GainsFronts (step_texts (step_of says.Play)) before.written new.written
+    pub play_cut : GainsFronts shown mid.written new.written
+        → GainsFronts (step_texts (step_of says.Play)) before.written new.written
     play_cut gains =
         subst (λ (step : Step DuplexState). GainsFronts (step_texts step) before.written new.written) (sym play_is)
         (subst (λ (w : Role → Option (List ℕ)). GainsFronts shown w new.written) b.taken.written gains)
 
   -- ---- the frame that the line asks for was sent
 
-  pub stands_sent : (own_new : Station) (size : ℕ) (out : List ℕ) → own_new.video.at ≡ (place_of x s).at + size → own_new.video.more + 1 ≡ (place_of x s).more
-      → HoldsPair s.params x own_new.ends far.ends (with_capture (sides s.params) x (picture_of (s.params x).format out) s.ways)
-      → StationsStand x own_new far trace_new (after_line (with_frame x s size out) trace) (left_after inputs (and_of taken_line (of Video size)) Events)
-  stands_sent own_new size out place fewer holds = by_party x (place_same (other x) s (after_line s trace) refl refl ∙ b.stood.far_place) b.stood.lines b.stood.ended place_is holds
+  pub stands_sent : (own_new : Station) (size : ℕ) (out : List ℕ) → own_new.video.at ≡ (place_of x s).at + size
+      → own_new.video.more + 1 ≡ (place_of x s).more
+      → HoldsPair s.params x own_new.ends far.ends (with_capture (sides s.params) x (picture_of (s.params x).format out)
+          s.ways)
+      → StationsStand x own_new far trace_new (after_line (with_frame x s size out) trace)
+          (left_after inputs (and_of taken_line (of Video size)) Events)
+  stands_sent own_new size out place fewer holds = by_party x (place_same (other x) s (after_line s trace) refl refl
+      ∙ b.stood.far_place) b.stood.lines b.stood.ended place_is holds
     where
       less : (a b : ℕ) → a + 1 ≡ b → b - 1 ≡ a
       less a b is = omega (arith, is)
 
       place_is : record { at = (place_of x s).at + size; more = (place_of x s).more - 1 } ≡ place_in own_new.video
-      place_is = let few = less own_new.video.more (place_of x s).more fewer in λ i. record { at = sym place i; more = few i }
+      place_is = let few = less own_new.video.more (place_of x s).more fewer in
+          λ i. record { at = sym place i; more = few i }
 
       nothing_more : (n : ℕ) → n + 0 ≡ n
       nothing_more n = omega arith
@@ -186,74 +209,106 @@ module _ (x : Party) (own far : Station) (line : ℕ) (trace_new : TracePlace) (
       over : trace_new.ended ≡ true → drop (line_size trace + 0) trace ≡ []
       over ended = ap (λ (n : ℕ). drop n trace) (nothing_more (line_size trace)) ∙ b.stood.over ended
 
-      by_party : (y : Party) → place_of (other y) s ≡ place_in far.video → s.lines + 1 ≡ trace_new.lines → (after_line s trace).ended ≡ trace_new.ended
+      by_party : (y : Party) → place_of (other y) s ≡ place_in far.video → s.lines + 1 ≡ trace_new.lines
+          → (after_line s trace).ended ≡ trace_new.ended
           → record { at = (place_of y s).at + size; more = (place_of y s).more - 1 } ≡ place_in own_new.video
-          → HoldsPair s.params y own_new.ends far.ends (with_capture (sides s.params) y (picture_of (s.params y).format out) s.ways)
-          → StationsStand y own_new far trace_new (after_line (with_frame y s size out) trace) (left_after inputs (and_of taken_line (of Video size)) Events)
-      by_party A far_place lines ended own_place holds = record { own_place = own_place; far_place = far_place; lines = lines; ended = ended; over = over; holds = holds }
-      by_party B far_place lines ended own_place holds = record { own_place = own_place; far_place = far_place; lines = lines; ended = ended; over = over; holds = holds }
+          → HoldsPair s.params y own_new.ends far.ends
+              (with_capture (sides s.params) y (picture_of (s.params y).format out) s.ways)
+          → StationsStand y own_new far trace_new (after_line (with_frame y s size out) trace)
+              (left_after inputs (and_of taken_line (of Video size)) Events)
+      by_party A far_place lines ended own_place holds = record { own_place = own_place; far_place = far_place;
+          lines = lines; ended = ended; over = over; holds = holds }
+      by_party B far_place lines ended own_place holds = record { own_place = own_place; far_place = far_place;
+          lines = lines; ended = ended; over = over; holds = holds }
 
 -- ---- what a line's turn is, by what the line says
 
 module _ (x : Party) (own far own_new far_new : Station) (line room : ℕ) (event said : Line) (mid new : Outside) where
   abbrev LineTurn : Line → Result Bool Status → Type 0
   LineTurn e r =
-      IsPartyTurn x own_new far_new r mid new room (λ trace. IsRead x own far line trace mid) (λ s inputs. event_step Video Pictures VideoRefused x s (inputs Events) inputs e)
+      IsPartyTurn x own_new far_new r mid new room (λ trace. IsRead x own far line trace mid)
+          (λ s inputs. event_step Video Pictures VideoRefused x s (inputs Events) inputs e)
 
   -- one whose event is done
   pub event_done : event ≡ said → StationsReady own_new far_new room → KeepsRoles mid new
-      → ((trace : TracePlace) (old : Outside) (s : DuplexState) (inputs : Role → List ℕ) → IsRead x own far line trace mid old s inputs
-      → Went (event_step Video Pictures VideoRefused x s (inputs Events) inputs said) (λ next rest. StationsStand x own_new far_new trace next (rest Events)) may_read true inputs old new)
+      → ((trace : TracePlace) (old : Outside) (s : DuplexState) (inputs : Role → List ℕ)
+          → IsRead x own far line trace mid old s inputs
+      → Went (event_step Video Pictures VideoRefused x s (inputs Events) inputs said)
+          (λ next rest. StationsStand x own_new far_new trace next (rest Events)) may_read true inputs old new)
       → LineTurn event (Ok true)
-  event_done is ready rest gives = subst (λ (e : Line). LineTurn e (Ok true)) (sym is) (went_on x own_new far_new mid new room _ _ ready rest gives)
+  event_done is ready rest gives = subst (λ (e : Line). LineTurn e (Ok true)) (sym is)
+      (went_on x own_new far_new mid new room _ _ ready rest gives)
 
   -- one that can't write
-  pub event_cut : event ≡ said → (r : Result Bool Status) (status : Status) → IsErrAnd r (λ z. z ≡ status) → status ≡ WriteFault → Rose mid.faults.write new.faults.write → KeepsRoles mid new
-      → ((trace : TracePlace) (old : Outside) (s : DuplexState) (inputs : Role → List ℕ) → IsRead x own far line trace mid old s inputs
-      → GainsFronts (step_texts (event_step Video Pictures VideoRefused x s (inputs Events) inputs said)) old.written new.written)
+  pub event_cut : event ≡ said → (r : Result Bool Status) (status : Status) → IsErrAnd r (λ z. z ≡ status)
+      → status ≡ WriteFault → Rose mid.faults.write new.faults.write → KeepsRoles mid new
+      → ((trace : TracePlace) (old : Outside) (s : DuplexState) (inputs : Role → List ℕ)
+          → IsRead x own far line trace mid old s inputs
+      → GainsFronts (step_texts (event_step Video Pictures VideoRefused x s (inputs Events) inputs said)) old.written
+          new.written)
       → LineTurn event r
-  event_cut is r status answer kind rose rest gives = subst (λ (e : Line). LineTurn e r) (sym is) (was_cut x own_new far_new mid new room _ _ r status answer kind rose rest gives)
+  event_cut is r status answer kind rose rest gives = subst (λ (e : Line). LineTurn e r) (sym is)
+      (was_cut x own_new far_new mid new room _ _ r status answer kind rose rest gives)
 
 -- one whose event is refused
-pub line_stops : (x : Party) (own far : Station) (line room : ℕ) (event said : Line) (r : Result Bool Status) (status : Status) (checked : Result Unit Told) (now : Outside) → event ≡ said
+pub line_stops : (x : Party) (own far : Station) (line room : ℕ) (event said : Line) (r : Result Bool Status)
+    (status : Status) (checked : Result Unit Told) (now : Outside) → event ≡ said
     → IsErrAnd r (λ z. z ≡ status) → IsRefusedWith line checked status → LineLaws → StepLaws
-    → ((trace : TracePlace) (old : Outside) (s : DuplexState) (inputs : Role → List ℕ) → IsRead x own far line trace now old s inputs → IsChecked checked said (λ e. refusal_at x s e))
+    → ((trace : TracePlace) (old : Outside) (s : DuplexState) (inputs : Role → List ℕ)
+        → IsRead x own far line trace now old s inputs → IsChecked checked said (λ e. refusal_at x s e))
     → LineTurn x own far own far line room event said now now event r
 line_stops x own far line room event said r status (Ok u) now is answer refused lines steps checks = absurd refused
 line_stops x own far line room event said r status (Err told) now is answer refused lines steps checks =
     subst (λ (e : Line). LineTurn x own far own far line room event said now now e r) (sym is)
-    (gave_up x own far now now room (λ trace. IsRead x own far line trace now) (λ s inputs. event_step Video Pictures VideoRefused x s (inputs Events) inputs said)
-    r (TraceRefused (fault_at line told)) (subst (λ (w : Status). IsErrAnd r (λ z. z ≡ w)) refused answer) tt tt (steps.none now)
-    (λ trace old s inputs b. line_is_refused x own far line trace old now s inputs b lines told (fault_at line told) refl said (checks trace old s inputs b)))
+    (gave_up x own far now now room (λ trace. IsRead x own far line trace now)
+        (λ s inputs. event_step Video Pictures VideoRefused x s (inputs Events) inputs said)
+    r (TraceRefused (fault_at line told)) (subst (λ (w : Status). IsErrAnd r (λ z. z ≡ w)) refused answer) tt tt
+        (steps.none now)
+    (λ trace old s inputs b. line_is_refused x own far line trace old now s inputs b lines told (fault_at line told)
+        refl said (checks trace old s inputs b)))
 
 -- one that delivers packets of a picture, of which one tells whether it may be done
-pub delivery_done : (x : Party) (own far : Station) (own_ends far_ends : PartyEnds) (line room : ℕ) (event said : Line) (n j : ℕ) (mid : Outside)
-    → TurnLaws → StepLaws → Refusals → event ≡ said → StationsReady own far room → AreInCall own_ends far_ends → KeepsInDelivery own.ends far.ends own_ends far_ends
+pub delivery_done : (x : Party) (own far : Station) (own_ends far_ends : PartyEnds) (line room : ℕ) (event said : Line)
+    (n j : ℕ) (mid : Outside)
+    → TurnLaws → StepLaws → Refusals → event ≡ said → StationsReady own far room → AreInCall own_ends far_ends
+        → KeepsInDelivery own.ends far.ends own_ends far_ends
     → (after : (Party → Params) → WayRuns Frame → WayRuns Frame)
-    → ((s : DuplexState) (inputs : Role → List ℕ) → event_step Video Pictures VideoRefused x s (inputs Events) inputs said
-    ≡ unless s (inputs Events) (Deliver n j) (refusal_at x s (Deliver n j)) (quiet_step s (inputs Events) (after s.params s.ways)))
+    → ((s : DuplexState) (inputs : Role → List ℕ)
+        → event_step Video Pictures VideoRefused x s (inputs Events) inputs said
+    ≡ unless s (inputs Events) (Deliver n j) (refusal_at x s (Deliver n j))
+        (quiet_step s (inputs Events) (after s.params s.ways)))
     → ((s : DuplexState) → HoldsPair s.params x own.ends far.ends s.ways → refusal_at x s (Deliver n j) ≡ None)
-    → ((p : Party → Params) (ways : WayRuns Frame) (left : ℕ) → HoldsPair p x own.ends far.ends ways → MayHappenOf (sides p) left x (Deliver n j) ways → HoldsPair p x own_ends far_ends (after p ways))
-    → LineTurn x own far (record own { ends = own_ends }) (record far { ends = far_ends }) line room event said mid mid event (Ok true)
-delivery_done x own far own_ends far_ends line room event said n j mid turns steps refusals is ready ends keeps after step none holds =
+    → ((p : Party → Params) (ways : WayRuns Frame) (left : ℕ) → HoldsPair p x own.ends far.ends ways
+        → MayHappenOf (sides p) left x (Deliver n j) ways → HoldsPair p x own_ends far_ends (after p ways))
+    → LineTurn x own far (record own { ends = own_ends }) (record far { ends = far_ends }) line room event said mid mid
+        event (Ok true)
+delivery_done x own far own_ends far_ends line room event said n j mid turns steps refusals is ready ends keeps after
+    step none holds =
     let own_new : Station = record own { ends = own_ends } in
     let far_new : Station = record far { ends = far_ends } in
-    event_done x own far own_new far_new line room event said mid mid is (stations_delivered own far own_ends far_ends room ready ends keeps) (steps.none mid)
+    event_done x own far own_new far_new line room event said mid mid is
+        (stations_delivered own far own_ends far_ends room ready ends keeps) (steps.none mid)
     (λ trace old s inputs b.
     let free = none s b.stood.holds in
     event_goes x own far line trace old mid s inputs b turns own_new far_new said (after s.params s.ways) refl refl
     (step s inputs ∙ step_is x own far line trace old mid s inputs b (Deliver n j) _ free)
-    (holds s.params s.ways (one_left s.params x s.ways) b.stood.holds (may_happen refusals s.params x s.ways (Deliver n j) free)))
+    (holds s.params s.ways (one_left s.params x s.ways) b.stood.holds (may_happen refusals s.params x s.ways
+        (Deliver n j) free)))
 
 -- one that asks for a frame
-pub frame_asked : (x : Party) (own far own_new : Station) (line room : ℕ) (event : Line) (r : Result Bool Status) (mid new : Outside) → event ≡ says.Send
+pub frame_asked : (x : Party) (own far own_new : Station) (line room : ℕ) (event : Line) (r : Result Bool Status)
+    (mid new : Outside) → event ≡ says.Send
     → TakesFrame x own far own_new line r mid new room
-    → ((trace : TracePlace) (old : Outside) (s : DuplexState) (inputs : Role → List ℕ) → IsRead x own far line trace mid old s inputs → refusal_at x s Send ≡ None)
+    → ((trace : TracePlace) (old : Outside) (s : DuplexState) (inputs : Role → List ℕ)
+        → IsRead x own far line trace mid old s inputs → refusal_at x s Send ≡ None)
     → LineTurn x own far own_new far line room event says.Send mid new event r
-frame_asked x own far own_new line room event r mid new is t none = subst (λ (e : Line). LineTurn x own far own_new far line room event says.Send mid new e r) (sym is) (record {
+frame_asked x own far own_new line room event r mid new is t none =
+    subst (λ (e : Line). LineTurn x own far own_new far line room event says.Send mid new e r) (sym is) (record {
   gives = λ trace old s inputs b.
-      subst (λ (step : Step DuplexState). TurnGives r step (λ next rest. StationsStand x own_new far trace next (rest Events)) may_read true inputs old new)
-      (sym (ap (λ (o : Option Refusal). unless s (inputs Events) Send o (capture_step Video Pictures VideoRefused x s (inputs Events) (inputs Video))) (none trace old s inputs b)))
+      subst (λ (step : Step DuplexState). TurnGives r step (λ next rest. StationsStand x own_new far trace next
+          (rest Events)) may_read true inputs old new)
+      (sym (ap (λ (o : Option Refusal). unless s (inputs Events) Send o (capture_step Video Pictures VideoRefused x s
+          (inputs Events) (inputs Video))) (none trace old s inputs b)))
       (t.gives trace old s inputs (record { read = b; none = none trace old s inputs b }));
   goes_on = t.goes_on;
   ready = t.ready;

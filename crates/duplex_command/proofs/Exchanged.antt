@@ -53,11 +53,13 @@ frame_taken n m = fun_ext by_role
     by_role Video2 = refl
     by_role Pictures2 = refl
 
-shown_texts : (x : Party) (n : ℕ) (reference : Option ℕ) (plays : List (Shown Picture)) → for_second (newest_texts Pictures x n reference plays) ≡ newest_texts Pictures2 x n reference plays
+shown_texts : (x : Party) (n : ℕ) (reference : Option ℕ) (plays : List (Shown Picture))
+    → for_second (newest_texts Pictures x n reference plays) ≡ newest_texts Pictures2 x n reference plays
 shown_texts x n reference [] = refl
 shown_texts x n reference (shown ∷ plays) = fun_ext by_role
   where
-    by_role : (r : Role) → newest_texts Pictures x n reference (shown ∷ plays) (exchanged r) ≡ newest_texts Pictures2 x n reference (shown ∷ plays) r
+    by_role : (r : Role) → newest_texts Pictures x n reference (shown ∷ plays) (exchanged r)
+        ≡ newest_texts Pictures2 x n reference (shown ∷ plays) r
     by_role Video = refl
     by_role Events = refl
     by_role Pictures = refl
@@ -72,12 +74,17 @@ shown_texts x n reference (shown ∷ plays) = fun_ext by_role
 abbrev step_of : End → Step DuplexState
 step_of last = Ends last
 
-ends_so : (status : Status) (a b : Role → Option ℕ) → a ≡ b → step_of (record { status = status; taken = a; texts = no_texts }) ≡ step_of (record { status = status; taken = b; texts = no_texts })
-ends_so status a b same = ap (λ (taken : Role → Option ℕ). step_of (record { status = status; taken = taken; texts = no_texts })) same
+ends_so : (status : Status) (a b : Role → Option ℕ) → a ≡ b
+    → step_of (record { status = status; taken = a; texts = no_texts })
+    ≡ step_of (record { status = status; taken = b; texts = no_texts })
+ends_so status a b same = ap (λ (taken : Role → Option ℕ). step_of (record { status = status; taken = taken;
+    texts = no_texts })) same
 
-line_refused : (trace : List ℕ) (fault : TraceFault) → second_step (step_of (refused_line trace fault)) ≡ step_of (refused_line trace fault)
+line_refused : (trace : List ℕ) (fault : TraceFault) → second_step (step_of (refused_line trace fault))
+    ≡ step_of (refused_line trace fault)
 line_refused trace fault =
-    ends_so (TraceRefused fault) (λ r. Some (of Events (line_size trace) (exchanged r))) (λ r. Some (of Events (line_size trace) r))
+    ends_so (TraceRefused fault) (λ r. Some (of Events (line_size trace) (exchanged r)))
+        (λ r. Some (of Events (line_size trace) r))
     (ap (λ (taken : Role → ℕ). λ r. Some (taken r)) (line_taken (line_size trace)))
 
 -- what is taken where a video is refused
@@ -102,21 +109,27 @@ line_goes trace next first second texts =
     λ i. Goes next (record { taken = line_taken (line_size trace) i; whole = is_closed trace; texts = texts i })
 
 module _ (x : Party) (s : DuplexState) (trace : List ℕ) where
-  event_unless : (e : Event) (o : Option Refusal) (first second : Step DuplexState) → second_step first ≡ second → second_step (unless s trace e o first) ≡ unless s trace e o second
+  event_unless : (e : Event) (o : Option Refusal) (first second : Step DuplexState) → second_step first ≡ second
+      → second_step (unless s trace e o first) ≡ unless s trace e o second
   event_unless e None first second same = same
   event_unless e (Some r) first second same = line_refused trace _
 
   frame_captured : (size : ℕ) (r : Result (List ℕ) Y4mFault)
-      → second_step (captured_step Video Pictures VideoRefused x s trace size r) ≡ captured_step Video2 Pictures2 Video2Refused x s trace size r
+      → second_step (captured_step Video Pictures VideoRefused x s trace size r)
+          ≡ captured_step Video2 Pictures2 Video2Refused x s trace size r
   frame_captured size (Ok planes) =
-      ap (λ (taken : Role → ℕ). Goes (after_line (with_frame x s size planes) trace) (record { taken = taken; whole = is_closed trace; texts = no_texts }))
+      ap (λ (taken : Role → ℕ). Goes (after_line (with_frame x s size planes) trace) (record { taken = taken;
+          whole = is_closed trace; texts = no_texts }))
       (frame_taken (line_size trace) size)
   frame_captured size (Err fault) =
-      ends_so (Video2Refused fault) (λ r. refused_taken trace Video (exchanged r)) (refused_taken trace Video2) (video_refused trace)
+      ends_so (Video2Refused fault) (λ r. refused_taken trace Video (exchanged r)) (refused_taken trace Video2)
+          (video_refused trace)
 
-  frame_asked : (video : List ℕ) → second_step (capture_step Video Pictures VideoRefused x s trace video) ≡ capture_step Video2 Pictures2 Video2Refused x s trace video
+  frame_asked : (video : List ℕ) → second_step (capture_step Video Pictures VideoRefused x s trace video)
+      ≡ capture_step Video2 Pictures2 Video2Refused x s trace video
   frame_asked [] = line_refused trace _
-  frame_asked (b ∷ rest) = frame_captured (frame_size (s.params x).format (b ∷ rest)) (next_frame (place_of x s).more (s.params x).format (place_of x s).at (b ∷ rest))
+  frame_asked (b ∷ rest) = frame_captured (frame_size (s.params x).format (b ∷ rest))
+      (next_frame (place_of x s).more (s.params x).format (place_of x s).at (b ∷ rest))
 
   quiet : (ways : WayRuns Frame) → second_step (quiet_step s trace ways) ≡ quiet_step s trace ways
   quiet ways = line_goes trace (after_line (record s { ways = ways }) trace) no_texts no_texts refl
@@ -124,7 +137,8 @@ module _ (x : Party) (s : DuplexState) (trace : List ℕ) where
   -- what a line says of a party whose roles are the second ones is what it says where both have changed
   -- places
   pub event_at_second : (inputs : Role → List ℕ) (event : Line)
-      → second_step (event_step Video Pictures VideoRefused x s trace (for_second inputs) event) ≡ event_step Video2 Pictures2 Video2Refused x s trace inputs event
+      → second_step (event_step Video Pictures VideoRefused x s trace (for_second inputs) event)
+          ≡ event_step Video2 Pictures2 Video2Refused x s trace inputs event
   event_at_second inputs says.Nothing = quiet s.ways
   event_at_second inputs says.Send = event_unless Send (refusal_at x s Send) _ _ (frame_asked (inputs Video2))
   event_at_second inputs (says.Packet n j) = event_unless (Deliver n j) (refusal_at x s (Deliver n j)) _ _ (quiet _)
@@ -132,5 +146,6 @@ module _ (x : Party) (s : DuplexState) (trace : List ℕ) where
   event_at_second inputs (says.Back k) = line_refused trace _
   event_at_second inputs says.Play =
       event_unless Play (refusal_at x s Play) _ _
-      (line_goes trace (after_line (with_next x s) trace) (play_texts Pictures x (seen_of x (with_next x s)) (seen_of x s).played) (play_texts Pictures2 x (seen_of x (with_next x s)) (seen_of x s).played)
+      (line_goes trace (after_line (with_next x s) trace) (play_texts Pictures x (seen_of x (with_next x s))
+          (seen_of x s).played) (play_texts Pictures2 x (seen_of x (with_next x s)) (seen_of x s).played)
       (shown_texts x (seen_of x s).played _ (seen_of x (with_next x s)).plays))

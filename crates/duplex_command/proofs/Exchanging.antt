@@ -34,12 +34,14 @@ input_too Pictures2 is = is
 -- ---- the desk
 
 -- the exchanged desk tells what the desk tells, exchanged
-pub told_at_second : (name : ℕ) (o : Outside) (inputs : Role → List ℕ) → Tells o inputs → Tells (exchanged_outside name o) (for_second inputs)
+pub told_at_second : (name : ℕ) (o : Outside) (inputs : Role → List ℕ) → Tells o inputs
+    → Tells (exchanged_outside name o) (for_second inputs)
 told_at_second name o inputs told = λ r is. told (exchanged r) (input_too r is)
 
 -- what is the same with both exchanged is the same
 pub unexchanged : {A : Type 0} (f g : Role → A) → for_second f ≡ for_second g → f ≡ g
-unexchanged {A = A} f g same = fun_ext (λ r. subst (λ (q : Role). f q ≡ g q) (twice r) (ap (λ (h : Role → A). h (exchanged r)) same))
+unexchanged {A = A} f g same =
+    fun_ext (λ r. subst (λ (q : Role). f q ≡ g q) (twice r) (ap (λ (h : Role → A). h (exchanged r)) same))
 
 -- the loans below the first one
 abbrev pub loans_below : List ℕ → List ℕ
@@ -58,7 +60,9 @@ module _ (a b : ℕ) (old new : Outside) (kept : KeepsRoles (exchanged_outside a
 
 -- ---- answers
 
-pub cause_at_second : (result : Result Bool Status) (old new : Outside) → HasCause (turn_status result) old.faults new.faults → HasCause (turn_status (second_result result)) old.faults new.faults
+pub cause_at_second : (result : Result Bool Status) (old new : Outside)
+    → HasCause (turn_status result) old.faults new.faults
+    → HasCause (turn_status (second_result result)) old.faults new.faults
 cause_at_second (Ok goes) old new c = c
 cause_at_second (Err Fine) old new c = c
 cause_at_second (Err OutOfMemory) old new c = c
@@ -108,17 +112,25 @@ swap_ends true false false false = refl
 swap_ends false b c d = refl
 
 held : (t : Turn) (k : Role → ℕ) → holds (second_turn t) (for_second k) ≡ holds t k
-held t k = swap_ends t.whole (nat_le (t.taken Video2) (k Video2)) (nat_le (t.taken Events) (k Events)) (nat_le (t.taken Video) (k Video))
+held t k = swap_ends t.whole (nat_le (t.taken Video2) (k Video2)) (nat_le (t.taken Events) (k Events))
+    (nat_le (t.taken Video) (k Video))
 
-module _ {State : Type 0} (stands : State → (Role → List ℕ) → Type 0) (reads : State → Bool) (inputs : Role → List ℕ) (a b : ℕ) (old new : Outside) where
+module _ {State : Type 0} (stands : State → (Role → List ℕ) → Type 0) (reads : State → Bool) (inputs : Role
+    → List ℕ) (a b : ℕ) (old new : Outside) where
   -- what is left where as much is gone as the second party says
-  left_too : (taken : Role → ℕ) → Tells (exchanged_outside b new) (left_after (for_second inputs) taken) → Tells new (left_after inputs (for_second taken))
-  left_too taken told = λ r is. subst (λ (q : Role). new.left q ≡ Some (drop (taken (exchanged r)) (inputs q))) (twice r) (told (exchanged r) (input_too r is))
+  left_too : (taken : Role → ℕ) → Tells (exchanged_outside b new) (left_after (for_second inputs) taken)
+      → Tells new (left_after inputs (for_second taken))
+  left_too taken told = λ r is. subst (λ (q : Role). new.left q ≡ Some (drop (taken (exchanged r)) (inputs q)))
+      (twice r) (told (exchanged r) (input_too r is))
 
-  gains_too : (texts : Role → List ℕ) → Gains texts (exchanged_outside a old).written (exchanged_outside b new).written → Gains (for_second texts) old.written new.written
-  gains_too texts gains = λ r. subst (λ (q : Role). new.written q ≡ gained (old.written q) (texts (exchanged r))) (twice r) (gains (exchanged r))
+  gains_too : (texts : Role → List ℕ) → Gains texts (exchanged_outside a old).written (exchanged_outside b new).written
+      → Gains (for_second texts) old.written new.written
+  gains_too texts gains = λ r. subst (λ (q : Role). new.written q ≡ gained (old.written q) (texts (exchanged r)))
+      (twice r) (gains (exchanged r))
 
-  went : (step : Step State) (now : Bool) → Went step (λ s rest. stands s (for_second rest)) reads now (for_second inputs) (exchanged_outside a old) (exchanged_outside b new)
+  went : (step : Step State) (now : Bool)
+      → Went step (λ s rest. stands s (for_second rest)) reads now (for_second inputs) (exchanged_outside a old)
+      (exchanged_outside b new)
       → Went (second_step step) stands reads now inputs old new
   went step now w = record {
     next = w.next;
@@ -131,22 +143,28 @@ module _ {State : Type 0} (stands : State → (Role → List ℕ) → Type 0) (r
     written = gains_too w.turn.texts w.written;
   }
 
-  ended : (step : Step State) (status : Status) → Ended step status (for_second inputs) (exchanged_outside a old) (exchanged_outside b new) → Ended (second_step step) (second_status status) inputs old new
+  ended : (step : Step State) (status : Status)
+      → Ended step status (for_second inputs) (exchanged_outside a old) (exchanged_outside b new)
+      → Ended (second_step step) (second_status status) inputs old new
   ended step status e = record {
     last = second_end e.last;
     is = ap second_step e.is;
     by = record {
       known = ap second_status e.by.known;
-      left = λ r is k taken. subst (λ (q : Role). new.left q ≡ Some (drop (0 + k) (inputs q))) (twice r) (e.by.left (exchanged r) (input_too r is) k taken);
+      left = λ r is k taken. subst (λ (q : Role). new.left q ≡ Some (drop (0 + k) (inputs q))) (twice r)
+          (e.by.left (exchanged r) (input_too r is) k taken);
       written = gains_too e.last.texts e.by.written;
     };
   }
 
-  part : (step : Step State) (k : Role → ℕ) → IsPart (step_turns step) k → IsPart (step_turns (second_step step)) (for_second k)
+  part : (step : Step State) (k : Role → ℕ) → IsPart (step_turns step) k
+      → IsPart (step_turns (second_step step)) (for_second k)
   part (Goes next turn) k is = held turn k ∙ is
   part (Ends last) k is = is
 
-  lost : (step : Step State) (now : Bool) → Lost step now (for_second inputs) (exchanged_outside a old) (exchanged_outside b new) → Lost (second_step step) now inputs old new
+  lost : (step : Step State) (now : Bool)
+      → Lost step now (for_second inputs) (exchanged_outside a old) (exchanged_outside b new)
+      → Lost (second_step step) now inputs old new
   lost step now l = record {
     part = for_second l.part;
     partly = part step l.part l.partly;
@@ -159,13 +177,20 @@ module _ {State : Type 0} (stands : State → (Role → List ℕ) → Type 0) (r
   texts_same (Goes next turn) r = refl
   texts_same (Ends last) r = refl
 
-  fronts : (step : Step State) → GainsFronts (step_texts step) (exchanged_outside a old).written (exchanged_outside b new).written → GainsFronts (step_texts (second_step step)) old.written new.written
-  fronts step f = λ r. subst (λ (text : List ℕ). Front text (old.written r) (new.written r)) (sym (texts_same step r)) (subst (λ (q : Role). Front (step_texts step (exchanged r)) (old.written q) (new.written q)) (twice r) (f (exchanged r)))
+  fronts : (step : Step State)
+      → GainsFronts (step_texts step) (exchanged_outside a old).written (exchanged_outside b new).written
+      → GainsFronts (step_texts (second_step step)) old.written new.written
+  fronts step f = λ r. subst (λ (text : List ℕ). Front text (old.written r) (new.written r)) (sym (texts_same step r))
+      (subst (λ (q : Role). Front (step_texts step (exchanged r)) (old.written q) (new.written q)) (twice r)
+      (f (exchanged r)))
 
 -- What a turn gives of the desk with both exchanged, one of the second party gives of the desk
 -- itself. The names are those of the loans on which the exchanged desk stood and stands.
-module _ {State : Type 0} (stands : State → (Role → List ℕ) → Type 0) (reads : State → Bool) (now : Bool) (inputs : Role → List ℕ) (a b : ℕ) (old new : Outside) (step : Step State) where
-  pub turn_at_second : (result : Result Bool Status) → TurnGives result step (λ s rest. stands s (for_second rest)) reads now (for_second inputs) (exchanged_outside a old) (exchanged_outside b new)
+module _ {State : Type 0} (stands : State → (Role → List ℕ) → Type 0) (reads : State → Bool) (now : Bool) (inputs : Role
+    → List ℕ) (a b : ℕ) (old new : Outside) (step : Step State) where
+  pub turn_at_second : (result : Result Bool Status)
+      → TurnGives result step (λ s rest. stands s (for_second rest)) reads now (for_second inputs)
+      (exchanged_outside a old) (exchanged_outside b new)
       → TurnGives (second_result result) (second_step step) stands reads now inputs old new
   turn_at_second (Ok true) g = went stands reads inputs a b old new step now g
   turn_at_second (Ok false) g = ended stands reads inputs a b old new step Fine g

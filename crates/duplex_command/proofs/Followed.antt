@@ -26,13 +26,17 @@ use Rattle.duplex_command.specs.Duplex.{DuplexState, VideoPlace, duplex_step, fi
 use Rattle.duplex_command.specs.Recorded.{FollowsItsTrace, IsEnd, call_after, fault_in, faults, film, line_events, ways_of, with_lines}
 use Rattle.duplex_command.proofs.Recorded.{CallLaws, Comes, IsOn, run_comes, state}
 
-video_is : (video : List ℕ) (f : Format) → head_of video ≡ Ok f → video_frames video ≡ frames_of f 1048576 (head_size video) (drop (head_size video) video)
+video_is : (video : List ℕ) (f : Format) → head_of video ≡ Ok f
+    → video_frames video ≡ frames_of f 1048576 (head_size video) (drop (head_size video) video)
 unfolding video_frames
-video_is video f is = ap (λ (r : Result Format Y4mFault). frames_after_head r (head_size video) (drop (head_size video) video)) is
+video_is video f is = ap (λ (r : Result Format Y4mFault). frames_after_head r (head_size video)
+    (drop (head_size video) video)) is
 
-fault_is : (video : List ℕ) (f : Format) → head_of video ≡ Ok f → video_fault video ≡ fault_of f 1048576 (head_size video) (drop (head_size video) video)
+fault_is : (video : List ℕ) (f : Format) → head_of video ≡ Ok f
+    → video_fault video ≡ fault_of f 1048576 (head_size video) (drop (head_size video) video)
 unfolding video_fault
-fault_is video f is = ap (λ (r : Result Format Y4mFault). fault_after_head r (head_size video) (drop (head_size video) video)) is
+fault_is video f is = ap (λ (r : Result Format Y4mFault). fault_after_head r (head_size video)
+    (drop (head_size video) video)) is
 
 module _ (q : Params) (f g : Format) (inputs : Role → List ℕ) where
   abbrev p : Party → Params
@@ -44,7 +48,9 @@ module _ (q : Params) (f g : Format) (inputs : Role → List ℕ) where
   abbrev broken : Party → Option Y4mFault
   broken = faults inputs
 
-  module _ (laws : CallLaws p captures) (frame_laws : FrameLaws) (arrived : (past : List Lettered) → AllMayHappenOf (sides p) captures past → (x : Party) → ShowsWhatArrived (p x) (way x (ways_of p captures past)).frames (way x (ways_of p captures past)).past)
+  module _ (laws : CallLaws p captures) (frame_laws : FrameLaws) (arrived : (past : List Lettered)
+      → AllMayHappenOf (sides p) captures past → (x : Party)
+      → ShowsWhatArrived (p x) (way x (ways_of p captures past)).frames (way x (ways_of p captures past)).past)
       (head_a : head_of (inputs Video) ≡ Ok f) (head_b : head_of (inputs Video2) ≡ Ok g) where
     abbrev rest : DuplexState → (Role → ℕ) → Run
     rest next taken = run_of duplex_step 16777216 next (left_after inputs taken)
@@ -65,53 +71,74 @@ module _ (q : Params) (f g : Format) (inputs : Role → List ℕ) where
     none_before : (n : ℕ) → 0 + n ≡ n
     none_before n = omega arith
 
-    all_ahead : (x : Party) → captures x ≡ map (λ planes. picture_of (p x).format planes) (frames_of (p x).format (first x).more (first x).at (left (video_of x)))
+    all_ahead : (x : Party) → captures x ≡ map (λ planes. picture_of (p x).format planes)
+        (frames_of (p x).format (first x).more (first x).at (left (video_of x)))
     all_ahead A =
         ap (λ (l : List (List ℕ)). map (λ planes. picture_of f planes) l) (video_is (inputs Video) f head_a)
-        ∙ ap (λ (m : ℕ). map (λ planes. picture_of f planes) (frames_of f 1048576 (head_size (inputs Video)) (drop m (inputs Video)))) (sym (no_more (head_size (inputs Video))))
+        ∙ ap (λ (m : ℕ). map (λ planes. picture_of f planes) (frames_of f 1048576 (head_size (inputs Video))
+            (drop m (inputs Video)))) (sym (no_more (head_size (inputs Video))))
     all_ahead B =
         ap (λ (l : List (List ℕ)). map (λ planes. picture_of g planes) l) (video_is (inputs Video2) g head_b)
-        ∙ ap (λ (m : ℕ). map (λ planes. picture_of g planes) (frames_of g 1048576 (head_size (inputs Video2)) (drop m (inputs Video2)))) (sym (none_before (head_size (inputs Video2))))
+        ∙ ap (λ (m : ℕ). map (λ planes. picture_of g planes) (frames_of g 1048576 (head_size (inputs Video2))
+            (drop m (inputs Video2)))) (sym (none_before (head_size (inputs Video2))))
 
-    none_sent : IsOn p captures broken laws no_runs (state p captures broken laws no_runs (first A) (first B) 0 false) left
+    none_sent : IsOn p captures broken laws no_runs (state p captures broken laws no_runs (first A) (first B) 0 false)
+        left
     none_sent = record { sent = sent; ahead = ahead; fault = fault }
       where
-        sent : (x : Party) → sent_before (way {Frame = Frame} x no_runs).past ≡ length (way {Frame = Frame} x no_runs).frames
+        sent : (x : Party) → sent_before (way {Frame = Frame} x no_runs).past
+            ≡ length (way {Frame = Frame} x no_runs).frames
         sent A = refl
         sent B = refl
 
-        ahead : (x : Party) → drop (length (way {Frame = Frame} x no_runs).frames) (captures x) ≡ map (λ planes. picture_of (p x).format planes) (frames_of (p x).format (place_of x (state p captures broken laws no_runs (first A) (first B) 0 false)).more (place_of x (state p captures broken laws no_runs (first A) (first B) 0 false)).at (left (video_of x)))
+        ahead : (x : Party) → drop (length (way {Frame = Frame} x no_runs).frames) (captures x)
+            ≡ map (λ planes. picture_of (p x).format planes)
+            (frames_of (p x).format (place_of x (state p captures broken laws no_runs (first A) (first B) 0 false)).more
+            (place_of x (state p captures broken laws no_runs (first A) (first B) 0 false)).at (left (video_of x)))
         ahead A = all_ahead A
         ahead B = all_ahead B
 
-        fault : (x : Party) → fault_of (p x).format (place_of x (state p captures broken laws no_runs (first A) (first B) 0 false)).more (place_of x (state p captures broken laws no_runs (first A) (first B) 0 false)).at (left (video_of x)) ≡ broken x
-        fault A = ap (λ (m : ℕ). fault_of f 1048576 (head_size (inputs Video)) (drop m (inputs Video))) (no_more (head_size (inputs Video))) ∙ sym (fault_is (inputs Video) f head_a)
-        fault B = ap (λ (m : ℕ). fault_of g 1048576 (head_size (inputs Video2)) (drop m (inputs Video2))) (none_before (head_size (inputs Video2))) ∙ sym (fault_is (inputs Video2) g head_b)
+        fault : (x : Party) → fault_of (p x).format
+            (place_of x (state p captures broken laws no_runs (first A) (first B) 0 false)).more
+            (place_of x (state p captures broken laws no_runs (first A) (first B) 0 false)).at (left (video_of x))
+            ≡ broken x
+        fault A = ap (λ (m : ℕ). fault_of f 1048576 (head_size (inputs Video)) (drop m (inputs Video)))
+            (no_more (head_size (inputs Video))) ∙ sym (fault_is (inputs Video) f head_a)
+        fault B = ap (λ (m : ℕ). fault_of g 1048576 (head_size (inputs Video2)) (drop m (inputs Video2)))
+            (none_before (head_size (inputs Video2))) ∙ sym (fault_is (inputs Video2) g head_b)
 
-    comes : Comes p captures broken laws [] (line_events 16777216 (inputs Events)) (fault_in 16777216 1 (inputs Events)) 1 run
-    comes = run_comes p captures broken laws frame_laws 16777216 [] (first A) (first B) 0 false left tt none_sent (none_before 16777216)
+    comes : Comes p captures broken laws [] (line_events 16777216 (inputs Events)) (fault_in 16777216 1 (inputs Events))
+        1 run
+    comes = run_comes p captures broken laws frame_laws 16777216 [] (first A) (first B) 0 false left tt none_sent
+        (none_before 16777216)
 
     one_more : (n : ℕ) → 1 + n ≡ n + 1
     one_more n = omega arith
 
-    end_is : IsEnd p captures broken (fault_in 16777216 1 (inputs Events)) (length comes.lines + 1) (with_lines p captures [] comes.lines) comes.refused run.last.status
-    end_is = subst (λ (m : ℕ). IsEnd p captures broken (fault_in 16777216 1 (inputs Events)) m (with_lines p captures [] comes.lines) comes.refused run.last.status) (one_more (length comes.lines)) comes.end
+    end_is : IsEnd p captures broken (fault_in 16777216 1 (inputs Events)) (length comes.lines + 1)
+        (with_lines p captures [] comes.lines) comes.refused run.last.status
+    end_is = subst (λ (m : ℕ). IsEnd p captures broken (fault_in 16777216 1 (inputs Events)) m
+        (with_lines p captures [] comes.lines) comes.refused run.last.status) (one_more (length comes.lines)) comes.end
 
     -- the head of each party's pictures is written first
-    shown_first : (x : Party) → (heads_text f g (pictures_of x) ++ texts_of run.turns (pictures_of x)) ++ run.last.texts (pictures_of x)
+    shown_first : (x : Party) → (heads_text f g (pictures_of x) ++ texts_of run.turns (pictures_of x))
+        ++ run.last.texts (pictures_of x)
         ≡ head_text (p x).format ++ shown_text (call_after p captures x (with_lines p captures [] comes.lines)).plays
     shown_first A =
-        ap (λ (l : List ℕ). (l ++ texts_of run.turns (pictures_of A)) ++ run.last.texts (pictures_of A)) (append-nil (head_text f))
+        ap (λ (l : List ℕ). (l ++ texts_of run.turns (pictures_of A)) ++ run.last.texts (pictures_of A))
+            (append-nil (head_text f))
         ∙ append_assoc (head_text f) (texts_of run.turns (pictures_of A)) (run.last.texts (pictures_of A))
         ∙ ap (λ (l : List ℕ). head_text f ++ l) (sym (comes.pictures A))
-    shown_first B = append_assoc (head_text g) (texts_of run.turns (pictures_of B)) (run.last.texts (pictures_of B)) ∙ ap (λ (l : List ℕ). head_text g ++ l) (sym (comes.pictures B))
+    shown_first B = append_assoc (head_text g) (texts_of run.turns (pictures_of B)) (run.last.texts (pictures_of B))
+        ∙ ap (λ (l : List ℕ). head_text g ++ l) (sym (comes.pictures B))
 
     abbrev began : Result Format Y4mFault → Result Format Y4mFault → Run
     began a b = follow (heads_step q inputs a b) rest
 
     pub follows : FollowsItsTrace p inputs (duplex_run q inputs)
     follows =
-        subst (λ (a : Result Format Y4mFault). FollowsItsTrace p inputs (began a (head_of (inputs Video2)))) (sym head_a)
+        subst (λ (a : Result Format Y4mFault). FollowsItsTrace p inputs (began a (head_of (inputs Video2))))
+            (sym head_a)
         (subst (λ (b : Result Format Y4mFault). FollowsItsTrace p inputs (began (Ok f) b)) (sym head_b)
         (record {
           lines = comes.lines;

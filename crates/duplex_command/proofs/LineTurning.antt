@@ -53,7 +53,8 @@ part_len (Number n) bytes is = is.few
 parts_len : (parts : List Part) (bytes : List ℕ) → Spell parts bytes → length bytes ≤ most parts
 parts_len [] bytes none = omega (arith, ap (λ (l : List ℕ). length l) none)
 parts_len (part ∷ parts) bytes (front, rest, whole, is, h) =
-    omega (arith, ap (λ (l : List ℕ). length l) whole, length-append front rest, part_len part front is, parts_len parts rest h)
+    omega (arith, ap (λ (l : List ℕ). length l) whole, length-append front rest, part_len part front is,
+        parts_len parts rest h)
 
 event_len : (event : Line) → most (parts_of event) ≤ 17
 event_len says.Nothing = lit≤ tt
@@ -69,7 +70,8 @@ ReadLines = (line : List ℕ) (event : Line) → event_in line ≡ Some event �
 module _ (read : ReadLines) where
   none_or : (rest : List ℕ) (o : Option Line) → event_in rest ≡ o → 17 < length rest → o ≡ None
   none_or rest None is long = refl
-  none_or rest (Some event) is long = absurd (omega (arith, parts_len (parts_of event) rest (read rest event is), event_len event, long))
+  none_or rest (Some event) is long = absurd (omega (arith, parts_len (parts_of event) rest (read rest event is),
+      event_len event, long))
 
   long_lettered : (x : Party) (line : List ℕ) → 64 < length line → lettered x (drop 2 line) ≡ None
   long_lettered x line long = ap (of_party x) (none_or (drop 2 line) (event_in (drop 2 line)) refl (two_less line long))
@@ -86,15 +88,18 @@ module _ (read : ReadLines) where
   pub long_is_bad : (line : List ℕ) → 64 < length line → party_event line ≡ None
   long_is_bad [] long = absurd (omega (arith, long))
   long_is_bad (b ∷ line) long =
-      choice (bytes_eq (take 2 (b ∷ line)) (codes "a ")) (lettered A (drop 2 (b ∷ line))) _ None (long_lettered A (b ∷ line) long)
-      (choice (bytes_eq (take 2 (b ∷ line)) (codes "b ")) (lettered B (drop 2 (b ∷ line))) None None (long_lettered B (b ∷ line) long) refl)
+      choice (bytes_eq (take 2 (b ∷ line)) (codes "a ")) (lettered A (drop 2 (b ∷ line))) _ None
+          (long_lettered A (b ∷ line) long)
+      (choice (bytes_eq (take 2 (b ∷ line)) (codes "b ")) (lettered B (drop 2 (b ∷ line))) None None
+          (long_lettered B (b ∷ line) long) refl)
 
 -- ---- which step it is
 
 abbrev chosen : Bool → DuplexState → (Role → List ℕ) → Option (Option (Party × Line)) → Step DuplexState
 chosen b s inputs o = if b then line_step s inputs o else Ends (bad_line (TooMany (s.lines + 1)))
 
-line_is : (s : DuplexState) (inputs : Role → List ℕ) (trace : List ℕ) (o : Option (Option (Party × Line))) → 0 < length trace → s.lines < 16777216 → party_event (first_line trace) ≡ o
+line_is : (s : DuplexState) (inputs : Role → List ℕ) (trace : List ℕ) (o : Option (Option (Party × Line)))
+    → 0 < length trace → s.lines < 16777216 → party_event (first_line trace) ≡ o
     → trace_step s inputs trace ≡ line_step s inputs o
 line_is s inputs [] o some few is = absurd (omega arith)
 line_is s inputs (b ∷ trace) o some few is =
@@ -105,7 +110,8 @@ many_is : (s : DuplexState) (inputs : Role → List ℕ) (trace : List ℕ) → 
     → trace_step s inputs trace ≡ Ends (bad_line (TooMany (s.lines + 1)))
 many_is s inputs [] some many = absurd (omega arith)
 many_is s inputs (b ∷ trace) some many =
-    ap (λ (t : Bool). chosen t s inputs (party_event (first_line (b ∷ trace)))) (le-ltb s.lines 16777216 (omega (arith, many)))
+    ap (λ (t : Bool). chosen t s inputs (party_event (first_line (b ∷ trace))))
+        (le-ltb s.lines 16777216 (omega (arith, many)))
 
 -- ---- a line that is done, or refused
 
@@ -121,18 +127,23 @@ module _ (s : DuplexState) (inputs : Role → List ℕ) (before mid : Outside) (
   trace = inputs Events
 
   -- a refused line is taken, and nothing of the videos
-  pub line_refused : LineLaws → (status : Status) (fault : TraceFault) (step : Step DuplexState) → status ≡ TraceRefused fault → step ≡ step_of (refused_line trace fault)
+  pub line_refused : LineLaws → (status : Status) (fault : TraceFault) (step : Step DuplexState)
+      → status ≡ TraceRefused fault → step ≡ step_of (refused_line trace fault)
       → Ended step status inputs before mid
   line_refused laws status fault step status_is is = record {
     last = refused_line trace fault;
     is = is;
-    by = subst (λ (z : Status). EndsBy (refused_line trace fault) z inputs before mid) (sym status_is) (laws.refused fault inputs before mid taken);
+    by = subst (λ (z : Status). EndsBy (refused_line trace fault) z inputs before mid) (sym status_is)
+        (laws.refused fault inputs before mid taken);
   }
 
   -- one that is done goes on, and writes these texts
-  pub line_goes : (next : DuplexState) (texts : Role → List ℕ) (step : Step DuplexState) (stands : DuplexState → (Role → List ℕ) → Type 0)
-      → step ≡ Goes (after_line next trace) (line_turn trace texts) → stands (after_line next trace) (left_after inputs (of Events (line_size trace)))
-      → (new : Outside) → new.left ≡ mid.left → Gains texts mid.written new.written → Went step stands may_read true inputs before new
+  pub line_goes : (next : DuplexState) (texts : Role → List ℕ) (step : Step DuplexState) (stands : DuplexState
+      → (Role → List ℕ) → Type 0)
+      → step ≡ Goes (after_line next trace) (line_turn trace texts)
+          → stands (after_line next trace) (left_after inputs (of Events (line_size trace)))
+      → (new : Outside) → new.left ≡ mid.left → Gains texts mid.written new.written
+          → Went step stands may_read true inputs before new
   line_goes next texts step stands is kept new still gains = record {
     next = after_line next trace;
     turn = line_turn trace texts;
@@ -147,12 +158,14 @@ module _ (s : DuplexState) (inputs : Role → List ℕ) (before mid : Outside) (
 -- ---- the reader of the trace
 
 -- a party's video stands where it stood, where both do
-pub place_same : (y : Party) (s t : DuplexState) → s.video_a ≡ t.video_a → s.video_b ≡ t.video_b → place_of y s ≡ place_of y t
+pub place_same : (y : Party) (s t : DuplexState) → s.video_a ≡ t.video_a → s.video_b ≡ t.video_b
+    → place_of y s ≡ place_of y t
 place_same A s t a b = a
 place_same B s t a b = b
 
 -- after a line the stations stand where it was passed
-pub passed : LineLaws → (x : Party) (own far : Station) (s : DuplexState) (rest : List ℕ) (old after : TracePlace) (left : Option (List ℕ))
+pub passed : LineLaws → (x : Party) (own far : Station) (s : DuplexState) (rest : List ℕ) (old after : TracePlace)
+    (left : Option (List ℕ))
     → StationsStand x own far old s rest → after.lines ≡ old.lines + 1 → Passes rest after left
     → StationsStand x own far after (after_line s rest) (drop (line_size rest) rest)
 passed laws x own far s rest old after left k lines passes = record {
@@ -169,14 +182,18 @@ pub record IsReadAt (s : DuplexState) (reader : TracePlace) : Type 0 where
   pub lines_are : s.lines ≡ reader.lines
   pub ended_is : s.ended ≡ reader.ended
 
-module _ (laws : LineLaws) (s : DuplexState) (inputs : Role → List ℕ) (old mid : Outside) (read : ReadsTrace inputs old mid) (reader after : TracePlace) (at : IsReadAt s reader) where
+module _ (laws : LineLaws) (s : DuplexState) (inputs : Role
+    → List ℕ) (old mid : Outside) (read : ReadsTrace inputs old mid) (reader after : TracePlace)
+    (at : IsReadAt s reader) where
   going : reader.ended ≡ false → may_read s ≡ true
   going is = ap not (at.ended_is ∙ is)
 
-  bad_ends : (fault : TraceFault) (step : Step DuplexState) → step ≡ step_of (bad_line fault) → Ended step (TraceRefused fault) inputs old mid
+  bad_ends : (fault : TraceFault) (step : Step DuplexState) → step ≡ step_of (bad_line fault)
+      → Ended step (TraceRefused fault) inputs old mid
   bad_ends fault step is = record { last = bad_line fault; is = is; by = laws.bad fault inputs old mid read }
 
-  pub trace_stops : ReadLines → (buf : List ℕ) (stop : TraceStop) → BytesGive (Err stop) reader (inputs Events) buf after (mid.left Events) → Moves {A = ℕ} (Err stop) reader after
+  pub trace_stops : ReadLines → (buf : List ℕ) (stop : TraceStop)
+      → BytesGive (Err stop) reader (inputs Events) buf after (mid.left Events) → Moves {A = ℕ} (Err stop) reader after
       → GivesUp (phase (trace_stop stop)) (trace_stop stop) (duplex_step s inputs) (may_read s) inputs old mid
   trace_stops lines buf stops.Read e moves = record {
     part = of Events e.taken;
@@ -187,7 +204,8 @@ module _ (laws : LineLaws) (s : DuplexState) (inputs : Role → List ℕ) (old m
   }
   trace_stops lines buf (stops.Bad line) e moves =
       bad_ends (BadLine line) _
-      (line_is s inputs (inputs Events) None (some_bytes (inputs Events) e.0) (omega (arith, moves.1, at.lines_are)) (long_is_bad lines (first_line (inputs Events)) e.0)
+      (line_is s inputs (inputs Events) None (some_bytes (inputs Events) e.0) (omega (arith, moves.1, at.lines_are))
+          (long_is_bad lines (first_line (inputs Events)) e.0)
       ∙ ap (λ (n : ℕ). step_of (bad_line (BadLine n))) (ap (λ (n : ℕ). n + 1) at.lines_are ∙ sym moves.2))
     where
       some_bytes : (trace : List ℕ) → 64 < length (first_line trace) → 0 < length trace
@@ -199,9 +217,12 @@ module _ (laws : LineLaws) (s : DuplexState) (inputs : Role → List ℕ) (old m
       ∙ ap (λ (n : ℕ). step_of (bad_line (TooMany n))) (omega (arith, at.lines_are, moves.1, moves.2)))
 
   -- after a line
-  module _ (buf : List ℕ) (found : ℕ × ℕ) (e : BytesGive (Ok (Some found)) reader (inputs Events) buf after (mid.left Events)) (moves : Moves (Ok (Some found)) reader after) where
-    pub found_is : (o : Option (Option (Party × Line))) → party_event (take found.1 buf) ≡ o → duplex_step s inputs ≡ line_step s inputs o
-    found_is o said = line_is s inputs (inputs Events) o e.0.some (omega (arith, moves.1, at.lines_are)) (ap party_event (sym e.2) ∙ said)
+  module _ (buf : List ℕ) (found : ℕ × ℕ) (e : BytesGive (Ok (Some found)) reader (inputs Events) buf after
+      (mid.left Events)) (moves : Moves (Ok (Some found)) reader after) where
+    pub found_is : (o : Option (Option (Party × Line))) → party_event (take found.1 buf) ≡ o
+        → duplex_step s inputs ≡ line_step s inputs o
+    found_is o said = line_is s inputs (inputs Events) o e.0.some (omega (arith, moves.1, at.lines_are))
+        (ap party_event (sym e.2) ∙ said)
 
     pub found_number : found.0 ≡ s.lines + 1
     found_number = moves.2 ∙ ap (λ (n : ℕ). n + 1) (sym at.lines_are)
@@ -213,19 +234,23 @@ module _ (laws : LineLaws) (s : DuplexState) (inputs : Role → List ℕ) (old m
     found_could = going moves.0
 
     -- a line that says nothing
-    pub found_bad : party_event (take found.1 buf) ≡ None → Ended (duplex_step s inputs) (TraceRefused (BadLine found.0)) inputs old mid
-    found_bad said = bad_ends (BadLine found.0) _ (found_is None said ∙ ap (λ (n : ℕ). step_of (bad_line (BadLine n))) (sym found_number))
+    pub found_bad : party_event (take found.1 buf) ≡ None
+        → Ended (duplex_step s inputs) (TraceRefused (BadLine found.0)) inputs old mid
+    found_bad said = bad_ends (BadLine found.0) _ (found_is None said
+        ∙ ap (λ (n : ℕ). step_of (bad_line (BadLine n))) (sym found_number))
 
     -- an empty line
     pub found_empty : party_event (take found.1 buf) ≡ Some None → (stands : DuplexState → (Role → List ℕ) → Type 0)
         → stands (after_line s (inputs Events)) (left_after inputs (of Events (line_size (inputs Events))))
-        → Gains no_texts mid.written mid.written → Went (duplex_step s inputs) stands may_read (may_read s) inputs old mid
+        → Gains no_texts mid.written mid.written
+            → Went (duplex_step s inputs) stands may_read (may_read s) inputs old mid
     found_empty said stands kept silent =
         subst (λ (b : Bool). Went (duplex_step s inputs) stands may_read b inputs old mid) (sym found_could)
         (line_goes s inputs old mid found_taken s no_texts _ stands (found_is (Some None) said) kept mid refl silent)
 
   -- the end of the trace
-  module _ (buf : List ℕ) (e : BytesGive (Ok None) reader (inputs Events) buf after (mid.left Events)) (over : reader.ended ≡ true → inputs Events ≡ []) (new : Outside) (still : new.left ≡ mid.left) where
+  module _ (buf : List ℕ) (e : BytesGive (Ok None) reader (inputs Events) buf after (mid.left Events))
+      (over : reader.ended ≡ true → inputs Events ≡ []) (new : Outside) (still : new.left ≡ mid.left) where
     out : IsPlayedOut inputs old mid new
     out = laws.over reader inputs old mid new read e over still
 
@@ -235,10 +260,13 @@ module _ (laws : LineLaws) (s : DuplexState) (inputs : Role → List ℕ) (old m
     pub read_out : new.left Events ≡ Some []
     read_out = out.told Events refl ∙ ap (λ (l : List ℕ). Some l) out.nothing
 
-    pub trace_ends : Gains (both_counts s.params s.ways) mid.written new.written → Ended (duplex_step s inputs) Fine inputs old new
+    pub trace_ends : Gains (both_counts s.params s.ways) mid.written new.written
+        → Ended (duplex_step s inputs) Fine inputs old new
     trace_ends gains = record { last = all_played s; is = end_is; by = out.ends (both_counts s.params s.ways) gains }
 
-    pub trace_cut : GainsFronts (both_counts s.params s.ways) mid.written new.written → GainsFronts (step_texts (duplex_step s inputs)) old.written new.written
+    pub trace_cut : GainsFronts (both_counts s.params s.ways) mid.written new.written
+        → GainsFronts (step_texts (duplex_step s inputs)) old.written new.written
     trace_cut gains =
         subst (λ (x : Step DuplexState). GainsFronts (step_texts x) old.written new.written) (sym end_is)
-        (subst (λ (w : Role → Option (List ℕ)). GainsFronts (both_counts s.params s.ways) w new.written) read.written gains)
+        (subst (λ (w : Role → Option (List ℕ)). GainsFronts (both_counts s.params s.ways) w new.written) read.written
+            gains)

@@ -21,10 +21,12 @@ module _ (x : Party) (own far : Station) (mid new : Outside) (room : ℕ)
   -- one that gives up
   pub gave_up : (r : Result Bool Status) (status : Status) → IsErrAnd r (λ z. z ≡ status)
       → IsStop status → HasCause status mid.faults new.faults → KeepsRoles mid new
-      → ((trace : TracePlace) (old : Outside) (s : DuplexState) (inputs : Role → List ℕ) → Begins trace old s inputs → GivesUp (phase status) status (step s inputs) true inputs old new)
+      → ((trace : TracePlace) (old : Outside) (s : DuplexState) (inputs : Role → List ℕ) → Begins trace old s inputs
+          → GivesUp (phase status) status (step s inputs) true inputs old new)
       → IsPartyTurn x own far r mid new room Begins step
   gave_up (Ok b) status is stop cause rest gives = absurd is
-  gave_up (Err z) status is stop cause rest gives = subst (λ (w : Status). IsPartyTurn x own far (Err w) mid new room Begins step) (sym is) (record {
+  gave_up (Err z) status is stop cause rest gives =
+      subst (λ (w : Status). IsPartyTurn x own far (Err w) mid new room Begins step) (sym is) (record {
     gives = gives;
     goes_on = tt;
     ready = tt;
@@ -36,7 +38,8 @@ module _ (x : Party) (own far : Station) (mid new : Outside) (room : ℕ)
   -- one that can't write
   pub was_cut : (r : Result Bool Status) (status : Status) → IsErrAnd r (λ z. z ≡ status)
       → status ≡ WriteFault → Rose mid.faults.write new.faults.write → KeepsRoles mid new
-      → ((trace : TracePlace) (old : Outside) (s : DuplexState) (inputs : Role → List ℕ) → Begins trace old s inputs → GainsFronts (step_texts (step s inputs)) old.written new.written)
+      → ((trace : TracePlace) (old : Outside) (s : DuplexState) (inputs : Role → List ℕ) → Begins trace old s inputs
+          → GainsFronts (step_texts (step s inputs)) old.written new.written)
       → IsPartyTurn x own far r mid new room Begins step
   was_cut (Ok b) status is kind rose rest gives = absurd is
   was_cut (Err z) status is kind rose rest gives =
@@ -52,7 +55,8 @@ module _ (x : Party) (own far : Station) (mid new : Outside) (room : ℕ)
   -- one that goes on
   pub went_on : StationsReady own far room → KeepsRoles mid new
       → ((trace : TracePlace) (old : Outside) (s : DuplexState) (inputs : Role → List ℕ) → Begins trace old s inputs
-      → Went (step s inputs) (λ next rest. StationsStand x own far trace next (rest Events)) may_read true inputs old new)
+      → Went (step s inputs) (λ next rest. StationsStand x own far trace next (rest Events)) may_read true inputs old
+          new)
       → IsPartyTurn x own far (Ok true) mid new room Begins step
   went_on ready rest gives = record {
     gives = gives;

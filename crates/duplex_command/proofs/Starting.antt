@@ -49,17 +49,21 @@ pub in_range : (p : Params) (f g : Format) → IsParams p → (y : Party) → Is
 in_range p f g is A = in_format p f is
 in_range p f g is B = in_format p g is
 
-place_first : (v w : Y4mPlace) (n : ℕ) → v ≡ w → w.at ≡ n → w.more ≡ most_frames → record { at = n; more = 1048576 } ≡ place_in v
+place_first : (v w : Y4mPlace) (n : ℕ) → v ≡ w → w.at ≡ n → w.more ≡ most_frames → record { at = n; more = 1048576 }
+    ≡ place_in v
 place_first v w n is at more = (λ i. record { at = sym at i; more = sym more i }) ∙ ap place_in (sym is)
 
 pub fits : (f g : Format) (long room : ℕ) → f ≡ g → long ≡ room → size_of_picture f ≤ room → size_of_picture g ≤ long
-fits f g long room same is le = subst (λ (h : Format). size_of_picture h ≤ long) same (subst (λ (n : ℕ). size_of_picture f ≤ n) (sym is) le)
+fits f g long room same is le = subst (λ (h : Format). size_of_picture h ≤ long) same
+    (subst (λ (n : ℕ). size_of_picture f ≤ n) (sym is) le)
 
 not_ended : (ended : Bool) (l : List ℕ) → ended ≡ false → ended ≡ true → l ≡ []
 not_ended ended l none over = absurd (cc (none, over))
 
-ready_first : (station : Station) (heads_video : Y4mPlace) (q : Params) (room : ℕ) → station.video ≡ heads_video → station.ends.params ≡ q → q.format ≡ heads_video.format
-    → station.ends.sender.sent ≡ 0 → heads_video.more ≡ most_frames → size_of_picture heads_video.format ≤ room → StationReady station room
+ready_first : (station : Station) (heads_video : Y4mPlace) (q : Params) (room : ℕ) → station.video ≡ heads_video
+    → station.ends.params ≡ q → q.format ≡ heads_video.format
+    → station.ends.sender.sent ≡ 0 → heads_video.more ≡ most_frames → size_of_picture heads_video.format ≤ room
+        → StationReady station room
 ready_first station video q room is params format sent more fits =
     let same : station.ends.params.format ≡ video.format = ap (λ (x : Params). x.format) params ∙ format in
     record {
@@ -68,15 +72,19 @@ ready_first station video q room is params format sent more fits =
       sent = (λ i. sent i + (is i).more) ∙ omega (arith, more);
     }
 
-module _ (p : Params) (heads : Heads) (m : Talk) (new : IsNewTalk p heads m) (laws : PairLaws (in_formats p heads.a.format heads.b.format)) (params : IsParams p) (more_a : heads.a.more ≡ most_frames) (more_b : heads.b.more ≡ most_frames) where
+module _ (p : Params) (heads : Heads) (m : Talk) (new : IsNewTalk p heads m)
+    (laws : PairLaws (in_formats p heads.a.format heads.b.format)) (params : IsParams p) (more_a : heads.a.more
+    ≡ most_frames) (more_b : heads.b.more ≡ most_frames) where
   holds_first : HoldsPair (in_formats p heads.a.format heads.b.format) A m.a.ends m.b.ends no_runs
-  holds_first = laws.first A m.a.ends m.b.ends (in_range p heads.a.format heads.b.format params) refl new.new_a new.new_b
+  holds_first = laws.first A m.a.ends m.b.ends (in_range p heads.a.format heads.b.format params)
+      refl new.new_a new.new_b
 
   pub stations_ready : StationsReady m.a m.b (length m.frame.items)
   stations_ready = record {
     own_ready = ready_first m.a heads.a _ _ new.video_a new.new_a.params refl new.new_a.sent more_a new.room_a;
     far_ready = ready_first m.b heads.b _ _ new.video_b new.new_b.params refl new.new_b.sent more_b new.room_b;
-    ends = record { params = in_formats p heads.a.format heads.b.format; party = A; ways = no_runs; holds = holds_first };
+    ends = record { params = in_formats p heads.a.format heads.b.format; party = A; ways = no_runs;
+        holds = holds_first };
   }
 
   pub all_may_come : more_of m ≡ most_turns
@@ -84,8 +92,11 @@ module _ (p : Params) (heads : Heads) (m : Talk) (new : IsNewTalk p heads m) (la
 
   -- ---- over a desk: the heads were read from old to mid, and written from mid to last
 
-  module _ (inputs : Role → List ℕ) (old mid : Outside) (have : HaveHeads heads inputs mid) (same : mid.written ≡ old.written) where
-    begun : (rest : Role → List ℕ) → TalkStands m (first_state (in_formats p heads.a.format heads.b.format) (head_size (inputs Video)) (head_size (inputs Video2))) rest
+  module _ (inputs : Role → List ℕ) (old mid : Outside) (have : HaveHeads heads inputs mid) (same : mid.written
+      ≡ old.written) where
+    begun : (rest : Role → List ℕ)
+        → TalkStands m (first_state (in_formats p heads.a.format heads.b.format) (head_size (inputs Video))
+        (head_size (inputs Video2))) rest
     begun rest = record {
       own_place = place_first m.a.video heads.a (head_size (inputs Video)) new.video_a have.at_a more_a;
       far_place = place_first m.b.video heads.b (head_size (inputs Video2)) new.video_b have.at_b more_b;
@@ -98,22 +109,27 @@ module _ (p : Params) (heads : Heads) (m : Talk) (new : IsNewTalk p heads m) (la
     begins : duplex_begin p inputs ≡ heads_step p inputs (Ok heads.a.format) (Ok heads.b.format)
     begins = λ i. heads_step p inputs (have.head_a i) (have.head_b i)
 
-    pub heads_go : (last : Outside) → last.left ≡ mid.left → Gains (heads_text heads.a.format heads.b.format) mid.written last.written
+    pub heads_go : (last : Outside) → last.left ≡ mid.left
+        → Gains (heads_text heads.a.format heads.b.format) mid.written last.written
         → Went (duplex_begin p inputs) (TalkStands m) may_read true inputs old last
     heads_go last still gains = record {
-      next = first_state (in_formats p heads.a.format heads.b.format) (head_size (inputs Video)) (head_size (inputs Video2));
+      next = first_state (in_formats p heads.a.format heads.b.format) (head_size (inputs Video))
+          (head_size (inputs Video2));
       turn = record { taken = heads_taken inputs; whole = true; texts = heads_text heads.a.format heads.b.format };
       could = refl;
       is = begins;
       kept = begun (left_after inputs (heads_taken inputs));
       whole = refl;
       left = λ r input. ap (λ (l : Role → Option (List ℕ)). l r) still ∙ have.left r input;
-      written = subst (λ (w : Role → Option (List ℕ)). Gains (heads_text heads.a.format heads.b.format) w last.written) same gains;
+      written = subst (λ (w : Role → Option (List ℕ)). Gains (heads_text heads.a.format heads.b.format) w last.written)
+          same gains;
     }
 
-module _ (p : Params) (heads : Heads) (inputs : Role → List ℕ) (old mid : Outside) (have : HaveHeads heads inputs mid) (same : mid.written ≡ old.written) where
+module _ (p : Params) (heads : Heads) (inputs : Role → List ℕ) (old mid : Outside) (have : HaveHeads heads inputs mid)
+    (same : mid.written ≡ old.written) where
   -- the heads' lines could not be written
-  pub heads_cut : (status : Status) (last : Outside) → status ≡ WriteFault → GainsFronts (heads_text heads.a.format heads.b.format) mid.written last.written
+  pub heads_cut : (status : Status) (last : Outside) → status ≡ WriteFault
+      → GainsFronts (heads_text heads.a.format heads.b.format) mid.written last.written
       → GivesUp (phase status) status (duplex_begin p inputs) true inputs old last
   heads_cut status last is fronts =
       let begins : duplex_begin p inputs ≡ heads_step p inputs (Ok heads.a.format) (Ok heads.b.format) =
@@ -121,15 +137,20 @@ module _ (p : Params) (heads : Heads) (inputs : Role → List ℕ) (old mid : Ou
       in
       subst (λ (y : Status). GivesUp (phase y) y (duplex_begin p inputs) true inputs old last) (sym is)
       (subst (λ (step : Step DuplexState). GainsFronts (step_texts step) old.written last.written) (sym begins)
-      (subst (λ (w : Role → Option (List ℕ)). GainsFronts (heads_text heads.a.format heads.b.format) w last.written) same fronts))
+      (subst (λ (w : Role → Option (List ℕ)). GainsFronts (heads_text heads.a.format heads.b.format) w last.written)
+          same fronts))
 
 -- an end that is known
-pub ends_so : {Machine : Type 0} (r : Result Machine Status) (status : Status) (run : Run) (inputs : Role → List ℕ) (start : Role → Option (List ℕ)) (now : Outside)
-    → IsErrAnd r (λ x. x ≡ status) → HasEnded run silent status inputs start now → IfErr r (λ x. HasEnded run silent x inputs start now)
+pub ends_so : {Machine : Type 0} (r : Result Machine Status) (status : Status) (run : Run) (inputs : Role
+    → List ℕ) (start : Role → Option (List ℕ)) (now : Outside)
+    → IsErrAnd r (λ x. x ≡ status) → HasEnded run silent status inputs start now
+        → IfErr r (λ x. HasEnded run silent x inputs start now)
 ends_so (Ok m) status run inputs start now is ended = absurd is
-ends_so (Err x) status run inputs start now is ended = subst (λ (y : Status). HasEnded run silent y inputs start now) (sym is) ended
+ends_so (Err x) status run inputs start now is ended = subst (λ (y : Status). HasEnded run silent y inputs start now)
+    (sym is) ended
 
 -- a start for which there was no memory, where no call had failed
-pub starved_cause : {Machine : Type 0} (r : Result Machine Status) (old new : Faults) → IsErrAnd r (λ x. x ≡ OutOfMemory) → new ≡ old → HasCause (start_status r) old new
+pub starved_cause : {Machine : Type 0} (r : Result Machine Status) (old new : Faults)
+    → IsErrAnd r (λ x. x ≡ OutOfMemory) → new ≡ old → HasCause (start_status r) old new
 starved_cause (Ok m) old new is quiet = absurd is
 starved_cause (Err x) old new is quiet = subst (λ (y : Status). HasCause y old new) (sym is) quiet

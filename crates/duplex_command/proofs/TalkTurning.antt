@@ -31,10 +31,13 @@ use Rattle.duplex_command.proofs.AtParty.{ready_so}
 use Rattle.duplex_command.proofs.LineTurning.{IsReadAt, found_bad, found_could, found_empty, found_is, found_number, found_taken, passed}
 
 -- what the reader says, where its answer is known
-pub says : (r known : Result (Option (ℕ × ℕ)) TraceStop) (old new : TracePlace) (rest buf : List ℕ) (left : Option (List ℕ)) → r ≡ known → BytesGive r old rest buf new left → BytesGive known old rest buf new left
-says r known old new rest buf left is gives = subst (λ (q : Result (Option (ℕ × ℕ)) TraceStop). BytesGive q old rest buf new left) is gives
+pub says : (r known : Result (Option (ℕ × ℕ)) TraceStop) (old new : TracePlace) (rest buf : List ℕ)
+    (left : Option (List ℕ)) → r ≡ known → BytesGive r old rest buf new left → BytesGive known old rest buf new left
+says r known old new rest buf left is gives =
+    subst (λ (q : Result (Option (ℕ × ℕ)) TraceStop). BytesGive q old rest buf new left) is gives
 
-pub moved : (r known : Result (Option (ℕ × ℕ)) TraceStop) (old new : TracePlace) → r ≡ known → Moves r old new → Moves known old new
+pub moved : (r known : Result (Option (ℕ × ℕ)) TraceStop) (old new : TracePlace) → r ≡ known → Moves r old new
+    → Moves known old new
 moved r known old new is moves = subst (λ (q : Result (Option (ℕ × ℕ)) TraceStop). Moves q old new) is moves
 
 -- what holds in any case holds where it is asked
@@ -59,11 +62,14 @@ where_settled (Err status) P p = by_phase (phase status)
 
 module _ (x y : Talk) (old new : Outside) where
   -- one that gives up
-  pub turn_gave_up : (r : Result Bool Status) (status : Status) → IsErrAnd r (λ z. z ≡ status) → IsStop status → HasCause status old.faults new.faults → KeepsRoles old new
-      → ((s : DuplexState) (inputs : Role → List ℕ) → TalkStands x s inputs → Tells old inputs → GivesUp (phase status) status (duplex_step s inputs) (may_read s) inputs old new)
+  pub turn_gave_up : (r : Result Bool Status) (status : Status) → IsErrAnd r (λ z. z ≡ status) → IsStop status
+      → HasCause status old.faults new.faults → KeepsRoles old new
+      → ((s : DuplexState) (inputs : Role → List ℕ) → TalkStands x s inputs → Tells old inputs
+          → GivesUp (phase status) status (duplex_step s inputs) (may_read s) inputs old new)
       → TakesTurn x y r old new
   turn_gave_up (Ok b) status is stop cause rest gives = absurd is
-  turn_gave_up (Err z) status is stop cause rest gives = subst (λ (w : Status). TakesTurn x y (Err w) old new) (sym is) (record {
+  turn_gave_up (Err z) status is stop cause rest gives = subst (λ (w : Status). TakesTurn x y (Err w) old new) (sym is)
+      (record {
     gives = gives;
     whole = λ s inputs k told. tt;
     falls = tt;
@@ -74,11 +80,14 @@ module _ (x y : Talk) (old new : Outside) where
   })
 
   -- one that can't write
-  pub turn_was_cut : (r : Result Bool Status) (status : Status) → IsErrAnd r (λ z. z ≡ status) → status ≡ WriteFault → Rose old.faults.write new.faults.write → KeepsRoles old new
-      → ((s : DuplexState) (inputs : Role → List ℕ) → TalkStands x s inputs → Tells old inputs → GainsFronts (step_texts (duplex_step s inputs)) old.written new.written)
+  pub turn_was_cut : (r : Result Bool Status) (status : Status) → IsErrAnd r (λ z. z ≡ status) → status ≡ WriteFault
+      → Rose old.faults.write new.faults.write → KeepsRoles old new
+      → ((s : DuplexState) (inputs : Role → List ℕ) → TalkStands x s inputs → Tells old inputs
+          → GainsFronts (step_texts (duplex_step s inputs)) old.written new.written)
       → TakesTurn x y r old new
   turn_was_cut (Ok b) status is kind rose rest gives = absurd is
-  turn_was_cut (Err z) status is kind rose rest gives = subst (λ (w : Status). TakesTurn x y (Err w) old new) (sym (is ∙ kind)) (record {
+  turn_was_cut (Err z) status is kind rose rest gives = subst (λ (w : Status). TakesTurn x y (Err w) old new) (sym (is
+      ∙ kind)) (record {
     gives = gives;
     whole = λ s inputs k told. tt;
     falls = tt;
@@ -90,16 +99,21 @@ module _ (x y : Talk) (old new : Outside) where
 
   -- one that ends the call
   pub turn_is_over : KeepsRoles old new
-      → ((s : DuplexState) (inputs : Role → List ℕ) → TalkStands x s inputs → Tells old inputs → Ended (duplex_step s inputs) Fine inputs old new)
-      → ((s : DuplexState) (inputs : Role → List ℕ) → TalkStands x s inputs → Tells old inputs → new.left Events ≡ Some [])
+      → ((s : DuplexState) (inputs : Role → List ℕ) → TalkStands x s inputs → Tells old inputs
+          → Ended (duplex_step s inputs) Fine inputs old new)
+      → ((s : DuplexState) (inputs : Role → List ℕ) → TalkStands x s inputs → Tells old inputs
+          → new.left Events ≡ Some [])
       → TakesTurn x y (Ok false) old new
-  turn_is_over rest gives whole = record { gives = gives; whole = whole; falls = tt; ready = tt; stop = tt; cause = tt; rest = rest }
+  turn_is_over rest gives whole = record { gives = gives; whole = whole; falls = tt; ready = tt; stop = tt; cause = tt;
+      rest = rest }
 
   -- one that goes on
   pub turn_goes_on : more_of y + 1 ≡ more_of x → TalkReady y new.attached → KeepsRoles old new
-      → ((s : DuplexState) (inputs : Role → List ℕ) → TalkStands x s inputs → Tells old inputs → Went (duplex_step s inputs) (TalkStands y) may_read (may_read s) inputs old new)
+      → ((s : DuplexState) (inputs : Role → List ℕ) → TalkStands x s inputs → Tells old inputs
+          → Went (duplex_step s inputs) (TalkStands y) may_read (may_read s) inputs old new)
       → TakesTurn x y (Ok true) old new
-  turn_goes_on falls ready rest gives = record { gives = gives; whole = λ s inputs k told. tt; falls = falls; ready = ready; stop = tt; cause = tt; rest = rest }
+  turn_goes_on falls ready rest gives = record { gives = gives; whole = λ s inputs k told. tt; falls = falls;
+      ready = ready; stop = tt; cause = tt; rest = rest }
 
 -- ---- after a line was read
 
@@ -120,12 +134,14 @@ falls_so (Err status) old new is = tt
 
 -- what the reader of the trace has done
 pub record WasRead (m : Talk) (after : TracePlace) (buf : List ℕ) (found : ℕ × ℕ) (old mid : Outside) : Type 0 where
-  pub gives : (rest : List ℕ) → old.left Events ≡ Some rest → BytesGive (Ok (Some found)) m.trace rest buf after (mid.left Events)
+  pub gives : (rest : List ℕ) → old.left Events ≡ Some rest
+      → BytesGive (Ok (Some found)) m.trace rest buf after (mid.left Events)
   pub moves : Moves (Ok (Some found)) m.trace after
   pub others : (r : Role) → r ≢ Events → mid.left r ≡ old.left r
   pub rest : OnlyReads old mid
 
-module _ (lines : LineLaws) (steps : StepLaws) (m : Talk) (after : TracePlace) (buf : List ℕ) (found : ℕ × ℕ) (old mid : Outside) (w : WasRead m after buf found old mid) where
+module _ (lines : LineLaws) (steps : StepLaws) (m : Talk) (after : TracePlace) (buf : List ℕ) (found : ℕ
+    × ℕ) (old mid : Outside) (w : WasRead m after buf found old mid) where
   module _ (s : DuplexState) (inputs : Role → List ℕ) (k : TalkStands m s inputs) (told : Tells old inputs) where
     abbrev e : BytesGive (Ok (Some found)) m.trace (inputs Events) buf after (mid.left Events)
     e = w.gives (inputs Events) (told Events refl)
@@ -139,13 +155,15 @@ module _ (lines : LineLaws) (steps : StepLaws) (m : Talk) (after : TracePlace) (
     fits : found.1 ≤ length buf
     fits = take_within found.1 buf (ap (λ (l : List ℕ). length l) e.2 ∙ e.1)
 
-    step_is : (o : Option (Option (Party × Line))) → party_event (take found.1 buf) ≡ o → duplex_step s inputs ≡ line_step s inputs o
+    step_is : (o : Option (Option (Party × Line))) → party_event (take found.1 buf) ≡ o
+        → duplex_step s inputs ≡ line_step s inputs o
     step_is o said = found_is lines s inputs old mid only m.trace after at buf found e w.moves o said
 
     could : may_read s ≡ true
     could = found_could lines s inputs old mid only m.trace after at buf found e w.moves
 
-    stood : StationsStand A m.a m.b after (after_line s (inputs Events)) (drop (line_size (inputs Events)) (inputs Events))
+    stood : StationsStand A m.a m.b after (after_line s (inputs Events))
+        (drop (line_size (inputs Events)) (inputs Events))
     stood = passed lines A m.a m.b s (inputs Events) m.trace after (mid.left Events) k w.moves.3 e.0
 
     line_read : IsRead A m.a m.b found.0 after mid old s inputs
@@ -156,10 +174,12 @@ module _ (lines : LineLaws) (steps : StepLaws) (m : Talk) (after : TracePlace) (
     }
 
   -- a line that says nothing
-  pub line_bad : (found.1 ≤ length buf → party_event (take found.1 buf) ≡ None) → (s : DuplexState) (inputs : Role → List ℕ) → TalkStands m s inputs → Tells old inputs
+  pub line_bad : (found.1 ≤ length buf → party_event (take found.1 buf) ≡ None)
+      → (s : DuplexState) (inputs : Role → List ℕ) → TalkStands m s inputs → Tells old inputs
       → Ended (duplex_step s inputs) (TraceRefused (BadLine found.0)) inputs old mid
   line_bad said s inputs k told =
-      found_bad lines s inputs old mid (only s inputs k told) m.trace after (at s inputs k told) buf found (e s inputs k told) w.moves (said (fits s inputs k told))
+      found_bad lines s inputs old mid (only s inputs k told) m.trace after (at s inputs k told) buf found
+          (e s inputs k told) w.moves (said (fits s inputs k told))
 
   fewer : 16777216 - after.lines + 1 ≡ 16777216 - m.trace.lines
   fewer = omega (arith, w.moves.1, w.moves.3)
@@ -168,30 +188,42 @@ module _ (lines : LineLaws) (steps : StepLaws) (m : Talk) (after : TracePlace) (
   opens_still new r rest = subst DuplexOpens (sym (rest.attached ∙ w.rest.attached)) r.opens
 
   -- an empty line
-  pub line_empty : (found.1 ≤ length buf → party_event (take found.1 buf) ≡ Some None) → TalkReady m old.attached → Gains no_texts mid.written mid.written
+  pub line_empty : (found.1 ≤ length buf → party_event (take found.1 buf) ≡ Some None) → TalkReady m old.attached
+      → Gains no_texts mid.written mid.written
       → TakesTurn m (record m { trace = after }) (Ok true) old mid
   line_empty said r silent =
-      turn_goes_on m (record m { trace = after }) old mid fewer (record { opens = opens_still mid r (steps.none mid); stations = r.stations }) (steps.reads old mid w.rest)
+      turn_goes_on m (record m { trace = after }) old mid fewer (record { opens = opens_still mid r (steps.none mid);
+          stations = r.stations }) (steps.reads old mid w.rest)
       (λ s inputs k told.
-      found_empty lines s inputs old mid (only s inputs k told) m.trace after (at s inputs k told) buf found (e s inputs k told) w.moves (said (fits s inputs k told))
+      found_empty lines s inputs old mid (only s inputs k told) m.trace after (at s inputs k told) buf found
+          (e s inputs k told) w.moves (said (fits s inputs k told))
       (TalkStands (record m { trace = after })) (stood s inputs k told) silent)
 
   -- a line that says an event of a party
-  pub line_done : (said : TraceLine) → said.line ≡ found.0 → (found.1 ≤ length buf → party_event (take found.1 buf) ≡ Some (Some (said.party, said.event)))
+  pub line_done : (said : TraceLine) → said.line ≡ found.0
+      → (found.1 ≤ length buf → party_event (take found.1 buf) ≡ Some (Some (said.party, said.event)))
       → TalkReady m old.attached
       → (y : Talk) (r : Result Bool Status) (new : Outside) (room : ℕ) → y.trace ≡ after → length y.frame.items ≡ room
       → TakesLine m.a m.b y.a y.b said r mid new room → TakesTurn m y r old new
   line_done said number said_so ready y r new room trace_is frame_is t = record {
     gives = λ s inputs k told.
-        let stands : DuplexState → (Role → List ℕ) → Type 0 = λ next rest. StationsStand A y.a y.b after next (rest Events) in
-        subst (λ (reader : TracePlace). TurnGives r (duplex_step s inputs) (λ next rest. StationsStand A y.a y.b reader next (rest Events)) may_read (may_read s) inputs old new) (sym trace_is)
-        (subst (λ (step : Step DuplexState). TurnGives r step stands may_read (may_read s) inputs old new) (sym (step_is s inputs k told (Some (Some (said.party, said.event))) (said_so (fits s inputs k told))))
-        (subst (λ (b : Bool). TurnGives r (party_step said.party s inputs said.event) stands may_read b inputs old new) (sym (could s inputs k told))
-        (t.gives after old s inputs (subst (λ (n : ℕ). IsRead A m.a m.b n after mid old s inputs) (sym number) (line_read s inputs k told)))));
+        let stands : DuplexState → (Role → List ℕ)
+            → Type 0 = λ next rest. StationsStand A y.a y.b after next (rest Events) in
+        subst (λ (reader : TracePlace). TurnGives r (duplex_step s inputs)
+            (λ next rest. StationsStand A y.a y.b reader next (rest Events)) may_read (may_read s) inputs old new)
+            (sym trace_is)
+        (subst (λ (step : Step DuplexState). TurnGives r step stands may_read (may_read s) inputs old new)
+            (sym (step_is s inputs k told (Some (Some (said.party, said.event))) (said_so (fits s inputs k told))))
+        (subst (λ (b : Bool). TurnGives r (party_step said.party s inputs said.event) stands may_read b inputs old new)
+            (sym (could s inputs k told))
+        (t.gives after old s inputs (subst (λ (n : ℕ). IsRead A m.a m.b n after mid old s inputs) (sym number)
+            (line_read s inputs k told)))));
     whole = λ s inputs k told. never r (new.left Events ≡ Some []) t.goes_on;
-    falls = falls_so r (more_of m) (more_of y) (ap (λ (reader : TracePlace). 16777216 - reader.lines + 1) trace_is ∙ fewer);
+    falls = falls_so r (more_of m) (more_of y) (ap (λ (reader : TracePlace). 16777216 - reader.lines + 1) trace_is
+        ∙ fewer);
     ready = ready_so r (StationsReady y.a y.b room) (TalkReady y new.attached)
-        (λ stations. record { opens = opens_still new ready t.rest; stations = subst (λ (n : ℕ). StationsReady y.a y.b n) (sym frame_is) stations }) t.ready;
+        (λ stations. record { opens = opens_still new ready t.rest;
+            stations = subst (λ (n : ℕ). StationsReady y.a y.b n) (sym frame_is) stations }) t.ready;
     stop = t.stop;
     cause = steps.since r old.faults mid.faults new.faults w.rest.faults t.stop t.cause;
     rest = steps.both old mid new (steps.reads old mid w.rest) t.rest;

@@ -33,10 +33,12 @@ module _ (turns : TurnLaws) (row : Row) (picture : Picture) (old mid : Role → 
   abbrev line : List ℕ
   line = picture_text row.number (Some row.mark) (Some row.reference) (Some (letter_of row.party))
 
-  pub first_front : GainsFronts (on Pictures (frame_text row.mark picture)) old mid → GainsFronts (row_texts row picture) old mid
+  pub first_front : GainsFronts (on Pictures (frame_text row.mark picture)) old mid
+      → GainsFronts (row_texts row picture) old mid
   first_front fronts = turns.front_of_first (on Pictures (frame_text row.mark picture)) (on Report line) old mid fronts
 
-  module _ (new : Role → Option (List ℕ)) (text : List ℕ) (text_is : text ≡ line) (first : Gains (on Pictures (frame_text row.mark picture)) old mid) where
+  module _ (new : Role → Option (List ℕ)) (text : List ℕ) (text_is : text
+      ≡ line) (first : Gains (on Pictures (frame_text row.mark picture)) old mid) where
     pub both_gain : Gains (on Report text) mid new → Gains (row_texts row picture) old new
     both_gain gains =
         turns.both_texts (on Pictures (frame_text row.mark picture)) (on Report line) old mid new first
@@ -48,7 +50,8 @@ module _ (turns : TurnLaws) (row : Row) (picture : Picture) (old mid : Role → 
         (subst (λ (l : List ℕ). GainsFronts (on Report l) mid new) text_is fronts)
 
 -- the row of a play that is told so
-pub row_is : (p : Party → Params) (x : Party) (ways : WayRuns Frame) → AfterPlay p x ways → (number : ℕ) (mark : Mark) (reference : Option ℕ) (picture : Picture)
+pub row_is : (p : Party → Params) (x : Party) (ways : WayRuns Frame) → AfterPlay p x ways
+    → (number : ℕ) (mark : Mark) (reference : Option ℕ) (picture : Picture)
     → number ≡ (call_in p x ways).played → mark ≡ mark_of (shown_next p x ways).mark
     → reference ≡ reference_in (call_in p x ways).coded (call_in p x ways).played
     → picture ≡ on_screen p x (with_play (sides p) x ways)
@@ -57,26 +60,34 @@ pub row_is : (p : Party → Params) (x : Party) (ways : WayRuns Frame) → After
 row_is p x ways laws number mark reference picture number_is mark_is reference_is shown =
     let after = call_in p x (with_play (sides p) x ways) in
     let n = (call_in p x ways).played in
-    let picture_is : picture ≡ (shown_next p x ways).picture = shown ∙ ap (λ (plays : List (Shown Picture)). shown_last (pictures_of (coding (p x))) plays) laws.plays in
-    let told : reference ≡ reference_in after.coded n = reference_is ∙ ap (λ coded. reference_in coded n) (sym laws.coded) in
-    (λ i. then_also (on Pictures (frame_text (mark_is i) (picture_is i))) (on Report (picture_text (number_is i) (Some (mark_is i)) (Some (told i)) (Some (letter_of x)))))
-    ∙ sym (ap (λ (plays : List (Shown Picture)). newest_texts Pictures x n (reference_in after.coded n) plays) laws.plays)
+    let picture_is : picture ≡ (shown_next p x ways).picture = shown
+        ∙ ap (λ (plays : List (Shown Picture)). shown_last (pictures_of (coding (p x))) plays) laws.plays in
+    let told : reference ≡ reference_in after.coded n = reference_is
+        ∙ ap (λ coded. reference_in coded n) (sym laws.coded) in
+    (λ i. then_also (on Pictures (frame_text (mark_is i) (picture_is i)))
+        (on Report (picture_text (number_is i) (Some (mark_is i)) (Some (told i)) (Some (letter_of x)))))
+    ∙ sym (ap (λ (plays : List (Shown Picture)). newest_texts Pictures x n (reference_in after.coded n) plays)
+        laws.plays)
 
 -- ---- two lines of the report
 
-module _ (turns : TurnLaws) (first second a b : List ℕ) (first_is : a ≡ first) (second_is : b ≡ second) (old mid new : Role → Option (List ℕ)) where
+module _ (turns : TurnLaws) (first second a b : List ℕ) (first_is : a ≡ first) (second_is : b
+    ≡ second) (old mid new : Role → Option (List ℕ)) where
   abbrev both : Role → List ℕ
   both = then_also (on Report first) (on Report second)
 
   pub lines_cut : GainsFronts (on Report a) old mid → GainsFronts both old mid
-  lines_cut fronts = turns.front_of_first (on Report first) (on Report second) old mid (subst (λ (l : List ℕ). GainsFronts (on Report l) old mid) first_is fronts)
+  lines_cut fronts = turns.front_of_first (on Report first) (on Report second) old mid
+      (subst (λ (l : List ℕ). GainsFronts (on Report l) old mid) first_is fronts)
 
   module _ (gained : Gains (on Report a) old mid) where
     abbrev before : Gains (on Report first) old mid
     before = subst (λ (l : List ℕ). Gains (on Report l) old mid) first_is gained
 
     pub lines_gain : Gains (on Report b) mid new → Gains both old new
-    lines_gain gains = turns.both_texts (on Report first) (on Report second) old mid new before (subst (λ (l : List ℕ). Gains (on Report l) mid new) second_is gains)
+    lines_gain gains = turns.both_texts (on Report first) (on Report second) old mid new before
+        (subst (λ (l : List ℕ). Gains (on Report l) mid new) second_is gains)
 
     pub lines_front : GainsFronts (on Report b) mid new → GainsFronts both old new
-    lines_front fronts = turns.front_of_second (on Report first) (on Report second) old mid new before (subst (λ (l : List ℕ). GainsFronts (on Report l) mid new) second_is fronts)
+    lines_front fronts = turns.front_of_second (on Report first) (on Report second) old mid new before
+        (subst (λ (l : List ℕ). GainsFronts (on Report l) mid new) second_is fronts)

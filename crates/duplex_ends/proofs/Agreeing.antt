@@ -28,7 +28,8 @@ pub steady_is : (p : Params) → IsParams p → IsPace (steady p)
 steady_is p in_range sizes few = (omega (arith, in_range.quant_low), omega (arith, in_range.quant_high))
 
 module _ (p : Params) (in_range : IsParams p) (laws : CallLaws p) (near_laws : NearLaws p) where
-  module _ (way : Way) (sender : State) (receiver : Kept) (w : WayRun Frame) (h : HoldsWay p way sender receiver [] w.frames w.past) where
+  module _ (way : Way) (sender : State) (receiver : Kept) (w : WayRun Frame)
+      (h : HoldsWay p way sender receiver [] w.frames w.past) where
     abbrev both : Joined Style Mb Picture
     both = both_after p (steady p) w.frames [] w.past
 
@@ -39,7 +40,8 @@ module _ (p : Params) (in_range : IsParams p) (laws : CallLaws p) (near_laws : N
     agree = (laws.follow (steady p) w.frames w.past (steady_is p in_range) ideally).agree
 
     -- an event that may happen by the ideal call may happen by what the ends have done
-    pub delivers : (left n j : ℕ) → MayHappen (rules_of p) left (call_by p w) (Deliver n j) → MayHappenNow p [] w.frames w.past (Deliver n j)
+    pub delivers : (left n j : ℕ) → MayHappen (rules_of p) left (call_by p w) (Deliver n j)
+        → MayHappenNow p [] w.frames w.past (Deliver n j)
     delivers left n j may =
         let coded = ap (λ (l : List (Coded Style Mb Picture)). length l) agree.pictures in
         (omega (arith, may.0, coded), omega (arith, may.1, agree.played))
@@ -50,7 +52,8 @@ module _ (p : Params) (in_range : IsParams p) (laws : CallLaws p) (near_laws : N
         omega (arith, may, coded, agree.played)
 
     -- what was said with this number
-    pub told_at : (k : ℕ) (note : NumberedMessage) → slice_get (call_by p w).said k ≡ Some note → slice_get both.said k ≡ Some (told_of write_message (rules_of p) note)
+    pub told_at : (k : ℕ) (note : NumberedMessage) → slice_get (call_by p w).said k ≡ Some note
+        → slice_get both.said k ≡ Some (told_of write_message (rules_of p) note)
     told_at k note at =
         ap (λ (l : List SaidMessage). slice_get l k) agree.messages
         ∙ get_map (told_of write_message (rules_of p)) (call_by p w).said k note at

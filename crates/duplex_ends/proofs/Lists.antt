@@ -20,12 +20,14 @@ get_left [] ys k x is = absurd (cc is)
 get_left (a ∷ xs) ys zero x is = is
 get_left (a ∷ xs) ys (suc k) x is = get_left xs ys k x is
 
-pub get_map : {X Y : Type 0} (f : X → Y) (xs : List X) (k : ℕ) (x : X) → slice_get xs k ≡ Some x → slice_get (map f xs) k ≡ Some (f x)
+pub get_map : {X Y : Type 0} (f : X → Y) (xs : List X) (k : ℕ) (x : X) → slice_get xs k ≡ Some x
+    → slice_get (map f xs) k ≡ Some (f x)
 get_map f [] k x is = absurd (cc is)
 get_map f (a ∷ xs) zero x is = ap (option_map f) is
 get_map f (a ∷ xs) (suc k) x is = get_map f xs k x is
 
-pub map_get : {X Y : Type 0} (f : X → Y) (xs : List X) (k : ℕ) (y : Y) → slice_get (map f xs) k ≡ Some y → (x : X) × (slice_get xs k ≡ Some x) × (Some (f x) ≡ Some y)
+pub map_get : {X Y : Type 0} (f : X → Y) (xs : List X) (k : ℕ) (y : Y) → slice_get (map f xs) k ≡ Some y
+    → (x : X) × (slice_get xs k ≡ Some x) × (Some (f x) ≡ Some y)
 map_get f [] k y is = absurd (cc is)
 map_get f (a ∷ xs) zero y is = (a, refl, is)
 map_get f (a ∷ xs) (suc k) y is = map_get f xs k y is
@@ -52,7 +54,8 @@ pub at_last : {X : Type 0} (xs : List X) (x d : X) → slice_index_or (xs ++ x �
 at_last [] x d = refl
 at_last (a ∷ xs) x d = at_last xs x d
 
-pub at_left : {X : Type 0} (xs : List X) (x d : X) (n : ℕ) → n < length xs → slice_index_or (xs ++ x ∷ []) n d ≡ slice_index_or xs n d
+pub at_left : {X : Type 0} (xs : List X) (x d : X) (n : ℕ) → n < length xs → slice_index_or (xs ++ x ∷ []) n d
+    ≡ slice_index_or xs n d
 at_left [] x d n few = absurd (omega (arith, few))
 at_left (a ∷ xs) x d zero few = refl
 at_left (a ∷ xs) x d (suc n) few = at_left xs x d n (omega (arith, few))
@@ -88,14 +91,17 @@ carried_placed (a ∷ b ∷ c ∷ d ∷ e ∷ more) few = absurd (omega (arith, 
 -- ---- messages by their numbers
 
 -- more that is said changes no number
-pub numbered_still : (said more : List Carried) (ks : List ℕ) (messages : List Carried) → AreNumbered said ks messages → AreNumbered (said ++ more) ks messages
+pub numbered_still : (said more : List Carried) (ks : List ℕ) (messages : List Carried) → AreNumbered said ks messages
+    → AreNumbered (said ++ more) ks messages
 numbered_still said more [] [] are = are
-numbered_still said more (k ∷ ks) (m ∷ messages) are = (get_left said more k m are.0, numbered_still said more ks messages are.1)
+numbered_still said more (k ∷ ks) (m ∷ messages) are = (get_left said more k m are.0,
+    numbered_still said more ks messages are.1)
 numbered_still said more [] (m ∷ messages) are = absurd are
 numbered_still said more (k ∷ ks) [] are = absurd are
 
 -- what stands first after some
-first_is : (said : List Carried) (first : ℕ) → first < length said → (m : Carried) × (slice_get said first ≡ Some m) × (drop first said ≡ m ∷ drop (first + 1) said)
+first_is : (said : List Carried) (first : ℕ) → first < length said → (m : Carried) × (slice_get said first ≡ Some m)
+    × (drop first said ≡ m ∷ drop (first + 1) said)
 first_is [] first few = absurd (omega (arith, few))
 first_is (m ∷ said) zero few = (m, refl, refl)
 first_is (m ∷ said) (suc first) few =
@@ -106,16 +112,22 @@ first_is (m ∷ said) (suc first) few =
     suc_more k = omega arith
 
 -- so many numbers up to the last
-to_end : (said : List Carried) (first count : ℕ) → first + count ≡ length said → AreNumbered said (range_with_len first count) (drop first said)
-to_end said first zero is = subst (λ (l : List Carried). AreNumbered said [] l) (sym (drop_all first said (omega (arith, is)))) tt
-to_end said first (suc count) is = by_first (first_is said first (omega (arith, is))) (to_end said (first + 1) count (omega (arith, is)))
+to_end : (said : List Carried) (first count : ℕ) → first + count ≡ length said
+    → AreNumbered said (range_with_len first count) (drop first said)
+to_end said first zero is = subst (λ (l : List Carried). AreNumbered said [] l)
+    (sym (drop_all first said (omega (arith, is)))) tt
+to_end said first (suc count) is = by_first (first_is said first (omega (arith, is)))
+    (to_end said (first + 1) count (omega (arith, is)))
   where
-    by_first : (m : Carried) × (slice_get said first ≡ Some m) × (drop first said ≡ m ∷ drop (first + 1) said) → AreNumbered said (range_with_len (first + 1) count) (drop (first + 1) said)
+    by_first : (m : Carried) × (slice_get said first ≡ Some m) × (drop first said ≡ m ∷ drop (first + 1) said)
+        → AreNumbered said (range_with_len (first + 1) count) (drop (first + 1) said)
         → AreNumbered said (first ∷ range_with_len (first + 1) count) (drop first said)
-    by_first x rest = subst (λ (l : List Carried). AreNumbered said (first ∷ range_with_len (first + 1) count) l) (sym x.2) (x.1, rest)
+    by_first x rest = subst (λ (l : List Carried). AreNumbered said (first ∷ range_with_len (first + 1) count) l)
+        (sym x.2) (x.1, rest)
 
 -- the last four of what was said since the load have their numbers
-pub last_numbered : (said : List Carried) (loaded : ℕ) → loaded ≤ length said → AreNumbered said (numbers_carried loaded (length said)) (last_four (drop loaded said))
+pub last_numbered : (said : List Carried) (loaded : ℕ) → loaded ≤ length said
+    → AreNumbered said (numbers_carried loaded (length said)) (last_four (drop loaded said))
 last_numbered said loaded few =
     let first = max loaded (length said - 4) in
     let rest : length (drop loaded said) ≡ length said - loaded = long said loaded in
@@ -135,7 +147,8 @@ last_numbered said loaded few =
     long (x ∷ xs) (suc k) = omega (arith, long xs k)
 
 -- messages by their numbers, as a header carries them
-pub messages_are : {X : Type 0} (as_call : X → call.Message) (as_back : call.Message → Message) (as_carried : X → Carried)
+pub messages_are : {X : Type 0} (as_call : X → call.Message) (as_back : call.Message → Message) (as_carried : X
+    → Carried)
     → ((x : X) → message_in (as_carried x) ≡ as_back (as_call x))
     → (notes : List X) (ks : List ℕ) (messages : List Carried) → AreNumbered (map as_carried notes) ks messages
     → map as_back (messages_at (map as_call notes) ks) ≡ map message_in messages
@@ -144,7 +157,8 @@ messages_are as_call as_back as_carried same notes (k ∷ ks) (m ∷ messages) a
     let at = map_get as_carried notes k m are.0 in
     let here : slice_get (map as_call notes) k ≡ Some (as_call at.0) = get_map as_call notes k at.0 at.1 in
     let is : as_carried at.0 ≡ m = cc at.2 in
-    ap (λ (o : Option call.Message). map as_back (option_map_or (λ message. message ∷ []) o [] ++ messages_at (map as_call notes) ks)) here
+    ap (λ (o : Option call.Message). map as_back (option_map_or (λ message. message ∷ []) o []
+        ++ messages_at (map as_call notes) ks)) here
     ∙ ap (λ (n : Message). n ∷ map as_back (messages_at (map as_call notes) ks)) (sym (same at.0) ∙ ap message_in is)
     ∙ ap (λ (l : List Message). message_in m ∷ l) (messages_are as_call as_back as_carried same notes ks messages are.1)
 messages_are as_call as_back as_carried same notes [] (m ∷ messages) are = absurd are

@@ -24,18 +24,21 @@ use Rattle.duplex_ends.specs.Ways.{call_in}
 abbrev no_run : WayRun Frame
 no_run = record { frames = []; past = []; carried = []; loaded = 0 }
 
-first_party : (p q : Params) (own : PartyEnds) → WayLaws p → IsParams p → IsNewParty p own → HoldsParty p q own no_run no_run
+first_party : (p q : Params) (own : PartyEnds) → WayLaws p → IsParams p → IsNewParty p own
+    → HoldsParty p q own no_run no_run
 first_party p q own laws in_range new =
     record {
       params = new.params;
       done = record {
-        joined = record { sender_params = new.sender_params; receiver_params = new.receiver_params; sends = new.sends; receives = new.receives };
+        joined = record { sender_params = new.sender_params; receiver_params = new.receiver_params; sends = new.sends;
+            receives = new.receives };
         near = tt;
         tally = new.way_is.tally;
         packets = new.way_is.packets;
         references = new.way_is.references;
       };
-      can = laws.can (clocks.period_of p.clock) own.way own.sender in_range new.way_is new.sender_params new.sends new.quant new.sent;
+      can = laws.can (clocks.period_of p.clock) own.way own.sender in_range new.way_is new.sender_params new.sends
+          new.quant new.sent;
       period = new.way_is.period;
       sent = new.sent;
       few = omega (arith, new.sent);
@@ -48,7 +51,8 @@ first_party p q own laws in_range new =
       waits = new.waits;
     }
 
-pub first_pair : (p : Party → Params) (x : Party) (own far : PartyEnds) → ((y : Party) → WayLaws (p y)) → ((y : Party) → IsParams (p y)) → (p x).clock ≡ (p (other x)).clock
+pub first_pair : (p : Party → Params) (x : Party) (own far : PartyEnds) → ((y : Party) → WayLaws (p y))
+    → ((y : Party) → IsParams (p y)) → (p x).clock ≡ (p (other x)).clock
     → IsNewParty (p x) own → IsNewParty (p (other x)) far → HoldsPair p x own far no_runs
 first_pair p A own far laws in_range clock one two = record {
   in_range = in_range;
@@ -65,15 +69,20 @@ first_pair p B own far laws in_range clock one two = record {
 
 -- ---- said from either party
 
-pub exchanged : (p : Party → Params) (x : Party) (own far : PartyEnds) (ways : WayRuns Frame) → HoldsPair p x own far ways → HoldsPair p (other x) far own ways
-exchanged p A own far ways h = record { in_range = h.in_range; clock = sym h.clock; own_holds = h.far_holds; far_holds = h.own_holds }
-exchanged p B own far ways h = record { in_range = h.in_range; clock = sym h.clock; own_holds = h.far_holds; far_holds = h.own_holds }
+pub exchanged : (p : Party → Params) (x : Party) (own far : PartyEnds) (ways : WayRuns Frame)
+    → HoldsPair p x own far ways → HoldsPair p (other x) far own ways
+exchanged p A own far ways h = record { in_range = h.in_range; clock = sym h.clock; own_holds = h.far_holds;
+    far_holds = h.own_holds }
+exchanged p B own far ways h = record { in_range = h.in_range; clock = sym h.clock; own_holds = h.far_holds;
+    far_holds = h.own_holds }
 
 -- ---- the counts of the ends
 
-module _ (p : Party → Params) (x : Party) (own far : PartyEnds) (ways : WayRuns Frame) (h : HoldsPair p x own far ways) (laws : WayLaws (p x))
+module _ (p : Party → Params) (x : Party) (own far : PartyEnds) (ways : WayRuns Frame) (h : HoldsPair p x own far ways)
+    (laws : WayLaws (p x))
     (agree : (frames : List Frame) (past : List Event) → IsParams (p x)
-    → AllMayHappenBoth (coding (p x)) (rules_of (p x)) (receiver_end.run_of (p x) []) (steady (p x)) frames past → ShowTheSame (p x) frames past) where
+    → AllMayHappenBoth (coding (p x)) (rules_of (p x)) (receiver_end.run_of (p x) []) (steady (p x)) frames past
+        → ShowTheSame (p x) frames past) where
   pub same_so : ShowTheSame (p x) (way x ways).frames (way x ways).past
   same_so = agree (way x ways).frames (way x ways).past (h.in_range x) h.own_holds.done.near
 

@@ -30,7 +30,8 @@ BringsBack p way old new bytes =
 
 module _ (p : Params) (events : EventLaws p) (way : Way) (receiver : Kept) (frames : List Frame) where
   -- a message that comes back leaves the others as they were
-  still : (past : List Event) (k : ℕ) (ks : List ℕ) (messages : List Carried) → MayReturnAll p (both_after p (steady p) frames [] past) ks messages
+  still : (past : List Event) (k : ℕ) (ks : List ℕ) (messages : List Carried)
+      → MayReturnAll p (both_after p (steady p) frames [] past) ks messages
       → MayReturnAll p (both_after p (steady p) frames [] (Back k ∷ past)) ks messages
   still past k [] [] may = may
   still past k (l ∷ ks) (m ∷ messages) may = (
@@ -38,7 +39,8 @@ module _ (p : Params) (events : EventLaws p) (way : Way) (receiver : Kept) (fram
       told = may.0.told;
       is = may.0.is;
       bytes = may.0.bytes;
-      near = omega (arith, may.0.near, ap (λ (l : List (Coded Style Mb Picture)). length l) (events.message [] frames k past));
+      near = omega (arith, may.0.near, ap (λ (l : List (Coded Style Mb Picture)). length l)
+          (events.message [] frames k past));
     },
     still past k ks messages may.1,
   )
@@ -46,25 +48,31 @@ module _ (p : Params) (events : EventLaws p) (way : Way) (receiver : Kept) (fram
   still past k (l ∷ ks) [] may = absurd may
 
   -- the next one comes back
-  pub one_back : (old new : State) (whole : List Event) (m : Carried) (messages : List Carried) (bytes : List ℕ) → bytes ≡ written m.message
+  pub one_back : (old new : State) (whole : List Event) (m : Carried) (messages : List Carried) (bytes : List ℕ)
+      → bytes ≡ written m.message
       → BringsBack p way old new bytes
-      → IsReturning p way old receiver frames whole (m ∷ messages) → IsReturning p way new receiver frames whole messages
+      → IsReturning p way old receiver frames whole (m ∷ messages)
+          → IsReturning p way new receiver frames whole messages
   one_back old new whole m messages bytes is brings r = by_left r.left r.may r.same
     where
-      by_left : (left : List ℕ) → MayReturnAll p (both_after p (steady p) frames [] r.past) left (m ∷ messages) → brought left r.past ≡ whole
+      by_left : (left : List ℕ) → MayReturnAll p (both_after p (steady p) frames [] r.past) left (m ∷ messages)
+          → brought left r.past ≡ whole
           → IsReturning p way new receiver frames whole messages
       by_left [] may same = absurd may
       by_left (k ∷ ks) may same = record {
         past = Back k ∷ r.past;
         left = ks;
-        holds = brings receiver frames r.past k may.0.told r.holds may.0.is (may.0.bytes ∙ sym is) (may.0.told, may.0.is, may.0.near);
+        holds = brings receiver frames r.past k may.0.told r.holds may.0.is (may.0.bytes
+            ∙ sym is) (may.0.told, may.0.is, may.0.near);
         may = still r.past k ks messages may.1;
         same = same;
       }
 
-  pub all_back : (sender : State) (whole : List Event) → IsReturning p way sender receiver frames whole [] → HoldsWay p way sender receiver [] frames whole
+  pub all_back : (sender : State) (whole : List Event) → IsReturning p way sender receiver frames whole []
+      → HoldsWay p way sender receiver [] frames whole
   all_back sender whole r = by_left r.left r.may r.same
     where
-      by_left : (left : List ℕ) → MayReturnAll p (both_after p (steady p) frames [] r.past) left [] → brought left r.past ≡ whole → HoldsWay p way sender receiver [] frames whole
+      by_left : (left : List ℕ) → MayReturnAll p (both_after p (steady p) frames [] r.past) left []
+          → brought left r.past ≡ whole → HoldsWay p way sender receiver [] frames whole
       by_left [] may same = subst (λ (past : List Event). HoldsWay p way sender receiver [] frames past) same r.holds
       by_left (k ∷ ks) may same = absurd may

@@ -37,25 +37,34 @@ use Rattle.duplex_ends.proofs.Lists.{after_same, drop_left, map_more, numbered_s
 -- ---- messages that come back
 
 -- they change nothing of the ideal call but what is known
-module _ {Frame Style Mb Picture Fault MessageFault : Type 0} (coding : Coding Frame Style Mb Picture Fault MessageFault) (rules : Rules) (pace : List ℕ → ℕ) (frames : List Frame) where
-  pub said_still : (ks : List ℕ) (past : List Event) → (ideal coding rules pace frames (brought ks past)).said ≡ (ideal coding rules pace frames past).said
+module _ {Frame Style Mb Picture Fault MessageFault : Type 0}
+    (coding : Coding Frame Style Mb Picture Fault MessageFault) (rules : Rules) (pace : List ℕ
+    → ℕ) (frames : List Frame) where
+  pub said_still : (ks : List ℕ) (past : List Event) → (ideal coding rules pace frames (brought ks past)).said
+      ≡ (ideal coding rules pace frames past).said
   said_still [] past = refl
   said_still (k ∷ ks) past = said_still ks (Back k ∷ past)
 
-  pub coded_still : (ks : List ℕ) (past : List Event) → (ideal coding rules pace frames (brought ks past)).coded ≡ (ideal coding rules pace frames past).coded
+  pub coded_still : (ks : List ℕ) (past : List Event) → (ideal coding rules pace frames (brought ks past)).coded
+      ≡ (ideal coding rules pace frames past).coded
   coded_still [] past = refl
   coded_still (k ∷ ks) past = coded_still ks (Back k ∷ past)
 
-pub told_still : (p : Params) (w : WayRun Frame) (ks : List ℕ) → told_by p (record w { past = brought ks w.past }) ≡ told_by p w
-told_still p w ks = ap (λ (notes : List NumberedMessage). map (carried_as (rules_of p)) notes) (said_still (coding p) (rules_of p) (steady p) w.frames ks w.past)
+pub told_still : (p : Params) (w : WayRun Frame) (ks : List ℕ) → told_by p (record w { past = brought ks w.past })
+    ≡ told_by p w
+told_still p w ks = ap (λ (notes : List NumberedMessage). map (carried_as (rules_of p)) notes)
+    (said_still (coding p) (rules_of p) (steady p) w.frames ks w.past)
 
 -- ---- a capture
 
-pub told_sent : (p : Params) (law : LaterFrames (coding p) (rules_of p)) (w : WayRun Frame) (more : List Frame) (carried : List (List ℕ)) (loaded : ℕ)
+pub told_sent : (p : Params) (law : LaterFrames (coding p) (rules_of p)) (w : WayRun Frame) (more : List Frame)
+    (carried : List (List ℕ)) (loaded : ℕ)
     → AllMayHappen (coding p) (rules_of p) (steady p) w.frames w.past
-    → told_by p (record { frames = w.frames ++ more; past = Send ∷ w.past; carried = carried; loaded = loaded }) ≡ told_by p w
+    → told_by p (record { frames = w.frames ++ more; past = Send ∷ w.past; carried = carried; loaded = loaded })
+        ≡ told_by p w
 told_sent p law w more carried loaded near =
-    ap (λ (c : Call Style Mb Picture). map (carried_as (rules_of p)) c.said) (law (steady p) w.frames more w.past near).0
+    ap (λ (c : Call Style Mb Picture). map (carried_as (rules_of p)) c.said)
+        (law (steady p) w.frames more w.past near).0
 
 -- ---- what is said
 
@@ -67,8 +76,10 @@ module _ (p : Params) (laws : SaidLaws p) where
   abbrev tell : NumberedMessage → SaidMessage
   tell = told_of write_message rules
 
-  read_more : (w : WayRun Frame) (old : List NumberedMessage) (n : ℕ) (result : Option Said) (notes : List NumberedMessage)
-      → (call_by p w).said ≡ old ++ notes → map tell notes ≡ network.told_by n result → map (carried_as rules) notes ≡ said_as p.clock n result
+  read_more : (w : WayRun Frame) (old : List NumberedMessage) (n : ℕ) (result : Option Said)
+      (notes : List NumberedMessage)
+      → (call_by p w).said ≡ old ++ notes → map tell notes ≡ network.told_by n result → map (carried_as rules) notes
+          ≡ said_as p.clock n result
   read_more w old n None [] is told = refl
   read_more w old n None (x ∷ notes) is told = absurd (cc told)
   read_more w old n (Some said) [] is told = absurd (cc told)
@@ -84,21 +95,25 @@ module _ (p : Params) (laws : SaidLaws p) where
   -- what is told grows by what is said at an event
   pub told_more : (w : WayRun Frame) (e : Event) (n : ℕ) (result : Option Said) (notes : List NumberedMessage)
       → (call_by p (record w { past = e ∷ w.past })).said ≡ (call_by p w).said ++ notes
-      → (both_after p (steady p) w.frames [] (e ∷ w.past)).said ≡ (both_after p (steady p) w.frames [] w.past).said ++ network.told_by n result
+      → (both_after p (steady p) w.frames [] (e ∷ w.past)).said ≡ (both_after p (steady p) w.frames [] w.past).said
+          ++ network.told_by n result
       → Agree (coding p) rules (call_by p w) (both_after p (steady p) w.frames [] w.past)
-      → Agree (coding p) rules (call_by p (record w { past = e ∷ w.past })) (both_after p (steady p) w.frames [] (e ∷ w.past))
+      → Agree (coding p) rules (call_by p (record w { past = e ∷ w.past })) (both_after p (steady p) w.frames []
+          (e ∷ w.past))
       → told_by p (record w { past = e ∷ w.past }) ≡ told_by p w ++ said_as p.clock n result
   told_more w e n result notes grows says before now =
       let old = (call_by p w).said in
       let next : WayRun Frame = record w { past = e ∷ w.past } in
       let both : map tell old ++ map tell notes ≡ map tell old ++ network.told_by n result =
-      sym (map_more tell old notes) ∙ ap (λ (l : List NumberedMessage). map tell l) (sym grows) ∙ sym now.messages ∙ says
+      sym (map_more tell old notes) ∙ ap (λ (l : List NumberedMessage). map tell l) (sym grows) ∙ sym now.messages
+          ∙ says
       ∙ ap (λ (l : List SaidMessage). l ++ network.told_by n result) before.messages
       in
       ap (λ (l : List NumberedMessage). map (carried_as rules) l) grows
       ∙ map_more (carried_as rules) old notes
       ∙ ap (λ (l : List Carried). told_by p w ++ l)
-      (read_more next old n result notes grows (after_same (map tell old) (map tell notes) (network.told_by n result) both))
+      (read_more next old n result notes grows (after_same (map tell old) (map tell notes) (network.told_by n result)
+          both))
 
 -- ---- the ends of a party
 
@@ -108,24 +123,28 @@ longer (x ∷ xs) ys = omega (arith, longer xs ys)
 
 -- The ends have done more, and more was said of the other way.
 module _ (p q : Params) (own : PartyEnds) (w far : WayRun Frame) (h : HoldsParty p q own w far) where
-  pub headers_still : (now : WayRun Frame) (more : List Carried) → told_by q now ≡ told_by q far ++ more → HasHeaders own.carried (told_by q now) w.carried
+  pub headers_still : (now : WayRun Frame) (more : List Carried) → told_by q now ≡ told_by q far ++ more
+      → HasHeaders own.carried (told_by q now) w.carried
   headers_still now more grows =
       subst (λ (l : List Carried). HasHeaders own.carried l w.carried) (sym grows) (record {
         headers = h.carries.headers;
         holds = h.carries.holds;
         count = h.carries.count;
-        each = λ n. numbered_still (told_by q far) more (slice_index_or w.carried n []) (slice_index_or h.carries.headers n []) (h.carries.each n);
+        each = λ n. numbered_still (told_by q far) more (slice_index_or w.carried n [])
+            (slice_index_or h.carries.headers n []) (h.carries.each n);
         few = h.carries.few;
       })
 
   pub party_more : (new : PartyEnds) (past : List Event) (now : WayRun Frame) (more : List Carried)
       → new.params ≡ own.params → new.carried ≡ own.carried → kept_in new.way ≡ kept_in own.way
-      → new.sender.sent ≡ own.sender.sent → new.far_end.played ≤ own.sender.sent → total_of (tally_of new.way) ≡ new.far_end.played
+      → new.sender.sent ≡ own.sender.sent → new.far_end.played ≤ own.sender.sent → total_of (tally_of new.way)
+          ≡ new.far_end.played
       → HoldsWay p new.way new.sender new.far_end [] w.frames past → CanSend new.way new.sender
       → told_by q now ≡ told_by q far ++ more → Waits new.waiting (drop w.loaded (told_by q far) ++ more)
       → HoldsParty p q new (record w { past = past }) now
   party_more new past now more params carried period sent behind counted done can grows waits =
-      let long : length (told_by q now) ≡ length (told_by q far) + length more = ap (λ (l : List Carried). length l) grows ∙ longer (told_by q far) more in
+      let long : length (told_by q now) ≡ length (told_by q far) + length more =
+          ap (λ (l : List Carried). length l) grows ∙ longer (told_by q far) more in
       record {
         params = params ∙ h.params;
         done = done;
@@ -136,11 +155,13 @@ module _ (p q : Params) (own : PartyEnds) (w far : WayRun Frame) (h : HoldsParty
         behind = omega (arith, behind, sent);
         counted = counted;
         kept = ap kept_by carried ∙ h.kept;
-        carries = subst (λ (ring : CarriedRing). HasHeaders ring (told_by q now) w.carried) (sym carried) (headers_still now more grows);
+        carries = subst (λ (ring : CarriedRing). HasHeaders ring (told_by q now) w.carried) (sym carried)
+            (headers_still now more grows);
         headers = h.headers;
         loaded = omega (arith, h.loaded, long);
         waits = subst (λ (l : List Carried). Waits new.waiting l)
-            (sym (drop_left w.loaded (told_by q far) more h.loaded) ∙ ap (λ (l : List Carried). drop w.loaded l) (sym grows)) waits;
+            (sym (drop_left w.loaded (told_by q far) more h.loaded)
+                ∙ ap (λ (l : List Carried). drop w.loaded l) (sym grows)) waits;
       }
 
   -- nothing more was said of the other way
@@ -162,7 +183,8 @@ module _ (p q : Params) (own : PartyEnds) (w far : WayRun Frame) (h : HoldsParty
   }
 
   -- more was said of it, and waits
-  pub party_waits : (waiting : Carrier) (now : WayRun Frame) (more : List Carried) → told_by q now ≡ told_by q far ++ more
+  pub party_waits : (waiting : Carrier) (now : WayRun Frame) (more : List Carried) → told_by q now ≡ told_by q far
+      ++ more
       → Waits waiting (drop w.loaded (told_by q far) ++ more) → HoldsParty p q (record own { waiting = waiting }) w now
   party_waits waiting now more grows waits = record {
     params = h.params;
@@ -178,5 +200,6 @@ module _ (p q : Params) (own : PartyEnds) (w far : WayRun Frame) (h : HoldsParty
     headers = h.headers;
     loaded = omega (arith, h.loaded, ap (λ (l : List Carried). length l) grows, longer (told_by q far) more);
     waits = subst (λ (l : List Carried). Waits waiting l)
-        (sym (drop_left w.loaded (told_by q far) more h.loaded) ∙ ap (λ (l : List Carried). drop w.loaded l) (sym grows)) waits;
+        (sym (drop_left w.loaded (told_by q far) more h.loaded)
+            ∙ ap (λ (l : List Carried). drop w.loaded l) (sym grows)) waits;
   }

@@ -13,7 +13,8 @@ use Rattle.event_logs.specs.Log.{Parts, text_of, IsEntry}
 use Rattle.event_logs.proofs.Heads.{long_begins, begins_long, begins_front, whole_entry}
 
 -- an entry has as many bytes as are told
-no_bytes : (entry known : Entry) (len : ℕ) → bytes_of known ≡ 0 → (t : Bool) → (len == 0) ≡ t → cond t (Some known) None ≡ Some entry → bytes_of entry ≡ len
+no_bytes : (entry known : Entry) (len : ℕ) → bytes_of known ≡ 0 → (t : Bool) → (len == 0) ≡ t → cond t (Some known) None
+    ≡ Some entry → bytes_of entry ≡ len
 no_bytes entry known len none true is e =
     let same : known ≡ entry = cc in
     ap bytes_of (sym same) ∙ none ∙ sym (eqb-true len 0 is)
@@ -27,15 +28,21 @@ module _ (entry : Entry) (len : ℕ) where
   by_play true e = no_bytes entry Play len refl (len == 0) refl e
   by_play false e = absurd (cc)
 
-  by_packet : (t u : Bool) → cond t (Some (Packet len)) (cond u (cond (len == 0) (Some Play) None) None) ≡ Some entry → bytes_of entry ≡ len
+  by_packet : (t u : Bool) → cond t (Some (Packet len)) (cond u (cond (len == 0) (Some Play) None) None) ≡ Some entry
+      → bytes_of entry ≡ len
   by_packet true u e = some_bytes entry (Packet len) len refl e
   by_packet false u e = by_play u e
 
-  by_back : (s t u : Bool) → cond s (Some (Back len)) (cond t (Some (Packet len)) (cond u (cond (len == 0) (Some Play) None) None)) ≡ Some entry → bytes_of entry ≡ len
+  by_back : (s t u : Bool)
+      → cond s (Some (Back len)) (cond t (Some (Packet len)) (cond u (cond (len == 0) (Some Play) None) None))
+      ≡ Some entry → bytes_of entry ≡ len
   by_back true t u e = some_bytes entry (Back len) len refl e
   by_back false t u e = by_packet t u e
 
-  by_letter : (r s t u : Bool) → cond r (cond (len == 0) (Some Capture) None) (cond s (Some (Back len)) (cond t (Some (Packet len)) (cond u (cond (len == 0) (Some Play) None) None))) ≡ Some entry → bytes_of entry ≡ len
+  by_letter : (r s t u : Bool)
+      → cond r (cond (len == 0) (Some Capture) None)
+      (cond s (Some (Back len)) (cond t (Some (Packet len)) (cond u (cond (len == 0) (Some Play) None) None)))
+      ≡ Some entry → bytes_of entry ≡ len
   by_letter true s t u e = no_bytes entry Capture len refl (len == 0) refl e
   by_letter false s t u e = by_back s t u e
 
@@ -43,11 +50,13 @@ module _ (entry : Entry) (len : ℕ) where
   by_side letter true e = by_letter (letter == 83) (letter == 66) (letter == 75) (letter == 80) e
   by_side letter false e = absurd (cc)
 
-pub bytes_are : (side : Side) (entry : Entry) (letter len : ℕ) → entry_with side letter len ≡ Some entry → bytes_of entry ≡ len
+pub bytes_are : (side : Side) (entry : Entry) (letter len : ℕ) → entry_with side letter len ≡ Some entry
+    → bytes_of entry ≡ len
 bytes_are side entry letter len e = by_side entry len letter (has_letter side letter) e
 
 -- an entry that is spelled is read
-module _ (side : Side) (entry : Entry) (letter a b : ℕ) (bytes more : List ℕ) (told : big_number 2 (a ∷ b ∷ []) ≡ length bytes) (says : entry_with side letter (length bytes) ≡ Some entry) where
+module _ (side : Side) (entry : Entry) (letter a b : ℕ) (bytes more : List ℕ) (told : big_number 2 (a ∷ b ∷ [])
+    ≡ length bytes) (says : entry_with side letter (length bytes) ≡ Some entry) where
   abbrev text : List ℕ
   text = letter ∷ a ∷ b ∷ (bytes ++ more)
 
@@ -91,63 +100,81 @@ module _ (side : Side) (entry : Entry) (parts : Parts) (more : List ℕ) (is : I
 
   -- an entry is found where its text stands
   pub entry_found : entry_in side (text_of parts ++ more) ≡ Some entry
-  entry_found = ap (entry_in side) whole_is ∙ spelled_is_read side entry parts.letter size_of.0 size_of.1 parts.bytes more told_of is.says
+  entry_found = ap (entry_in side) whole_is
+      ∙ spelled_is_read side entry parts.letter size_of.0 size_of.1 parts.bytes more told_of is.says
 
   -- with its bytes
   pub bytes_found : take (bytes_of entry) (drop 3 (text_of parts ++ more)) ≡ parts.bytes
-  bytes_found = ap (λ (l : List ℕ). take (bytes_of entry) (drop 3 l)) whole_is ∙ spelled_bytes side entry parts.letter size_of.0 size_of.1 parts.bytes more told_of is.says
+  bytes_found = ap (λ (l : List ℕ). take (bytes_of entry) (drop 3 l)) whole_is
+      ∙ spelled_bytes side entry parts.letter size_of.0 size_of.1 parts.bytes more told_of is.says
 
   -- and what lies after it
   pub after_found : drop (3 + bytes_of entry) (text_of parts ++ more) ≡ more
-  after_found = ap (λ (l : List ℕ). drop (3 + bytes_of entry) l) whole_is ∙ spelled_after side entry parts.letter size_of.0 size_of.1 parts.bytes more told_of is.says
+  after_found = ap (λ (l : List ℕ). drop (3 + bytes_of entry) l) whole_is
+      ∙ spelled_after side entry parts.letter size_of.0 size_of.1 parts.bytes more told_of is.says
 
   pub text_len : length (text_of parts) ≡ 3 + bytes_of entry
-  text_len = omega (arith, length-append (parts.letter ∷ parts.size) parts.bytes, is.two, bytes_are side entry parts.letter (length parts.bytes) is.says)
+  text_len = omega (arith, length-append (parts.letter ∷ parts.size) parts.bytes, is.two,
+      bytes_are side entry parts.letter (length parts.bytes) is.says)
 
 -- what is written has such parts
-pub written : (side : Side) (entry : Entry) (letter : ℕ) (bytes : List ℕ) → length bytes ≤ 65535 → entry_with side letter (length bytes) ≡ Some entry → IsEntry side entry (record { letter = letter; size = big_bytes 2 (length bytes); bytes = bytes })
+pub written : (side : Side) (entry : Entry) (letter : ℕ) (bytes : List ℕ) → length bytes ≤ 65535
+    → entry_with side letter (length bytes) ≡ Some entry
+    → IsEntry side entry (record { letter = letter; size = big_bytes 2 (length bytes); bytes = bytes })
 written side entry letter bytes few says = record {
   two = length-bytes_high_first 2 (length bytes);
-  told = ap (big_number 2) (sym (append-nil (big_bytes 2 (length bytes)))) ∙ big_number-reads_back 2 (length bytes) [] (omega (arith, few));
+  told = ap (big_number 2) (sym (append-nil (big_bytes 2 (length bytes))))
+      ∙ big_number-reads_back 2 (length bytes) [] (omega (arith, few));
   says = says;
 }
 
 -- what is read has such parts
-read_cases : (side : Side) (entry : Entry) (text : List ℕ) (t : Bool) → nat_lt (length text) (reach side text) ≡ t → cond t None (begun side text) ≡ Some entry → (begun side text ≡ Some entry) × (reach side text ≤ length text)
+read_cases : (side : Side) (entry : Entry) (text : List ℕ) (t : Bool) → nat_lt (length text) (reach side text) ≡ t
+    → cond t None (begun side text) ≡ Some entry → (begun side text ≡ Some entry) × (reach side text ≤ length text)
 read_cases side entry text true short e = absurd (cc)
 read_cases side entry text false long e = (e, ltb-false (length text) (reach side text) long)
 
-pub read_whole : (side : Side) (entry : Entry) (text : List ℕ) → entry_in side text ≡ Some entry → (begun side text ≡ Some entry) × (reach side text ≤ length text)
+pub read_whole : (side : Side) (entry : Entry) (text : List ℕ) → entry_in side text ≡ Some entry
+    → (begun side text ≡ Some entry) × (reach side text ≤ length text)
 read_whole side entry text e = read_cases side entry text (nat_lt (length text) (reach side text)) refl e
 
 abbrev parts_in : ℕ → List ℕ → Parts
 parts_in n text = record { letter = get_or text 0 0; size = take 2 (drop 1 text); bytes = take n (drop 3 text) }
 
 module _ (side : Side) (entry : Entry) where
-  spells : (text : List ℕ) → begun side text ≡ Some entry → reach side text ≤ length text → IsEntry side entry (parts_in (bytes_of entry) text) × (text ≡ text_of (parts_in (bytes_of entry) text) ++ drop (3 + bytes_of entry) text)
+  spells : (text : List ℕ) → begun side text ≡ Some entry → reach side text ≤ length text
+      → IsEntry side entry (parts_in (bytes_of entry) text) × (text ≡ text_of (parts_in (bytes_of entry) text)
+      ++ drop (3 + bytes_of entry) text)
   spells [] is all = absurd (omega (arith, begins_long side [] entry is))
   spells (a ∷ []) is all = absurd (omega (arith, begins_long side (a ∷ []) entry is))
   spells (a ∷ b ∷ []) is all = absurd (omega (arith, begins_long side (a ∷ b ∷ []) entry is))
   spells (a ∷ b ∷ c ∷ text) is all =
-      let says : entry_with side a (big_number 2 (b ∷ c ∷ [])) ≡ Some entry = sym (long_begins side (a ∷ b ∷ c ∷ text) (omega arith)) ∙ is in
+      let says : entry_with side a (big_number 2 (b ∷ c ∷ []))
+          ≡ Some entry = sym (long_begins side (a ∷ b ∷ c ∷ text) (omega arith)) ∙ is in
       let told : bytes_of entry ≡ big_number 2 (b ∷ c ∷ []) = bytes_are side entry a (big_number 2 (b ∷ c ∷ [])) says in
-      let there : length (take (bytes_of entry) text) ≡ bytes_of entry = omega (arith, length-take (bytes_of entry) text, ap reach_of is, all) in
+      let there : length (take (bytes_of entry) text)
+          ≡ bytes_of entry = omega (arith, length-take (bytes_of entry) text, ap reach_of is, all) in
       let place : 3 + bytes_of entry ≡ suc (suc (suc (bytes_of entry))) = omega arith in (
-        record { two = refl; told = sym (there ∙ told); says = ap (λ (n : ℕ). entry_with side a n) (there ∙ told) ∙ says },
-        ap (λ (l : List ℕ). a ∷ b ∷ c ∷ l) (sym (take-append-drop (bytes_of entry) text)) ∙ ap (λ (n : ℕ). a ∷ b ∷ c ∷ (take (bytes_of entry) text ++ drop n (a ∷ b ∷ c ∷ text))) (sym place),
+        record { two = refl; told = sym (there ∙ told); says = ap (λ (n : ℕ). entry_with side a n) (there ∙ told)
+            ∙ says },
+        ap (λ (l : List ℕ). a ∷ b ∷ c ∷ l) (sym (take-append-drop (bytes_of entry) text))
+            ∙ ap (λ (n : ℕ). a ∷ b ∷ c ∷ (take (bytes_of entry) text ++ drop n (a ∷ b ∷ c ∷ text))) (sym place),
       )
 
   -- an entry that is found has its text there
-  pub entry_is : (text : List ℕ) → entry_in side text ≡ Some entry → (parts : Parts) × IsEntry side entry parts × (text ≡ text_of parts ++ drop (3 + bytes_of entry) text) × (parts.bytes ≡ take (bytes_of entry) (drop 3 text))
+  pub entry_is : (text : List ℕ) → entry_in side text ≡ Some entry → (parts : Parts) × IsEntry side entry parts
+      × (text ≡ text_of parts ++ drop (3 + bytes_of entry) text) × (parts.bytes ≡ take (bytes_of entry) (drop 3 text))
   entry_is text e =
       let h = read_whole side entry text e in
       let s = spells text h.0 h.1 in
       (parts_in (bytes_of entry) text, s.0, s.1, refl)
 
   -- a whole entry stays one where the text is cut after it
-  pub stays : (text : List ℕ) (k : ℕ) → entry_in side text ≡ Some entry → 3 + bytes_of entry ≤ k → entry_in side (take k text) ≡ Some entry
+  pub stays : (text : List ℕ) (k : ℕ) → entry_in side text ≡ Some entry → 3 + bytes_of entry ≤ k
+      → entry_in side (take k text) ≡ Some entry
   stays text k e le =
       let h = read_whole side entry text e in
       let begins : begun side (take k text) ≡ Some entry = begins_front side k text (omega (arith, le)) ∙ h.0 in
-      let all : reach side (take k text) ≤ length (take k text) = omega (arith, ap reach_of begins, ap reach_of h.0, h.1, length-take k text, le) in
+      let all : reach side (take k text) ≤ length (take k text) = omega (arith, ap reach_of begins, ap reach_of h.0,
+          h.1, length-take k text, le) in
       whole_entry side (take k text) all ∙ begins

@@ -36,7 +36,8 @@ module _ (p : Params) (frames : List Frame) where
 
   -- the group to which that was done
   abbrev grouped_by : List (SenderEntry Frame) → Groups
-  grouped_by entries = group_run (pictures p.format) (encoding p) (rules_of p) (in_group_of_one (pictures p.format) (encoding p) (rules_of p) (steady p) entries)
+  grouped_by entries = group_run (pictures p.format) (encoding p) (rules_of p) (in_group_of_one (pictures p.format)
+      (encoding p) (rules_of p) (steady p) entries)
 
   -- the group has done that, and the rest is the call's
   record Follows (past : List Event) (one : OneRun) : Type 0 where
@@ -51,7 +52,8 @@ module _ (p : Params) (frames : List Frame) where
   by_frame past run is (Some frame) = ap (λ (r : Groups). group_after_code p (steady p) frame r) is
 
   by_message : (past : List Event) (run : Groups) → run ≡ grouped_by (sent_so past) → (o : Option SaidMessage)
-      → one_hears p o run ≡ grouped_by (option_map_or (λ (told : SaidMessage). Feedback told.bytes ∷ []) o [] ++ sent_so past)
+      → one_hears p o run ≡ grouped_by (option_map_or (λ (told : SaidMessage). Feedback told.bytes ∷ []) o []
+          ++ sent_so past)
   by_message past run is None = is
   by_message past run is (Some told) = ap (λ (r : Groups). group_after_saying p 0 told.bytes r) is
 
@@ -62,28 +64,36 @@ module _ (p : Params) (frames : List Frame) where
     plays : view.plays ≡ w.plays
 
   by_packet : (n : ℕ) (view : ViewerRun) (w : Joined Style Mb Picture) → Reached view w → (o : Option (List ℕ))
-      → Reached (option_map_or (view_packet p n view) o view) (option_map_or (after_bytes (coding p) (rules_of p) w n) o w)
+      → Reached (option_map_or (view_packet p n view) o view)
+          (option_map_or (after_bytes (coding p) (rules_of p) w n) o w)
   by_packet n view w same None = same
   by_packet n view w same (Some bytes) = record {
-    receiver = ap (λ (r : ReceiverRun Style Mb Picture). after_packet (decoding p.format) (rules_of p) bytes r) same.receiver;
-    told = λ i. same.told i ++ said_to write_message n (heard (decoding p.format) (rules_of p) (same.receiver i) ((decoding p.format).read bytes));
+    receiver = ap (λ (r : ReceiverRun Style Mb Picture). after_packet (decoding p.format) (rules_of p) bytes r)
+        same.receiver;
+    told = λ i. same.told i ++ said_to write_message n (heard (decoding p.format) (rules_of p) (same.receiver i)
+        ((decoding p.format).read bytes));
     plays = same.plays;
   }
 
-  module _ (runs : EachEndRuns (coding p) (rules_of p)) (law : OneIsASender (pictures p.format) (encoding p) (rules_of p)) where
+  module _ (runs : EachEndRuns (coding p) (rules_of p)) (law : OneIsASender (pictures p.format) (encoding p)
+      (rules_of p)) where
     -- so the pictures are the call's
-    coded_is : (past : List Event) (run : Groups) → run ≡ grouped_by (sent_so past) → run.coded ≡ (both past).sender.coded
+    coded_is : (past : List Event) (run : Groups) → run ≡ grouped_by (sent_so past)
+        → run.coded ≡ (both past).sender.coded
     coded_is past run is =
         ap (λ (r : Groups). r.coded) is
         ∙ (law (steady p) (sent_so past)).coded
         ∙ ap (λ (r : SenderRun Style Mb Picture). r.coded) (sym (runs [] (steady p) frames past).0)
 
-    one_more : (e : Event) (past : List Event) → Follows past (group_of_one p frames past) → Follows (e ∷ past) (group_of_one p frames (e ∷ past))
+    one_more : (e : Event) (past : List Event) → Follows past (group_of_one p frames past)
+        → Follows (e ∷ past) (group_of_one p frames (e ∷ past))
     one_more Send past h =
         let run = (group_of_one p frames past).run in
-        let long : length run.coded ≡ length (both past).sender.coded = ap (λ (l : List (Coded Style Mb Picture)). length l) (coded_is past run h.run_is) in
+        let long : length run.coded ≡ length (both past).sender.coded =
+            ap (λ (l : List (Coded Style Mb Picture)). length l) (coded_is past run h.run_is) in
         record {
-          run_is = ap (λ (n : ℕ). one_sends p (slice_get frames n) run) long ∙ by_frame past run h.run_is (slice_get frames (length (both past).sender.coded));
+          run_is = ap (λ (n : ℕ). one_sends p (slice_get frames n) run) long
+              ∙ by_frame past run h.run_is (slice_get frames (length (both past).sender.coded));
           receiver = h.receiver;
           told = h.told;
           plays = h.plays;
@@ -91,9 +101,12 @@ module _ (p : Params) (frames : List Frame) where
     one_more (Deliver n j) past h =
         let one = group_of_one p frames past in
         let w = both past in
-        let same : packets_in p one.run.coded n ≡ packets_in p w.sender.coded n = ap (λ (l : List (Coded Style Mb Picture)). packets_in p l n) (coded_is past one.run h.run_is) in
-        let reached = by_packet n one.view w (record { receiver = h.receiver; told = h.told; plays = h.plays }) (slice_get (packets_in p w.sender.coded n) j) in
-        let moved = subst (λ (l : List (List ℕ)). Reached (option_map_or (view_packet p n one.view) (slice_get l j) one.view) (both (Deliver n j ∷ past))) (sym same) reached in
+        let same : packets_in p one.run.coded n ≡ packets_in p w.sender.coded n =
+            ap (λ (l : List (Coded Style Mb Picture)). packets_in p l n) (coded_is past one.run h.run_is) in
+        let reached = by_packet n one.view w (record { receiver = h.receiver; told = h.told; plays = h.plays })
+            (slice_get (packets_in p w.sender.coded n) j) in
+        let moved = subst (λ (l : List (List ℕ)). Reached (option_map_or (view_packet p n one.view)
+            (slice_get l j) one.view) (both (Deliver n j ∷ past))) (sym same) reached in
         record {
           run_is = h.run_is;
           receiver = moved.receiver;
@@ -109,7 +122,8 @@ module _ (p : Params) (frames : List Frame) where
     one_more (Back k) past h =
         let one = group_of_one p frames past in
         record {
-          run_is = ap (λ (l : List SaidMessage). one_hears p (slice_get l k) one.run) h.told ∙ by_message past one.run h.run_is (slice_get (both past).said k);
+          run_is = ap (λ (l : List SaidMessage). one_hears p (slice_get l k) one.run) h.told
+              ∙ by_message past one.run h.run_is (slice_get (both past).said k);
           receiver = h.receiver;
           told = h.told;
           plays = h.plays;

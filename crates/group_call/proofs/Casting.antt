@@ -34,12 +34,14 @@ get_last [] x = refl
 get_last (y ∷ xs) x = get_last xs x
 
 -- the sender has the packets of its last picture, and has coded what the run has
-pub last_packets : (p : Params) (state : SenderState FixedPace) (run : Groups) → state.params ≡ p → Holds state (pictures_alone run)
+pub last_packets : (p : Params) (state : SenderState FixedPace) (run : Groups) → state.params ≡ p
+    → Holds state (pictures_alone run)
     → state.packets ≡ packets_in p run.coded (length run.coded - 1)
 last_packets p state run same h =
     sym h.seen.packets ∙ h.holds.keeps.packets ∙ ap (λ (q : Params). packets_in q run.coded (length run.coded - 1)) same
 
-pub sent_is : (state : SenderState FixedPace) (run : Groups) → Holds state (pictures_alone run) → state.sent ≡ length run.coded
+pub sent_is : (state : SenderState FixedPace) (run : Groups) → Holds state (pictures_alone run)
+    → state.sent ≡ length run.coded
 sent_is state run h = sym h.seen.sent ∙ h.holds.keeps.sent
 
 -- the run with the next picture
@@ -47,11 +49,13 @@ abbrev pub with_next : Params → ℕ → Frame → Groups → List (Coded Style
 with_next p quant frame run = run.coded ++ next_of_group p (paced quant) frame run ∷ []
 
 -- the sender has the packets of the picture that it coded last
-pub newest_packets : (p : Params) (quant : ℕ) (frame : Frame) (run : Groups) (state : SenderState FixedPace) → state.params ≡ p
+pub newest_packets : (p : Params) (quant : ℕ) (frame : Frame) (run : Groups) (state : SenderState FixedPace)
+    → state.params ≡ p
     → Holds state (pictures_alone (record run { coded = with_next p quant frame run }))
     → state.packets ≡ packets_in p (with_next p quant frame run) (length run.coded)
 newest_packets p quant frame run state same h =
-    let number : length (with_next p quant frame run) - 1 ≡ length run.coded = omega (arith, one_longer run.coded (next_of_group p (paced quant) frame run)) in
+    let number : length (with_next p quant frame run) - 1
+        ≡ length run.coded = omega (arith, one_longer run.coded (next_of_group p (paced quant) frame run)) in
     last_packets p state (record run { coded = with_next p quant frame run }) same h
     ∙ ap (λ (n : ℕ). packets_in p (with_next p quant frame run) n) number
 
@@ -64,7 +68,10 @@ newest_room p laws quant frame run ranged =
     let x = next_of_group p (paced quant) frame run in
     let n = length run.coded in
     subst (λ (o : Option (Coded Style Mb Picture)).
-    (size_of (option_map_or (λ (y : Coded Style Mb Picture). (encoding p).packets n (packets_before (take n (run.coded ++ x ∷ []))) (header_of (rules_of p) n y) y.slices) o []) ≤ 1200 * mbs_of p.format)
-    × (length (option_map_or (λ (y : Coded Style Mb Picture). (encoding p).packets n (packets_before (take n (run.coded ++ x ∷ []))) (header_of (rules_of p) n y) y.slices) o []) ≤ mbs_of p.format))
+    (size_of (option_map_or (λ (y : Coded Style Mb Picture). (encoding p).packets n
+        (packets_before (take n (run.coded ++ x ∷ []))) (header_of (rules_of p) n y) y.slices) o []) ≤ 1200 * mbs_of
+        p.format)
+    × (length (option_map_or (λ (y : Coded Style Mb Picture). (encoding p).packets n
+        (packets_before (take n (run.coded ++ x ∷ []))) (header_of (rules_of p) n y) y.slices) o []) ≤ mbs_of p.format))
     (sym (get_last run.coded x))
     (laws.captured quant frame run.coded _ n (packets_before (take n (run.coded ++ x ∷ []))) ranged)

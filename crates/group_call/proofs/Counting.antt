@@ -13,32 +13,42 @@ use Rattle.group_call.specs.Refused.{unless_left}
 use Rattle.group_call.specs.Viewing.{told_at}
 
 module _ (rules : Rules) (sent played : ℕ) (abouts : List ℕ) where
-  pub next_far : played + rules.half ≤ sent → first_refusal rules (sent + 1) sent played abouts Send ≡ Some (Far sent played)
+  pub next_far : played + rules.half ≤ sent → first_refusal rules (sent + 1) sent played abouts Send
+      ≡ Some (Far sent played)
   unfolding first_refusal
   next_far far =
-      ap (λ (b : Bool). if b then Some (Far sent played) else if nat_le (sent + 1) sent then Some NoFrame else None) (le-leb (played + rules.half) sent far)
+      ap (λ (b : Bool). if b then Some (Far sent played) else if nat_le (sent + 1) sent then Some NoFrame else None)
+          (le-leb (played + rules.half) sent far)
 
-  pub next_near : sent < sent + 1 → sent < played + rules.half → first_refusal rules (sent + 1) sent played abouts Send ≡ None
+  pub next_near : sent < sent + 1 → sent < played + rules.half → first_refusal rules (sent + 1) sent played abouts Send
+      ≡ None
   unfolding first_refusal
   next_near some near =
-      ap (λ (b : Bool). if b then Some (Far sent played) else if nat_le (sent + 1) sent then Some NoFrame else None) (lt-leb (played + rules.half) sent near)
+      ap (λ (b : Bool). if b then Some (Far sent played) else if nat_le (sent + 1) sent then Some NoFrame else None)
+          (lt-leb (played + rules.half) sent near)
       ∙ ap (λ (b : Bool). if b then Some NoFrame else None) (lt-leb (sent + 1) sent some)
 
-  pub number_unsent : (n place : ℕ) → sent ≤ n → first_refusal rules (sent + 1) sent played abouts (Deliver n place) ≡ Some NotSent
+  pub number_unsent : (n place : ℕ) → sent ≤ n → first_refusal rules (sent + 1) sent played abouts (Deliver n place)
+      ≡ Some NotSent
   unfolding first_refusal
   number_unsent n place few =
-      ap (λ (b : Bool). if b then Some NotSent else if nat_le (n + rules.half) played then Some (Far n played) else None) (le-leb sent n few)
+      ap (λ (b : Bool). if b then Some NotSent else if nat_le (n + rules.half) played then Some
+          (Far n played) else None) (le-leb sent n few)
 
-  pub number_far : (n place : ℕ) → n < sent → n + rules.half ≤ played → first_refusal rules (sent + 1) sent played abouts (Deliver n place) ≡ Some (Far n played)
+  pub number_far : (n place : ℕ) → n < sent → n + rules.half ≤ played
+      → first_refusal rules (sent + 1) sent played abouts (Deliver n place) ≡ Some (Far n played)
   unfolding first_refusal
   number_far n place some far =
-      ap (λ (b : Bool). if b then Some NotSent else if nat_le (n + rules.half) played then Some (Far n played) else None) (lt-leb sent n some)
+      ap (λ (b : Bool). if b then Some NotSent else if nat_le (n + rules.half) played then Some
+          (Far n played) else None) (lt-leb sent n some)
       ∙ ap (λ (b : Bool). if b then Some (Far n played) else None) (le-leb (n + rules.half) played far)
 
-  pub number_near : (n place : ℕ) → n < sent → played < n + rules.half → first_refusal rules (sent + 1) sent played abouts (Deliver n place) ≡ None
+  pub number_near : (n place : ℕ) → n < sent → played < n + rules.half
+      → first_refusal rules (sent + 1) sent played abouts (Deliver n place) ≡ None
   unfolding first_refusal
   number_near n place some near =
-      ap (λ (b : Bool). if b then Some NotSent else if nat_le (n + rules.half) played then Some (Far n played) else None) (lt-leb sent n some)
+      ap (λ (b : Bool). if b then Some NotSent else if nat_le (n + rules.half) played then Some
+          (Far n played) else None) (lt-leb sent n some)
       ∙ ap (λ (b : Bool). if b then Some (Far n played) else None) (lt-leb (n + rules.half) played near)
 
   pub shown_early : sent ≤ played → first_refusal rules (sent + 1) sent played abouts Play ≡ Some PlayBeforeSend
@@ -50,19 +60,25 @@ module _ (rules : Rules) (sent played : ℕ) (abouts : List ℕ) where
   shown_near some = ap (λ (b : Bool). if b then Some PlayBeforeSend else None) (lt-leb sent played some)
 
   far_by : Option ℕ → Option Refusal
-  far_by about = option_map_or (λ t. if nat_le (t + rules.half) sent then Some (Far t sent) else None) about (Some NotSaid)
+  far_by about = option_map_or (λ t. if nat_le (t + rules.half) sent then Some (Far t sent) else None) about
+      (Some NotSaid)
 
-  pub message_unsaid : (k : ℕ) → slice_get abouts k ≡ None → first_refusal rules (sent + 1) sent played abouts (Back k) ≡ Some NotSaid
+  pub message_unsaid : (k : ℕ) → slice_get abouts k ≡ None → first_refusal rules (sent + 1) sent played abouts (Back k)
+      ≡ Some NotSaid
   unfolding first_refusal far_by
   message_unsaid k none = ap far_by none
 
-  pub message_far : (k t : ℕ) → slice_get abouts k ≡ Some t → t + rules.half ≤ sent → first_refusal rules (sent + 1) sent played abouts (Back k) ≡ Some (Far t sent)
+  pub message_far : (k t : ℕ) → slice_get abouts k ≡ Some t → t + rules.half ≤ sent
+      → first_refusal rules (sent + 1) sent played abouts (Back k) ≡ Some (Far t sent)
   unfolding first_refusal far_by
-  message_far k t some far = ap far_by some ∙ ap (λ (b : Bool). if b then Some (Far t sent) else None) (le-leb (t + rules.half) sent far)
+  message_far k t some far = ap far_by some
+      ∙ ap (λ (b : Bool). if b then Some (Far t sent) else None) (le-leb (t + rules.half) sent far)
 
-  pub message_near : (k t : ℕ) → slice_get abouts k ≡ Some t → sent < t + rules.half → first_refusal rules (sent + 1) sent played abouts (Back k) ≡ None
+  pub message_near : (k t : ℕ) → slice_get abouts k ≡ Some t → sent < t + rules.half
+      → first_refusal rules (sent + 1) sent played abouts (Back k) ≡ None
   unfolding first_refusal far_by
-  message_near k t some near = ap far_by some ∙ ap (λ (b : Bool). if b then Some (Far t sent) else None) (lt-leb (t + rules.half) sent near)
+  message_near k t some near = ap far_by some
+      ∙ ap (λ (b : Bool). if b then Some (Far t sent) else None) (lt-leb (t + rules.half) sent near)
 
 -- ---- a message of a receiver that has said these
 
@@ -109,7 +125,8 @@ module _ (rules : Rules) (sent played : ℕ) (told : List SaidMessage) (k : ℕ)
 
   about_at : (x : SaidMessage) → slice_get told k ≡ Some x → slice_get abouts k ≡ Some x.about
   about_at x is =
-      slice_get-map (λ (told : SaidMessage). told.about) told k ∙ ap (λ (o : Option SaidMessage). option_map (λ (told : SaidMessage). told.about) o) is
+      slice_get-map (λ (told : SaidMessage). told.about) told k
+          ∙ ap (λ (o : Option SaidMessage). option_map (λ (told : SaidMessage). told.about) o) is
 
   pub told_far : (x : SaidMessage) → slice_get told k ≡ Some x → length told ≤ k + 1024 → x.about + rules.half ≤ sent
       → refusal_of_message ≡ Some (Far x.about sent)
@@ -123,11 +140,14 @@ module _ (rules : Rules) (sent played : ℕ) (told : List SaidMessage) (k : ℕ)
   pub there : (x : SaidMessage) → told_at told k ≡ Some x → (slice_get told k ≡ Some x) × (length told ≤ k + 1024)
   there x is = by_place (cases_lt (k + 1024) (length told))
     where
-      by_place : (k + 1024 < length told) ⊎ (length told ≤ k + 1024) → (slice_get told k ≡ Some x) × (length told ≤ k + 1024)
+      by_place : (k + 1024 < length told) ⊎ (length told ≤ k + 1024) → (slice_get told k ≡ Some x)
+          × (length told ≤ k + 1024)
       by_place (inr near) =
-          (sym (ap (λ (b : Bool). if b then slice_get told k else None) (le-leb (length told) (k + 1024) near)) ∙ is, near)
+          (sym (ap (λ (b : Bool). if b then slice_get told k else None) (le-leb (length told) (k + 1024) near))
+              ∙ is, near)
       by_place (inl past) =
-          absurd (cc (is, ap (λ (b : Bool). if b then slice_get told k else None) (lt-leb (length told) (k + 1024) past)))
+          absurd (cc (is, ap (λ (b : Bool). if b then slice_get told k else None)
+              (lt-leb (length told) (k + 1024) past)))
 
   pub has_left : told_at told k ≡ None → k < length told → k + 1024 < length told
   has_left is some = by_place (cases_lt (k + 1024) (length told))

@@ -24,11 +24,13 @@ module _ (p : Params) (source : Source Style Mb Picture) (coded : List (Coded St
   run_in lived = received (decoding p.format) (rules_of p) source (λ _ n. packets_in p coded n) (lived_events 0 lived)
 
   -- a packet, if there is one
-  by_slot : (n : ℕ) (view : ViewerRun) (run : ReceiverRun Style Mb Picture) → run_of p view.entries ≡ run → (o : Option (List ℕ))
+  by_slot : (n : ℕ) (view : ViewerRun) (run : ReceiverRun Style Mb Picture) → run_of p view.entries ≡ run
+      → (o : Option (List ℕ))
       → run_of p (option_map_or (view_packet p n view) o view).entries
       ≡ option_map_or (λ bytes. after_packet (decoding p.format) (rules_of p) bytes run) o run
   by_slot n view run same None = same
-  by_slot n view run same (Some bytes) = ap (λ (r : ReceiverRun Style Mb Picture). after_packet (decoding p.format) (rules_of p) bytes r) same
+  by_slot n view run same (Some bytes) = ap (λ (r : ReceiverRun Style Mb Picture). after_packet (decoding p.format)
+      (rules_of p) bytes r) same
 
   pub received_is : (lived : List (Lived Frame)) → run_of p (view_lived p coded lived).entries ≡ run_in lived
   received_is [] = refl
@@ -36,6 +38,8 @@ module _ (p : Params) (source : Source Style Mb Picture) (coded : List (Coded St
   received_is (Done (FeedbackOf j bytes) ∷ past) = received_is past
   received_is (Done (JoinsAt j) ∷ past) = received_is past
   received_is (Done (LeavesAt j) ∷ past) = received_is past
-  received_is (Arrives n j ∷ past) = by_slot n (view_lived p coded past) (run_in past) (received_is past) (slice_get (packets_in p coded n) j)
-  received_is (Plays ∷ past) = ap (λ (r : ReceiverRun Style Mb Picture). after_play (decoding p.format) (rules_of p) r) (received_is past)
+  received_is (Arrives n j ∷ past) = by_slot n (view_lived p coded past) (run_in past) (received_is past)
+      (slice_get (packets_in p coded n) j)
+  received_is (Plays ∷ past) = ap (λ (r : ReceiverRun Style Mb Picture). after_play (decoding p.format) (rules_of p) r)
+      (received_is past)
   received_is (ComesBack i bytes ∷ past) = received_is past

@@ -42,7 +42,8 @@ pub record ViewerFollows (p : Params) (view : ViewerRun) (coded : List (Coded St
 -- So it is for each receiver that is there from the start, in any call that is near for it, whatever
 -- the others lose or say.
 abbrev pub ViewersFollow : Params → Type 0
-ViewersFollow p = (k : ℕ) (before : List (GroupEntry Frame)) (lived : List (Lived Frame)) (frame : Frame) (quant count : ℕ) →
+ViewersFollow p = (k : ℕ) (before : List (GroupEntry Frame)) (lived : List (Lived Frame)) (frame : Frame)
+    (quant count : ℕ) →
     let first = group_run (pictures_of (coding p)) (encoding p) (rules_of p) before in
     let coded = (group_run (pictures_of (coding p)) (encoding p) (rules_of p) (group_entries k before lived)).coded in
     let source = lived_source 0 (capture (pictures_of (coding p)) (encoding p) quant frame [] None) coded in

@@ -14,9 +14,11 @@ use Rattle.group_sender.specs.Parties.{Party, all_have, may_go_by, nobody, party
 -- ---- what all have
 
 -- a test of all holds where it holds of each
-all_from : (p : Party → Bool) (l : List Party) → ((k : ℕ) → k < length l → p (get_or l k nobody) ≡ true) → list_all p l ≡ true
+all_from : (p : Party → Bool) (l : List Party) → ((k : ℕ) → k < length l → p (get_or l k nobody) ≡ true)
+    → list_all p l ≡ true
 all_from p [] each = refl
-all_from p (x ∷ xs) each = and_from (p x) (list_all p xs) (each 0 (omega arith)) (all_from p xs (λ k below. each (suc k) (omega (arith, below))))
+all_from p (x ∷ xs) each = and_from (p x) (list_all p xs) (each 0 (omega arith))
+    (all_from p xs (λ k below. each (suc k) (omega (arith, below))))
 
 all_at : (p : Party → Bool) (l : List Party) (k : ℕ) → list_all p l ≡ true → k < length l → p (get_or l k nobody) ≡ true
 all_at p l k all below = go (p (get_or l k nobody)) refl
@@ -35,8 +37,10 @@ or_either false b given = refl
 
 pub all_have_is : AllHaveIs
 all_have_is parties m = (
-  λ all k below there. or_there (party_at parties k).present (party_has (party_at parties k) m) (all_at (may_go_by m) parties k all below) there,
-  λ each. all_from (may_go_by m) parties (λ k below. or_either (party_at parties k).present (party_has (party_at parties k) m) (each k below)),
+  λ all k below there. or_there (party_at parties k).present (party_has (party_at parties k) m)
+      (all_at (may_go_by m) parties k all below) there,
+  λ each. all_from (may_go_by m) parties (λ k below. or_either (party_at parties k).present
+      (party_has (party_at parties k) m) (each k below)),
 )
 
 -- ---- the newest of all
@@ -61,7 +65,8 @@ module _ {Frame Style Mb Picture MessageFault : Type 0} (pictures : Pictures Sty
         where
           go : (b : Bool) → all_have run.parties j ≡ b → all_have run.parties j ≡ false
           go false is = is
-          go true is = let wrong : true ≡ false = sym (and_from (all_have run.parties j) (leb n (j + window rules)) is near) ∙ fails in cc
+          go true is = let wrong : true
+              ≡ false = sym (and_from (all_have run.parties j) (leb n (j + window rules)) is near) ∙ fails in cc
 
       newest_at : (k : ℕ) → greatest test n ≡ Some k → IsNewestOfAll rules run k
       newest_at k is =
@@ -72,29 +77,36 @@ module _ {Frame Style Mb Picture MessageFault : Type 0} (pictures : Pictures Sty
             sent = parts.1;
             near = near;
             all = both.0;
-            newest = λ j later below. not_all j (parts.2 j later below) (le-leb n (j + window rules) (omega (arith, near, later)));
+            newest = λ j later below. not_all j (parts.2 j later below)
+                (le-leb n (j + window rules) (omega (arith, near, later)));
           }
 
-      kept : (k : ℕ) (b : Bool) → ltb (depth_at run.coded k) rules.chain ≡ b → greatest test n ≡ Some k → (let o : Option ℕ = if b then Some k else None in o) ≡ Some m
+      kept : (k : ℕ) (b : Bool) → ltb (depth_at run.coded k) rules.chain ≡ b → greatest test n ≡ Some k
+          → (let o : Option ℕ = if b then Some k else None in o) ≡ Some m
           → IsNewestOfAll rules run m × (depth_at run.coded m < rules.chain)
       kept k true low is same =
           let e : k ≡ m = cc in
-          subst (λ (i : ℕ). IsNewestOfAll rules run i × (depth_at run.coded i < rules.chain)) e (newest_at k is, ltb-true (depth_at run.coded k) rules.chain low)
+          subst (λ (i : ℕ). IsNewestOfAll rules run i × (depth_at run.coded i < rules.chain)) e (newest_at k is,
+              ltb-true (depth_at run.coded k) rules.chain low)
       kept k false low is same = cc
 
-      found : (o : Option ℕ) → greatest test n ≡ o → option_and_then grows o ≡ Some m → IsNewestOfAll rules run m × (depth_at run.coded m < rules.chain)
+      found : (o : Option ℕ) → greatest test n ≡ o → option_and_then grows o ≡ Some m → IsNewestOfAll rules run m
+          × (depth_at run.coded m < rules.chain)
       found None is same = cc
       found (Some k) is same = kept k (ltb (depth_at run.coded k) rules.chain) refl is same
 
-      here : IsNewestOfAll rules run m → depth_at run.coded m < rules.chain → option_and_then grows (greatest test n) ≡ Some m
+      here : IsNewestOfAll rules run m → depth_at run.coded m < rules.chain → option_and_then grows (greatest test n)
+          ≡ Some m
       here newest low =
           let is : greatest test n ≡ Some m = (greatest_is test n m).1 (
-            and_from (all_have run.parties m) (leb n (m + window rules)) newest.all (le-leb n (m + window rules) newest.near),
+            and_from (all_have run.parties m) (leb n (m + window rules)) newest.all
+                (le-leb n (m + window rules) newest.near),
             newest.sent,
             λ j later below. and_left (all_have run.parties j) (leb n (j + window rules)) (newest.newest j later below),
           )
           in
-          ap (option_and_then grows) is ∙ ap (λ (b : Bool). if b then Some m else None) (lt-ltb (depth_at run.coded m) rules.chain low)
+          ap (option_and_then grows) is
+              ∙ ap (λ (b : Bool). if b then Some m else None) (lt-ltb (depth_at run.coded m) rules.chain low)
 
   pub feedback_changes_one : FeedbackChangesOne pictures encoding rules
   feedback_changes_one k bytes run j apart = get_or-set_other run.parties k j _ nobody apart
@@ -111,12 +123,14 @@ module _ (Style Mb Picture : Type 0) where
   pub joiner_has_none : JoinerHasNone Style Mb Picture
   joiner_has_none k m run there before =
       let now = with_party_at k (party_joined (length run.coded)) run.parties in
-      list_all_at (may_go_by m) now k nobody (subst (λ (n : ℕ). k < n) (sym (length-set run.parties k (party_joined (length run.coded)))) there)
+      list_all_at (may_go_by m) now k nobody
+          (subst (λ (n : ℕ). k < n) (sym (length-set run.parties k (party_joined (length run.coded)))) there)
       (ap (may_go_by m) (get_or-set_same run.parties k (party_joined (length run.coded)) nobody there)
       ∙ ap (λ (b : Bool). b && is_among [] m) (lt-leb (length run.coded) m before))
 
   pub leaver_frees : LeaverFrees Style Mb Picture
-  leaver_frees k m run others = all_from (may_go_by m) now (λ j below. each j (subst (λ (n : ℕ). j < n) (length-set run.parties k left) below) (cases_eq j k))
+  leaver_frees k m run others = all_from (may_go_by m) now
+      (λ j below. each j (subst (λ (n : ℕ). j < n) (length-set run.parties k left) below) (cases_eq j k))
     where
       left : Party
       left = party_left (party_at run.parties k)
@@ -127,5 +141,7 @@ module _ (Style Mb Picture : Type 0) where
       each : (j : ℕ) → j < length run.parties → ((j ≡ k) ⊎ (j ≡ k → ⊥)) → may_go_by m (get_or now j nobody) ≡ true
       each j below (inl same) =
           ap (λ (i : ℕ). may_go_by m (get_or now i nobody)) same
-          ∙ ap (may_go_by m) (get_or-set_same run.parties k left nobody (subst (λ (i : ℕ). i < length run.parties) same below))
-      each j below (inr apart) = ap (may_go_by m) (get_or-set_other run.parties k j left nobody apart) ∙ others j below apart
+          ∙ ap (may_go_by m) (get_or-set_same run.parties k left nobody
+              (subst (λ (i : ℕ). i < length run.parties) same below))
+      each j below (inr apart) = ap (may_go_by m) (get_or-set_other run.parties k j left nobody apart)
+          ∙ others j below apart

@@ -11,7 +11,8 @@ use Rattle.group_sender.specs.Parties.{Party, all_have, may_go_by, nobody, party
 use Rattle.group_sender.specs.Standing.{MemberStands, MembersStand}
 
 -- one receiver more may be gone by
-pub one_more : (m k : ℕ) (parties : List Party) → k < length parties → list_all (may_go_by m) (take k parties) ≡ true → may_go_by m (party_at parties k) ≡ true
+pub one_more : (m k : ℕ) (parties : List Party) → k < length parties → list_all (may_go_by m) (take k parties) ≡ true
+    → may_go_by m (party_at parties k) ≡ true
     → list_all (may_go_by m) (take (k + 1) parties) ≡ true
 one_more m k parties below before here =
     list_all_more (may_go_by m) parties k nobody below
@@ -19,23 +20,28 @@ one_more m k parties below before here =
     ∙ here
 
 -- one may not be
-pub not_one : (m k : ℕ) (parties : List Party) → k < length parties → may_go_by m (party_at parties k) ≡ false → all_have parties m ≡ false
+pub not_one : (m k : ℕ) (parties : List Party) → k < length parties → may_go_by m (party_at parties k) ≡ false
+    → all_have parties m ≡ false
 not_one m k parties below here = list_all_at (may_go_by m) parties k nobody below here
 
 -- the places below k were told of one picture more
 pub record AreTold (rules : Rules) (members : List Member) (number k : ℕ) (parties : List Party) : Type 0 where
   pub count : length members ≡ length parties
-  pub told : (j : ℕ) (other : Member) → j < k → j < length members → MemberStands rules (get_or members j other) (number + 1) (party_at parties j)
-  pub left : (j : ℕ) (other : Member) → k ≤ j → j < length members → MemberStands rules (get_or members j other) number (party_at parties j)
+  pub told : (j : ℕ) (other : Member) → j < k → j < length members
+      → MemberStands rules (get_or members j other) (number + 1) (party_at parties j)
+  pub left : (j : ℕ) (other : Member) → k ≤ j → j < length members
+      → MemberStands rules (get_or members j other) number (party_at parties j)
 
-pub told_none : (rules : Rules) (members : List Member) (number : ℕ) (parties : List Party) → MembersStand rules members number parties → AreTold rules members number 0 parties
+pub told_none : (rules : Rules) (members : List Member) (number : ℕ) (parties : List Party)
+    → MembersStand rules members number parties → AreTold rules members number 0 parties
 told_none rules members number parties stand = record {
   count = stand.count;
   told = λ j other low below. absurd (omega (arith, low));
   left = λ j other low below. stand.each j other below;
 }
 
-pub told_all : (rules : Rules) (members : List Member) (number k : ℕ) (parties : List Party) → length members ≤ k → AreTold rules members number k parties
+pub told_all : (rules : Rules) (members : List Member) (number k : ℕ) (parties : List Party) → length members ≤ k
+    → AreTold rules members number k parties
     → MembersStand rules members (number + 1) parties
 told_all rules members number k parties all told = record {
   count = told.count;
@@ -43,21 +49,28 @@ told_all rules members number k parties all told = record {
 }
 
 -- place k is told too
-pub told_one : (rules : Rules) (members : List Member) (number k : ℕ) (parties : List Party) (new : Member) → k < length members → AreTold rules members number k parties
-    → MemberStands rules new (number + 1) (party_at parties k) → AreTold rules (set members k new) number (k + 1) parties
+pub told_one : (rules : Rules) (members : List Member) (number k : ℕ) (parties : List Party) (new : Member)
+    → k < length members → AreTold rules members number k parties
+    → MemberStands rules new (number + 1) (party_at parties k)
+        → AreTold rules (set members k new) number (k + 1) parties
 told_one rules members number k parties new low told one = record {
   count = length-set members k new ∙ told.count;
   told = λ j other small below. here j other small below (cases_eq j k);
   left = λ j other late below.
       let apart : j ≡ k → ⊥ = λ e. omega (arith, e, late) in
-      subst (λ (x : Member). MemberStands rules x number (party_at parties j)) (sym (get_or-set_other members k j new other apart))
+      subst (λ (x : Member). MemberStands rules x number (party_at parties j))
+          (sym (get_or-set_other members k j new other apart))
       (told.left j other (omega (arith, late)) (subst (λ (n : ℕ). j < n) (length-set members k new) below));
 }
   where
-    here : (j : ℕ) (other : Member) → j < k + 1 → j < length (set members k new) → ((j ≡ k) ⊎ (j ≡ k → ⊥)) → MemberStands rules (get_or (set members k new) j other) (number + 1) (party_at parties j)
+    here : (j : ℕ) (other : Member) → j < k + 1 → j < length (set members k new) → ((j ≡ k) ⊎ (j ≡ k → ⊥))
+        → MemberStands rules (get_or (set members k new) j other) (number + 1) (party_at parties j)
     here j other small below (inl same) =
-        subst (λ (i : ℕ). MemberStands rules (get_or (set members k new) i other) (number + 1) (party_at parties i)) (sym same)
-        (subst (λ (x : Member). MemberStands rules x (number + 1) (party_at parties k)) (sym (get_or-set_same members k new other low)) one)
+        subst (λ (i : ℕ). MemberStands rules (get_or (set members k new) i other) (number + 1) (party_at parties i))
+            (sym same)
+        (subst (λ (x : Member). MemberStands rules x (number + 1) (party_at parties k))
+            (sym (get_or-set_same members k new other low)) one)
     here j other small below (inr apart) =
-        subst (λ (x : Member). MemberStands rules x (number + 1) (party_at parties j)) (sym (get_or-set_other members k j new other apart))
+        subst (λ (x : Member). MemberStands rules x (number + 1) (party_at parties j))
+            (sym (get_or-set_other members k j new other apart))
         (told.told j other (omega (arith, small, apart)) (subst (λ (n : ℕ). j < n) (length-set members k new) below))

@@ -57,7 +57,8 @@ lived_events joined (ComesBack i bytes ∷ past) = Back i ∷ lived_events joine
 
 -- The pictures of its call are the group's, from its joining on. In place of those before, of which
 -- it gets nothing, any one stands that is coded by itself.
-abbrev pub lived_source : {Style Mb Picture : Type 0} → ℕ → Coded Style Mb Picture → List (Coded Style Mb Picture) → Source Style Mb Picture
+abbrev pub lived_source : {Style Mb Picture : Type 0} → ℕ → Coded Style Mb Picture → List (Coded Style Mb Picture)
+    → Source Style Mb Picture
 lived_source joined blank coded c =
     if nat_lt (length c.coded) joined then Some blank else slice_get coded (length c.coded)
 
@@ -73,20 +74,23 @@ module _ {Frame Style Mb Picture Fault MessageFault : Type 0}
     AreLived (Arrives n j ∷ past) = (joined ≤ n) × AreLived past
     AreLived (Plays ∷ past) = AreLived past
     AreLived (ComesBack i bytes ∷ past) =
-        ((note : NumberedMessage) → slice_get (call_from (pictures_of coding) rules source (lived_events joined past)).said i ≡ Some note
+        ((note : NumberedMessage)
+            → slice_get (call_from (pictures_of coding) rules source (lived_events joined past)).said i ≡ Some note
         → bytes ≡ coding.encoding.write_message (travelling rules note)) × AreLived past
 
   -- The receiver follows its call: it answers, plays and says as the call does. And the call's
   -- pictures, from the joining on, are the group's.
   pub record FollowsTheGroup (joined count : ℕ) (source : Source Style Mb Picture)
       (coded : List (Coded Style Mb Picture)) (past : List Event) : Type 0 where
-    pub follows : FollowsTheCall coding.decoding rules source (λ _ n. packets_of coding.encoding rules coded n) count past
+    pub follows : FollowsTheCall coding.decoding rules source (λ _ n. packets_of coding.encoding rules coded n) count
+        past
     pub own : (n : ℕ) → joined ≤ n
         → slice_get (call_from (pictures_of coding) rules source past).coded n ≡ slice_get coded n
 
   -- For each receiver, from its joining on, in any call that is near for it.
   abbrev pub GroupIsFollowed : Type 0
-  GroupIsFollowed = (k : ℕ) (before : List (GroupEntry Frame)) (lived : List (Lived Frame)) (frame : Frame) (quant count : ℕ) →
+  GroupIsFollowed = (k : ℕ) (before : List (GroupEntry Frame)) (lived : List (Lived Frame)) (frame : Frame)
+      (quant count : ℕ) →
       let pictures = pictures_of coding in
       let first = group_run pictures coding.encoding rules before in
       let joined = length first.coded in

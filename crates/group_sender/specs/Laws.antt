@@ -12,7 +12,8 @@ AllHaveIs = (parties : List Party) (m : ℕ) → (all_have parties m ≡ true)
     ↔ ((k : ℕ) → k < length parties → (party_at parties k).present ≡ true → party_has (party_at parties k) m ≡ true)
 
 -- m is the newest picture in the window that all have
-pub record IsNewestOfAll {Style Mb Picture : Type 0} (rules : Rules) (run : GroupRun Style Mb Picture) (m : ℕ) : Type 0 where
+pub record IsNewestOfAll {Style Mb Picture : Type 0} (rules : Rules) (run : GroupRun Style Mb Picture)
+    (m : ℕ) : Type 0 where
   pub sent : m < length run.coded
   pub near : length run.coded ≤ m + window rules
   pub all : all_have run.parties m ≡ true

@@ -19,11 +19,14 @@ pub gained-gained : (o : Option (List ℕ)) (a b : List ℕ) → gained (gained 
 gained-gained None a b = refl
 gained-gained (Some xs) a b = ap (λ (l : List ℕ). Some l) (append_assoc xs a b)
 
-twice_if : (t : Bool) (o : Option (List ℕ)) (a b : List ℕ) → cond t (option_map (λ old. old ++ b) (cond t (option_map (λ old. old ++ a) o) o)) (cond t (option_map (λ old. old ++ a) o) o) ≡ cond t (option_map (λ old. old ++ (a ++ b)) o) o
+twice_if : (t : Bool) (o : Option (List ℕ)) (a b : List ℕ)
+    → cond t (option_map (λ old. old ++ b) (cond t (option_map (λ old. old ++ a) o) o))
+    (cond t (option_map (λ old. old ++ a) o) o) ≡ cond t (option_map (λ old. old ++ (a ++ b)) o) o
 twice_if true o a b = gained-gained o a b
 twice_if false o a b = refl
 
-pub appended-appended : (w : Role → Option (List ℕ)) (role : Role) (a b : List ℕ) → appended (appended w role a) role b ≡ appended w role (a ++ b)
+pub appended-appended : (w : Role → Option (List ℕ)) (role : Role) (a b : List ℕ) → appended (appended w role a) role b
+    ≡ appended w role (a ++ b)
 appended-appended w role a b = same_roles _ _ (λ r. twice_if (is_role role r) (w r) a b)
 
 -- one call after another
@@ -58,28 +61,38 @@ rose_before a b c (inl more) le = inl (omega arith)
 rose_before a b c (inr full) le = inr (omega arith)
 
 -- what was gained by one call, and by the next
-pub gained_more : (first : Role → Option (List ℕ)) (role : Role) (a b ab : List ℕ) (middle last : Role → Option (List ℕ)) → middle ≡ appended first role a → last ≡ appended middle role b → a ++ b ≡ ab → last ≡ appended first role ab
+pub gained_more : (first : Role → Option (List ℕ)) (role : Role) (a b ab : List ℕ) (middle last : Role
+    → Option (List ℕ)) → middle ≡ appended first role a → last ≡ appended middle role b → a ++ b ≡ ab
+    → last ≡ appended first role ab
 gained_more first role a b ab middle last p q e =
-    q ∙ ap (λ (w : Role → Option (List ℕ)). appended w role b) p ∙ appended-appended first role a b ∙ ap (λ (l : List ℕ). appended first role l) e
+    q ∙ ap (λ (w : Role → Option (List ℕ)). appended w role b) p ∙ appended-appended first role a b
+        ∙ ap (λ (l : List ℕ). appended first role l) e
 
-lose_twice : (o : Option (List ℕ)) (a b : ℕ) → option_map (λ l. drop b l) (option_map (λ l. drop a l) o) ≡ option_map (λ l. drop (a + b) l) o
+lose_twice : (o : Option (List ℕ)) (a b : ℕ) → option_map (λ l. drop b l) (option_map (λ l. drop a l) o)
+    ≡ option_map (λ l. drop (a + b) l) o
 lose_twice None a b = refl
 lose_twice (Some xs) a b = ap (λ (l : List ℕ). Some l) (drop-drop b a xs)
 
-lose_if : (t : Bool) (o : Option (List ℕ)) (a b : ℕ) → cond t (option_map (λ l. drop b l) (cond t (option_map (λ l. drop a l) o) o)) (cond t (option_map (λ l. drop a l) o) o) ≡ cond t (option_map (λ l. drop (a + b) l) o) o
+lose_if : (t : Bool) (o : Option (List ℕ)) (a b : ℕ)
+    → cond t (option_map (λ l. drop b l) (cond t (option_map (λ l. drop a l) o) o))
+    (cond t (option_map (λ l. drop a l) o) o) ≡ cond t (option_map (λ l. drop (a + b) l) o) o
 lose_if true o a b = lose_twice o a b
 lose_if false o a b = refl
 
-pub consumed-consumed : (w : Role → Option (List ℕ)) (role : Role) (a b : ℕ) → consumed (consumed w role a) role b ≡ consumed w role (a + b)
+pub consumed-consumed : (w : Role → Option (List ℕ)) (role : Role) (a b : ℕ) → consumed (consumed w role a) role b
+    ≡ consumed w role (a + b)
 consumed-consumed w role a b = same_roles _ _ (λ r. lose_if (is_role role r) (w r) a b)
 
 -- what was lost by one call, and by the next
-pub consumed_more : (first : Role → Option (List ℕ)) (role : Role) (a b ab : ℕ) (middle last : Role → Option (List ℕ)) → middle ≡ consumed first role a → last ≡ consumed middle role b → a + b ≡ ab → last ≡ consumed first role ab
+pub consumed_more : (first : Role → Option (List ℕ)) (role : Role) (a b ab : ℕ) (middle last : Role → Option (List ℕ))
+    → middle ≡ consumed first role a → last ≡ consumed middle role b → a + b ≡ ab → last ≡ consumed first role ab
 consumed_more first role a b ab middle last p q e =
-    q ∙ ap (λ (w : Role → Option (List ℕ)). consumed w role b) p ∙ consumed-consumed first role a b ∙ ap (λ (n : ℕ). consumed first role n) e
+    q ∙ ap (λ (w : Role → Option (List ℕ)). consumed w role b) p ∙ consumed-consumed first role a b
+        ∙ ap (λ (n : ℕ). consumed first role n) e
 
 -- what is left of the role itself
-pub consumed_at : (w : Role → Option (List ℕ)) (role : Role) (n : ℕ) → consumed w role n role ≡ option_map (λ l. drop n l) (w role)
+pub consumed_at : (w : Role → Option (List ℕ)) (role : Role) (n : ℕ) → consumed w role n role
+    ≡ option_map (λ l. drop n l) (w role)
 consumed_at w Video n = refl
 consumed_at w Events n = refl
 consumed_at w Pictures n = refl

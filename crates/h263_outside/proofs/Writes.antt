@@ -5,7 +5,8 @@ use Rattle.h263_outside.specs.declared.desk.Role.{Role}
 use Rattle.h263_outside.proofs.Gains.{gained_more}
 
 -- a prefix of the first text is a prefix of both
-pub front_first : (role : Role) (a b : List ℕ) (old new : Role → Option (List ℕ)) → GainsFront role a old new → GainsFront role (a ++ b) old new
+pub front_first : (role : Role) (a b : List ℕ) (old new : Role → Option (List ℕ)) → GainsFront role a old new
+    → GainsFront role (a ++ b) old new
 front_first role a b old new f = record {
   front = f.front;
   rest = f.rest ++ b;
@@ -14,7 +15,8 @@ front_first role a b old new f = record {
 }
 
 -- and so is a prefix of the second after the first
-pub front_second : (role : Role) (a b : List ℕ) (old middle new : Role → Option (List ℕ)) → middle ≡ appended old role a → GainsFront role b middle new → GainsFront role (a ++ b) old new
+pub front_second : (role : Role) (a b : List ℕ) (old middle new : Role → Option (List ℕ)) → middle ≡ appended old role a
+    → GainsFront role b middle new → GainsFront role (a ++ b) old new
 front_second role a b old middle new first f = record {
   front = a ++ f.front;
   rest = f.rest;

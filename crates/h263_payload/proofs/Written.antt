@@ -19,18 +19,23 @@ use Rattle.h263_payload.proofs.Exact.{text_read}
 abbrev opening_of : ℕ → ℕ → Opening
 opening_of plen pebit = record { p = true; v = false; plen = plen; pebit = pebit }
 
-leading_spelt : (plen pebit : ℕ) → plen < 64 → pebit < 8 → Spells leading (opening_of plen pebit) (fields (opening_fields plen pebit))
+leading_spelt : (plen pebit : ℕ) → plen < 64 → pebit < 8
+    → Spells leading (opening_of plen pebit) (fields (opening_fields plen pebit))
 unfolding leading opening
 leading_spelt plen pebit p q =
     let o = opening_of plen pebit in
     let text = fields (opening_fields plen pebit) in
     let fixed : Spells (opening false) o text =
-    spells_field 5 any _ o 0 _ (omega arith) refl (spells_field 1 _ _ o 1 _ (omega arith) refl (spells_field 1 any _ o 0 _ (omega arith) refl
+    spells_field 5 any _ o 0 _ (omega arith) refl (spells_field 1 _ _ o 1 _ (omega arith) refl
+        (spells_field 1 any _ o 0 _ (omega arith) refl
     (spells_field 6 any _ o plen _ p refl (spells_field 3 any _ o pebit _ q refl (spells_done o))))) in
-    spells_whole leading o _ _ (append-nil text) (spells_part (opening false) any _ o o text [] fixed refl (spells_done o))
+    spells_whole leading o _ _ (append-nil text) (spells_part (opening false) any _ o o text [] fixed refl
+        (spells_done o))
 
 -- in front of a picture
-pub picture_again : HeaderLaws → (format : Format) (at : ℕ) (rest : List Bool) → payload_at format (record { at = at; bits = written_payload None ++ true ∷ false ∷ rest }) ≡ Ok (record { extra = None; begins = true; from = at + length (written_payload None) })
+pub picture_again : HeaderLaws → (format : Format) (at : ℕ) (rest : List Bool)
+    → payload_at format (record { at = at; bits = written_payload None ++ true ∷ false ∷ rest })
+    ≡ Ok (record { extra = None; begins = true; from = at + length (written_payload None) })
 picture_again laws format at rest =
     text_read laws format _ _ (record {
       opening = opening_of 0 0;
@@ -49,12 +54,15 @@ few_bytes : HeaderLaws → (h : Header) → IsHeader h → bytes_of h < 64
 few_bytes laws h ok = omega (arith, laws.short h ok)
 
 -- in front of a later slice
-pub slice_again : HeaderLaws → (h : Header) (at : ℕ) (rest : List Bool) → IsHeader h → payload_at h.format (record { at = at; bits = written_payload (Some h) ++ true ∷ true ∷ rest }) ≡ Ok (record { extra = Some h; begins = false; from = at + length (written_payload (Some h)) })
+pub slice_again : HeaderLaws → (h : Header) (at : ℕ) (rest : List Bool) → IsHeader h
+    → payload_at h.format (record { at = at; bits = written_payload (Some h) ++ true ∷ true ∷ rest })
+    ≡ Ok (record { extra = Some h; begins = false; from = at + length (written_payload (Some h)) })
 slice_again laws h at rest ok =
     let front = fields (opening_fields (bytes_of h) (padding_of h)) in
     let padding = spelled (padding_of h) 0 in
     let middle = written_header h ++ padding in
-    let len : length middle ≡ length (written_header h) + padding_of h = length-append (written_header h) padding ∙ ap (λ (n : ℕ). length (written_header h) + n) (length-spelled (padding_of h) 0) in
+    let len : length middle ≡ length (written_header h) + padding_of h = length-append (written_header h) padding
+        ∙ ap (λ (n : ℕ). length (written_header h) + n) (length-spelled (padding_of h) 0) in
     text_read laws h.format _ _ (record {
       opening = opening_of (bytes_of h) (padding_of h);
       front = front;
@@ -62,7 +70,8 @@ slice_again laws h at rest ok =
       coded = true ∷ true ∷ rest;
       parts = append_assoc front middle (true ∷ true ∷ rest);
       opened = leading_spelt (bytes_of h) (padding_of h) (few_bytes laws h ok) (omega arith);
-      extra = (written_header h, padding, refl, omega (arith, laws.length h), omega (arith, len, laws.length h), length-spelled (padding_of h) 0, laws.spelt h ok);
+      extra = (written_header h, padding, refl, omega (arith, laws.length h), omega (arith, len, laws.length h),
+          length-spelled (padding_of h) 0, laws.spelt h ok);
       begun = (rest, refl);
       begins = refl;
       from = ap (λ (n : ℕ). at + n) (length-append front middle);
@@ -74,4 +83,6 @@ length-written_payload laws (Some h) =
     let front = fields (opening_fields (bytes_of h) (padding_of h)) in
     let padding = spelled (padding_of h) 0 in
     let whole : 8 * bytes_of h ≡ written_bits h + padding_of h = omega arith in
-    omega (arith, length-append front (written_header h ++ padding), length-append (written_header h) padding, length-spelled (padding_of h) 0, laws.length h, length-fields (opening_fields (bytes_of h) (padding_of h)), whole)
+    omega (arith, length-append front (written_header h ++ padding), length-append (written_header h) padding,
+        length-spelled (padding_of h) 0, laws.length h, length-fields (opening_fields (bytes_of h) (padding_of h)),
+        whole)

@@ -23,15 +23,18 @@ pub format_with : (f : Format) (sample : Samples) → (picture_with f sample).fo
 unfolding picture_with
 format_with f sample = refl
 
-planes_with : (f : Format) (sample : Samples) (plane : Plane) → plane_of (picture_with f sample) plane ≡ plane_with f plane sample
+planes_with : (f : Format) (sample : Samples) (plane : Plane) → plane_of (picture_with f sample) plane
+    ≡ plane_with f plane sample
 unfolding picture_with
 planes_with f sample Y = refl
 planes_with f sample Cb = refl
 planes_with f sample Cr = refl
 
-length_with : (f : Format) (sample : Samples) (plane : Plane) → length (plane_with f plane sample) ≡ width_in f plane * height_in f plane
+length_with : (f : Format) (sample : Samples) (plane : Plane) → length (plane_with f plane sample)
+    ≡ width_in f plane * height_in f plane
 length_with f sample plane =
-    length-map-range_with_len (λ (k : ℕ). sample plane (k % width_in f plane) (k / width_in f plane)) 0 (width_in f plane * height_in f plane)
+    length-map-range_with_len (λ (k : ℕ). sample plane (k % width_in f plane) (k / width_in f plane)) 0
+        (width_in f plane * height_in f plane)
 
 -- it is whole
 pub whole_with : (f : Format) (sample : Samples) → IsWhole (picture_with f sample)
@@ -41,16 +44,20 @@ whole_with f sample = record {
 }
 
 -- and a picture, where these samples are from 0 to 255
-samples_with : (f : Format) (sample : Samples) → ((plane : Plane) (x y : ℕ) → sample plane x y < 256) → (plane : Plane) → AreSamples (plane_with f plane sample)
+samples_with : (f : Format) (sample : Samples) → ((plane : Plane) (x y : ℕ) → sample plane x y < 256) → (plane : Plane)
+    → AreSamples (plane_with f plane sample)
 samples_with f sample fit plane k =
     let g : ℕ → ℕ = λ (i : ℕ). sample plane (i % width_in f plane) (i / width_in f plane) in
     let n : ℕ = width_in f plane * height_in f plane in
     elim (cases_lt k n) [
-      | inl lt ↦ subst (λ (v : ℕ). v < 256) (sym (get_or-map-range_with_len g 0 n k k 0 lt (omega arith))) (fit plane (k % width_in f plane) (k / width_in f plane))
-      | inr past ↦ subst (λ (v : ℕ). v < 256) (sym (get_or-eq_default (plane_with f plane sample) 0 (omega (arith, length_with f sample plane)))) (lit< tt)
+      | inl lt ↦ subst (λ (v : ℕ). v < 256) (sym (get_or-map-range_with_len g 0 n k k 0 lt (omega arith)))
+          (fit plane (k % width_in f plane) (k / width_in f plane))
+      | inr past ↦ subst (λ (v : ℕ). v < 256)
+          (sym (get_or-eq_default (plane_with f plane sample) 0 (omega (arith, length_with f sample plane)))) (lit< tt)
     ]
 
-pub picture_is_with : (f : Format) (sample : Samples) → ((plane : Plane) (x y : ℕ) → sample plane x y < 256) → IsPicture (picture_with f sample)
+pub picture_is_with : (f : Format) (sample : Samples) → ((plane : Plane) (x y : ℕ) → sample plane x y < 256)
+    → IsPicture (picture_with f sample)
 picture_is_with f sample fit = record {
   whole = whole_with f sample;
   samples = λ plane. subst AreSamples (sym (planes_with f sample plane)) (samples_with f sample fit plane);
@@ -64,7 +71,8 @@ row_with g w h x y hx hy =
     let turned : w * y + x ≡ y * w + x = ap (λ (k : ℕ). k + x) (mul_comm w y) in
     let column : (w * y + x) % w ≡ x = ap (λ (k : ℕ). k % w) turned ∙ mod-mul-add y w x (omega arith) in
     let row : (w * y + x) / w ≡ y = ap (λ (k : ℕ). k / w) turned ∙ div-mul-add y w x (omega arith) in
-    get_or-map-range_with_len (λ (k : ℕ). g (k % w) (k / w)) 0 (w * h) (w * y + x) (w * y + x) 0 (omega arith) (omega arith)
+    get_or-map-range_with_len (λ (k : ℕ). g (k % w) (k / w)) 0 (w * h) (w * y + x) (w * y + x) 0 (omega arith)
+        (omega arith)
     ∙ ap (λ (k : ℕ). g k ((w * y + x) / w)) column ∙ ap (λ (k : ℕ). g x k) row
 
 -- its samples are those
@@ -77,7 +85,9 @@ sample_with f sample plane x y h =
 
 -- a whole picture with these samples is that one
 pub only_with : (p : Picture) (sample : Samples) → IsWhole p →
-    ((plane : Plane) (x y : ℕ) → Inside p.format plane x y 1 → sample_at p plane x y ≡ sample plane x y) → p ≡ picture_with p.format sample
+    ((plane : Plane) (x y : ℕ) → Inside p.format plane x y 1 → sample_at p plane x y ≡ sample plane x y)
+        → p ≡ picture_with p.format sample
 only_with p sample whole same =
-    same_pictures p (picture_with p.format sample) whole (whole_with p.format sample) (sym (format_with p.format sample))
+    same_pictures p (picture_with p.format sample) whole (whole_with p.format sample)
+        (sym (format_with p.format sample))
     (record { samples = λ plane x y h. same plane x y h ∙ sym (sample_with p.format sample plane x y h) })

@@ -32,18 +32,21 @@ zero_bits (pos (suc n)) small = ne_eqb (suc n) 0 (λ e. omega (arith, e)) ∙ sy
 zero_bits (negsuc n) small = ne_eqb (2 ^ 16 - suc n) 0 (λ e. let k : n < 2 ^ 15 = small in omega (arith, e, k))
 
 -- so the bits of an array of levels have its marks
-pub marks_are : (levels : List ℤ) (us : List Val) → shadow (each ℤ (SInt w16).own_val levels us) → mask_l (map (λ x. not (eqb x 0)) (map (of_z w16) levels)) ≡ marks_of levels
+pub marks_are : (levels : List ℤ) (us : List Val) → shadow (each ℤ (SInt w16).own_val levels us)
+    → mask_l (map (λ x. not (eqb x 0)) (map (of_z w16) levels)) ≡ marks_of levels
 unfolding marks_of
 marks_are [] us h = refl
 marks_are (z ∷ levels) [] h = absurd h
-marks_are (z ∷ levels) (u ∷ us) h = rw (zero_bits z h.0.1) (ap (λ n. cond (not (is_zero z)) 1 0 + 2 * n) (marks_are levels us h.1))
+marks_are (z ∷ levels) (u ∷ us) h = rw (zero_bits z h.0.1) (ap (λ n. cond (not (is_zero z)) 1 0 + 2 * n)
+    (marks_are levels us h.1))
 
 -- a bit of the marks is that of its level
 turned : (b : Bool) → ◌≡◌ {A = ℕ} (cond (not b) 1 0) (cond b 0 1)
 turned true = refl
 turned false = refl
 
-mark_at : (levels : List ℤ) (k : ℕ) → get_or (map (λ z. not (is_zero z)) levels) k false ≡ not (is_zero (get_or levels k (pos 0)))
+mark_at : (levels : List ℤ) (k : ℕ) → get_or (map (λ z. not (is_zero z)) levels) k false
+    ≡ not (is_zero (get_or levels k (pos 0)))
 mark_at [] k = refl
 mark_at (z ∷ levels) zero = refl
 mark_at (z ∷ levels) (suc k) = mark_at levels k
@@ -63,7 +66,8 @@ is_mark : (marks k : ℕ) → k < 64 → bit_at marks k ≡ 1 → IsMark marks k
 is_mark marks k less set =
     let gone = bit_at_clear_same w64 marks k less in
     let most : without marks k ≤ marks = and_le_l marks (bit_not w64 (1 * 2 ^ k % 2 ^ 64)) in
-    let other : without marks k ≢ marks = λ e. one_less (bit_at marks k) set (ap (λ (n : ℕ). bit_at n k) (sym e) ∙ gone) in
+    let other : without marks k ≢ marks = λ e. one_less (bit_at marks k) set (ap (λ (n : ℕ). bit_at n k) (sym e)
+        ∙ gone) in
     record { below = less; set = set; gone = gone; others = bit_at_clear_other w64 marks k less; fewer = omega arith }
 
 pub has_lowest : HasLowest

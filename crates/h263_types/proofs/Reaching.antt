@@ -18,9 +18,11 @@ height_whole Cif = refl
 
 -- the components that reach from macroblock `at` of `count` are those from least to most
 abbrev pub Reaches : ℕ → ℕ → ℤ → ℤ → ℤ → Type 0
-Reaches at count least most v = ((neg_ℤ (pos 32) ≤ℤ v) × (v ≤ℤ pos 31) × InSide (16 * at) (16 * count) v) ↔ ((least ≤ℤ v) × (v ≤ℤ most))
+Reaches at count least most v = ((neg_ℤ (pos 32) ≤ℤ v) × (v ≤ℤ pos 31) × InSide (16 * at) (16 * count) v)
+    ↔ ((least ≤ℤ v) × (v ≤ℤ most))
 
-pub both_components : (f : Format) (mb columns rows : ℕ) (left right up down x y : ℤ) → columns ≡ columns_of f → rows ≡ rows_of f →
+pub both_components : (f : Format) (mb columns rows : ℕ) (left right up down x y : ℤ) → columns ≡ columns_of f
+    → rows ≡ rows_of f →
     Reaches (mb % columns) columns left right x → Reaches (mb / columns) rows up down y →
     InReach f mb x y ↔ (((left ≤ℤ x) × (x ≤ℤ right)) × ((up ≤ℤ y) × (y ≤ℤ down)))
 both_components f mb columns rows left right up down x y ec er hx hy =

@@ -6,6 +6,7 @@ use Rattle.group_sender.specs.declared.group.Group.{Group}
 use Rattle.group_sender.specs.Holding.{HoldsGroup}
 use Rattle.group_sender.specs.Running.{no_group}
 
-pub no_packets_of_group : {P : Type 0} {ghosts : Ghosts P} (g : Group P ghosts) → HoldsGroup g no_group → g.sender.packets ≡ []
+pub no_packets_of_group : {P : Type 0} {ghosts : Ghosts P} (g : Group P ghosts) → HoldsGroup g no_group
+    → g.sender.packets ≡ []
 unfolding packets_of
 no_packets_of_group g held = sym held.sender.seen.packets ∙ held.sender.holds.keeps.packets

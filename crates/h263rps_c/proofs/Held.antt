@@ -11,7 +11,8 @@ use Rattle.call_session.specs.Whole.{Stands}
 use Rattle.h263rps_c.specs.Sessions.{HoldsSession}
 
 -- a view of the same session holds the same
-pub same : (x y : Session) (s : Settings) (past : List Entry) → x ≡ y → HoldsSession s past (Some y) → HoldsSession s past (Some x)
+pub same : (x y : Session) (s : Settings) (past : List Entry) → x ≡ y → HoldsSession s past (Some y)
+    → HoldsSession s past (Some x)
 same x y s past e held = subst (λ (z : Session). HoldsSession s past (Some z)) (sym e) held
 
 pub by_settings : (P : Settings → List Entry → Type 0) (x : Session) (s : Settings) (past : List Entry)
@@ -23,6 +24,7 @@ run_of_played None = None
 run_of_played (Some played) = Some played.run
 
 -- the run of what is played is the one of which a picture was due
-pub run_played : (c : Config) (st : State) (run : Option Run) (turn : RunPlayed) → IsRunPlayed c st run (Some turn) → run ≡ Some turn.run
+pub run_played : (c : Config) (st : State) (run : Option Run) (turn : RunPlayed) → IsRunPlayed c st run (Some turn)
+    → run ≡ Some turn.run
 run_played c st None turn x = absurd cc
 run_played c st (Some run) turn x = ap run_of_played (sym x.1)

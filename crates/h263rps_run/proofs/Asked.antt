@@ -26,14 +26,17 @@ use Rattle.h263rps_run.proofs.Promised.{performed, some_since, nothing_done, rep
 
 -- there is no second video
 pub one_video : (c : Command)
-    → ((inputs : Role → List ℕ) (fault : Y4mFault) → (run_of c inputs).last.status ≡ VideoRefused fault → video_fault (inputs Video) ≡ Some fault)
-    → ((inputs : Role → List ℕ) (fault : Y4mFault) → (run_of c inputs).last.status ≡ Video2Refused fault → ⊥) → IsRefusedRightly c
+    → ((inputs : Role → List ℕ) (fault : Y4mFault) → (run_of c inputs).last.status ≡ VideoRefused fault
+        → video_fault (inputs Video) ≡ Some fault)
+    → ((inputs : Role → List ℕ) (fault : Y4mFault) → (run_of c inputs).last.status ≡ Video2Refused fault → ⊥)
+        → IsRefusedRightly c
 one_video c first none = record { first = first; second = λ inputs fault ends. absurd (none inputs fault ends) }
 
 -- there is no video
 pub no_video : (c : Command)
     → ((inputs : Role → List ℕ) (fault : Y4mFault) → (run_of c inputs).last.status ≡ VideoRefused fault → ⊥)
-    → ((inputs : Role → List ℕ) (fault : Y4mFault) → (run_of c inputs).last.status ≡ Video2Refused fault → ⊥) → IsRefusedRightly c
+    → ((inputs : Role → List ℕ) (fault : Y4mFault) → (run_of c inputs).last.status ≡ Video2Refused fault → ⊥)
+        → IsRefusedRightly c
 no_video c none none2 = record {
   first = λ inputs fault ends. absurd (none inputs fault ends);
   second = λ inputs fault ends. absurd (none2 inputs fault ends);
@@ -46,17 +49,22 @@ call_source p false = refl
 
 -- its run is that of the words
 as_run : (a : Asked) (c : Command) → a.command ≡ c → IsRefusedRightly c → (result : Status) (old new : Outside)
-    → IsRunOf (run_of c) ((Report, []) ∷ roles_of c a) (source_of c) result old new → IsNotUsage result → IsRun (Some a) result old new
+    → IsRunOf (run_of c) ((Report, []) ∷ roles_of c a) (source_of c) result old new → IsNotUsage result
+        → IsRun (Some a) result old new
 as_run a c e rightly result old new run words = record {
-  run = subst (λ (k : Command). IsRunOf (run_of k) ((Report, []) ∷ roles_of k a) (source_of k) result old new) (sym e) run;
+  run = subst (λ (k : Command). IsRunOf (run_of k) ((Report, []) ∷ roles_of k a) (source_of k) result old new)
+      (sym e) run;
   usage = λ u. absurd (subst IsNotUsage u words);
   no_command = λ n. absurd (cc n);
-  refused = λ inputs told fault r. rightly.first inputs fault (sym (run.texts inputs told (subst IsSettled (sym r) tt)).known ∙ r);
-  second_refused = λ inputs told fault r. rightly.second inputs fault (sym (run.texts inputs told (subst IsSettled (sym r) tt)).known ∙ r);
+  refused = λ inputs told fault r. rightly.first inputs fault
+      (sym (run.texts inputs told (subst IsSettled (sym r) tt)).known ∙ r);
+  second_refused = λ inputs told fault r. rightly.second inputs fault
+      (sym (run.texts inputs told (subst IsSettled (sym r) tt)).known ∙ r);
 }
 
 -- Usage was told, since there is no command
-pub usage_run : (mid new : Outside) → AreAttached ((Report, []) ∷ []) mid → OnlyWrites mid new → (result : Status) → Finishes Usage result mid new → IsRun None result mid new
+pub usage_run : (mid new : Outside) → AreAttached ((Report, []) ∷ []) mid → OnlyWrites mid new → (result : Status)
+    → Finishes Usage result mid new → IsRun None result mid new
 usage_run mid new are rest result told = record {
   run = usage_told (output_of None) None mid new are rest (λ inputs. refl) result told;
   usage = λ u. refl;
@@ -88,9 +96,11 @@ begins_with_report None = refl
 begins_with_report (Some a) = refl
 
 -- there was no memory for them
-pub unread_run : (o : Option Asked) (mid new : Outside) → AreAttached ((Report, []) ∷ []) mid → OnlyWrites mid new → (result : Status) → Finishes OutOfMemory result mid new → IsRun o result mid new
+pub unread_run : (o : Option Asked) (mid new : Outside) → AreAttached ((Report, []) ∷ []) mid → OnlyWrites mid new
+    → (result : Status) → Finishes OutOfMemory result mid new → IsRun o result mid new
 unread_run o mid new are rest result told = record {
-  run = subst (λ (order : List (Role × Text)). IsRunOf (output_of o) order (source_from o) result mid new) (begins_with_report o)
+  run = subst (λ (order : List (Role × Text)). IsRunOf (output_of o) order (source_from o) result mid new)
+      (begins_with_report o)
       (words_unread (output_of o) (rest_of o) (source_from o) mid new are rest result told);
   usage = λ u. absurd (not_usage told u);
   no_command = λ n. ends told;
@@ -110,14 +120,17 @@ unread_run o mid new are rest result told = record {
     not_usage (inl told) u = absurd (cc (told.same, u))
     not_usage (inr cut) u = absurd (cc (cut.fault, u))
 
-    ends : Finishes OutOfMemory result mid new → (result ≡ Usage) ⊎ (result ≡ OutOfMemory) ⊎ SomeRose mid.faults new.faults
+    ends : Finishes OutOfMemory result mid new → (result ≡ Usage) ⊎ (result ≡ OutOfMemory)
+        ⊎ SomeRose mid.faults new.faults
     ends (inl told) = inr (inl told.same)
     ends (inr cut) = inr (inr (inr (inr cut.cause)))
 
 -- nothing was done, for want of memory
-pub starved_run : (o : Option Asked) (old new : Outside) → NoneAttached new.attached → new.written ≡ old.written → new.faults ≡ old.faults → IsRun o OutOfMemory old new
+pub starved_run : (o : Option Asked) (old new : Outside) → NoneAttached new.attached → new.written ≡ old.written
+    → new.faults ≡ old.faults → IsRun o OutOfMemory old new
 starved_run o old new none same quiet = record {
-  run = subst (λ (order : List (Role × Text)). IsRunOf (output_of o) order (source_from o) OutOfMemory old new) (begins_with_report o)
+  run = subst (λ (order : List (Role × Text)). IsRunOf (output_of o) order (source_from o) OutOfMemory old new)
+      (begins_with_report o)
       (nothing_done (output_of o) (rest_of o) (source_from o) old new none same quiet);
   usage = λ u. absurd (cc u);
   no_command = λ n. inr (inl refl);
@@ -125,9 +138,11 @@ starved_run o old new none same quiet = record {
   second_refused = λ inputs told fault r. absurd (cc r);
 }
 
-unopened_run : (o : Option Asked) (old new : Outside) → NoneAttached new.attached → new.left ≡ old.left → new.written ≡ old.written → Rose old.faults.attach new.faults.attach → IsRun o (OpenFault Report) old new
+unopened_run : (o : Option Asked) (old new : Outside) → NoneAttached new.attached → new.left ≡ old.left
+    → new.written ≡ old.written → Rose old.faults.attach new.faults.attach → IsRun o (OpenFault Report) old new
 unopened_run o old new none kept same rose = record {
-  run = subst (λ (order : List (Role × Text)). IsRunOf (output_of o) order (source_from o) (OpenFault Report) old new) (begins_with_report o)
+  run = subst (λ (order : List (Role × Text)). IsRunOf (output_of o) order (source_from o) (OpenFault Report) old new)
+      (begins_with_report o)
       (report_unopened (output_of o) (rest_of o) (source_from o) old new none kept same rose);
   usage = λ u. absurd (cc u);
   no_command = λ n. inr (inr (inl rose));
@@ -136,66 +151,86 @@ unopened_run o old new none kept same rose = record {
 }
 
 -- the report could not be attached
-pub report_failed : (o : Option Asked) (old new : Outside) (status : Status) → NoneAttached new.attached → new.left ≡ old.left → new.written ≡ old.written
-    → HasCause status old.faults new.faults → (status ≡ OpenFault Report) ⊎ (status ≡ OutOfMemory) → IsRun o status old new
+pub report_failed : (o : Option Asked) (old new : Outside) (status : Status) → NoneAttached new.attached
+    → new.left ≡ old.left → new.written ≡ old.written
+    → HasCause status old.faults new.faults → (status ≡ OpenFault Report) ⊎ (status ≡ OutOfMemory)
+        → IsRun o status old new
 report_failed o old new status none kept same cause (inl is) =
     subst (λ (s : Status). IsRun o s old new) (sym is)
     (unopened_run o old new none kept same (subst (λ (s : Status). HasCause s old.faults new.faults) is cause))
 report_failed o old new status none kept same cause (inr is) =
-    subst (λ (s : Status). IsRun o s old new) (sym is) (starved_run o old new none same (subst (λ (s : Status). HasCause s old.faults new.faults) is cause))
+    subst (λ (s : Status). IsRun o s old new) (sym is)
+        (starved_run o old new none same (subst (λ (s : Status). HasCause s old.faults new.faults) is cause))
 
 -- the report alone is attached
-pub report_alone : (old mid : Outside) → NoneAttached old.attached → mid.attached ≡ with_role old.attached Report true → IfSome (mid.name Report) (λ told. told ≡ []) → AreAttached ((Report, []) ∷ []) mid
-report_alone old mid none attached named = record { roles = λ r. ap (λ (f : Role → Bool). f r) attached ∙ at r (is_role Report r); names = (named, tt) }
+pub report_alone : (old mid : Outside) → NoneAttached old.attached → mid.attached ≡ with_role old.attached Report true
+    → IfSome (mid.name Report) (λ told. told ≡ []) → AreAttached ((Report, []) ∷ []) mid
+report_alone old mid none attached named = record { roles = λ r. ap (λ (f : Role → Bool). f r) attached
+    ∙ at r (is_role Report r); names = (named, tt) }
   where
     at : (r : Role) (t : Bool) → (if t then true else old.attached r) ≡ (t || false)
     at r true = refl
     at r false = ap (λ (f : Role → Bool). f r) none
 
 -- the same from before the report was attached
-pub run_since : (o : Option Asked) (old mid new : Outside) (result : Status) → OnlyAttaches old mid → mid.faults ≡ old.faults → IsRun o result mid new → IsRun o result old new
+pub run_since : (o : Option Asked) (old mid new : Outside) (result : Status) → OnlyAttaches old mid
+    → mid.faults ≡ old.faults → IsRun o result mid new → IsRun o result old new
 run_since o old mid new result attaches quiet run = record {
   run = since_attached (output_of o) (order_from o) (source_from o) old mid new attaches quiet result run.run;
   usage = run.usage;
   no_command = λ n. ends (run.no_command n);
-  refused = λ inputs told fault r. run.refused inputs (λ role input. ap (λ (l : Role → Option (List ℕ)). l role) attaches.left ∙ told role input) fault r;
-  second_refused = λ inputs told fault r. run.second_refused inputs (λ role input. ap (λ (l : Role → Option (List ℕ)). l role) attaches.left ∙ told role input) fault r;
+  refused = λ inputs told fault r. run.refused inputs
+      (λ role input. ap (λ (l : Role → Option (List ℕ)). l role) attaches.left ∙ told role input) fault r;
+  second_refused = λ inputs told fault r. run.second_refused inputs
+      (λ role input. ap (λ (l : Role → Option (List ℕ)). l role) attaches.left ∙ told role input) fault r;
 }
   where
-    ends : (result ≡ Usage) ⊎ (result ≡ OutOfMemory) ⊎ SomeRose mid.faults new.faults → (result ≡ Usage) ⊎ (result ≡ OutOfMemory) ⊎ SomeRose old.faults new.faults
+    ends : (result ≡ Usage) ⊎ (result ≡ OutOfMemory) ⊎ SomeRose mid.faults new.faults
+        → (result ≡ Usage) ⊎ (result ≡ OutOfMemory) ⊎ SomeRose old.faults new.faults
     ends (inl is) = inl is
     ends (inr (inl is)) = inr (inl is)
     ends (inr (inr some)) = inr (inr (some_since old.faults mid.faults new.faults attaches.faults some))
 
 -- the words were no command, or there was no memory for them
 pub stopped_run : (words : List Text) (stop : WordStop) (mid new : Outside) → (stop ≡ stops.Usage → asked words ≡ None)
-    → AreAttached ((Report, []) ∷ []) mid → OnlyWrites mid new → (result : Status) → Finishes (word_stop stop) result mid new → IsRun (command_of words) result mid new
-stopped_run words stops.OutOfMemory mid new none are rest result told = unread_run (command_of words) mid new are rest result told
+    → AreAttached ((Report, []) ∷ []) mid → OnlyWrites mid new → (result : Status)
+        → Finishes (word_stop stop) result mid new → IsRun (command_of words) result mid new
+stopped_run words stops.OutOfMemory mid new none are rest result told =
+    unread_run (command_of words) mid new are rest result told
 stopped_run words stops.Usage mid new none are rest result told =
     subst (λ (o : Option Asked). IsRun o result mid new) (sym (none refl)) (usage_run mid new are rest result told)
 
 -- the words were a command, which was carried out from where the report was attached
-asked_run : (words : List Text) (a : Asked) (old mid new : Outside) (result : Status) → OnlyAttaches old mid → mid.faults ≡ old.faults → asked words ≡ Some a → IsRun (Some a) result mid new → IsRun (command_of words) result old new
-asked_run words a old mid new result attaches quiet is run = run_since (command_of words) old mid new result attaches quiet (subst (λ (o : Option Asked). IsRun o result mid new) (sym is) run)
+asked_run : (words : List Text) (a : Asked) (old mid new : Outside) (result : Status) → OnlyAttaches old mid
+    → mid.faults ≡ old.faults → asked words ≡ Some a → IsRun (Some a) result mid new
+    → IsRun (command_of words) result old new
+asked_run words a old mid new result attaches quiet is run = run_since (command_of words) old mid new result attaches
+    quiet (subst (λ (o : Option Asked). IsRun o result mid new) (sym is) run)
 
 -- the command of the words was performed with the roles that they name, from where the report was attached
-module _ (words : List Text) (a : Asked) (asks : asked words ≡ Some a) (old mid : Outside) (attaches : OnlyAttaches old mid) (quiet : mid.faults ≡ old.faults)
+module _ (words : List Text) (a : Asked) (asks : asked words ≡ Some a) (old mid : Outside)
+    (attaches : OnlyAttaches old mid) (quiet : mid.faults ≡ old.faults)
     (rightly : (k : Command) → IsRefusedRightly k) (roles : List (Role × Text)) (own : roles ≡ roles_of a.command a)
     (c : Command) (is : a.command ≡ c) (result : Status) (new : Outside)
     (status : (inputs : Role → List ℕ) → Tells mid inputs → HasStatus (run_of c inputs) result mid.faults new.faults)
-    (texts : (inputs : Role → List ℕ) → Tells mid inputs → IsSettled result → HasTexts (run_of c inputs) end_text result mid.written new.written)
-    (prefixes : (inputs : Role → List ℕ) → Tells mid inputs → IsStopped result → HasPrefixes (run_of c inputs) end_text result mid.written new.written)
+    (texts : (inputs : Role → List ℕ) → Tells mid inputs → IsSettled result
+        → HasTexts (run_of c inputs) end_text result mid.written new.written)
+    (prefixes : (inputs : Role → List ℕ) → Tells mid inputs → IsStopped result
+        → HasPrefixes (run_of c inputs) end_text result mid.written new.written)
     (not_usage : IsNotUsage result)
     (unopened : IsUnopened result → ReadsNothing result mid new)
     (flushed : IsFlushed result new)
     (causes : HasCause result mid.faults new.faults)
     (attached : AttachedAt ((Report, []) ∷ roles) result new)
     (whole_input : (inputs : Role → List ℕ) → Tells mid inputs → IsReadOut result (source_of c) new)
-    (taken_input : (inputs : Role → List ℕ) → Tells mid inputs → TakesInput result (run_of c inputs) end_text inputs mid.written new) where
+    (taken_input : (inputs : Role → List ℕ) → Tells mid inputs
+        → TakesInput result (run_of c inputs) end_text inputs mid.written new) where
   pub performed_run : IsRun (command_of words) result old new
   performed_run =
       asked_run words a old mid new result attaches quiet asks
       (as_run a c is (rightly c) result mid new
-      (subst (λ (l : List (Role × Text)). IsRunOf (run_of c) ((Report, []) ∷ l) (source_of c) result mid new) (own ∙ ap (λ (k : Command). roles_of k a) is)
-      (performed (run_of c) roles (source_of c) mid new result status texts prefixes not_usage unopened flushed causes attached whole_input taken_input))
+      (subst (λ (l : List (Role × Text)). IsRunOf (run_of c) ((Report, []) ∷ l) (source_of c) result mid new) (own
+          ∙ ap (λ (k : Command). roles_of k a) is)
+      (performed (run_of c) roles (source_of c) mid new result status texts prefixes not_usage unopened flushed causes
+          attached whole_input taken_input))
       not_usage)

@@ -38,33 +38,40 @@ some_since a b c falls (inr (inr x)) = inr (inr (rose_since _ _ _ falls.write x)
 none_attached : (new : Outside) → NoneAttached new.attached → AreAttached [] new
 none_attached new none = record { roles = λ r. ap (λ (f : Role → Bool). f r) none; names = tt }
 
-still_attached : (order : List (Role × List ℕ)) (mid new : Outside) → OnlyWrites mid new → AreAttached order mid → AreAttached order new
+still_attached : (order : List (Role × List ℕ)) (mid new : Outside) → OnlyWrites mid new → AreAttached order mid
+    → AreAttached order new
 still_attached order mid new rest are = record {
   roles = λ r. ap (λ (f : Role → Bool). f r) rest.attached ∙ are.roles r;
-  names = subst (λ (name : Role → Option (List ℕ)). AllByRecursion (λ p. IfSome (name p.0) (λ told. told ≡ p.1)) order) (sym rest.name) are.names;
+  names = subst (λ (name : Role → Option (List ℕ)). AllByRecursion (λ p. IfSome (name p.0) (λ told. told ≡ p.1)) order)
+      (sym rest.name) are.names;
 }
 
 -- ---- one line of the report
 
-report_alone : (order : List (Role × List ℕ)) (new : Outside) → AreAttached ((Report, []) ∷ []) new → SomeAttached ((Report, []) ∷ order) new
+report_alone : (order : List (Role × List ℕ)) (new : Outside) → AreAttached ((Report, []) ∷ []) new
+    → SomeAttached ((Report, []) ∷ order) new
 report_alone order new are = record { first = (Report, []) ∷ []; rest = order; whole = refl; attached = are }
 
 -- a piece of the line on the report, and nothing on the others
-gains_on : (bytes : List ℕ) (old new : Role → Option (List ℕ)) → new ≡ appended old Report bytes → Gains (λ r. if is_role Report r then bytes else []) old new
+gains_on : (bytes : List ℕ) (old new : Role → Option (List ℕ)) → new ≡ appended old Report bytes
+    → Gains (λ r. if is_role Report r then bytes else []) old new
 gains_on bytes old new is = λ r. ap (λ (w : Role → Option (List ℕ)). w r) is ∙ at r (is_role Report r)
   where
     at : (r : Role) (t : Bool) → (if t then gained (old r) bytes else old r) ≡ gained (old r) (if t then bytes else [])
     at r true = refl
     at r false = sym (gained-nil (old r))
 
-joined : (t : Bool) (a b all : List ℕ) → a ++ b ≡ all → (if t then a else []) ++ (if t then b else []) ≡ (if t then all else [])
+joined : (t : Bool) (a b all : List ℕ) → a ++ b ≡ all → (if t then a else []) ++ (if t then b else [])
+    ≡ (if t then all else [])
 joined true a b all is = is
 joined false a b all is = refl
 
-gains_line : (status : Status) (old new : Role → Option (List ℕ)) → new ≡ appended old Report (status_text status) → Gains (end_text status) old new
+gains_line : (status : Status) (old new : Role → Option (List ℕ)) → new ≡ appended old Report (status_text status)
+    → Gains (end_text status) old new
 gains_line status old new is = gains_on (status_text status) old new is
 
-gains_nothing : (texts : Role → List ℕ) (old new : Role → Option (List ℕ)) → ((r : Role) → texts r ≡ []) → new ≡ old → Gains texts old new
+gains_nothing : (texts : Role → List ℕ) (old new : Role → Option (List ℕ)) → ((r : Role) → texts r ≡ []) → new ≡ old
+    → Gains texts old new
 gains_nothing texts old new none same =
     λ r. ap (λ (w : Role → Option (List ℕ)). w r) same ∙ sym (ap (gained (old r)) (none r) ∙ gained-nil (old r))
 
@@ -88,7 +95,8 @@ is_unopened (unopened role) is asked = tt
 
 module _ (output : (Role → List ℕ) → Run) (order : List (Role × List ℕ)) (source : Option Role) where
   -- nothing was done, for want of memory
-  pub nothing_done : (old new : Outside) → NoneAttached new.attached → new.written ≡ old.written → new.faults ≡ old.faults → IsRunOf output ((Report, []) ∷ order) source OutOfMemory old new
+  pub nothing_done : (old new : Outside) → NoneAttached new.attached → new.written ≡ old.written
+      → new.faults ≡ old.faults → IsRunOf output ((Report, []) ∷ order) source OutOfMemory old new
   nothing_done old new none same quiet = record {
     status = λ inputs told. inr (inr refl);
     texts = λ inputs told settled. absurd settled;
@@ -102,13 +110,15 @@ module _ (output : (Role → List ℕ) → Run) (order : List (Role × List ℕ)
   }
 
   -- the report could not be attached
-  pub report_unopened : (old new : Outside) → NoneAttached new.attached → new.left ≡ old.left → new.written ≡ old.written → Rose old.faults.attach new.faults.attach
+  pub report_unopened : (old new : Outside) → NoneAttached new.attached → new.left ≡ old.left
+      → new.written ≡ old.written → Rose old.faults.attach new.faults.attach
       → IsRunOf output ((Report, []) ∷ order) source (OpenFault Report) old new
   report_unopened old new none kept same rose = record {
     status = λ inputs told. inl (inl rose);
     texts = λ inputs told settled. absurd settled;
     prefixes = λ inputs told stopped. absurd stopped;
-    unread = λ is. record { left = kept; written = gains_nothing (end_text (OpenFault Report)) old.written new.written no_line same };
+    unread = λ is. record { left = kept;
+        written = gains_nothing (end_text (OpenFault Report)) old.written new.written no_line same };
     flushed = λ is. absurd (cc (ap (λ (f : Role → Bool). f Report) none, is));
     causes = rose;
     attached = record { first = []; name = []; rest = order; whole = refl; attached = none_attached new none };
@@ -118,7 +128,8 @@ module _ (output : (Role → List ℕ) → Run) (order : List (Role × List ℕ)
 
   module _ (mid new : Outside) (are : AreAttached ((Report, []) ∷ []) mid) (rest : OnlyWrites mid new) where
     -- the last line could not be written
-    pub line_cut : (status : Status) → ComesEarly (phase status) → IsUntold status WriteFault mid new → IsRunOf output ((Report, []) ∷ order) source WriteFault mid new
+    pub line_cut : (status : Status) → ComesEarly (phase status) → IsUntold status WriteFault mid new
+        → IsRunOf output ((Report, []) ∷ order) source WriteFault mid new
     line_cut status early told = record {
       status = λ inputs tells. inl (inr (inr told.cause));
       texts = λ inputs tells settled. absurd settled;
@@ -130,7 +141,8 @@ module _ (output : (Role → List ℕ) → Run) (order : List (Role × List ℕ)
         early = early;
         piece = λ r. if is_role Report r then told.written.front else [];
         cut = λ r. if is_role Report r then told.written.rest else [];
-        whole = λ r. joined (is_role Report r) told.written.front told.written.rest (status_text status) told.written.whole;
+        whole = λ r. joined (is_role Report r) told.written.front told.written.rest
+            (status_text status) told.written.whole;
         written = gains_on told.written.front mid.written new.written told.written.gained;
       }));
       unread = λ is. absurd (cc is);
@@ -142,11 +154,13 @@ module _ (output : (Role → List ℕ) → Run) (order : List (Role × List ℕ)
     }
 
     -- there was no memory for the words
-    words_starved : new.written ≡ appended mid.written Report (status_text OutOfMemory) → new.flushed ≡ true → new.faults ≡ mid.faults → IsRunOf output ((Report, []) ∷ order) source OutOfMemory mid new
+    words_starved : new.written ≡ appended mid.written Report (status_text OutOfMemory) → new.flushed ≡ true
+        → new.faults ≡ mid.faults → IsRunOf output ((Report, []) ∷ order) source OutOfMemory mid new
     words_starved written flushed quiet = record {
       status = λ inputs tells. inr (inr refl);
       texts = λ inputs tells settled. absurd settled;
-      prefixes = λ inputs tells stopped. inl (record { done = []; rest = (output inputs).turns; front = refl; written = gains_line OutOfMemory mid.written new.written written });
+      prefixes = λ inputs tells stopped. inl (record { done = []; rest = (output inputs).turns; front = refl;
+          written = gains_line OutOfMemory mid.written new.written written });
       unread = λ is. absurd (cc is);
       flushed = λ is. flushed;
       causes = quiet;
@@ -155,8 +169,10 @@ module _ (output : (Role → List ℕ) → Run) (order : List (Role × List ℕ)
       taken_input = λ inputs tells. tt;
     }
 
-    pub words_unread : (result : Status) → Finishes OutOfMemory result mid new → IsRunOf output ((Report, []) ∷ order) source result mid new
-    words_unread result (inl told) = subst (λ (s : Status). IsRunOf output ((Report, []) ∷ order) source s mid new) (sym told.same) (words_starved told.written told.flushed told.faults)
+    pub words_unread : (result : Status) → Finishes OutOfMemory result mid new
+        → IsRunOf output ((Report, []) ∷ order) source result mid new
+    words_unread result (inl told) = subst (λ (s : Status). IsRunOf output ((Report, []) ∷ order) source s mid new)
+        (sym told.same) (words_starved told.written told.flushed told.faults)
     words_unread result (inr cut) =
         subst (λ (s : Status). IsRunOf output ((Report, []) ∷ order) source s mid new) (sym cut.fault)
         (line_cut OutOfMemory tt (record { fault = refl; written = cut.written; cause = cut.cause }))
@@ -164,15 +180,18 @@ module _ (output : (Role → List ℕ) → Run) (order : List (Role × List ℕ)
   -- a command was performed
   module _ (mid new : Outside) (result : Status)
       (status : (inputs : Role → List ℕ) → Tells mid inputs → HasStatus (output inputs) result mid.faults new.faults)
-      (texts : (inputs : Role → List ℕ) → Tells mid inputs → IsSettled result → HasTexts (output inputs) end_text result mid.written new.written)
-      (prefixes : (inputs : Role → List ℕ) → Tells mid inputs → IsStopped result → HasPrefixes (output inputs) end_text result mid.written new.written)
+      (texts : (inputs : Role → List ℕ) → Tells mid inputs → IsSettled result
+          → HasTexts (output inputs) end_text result mid.written new.written)
+      (prefixes : (inputs : Role → List ℕ) → Tells mid inputs → IsStopped result
+          → HasPrefixes (output inputs) end_text result mid.written new.written)
       (words : IsNotUsage result)
       (unopened : IsUnopened result → ReadsNothing result mid new)
       (flushed : IsFlushed result new)
       (causes : HasCause result mid.faults new.faults)
       (attached : AttachedAt ((Report, []) ∷ order) result new)
       (whole_input : (inputs : Role → List ℕ) → Tells mid inputs → IsReadOut result source new)
-      (taken_input : (inputs : Role → List ℕ) → Tells mid inputs → TakesInput result (output inputs) end_text inputs mid.written new) where
+      (taken_input : (inputs : Role → List ℕ) → Tells mid inputs
+          → TakesInput result (output inputs) end_text inputs mid.written new) where
     pub performed : IsRunOf output ((Report, []) ∷ order) source result mid new
     performed = record {
       status = status;
@@ -187,9 +206,11 @@ module _ (output : (Role → List ℕ) → Run) (order : List (Role × List ℕ)
     }
 
 -- the words are no command
-module _ (output : (Role → List ℕ) → Run) (source : Option Role) (mid new : Outside) (are : AreAttached ((Report, []) ∷ []) mid) (rest : OnlyWrites mid new)
+module _ (output : (Role → List ℕ) → Run) (source : Option Role) (mid new : Outside)
+    (are : AreAttached ((Report, []) ∷ []) mid) (rest : OnlyWrites mid new)
     (says : (inputs : Role → List ℕ) → (output inputs).last.status ≡ Usage) where
-  told_usage : new.written ≡ appended mid.written Report (status_text Usage) → new.flushed ≡ true → IsRunOf output ((Report, []) ∷ []) source Usage mid new
+  told_usage : new.written ≡ appended mid.written Report (status_text Usage) → new.flushed ≡ true
+      → IsRunOf output ((Report, []) ∷ []) source Usage mid new
   told_usage written flushed = record {
     status = λ inputs tells. inr (inl (sym (says inputs)));
     texts = λ inputs tells settled. absurd settled;
@@ -202,14 +223,18 @@ module _ (output : (Role → List ℕ) → Run) (source : Option Role) (mid new 
     taken_input = λ inputs tells. tt;
   }
 
-  pub usage_told : (result : Status) → Finishes Usage result mid new → IsRunOf output ((Report, []) ∷ []) source result mid new
-  usage_told result (inl told) = subst (λ (s : Status). IsRunOf output ((Report, []) ∷ []) source s mid new) (sym told.same) (told_usage told.written told.flushed)
+  pub usage_told : (result : Status) → Finishes Usage result mid new
+      → IsRunOf output ((Report, []) ∷ []) source result mid new
+  usage_told result (inl told) = subst (λ (s : Status). IsRunOf output ((Report, []) ∷ []) source s mid new)
+      (sym told.same) (told_usage told.written told.flushed)
   usage_told result (inr cut) =
       subst (λ (s : Status). IsRunOf output ((Report, []) ∷ []) source s mid new) (sym cut.fault)
-      (line_cut output [] source mid new are rest Usage tt (record { fault = refl; written = cut.written; cause = cut.cause }))
+      (line_cut output [] source mid new are rest Usage tt (record { fault = refl; written = cut.written;
+          cause = cut.cause }))
 
 -- the same from an earlier outside, where only roles were attached since
-module _ (output : (Role → List ℕ) → Run) (order : List (Role × List ℕ)) (source : Option Role) (old mid new : Outside) (attaches : OnlyAttaches old mid) (quiet : mid.faults ≡ old.faults) (result : Status) where
+module _ (output : (Role → List ℕ) → Run) (order : List (Role × List ℕ)) (source : Option Role) (old mid new : Outside)
+    (attaches : OnlyAttaches old mid) (quiet : mid.faults ≡ old.faults) (result : Status) where
   tells_since : (inputs : Role → List ℕ) → Tells old inputs → Tells mid inputs
   tells_since inputs told = λ r input. ap (λ (l : Role → Option (List ℕ)). l r) attaches.left ∙ told r input
 
@@ -218,7 +243,9 @@ module _ (output : (Role → List ℕ) → Run) (order : List (Role × List ℕ)
   status_since run (inr rest) = inr rest
 
   cut_since : (run : Run) → IsCutOff run result mid new → IsCutOff run result old new
-  cut_since run (inl prefixes) = inl (subst (λ (w : Role → Option (List ℕ)). HasPrefixes run end_text result w new.written) attaches.written prefixes)
+  cut_since run (inl prefixes) =
+      inl (subst (λ (w : Role → Option (List ℕ)). HasPrefixes run end_text result w new.written) attaches.written
+      prefixes)
   cut_since run (inr none) = inr (record { attached = none.attached; written = none.written ∙ attaches.written })
 
   pub since_attached : IsRunOf output order source result mid new → IsRunOf output order source result old new
@@ -230,7 +257,8 @@ module _ (output : (Role → List ℕ) → Run) (order : List (Role × List ℕ)
     prefixes = λ inputs told stopped. cut_since (output inputs) (run.prefixes inputs (tells_since inputs told) stopped);
     unread = λ is. record {
       left = (run.unread is).left ∙ attaches.left;
-      written = subst (λ (w : Role → Option (List ℕ)). Gains (end_text result) w new.written) attaches.written (run.unread is).written;
+      written = subst (λ (w : Role → Option (List ℕ)). Gains (end_text result) w new.written) attaches.written
+          (run.unread is).written;
     };
     flushed = run.flushed;
     causes = subst (λ (f : Faults). HasCause result f new.faults) quiet run.causes;

@@ -21,7 +21,8 @@ use Rattle.half_sample.specs.declared.source.Source.{Source}
 -- ---- vectors
 
 -- eight lanes after eight others
-pub second_lanes : (a b : List ℕ) (i : ℕ) → length a ≡ 8 → length b ≡ 8 → i < 8 → get_or (pick_l 0 (a ++ b) (range_with_len 0 16)) (8 + i) 0 ≡ get_or b i 0
+pub second_lanes : (a b : List ℕ) (i : ℕ) → length a ≡ 8 → length b ≡ 8 → i < 8
+    → get_or (pick_l 0 (a ++ b) (range_with_len 0 16)) (8 + i) 0 ≡ get_or b i 0
 second_lanes a b i ea eb hi =
     let back : 8 + i - 8 ≡ i = omega arith in
     ap (λ (l : List ℕ). get_or l (8 + i) 0) (pick_l_whole 0 (a ++ b) 16 (omega (arith, length-append a b, ea, eb)))
@@ -29,7 +30,8 @@ second_lanes a b i ea eb hi =
     ∙ ap (λ (k : ℕ). get_or b k 0) back
 
 -- eight lanes of sixteen
-pub eight_lanes : (v : List ℕ) (a i : ℕ) → length v ≡ 16 → a + 8 ≤ 16 → i < 8 → get_or (pick_l 0 (v ++ v) (range_with_len a 8)) i 0 ≡ get_or v (a + i) 0
+pub eight_lanes : (v : List ℕ) (a i : ℕ) → length v ≡ 16 → a + 8 ≤ 16 → i < 8
+    → get_or (pick_l 0 (v ++ v) (range_with_len a 8)) i 0 ≡ get_or v (a + i) 0
 eight_lanes v a i long le hi =
     ap (λ (l : List ℕ). get_or l i 0) (pick_l-range_with_len 0 (v ++ v) a 8 (omega (arith, length-append v v, long)))
     ∙ get_or-chunk a 8 (v ++ v) i 0 hi
@@ -60,7 +62,8 @@ nearer : (s : Source) (a b n : ℕ) → Reaches s a n → b ≤ a → Reaches s 
 nearer s a b n h le = record { rows = omega (arith, h.rows); others = omega (arith, h.others) }
 
 row_below : (hy : Bool) (w j n : ℕ) → j < n → w * j + cond hy w 0 ≤ w * (n - 1 + cond hy 1 0)
-row_below true w j n h = let more : w * (j + 1) ≤ w * (n - 1 + 1) = mul-le-mul_left w (omega arith) in omega (arith, more)
+row_below true w j n h = let more : w * (j + 1) ≤ w * (n - 1 + 1) = mul-le-mul_left w (omega arith) in
+    omega (arith, more)
 row_below false w j n h = let more : w * j ≤ w * (n - 1 + 0) = mul-le-mul_left w (omega arith) in omega (arith, more)
 
 -- what is read at row j
@@ -72,9 +75,11 @@ row_reach s half n j at h below e =
     (nearer s _ _ (n + cond half.x 1 0) h.reach (row_below half.y s.width j n below)))
 
 -- and at the first row
-pub first_reach : (s : Source) (half : Half) (n : ℕ) → HasRows s half n → Reaches s 0 (columns_beside s.colours + cond half.x 1 0)
+pub first_reach : (s : Source) (half : Half) (n : ℕ) → HasRows s half n
+    → Reaches s 0 (columns_beside s.colours + cond half.x 1 0)
 first_reach s half n h =
-    subst (λ (k : ℕ). Reaches s 0 (k + cond half.x 1 0)) h.columns (nearer s _ _ (n + cond half.x 1 0) h.reach (omega arith))
+    subst (λ (k : ℕ). Reaches s 0 (k + cond half.x 1 0)) h.columns (nearer s _ _ (n + cond half.x 1 0) h.reach
+        (omega arith))
 
 -- ---- samples
 
@@ -91,11 +96,13 @@ pub mixed_is : (p : Picture) (plane : Plane) (hx hy : Bool) (r x y a b c d : ℕ
     cond hy (average4 r a b c d) (average r a b) ≡ interpolated p plane hx hy r x y
 mixed_is p plane false false r x y a b c d hr ea eb ec ed =
     let same : x + 0 ≡ x = omega arith in
-    twice r a b hr (ea ∙ sym (eb ∙ ap (λ (k : ℕ). sample_at p plane k y) same)) ∙ eb ∙ ap (λ (k : ℕ). sample_at p plane k y) same
+    twice r a b hr (ea ∙ sym (eb ∙ ap (λ (k : ℕ). sample_at p plane k y) same)) ∙ eb
+        ∙ ap (λ (k : ℕ). sample_at p plane k y) same
 mixed_is p plane true false r x y a b c d hr ea eb ec ed = cc (ea, eb)
 mixed_is p plane false true r x y a b c d hr ea eb ec ed =
     let same : x + 0 ≡ x = omega arith in
-    twice_below r a b c d (sample_at p plane x y) (sample_at p plane x (y + 1)) hr ea (eb ∙ ap (λ (k : ℕ). sample_at p plane k y) same) (ec refl)
+    twice_below r a b c d (sample_at p plane x y) (sample_at p plane x (y + 1)) hr ea (eb
+        ∙ ap (λ (k : ℕ). sample_at p plane k y) same) (ec refl)
     (ed refl ∙ ap (λ (k : ℕ). sample_at p plane k (y + 1)) same)
 mixed_is p plane true true r x y a b c d hr ea eb ec ed = cc (ea, eb, ec refl, ed refl)
 
@@ -107,9 +114,11 @@ one_more_column : (hx : Bool) (n i : ℕ) → i < n → i + cond hx 1 0 < n + co
 one_more_column hx n i h = omega arith
 
 -- what is predicted in a lane that holds column i of rows of a plane
-pub between_is : (p : Picture) (plane : Plane) (s : Source) (half : Half) (r x y n lane i j : ℕ) (rows : List ℕ) → r ≤ 1 →
+pub between_is : (p : Picture) (plane : Plane) (s : Source) (half : Half) (r x y n lane i j : ℕ) (rows : List ℕ)
+    → r ≤ 1 →
     ((at : ℕ) → lane_of s at lane ≡ get_or rows (at + i) 0) →
-    ((k l : ℕ) → k < n + cond half.x 1 0 → l < n + cond half.y 1 0 → get_or rows (s.width * l + k) 0 ≡ sample_at p plane (x + k) (y + l)) →
+    ((k l : ℕ) → k < n + cond half.x 1 0 → l < n + cond half.y 1 0 → get_or rows (s.width * l + k) 0
+        ≡ sample_at p plane (x + k) (y + l)) →
     i < n → j < n → lane_between s half r (s.width * j) lane ≡ interpolated p plane half.x half.y r (x + i) (y + j)
 between_is p plane s half r x y n lane i j rows hr is are hi hj =
     let w : ℕ = s.width in
@@ -122,24 +131,34 @@ between_is p plane s half r x y n lane i j rows hr is are hi hj =
     let both : w * j + w + c + i ≡ w * (j + 1) + (i + c) = omega arith in
     mixed_is p plane half.x half.y r (x + i) (y + j) _ _ _ _ hr
     (is (w * j) ∙ are i j (omega arith) (omega arith))
-    (is (w * j + c) ∙ ap (λ (k : ℕ). get_or rows k 0) across ∙ are (i + c) j (one_more_column half.x n i hi) (omega arith) ∙ ap (λ (k : ℕ). sample_at p plane k (y + j)) right)
-    (λ e. is (w * j + w) ∙ ap (λ (k : ℕ). get_or rows k 0) below ∙ are i (j + 1) (omega arith) (one_more_row half.y n j e hj) ∙ ap (sample_at p plane (x + i)) down)
-    (λ e. is (w * j + w + c) ∙ ap (λ (k : ℕ). get_or rows k 0) both ∙ are (i + c) (j + 1) (one_more_column half.x n i hi) (one_more_row half.y n j e hj)
+    (is (w * j + c) ∙ ap (λ (k : ℕ). get_or rows k 0) across
+        ∙ are (i + c) j (one_more_column half.x n i hi) (omega arith)
+        ∙ ap (λ (k : ℕ). sample_at p plane k (y + j)) right)
+    (λ e. is (w * j + w) ∙ ap (λ (k : ℕ). get_or rows k 0) below
+        ∙ are i (j + 1) (omega arith) (one_more_row half.y n j e hj) ∙ ap (sample_at p plane (x + i)) down)
+    (λ e. is (w * j + w + c) ∙ ap (λ (k : ℕ). get_or rows k 0) both
+        ∙ are (i + c) (j + 1) (one_more_column half.x n i hi) (one_more_row half.y n j e hj)
     ∙ ap (λ (k : ℕ). sample_at p plane k (y + (j + 1))) right ∙ ap (sample_at p plane (x + i + c)) down)
 
 -- a lane by another place and another number of it
-pub lane_at : (s : Source) (half : Half) (r a b i l : ℕ) → a ≡ b → l ≡ i → lane_between s half r a i ≡ lane_between s half r b l
-lane_at s half r a b i l ea el = ap (λ (k : ℕ). lane_between s half r k i) ea ∙ ap (λ (k : ℕ). lane_between s half r b k) (sym el)
+pub lane_at : (s : Source) (half : Half) (r a b i l : ℕ) → a ≡ b → l ≡ i → lane_between s half r a i
+    ≡ lane_between s half r b l
+lane_at s half r a b i l ea el = ap (λ (k : ℕ). lane_between s half r k i) ea
+    ∙ ap (λ (k : ℕ). lane_between s half r b k) (sym el)
 
 -- the lanes of one list
 pub only_lane : (at i : ℕ) (rows : List ℕ) → get_or rows (at + (0 + i)) 0 ≡ get_or rows (at + i) 0
 only_lane at i rows = let e : at + (0 + i) ≡ at + i = omega arith in ap (λ (k : ℕ). get_or rows k 0) e
 
 -- and of two
-pub first_lane : (at i : ℕ) (rows others : List ℕ) → i < 8 → cond (nat_le 8 (0 + i)) (get_or others (at + (0 + i - 8)) 0) (get_or rows (at + (0 + i)) 0) ≡ get_or rows (at + i) 0
+pub first_lane : (at i : ℕ) (rows others : List ℕ) → i < 8
+    → cond (nat_le 8 (0 + i)) (get_or others (at + (0 + i - 8)) 0) (get_or rows (at + (0 + i)) 0)
+    ≡ get_or rows (at + i) 0
 first_lane at i rows others h = let e = only_lane at i rows in grind (arith, nat_tests)
 
-pub second_lane : (at i : ℕ) (rows others : List ℕ) → i < 8 → cond (nat_le 8 (8 + i)) (get_or others (at + (8 + i - 8)) 0) (get_or rows (at + (8 + i)) 0) ≡ get_or others (at + i) 0
+pub second_lane : (at i : ℕ) (rows others : List ℕ) → i < 8
+    → cond (nat_le 8 (8 + i)) (get_or others (at + (8 + i - 8)) 0) (get_or rows (at + (8 + i)) 0)
+    ≡ get_or others (at + i) 0
 second_lane at i rows others h =
     let e : at + (8 + i - 8) ≡ at + i = omega arith in
     let same = ap (λ (k : ℕ). get_or others k 0) e in

@@ -47,24 +47,29 @@ minus_low a b y z u v = record {
 }
 
 -- a product with a word
-scaled : (a m : ℕ) (z over : ℤ) → z ≡ pos a +ℤ pos 4294967296 *ℤ over → pos m *ℤ z ≡ pos (a * m) +ℤ pos 4294967296 *ℤ (pos m *ℤ over)
+scaled : (a m : ℕ) (z over : ℤ) → z ≡ pos a +ℤ pos 4294967296 *ℤ over
+    → pos m *ℤ z ≡ pos (a * m) +ℤ pos 4294967296 *ℤ (pos m *ℤ over)
 scaled a m z over e =
     ap (λ (k : ℤ). pos m *ℤ k) e
     ∙ times_sum (pos m) (pos a) (pos 4294967296 *ℤ over)
     ∙ ap (λ (k : ℤ). k +ℤ pos m *ℤ (pos 4294967296 *ℤ over)) (*ℤ_comm (pos m) (pos a))
-    ∙ ap (λ (k : ℤ). pos (a * m) +ℤ k) (times_assoc (pos m) (pos 4294967296) over ∙ ap (λ (k : ℤ). k *ℤ over) (*ℤ_comm (pos m) (pos 4294967296)) ∙ sym (times_assoc (pos 4294967296) (pos m) over))
+    ∙ ap (λ (k : ℤ). pos (a * m) +ℤ k) (times_assoc (pos m) (pos 4294967296) over
+        ∙ ap (λ (k : ℤ). k *ℤ over) (*ℤ_comm (pos m) (pos 4294967296))
+        ∙ sym (times_assoc (pos 4294967296) (pos m) over))
 
 reduced : (n : ℕ) → pos n ≡ pos (n % 4294967296) +ℤ pos 4294967296 *ℤ pos (n / 4294967296)
 reduced n = omega (arith, ints)
 
-once_more : (y : ℤ) (n : ℕ) (q : ℤ) (r : ℕ) (w : ℤ) → y ≡ pos n +ℤ pos 4294967296 *ℤ w → pos n ≡ pos r +ℤ pos 4294967296 *ℤ q → y ≡ pos r +ℤ pos 4294967296 *ℤ (w +ℤ q)
+once_more : (y : ℤ) (n : ℕ) (q : ℤ) (r : ℕ) (w : ℤ) → y ≡ pos n +ℤ pos 4294967296 *ℤ w
+    → pos n ≡ pos r +ℤ pos 4294967296 *ℤ q → y ≡ pos r +ℤ pos 4294967296 *ℤ (w +ℤ q)
 once_more y n q r w e f = omega (arith, ints)
 
 times_low : (a m : ℕ) (z : ℤ) → Low a z → Low (times a m) (pos m *ℤ z)
 times_low a m z u = record {
   below = omega arith;
   over = pos m *ℤ u.over +ℤ pos (a * m / 4294967296);
-  is = once_more (pos m *ℤ z) (a * m) (pos (a * m / 4294967296)) (a * m % 4294967296) (pos m *ℤ u.over) (scaled a m z u.over u.is) (reduced (a * m));
+  is = once_more (pos m *ℤ z) (a * m) (pos (a * m / 4294967296)) (a * m % 4294967296) (pos m *ℤ u.over)
+      (scaled a m z u.over u.is) (reduced (a * m));
 }
 
 -- ---- vectors
@@ -74,12 +79,14 @@ pub record Lows (us : List ℕ) (f : ℕ → ℤ) : Type 0 where
   pub long : length us ≡ 8
   pub low : (i : ℕ) → i < 8 → Low (get_or us i 0) (f i)
 
-lows_of_two : (op : ℕ → ℕ → ℕ) (g : ℤ → ℤ → ℤ) {us vs : List ℕ} {e f : ℕ → ℤ} → ((a b : ℕ) (y z : ℤ) → Low a y → Low b z → Low (op a b) (g y z)) →
+lows_of_two : (op : ℕ → ℕ → ℕ) (g : ℤ → ℤ → ℤ) {us vs : List ℕ} {e f : ℕ → ℤ} → ((a b : ℕ) (y z : ℤ) → Low a y → Low b z
+    → Low (op a b) (g y z)) →
     Lows us e → Lows vs f → Lows (zip2 op us vs) (λ i. g (e i) (f i))
 lows_of_two op g {us} {vs} {e} {f} is u v = record {
   long = length-zip2 op us vs (u.long ∙ sym v.long) ∙ u.long;
   low = λ i hi.
-      subst (λ (n : ℕ). Low n (g (e i) (f i))) (sym (get_or-zip2 op us vs i 0 0 0 (omega (arith, u.long)) (omega (arith, v.long))))
+      subst (λ (n : ℕ). Low n (g (e i) (f i)))
+          (sym (get_or-zip2 op us vs i 0 0 0 (omega (arith, u.long)) (omega (arith, v.long))))
       (is (get_or us i 0) (get_or vs i 0) (e i) (f i) (u.low i hi) (v.low i hi));
 }
 
@@ -92,15 +99,18 @@ lows_minus u v = lows_of_two minus (λ y z. y -ℤ z) minus_low u v
 pub lows_splat : (m : ℕ) → m < 4294967296 → Lows (replicate 8 m) (λ i. pos m)
 lows_splat m h = record {
   long = length-replicate 8 m;
-  low = λ i hi. subst (λ (n : ℕ). Low n (pos m)) (sym (get_or-replicate 8 i m 0 hi)) (record { below = h; over = pos 0; is = omega (arith, ints) });
+  low = λ i hi. subst (λ (n : ℕ). Low n (pos m)) (sym (get_or-replicate 8 i m 0 hi)) (record { below = h; over = pos 0;
+      is = omega (arith, ints) });
 }
 
-pub lows_times : (m : ℕ) {us : List ℕ} {f : ℕ → ℤ} → Lows us f → Lows (zip2 times us (replicate 8 m)) (λ i. pos m *ℤ f i)
+pub lows_times : (m : ℕ) {us : List ℕ} {f : ℕ → ℤ} → Lows us f
+    → Lows (zip2 times us (replicate 8 m)) (λ i. pos m *ℤ f i)
 lows_times m {us} {f} u = record {
   long = length-zip2 times us (replicate 8 m) (u.long ∙ sym (length-replicate 8 m)) ∙ u.long;
   low = λ i hi.
       subst (λ (n : ℕ). Low n (pos m *ℤ f i))
-      (sym (get_or-zip2 times us (replicate 8 m) i 0 0 0 (omega (arith, u.long)) (omega (arith, length-replicate 8 m)) ∙ ap (times (get_or us i 0)) (get_or-replicate 8 i m 0 hi)))
+      (sym (get_or-zip2 times us (replicate 8 m) i 0 0 0 (omega (arith, u.long)) (omega (arith, length-replicate 8 m))
+          ∙ ap (times (get_or us i 0)) (get_or-replicate 8 i m 0 hi)))
       (times_low (get_or us i 0) m (f i) (u.low i hi));
 }
 
@@ -114,13 +124,15 @@ own_lows n v hn h = record {
 }
 
 -- results that fit are exact
-pub exact : {us : List ℕ} {f : ℕ → ℤ} (g : ℕ → ℤ) → Lows us f → ((i : ℕ) → i < 8 → f i ≡ g i) → ((i : ℕ) → i < 8 → Within 2147483647 (g i)) →
+pub exact : {us : List ℕ} {f : ℕ → ℤ} (g : ℕ → ℤ) → Lows us f → ((i : ℕ) → i < 8 → f i ≡ g i)
+    → ((i : ℕ) → i < 8 → Within 2147483647 (g i)) →
     (i : ℕ) → i < 8 → lane (map (to_z w32) us) i ≡ g i
 exact {us} {f} g u same fits i hi =
     get_or-map (to_z w32) us i 0 (pos 0) (omega (arith, u.long))
     ∙ number_low (get_or us i 0) (g i) (subst (λ (z : ℤ). Low (get_or us i 0) z) (same i hi) (u.low i hi)) (fits i hi)
 
-pub exact_size : {us : List ℕ} {f : ℕ → ℤ} (g : ℕ → ℤ) → Lows us f → ((i : ℕ) → i < 8 → f i ≡ g i) → ((i : ℕ) → i < 8 → Within 2147483647 (g i)) →
+pub exact_size : {us : List ℕ} {f : ℕ → ℤ} (g : ℕ → ℤ) → Lows us f → ((i : ℕ) → i < 8 → f i ≡ g i)
+    → ((i : ℕ) → i < 8 → Within 2147483647 (g i)) →
     EightWithin 2147483647 (map (to_z w32) us)
 exact_size {us} {f} g u same fits = record {
   long = length-map us (to_z w32) ∙ u.long;

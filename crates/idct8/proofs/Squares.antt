@@ -20,26 +20,31 @@ product_is_square (pos n) = refl
 product_is_square (negsuc n) = refl
 
 pub two_squares : (a b : ℤ) {z : ℤ} → z ≡ a *ℤ a +ℤ b *ℤ b → z ≡ pos (square a + square b)
-two_squares a b {z} e = let f : a *ℤ a +ℤ b *ℤ b ≡ pos (square a) +ℤ pos (square b) = cc (product_is_square a, product_is_square b) in e ∙ f
+two_squares a b {z} e = let f : a *ℤ a +ℤ b *ℤ b ≡ pos (square a) +ℤ pos (square b) = cc (product_is_square a,
+    product_is_square b) in e ∙ f
 
 added : (k l m n : ℕ) → pos (k + l) +ℤ pos (m + n) ≡ pos (k + l + m + n)
 added k l m n = omega (arith, ints)
 
 -- two sums of two squares of passed numbers
-pub four_squares : {s t a b c d a' b' c' d' : ℤ} → s ≡ pos (square a' + square b') → t ≡ pos (square c' + square d') → a' ≡ a → b' ≡ b → c' ≡ c → d' ≡ d →
+pub four_squares : {s t a b c d a' b' c' d' : ℤ} → s ≡ pos (square a' + square b') → t ≡ pos (square c' + square d')
+    → a' ≡ a → b' ≡ b → c' ≡ c → d' ≡ d →
     s +ℤ t ≡ pos (square a + square b + square c + square d)
 four_squares {s} {t} {a} {b} {c} {d} {a'} {b'} {c'} {d'} es et ea eb ec ed =
     let e : s +ℤ t ≡ pos (square a + square b) +ℤ pos (square c + square d) = cc (es, et, ea, eb, ec, ed) in
     e ∙ added (square a) (square b) (square c) (square d)
 
-pub same_squares : {a b c d a' b' c' d' : ℤ} → a ≡ a' → b ≡ b' → c ≡ c' → d ≡ d' → pos (square a + square b + square c + square d) ≡ pos (square a' + square b' + square c' + square d')
+pub same_squares : {a b c d a' b' c' d' : ℤ} → a ≡ a' → b ≡ b' → c ≡ c' → d ≡ d'
+    → pos (square a + square b + square c + square d) ≡ pos (square a' + square b' + square c' + square d')
 same_squares ea eb ec ed = cc (ea, eb, ec, ed)
 
 -- a row of samples
-pub sample_row : (block v : List ℤ) (k : ℕ) → length block ≡ 64 → k < 8 → All IsSample block → length v ≡ 8 → ((i : ℕ) → i < 8 → lane v i ≡ entry block k i) → EightWithin 255 v
+pub sample_row : (block v : List ℤ) (k : ℕ) → length block ≡ 64 → k < 8 → All IsSample block → length v ≡ 8
+    → ((i : ℕ) → i < 8 → lane v i ≡ entry block k i) → EightWithin 255 v
 sample_row block v k long hk samples eight numbers = record {
   long = eight;
-  within = λ i hi. within_same 255 255 (lit≤ tt) (numbers i hi) (sample_within (samples (8 * k + i) (pos 0) (omega (arith, long))));
+  within = λ i hi. within_same 255 255 (lit≤ tt) (numbers i hi)
+      (sample_within (samples (8 * k + i) (pos 0) (omega (arith, long))));
 }
 
 -- row k of a block with the row that mirrors it, and less that row
@@ -50,15 +55,19 @@ pub record IsFolded (block : List ℤ) (k : ℕ) (sums differences : List ℤ) :
   pub difference_size : EightWithin 8191 differences
 
 -- the size of a lane that was read
-pub size_within : (most : ℕ) (v : List ℤ) (k n : ℕ) → most ≤ 2147483647 → EightWithin most v → k < 8 → n ≡ unsigned_abs (to_z w32 (of_z w32 (lane (map (to_z w32) (map (of_z w32) v)) k))) →
+pub size_within : (most : ℕ) (v : List ℤ) (k n : ℕ) → most ≤ 2147483647 → EightWithin most v → k < 8
+    → n ≡ unsigned_abs (to_z w32 (of_z w32 (lane (map (to_z w32) (map (of_z w32) v)) k))) →
     (n ≡ unsigned_abs (lane v k)) × (n ≤ most)
 size_within most v k n fits h hk e =
     let passed : lane (map (to_z w32) (map (of_z w32) v)) k ≡ lane v k = passed_lane most k fits h in
-    let kept : to_z w32 (of_z w32 (lane v k)) ≡ lane v k = to_z-of_z w32 (lane v k) (within_fits most (lane v k) fits (h.within k hk)) in
-    let is : n ≡ unsigned_abs (lane v k) = e ∙ ap (λ (z : ℤ). unsigned_abs (to_z w32 (of_z w32 z))) passed ∙ ap unsigned_abs kept in
+    let kept : to_z w32 (of_z w32 (lane v k))
+        ≡ lane v k = to_z-of_z w32 (lane v k) (within_fits most (lane v k) fits (h.within k hk)) in
+    let is : n ≡ unsigned_abs (lane v k) = e ∙ ap (λ (z : ℤ). unsigned_abs (to_z w32 (of_z w32 z))) passed
+        ∙ ap unsigned_abs kept in
     (is, subst (λ (m : ℕ). m ≤ most) (sym is) (abs_from_within most (lane v k) (h.within k hk)))
 
-pub size_read : (v : List ℤ) (k n : ℕ) → EightWithin 1073479696 v → k < 8 → n ≡ unsigned_abs (to_z w32 (of_z w32 (lane (map (to_z w32) (map (of_z w32) v)) k))) →
+pub size_read : (v : List ℤ) (k n : ℕ) → EightWithin 1073479696 v → k < 8
+    → n ≡ unsigned_abs (to_z w32 (of_z w32 (lane (map (to_z w32) (map (of_z w32) v)) k))) →
     (n ≡ unsigned_abs (lane v k)) × (n ≤ 1073479696)
 size_read v k n h hk e = size_within 1073479696 v k n (lit≤ tt) h hk e
 
@@ -71,8 +80,10 @@ pub up_read : (most : ℕ) (v : List ℤ) (k : ℕ) → most ≤ 2147483647 → 
     T (non_neg (to_z w32 (of_z w32 (lane (map (to_z w32) (map (of_z w32) v)) k))))
 up_read most v k fits h hk up =
     let passed : lane (map (to_z w32) (map (of_z w32) v)) k ≡ lane v k = passed_lane most k fits h in
-    let kept : to_z w32 (of_z w32 (lane v k)) ≡ lane v k = to_z-of_z w32 (lane v k) (within_fits most (lane v k) fits (h.within k hk)) in
-    let is : to_z w32 (of_z w32 (lane (map (to_z w32) (map (of_z w32) v)) k)) ≡ lane v k = ap (λ (z : ℤ). to_z w32 (of_z w32 z)) passed ∙ kept in
+    let kept : to_z w32 (of_z w32 (lane v k))
+        ≡ lane v k = to_z-of_z w32 (lane v k) (within_fits most (lane v k) fits (h.within k hk)) in
+    let is : to_z w32 (of_z w32 (lane (map (to_z w32) (map (of_z w32) v)) k))
+        ≡ lane v k = ap (λ (z : ℤ). to_z w32 (of_z w32 z)) passed ∙ kept in
     subst (λ (z : ℤ). T (non_neg z)) (sym is) (not_below (lane v k) up)
 
 pub up_by : {z y : ℤ} {n : ℕ} → z ≡ y → y ≡ pos n → pos 0 ≤ℤ z
@@ -91,7 +102,8 @@ eight_squares {s} {t} {p} {q} {m} {n} ep eq es et =
     e ∙ f
 
 -- four of samples
-pub four_small : (a b c d : ℤ) → Within 255 a → Within 255 b → Within 255 c → Within 255 d → square a + square b + square c + square d ≤ 260100
+pub four_small : (a b c d : ℤ) → Within 255 a → Within 255 b → Within 255 c → Within 255 d
+    → square a + square b + square c + square d ≤ 260100
 four_small a b c d ha hb hc hd = omega (arith, square_most a ha, square_most b hb, square_most c hc, square_most d hd)
 
 pub small_sum : {z : ℤ} {m n : ℕ} → z ≡ pos (m + n) → m ≤ 260100 → n ≤ 260100 → Within 520200 z
@@ -112,15 +124,21 @@ unfolding total
 by_columns g e e0 e1 e2 e3 e4 e5 e6 e7 = omega (arith, e, e0, e1, e2, e3, e4, e5, e6, e7)
 
 -- the squares of a column as the lanes add them up
-pub column_squares : (s : List ℤ) (r : List Row) (v : List ℤ) (i : ℕ) → i < 8 → ((j i : ℕ) → j < 8 → i < 8 → lane (row_at r j) i ≡ entry s j i) →
-    lane v i ≡ pos (square (lane (row_at r 0) i) + square (lane (row_at r 1) i) + square (lane (row_at r 2) i) + square (lane (row_at r 3) i)
-    + (square (lane (row_at r 4) i) + square (lane (row_at r 5) i) + square (lane (row_at r 6) i) + square (lane (row_at r 7) i))) →
-    unsigned_abs (lane v i) ≡ square (entry s 0 i) + square (entry s 1 i) + square (entry s 2 i) + square (entry s 3 i) + (square (entry s 4 i) + square (entry s 5 i) + square (entry s 6 i) + square (entry s 7 i))
+pub column_squares : (s : List ℤ) (r : List Row) (v : List ℤ) (i : ℕ) → i < 8
+    → ((j i : ℕ) → j < 8 → i < 8 → lane (row_at r j) i ≡ entry s j i) →
+    lane v i ≡ pos (square (lane (row_at r 0) i) + square (lane (row_at r 1) i) + square (lane (row_at r 2) i) + square
+        (lane (row_at r 3) i)
+    + (square (lane (row_at r 4) i) + square (lane (row_at r 5) i) + square (lane (row_at r 6) i) + square
+        (lane (row_at r 7) i))) →
+    unsigned_abs (lane v i) ≡ square (entry s 0 i) + square (entry s 1 i) + square (entry s 2 i) + square
+        (entry s 3 i) + (square (entry s 4 i) + square (entry s 5 i) + square (entry s 6 i) + square (entry s 7 i))
 column_squares s r v i hi numbers e =
     ap unsigned_abs e
     ∙ eight (numbers 0 i (lit< tt) hi) (numbers 1 i (lit< tt) hi) (numbers 2 i (lit< tt) hi) (numbers 3 i (lit< tt) hi)
     (numbers 4 i (lit< tt) hi) (numbers 5 i (lit< tt) hi) (numbers 6 i (lit< tt) hi) (numbers 7 i (lit< tt) hi)
   where
-    eight : {a b c d e f g h a' b' c' d' e' f' g' h' : ℤ} → a ≡ a' → b ≡ b' → c ≡ c' → d ≡ d' → e ≡ e' → f ≡ f' → g ≡ g' → h ≡ h' →
-        square a + square b + square c + square d + (square e + square f + square g + square h) ≡ square a' + square b' + square c' + square d' + (square e' + square f' + square g' + square h')
+    eight : {a b c d e f g h a' b' c' d' e' f' g' h' : ℤ} → a ≡ a' → b ≡ b' → c ≡ c' → d ≡ d' → e ≡ e' → f ≡ f' → g ≡ g'
+        → h ≡ h' →
+        square a + square b + square c + square d + (square e + square f + square g + square h)
+            ≡ square a' + square b' + square c' + square d' + (square e' + square f' + square g' + square h')
     eight ea eb ec ed ee ef eg eh = cc (ea, eb, ec, ed, ee, ef, eg, eh)

@@ -20,12 +20,16 @@ zero_sum (suc n) f h =
 pub times_zero : (m z : ℤ) → z ≡ pos 0 → m *ℤ z ≡ pos 0
 times_zero m z h = ap (λ (k : ℤ). m *ℤ k) h ∙ omega (arith, ints)
 
-pub inverse_of_zeros : (values : List ℤ) → ((at : ℕ) → at < 64 → slice_index_or values at (pos 0) ≡ pos 0) → (y x : ℕ) → inverse_at values y x ≡ pos 0
+pub inverse_of_zeros : (values : List ℤ) → ((at : ℕ) → at < 64 → slice_index_or values at (pos 0) ≡ pos 0) → (y x : ℕ)
+    → inverse_at values y x ≡ pos 0
 inverse_of_zeros values h y x =
     let terms = λ (u v : ℕ). basis u x *ℤ basis v y *ℤ entry values v u in
-    let inner = λ (u : ℕ) (hu : u < 8). zero_sum 8 (terms u) (λ v hv. times_zero (basis u x *ℤ basis v y) (entry values v u) (h (8 * v + u) (omega arith))) in
+    let inner = λ (u : ℕ) (hu : u < 8). zero_sum 8 (terms u) (λ v hv. times_zero (basis u x *ℤ basis v y)
+        (entry values v u) (h (8 * v + u) (omega arith))) in
     ap rounded (zero_sum 8 (λ u. sum_below 8 (terms u)) inner)
 
 -- the sums of a row of zeros
-pub sums_of_zeros : (block : List ℤ) (j k : ℕ) → ((i : ℕ) → i < 8 → entry block j i ≡ pos 0) → row_sums Inverse block j k ≡ pos 0
-sums_of_zeros block j k h = zero_sum 8 (λ i. factor Inverse i k *ℤ entry block j i) (λ i hi. times_zero (factor Inverse i k) (entry block j i) (h i hi))
+pub sums_of_zeros : (block : List ℤ) (j k : ℕ) → ((i : ℕ) → i < 8 → entry block j i ≡ pos 0)
+    → row_sums Inverse block j k ≡ pos 0
+sums_of_zeros block j k h = zero_sum 8 (λ i. factor Inverse i k *ℤ entry block j i)
+    (λ i hi. times_zero (factor Inverse i k) (entry block j i) (h i hi))

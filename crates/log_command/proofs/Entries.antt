@@ -35,77 +35,96 @@ not_held size k few = at_test (nat_le size k) refl
 module _ {State : Type 0} (does : LogRules State) (s : LogState State) where
   -- ---- the entry that is next
 
-  pub entry_next : (log : List ℕ) (o : Option Entry) → s.entries < 16777216 → 0 < length log → entry_in does.side log ≡ o
+  pub entry_next : (log : List ℕ) (o : Option Entry) → s.entries < 16777216 → 0 < length log → entry_in does.side log
+      ≡ o
       → step_in does s log ≡ entry_step does s log o
   entry_next [] o few some is = absurd (omega arith)
   entry_next (b ∷ log) o few some is =
-      ap (λ (t : Bool). if t then entry_step does s (b ∷ log) (entry_in does.side (b ∷ log)) else refused_log (TooMany s.at)) (lt-ltb s.entries 16777216 few)
+      ap (λ (t : Bool). if t then entry_step does s (b ∷ log) (entry_in does.side (b ∷ log)) else refused_log
+          (TooMany s.at)) (lt-ltb s.entries 16777216 few)
       ∙ ap (entry_step does s (b ∷ log)) is
 
-  pub none_next : (log : List ℕ) → s.entries ≡ 16777216 → 0 < length log → step_in does s log ≡ refused_log (TooMany s.at)
+  pub none_next : (log : List ℕ) → s.entries ≡ 16777216 → 0 < length log
+      → step_in does s log ≡ refused_log (TooMany s.at)
   none_next [] all some = absurd (omega arith)
   none_next (b ∷ log) all some =
-      ap (λ (t : Bool). if t then entry_step does s (b ∷ log) (entry_in does.side (b ∷ log)) else refused_log (TooMany s.at)) (le-ltb s.entries 16777216 (omega (arith, all)))
+      ap (λ (t : Bool). if t then entry_step does s (b ∷ log) (entry_in does.side (b ∷ log)) else refused_log
+          (TooMany s.at)) (le-ltb s.entries 16777216 (omega (arith, all)))
 
   -- ---- what was taken when a read failed holds no whole entry
 
   module _ (stays : StaysWhole) (log : List ℕ) (k : ℕ) (none : entry_in does.side (take k log) ≡ None) where
-    part_of_turn : (e : Entry) (texts : Role → List ℕ) → entry_in does.side log ≡ Some e → IsPart (entry_turn (3 + bytes_of e) texts ∷ []) (of Events k)
+    part_of_turn : (e : Entry) (texts : Role → List ℕ) → entry_in does.side log ≡ Some e
+        → IsPart (entry_turn (3 + bytes_of e) texts ∷ []) (of Events k)
     part_of_turn e texts is =
         ap (λ (b : Bool). true && true && b && true)
         (not_held (3 + bytes_of e) k (λ le. absurd (cc (none, stays does.side e log k is le))))
 
-    part_if : (t : Bool) (next : LogState State) (size : ℕ) (texts : Role → List ℕ) → IsPart (entry_turn size texts ∷ []) (of Events k)
-        → IsPart (step_turns (if t then Goes next (entry_turn size texts) else refused_log (TooMany s.at))) (of Events k)
+    part_if : (t : Bool) (next : LogState State) (size : ℕ) (texts : Role → List ℕ)
+        → IsPart (entry_turn size texts ∷ []) (of Events k)
+        → IsPart (step_turns (if t then Goes next (entry_turn size texts) else refused_log (TooMany s.at)))
+            (of Events k)
     part_if true next size texts part = part
     part_if false next size texts part = tt
 
-    other_part : (e : Entry) → entry_in does.side log ≡ Some e → IsPart (step_turns (other_step does s (3 + bytes_of e) (take (bytes_of e) (drop 3 log)))) (of Events k)
+    other_part : (e : Entry) → entry_in does.side log ≡ Some e
+        → IsPart (step_turns (other_step does s (3 + bytes_of e) (take (bytes_of e) (drop 3 log)))) (of Events k)
     other_part e is =
         let texts = does.other_text s.mind (take (bytes_of e) (drop 3 log)) in
         part_if _ _ (3 + bytes_of e) texts (part_of_turn e texts is)
 
-    entry_part : (o : Option Entry) → entry_in does.side log ≡ o → IsPart (step_turns (entry_step does s log o)) (of Events k)
+    entry_part : (o : Option Entry) → entry_in does.side log ≡ o
+        → IsPart (step_turns (entry_step does s log o)) (of Events k)
     entry_part None is = tt
     entry_part (Some (Packet len)) is = part_of_turn (Packet len) (does.packet_text s.mind (take len (drop 3 log))) is
     entry_part (Some Capture) is = other_part Capture is
     entry_part (Some (Back len)) is = other_part (Back len) is
     entry_part (Some Play) is = other_part Play is
 
-    part_of_log : (t : Bool) → IsPart (step_turns (if t then entry_step does s log (entry_in does.side log) else refused_log (TooMany s.at))) (of Events k)
+    part_of_log : (t : Bool)
+        → IsPart (step_turns (if t then entry_step does s log (entry_in does.side log) else refused_log (TooMany s.at)))
+        (of Events k)
     part_of_log true = entry_part (entry_in does.side log) refl
     part_of_log false = tt
 
-  pub log_part : StaysWhole → (log : List ℕ) (k : ℕ) → entry_in does.side (take k log) ≡ None → IsPart (step_turns (step_in does s log)) (of Events k)
+  pub log_part : StaysWhole → (log : List ℕ) (k : ℕ) → entry_in does.side (take k log) ≡ None
+      → IsPart (step_turns (step_in does s log)) (of Events k)
   log_part stays [] k none = tt
   log_part stays (b ∷ log) k none = part_of_log stays (b ∷ log) k none (nat_lt s.entries 16777216)
 
   -- ---- the step by the entry that is next
 
   module _ (inputs : Role → List ℕ) (few : s.entries < 16777216) where
-    pub packet_is : (len : ℕ) (bytes : List ℕ) → entry_in does.side (inputs Events) ≡ Some (Packet len) → bytes ≡ take len (drop 3 (inputs Events))
+    pub packet_is : (len : ℕ) (bytes : List ℕ) → entry_in does.side (inputs Events) ≡ Some (Packet len)
+        → bytes ≡ take len (drop 3 (inputs Events))
         → log_step does s inputs ≡ packet_step does s (3 + len) bytes
     packet_is len bytes is same =
         entry_next (inputs Events) (Some (Packet len)) few (some_bytes does.side (inputs Events) (Packet len) is) is
         ∙ ap (packet_step does s (3 + len)) (sym same)
 
     -- an entry of the other kind
-    module _ (e : Entry) (other : (len : ℕ) → e ≡ Packet len → ⊥) (is : entry_in does.side (inputs Events) ≡ Some e) where
-      no_packet : (log : List ℕ) (e : Entry) → ((len : ℕ) → e ≡ Packet len → ⊥) → entry_step does s log (Some e) ≡ other_step does s (3 + bytes_of e) (take (bytes_of e) (drop 3 log))
+    module _ (e : Entry) (other : (len : ℕ) → e ≡ Packet len → ⊥) (is : entry_in does.side (inputs Events)
+        ≡ Some e) where
+      no_packet : (log : List ℕ) (e : Entry) → ((len : ℕ) → e ≡ Packet len → ⊥) → entry_step does s log (Some e)
+          ≡ other_step does s (3 + bytes_of e) (take (bytes_of e) (drop 3 log))
       no_packet log Capture other = refl
       no_packet log (Back len) other = refl
       no_packet log Play other = refl
       no_packet log (Packet len) other = absurd (other len refl)
 
-      other_next : (bytes : List ℕ) (t : Bool) → bytes ≡ take (bytes_of e) (drop 3 (inputs Events)) → nat_lt (does.plays s.mind) 1048576 ≡ t → log_step does s inputs
-          ≡ (if t then Goes (after_entry s (does.other s.mind bytes) (3 + bytes_of e)) (entry_turn (3 + bytes_of e) (does.other_text s.mind bytes)) else refused_log (TooMany s.at))
+      other_next : (bytes : List ℕ) (t : Bool) → bytes ≡ take (bytes_of e) (drop 3 (inputs Events))
+          → nat_lt (does.plays s.mind) 1048576 ≡ t → log_step does s inputs
+          ≡ (if t then Goes (after_entry s (does.other s.mind bytes) (3 + bytes_of e))
+              (entry_turn (3 + bytes_of e) (does.other_text s.mind bytes)) else refused_log (TooMany s.at))
       other_next bytes t same test =
           entry_next (inputs Events) (Some e) few (some_bytes does.side (inputs Events) e is) is
           ∙ no_packet (inputs Events) e other ∙ ap (other_step does s (3 + bytes_of e)) (sym same)
-          ∙ ap (λ (b : Bool). if b then Goes (after_entry s (does.other s.mind bytes) (3 + bytes_of e)) (entry_turn (3 + bytes_of e) (does.other_text s.mind bytes)) else refused_log (TooMany s.at)) test
+          ∙ ap (λ (b : Bool). if b then Goes (after_entry s (does.other s.mind bytes) (3 + bytes_of e))
+              (entry_turn (3 + bytes_of e) (does.other_text s.mind bytes)) else refused_log (TooMany s.at)) test
 
       pub other_is : (bytes : List ℕ) → bytes ≡ take (bytes_of e) (drop 3 (inputs Events)) → does.plays s.mind < 1048576
-          → log_step does s inputs ≡ Goes (after_entry s (does.other s.mind bytes) (3 + bytes_of e)) (entry_turn (3 + bytes_of e) (does.other_text s.mind bytes))
+          → log_step does s inputs ≡ Goes (after_entry s (does.other s.mind bytes) (3 + bytes_of e))
+              (entry_turn (3 + bytes_of e) (does.other_text s.mind bytes))
       other_is bytes same more = other_next bytes true same (lt-ltb (does.plays s.mind) 1048576 more)
 
       pub all_played : 1048576 ≤ does.plays s.mind → log_step does s inputs ≡ refused_log (TooMany s.at)

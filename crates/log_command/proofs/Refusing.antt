@@ -17,11 +17,13 @@ pub record IsOther (status : Status) : Type 0 where
   pub log : (fault : LogFault) → LogRefused fault ≡ status → ⊥
 
 module _ {State : Type 0} (does : LogRules State) (status : Status) (other : IsOther status) where
-  module _ (s : LogState State) (rest : LogState State → (Role → ℕ) → Run) (more : (next : LogState State) (taken : Role → ℕ) → (rest next taken).last.status ≡ status → ⊥) where
+  module _ (s : LogState State) (rest : LogState State → (Role → ℕ) → Run) (more : (next : LogState State) (taken : Role
+      → ℕ) → (rest next taken).last.status ≡ status → ⊥) where
     at_other : (size : ℕ) (bytes : List ℕ) → (follow (other_step does s size bytes) rest).last.status ≡ status → ⊥
     at_other size bytes ends = within (nat_lt (does.plays s.mind) 1048576) refl ends
       where
-        within : (t : Bool) → nat_lt (does.plays s.mind) 1048576 ≡ t → (follow (other_step does s size bytes) rest).last.status ≡ status → ⊥
+        within : (t : Bool) → nat_lt (does.plays s.mind) 1048576 ≡ t
+            → (follow (other_step does s size bytes) rest).last.status ≡ status → ⊥
         within true is ends = more _ _ (rw is at ends)
         within false is ends = other.log _ (rw is at ends)
 
@@ -36,15 +38,20 @@ module _ {State : Type 0} (does : LogRules State) (status : Status) (other : IsO
     at_log [] ends = other.fine ends
     at_log (b ∷ log) ends = within (nat_lt s.entries 16777216) refl ends
       where
-        within : (t : Bool) → nat_lt s.entries 16777216 ≡ t → (follow (step_in does s (b ∷ log)) rest).last.status ≡ status → ⊥
+        within : (t : Bool) → nat_lt s.entries 16777216 ≡ t → (follow (step_in does s (b ∷ log)) rest).last.status
+            ≡ status → ⊥
         within true is ends = at_entry (b ∷ log) (entry_in does.side (b ∷ log)) (rw is at ends)
         within false is ends = other.log _ (rw is at ends)
 
-  run_refuses_none : (n : ℕ) (s : LogState State) (inputs : Role → List ℕ) → (run_of (log_step does) n s inputs).last.status ≡ status → ⊥
+  run_refuses_none : (n : ℕ) (s : LogState State) (inputs : Role → List ℕ)
+      → (run_of (log_step does) n s inputs).last.status ≡ status → ⊥
   unfolding run_of
-  run_refuses_none zero s inputs ends = at_log s (λ next taken. silence) (λ next taken is. other.fine is) (inputs Events) ends
+  run_refuses_none zero s inputs ends = at_log s (λ next taken. silence) (λ next taken is. other.fine is)
+      (inputs Events) ends
   run_refuses_none (suc n) s inputs ends =
-      at_log s (λ next taken. run_of (log_step does) n next (left_after inputs taken)) (λ next taken is. run_refuses_none n next (left_after inputs taken) is) (inputs Events) ends
+      at_log s (λ next taken. run_of (log_step does) n next (left_after inputs taken))
+          (λ next taken is. run_refuses_none n next (left_after inputs taken) is) (inputs Events) ends
 
-  pub none_refused : (first : State) (head : Role → List ℕ) (inputs : Role → List ℕ) → (log_run does first head inputs).last.status ≡ status → ⊥
+  pub none_refused : (first : State) (head : Role → List ℕ) (inputs : Role → List ℕ)
+      → (log_run does first head inputs).last.status ≡ status → ⊥
   none_refused first head inputs ends = run_refuses_none 16777216 _ (left_after inputs (λ _. 0)) ends

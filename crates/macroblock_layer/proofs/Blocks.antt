@@ -21,18 +21,23 @@ abbrev pub left : (List ℤ → List Bool) → List Block → ℕ → List Bool
 left text blocks k = blocks_text text (drop k blocks)
 
 -- it is that of the next block, and of the others
-pub next : (text : List ℤ → List Bool) (blocks : List Block) (k : ℕ) → k < length blocks → left text blocks k ≡ text (levels_at blocks k) ++ left text blocks (k + 1)
+pub next : (text : List ℤ → List Bool) (blocks : List Block) (k : ℕ) → k < length blocks
+    → left text blocks k ≡ text (levels_at blocks k) ++ left text blocks (k + 1)
 unfolding blocks_text
 next text blocks k inside =
-    let split : drop k blocks ≡ slice_index_or blocks k (record { levels = [] }) ∷ drop (k + 1) blocks = rw (add-one) (drop-cons blocks k (record { levels = [] }) inside) in
+    let split : drop k blocks ≡ slice_index_or blocks k (record { levels = [] }) ∷ drop (k + 1) blocks =
+        rw (add-one) (drop-cons blocks k (record { levels = [] }) inside) in
     ap (λ (l : List Block). blocks_text text l) split
 
 -- what is left of the blocks' texts is the next one and the rest
-pub next_length : (text : List ℤ → List Bool) (blocks : List Block) (k : ℕ) → k < length blocks → length (left text blocks k) ≡ length (text (levels_at blocks k)) + length (left text blocks (k + 1))
-next_length text blocks k inside = ap length (next text blocks k inside) ∙ length-append (text (levels_at blocks k)) (left text blocks (k + 1))
+pub next_length : (text : List ℤ → List Bool) (blocks : List Block) (k : ℕ) → k < length blocks
+    → length (left text blocks k) ≡ length (text (levels_at blocks k)) + length (left text blocks (k + 1))
+next_length text blocks k inside = ap length (next text blocks k inside)
+    ∙ length-append (text (levels_at blocks k)) (left text blocks (k + 1))
 
 -- a block more is written, and the rest is left
-pub goes : (text : List ℤ → List Bool) (blocks : List Block) (k : ℕ) (old new all : List Bool) → k < length blocks → new ≡ old ++ text (levels_at blocks k) → old ++ left text blocks k ≡ all → new ++ left text blocks (k + 1) ≡ all
+pub goes : (text : List ℤ → List Bool) (blocks : List Block) (k : ℕ) (old new all : List Bool) → k < length blocks
+    → new ≡ old ++ text (levels_at blocks k) → old ++ left text blocks k ≡ all → new ++ left text blocks (k + 1) ≡ all
 goes text blocks k old new all inside wrote before =
     ap (λ (l : List Bool). l ++ left text blocks (k + 1)) wrote
     ∙ append_assoc old (text (levels_at blocks k)) (left text blocks (k + 1))
@@ -40,10 +45,13 @@ goes text blocks k old new all inside wrote before =
     ∙ before
 
 -- after the last block nothing is left
-pub none_left_text : (text : List ℤ → List Bool) (blocks : List Block) (k : ℕ) → length blocks ≤ k → left text blocks k ≡ []
+pub none_left_text : (text : List ℤ → List Bool) (blocks : List Block) (k : ℕ) → length blocks ≤ k
+    → left text blocks k ≡ []
 unfolding blocks_text
 none_left_text text blocks k past = rw (drop_all k blocks past) refl
 
 -- then all is written
-pub ended : (text : List ℤ → List Bool) (blocks : List Block) (k : ℕ) (new all : List Bool) → length blocks ≤ k → new ++ left text blocks k ≡ all → new ≡ all
-ended text blocks k new all past h = sym (append-nil new) ∙ ap (λ (l : List Bool). new ++ l) (sym (none_left_text text blocks k past)) ∙ h
+pub ended : (text : List ℤ → List Bool) (blocks : List Block) (k : ℕ) (new all : List Bool) → length blocks ≤ k
+    → new ++ left text blocks k ≡ all → new ≡ all
+ended text blocks k new all past h = sym (append-nil new)
+    ∙ ap (λ (l : List Bool). new ++ l) (sym (none_left_text text blocks k past)) ∙ h

@@ -13,7 +13,8 @@ use Rattle.macroblock_layer.specs.Written.{class_of, class_text, step_text, head
 
 pub both_fit : (a b i j : ℕ) → a < 2 ^ i → b < 2 ^ j → a * 2 ^ j + b < 2 ^ (i + j)
 both_fit a b i j first second =
-    let more : (a + 1) * 2 ^ j ≤ 2 ^ i * 2 ^ j = mul-le-mul (let next : a + 1 ≤ 2 ^ i = omega (arith, first) in next) (let same : 2 ^ j ≤ 2 ^ j = omega arith in same) in
+    let more : (a + 1) * 2 ^ j ≤ 2 ^ i * 2 ^ j = mul-le-mul (let next : a + 1 ≤ 2 ^ i = omega (arith, first) in
+        next) (let same : 2 ^ j ≤ 2 ^ j = omega arith in same) in
     omega (arith, more, second, pow-add 2 i j)
 
 -- a number of at most 32 bits
@@ -33,17 +34,23 @@ pub long_is : (n value : ℕ) (text : List Bool) → spelled n value ≡ text �
 long_is n value text is = sym (length-spelled n value) ∙ ap length is
 
 -- two texts are put as one number
-pub put_both : (old new : BitWriter) (n m value : ℕ) (a b : List Bool) → Appends old new (spelled (n + m) value) → spelled (n + m) value ≡ a ++ b → Appends old new (a ++ b)
+pub put_both : (old new : BitWriter) (n m value : ℕ) (a b : List Bool) → Appends old new (spelled (n + m) value)
+    → spelled (n + m) value ≡ a ++ b → Appends old new (a ++ b)
 put_both old new n m value a b put is = subst (λ (t : List Bool). Appends old new t) is put
 
 -- two texts, each known by its number
-pub both_are : (n m first second : ℕ) (a b : List Bool) → spelled n first ≡ a → spelled m second ≡ b → spelled n first ++ spelled m second ≡ a ++ b
-both_are n m first second a b is also = ap (λ (t : List Bool). t ++ spelled m second) is ∙ ap (λ (t : List Bool). a ++ t) also
+pub both_are : (n m first second : ℕ) (a b : List Bool) → spelled n first ≡ a → spelled m second ≡ b
+    → spelled n first ++ spelled m second ≡ a ++ b
+both_are n m first second a b is also = ap (λ (t : List Bool). t ++ spelled m second) is
+    ∙ ap (λ (t : List Bool). a ++ t) also
 
 -- what stands before the vector and the blocks, part by part
-pub head_long : (kind : Kind) (quant new : ℕ) (intra : Bool) (cbpy cbpc : ℕ) → length (head_text kind quant new intra cbpy cbpc)
-    ≡ length (class_text kind (class_of intra (new == quant)) cbpc) + length (cbpy_text intra cbpy) + length (step_text quant new)
+pub head_long : (kind : Kind) (quant new : ℕ) (intra : Bool) (cbpy cbpc : ℕ)
+    → length (head_text kind quant new intra cbpy cbpc)
+    ≡ length (class_text kind (class_of intra (new == quant)) cbpc) + length (cbpy_text intra cbpy) + length
+        (step_text quant new)
 unfolding head_text
 head_long kind quant new intra cbpy cbpc =
-    let all = length-append (class_text kind (class_of intra (new == quant)) cbpc) (cbpy_text intra cbpy ++ step_text quant new) in
+    let all = length-append (class_text kind (class_of intra (new == quant)) cbpc) (cbpy_text intra cbpy
+        ++ step_text quant new) in
     omega (arith, all, length-append (cbpy_text intra cbpy) (step_text quant new))

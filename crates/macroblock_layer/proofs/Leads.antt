@@ -44,7 +44,8 @@ skip_productive = tt
 pub turn_productive : (kind : Kind) → IsProductive (lead_turn kind tt)
 unfolding lead_turn IsProductive
 turn_productive kinds.I = class_productive kinds.I
-turn_productive kinds.P = λ cod. either_productive (cod == 1) (done (skip_turn)) (class_turn kinds.P) (skip_productive) (class_productive kinds.P)
+turn_productive kinds.P = λ cod. either_productive (cod == 1) (done (skip_turn)) (class_turn kinds.P) (skip_productive)
+    (class_productive kinds.P)
 
 pub lead_productive : (kind : Kind) → IsProductive (lead kind)
 unfolding lead IsProductive

@@ -18,7 +18,9 @@ pub wrapped_same : (r a b : ℤ) → r ≡ wrapped a → a ≡ b → r ≡ wrapp
 wrapped_same r a b e same = e ∙ ap (λ (z : ℤ). wrapped z) same
 
 -- a difference of components, as the code has it
-pub sub_same : (x p : ℤ) → SFits w8 x → SFits w8 p → to_z w16 (of_z w16 (to_z w16 (of_z w16 (to_z w8 (of_z w8 x))) -ℤ to_z w16 (of_z w16 (to_z w8 (of_z w8 p))))) ≡ x -ℤ p
+pub sub_same : (x p : ℤ) → SFits w8 x → SFits w8 p
+    → to_z w16 (of_z w16 (to_z w16 (of_z w16 (to_z w8 (of_z w8 x))) -ℤ to_z w16 (of_z w16 (to_z w8 (of_z w8 p)))))
+    ≡ x -ℤ p
 sub_same x p a b =
     let c : SFits w16 x = omega (arith, ints, a) in
     let d : SFits w16 p = omega (arith, ints, b) in

@@ -20,23 +20,29 @@ first_skipped [] some = absurd (omega arith)
 first_skipped (true ∷ bits) some = refl
 first_skipped (false ∷ bits) some = refl
 
-one_bit : (at : ℕ) (rest : List Bool) → reading (lead_turn kinds.P tt) (record { at = at; bits = true ∷ rest }) ≡ Ok (finally Skipped, skip 1 (record { at = at; bits = true ∷ rest }))
+one_bit : (at : ℕ) (rest : List Bool) → reading (lead_turn kinds.P tt) (record { at = at; bits = true ∷ rest })
+    ≡ Ok (finally Skipped, skip 1 (record { at = at; bits = true ∷ rest }))
 unfolding reading lead_turn number_at number
 one_bit at rest = rw (le-ltb (length (true ∷ rest)) 1 (omega arith)) refl
 
-lead_skipped : (at : ℕ) (rest : List Bool) → reading (lead kinds.P) (record { at = at; bits = true ∷ rest }) ≡ Ok (Skipped, skip 1 (record { at = at; bits = true ∷ rest }))
+lead_skipped : (at : ℕ) (rest : List Bool) → reading (lead kinds.P) (record { at = at; bits = true ∷ rest })
+    ≡ Ok (Skipped, skip 1 (record { at = at; bits = true ∷ rest }))
 unfolding lead
 lead_skipped at rest = repeat-finally tt Skipped (lead_turn kinds.P) _ _ (one_bit at rest)
 
 read_skipped : (quant : ℕ) (reach : Reach) (predictor : Vector) (at : ℕ) (rest : List Bool)
-    → reading (mb kinds.P quant reach predictor) (record { at = at; bits = true ∷ rest }) ≡ Ok (Skip, skip 1 (record { at = at; bits = true ∷ rest }))
+    → reading (mb kinds.P quant reach predictor) (record { at = at; bits = true ∷ rest })
+        ≡ Ok (Skip, skip 1 (record { at = at; bits = true ∷ rest }))
 unfolding reading mb after_lead
 read_skipped quant reach predictor at rest = rw (lead_skipped at rest) refl
 
-pub skipped_is_read : (kind : Kind) (quant : ℕ) (reach : Reach) (predictor : Vector) (b : Bits) → is_skipped kind b.bits ≡ true → reading (mb kind quant reach predictor) b ≡ Ok (Skip, skip 1 b)
+pub skipped_is_read : (kind : Kind) (quant : ℕ) (reach : Reach) (predictor : Vector) (b : Bits) → is_skipped kind b.bits
+    ≡ true → reading (mb kind quant reach predictor) b ≡ Ok (Skip, skip 1 b)
 skipped_is_read kind quant reach predictor b e = each kind b.at b.bits e
   where
-    each : (kind : Kind) (at : ℕ) (bits : List Bool) → is_skipped kind bits ≡ true → reading (mb kind quant reach predictor) (record { at = at; bits = bits }) ≡ Ok (Skip, skip 1 (record { at = at; bits = bits }))
+    each : (kind : Kind) (at : ℕ) (bits : List Bool) → is_skipped kind bits ≡ true
+        → reading (mb kind quant reach predictor) (record { at = at; bits = bits })
+        ≡ Ok (Skip, skip 1 (record { at = at; bits = bits }))
     each kinds.I at bits e = absurd cc
     each kinds.P at [] e = absurd cc
     each kinds.P at (true ∷ rest) e = read_skipped quant reach predictor at rest

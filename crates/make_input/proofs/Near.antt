@@ -49,7 +49,8 @@ tally_last f p zero =
 tally_last f p (suc k) =
     let rest = tally_last f (suc p) k in
     let same : suc p + k ≡ p + suc k = omega arith in
-    let moved : tally f (suc p) (suc k) ≡ tally f (suc p) k + bit (f (p + suc k)) = subst (λ (m : ℕ). tally f (suc p) (suc k) ≡ tally f (suc p) k + bit (f m)) same rest in
+    let moved : tally f (suc p) (suc k) ≡ tally f (suc p) k + bit (f (p + suc k)) =
+        subst (λ (m : ℕ). tally f (suc p) (suc k) ≡ tally f (suc p) k + bit (f m)) same rest in
     omega (arith, moved)
 
 and_false : (b : Bool) → (b && false) ≡ false
@@ -88,7 +89,8 @@ past_last (x ∷ xs) y z (suc i) h lt = past_last xs y z i h (omega arith)
 
 -- ---- fullness, from one event to the next
 
-arrived_more : (arrivals : List Arrival) (n j m k : ℕ) → (n ≡ m → ⊥) → has_arrived (with_arrival arrivals n j) m k ≡ has_arrived arrivals m k
+arrived_more : (arrivals : List Arrival) (n j m k : ℕ) → (n ≡ m → ⊥) → has_arrived (with_arrival arrivals n j) m k
+    ≡ has_arrived arrivals m k
 arrived_more arrivals n j m k apart =
     let no : (n == m) ≡ false = ne_eqb n m apart in
     rw no refl
@@ -104,32 +106,40 @@ module _ {Style Mb Picture : Type 0} where
   unfolding is_full
   full_other coded arrivals n j m apart =
       ap (λ (b : Bool). nat_lt m (length coded) && b)
-      (below_same (length (slices_at coded m)) (has_arrived (with_arrival arrivals n j) m) (has_arrived arrivals m) (λ k. arrived_more arrivals n j m k apart))
+      (below_same (length (slices_at coded m)) (has_arrived (with_arrival arrivals n j) m) (has_arrived arrivals m)
+          (λ k. arrived_more arrivals n j m k apart))
 
   -- no delivery to a full picture counts
-  not_again : AllBelowIs → (rules : Rules) (c : Call Style Mb Picture) (n j : ℕ) → full c n ≡ true → delivery_counts rules c n j ≡ false
+  not_again : AllBelowIs → (rules : Rules) (c : Call Style Mb Picture) (n j : ℕ) → full c n ≡ true
+      → delivery_counts rules c n j ≡ false
   unfolding is_full delivery_counts
   not_again below rules c n j h = go (nat_lt j (length (slices_at c.coded n))) refl
     where
       all : (k : ℕ) → k < length (slices_at c.coded n) → has_arrived c.arrivals n k ≡ true
-      all = (below (length (slices_at c.coded n)) (has_arrived c.arrivals n)).0 (both (nat_lt n (length c.coded)) (all_below (length (slices_at c.coded n)) (has_arrived c.arrivals n)) h).1
+      all = (below (length (slices_at c.coded n)) (has_arrived c.arrivals n)).0
+          (both (nat_lt n (length c.coded)) (all_below (length (slices_at c.coded n)) (has_arrived c.arrivals n)) h).1
 
-      go : (t : Bool) → nat_lt j (length (slices_at c.coded n)) ≡ t → (is_open rules c.played n && (nat_lt j (length (slices_at c.coded n)) && not (has_arrived c.arrivals n j))) ≡ false
+      go : (t : Bool) → nat_lt j (length (slices_at c.coded n)) ≡ t
+          → (is_open rules c.played n && (nat_lt j (length (slices_at c.coded n)) && not (has_arrived c.arrivals n j)))
+          ≡ false
       go true e =
           let there : has_arrived c.arrivals n j ≡ true = all j (grind (arith, e)) in
           rw (there, e) (and_false (is_open rules c.played n))
       go false e = rw e (and_false (is_open rules c.played n))
 
   -- what a send leaves of the pictures before
-  slices_front : (coded : List (Coded Style Mb Picture)) (x : Coded Style Mb Picture) (m : ℕ) → m < length coded → slices_at (coded ++ x ∷ []) m ≡ slices_at coded m
+  slices_front : (coded : List (Coded Style Mb Picture)) (x : Coded Style Mb Picture) (m : ℕ) → m < length coded
+      → slices_at (coded ++ x ∷ []) m ≡ slices_at coded m
   unfolding slices_at
   slices_front coded x m lt = rw (at_front coded x m lt) refl
 
-  slices_last : (coded : List (Coded Style Mb Picture)) (x : Coded Style Mb Picture) → slices_at (coded ++ x ∷ []) (length coded) ≡ x.slices
+  slices_last : (coded : List (Coded Style Mb Picture)) (x : Coded Style Mb Picture)
+      → slices_at (coded ++ x ∷ []) (length coded) ≡ x.slices
   unfolding slices_at
   slices_last coded x = rw (at_last coded x) refl
 
-  full_front : (coded : List (Coded Style Mb Picture)) (x : Coded Style Mb Picture) (arrivals : List Arrival) (m : ℕ) → m < length coded
+  full_front : (coded : List (Coded Style Mb Picture)) (x : Coded Style Mb Picture) (arrivals : List Arrival) (m : ℕ)
+      → m < length coded
       → is_full (coded ++ x ∷ []) arrivals m ≡ is_full coded arrivals m
   unfolding is_full
   full_front coded x arrivals m lt =
@@ -139,16 +149,22 @@ module _ {Style Mb Picture : Type 0} where
       rw (still, yes, slices_front coded x m lt) refl
 
   -- a picture with a slice is not full as it is sent
-  full_last : AllBelowIs → (coded : List (Coded Style Mb Picture)) (x : Coded Style Mb Picture) (arrivals : List Arrival) → 0 < length x.slices → has_arrived arrivals (length coded) 0 ≡ false
+  full_last : AllBelowIs → (coded : List (Coded Style Mb Picture)) (x : Coded Style Mb Picture)
+      (arrivals : List Arrival) → 0 < length x.slices → has_arrived arrivals (length coded) 0 ≡ false
       → is_full (coded ++ x ∷ []) arrivals (length coded) ≡ false
   unfolding is_full
   full_last below coded x arrivals some none = go (is_full (coded ++ x ∷ []) arrivals (length coded)) refl
     where
-      go : (t : Bool) → is_full (coded ++ x ∷ []) arrivals (length coded) ≡ t → is_full (coded ++ x ∷ []) arrivals (length coded) ≡ false
+      go : (t : Bool) → is_full (coded ++ x ∷ []) arrivals (length coded) ≡ t
+          → is_full (coded ++ x ∷ []) arrivals (length coded) ≡ false
       go false e = e
       go true e =
-          let parts = both (nat_lt (length coded) (length (coded ++ x ∷ []))) (all_below (length (slices_at (coded ++ x ∷ []) (length coded))) (has_arrived arrivals (length coded))) e in
-          let first : has_arrived arrivals (length coded) 0 ≡ true = (below (length (slices_at (coded ++ x ∷ []) (length coded))) (has_arrived arrivals (length coded))).0 parts.1 0 (rw (slices_last coded x) some) in
+          let parts = both (nat_lt (length coded) (length (coded ++ x ∷ [])))
+              (all_below (length (slices_at (coded ++ x ∷ []) (length coded))) (has_arrived arrivals (length coded))) e
+              in
+          let first : has_arrived arrivals (length coded) 0
+              ≡ true = (below (length (slices_at (coded ++ x ∷ []) (length coded)))
+              (has_arrived arrivals (length coded))).0 parts.1 0 (rw (slices_last coded x) some) in
           let bad : false ≡ true = sym none ∙ first in
           cc
 
@@ -176,7 +192,8 @@ deliveries_deliver n u = deliveries_by n (u == 0) (u == 1) (u == 2) (u == 3)
 abbrev AboutNear : List NumberedMessage → Type 0
 AboutNear said = (i : ℕ) (note : NumberedMessage) → slice_get said i ≡ Some note → i ≤ about note + 1
 
-near_more : (said : List NumberedMessage) (note : NumberedMessage) → AboutNear said → length said ≤ about note + 1 → AboutNear (said ++ note ∷ [])
+near_more : (said : List NumberedMessage) (note : NumberedMessage) → AboutNear said → length said ≤ about note + 1
+    → AboutNear (said ++ note ∷ [])
 near_more said note near small i other at = go (cases_lt i (length said))
   where
     go : (i < length said) ⊎ (length said ≤ i) → i ≤ about other + 1
@@ -199,17 +216,23 @@ module _ {Style Mb Picture : Type 0} where
     pub near : AboutNear c.said
     pub fresh : (m j : ℕ) → p + k ≤ m → has_arrived c.arrivals m j ≡ false
 
-module _ {Style Mb Picture : Type 0} (pictures : Pictures Style Mb Picture) (rules : Rules) (source : Source Style Mb Picture) where
-  sent : AllBelowIs → (c : Call Style Mb Picture) (p k : ℕ) (x : Coded Style Mb Picture) → Standing c p k → source c ≡ Some x → 0 < length x.slices → Standing (after pictures rules source c Send) p (suc k)
+module _ {Style Mb Picture : Type 0} (pictures : Pictures Style Mb Picture) (rules : Rules)
+    (source : Source Style Mb Picture) where
+  sent : AllBelowIs → (c : Call Style Mb Picture) (p k : ℕ) (x : Coded Style Mb Picture) → Standing c p k
+      → source c ≡ Some x → 0 < length x.slices → Standing (after pictures rules source c Send) p (suc k)
   sent below c p k x s is some =
       let next : Call Style Mb Picture = record c { coded = c.coded ++ x ∷ [] } in
-      let same : after pictures rules source c Send ≡ next = ap (λ (o : Option (Coded Style Mb Picture)). let d : Call Style Mb Picture = record c { coded = c.coded ++ option_map_or (λ y. y ∷ []) o [] } in d) is in
+      let same : after pictures rules source c Send
+          ≡ next = ap (λ (o : Option (Coded Style Mb Picture)). let d : Call Style Mb Picture =
+          record c { coded = c.coded ++ option_map_or (λ y. y ∷ []) o [] } in d) is in
       let one : length (c.coded ++ x ∷ []) ≡ length c.coded + 1 = simp length-append in
       let here : length c.coded ≡ p + k = s.coded in
       let last : full next (p + k) ≡ false = subst (λ (m : ℕ). is_full (c.coded ++ x ∷ []) c.arrivals m ≡ false) here
       (full_last below c.coded x c.arrivals some (s.fresh (length c.coded) 0 (omega arith))) in
-      let before : tally (full next) p k ≡ tally (full c) p k = tally_same (full next) (full c) p k (λ m le lt. full_front c.coded x c.arrivals m (omega arith)) in
-      let count : tally (full next) p (suc k) ≡ tally (full c) p k = tally_last (full next) p k ∙ rw (last, before) (omega arith) in
+      let before : tally (full next) p k ≡ tally (full c) p k = tally_same (full next) (full c) p k
+          (λ m le lt. full_front c.coded x c.arrivals m (omega arith)) in
+      let count : tally (full next) p (suc k) ≡ tally (full c) p k = tally_last (full next) p k
+          ∙ rw (last, before) (omega arith) in
       subst (λ (d : Call Style Mb Picture). Standing d p (suc k)) (sym same) (record {
         coded = omega arith;
         played = s.played;
@@ -218,8 +241,10 @@ module _ {Style Mb Picture : Type 0} (pictures : Pictures Style Mb Picture) (rul
         fresh = λ m j le. s.fresh m j (omega arith);
       })
 
-  delivered : AllBelowIs → (c : Call Style Mb Picture) (p k n j : ℕ) → n ≡ p + k → k ≤ 1 → Standing c p (suc k) → Standing (after pictures rules source c (Deliver n j)) p (suc k)
-  delivered below c p k n j at small s = go (delivery_counts rules c n j) refl (is_full c.coded (with_arrival c.arrivals n j) n) refl
+  delivered : AllBelowIs → (c : Call Style Mb Picture) (p k n j : ℕ) → n ≡ p + k → k ≤ 1 → Standing c p (suc k)
+      → Standing (after pictures rules source c (Deliver n j)) p (suc k)
+  delivered below c p k n j at small s = go (delivery_counts rules c n j) refl
+      (is_full c.coded (with_arrival c.arrivals n j) n) refl
     where
       call_by : Bool → Bool → Call Style Mb Picture
       call_by t b = record c {
@@ -227,7 +252,8 @@ module _ {Style Mb Picture : Type 0} (pictures : Pictures Style Mb Picture) (rul
         said = c.said ++ (if t && b then Got n (full_flags rules c.coded (with_arrival c.arrivals n j) n) ∷ [] else []);
       }
 
-      same : (t b : Bool) → delivery_counts rules c n j ≡ t → is_full c.coded (with_arrival c.arrivals n j) n ≡ b → after pictures rules source c (Deliver n j) ≡ call_by t b
+      same : (t b : Bool) → delivery_counts rules c n j ≡ t → is_full c.coded (with_arrival c.arrivals n j) n ≡ b
+          → after pictures rules source c (Deliver n j) ≡ call_by t b
       same t b d f = ap (λ (x : Bool). call_by x (is_full c.coded (with_arrival c.arrivals n j) n)) d ∙ ap (call_by t) f
 
       not_full : delivery_counts rules c n j ≡ true → full c n ≡ false
@@ -252,24 +278,31 @@ module _ {Style Mb Picture : Type 0} (pictures : Pictures Style Mb Picture) (rul
       before : tally (is_full c.coded more) p k ≡ tally (full c) p k
       before = tally_same (is_full c.coded more) (full c) p k (λ m le lt. others m (λ e. omega arith))
 
-      go : (t : Bool) → delivery_counts rules c n j ≡ t → (b : Bool) → is_full c.coded (with_arrival c.arrivals n j) n ≡ b → Standing (after pictures rules source c (Deliver n j)) p (suc k)
+      go : (t : Bool) → delivery_counts rules c n j ≡ t → (b : Bool) → is_full c.coded (with_arrival c.arrivals n j) n
+          ≡ b → Standing (after pictures rules source c (Deliver n j)) p (suc k)
       go false d b f =
           subst (λ (x : Call Style Mb Picture). Standing x p (suc k))
-          (sym (same false b d f ∙ ap (λ (l : List NumberedMessage). let x : Call Style Mb Picture = record c { said = l } in x) (append-nil c.said))) s
+          (sym (same false b d f ∙ ap (λ (l : List NumberedMessage). let x : Call Style Mb Picture =
+              record c { said = l } in x) (append-nil c.said))) s
       go true d false f =
           let next : Call Style Mb Picture = record c { arrivals = more } in
           let here : is_full c.coded more (p + k) ≡ false = subst (λ (m : ℕ). is_full c.coded more m ≡ false) at f in
           let was : full c (p + k) ≡ false = subst (λ (m : ℕ). full c m ≡ false) at (not_full d) in
-          let count : tally (is_full c.coded more) p (suc k) ≡ tally (full c) p (suc k) = tally_last (is_full c.coded more) p k ∙ rw (here, before) (sym (tally_last (full c) p k ∙ rw was refl)) in
+          let count : tally (is_full c.coded more) p (suc k) ≡ tally (full c) p (suc k) =
+              tally_last (is_full c.coded more) p k ∙ rw (here, before) (sym (tally_last (full c) p k ∙ rw was refl)) in
           subst (λ (x : Call Style Mb Picture). Standing x p (suc k))
-          (sym (same true false d f ∙ ap (λ (l : List NumberedMessage). let x : Call Style Mb Picture = record next { said = l } in x) (append-nil c.said)))
+          (sym (same true false d f
+              ∙ ap (λ (l : List NumberedMessage). let x : Call Style Mb Picture = record next { said = l } in
+              x) (append-nil c.said)))
           (record { coded = s.coded; played = s.played; said = rw count s.said; near = s.near; fresh = fresh })
       go true d true f =
           let note = Got n (full_flags rules c.coded more n) in
           let here : is_full c.coded more (p + k) ≡ true = subst (λ (m : ℕ). is_full c.coded more m ≡ true) at f in
           let was : full c (p + k) ≡ false = subst (λ (m : ℕ). full c m ≡ false) at (not_full d) in
-          let count : tally (is_full c.coded more) p (suc k) ≡ tally (full c) p k + 1 = tally_last (is_full c.coded more) p k ∙ rw (here, before) refl in
-          let count_before : tally (full c) p (suc k) ≡ tally (full c) p k + 0 = tally_last (full c) p k ∙ rw was refl in
+          let count : tally (is_full c.coded more) p (suc k) ≡ tally (full c) p k + 1 =
+              tally_last (is_full c.coded more) p k ∙ rw (here, before) refl in
+          let count_before : tally (full c) p (suc k) ≡ tally (full c) p k + 0 = tally_last (full c) p k
+              ∙ rw was refl in
           let said : length c.said ≡ p + tally (full c) p (suc k) = s.said in
           let one : length (c.said ++ note ∷ []) ≡ length c.said + 1 = simp length-append in
           subst (λ (x : Call Style Mb Picture). Standing x p (suc k)) (sym (same true true d f)) (record {
@@ -280,11 +313,13 @@ module _ {Style Mb Picture : Type 0} (pictures : Pictures Style Mb Picture) (rul
             fresh = fresh;
           })
 
-  played_on : (c : Call Style Mb Picture) (p k : ℕ) → k ≤ 1 → Standing c p (suc k) → Standing (after pictures rules source c Play) (suc p) k
+  played_on : (c : Call Style Mb Picture) (p k : ℕ) → k ≤ 1 → Standing c p (suc k)
+      → Standing (after pictures rules source c Play) (suc p) k
   played_on c p k small s = go (full c p) refl
     where
       note : NumberedMessage
-      note = Lost c.played (newest_full rules c.coded c.arrivals c.played) (full_flags rules c.coded c.arrivals c.played)
+      note = Lost c.played (newest_full rules c.coded c.arrivals c.played)
+          (full_flags rules c.coded c.arrivals c.played)
 
       call_by : Bool → Call Style Mb Picture
       call_by t = record c {
@@ -324,7 +359,8 @@ module _ {Style Mb Picture : Type 0} (pictures : Pictures Style Mb Picture) (rul
             fresh = λ m j le. s.fresh m j (omega arith);
           })
 
-  brought_back : (c : Call Style Mb Picture) (p k j : ℕ) → Standing c p k → Standing (after pictures rules source c (Back j)) p k
+  brought_back : (c : Call Style Mb Picture) (p k j : ℕ) → Standing c p k
+      → Standing (after pictures rules source c (Back j)) p k
   brought_back c p k j s = record { coded = s.coded; played = s.played; said = s.said; near = s.near; fresh = s.fresh }
 
   -- ---- the events of a trace, each near
@@ -336,7 +372,9 @@ module _ {Style Mb Picture : Type 0} (pictures : Pictures Style Mb Picture) (rul
     near : AllMayHappenFrom pictures rules source frames past
     stands : Standing (call_at past) p k
 
-  send_good : AllBelowIs → (frames : ℕ) → SendsSlices pictures rules source frames → 4 ≤ rules.half → (past : List Event) (p k : ℕ) → k ≤ 1 → p + k < frames → Good frames past p k → Good frames (Send ∷ past) p (suc k)
+  send_good : AllBelowIs → (frames : ℕ) → SendsSlices pictures rules source frames → 4 ≤ rules.half
+      → (past : List Event) (p k : ℕ) → k ≤ 1 → p + k < frames → Good frames past p k
+      → Good frames (Send ∷ past) p (suc k)
   send_good below frames sends half past p k small left g =
       let coded : length (call_at past).coded ≡ p + k = g.stands.coded in
       let played : (call_at past).played ≡ p = g.stands.played in
@@ -346,7 +384,8 @@ module _ {Style Mb Picture : Type 0} (pictures : Pictures Style Mb Picture) (rul
         stands = sent below (call_at past) p k x.0 g.stands x.1 x.2;
       }
 
-  deliver_good : AllBelowIs → (frames : ℕ) → 4 ≤ rules.half → (past : List Event) (p k n j : ℕ) → n ≡ p + k → k ≤ 1 → Good frames past p (suc k) → Good frames (Deliver n j ∷ past) p (suc k)
+  deliver_good : AllBelowIs → (frames : ℕ) → 4 ≤ rules.half → (past : List Event) (p k n j : ℕ) → n ≡ p + k → k ≤ 1
+      → Good frames past p (suc k) → Good frames (Deliver n j ∷ past) p (suc k)
   deliver_good below frames half past p k n j at small g =
       let coded : length (call_at past).coded ≡ p + suc k = g.stands.coded in
       let played : (call_at past).played ≡ p = g.stands.played in
@@ -355,11 +394,14 @@ module _ {Style Mb Picture : Type 0} (pictures : Pictures Style Mb Picture) (rul
         stands = delivered below (call_at past) p k n j at small g.stands;
       }
 
-  deliver_all : AllBelowIs → (frames : ℕ) → 4 ≤ rules.half → (js : List ℕ) (past : List Event) (p k n : ℕ) → n ≡ p + k → k ≤ 1 → Good frames past p (suc k) → Good frames (onto (map (Deliver n) js) past) p (suc k)
+  deliver_all : AllBelowIs → (frames : ℕ) → 4 ≤ rules.half → (js : List ℕ) (past : List Event) (p k n : ℕ) → n ≡ p + k
+      → k ≤ 1 → Good frames past p (suc k) → Good frames (onto (map (Deliver n) js) past) p (suc k)
   deliver_all below frames half [] past p k n at small g = g
-  deliver_all below frames half (j ∷ js) past p k n at small g = deliver_all below frames half js (Deliver n j ∷ past) p k n at small (deliver_good below frames half past p k n j at small g)
+  deliver_all below frames half (j ∷ js) past p k n at small g = deliver_all below frames half js
+      (Deliver n j ∷ past) p k n at small (deliver_good below frames half past p k n j at small g)
 
-  play_good : (frames : ℕ) (past : List Event) (p k : ℕ) → k ≤ 1 → Good frames past p (suc k) → Good frames (Play ∷ past) (suc p) k
+  play_good : (frames : ℕ) (past : List Event) (p k : ℕ) → k ≤ 1 → Good frames past p (suc k)
+      → Good frames (Play ∷ past) (suc p) k
   play_good frames past p k small g =
       let coded : length (call_at past).coded ≡ p + suc k = g.stands.coded in
       let played : (call_at past).played ≡ p = g.stands.played in
@@ -368,7 +410,8 @@ module _ {Style Mb Picture : Type 0} (pictures : Pictures Style Mb Picture) (rul
         stands = played_on (call_at past) p k small g.stands;
       }
 
-  back_good : (frames : ℕ) → 4 ≤ rules.half → (past : List Event) (p : ℕ) → Good frames past (suc p) 1 → Good frames (Back p ∷ past) (suc p) 1
+  back_good : (frames : ℕ) → 4 ≤ rules.half → (past : List Event) (p : ℕ) → Good frames past (suc p) 1
+      → Good frames (Back p ∷ past) (suc p) 1
   back_good frames half past p g =
       let coded : length (call_at past).coded ≡ suc p + 1 = g.stands.coded in
       let said : length (call_at past).said ≡ suc p + tally (full (call_at past)) (suc p) 1 = g.stands.said in
@@ -390,7 +433,8 @@ module _ {Style Mb Picture : Type 0} (pictures : Pictures Style Mb Picture) (rul
   abbrev Ends : ℕ → List Event → List Line → Type 0
   Ends frames past lines = AllMayHappenFrom pictures rules source frames (expanded pictures rules source past lines)
 
-  line_ends : (frames : ℕ) (past : List Event) (l : Line) (rest : List Line) → Ends frames (onto (line_events (call_at past) l) past) rest → Ends frames past (l ∷ rest)
+  line_ends : (frames : ℕ) (past : List Event) (l : Line) (rest : List Line)
+      → Ends frames (onto (line_events (call_at past) l) past) rest → Ends frames past (l ∷ rest)
   unfolding expanded
   line_ends frames past l rest h = h
 
@@ -398,70 +442,88 @@ module _ {Style Mb Picture : Type 0} (pictures : Pictures Style Mb Picture) (rul
   unfolding expanded
   no_lines frames past h = h
 
-  deliver_lines : AllBelowIs → (frames : ℕ) → 4 ≤ rules.half → (p k n : ℕ) → n ≡ p + k → k ≤ 1 → (lines rest : List Line) → Delivers n lines
-      → ((past : List Event) → Good frames past p (suc k) → Ends frames past rest) → (past : List Event) → Good frames past p (suc k) → Ends frames past (lines ++ rest)
+  deliver_lines : AllBelowIs → (frames : ℕ) → 4 ≤ rules.half → (p k n : ℕ) → n ≡ p + k → k ≤ 1
+      → (lines rest : List Line) → Delivers n lines
+      → ((past : List Event) → Good frames past p (suc k) → Ends frames past rest) → (past : List Event)
+          → Good frames past p (suc k) → Ends frames past (lines ++ rest)
   deliver_lines below frames half p k n at small [] rest none onward past g = onward past g
   deliver_lines below frames half p k n at small _ rest (one i lines more) onward past g =
       line_ends frames past (line.Packet n i) (lines ++ rest)
-      (deliver_lines below frames half p k n at small lines rest more onward (Deliver n i ∷ past) (deliver_good below frames half past p k n i at small g))
+      (deliver_lines below frames half p k n at small lines rest more onward (Deliver n i ∷ past)
+          (deliver_good below frames half past p k n i at small g))
   deliver_lines below frames half p k n at small _ rest (all lines more) onward past g =
       line_ends frames past (line.All n) (lines ++ rest)
-      (deliver_lines below frames half p k n at small lines rest more onward (onto (line_events (call_at past) (line.All n)) past)
-      (deliver_all below frames half (range_with_len 0 (length (slices_at (call_at past).coded n))) past p k n at small g))
+      (deliver_lines below frames half p k n at small lines rest more onward
+          (onto (line_events (call_at past) (line.All n)) past)
+      (deliver_all below frames half (range_with_len 0 (length (slices_at (call_at past).coded n))) past p k n at small
+          g))
 
   -- the play of a picture, and perhaps its message
-  play_lines : (frames : ℕ) → 4 ≤ rules.half → (p v : ℕ) (rest : List Line) → ((past : List Event) → Good frames past (suc p) 1 → Ends frames past rest)
+  play_lines : (frames : ℕ) → 4 ≤ rules.half → (p v : ℕ) (rest : List Line)
+      → ((past : List Event) → Good frames past (suc p) 1 → Ends frames past rest)
       → (past : List Event) → Good frames past p 2 → Ends frames past ((line.Play ∷ messages (suc p) v) ++ rest)
-  play_lines frames half p v rest onward past g = line_ends frames past line.Play (messages (suc p) v ++ rest) (go (v == 0) (play_good frames past p 1 (omega arith) g))
+  play_lines frames half p v rest onward past g = line_ends frames past line.Play (messages (suc p) v
+      ++ rest) (go (v == 0) (play_good frames past p 1 (omega arith) g))
     where
       less : (suc p - 1) ≡ p
       less = omega arith
 
-      go : (t : Bool) → Good frames (Play ∷ past) (suc p) 1 → Ends frames (Play ∷ past) ((if t then [] else line.Back (suc p - 1) ∷ []) ++ rest)
+      go : (t : Bool) → Good frames (Play ∷ past) (suc p) 1
+          → Ends frames (Play ∷ past) ((if t then [] else line.Back (suc p - 1) ∷ []) ++ rest)
       go true played = onward (Play ∷ past) played
       go false played =
-          rw less (line_ends frames (Play ∷ past) (line.Back p) rest (onward (Back p ∷ Play ∷ past) (back_good frames half (Play ∷ past) p played)))
+          rw less (line_ends frames (Play ∷ past) (line.Back p) rest
+              (onward (Back p ∷ Play ∷ past) (back_good frames half (Play ∷ past) p played)))
 
   -- the lines of frame n, and what is after them
-  frame_ends : AllBelowIs → (frames : ℕ) → SendsSlices pictures rules source frames → 4 ≤ rules.half → (n state : ℕ) (rest : List Line) → n < frames
+  frame_ends : AllBelowIs → (frames : ℕ) → SendsSlices pictures rules source frames → 4 ≤ rules.half
+      → (n state : ℕ) (rest : List Line) → n < frames
       → ((past : List Event) → Before frames past (suc n) → Ends frames past rest)
       → (past : List Event) → Before frames past n → Ends frames past (frame_lines n state ++ rest)
   frame_ends below frames sends half zero state rest left onward past g =
       line_ends frames past line.Send ((deliveries 0 (draw (next_state state) 16) ++ []) ++ rest)
       (rw append-nil
-      (deliver_lines below frames half 0 0 0 (omega arith) (omega arith) (deliveries 0 (draw (next_state state) 16)) rest (deliveries_deliver 0 (draw (next_state state) 16))
+      (deliver_lines below frames half 0 0 0 (omega arith) (omega arith) (deliveries 0 (draw (next_state state) 16))
+          rest (deliveries_deliver 0 (draw (next_state state) 16))
       onward (Send ∷ past) (send_good below frames sends half past 0 0 (omega arith) (omega arith) g)))
   frame_ends below frames sends half (suc m) state rest left onward past g =
       let u = draw (next_state state) 16 in
       let v = draw (next_state (next_state state)) 8 in
       line_ends frames past line.Send ((deliveries (suc m) u ++ plays (suc m) (next_state state)) ++ rest)
       (rw (append_assoc (deliveries (suc m) u) (plays (suc m) (next_state state)) rest)
-      (deliver_lines below frames half m 1 (suc m) (omega arith) (omega arith) (deliveries (suc m) u) (plays (suc m) (next_state state) ++ rest) (deliveries_deliver (suc m) u)
+      (deliver_lines below frames half m 1 (suc m) (omega arith) (omega arith) (deliveries (suc m) u)
+          (plays (suc m) (next_state state) ++ rest) (deliveries_deliver (suc m) u)
       (play_lines frames half m v rest onward)
       (Send ∷ past) (send_good below frames sends half past m 1 (omega arith) (omega arith) g)))
 
   -- this many frames from frame n on, and the last line
-  frames_end : AllBelowIs → (frames : ℕ) → SendsSlices pictures rules source frames → 4 ≤ rules.half → (some n state : ℕ) → n + some ≡ frames → (past : List Event) → Before frames past n
+  frames_end : AllBelowIs → (frames : ℕ) → SendsSlices pictures rules source frames → 4 ≤ rules.half
+      → (some n state : ℕ) → n + some ≡ frames → (past : List Event) → Before frames past n
       → Ends frames past (frames_from some n state ++ last_line frames)
   unfolding frames_from
   frames_end below frames sends half zero n state sum past g = last_ends n (omega arith) past g
     where
-      last_ends : (n : ℕ) → n ≡ frames → (past : List Event) → Before frames past n → Ends frames past (last_line frames)
+      last_ends : (n : ℕ) → n ≡ frames → (past : List Event) → Before frames past n
+          → Ends frames past (last_line frames)
       last_ends zero e past g =
           let no_frame : nat_lt 0 frames ≡ false = rw (← e) refl in
           rw no_frame (no_lines frames past g.near)
       last_ends (suc m) e past g =
           let some_frame : nat_lt 0 frames ≡ true = grind (arith, e) in
-          rw some_frame (line_ends frames past line.Play [] (no_lines frames (Play ∷ past) (play_good frames past m 0 (omega arith) g).near))
+          rw some_frame (line_ends frames past line.Play []
+              (no_lines frames (Play ∷ past) (play_good frames past m 0 (omega arith) g).near))
   frames_end below frames sends half (suc some) n state sum past g =
       let next : n + 1 ≡ suc n = omega arith in
       let rest = frames_from some (suc n) (after_plays n (next_state state)) ++ last_line frames in
-      rw (next, append_assoc (frame_lines n state) (frames_from some (suc n) (after_plays n (next_state state))) (last_line frames))
+      rw (next, append_assoc (frame_lines n state) (frames_from some (suc n) (after_plays n (next_state state)))
+          (last_line frames))
       (frame_ends below frames sends half n state rest (omega arith)
-      (λ later behind. frames_end below frames sends half some (suc n) (after_plays n (next_state state)) (omega arith) later behind) past g)
+      (λ later behind. frames_end below frames sends half some (suc n) (after_plays n (next_state state))
+          (omega arith) later behind) past g)
 
   -- every event of a made trace is near
-  pub made_near : AllBelowIs → (seed frames : ℕ) → 4 ≤ rules.half → SendsSlices pictures rules source frames → AllMayHappenFrom pictures rules source frames (expanded pictures rules source [] (made_trace seed frames))
+  pub made_near : AllBelowIs → (seed frames : ℕ) → 4 ≤ rules.half → SendsSlices pictures rules source frames
+      → AllMayHappenFrom pictures rules source frames (expanded pictures rules source [] (made_trace seed frames))
   made_near below seed frames half sends =
       frames_end below frames sends half frames 0 seed (omega arith) [] (record {
         near = tt;
@@ -469,20 +531,29 @@ module _ {Style Mb Picture : Type 0} (pictures : Pictures Style Mb Picture) (rul
       })
 
 -- an encoder's pictures have slices
-pub encoder_sends : {Frame Style Mb Picture Fault MessageFault : Type 0} (coding : Coding Frame Style Mb Picture Fault MessageFault) (rules : Rules) (pace : List ℕ → ℕ) (frames : List Frame)
-    → EncoderIsSound coding rules → IsRules rules → IsPace pace → SendsSlices (pictures_of coding) rules (encoded coding rules pace frames) (length frames)
+pub encoder_sends : {Frame Style Mb Picture Fault MessageFault : Type 0}
+    (coding : Coding Frame Style Mb Picture Fault MessageFault) (rules : Rules) (pace : List ℕ
+    → ℕ) (frames : List Frame)
+    → EncoderIsSound coding rules → IsRules rules → IsPace pace
+        → SendsSlices (pictures_of coding) rules (encoded coding rules pace frames) (length frames)
 encoder_sends {Frame} {Style} {Mb} {Picture} coding rules pace frames sound lawful paced = λ past lt.
     let c = call_from (pictures_of coding) rules (encoded coding rules pace frames) past in
     let frame = some_at frames (length c.coded) lt in
-    let next : Coded Style Mb Picture = next_coded (pictures_of coding) coding.encoding rules pace frame.0 c.coded c.known in
+    let next : Coded Style Mb Picture = next_coded (pictures_of coding) coding.encoding rules pace frame.0 c.coded
+        c.known in
     let is : encoded coding rules pace frames c ≡ Some next =
-    ap (option_map (λ (f : Frame). next_coded (pictures_of coding) coding.encoding rules pace f c.coded c.known)) frame.1 in
+    ap (option_map (λ (f : Frame). next_coded (pictures_of coding) coding.encoding rules pace f c.coded c.known))
+        frame.1 in
     let covers = ((sound pace frames (Send ∷ past) paced).0 next is).covers in
     let first : covers.place_of 0 < length next.slices = covers.below 0 lawful.some_mbs in
     (next, is, omega arith)
 
-pub made_taken : {Frame Style Mb Picture Fault MessageFault : Type 0} (coding : Coding Frame Style Mb Picture Fault MessageFault) (rules : Rules) (pace : List ℕ → ℕ) (frames : List Frame) (seed : ℕ)
+pub made_taken : {Frame Style Mb Picture Fault MessageFault : Type 0}
+    (coding : Coding Frame Style Mb Picture Fault MessageFault) (rules : Rules) (pace : List ℕ
+    → ℕ) (frames : List Frame) (seed : ℕ)
     → AllBelowIs → EncoderIsSound coding rules → IsRules rules → IsPace pace → 4 ≤ rules.half
-    → AllMayHappen coding rules pace frames (expanded (pictures_of coding) rules (encoded coding rules pace frames) [] (made_trace seed (length frames)))
+    → AllMayHappen coding rules pace frames (expanded (pictures_of coding) rules (encoded coding rules pace frames) []
+        (made_trace seed (length frames)))
 made_taken coding rules pace frames seed below sound lawful paced half =
-    made_near (pictures_of coding) rules (encoded coding rules pace frames) below seed (length frames) half (encoder_sends coding rules pace frames sound lawful paced)
+    made_near (pictures_of coding) rules (encoded coding rules pace frames) below seed (length frames) half
+        (encoder_sends coding rules pace frames sound lawful paced)

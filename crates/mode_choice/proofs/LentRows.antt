@@ -8,13 +8,16 @@ lent_at rows at i h = get_or-take (at + 8 - at) (drop at rows) i 0 (omega arith)
 
 -- by the number of the row and by the place in the block
 row_place : (first width j at k : ℕ) → at ≡ first + width * j → k / 8 ≡ j → at + k % 8 ≡ first + width * (k / 8) + k % 8
-row_place first width j at k e h = let same : width * (k / 8) ≡ width * j = ap (λ (n : ℕ). width * n) h in omega (arith, e, same)
+row_place first width j at k e h = let same : width * (k / 8) ≡ width * j = ap (λ (n : ℕ). width * n) h in
+    omega (arith, e, same)
 
 pub lent_in_block : (rows : List ℕ) (first width j at k : ℕ) → at ≡ first + width * j → k / 8 ≡ j →
     get_or (slice_range rows at (at + 8)) (k % 8) 0 ≡ get_or rows (first + width * (k / 8) + k % 8) 0
-lent_in_block rows first width j at k e h = lent_at rows at (k % 8) (omega arith) ∙ ap (λ (n : ℕ). get_or rows n 0) (row_place first width j at k e h)
+lent_in_block rows first width j at k e h = lent_at rows at (k % 8) (omega arith)
+    ∙ ap (λ (n : ℕ). get_or rows n 0) (row_place first width j at k e h)
 
 -- one more row stands
-pub one_more_row : (k j : ℕ) (now row before value : ℤ) → now ≡ cond (nat_eq (k / 8) j) row before → (k / 8 ≡ j → row ≡ value) →
+pub one_more_row : (k j : ℕ) (now row before value : ℤ) → now ≡ cond (nat_eq (k / 8) j) row before
+    → (k / 8 ≡ j → row ≡ value) →
     (k / 8 < j → before ≡ value) → k / 8 < j + 1 → now ≡ value
 one_more_row k j now row before value put here above h = grind (arith, nat_tests)

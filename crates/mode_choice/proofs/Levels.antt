@@ -51,7 +51,8 @@ block_in_range quant keep samples =
     record {
       dc = subst IsDc (sym (get_or-map-range_with_len f 0 64 0 0 (pos 0) (lit< tt) refl)) (dc_in_range _);
       levels = λ k some below.
-          subst IsLevel (sym (get_or-map-range_with_len f 0 64 k k (pos 0) below (omega arith))) (level_in_range quant keep k (coefficient_at samples k) some);
+          subst IsLevel (sym (get_or-map-range_with_len f 0 64 k k (pos 0) below (omega arith)))
+              (level_in_range quant keep k (coefficient_at samples k) some);
     }
 
 each_block : (P : Block → Type 0) (f : ℕ → Block) → ((b : ℕ) → P (f b)) → All P (map f (range_with_len 0 6))
@@ -60,10 +61,12 @@ each_block P f h =
     All-from_get_or P (map f (range_with_len 0 6)) (f 0) (λ b below.
     subst P (sym (get_or-map-range_with_len f 0 6 b b (f 0) (omega arith) (omega arith))) (h b))
 
-pub blocks_in_range : (frame : Picture) (quant keep mb : ℕ) → IsQuant quant → IsIntraMb quant (blocks_of frame quant keep mb)
+pub blocks_in_range : (frame : Picture) (quant keep mb : ℕ) → IsQuant quant
+    → IsIntraMb quant (blocks_of frame quant keep mb)
 unfolding blocks_of
 blocks_in_range frame quant keep mb h =
-    record { quant_in_range = h; each = each_block IsIntraBlock (λ b. levels_of quant keep (samples_of frame mb b)) (λ b. block_in_range quant keep (samples_of frame mb b)) }
+    record { quant_in_range = h; each = each_block IsIntraBlock (λ b. levels_of quant keep (samples_of frame mb b))
+        (λ b. block_in_range quant keep (samples_of frame mb b)) }
 
 -- ---- residuals
 
@@ -78,10 +81,12 @@ residuals_in_range quant keep residuals =
     record {
       levels = λ k below.
           subst IsLevel (sym (get_or-map-range_with_len f 0 64 k k (pos 0) below (omega arith)))
-          (kept_or_zero (nat_lt k keep) (inter_level quant (coefficient_at residuals k)) (residual_small quant (coefficient_at residuals k)));
+          (kept_or_zero (nat_lt k keep) (inter_level quant (coefficient_at residuals k))
+              (residual_small quant (coefficient_at residuals k)));
     }
 
-pub residual_blocks_in_range : (frame reference : Picture) (quant keep r mb : ℕ) (v : Vector) → IsQuant quant → IsVector v →
+pub residual_blocks_in_range : (frame reference : Picture) (quant keep r mb : ℕ) (v : Vector) → IsQuant quant
+    → IsVector v →
     IsInterMb quant v (residual_blocks_of frame reference quant keep r mb v)
 unfolding residual_blocks_of
 residual_blocks_in_range frame reference quant keep r mb v hq hv =
@@ -89,14 +94,18 @@ residual_blocks_in_range frame reference quant keep r mb v hq hv =
     record {
       quant_in_range = hq;
       vector_in_range = hv;
-      each = each_block IsInterBlock (λ b. residual_levels_of quant keep (residuals b)) (λ b. residuals_in_range quant keep (residuals b));
+      each = each_block IsInterBlock (λ b. residual_levels_of quant keep (residuals b))
+          (λ b. residuals_in_range quant keep (residuals b));
     }
 
 -- ---- what a transform gives
 
 -- a coefficient at a place of its block
-pub is_coefficient : (coefficients : List ℤ) (at : ℕ) → at < 64 → ((v u : ℕ) → v < 8 → u < 8 → IsCoefficient (entry coefficients v u)) → IsCoefficient (get_or coefficients at (pos 0))
-is_coefficient coefficients at h each = subst IsCoefficient (at_place coefficients at) (each (at / 8) (at % 8) (omega arith) (omega arith))
+pub is_coefficient : (coefficients : List ℤ) (at : ℕ) → at < 64
+    → ((v u : ℕ) → v < 8 → u < 8 → IsCoefficient (entry coefficients v u))
+    → IsCoefficient (get_or coefficients at (pos 0))
+is_coefficient coefficients at h each = subst IsCoefficient (at_place coefficients at)
+    (each (at / 8) (at % 8) (omega arith) (omega arith))
 
 -- numbers are kept as they are
 pub coefficient_kept : (z : ℤ) → IsCoefficient z → to_z w32 (of_z w32 z) ≡ z
@@ -106,25 +115,33 @@ pub level_kept : (z : ℤ) → IsLevel z → to_z w16 (of_z w16 z) ≡ z
 level_kept z h = omega (arith, ints)
 
 -- the transform's coefficient at place k of the zigzag order
-pub is_forward : (coefficients block : List ℤ) (at k : ℕ) → at ≡ block_place_of k → at < 64 → ((v u : ℕ) → v < 8 → u < 8 → entry coefficients v u ≡ forward_at block v u) →
+pub is_forward : (coefficients block : List ℤ) (at k : ℕ) → at ≡ block_place_of k → at < 64
+    → ((v u : ℕ) → v < 8 → u < 8 → entry coefficients v u ≡ forward_at block v u) →
     get_or coefficients at (pos 0) ≡ coefficient_at block k
 is_forward coefficients block at k e h each =
-    sym (at_place coefficients at) ∙ each (at / 8) (at % 8) (omega arith) (omega arith) ∙ ap (λ (n : ℕ). forward_at block (n / 8) (n % 8)) e
+    sym (at_place coefficients at) ∙ each (at / 8) (at % 8) (omega arith) (omega arith)
+        ∙ ap (λ (n : ℕ). forward_at block (n / 8) (n % 8)) e
 
 -- a coefficient that is smaller than a step and half a quantiser has no level
-pub no_level : (quant : ℕ) (f : ℤ) → IsQuant quant → unsigned_abs f < 2 * quant + quant / 2 → inter_level quant f ≡ pos 0
-no_level quant (pos n) h small = ap (λ (size : ℕ). pos (min size 127)) (div-eq_of_lt (let less : n - quant / 2 < 2 * quant = omega (arith, h.low) in less))
-no_level quant (negsuc n) h small = ap (λ (size : ℕ). neg_ℤ (pos (min size 127))) (div-eq_of_lt (let less : suc n - quant / 2 < 2 * quant = omega (arith, h.low) in less))
+pub no_level : (quant : ℕ) (f : ℤ) → IsQuant quant → unsigned_abs f < 2 * quant + quant / 2
+    → inter_level quant f ≡ pos 0
+no_level quant (pos n) h small = ap (λ (size : ℕ). pos (min size 127))
+    (div-eq_of_lt (let less : n - quant / 2 < 2 * quant = omega (arith, h.low) in less))
+no_level quant (negsuc n) h small = ap (λ (size : ℕ). neg_ℤ (pos (min size 127)))
+    (div-eq_of_lt (let less : suc n - quant / 2 < 2 * quant = omega (arith, h.low) in less))
 
 pub kept_nothing : (b : Bool) (z : ℤ) → z ≡ pos 0 → pos 0 ≡ cond b z (pos 0)
 kept_nothing true z h = sym h
 kept_nothing false z h = refl
 
 -- a block of residuals whose coefficients have no level
-pub no_levels : (quant keep : ℕ) (residuals : List ℤ) → ((k : ℕ) → inter_level quant (coefficient_at residuals k) ≡ pos 0) →
+pub no_levels : (quant keep : ℕ) (residuals : List ℤ)
+    → ((k : ℕ) → inter_level quant (coefficient_at residuals k) ≡ pos 0) →
     record { levels = replicate 64 (pos 0) } ≡ residual_levels_of quant keep residuals
 unfolding residual_levels_of
 no_levels quant keep residuals none =
     let block : List ℤ → Block = λ ls. record { levels = ls } in
-    ap block (fill_by_all (λ (k : ℕ). residual_level_of quant keep k (coefficient_at residuals k)) (replicate 64 (pos 0)) 64 (pos 0) (length-replicate 64 (pos 0))
-    (λ k h. get_or-replicate 64 k (pos 0) (pos 0) h ∙ kept_nothing (nat_lt k keep) (inter_level quant (coefficient_at residuals k)) (none k)))
+    ap block (fill_by_all (λ (k : ℕ). residual_level_of quant keep k (coefficient_at residuals k))
+        (replicate 64 (pos 0)) 64 (pos 0) (length-replicate 64 (pos 0))
+    (λ k h. get_or-replicate 64 k (pos 0) (pos 0) h
+        ∙ kept_nothing (nat_lt k keep) (inter_level quant (coefficient_at residuals k)) (none k)))

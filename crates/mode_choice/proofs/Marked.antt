@@ -26,7 +26,8 @@ some_where : (b : Bool) (z : ℤ) → is_zero z ≡ b → ◌≡◌ {A = ℕ} (c
 some_where true z e mark = absurd (omega (arith, mark))
 some_where false z e mark = λ none. let zero : is_zero z ≡ true = ap is_zero none in cc
 
-pub marked_some : EachIsMarked → (levels : List ℤ) (k : ℕ) → bit_at (marks_of levels) k ≡ 1 → get_or levels k (pos 0) ≢ pos 0
+pub marked_some : EachIsMarked → (levels : List ℤ) (k : ℕ) → bit_at (marks_of levels) k ≡ 1
+    → get_or levels k (pos 0) ≢ pos 0
 marked_some marked levels k mark =
     some_where (is_zero (get_or levels k (pos 0))) (get_or levels k (pos 0)) refl (sym (marked levels k) ∙ mark)
 
@@ -34,11 +35,13 @@ not_zero : (b : Bool) (z : ℤ) → is_zero z ≡ b → z ≢ pos 0 → ◌≡�
 not_zero true z e some = absurd (some ((Decides-int_eq z (pos 0)).0 e))
 not_zero false z e some = refl
 
-bit_of : EachIsMarked → (levels : List ℤ) (k : ℕ) (v : ℤ) → get_or levels k (pos 0) ≡ v → v ≢ pos 0 → bit_at (marks_of levels) k ≡ 1
+bit_of : EachIsMarked → (levels : List ℤ) (k : ℕ) (v : ℤ) → get_or levels k (pos 0) ≡ v → v ≢ pos 0
+    → bit_at (marks_of levels) k ≡ 1
 bit_of marked levels k v is some =
     marked levels k ∙ ap (λ (z : ℤ). cond (is_zero z) 0 1) is ∙ not_zero (is_zero v) v refl some
 
-by_place : (b : Bool) (marked : EachIsMarked) (levels : List ℤ) (k i : ℕ) (v : ℤ) → nat_eq i k ≡ b → k < 64 → k < length levels → v ≢ pos 0 →
+by_place : (b : Bool) (marked : EachIsMarked) (levels : List ℤ) (k i : ℕ) (v : ℤ) → nat_eq i k ≡ b → k < 64
+    → k < length levels → v ≢ pos 0 →
     bit_at (bit_or (marks_of levels) (1 * 2 ^ k % 2 ^ 64)) i ≡ bit_at (marks_of (slice_set levels k v)) i
 by_place true marked levels k i v test below room some =
     let same : i ≡ k = same_place i k test in
@@ -64,11 +67,15 @@ pub none_of_zeros : (block : Block) → block ≡ zero_block → 0 ≡ marks_of 
 none_of_zeros block e = no_marks ∙ ap (λ (b : Block). marks_of b.levels) (sym e)
 
 -- a block that is written, and its marks
-pub one_more_marked : (blocks : List Block) (marks : List ℕ) (n : ℕ) (block : Block) (m : ℕ) → n < length blocks → n < length marks → m ≡ marks_of block.levels →
+pub one_more_marked : (blocks : List Block) (marks : List ℕ) (n : ℕ) (block : Block) (m : ℕ) → n < length blocks
+    → n < length marks → m ≡ marks_of block.levels →
     AreMarksOfFirst n blocks marks → AreMarksOfFirst (n + 1) (slice_set blocks n block) (slice_set marks n m)
 one_more_marked blocks marks n block m room place is before k lt =
     let none : Block = record { levels = [] } in
-    below_more (λ (k : ℕ). get_or (slice_set marks n m) k 0 ≡ marks_of (get_or (slice_set blocks n block) k none).levels) n
-    (λ j hj. get_or-set_other marks n j m 0 (omega (arith, hj)) ∙ before j hj ∙ ap (λ (b : Block). marks_of b.levels) (sym (get_or-set_other blocks n j block none (omega (arith, hj)))))
-    (get_or-set_same marks n m 0 place ∙ is ∙ ap (λ (b : Block). marks_of b.levels) (sym (get_or-set_same blocks n block none room)))
+    below_more (λ (k : ℕ). get_or (slice_set marks n m) k 0
+        ≡ marks_of (get_or (slice_set blocks n block) k none).levels) n
+    (λ j hj. get_or-set_other marks n j m 0 (omega (arith, hj)) ∙ before j hj
+        ∙ ap (λ (b : Block). marks_of b.levels) (sym (get_or-set_other blocks n j block none (omega (arith, hj)))))
+    (get_or-set_same marks n m 0 place ∙ is
+        ∙ ap (λ (b : Block). marks_of b.levels) (sym (get_or-set_same blocks n block none room)))
     k lt

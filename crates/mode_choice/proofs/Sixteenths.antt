@@ -22,19 +22,22 @@ between t f h = record { low = h.least; high = h.most; up = h.up; down = h.down 
 
 settled_level : AreSettled → (coding : Coding) (quant : ℕ) (t level f : ℤ) → IsQuant quant → IsBracketed t f →
     level ≡ signed_of t (pos (steps_of quant ((unsigned_abs t + 6) / 16 - half_of coding quant))) →
-    steps_of quant ((unsigned_abs t + 6) / 16 - half_of coding quant) ≡ steps_of quant ((unsigned_abs t + 9) / 16 - half_of coding quant) →
+    steps_of quant ((unsigned_abs t + 6) / 16 - half_of coding quant)
+        ≡ steps_of quant ((unsigned_abs t + 9) / 16 - half_of coding quant) →
     level ≡ level_by coding quant f
 settled_level settled Intra quant t level f h near is same =
     let least : ℕ = (unsigned_abs t + 6) / 16 in
     let most : ℕ = (unsigned_abs t + 9) / 16 in
     is
     ∙ ap (λ (k : ℕ). signed_of t (pos k)) (less_none quant least)
-    ∙ sym (settled.intra quant least most t f h (between t f near) (sym (less_none quant least) ∙ same ∙ less_none quant most))
+    ∙ sym (settled.intra quant least most t f h (between t f near) (sym (less_none quant least) ∙ same
+        ∙ less_none quant most))
 settled_level settled Inter quant t level f h near is same =
     is ∙ sym (settled.inter quant ((unsigned_abs t + 6) / 16) ((unsigned_abs t + 9) / 16) t f h (between t f near) same)
 
 -- where the least and the most that a coefficient can be have as many steps, the level of the one is the coefficient's
-pub sure_level : AreSettled → (coding : Coding) (quant half : ℕ) (t level f : ℤ) → half ≡ half_of coding quant → IsQuant quant → IsBracketed t f →
+pub sure_level : AreSettled → (coding : Coding) (quant half : ℕ) (t level f : ℤ) → half ≡ half_of coding quant
+    → IsQuant quant → IsBracketed t f →
     level ≡ signed_of t (pos (steps_of quant ((unsigned_abs t + 6) / 16 - half))) →
     steps_of quant ((unsigned_abs t + 6) / 16 - half) ≡ steps_of quant ((unsigned_abs t + 9) / 16 - half) →
     level ≡ level_by coding quant f
@@ -46,7 +49,8 @@ sure_level settled coding quant half t level f e h near is same =
     (ap (λ (k : ℕ). steps_of quant (least - k)) (sym e) ∙ same ∙ ap (λ (k : ℕ). steps_of quant (most - k)) e)
 
 -- where the most that a coefficient can be is below the least size that has a level, it has none
-pub none_below : (quant least : ℕ) (t f : ℤ) → least ≡ 2 * quant + quant / 2 → IsQuant quant → IsBracketed t f → unsigned_abs t + 9 < 16 * least → inter_level quant f ≡ pos 0
+pub none_below : (quant least : ℕ) (t f : ℤ) → least ≡ 2 * quant + quant / 2 → IsQuant quant → IsBracketed t f
+    → unsigned_abs t + 9 < 16 * least → inter_level quant f ≡ pos 0
 none_below quant least t f e h near small = no_level quant f h (omega (arith, e, near.most, small))
 
 -- what is left is less than a step
@@ -57,11 +61,13 @@ rest_small quant half t h =
     omega (arith, less, h.high)
 
 -- the sixteenths at the place by columns of place k of the zigzag order bracket its coefficient
-pub brackets : (samples sixteenths : List ℤ) → ((s : List ℤ) (v u : ℕ) → v < 8 → u < 8 → IsBracketed (near_at s v u) (forward_at s v u)) →
+pub brackets : (samples sixteenths : List ℤ) → ((s : List ℤ) (v u : ℕ) → v < 8 → u < 8
+    → IsBracketed (near_at s v u) (forward_at s v u)) →
     ((u v : ℕ) → u < 8 → v < 8 → entry sixteenths u v ≡ near_at samples v u) →
     (k : ℕ) → IsBracketed (get_or sixteenths (place_in ByColumns k) (pos 0)) (coefficient_at samples k)
 brackets samples sixteenths near each k =
     let at : ℕ = block_place_of k in
     let below : at < 64 = block_place_below k in
-    subst (λ (t : ℤ). IsBracketed t (coefficient_at samples k)) (sym (each (at % 8) (at / 8) (omega arith) (omega (arith, below))))
+    subst (λ (t : ℤ). IsBracketed t (coefficient_at samples k))
+        (sym (each (at % 8) (at / 8) (omega arith) (omega (arith, below))))
     (near samples (at / 8) (at % 8) (omega (arith, below)) (omega arith))

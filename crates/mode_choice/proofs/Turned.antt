@@ -24,7 +24,8 @@ holds_below : (p : ℕ → Bool) (k : ℕ) → k < 64 → list_all p (range_with
 holds_below p k h all =
     let e : get_or (range_with_len 0 64) k 0 ≡ k = get_or-range_with_len 0 64 k 0 h ∙ zero-add k in
     let there : k < length (range_with_len 0 64) = h in
-    subst (λ (n : ℕ). p n ≡ true) e (not_false (p (get_or (range_with_len 0 64) k 0)) (list_all p (range_with_len 0 64)) (list_all_at p (range_with_len 0 64) k 0 there) all)
+    subst (λ (n : ℕ). p n ≡ true) e (not_false (p (get_or (range_with_len 0 64) k 0)) (list_all p (range_with_len 0 64))
+        (list_all_at p (range_with_len 0 64) k 0 there) all)
 
 same : (m n : ℕ) → nat_eq m n ≡ true → m ≡ n
 same m n h = grind (arith, nat_tests)
@@ -34,7 +35,8 @@ small n h = grind (arith, nat_tests)
 
 pub turned_at : (at : ℕ) → at < 64 → get_or by_columns at 0 ≡ zigzag_place_of (turned_place at)
 unfolding zigzag_place_of
-turned_at at h = same (get_or by_columns at 0) (zigzag_place_of (turned_place at)) (holds_below (λ n. nat_eq (get_or by_columns n 0) (zigzag_place_of (turned_place n))) at h refl)
+turned_at at h = same (get_or by_columns at 0) (zigzag_place_of (turned_place at))
+    (holds_below (λ n. nat_eq (get_or by_columns n 0) (zigzag_place_of (turned_place n))) at h refl)
 
 pub turned_fits : (at : ℕ) → at < 64 → get_or by_columns at 0 < 64
 turned_fits at h = small (get_or by_columns at 0) (holds_below (λ n. nat_lt (get_or by_columns n 0) 64) at h refl)

@@ -51,11 +51,13 @@ place_below ByColumns k = turned_below (block_place_of k) (block_place_below k)
 -- each place where a level stands has one in the order, and each of the order has one
 order_back : IsOneOrder → (s : Standing) (at : ℕ) → at < 64 → place_in s (order_of s at) ≡ at
 order_back one ByRows at h = one.from_block at h
-order_back one ByColumns at h = ap turned_place (one.from_block (turned_place at) (turned_below at h)) ∙ turned_twice at h
+order_back one ByColumns at h = ap turned_place (one.from_block (turned_place at) (turned_below at h))
+    ∙ turned_twice at h
 
 order_there : IsOneOrder → (s : Standing) (k : ℕ) → k < 64 → order_of s (place_in s k) ≡ k
 order_there one ByRows k h = one.from_order k h
-order_there one ByColumns k h = ap zigzag_place_of (turned_twice (block_place_of k) (block_place_below k)) ∙ one.from_order k h
+order_there one ByColumns k h = ap zigzag_place_of (turned_twice (block_place_of k) (block_place_below k))
+    ∙ one.from_order k h
 
 -- ---- levels
 
@@ -71,7 +73,8 @@ pub word_kept : (z : ℤ) → IsWord z → to_z w16 (of_z w16 z) ≡ z
 word_kept z h = omega (arith, ints)
 
 -- a coefficient that is limited to 16 bits has the same level
-pub same_level : HasSameLevels → (coding : Coding) (quant : ℕ) (z : ℤ) → IsQuant quant → level_by coding quant (limited_to_word z) ≡ level_by coding quant z
+pub same_level : HasSameLevels → (coding : Coding) (quant : ℕ) (z : ℤ) → IsQuant quant
+    → level_by coding quant (limited_to_word z) ≡ level_by coding quant z
 same_level same Intra quant z h = (same quant z h).1
 same_level same Inter quant z h = (same quant z h).0
 
@@ -83,18 +86,21 @@ zero_either true false v e = refl
 zero_either false b v e = refl
 
 -- a level without a mark is 0
-none_unmarked : (z : ℤ) (t b : Bool) (bit : ℕ) → is_zero z ≡ t → bit ≡ cond t 0 1 → pos 0 ≡ cond (nat_eq bit 0) (cond b z (pos 0)) (pos 0)
+none_unmarked : (z : ℤ) (t b : Bool) (bit : ℕ) → is_zero z ≡ t → bit ≡ cond t 0 1
+    → pos 0 ≡ cond (nat_eq bit 0) (cond b z (pos 0)) (pos 0)
 none_unmarked z true b bit e mark = zero_either (nat_eq bit 0) b z ((Decides-int_eq z (pos 0)).0 e)
 none_unmarked z false b bit e mark = ap (λ (n : ℕ). cond (nat_eq n 0) (cond b z (pos 0)) (pos 0)) (sym mark)
 
 -- with all marks there are zeros
-pub starts : EachIsMarked → (s : Standing) (keep : ℕ) (block : List ℤ) (rest : ℕ) → rest ≡ marks_of block → AreSet s keep block rest (replicate 64 (pos 0))
+pub starts : EachIsMarked → (s : Standing) (keep : ℕ) (block : List ℤ) (rest : ℕ) → rest ≡ marks_of block
+    → AreSet s keep block rest (replicate 64 (pos 0))
 starts marked s keep block rest marks = record {
   long = refl;
   stand = λ k less.
       let at = place_in s k in
       get_or-replicate 64 k (pos 0) (pos 0) less
-      ∙ none_unmarked (get_or block at (pos 0)) (is_zero (get_or block at (pos 0))) (nat_lt k keep) (bit_at rest at) refl
+      ∙ none_unmarked (get_or block at (pos 0)) (is_zero (get_or block at (pos 0))) (nat_lt k keep) (bit_at rest at)
+          refl
       (ap (λ (n : ℕ). bit_at n at) marks ∙ marked block at);
   range = All-replicate IsLevel 64 (pos 0) zero_level;
 }
@@ -105,7 +111,8 @@ one_less : (j k bit left : ℕ) (now before v : ℤ) → before ≡ cond (nat_eq
 one_less j k bit left now before v h same other = grind (arith, nat_tests)
 
 -- a level is set, and its mark is taken away
-pub set_one : IsOneOrder → (s : Standing) (keep : ℕ) (block : List ℤ) (at k rest : ℕ) (levels : List ℤ) (v : ℤ) → IsMark rest at → k ≡ order_of s at → k < 64 →
+pub set_one : IsOneOrder → (s : Standing) (keep : ℕ) (block : List ℤ) (at k rest : ℕ) (levels : List ℤ) (v : ℤ)
+    → IsMark rest at → k ≡ order_of s at → k < 64 →
     v ≡ kept_level keep k (get_or block at (pos 0)) → IsLevel v →
     AreSet s keep block rest levels → AreSet s keep block (without rest at) (slice_set levels k v)
 set_one one s keep block at k rest levels v mark place room level range before =
@@ -122,18 +129,21 @@ set_one one s keep block at k rest levels v mark place room level range before =
                 ∙ ap (λ (n : ℕ). kept_level keep n (get_or block (place_in s n) (pos 0))) (sym same),
             ap (bit_at left) here ∙ mark.gone,
           ))
-          (λ differs. let other : place_in s j ≢ at = λ here. differs (sym (order_there one s j less) ∙ ap (order_of s) here ∙ sym place) in
+          (λ differs. let other : place_in s j ≢ at = λ here. differs (sym (order_there one s j less)
+              ∙ ap (order_of s) here ∙ sym place) in
           (get_or-set_other levels k j v (pos 0) differs, mark.others (place_in s j) (place_below s j) other));
       range = All-set IsLevel levels k v range before.range;
     }
 
 -- a level whose mark is still there isn't set yet
-pub not_yet : IsOneOrder → (s : Standing) (keep : ℕ) (block : List ℤ) (at k rest : ℕ) (levels : List ℤ) → IsMark rest at → k ≡ order_of s at → k < 64 →
+pub not_yet : IsOneOrder → (s : Standing) (keep : ℕ) (block : List ℤ) (at k rest : ℕ) (levels : List ℤ) → IsMark rest at
+    → k ≡ order_of s at → k < 64 →
     AreSet s keep block rest levels → get_or levels k (pos 0) ≡ pos 0
 not_yet one s keep block at k rest levels mark place less before =
     let back : place_in s k ≡ at = ap (place_in s) place ∙ order_back one s at mark.below in
     before.stand k less
-    ∙ ap (λ (n : ℕ). cond (nat_eq n 0) (kept_level keep k (get_or block (place_in s k) (pos 0))) (pos 0)) (ap (bit_at rest) back ∙ mark.set)
+    ∙ ap (λ (n : ℕ). cond (nat_eq n 0) (kept_level keep k (get_or block (place_in s k) (pos 0))) (pos 0))
+        (ap (bit_at rest) back ∙ mark.set)
 
 -- the marks that are left are some of those before
 pub left_marks : (rest at i : ℕ) → bit_at (without rest at) i ≡ 1 → bit_at rest i ≡ 1
@@ -156,12 +166,16 @@ all_gone : (bit : ℕ) (now v : ℤ) → bit ≡ 0 → now ≡ cond (nat_eq bit 
 all_gone bit now v none h = grind (arith, nat_tests)
 
 -- with no mark all levels stand
-pub ends : (s : Standing) (keep : ℕ) (block : List ℤ) (rest : ℕ) (levels : List ℤ) → rest ≡ 0 → AreSet s keep block rest levels →
+pub ends : (s : Standing) (keep : ℕ) (block : List ℤ) (rest : ℕ) (levels : List ℤ) → rest ≡ 0
+    → AreSet s keep block rest levels →
     (k : ℕ) → k < 64 → get_or levels k (pos 0) ≡ kept_level keep k (get_or block (place_in s k) (pos 0))
 ends s keep block rest levels none before k less =
-    all_gone (bit_at rest (place_in s k)) _ _ (ap (λ (n : ℕ). bit_at n (place_in s k)) none ∙ bit_at-zero (place_in s k)) (before.stand k less)
+    all_gone (bit_at rest (place_in s k)) _ _ (ap (λ (n : ℕ). bit_at n (place_in s k)) none
+        ∙ bit_at-zero (place_in s k)) (before.stand k less)
 
 -- what a transform gives at a place of the zigzag order
-pub is_forward_at : (coefficients block : List ℤ) (k : ℕ) → ((v u : ℕ) → v < 8 → u < 8 → entry coefficients v u ≡ forward_at block v u) →
+pub is_forward_at : (coefficients block : List ℤ) (k : ℕ)
+    → ((v u : ℕ) → v < 8 → u < 8 → entry coefficients v u ≡ forward_at block v u) →
     get_or coefficients (block_place_of k) (pos 0) ≡ coefficient_at block k
-is_forward_at coefficients block k each = is_forward coefficients block (block_place_of k) k refl (block_place_below k) each
+is_forward_at coefficients block k each = is_forward coefficients block (block_place_of k) k refl
+    (block_place_below k) each

@@ -57,7 +57,8 @@ total_small f zero h = omega arith
 total_small f (suc n) h = omega (arith, total_small f n h, h n)
 
 -- a difference of two sums is never more than the sum of the differences
-pub sums_apart : (f g : ℕ → ℕ) (d : ℕ → ℕ) (n : ℕ) → ((i : ℕ) → abs_diff (f i) (g i) ≤ d i) → abs_diff (total f n) (total g n) ≤ total d n
+pub sums_apart : (f g : ℕ → ℕ) (d : ℕ → ℕ) (n : ℕ) → ((i : ℕ) → abs_diff (f i) (g i) ≤ d i)
+    → abs_diff (total f n) (total g n) ≤ total d n
 unfolding total
 sums_apart f g d zero h = omega arith
 sums_apart f g d (suc n) h = omega (arith, sums_apart f g d n h, h n)
@@ -73,7 +74,8 @@ unfolding column_sum
 column_less f x y n =
     let e : n + 1 ≡ suc n = omega arith in
     let first : f x (y + 0) ≡ f x y = let z : y + 0 ≡ y = omega arith in ap (f x) z in
-    let rest = total_is (λ i. f x (y + suc i)) (λ j. f x (y + 1 + j)) n (λ i hi. let s : y + suc i ≡ y + 1 + i = omega arith in ap (f x) s) in
+    let rest = total_is (λ i. f x (y + suc i)) (λ j. f x (y + 1 + j)) n (λ i hi. let s : y + suc i
+        ≡ y + 1 + i = omega arith in ap (f x) s) in
     ap (total (λ j. f x (y + j))) e ∙ total_first (λ j. f x (y + j)) n ∙ omega (arith, first, rest)
 
 pub column_small : (f : ℕ → ℕ → ℕ) (x y n : ℕ) → AreBytes f → column_sum f x y n ≤ 255 * n
@@ -95,7 +97,8 @@ area_small f x y h =
       column_small f (x + 7) y 8 h,
     )
 
-pub area_is : (f g : ℕ → ℕ → ℕ) (x y u v : ℕ) → ((i j : ℕ) → i < 8 → j < 8 → f (x + i) (y + j) ≡ g (u + i) (v + j)) → area_sum f x y ≡ area_sum g u v
+pub area_is : (f g : ℕ → ℕ → ℕ) (x y u v : ℕ) → ((i j : ℕ) → i < 8 → j < 8 → f (x + i) (y + j) ≡ g (u + i) (v + j))
+    → area_sum f x y ≡ area_sum g u v
 unfolding area_sum column_sum
 area_is f g x y u v h =
     total_is (λ i. total (λ j. f (x + i) (y + j)) 8) (λ i. total (λ j. g (u + i) (v + j)) 8) 8
@@ -108,13 +111,17 @@ abbrev quarter_of : (ℕ → ℕ → ℕ) → ℕ → ℕ → ℕ
 quarter_of d u v = total (λ i. total (λ j. d (u + i) (v + j)) 8) 8
 
 -- two areas differ by at least as much as their sums do
-area_apart : (b f : ℕ → ℕ → ℕ) (u v : ℕ) → abs_diff (area_sum f u v) (area_sum b u v) ≤ quarter_of (λ i j. abs_diff (b i j) (f i j)) u v
+area_apart : (b f : ℕ → ℕ → ℕ) (u v : ℕ)
+    → abs_diff (area_sum f u v) (area_sum b u v) ≤ quarter_of (λ i j. abs_diff (b i j) (f i j)) u v
 unfolding area_sum column_sum
 area_apart b f u v =
-    sums_apart (λ i. total (λ j. f (u + i) (v + j)) 8) (λ i. total (λ j. b (u + i) (v + j)) 8) (λ i. total (λ j. abs_diff (b (u + i) (v + j)) (f (u + i) (v + j))) 8) 8
-    (λ i. sums_apart (λ j. f (u + i) (v + j)) (λ j. b (u + i) (v + j)) (λ j. abs_diff (b (u + i) (v + j)) (f (u + i) (v + j))) 8 (λ j. omega arith))
+    sums_apart (λ i. total (λ j. f (u + i) (v + j)) 8) (λ i. total (λ j. b (u + i) (v + j)) 8)
+        (λ i. total (λ j. abs_diff (b (u + i) (v + j)) (f (u + i) (v + j))) 8) 8
+    (λ i. sums_apart (λ j. f (u + i) (v + j)) (λ j. b (u + i) (v + j))
+        (λ j. abs_diff (b (u + i) (v + j)) (f (u + i) (v + j))) 8 (λ j. omega arith))
 
-differences_total : (xs ys : List ℕ) (n : ℕ) → length xs ≡ n → length ys ≡ n → differences xs ys ≡ total (λ k. abs_diff (get_or xs k 0) (get_or ys k 0)) n
+differences_total : (xs ys : List ℕ) (n : ℕ) → length xs ≡ n → length ys ≡ n
+    → differences xs ys ≡ total (λ k. abs_diff (get_or xs k 0) (get_or ys k 0)) n
 unfolding total
 differences_total [] ys zero hx hy = refl
 differences_total [] ys (suc n) hx hy = absurd (omega (arith, hx))
@@ -137,35 +144,44 @@ block_rows : (block : List ℕ) (f : ℕ → ℕ → ℕ) → length block ≡ 2
 block_rows block f long =
     differences_total block (square f) 256 long (length-square f)
     ∙ by_rows (λ k. abs_diff (get_or block k 0) (get_or (square f) k 0)) 16
-    ∙ total_is (λ j. total (λ i. abs_diff (get_or block (16 * j + i) 0) (get_or (square f) (16 * j + i) 0)) 16) (λ j. total (λ i. abs_diff (in_block block i j) (f i j)) 16) 16
-    (λ j hj. total_is (λ i. abs_diff (get_or block (16 * j + i) 0) (get_or (square f) (16 * j + i) 0)) (λ i. abs_diff (in_block block i j) (f i j)) 16
+    ∙ total_is (λ j. total (λ i. abs_diff (get_or block (16 * j + i) 0) (get_or (square f) (16 * j + i) 0)) 16)
+        (λ j. total (λ i. abs_diff (in_block block i j) (f i j)) 16) 16
+    (λ j hj. total_is (λ i. abs_diff (get_or block (16 * j + i) 0) (get_or (square f) (16 * j + i) 0))
+        (λ i. abs_diff (in_block block i j) (f i j)) 16
     (λ i hi. ap (abs_diff (in_block block i j)) (get_or-square f j i hj hi)))
 
 -- the two halves of eight rows
-two_quarters : (d : ℕ → ℕ → ℕ) (v : ℕ) → total (λ j. total (λ i. d i (v + j)) 16) 8 ≡ quarter_of d 0 v + quarter_of d 8 v
+two_quarters : (d : ℕ → ℕ → ℕ) (v : ℕ) → total (λ j. total (λ i. d i (v + j)) 16) 8
+    ≡ quarter_of d 0 v + quarter_of d 8 v
 two_quarters d v =
-    total_is (λ j. total (λ i. d i (v + j)) 16) (λ j. total (λ i. d (0 + i) (v + j)) 8 + total (λ i. d (8 + i) (v + j)) 8) 8
+    total_is (λ j. total (λ i. d i (v + j)) 16) (λ j. total (λ i. d (0 + i) (v + j)) 8 + total (λ i. d (8 + i) (v + j))
+        8) 8
     (λ j hj. total_split (λ i. d i (v + j)) 8 8 ∙ ap (λ (k : ℕ). k + total (λ i. d (8 + i) (v + j)) 8)
-    (total_is (λ i. d i (v + j)) (λ i. d (0 + i) (v + j)) 8 (λ i hi. let e : i ≡ 0 + i = omega arith in ap (λ (k : ℕ). d k (v + j)) e)))
+    (total_is (λ i. d i (v + j)) (λ i. d (0 + i) (v + j)) 8 (λ i hi. let e : i ≡ 0 + i = omega arith in
+        ap (λ (k : ℕ). d k (v + j)) e)))
     ∙ total_plus (λ j. total (λ i. d (0 + i) (v + j)) 8) (λ j. total (λ i. d (8 + i) (v + j)) 8) 8
     ∙ cc (total_swap (λ j i. d (0 + i) (v + j)) 8 8, total_swap (λ j i. d (8 + i) (v + j)) 8 8)
 
-four_quarters : (d : ℕ → ℕ → ℕ) → total (λ j. total (λ i. d i j) 16) 16 ≡ quarter_of d 0 0 + quarter_of d 8 0 + (quarter_of d 0 8 + quarter_of d 8 8)
+four_quarters : (d : ℕ → ℕ → ℕ) → total (λ j. total (λ i. d i j) 16) 16
+    ≡ quarter_of d 0 0 + quarter_of d 8 0 + (quarter_of d 0 8 + quarter_of d 8 8)
 four_quarters d =
     total_split (λ j. total (λ i. d i j) 16) 8 8
     ∙ ap (λ (k : ℕ). k + total (λ j. total (λ i. d i (8 + j)) 16) 8)
-    (total_is (λ j. total (λ i. d i j) 16) (λ j. total (λ i. d i (0 + j)) 16) 8 (λ j hj. let e : j ≡ 0 + j = omega arith in ap (λ (k : ℕ). total (λ i. d i k) 16) e))
+    (total_is (λ j. total (λ i. d i j) 16) (λ j. total (λ i. d i (0 + j)) 16) 8 (λ j hj. let e : j
+        ≡ 0 + j = omega arith in ap (λ (k : ℕ). total (λ i. d i k) 16) e))
     ∙ cc (two_quarters d 0, two_quarters d 8)
 
 -- two blocks differ by at least as much as the sums of their quarters do, taken together
 pub quarters_apart : (block : List ℕ) (f : ℕ → ℕ → ℕ) → length block ≡ 256 →
     let b = in_block block in
     abs_diff (area_sum f 0 0) (area_sum b 0 0) + abs_diff (area_sum f 8 0) (area_sum b 8 0)
-    + (abs_diff (area_sum f 0 8) (area_sum b 0 8) + abs_diff (area_sum f 8 8) (area_sum b 8 8)) ≤ differences block (square f)
+    + (abs_diff (area_sum f 0 8) (area_sum b 0 8) + abs_diff (area_sum f 8 8) (area_sum b 8 8)) ≤ differences block
+        (square f)
 quarters_apart block f long =
     let b = in_block block in
     let d = λ (i j : ℕ). abs_diff (b i j) (f i j) in
-    omega (arith, area_apart b f 0 0, area_apart b f 8 0, area_apart b f 0 8, area_apart b f 8 8, block_rows block f long, four_quarters d)
+    omega (arith, area_apart b f 0 0, area_apart b f 8 0, area_apart b f 0 8, area_apart b f 8 8,
+        block_rows block f long, four_quarters d)
 
 -- ---- sixteen lanes
 
@@ -173,7 +189,8 @@ pub is_sixteen : (xs : List ℕ) (f : ℕ → ℕ) → length xs ≡ 16 → ((i 
 unfolding sixteen
 is_sixteen xs f long same =
     same_number_lists xs (map f (range_with_len 0 16)) (long ∙ sym (length-map-range_with_len f 0 16))
-    (λ i hi. let h : i < 16 = omega (arith, hi, long) in same i h ∙ sym (get_or-map-range_with_len f 0 16 i i 0 h (omega arith)))
+    (λ i hi. let h : i < 16 = omega (arith, hi, long) in same i h
+        ∙ sym (get_or-map-range_with_len f 0 16 i i 0 h (omega arith)))
 
 pub length-sixteen : (f : ℕ → ℕ) → length (sixteen f) ≡ 16
 unfolding sixteen
@@ -199,30 +216,36 @@ minus a b = (a + (2 ^ 16 - b)) % 2 ^ 16
 
 -- one more row below, and one less above
 pub more_lanes : (f : ℕ → ℕ → ℕ) (at : ℕ → ℕ) (y n : ℕ) (xs ys : List ℕ) → AreBytes f → n < 8 →
-    xs ≡ sixteen (λ i. column_sum f (at i) y n) → ys ≡ sixteen (λ i. f (at i) (y + n)) → zip2 plus xs ys ≡ sixteen (λ i. column_sum f (at i) y (n + 1))
+    xs ≡ sixteen (λ i. column_sum f (at i) y n) → ys ≡ sixteen (λ i. f (at i) (y + n))
+        → zip2 plus xs ys ≡ sixteen (λ i. column_sum f (at i) y (n + 1))
 more_lanes f at y n xs ys h hn ex ey =
-    let both : zip2 plus xs ys ≡ zip2 plus (sixteen (λ i. column_sum f (at i) y n)) (sixteen (λ i. f (at i) (y + n))) = cc (ex, ey) in
+    let both : zip2 plus xs ys ≡ zip2 plus (sixteen (λ i. column_sum f (at i) y n)) (sixteen (λ i. f (at i) (y + n))) =
+        cc (ex, ey) in
     both ∙ zip2-sixteen plus (λ i. column_sum f (at i) y n) (λ i. f (at i) (y + n))
     ∙ sixteen_is (λ i. plus (column_sum f (at i) y n) (f (at i) (y + n))) (λ i. column_sum f (at i) y (n + 1))
     (λ i hi. omega (arith, column_more f (at i) y n, column_small f (at i) y n h, h (at i) (y + n), hn))
 
 pub less_lanes : (f : ℕ → ℕ → ℕ) (at : ℕ → ℕ) (y n : ℕ) (xs ys : List ℕ) → AreBytes f → n < 8 →
-    xs ≡ sixteen (λ i. column_sum f (at i) y (n + 1)) → ys ≡ sixteen (λ i. f (at i) y) → zip2 minus xs ys ≡ sixteen (λ i. column_sum f (at i) (y + 1) n)
+    xs ≡ sixteen (λ i. column_sum f (at i) y (n + 1)) → ys ≡ sixteen (λ i. f (at i) y)
+        → zip2 minus xs ys ≡ sixteen (λ i. column_sum f (at i) (y + 1) n)
 less_lanes f at y n xs ys h hn ex ey =
-    let both : zip2 minus xs ys ≡ zip2 minus (sixteen (λ i. column_sum f (at i) y (n + 1))) (sixteen (λ i. f (at i) y)) = cc (ex, ey) in
+    let both : zip2 minus xs ys ≡ zip2 minus (sixteen (λ i. column_sum f (at i) y (n + 1)))
+        (sixteen (λ i. f (at i) y)) = cc (ex, ey) in
     both ∙ zip2-sixteen minus (λ i. column_sum f (at i) y (n + 1)) (λ i. f (at i) y)
     ∙ sixteen_is (λ i. minus (column_sum f (at i) y (n + 1)) (f (at i) y)) (λ i. column_sum f (at i) (y + 1) n)
     (λ i hi. omega (arith, column_less f (at i) y n, column_small f (at i) (y + 1) n h, h (at i) y, hn))
 
 -- eight columns beside each other, by pairs, pairs of pairs, and pairs of these
 abbrev pub paired : (ℕ → ℕ) → ℕ → ℕ
-paired c i = plus (plus (plus (c (i + 0)) (c (i + 1))) (plus (c (i + 2)) (c (i + 3)))) (plus (plus (c (i + 4)) (c (i + 5))) (plus (c (i + 6)) (c (i + 7))))
+paired c i = plus (plus (plus (c (i + 0)) (c (i + 1))) (plus (c (i + 2)) (c (i + 3))))
+    (plus (plus (c (i + 4)) (c (i + 5))) (plus (c (i + 6)) (c (i + 7))))
 
 paired_is : (c : ℕ → ℕ) (i : ℕ) → ((k : ℕ) → c k ≤ 2040) → paired c i ≡ total (λ k. c (i + k)) 8
 unfolding total
 paired_is c i h = omega (arith, h (i + 0), h (i + 1), h (i + 2), h (i + 3), h (i + 4), h (i + 5), h (i + 6), h (i + 7))
 
-pub areas_of : (f : ℕ → ℕ → ℕ) (at y : ℕ) → AreBytes f → sixteen (λ i. paired (λ k. column_sum f k y 8) (at + i)) ≡ sixteen (λ i. area_sum f (at + i) y)
+pub areas_of : (f : ℕ → ℕ → ℕ) (at y : ℕ) → AreBytes f → sixteen (λ i. paired (λ k. column_sum f k y 8) (at + i))
+    ≡ sixteen (λ i. area_sum f (at + i) y)
 unfolding area_sum
 areas_of f at y h =
     sixteen_is (λ i. paired (λ k. column_sum f k y 8) (at + i)) (λ i. total (λ k. column_sum f (at + i + k) y 8) 8)
@@ -233,7 +256,8 @@ wide_is : (xs : List ℕ) → map (λ (k : ℕ). k) xs ≡ xs
 wide_is [] = refl
 wide_is (x ∷ xs) = ap (λ (l : List ℕ). x ∷ l) (wide_is xs)
 
-pub loaded : (xs : List ℕ) (f : ℕ → ℕ) → length xs ≡ 16 → ((i : ℕ) → i < 16 → get_or xs i 0 ≡ f i) → map (λ (k : ℕ). k) (chunk 0 16 xs) ≡ sixteen f
+pub loaded : (xs : List ℕ) (f : ℕ → ℕ) → length xs ≡ 16 → ((i : ℕ) → i < 16 → get_or xs i 0 ≡ f i)
+    → map (λ (k : ℕ). k) (chunk 0 16 xs) ≡ sixteen f
 loaded xs f long same =
     let whole : chunk 0 16 xs ≡ xs = subst (λ (k : ℕ). take k xs ≡ xs) long (take-length xs) in
     wide_is (chunk 0 16 xs) ∙ whole ∙ is_sixteen xs f long same
@@ -263,19 +287,24 @@ left_lanes : (c : ℕ → ℕ) → lanes_left (sixteen c) (sixteen (λ i. c (16 
 unfolding sixteen
 left_lanes c = refl
 
-right_lanes : (c : ℕ → ℕ) → moved 8 (lanes_left (sixteen c) (sixteen (λ i. c (16 + i)))) (lanes_right (sixteen (λ i. c (16 + i)))) ≡ sixteen (λ i. paired c (8 + i))
+right_lanes : (c : ℕ → ℕ)
+    → moved 8 (lanes_left (sixteen c) (sixteen (λ i. c (16 + i)))) (lanes_right (sixteen (λ i. c (16 + i))))
+    ≡ sixteen (λ i. paired c (8 + i))
 unfolding sixteen
 right_lanes c = refl
 
 -- the sixteen areas from the first column on, and from the eighth
-pub left_areas : (f : ℕ → ℕ → ℕ) (y : ℕ) (l r : List ℕ) → AreBytes f → l ≡ sixteen (λ i. column_sum f i y 8) → r ≡ sixteen (λ i. column_sum f (16 + i) y 8) →
+pub left_areas : (f : ℕ → ℕ → ℕ) (y : ℕ) (l r : List ℕ) → AreBytes f → l ≡ sixteen (λ i. column_sum f i y 8)
+    → r ≡ sixteen (λ i. column_sum f (16 + i) y 8) →
     lanes_left l r ≡ sixteen (λ i. area_sum f i y)
 left_areas f y l r h el er =
     ap (λ (xs : List ℕ). lanes_left xs r) el ∙ ap (lanes_left (sixteen (λ i. column_sum f i y 8))) er
     ∙ left_lanes (λ k. column_sum f k y 8) ∙ areas_of f 0 y h
-    ∙ sixteen_is (λ i. area_sum f (0 + i) y) (λ i. area_sum f i y) (λ i hi. let e : 0 + i ≡ i = omega arith in ap (λ (k : ℕ). area_sum f k y) e)
+    ∙ sixteen_is (λ i. area_sum f (0 + i) y) (λ i. area_sum f i y) (λ i hi. let e : 0 + i ≡ i = omega arith in
+        ap (λ (k : ℕ). area_sum f k y) e)
 
-pub right_areas : (f : ℕ → ℕ → ℕ) (y : ℕ) (l r : List ℕ) → AreBytes f → l ≡ sixteen (λ i. column_sum f i y 8) → r ≡ sixteen (λ i. column_sum f (16 + i) y 8) →
+pub right_areas : (f : ℕ → ℕ → ℕ) (y : ℕ) (l r : List ℕ) → AreBytes f → l ≡ sixteen (λ i. column_sum f i y 8)
+    → r ≡ sixteen (λ i. column_sum f (16 + i) y 8) →
     moved 8 (lanes_left l r) (lanes_right r) ≡ sixteen (λ i. area_sum f (8 + i) y)
 right_areas f y l r h el er =
     ap (λ (xs : List ℕ). moved 8 (lanes_left xs r) (lanes_right r)) el
@@ -283,7 +312,8 @@ right_areas f y l r h el er =
     ∙ right_lanes (λ k. column_sum f k y 8) ∙ areas_of f 8 y h
 
 -- two vectors together
-pub both_lanes : (p q : ℕ → ℕ) (ps qs : List ℕ) → ps ≡ sixteen p → qs ≡ sixteen q → ((i : ℕ) → p i + q i < 65536) → zip2 plus ps qs ≡ sixteen (λ i. p i + q i)
+pub both_lanes : (p q : ℕ → ℕ) (ps qs : List ℕ) → ps ≡ sixteen p → qs ≡ sixteen q → ((i : ℕ) → p i + q i < 65536)
+    → zip2 plus ps qs ≡ sixteen (λ i. p i + q i)
 both_lanes p q ps qs ep eq h =
     let both : zip2 plus ps qs ≡ zip2 plus (sixteen p) (sixteen q) = cc (ep, eq) in
     both ∙ zip2-sixteen plus p q ∙ sixteen_is (λ i. plus (p i) (q i)) (λ i. p i + q i) (λ i hi. omega (arith, h i))
@@ -291,31 +321,38 @@ both_lanes p q ps qs ep eq h =
 small_apart : (a b : ℕ) → a ≤ 16320 → b ≤ 16320 → abs_diff a b ≤ 16320
 small_apart a b ha hb = omega (arith, ha, hb)
 
-pub half_small : (a b left right : ℕ) → a ≤ 16320 → b ≤ 16320 → left ≤ 16320 → right ≤ 16320 → abs_diff a left + abs_diff b right ≤ 32640
+pub half_small : (a b left right : ℕ) → a ≤ 16320 → b ≤ 16320 → left ≤ 16320 → right ≤ 16320
+    → abs_diff a left + abs_diff b right ≤ 32640
 half_small a b left right ha hb hl hr = omega (arith, small_apart a left ha hl, small_apart b right hb hr)
 
 -- how far sixteen sums beside each other, and those eight columns to the right, are from two others
-pub half_lanes : (g : ℕ → ℕ) (at left right : ℕ) (xs ys : List ℕ) → ((k : ℕ) → g k ≤ 16320) → left ≤ 16320 → right ≤ 16320 →
-    xs ≡ sixteen (λ i. abs_diff (g (at + i)) left) → ys ≡ sixteen (λ i. abs_diff (g (at + 8 + i)) right) → zip2 plus xs ys ≡ sixteen (λ i. abs_diff (g (at + i)) left + abs_diff (g (at + 8 + i)) right)
+pub half_lanes : (g : ℕ → ℕ) (at left right : ℕ) (xs ys : List ℕ) → ((k : ℕ) → g k ≤ 16320) → left ≤ 16320
+    → right ≤ 16320 →
+    xs ≡ sixteen (λ i. abs_diff (g (at + i)) left) → ys ≡ sixteen (λ i. abs_diff (g (at + 8 + i)) right)
+        → zip2 plus xs ys ≡ sixteen (λ i. abs_diff (g (at + i)) left + abs_diff (g (at + 8 + i)) right)
 half_lanes g at left right xs ys h hl hr ex ey =
     both_lanes (λ i. abs_diff (g (at + i)) left) (λ i. abs_diff (g (at + 8 + i)) right) xs ys ex ey
     (λ i. omega (arith, half_small (g (at + i)) (g (at + 8 + i)) left right (h (at + i)) (h (at + 8 + i)) hl hr))
 
 -- sixteen sums that are loaded
 pub loaded_sums : (xs : List ℕ) (at : ℕ) → at + 16 ≤ length xs → chunk at 16 xs ≡ sixteen (λ i. get_or xs (at + i) 0)
-loaded_sums xs at h = is_sixteen (chunk at 16 xs) (λ i. get_or xs (at + i) 0) (length-chunk at 16 xs h) (λ i hi. get_or-chunk at 16 xs i 0 hi)
+loaded_sums xs at h = is_sixteen (chunk at 16 xs) (λ i. get_or xs (at + i) 0) (length-chunk at 16 xs h)
+    (λ i hi. get_or-chunk at 16 xs i 0 hi)
 
 -- a lane that isn't marked has more than the most
 pub mark_tells : (xs : List ℕ) (f : ℕ → ℕ) (most i : ℕ) → xs ≡ sixteen f → i < 16 →
-    mask_l (map (top 15) (zip2 (λ a b. cond (leb a b) (2 ^ 16 - 1) 0) xs (replicate 16 most))) % 2 ^ 64 / 2 ^ i % 2 ≡ 0 → most < f i
+    mask_l (map (top 15) (zip2 (λ a b. cond (leb a b) (2 ^ 16 - 1) 0) xs (replicate 16 most))) % 2 ^ 64 / 2 ^ i % 2 ≡ 0
+        → most < f i
 mark_tells xs f most i e hi h = by (leb (f i) most) refl
   where
     long : length xs ≡ 16
     long = ap length e ∙ length-sixteen f
 
-    bit : mask_l (map (top 15) (zip2 (λ a b. cond (leb a b) (2 ^ 16 - 1) 0) xs (replicate 16 most))) % 2 ^ 64 / 2 ^ i % 2 ≡ cond (leb (f i) most) 1 0
+    bit : mask_l (map (top 15) (zip2 (λ a b. cond (leb a b) (2 ^ 16 - 1) 0) xs (replicate 16 most))) % 2 ^ 64 / 2 ^ i %
+        2 ≡ cond (leb (f i) most) 1 0
     bit =
-        ap (λ (n : ℕ). n / 2 ^ i % 2) (bitmask_splat w16 leb xs 16 most long (omega arith)) ∙ bit_mask_l (map (λ (x : ℕ). leb x most) xs) i
+        ap (λ (n : ℕ). n / 2 ^ i % 2) (bitmask_splat w16 leb xs 16 most long (omega arith))
+            ∙ bit_mask_l (map (λ (x : ℕ). leb x most) xs) i
         ∙ ap (λ (b : Bool). cond b 1 0) (get_or-map (λ (x : ℕ). leb x most) xs i 0 false (omega (arith, hi, long)))
         ∙ ap (λ (k : ℕ). cond (leb k most) 1 0) (ap (λ (l : List ℕ). get_or l i 0) e ∙ at_sixteen f i hi)
 
@@ -325,19 +362,32 @@ mark_tells xs f most i e hi h = by (leb (f i) most) refl
 
 -- the block in column i of row y differs by no less than its quarters' sums do
 pub ruled_out : (f : ℕ → ℕ → ℕ) (y i tl tr bl br : ℕ) (block : List ℕ) → length block ≡ 256 →
-    tl ≡ area_sum (in_block block) 0 0 → tr ≡ area_sum (in_block block) 8 0 → bl ≡ area_sum (in_block block) 0 8 → br ≡ area_sum (in_block block) 8 8 →
-    abs_diff (area_sum f i y) tl + abs_diff (area_sum f (8 + i) y) tr + (abs_diff (area_sum f i (y + 8)) bl + abs_diff (area_sum f (8 + i) (y + 8)) br)
+    tl ≡ area_sum (in_block block) 0 0 → tr ≡ area_sum (in_block block) 8 0 → bl ≡ area_sum (in_block block) 0 8
+        → br ≡ area_sum (in_block block) 8 8 →
+    abs_diff (area_sum f i y) tl + abs_diff (area_sum f (8 + i) y) tr + (abs_diff (area_sum f i (y + 8)) bl + abs_diff
+        (area_sum f (8 + i) (y + 8)) br)
     ≤ differences block (square (λ k j. f (i + k) (y + j)))
 ruled_out f y i tl tr bl br block long etl etr ebl ebr =
     let g = λ (k j : ℕ). f (i + k) (y + j) in
-    let there = λ (u v x z k j : ℕ) (ex : i + (u + k) ≡ x + k) (ez : y + (v + j) ≡ z + j). ap (λ (m : ℕ). f m (y + (v + j))) ex ∙ ap (f (x + k)) ez in
-    let a : area_sum f i y ≡ area_sum g 0 0 = sym (area_is g f 0 0 i y (λ k j hk hj. there 0 0 i y k j (omega arith) (omega arith))) in
-    let b : area_sum f (8 + i) y ≡ area_sum g 8 0 = sym (area_is g f 8 0 (8 + i) y (λ k j hk hj. there 8 0 (8 + i) y k j (omega arith) (omega arith))) in
-    let c : area_sum f i (y + 8) ≡ area_sum g 0 8 = sym (area_is g f 0 8 i (y + 8) (λ k j hk hj. there 0 8 i (y + 8) k j (omega arith) (omega arith))) in
-    let d : area_sum f (8 + i) (y + 8) ≡ area_sum g 8 8 = sym (area_is g f 8 8 (8 + i) (y + 8) (λ k j hk hj. there 8 8 (8 + i) (y + 8) k j (omega arith) (omega arith))) in
-    let same : abs_diff (area_sum f i y) tl + abs_diff (area_sum f (8 + i) y) tr + (abs_diff (area_sum f i (y + 8)) bl + abs_diff (area_sum f (8 + i) (y + 8)) br)
-    ≡ abs_diff (area_sum g 0 0) (area_sum (in_block block) 0 0) + abs_diff (area_sum g 8 0) (area_sum (in_block block) 8 0)
-    + (abs_diff (area_sum g 0 8) (area_sum (in_block block) 0 8) + abs_diff (area_sum g 8 8) (area_sum (in_block block) 8 8)) = cc (a, b, c, d, etl, etr, ebl, ebr) in
+    let there = λ (u v x z k j : ℕ) (ex : i + (u + k) ≡ x + k) (ez : y + (v + j)
+        ≡ z + j). ap (λ (m : ℕ). f m (y + (v + j))) ex ∙ ap (f (x + k)) ez in
+    let a : area_sum f i y ≡ area_sum g 0 0 =
+        sym (area_is g f 0 0 i y (λ k j hk hj. there 0 0 i y k j (omega arith) (omega arith))) in
+    let b : area_sum f (8 + i) y
+        ≡ area_sum g 8 0 = sym (area_is g f 8 0 (8 + i) y (λ k j hk hj. there 8 0 (8 + i) y k j (omega arith)
+        (omega arith))) in
+    let c : area_sum f i (y + 8)
+        ≡ area_sum g 0 8 = sym (area_is g f 0 8 i (y + 8) (λ k j hk hj. there 0 8 i (y + 8) k j (omega arith)
+        (omega arith))) in
+    let d : area_sum f (8 + i) (y + 8)
+        ≡ area_sum g 8 8 = sym (area_is g f 8 8 (8 + i) (y + 8) (λ k j hk hj. there 8 8 (8 + i) (y + 8) k j
+        (omega arith) (omega arith))) in
+    let same : abs_diff (area_sum f i y) tl + abs_diff (area_sum f (8 + i) y) tr +
+        (abs_diff (area_sum f i (y + 8)) bl + abs_diff (area_sum f (8 + i) (y + 8)) br)
+    ≡ abs_diff (area_sum g 0 0) (area_sum (in_block block) 0 0) + abs_diff (area_sum g 8 0)
+        (area_sum (in_block block) 8 0)
+    + (abs_diff (area_sum g 0 8) (area_sum (in_block block) 0 8) + abs_diff (area_sum g 8 8)
+        (area_sum (in_block block) 8 8)) = cc (a, b, c, d, etl, etr, ebl, ebr) in
     subst (λ (n : ℕ). n ≤ differences block (square g)) (sym same) (quarters_apart block g long)
 
 pub more_than : (m s n : ℕ) → m < s → s ≤ n → m < n
@@ -348,20 +398,25 @@ more_than m s n h k = omega (arith, h, k)
 abbrev pub twice : List ℕ → ℕ → ℕ → ℕ
 twice block x y = in_block block (x % 16) y
 
-pub block_row_twice : (block row : List ℕ) (j : ℕ) → row ≡ slice_range block (16 * j) (16 * j + 16) → IsRow (twice block) j row row
+pub block_row_twice : (block row : List ℕ) (j : ℕ) → row ≡ slice_range block (16 * j) (16 * j + 16)
+    → IsRow (twice block) j row row
 block_row_twice block row j e =
-    let part : slice_range block (16 * j) (16 * j + 16) ≡ take 16 (drop (16 * j) block) = (let n : 16 * j + 16 - 16 * j ≡ 16 = omega arith in ap (λ (k : ℕ). take k (drop (16 * j) block)) n) in
-    let at = λ (i : ℕ) (hi : i < 16). ap (λ (l : List ℕ). get_or l i 0) (e ∙ part) ∙ get_or-take 16 (drop (16 * j) block) i 0 hi ∙ get_or-drop (16 * j) block i 0 in
+    let part : slice_range block (16 * j) (16 * j + 16) ≡ take 16 (drop (16 * j) block) = (let n : 16 * j + 16 - 16 * j
+        ≡ 16 = omega arith in ap (λ (k : ℕ). take k (drop (16 * j) block)) n) in
+    let at = λ (i : ℕ) (hi : i < 16). ap (λ (l : List ℕ). get_or l i 0) (e ∙ part)
+        ∙ get_or-take 16 (drop (16 * j) block) i 0 hi ∙ get_or-drop (16 * j) block i 0 in
     record {
       left = λ i hi. let k : i ≡ i % 16 = omega (arith, hi) in at i hi ∙ ap (λ (m : ℕ). in_block block m j) k;
       right = λ i hi. let k : i ≡ (16 + i) % 16 = omega (arith, hi) in at i hi ∙ ap (λ (m : ℕ). in_block block m j) k;
     }
 
 -- a quarter of the block
-pub quarter_is : (block xs : List ℕ) (u v : ℕ) → u ≤ 8 → xs ≡ sixteen (λ i. area_sum (twice block) i v) → get_or xs u 0 ≡ area_sum (in_block block) u v
+pub quarter_is : (block xs : List ℕ) (u v : ℕ) → u ≤ 8 → xs ≡ sixteen (λ i. area_sum (twice block) i v)
+    → get_or xs u 0 ≡ area_sum (in_block block) u v
 quarter_is block xs u v hu e =
     ap (λ (l : List ℕ). get_or l u 0) e ∙ at_sixteen (λ i. area_sum (twice block) i v) u (omega (arith, hu))
-    ∙ area_is (twice block) (in_block block) u v u v (λ i j hi hj. let k : (u + i) % 16 ≡ u + i = omega (arith, hu, hi) in ap (λ (m : ℕ). in_block block m (v + j)) k)
+    ∙ area_is (twice block) (in_block block) u v u v (λ i j hi hj. let k : (u + i) % 16
+        ≡ u + i = omega (arith, hu, hi) in ap (λ (m : ℕ). in_block block m (v + j)) k)
 
 pub no_lanes : (f : ℕ → ℕ → ℕ) (at : ℕ → ℕ) (y : ℕ) → replicate 16 0 ≡ sixteen (λ i. column_sum f (at i) y 0)
 unfolding sixteen column_sum total
@@ -384,7 +439,8 @@ smaller x y = cond (top 15 (cond (ltb (minus x y) (minus y x)) (2 ^ 16 - 1) 0)) 
 smaller_is : (x y : ℕ) → x ≤ 16320 → y ≤ 16320 → smaller x y ≡ abs_diff x y
 smaller_is x y hx hy = by (ltb (minus x y) (minus y x)) refl
   where
-    by : (t : Bool) → ltb (minus x y) (minus y x) ≡ t → cond (top 15 (cond t (2 ^ 16 - 1) 0)) (minus x y) (minus y x) ≡ abs_diff x y
+    by : (t : Bool) → ltb (minus x y) (minus y x) ≡ t → cond (top 15 (cond t (2 ^ 16 - 1) 0)) (minus x y) (minus y x)
+        ≡ abs_diff x y
     by true e = omega (arith, hx, hy, ltb-true _ _ e)
     by false e = omega (arith, hx, hy, ltb-false _ _ e)
 
@@ -392,10 +448,13 @@ difference_lanes : (f g : ℕ → ℕ) → difference_l (sixteen f) (sixteen g) 
 unfolding sixteen
 difference_lanes f g = refl
 
-pub away_lanes : (xs : List ℕ) (f : ℕ → ℕ) (n : ℕ) → n ≤ 16320 → ((i : ℕ) → f i ≤ 16320) → xs ≡ sixteen f → difference_l xs (replicate 16 n) ≡ sixteen (λ i. abs_diff (f i) n)
+pub away_lanes : (xs : List ℕ) (f : ℕ → ℕ) (n : ℕ) → n ≤ 16320 → ((i : ℕ) → f i ≤ 16320) → xs ≡ sixteen f
+    → difference_l xs (replicate 16 n) ≡ sixteen (λ i. abs_diff (f i) n)
 away_lanes xs f n hn hf e =
-    ap (λ (l : List ℕ). difference_l l (replicate 16 n)) e ∙ ap (difference_l (sixteen f)) (all_same n) ∙ difference_lanes f (λ _. n)
+    ap (λ (l : List ℕ). difference_l l (replicate 16 n)) e ∙ ap (difference_l (sixteen f)) (all_same n)
+        ∙ difference_lanes f (λ _. n)
     ∙ sixteen_is (λ i. smaller (f i) n) (λ i. abs_diff (f i) n) (λ i hi. smaller_is (f i) n (hf i) hn)
 
-pub block_area_small : (block : List ℕ) (n u v : ℕ) → ((k : ℕ) → get_or block k 0 < 256) → n ≡ area_sum (in_block block) u v → n ≤ 16320
+pub block_area_small : (block : List ℕ) (n u v : ℕ) → ((k : ℕ) → get_or block k 0 < 256)
+    → n ≡ area_sum (in_block block) u v → n ≤ 16320
 block_area_small block n u v h e = omega (arith, e, area_small (in_block block) u v (λ i j. h (16 * j + i)))

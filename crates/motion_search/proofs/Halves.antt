@@ -24,7 +24,8 @@ not_zero v n hn even e =
     (middle_of v.y ((n + n / 4) / 3) even.y (omega arith) (ap (λ (w : Vector). w.y) e))
 
 -- with more differences than the best one costs it doesn't come before that
-pub stays_first : (now : Candidate) (v : Vector) (n s : ℕ) → n < 8 → IsEven v → now.cost <ℤ pos s → now ≡ first_of now (costing (eighth v n) s)
+pub stays_first : (now : Candidate) (v : Vector) (n s : ℕ) → n < 8 → IsEven v → now.cost <ℤ pos s
+    → now ≡ first_of now (costing (eighth v n) s)
 stays_first now v n s hn even more =
     sym (ap (λ (b : Bool). cond b (costing (eighth v n) s) now)
     (not_before_by_differences (eighth v n) s now more (λ e. absurd (not_zero v n hn even e))))

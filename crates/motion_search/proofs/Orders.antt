@@ -12,7 +12,10 @@ use Rattle.motion_search.specs.declared.candidate.Candidate.{Candidate}
 use Rattle.motion_search.specs.Order.{length_of, compared, before, first_of, least}
 
 pub total : IsTotalOrder compared
-total = then_total (on_total (λ (c : Candidate). c.cost) int_cmp_total) (then_total (on_total (λ (c : Candidate). length_of c.vector) nat_cmp_total) (then_total (on_total (λ (c : Candidate). c.vector.y) int_cmp_total) (on_total (λ (c : Candidate). c.vector.x) int_cmp_total)))
+total = then_total (on_total (λ (c : Candidate). c.cost) int_cmp_total)
+    (then_total (on_total (λ (c : Candidate). length_of c.vector) nat_cmp_total)
+    (then_total (on_total (λ (c : Candidate). c.vector.y) int_cmp_total)
+    (on_total (λ (c : Candidate). c.vector.x) int_cmp_total)))
 
 turned : (r : Ordering) → is_lt (ordering_reverse r) ≡ is_gt r
 turned Less = refl
@@ -38,7 +41,8 @@ not_before_first c b a h k = before_is c a ∙ upto total a b c (sym (before_is 
 -- one that costs more doesn't come before
 pub dearer_not_before : (c d : Candidate) → d.cost <ℤ c.cost → before c d ≡ false
 dearer_not_before c d h =
-    ap (λ (r : Ordering). is_lt (ordering_then r (ordering_then (nat_cmp (length_of c.vector) (length_of d.vector)) (ordering_then (int_cmp c.vector.y d.vector.y) (int_cmp c.vector.x d.vector.x)))))
+    ap (λ (r : Ordering). is_lt (ordering_then r (ordering_then (nat_cmp (length_of c.vector) (length_of d.vector))
+        (ordering_then (int_cmp c.vector.y d.vector.y) (int_cmp c.vector.x d.vector.x)))))
     (sym (int_cmp_is c.cost d.cost Greater h))
 
 both_equal : (a b : Ordering) → ordering_then a b ≡ Equal → (a ≡ Equal) × (b ≡ Equal)
@@ -55,7 +59,8 @@ same_int : (x y : ℤ) → int_cmp x y ≡ Equal → x ≡ y
 same_int x y h = (Decides-int_eq x y).0 (ap is_eq h)
 
 same_parts : (x x' y y' k k' : ℤ) → x ≡ x' → y ≡ y' → k ≡ k' →
-    let c : Candidate = record { vector = record { x = x; y = y }; cost = k } in let d : Candidate = record { vector = record { x = x'; y = y' }; cost = k' } in c ≡ d
+    let c : Candidate = record { vector = record { x = x; y = y }; cost = k } in
+        let d : Candidate = record { vector = record { x = x'; y = y' }; cost = k' } in c ≡ d
 same_parts x x' y y' k k' hx hy hk = cc
 
 pub same_candidates : (c d : Candidate) → before c d ≡ false → before d c ≡ false → c ≡ d
@@ -64,7 +69,8 @@ same_candidates c d h k =
     let cost = both_equal (int_cmp c.cost d.cost) _ level in
     let length = both_equal (nat_cmp (length_of c.vector) (length_of d.vector)) _ cost.1 in
     let rows = both_equal (int_cmp c.vector.y d.vector.y) _ length.1 in
-    same_parts c.vector.x d.vector.x c.vector.y d.vector.y c.cost d.cost (same_int _ _ rows.1) (same_int _ _ rows.0) (same_int _ _ cost.0)
+    same_parts c.vector.x d.vector.x c.vector.y d.vector.y c.cost d.cost (same_int _ _ rows.1) (same_int _ _ rows.0)
+        (same_int _ _ cost.0)
 
 -- ---- the first of two
 
@@ -97,16 +103,19 @@ still_not_before d b c h = not_before_first d b (first_of b c) h (best_not_befor
 -- ---- the least of a list
 
 -- the least of some has what they all have
-pub least_has : (P : Candidate → Type 0) (first : Candidate) (cs : List Candidate) → P first → All P cs → P (least first cs)
+pub least_has : (P : Candidate → Type 0) (first : Candidate) (cs : List Candidate) → P first → All P cs
+    → P (least first cs)
 unfolding least
 least_has P first [] h k = h
-least_has P first (c ∷ cs) h k = first_has P (least first cs) c (least_has P first cs h (All-tail P c cs k)) (All-head P c cs k)
+least_has P first (c ∷ cs) h k = first_has P (least first cs) c (least_has P first cs h (All-tail P c cs k))
+    (All-head P c cs k)
 
 -- the first one does not come before the least
 pub first_not_before : (first : Candidate) (cs : List Candidate) → before first (least first cs) ≡ false
 unfolding least
 first_not_before first [] = not_itself first
-first_not_before first (c ∷ cs) = not_before_first first (least first cs) (first_of (least first cs) c) (first_not_before first cs) (best_not_before (least first cs) c)
+first_not_before first (c ∷ cs) = not_before_first first (least first cs) (first_of (least first cs) c)
+    (first_not_before first cs) (best_not_before (least first cs) c)
 
 -- none of the others does
 pub none_before : (first : Candidate) (cs : List Candidate) → All (λ c. before c (least first cs) ≡ false) cs
@@ -115,9 +124,12 @@ none_before first [] = All-nil _
 none_before first (c ∷ cs) =
     All-cons (λ d. before d (least first (c ∷ cs)) ≡ false) c cs (other_not_before (least first cs) c)
     (All-weaker (λ d. before d (least first cs) ≡ false) (λ d. before d (least first (c ∷ cs)) ≡ false)
-    (λ d h. not_before_first d (least first cs) (first_of (least first cs) c) h (best_not_before (least first cs) c)) cs (none_before first cs))
+    (λ d h. not_before_first d (least first cs) (first_of (least first cs) c) h (best_not_before (least first cs) c)) cs
+        (none_before first cs))
 
 -- one of them before which none comes is the least
-pub is_least : (first best : Candidate) (cs : List Candidate) → before first best ≡ false → All (λ c. before c best ≡ false) cs →
+pub is_least : (first best : Candidate) (cs : List Candidate) → before first best ≡ false
+    → All (λ c. before c best ≡ false) cs →
     before best (least first cs) ≡ false → best ≡ least first cs
-is_least first best cs h k l = same_candidates best (least first cs) l (least_has (λ c. before c best ≡ false) first cs h k)
+is_least first best cs h k l = same_candidates best (least first cs) l (least_has (λ c. before c best
+    ≡ false) first cs h k)

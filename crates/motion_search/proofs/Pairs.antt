@@ -26,9 +26,11 @@ part_is_square out f at room same =
 
 -- a row of a block of 256 samples, and the rows after it
 pub stored_row_cut : (block samples : List ℕ) (j : ℕ) →
-    ((xs ys us vs : List ℕ) → length xs ≡ length us → differences (xs ++ ys) (us ++ vs) ≡ differences xs us + differences ys vs) →
+    ((xs ys us vs : List ℕ) → length xs ≡ length us → differences (xs ++ ys) (us ++ vs)
+        ≡ differences xs us + differences ys vs) →
     j < 16 → length block ≡ 256 → length samples ≡ 256 →
-    differences (slice_range block (16 * j) (16 * j + 16)) (slice_range samples (16 * j) (16 * j + 16)) + rows_from block samples (j + 1) ≡ rows_from block samples j
+    differences (slice_range block (16 * j) (16 * j + 16)) (slice_range samples (16 * j) (16 * j + 16)) + rows_from
+        block samples (j + 1) ≡ rows_from block samples j
 unfolding rows_from
 stored_row_cut block samples j add hj hb hs =
     let n : 16 * j + 16 - 16 * j ≡ 16 = omega arith in
@@ -41,15 +43,18 @@ unfolding rows_from
 rows_from_first block samples = refl
 
 -- a block differs from what a vector predicts as it does from the same samples
-pub predicted_differ : (block samples : List ℕ) (p : Picture) (mb r : ℕ) (v : Vector) → samples ≡ predicted_of p mb r v → differences block samples ≡ difference_of block p mb r v
+pub predicted_differ : (block samples : List ℕ) (p : Picture) (mb r : ℕ) (v : Vector) → samples ≡ predicted_of p mb r v
+    → differences block samples ≡ difference_of block p mb r v
 unfolding difference_of
 predicted_differ block samples p mb r v e = ap (differences block) e
 
 -- ---- the neighbours of a vector, from the one above on the left
 
 module _ (v w : Vector) (e : w ≡ around v 0) where
-  from_up_left : (to : Vector → Vector) (k : ℕ) → (to (around v 0)).x ≡ (around v k).x → (to (around v 0)).y ≡ (around v k).y → to w ≡ around v k
-  from_up_left to k ex ey = ap to e ∙ same_vectors (to (around v 0)).x (around v k).x (to (around v 0)).y (around v k).y ex ey
+  from_up_left : (to : Vector → Vector) (k : ℕ) → (to (around v 0)).x ≡ (around v k).x
+      → (to (around v 0)).y ≡ (around v k).y → to w ≡ around v k
+  from_up_left to k ex ey = ap to e
+      ∙ same_vectors (to (around v 0)).x (around v k).x (to (around v 0)).y (around v k).y ex ey
 
   pub above : right_by 1 w ≡ around v 1
   above = from_up_left (right_by 1) 1 (omega (arith, ints)) (omega (arith, ints))
@@ -74,7 +79,8 @@ module _ (v w : Vector) (e : w ≡ around v 0) where
 
 -- half a sample before a whole one
 half_before : (z : ℤ) → unsigned_abs z % 2 ≡ 0 → nat_eq (unsigned_abs (z +ℤ (pos 0 -ℤ pos 1)) % 2) 1 ≡ true
-half_before z h = let e : unsigned_abs (z +ℤ (pos 0 -ℤ pos 1)) % 2 ≡ 1 = omega (arith, ints, h) in ap (λ (n : ℕ). nat_eq n 1) e
+half_before z h = let e : unsigned_abs (z +ℤ (pos 0 -ℤ pos 1)) % 2 ≡ 1 = omega (arith, ints, h) in
+    ap (λ (n : ℕ). nat_eq n 1) e
 
 -- of a vector of whole samples the one above on the left leads half a sample across and down
 pub up_left_between : (v : Vector) → IsEven v → IsBetween (around v 0)

@@ -24,12 +24,14 @@ moved_more a x i v h =
     let e : pos (a + i) +ℤ whole_part Y v ≡ pos (x + i) = omega (arith, ints, h) in
     ap unsigned_abs e
 
-whole_sample : (p : Picture) (hx hy : Bool) (r x x' y y' : ℕ) → hx ≡ false → hy ≡ false → x ≡ x' → y ≡ y' → interpolated p Y hx hy r x y ≡ sample_at p Y x' y'
+whole_sample : (p : Picture) (hx hy : Bool) (r x x' y y' : ℕ) → hx ≡ false → hy ≡ false → x ≡ x' → y ≡ y'
+    → interpolated p Y hx hy r x y ≡ sample_at p Y x' y'
 whole_sample p hx hy r x x' y y' ehx ehy ex ey = cc
 
 -- by a vector of whole samples a macroblock differs from the square that it leads to
 pub whole_predicts : (block : List ℕ) (p : Picture) (mb r x y : ℕ) (v : Vector) → IsEven v →
-    pos x ≡ whole_place (16 * (mb % columns_of p.format)) v.x → pos y ≡ whole_place (16 * (mb / columns_of p.format)) v.y →
+    pos x ≡ whole_place (16 * (mb % columns_of p.format)) v.x
+        → pos y ≡ whole_place (16 * (mb / columns_of p.format)) v.y →
     differences block (square (λ i j. sample_at p Y (x + i) (y + j))) ≡ difference_of block p mb r v
 unfolding difference_of
 whole_predicts block p mb r x y v even ex ey =
@@ -40,16 +42,20 @@ whole_predicts block p mb r x y v even ex ey =
     ap (differences block)
     (is_square (square seen) predicted (length-square seen)
     (λ j i hj hi. get_or-square seen j i hj hi
-    ∙ sym (whole_sample p (is_half Y v.x) (is_half Y v.y) r (moved (left + i) (whole_part Y v.x)) (x + i) (moved (top + j) (whole_part Y v.y)) (y + j)
+    ∙ sym (whole_sample p (is_half Y v.x) (is_half Y v.y) r (moved (left + i) (whole_part Y v.x)) (x + i)
+        (moved (top + j) (whole_part Y v.y)) (y + j)
     (not_half v.x even.x) (not_half v.y even.y) (moved_more left x i v.x ex) (moved_more top y j v.y ey))))
 
 -- ---- what rounding leaves as it is
 
-even_sample : (p : Picture) (hx hy : Bool) (r x y : ℕ) → hx ≡ false → hy ≡ false → interpolated p Y hx hy r x y ≡ interpolated p Y hx hy 0 x y
-even_sample p hx hy r x y ehx ehy = whole_sample p hx hy r x x y y ehx ehy refl refl ∙ sym (whole_sample p hx hy 0 x x y y ehx ehy refl refl)
+even_sample : (p : Picture) (hx hy : Bool) (r x y : ℕ) → hx ≡ false → hy ≡ false → interpolated p Y hx hy r x y
+    ≡ interpolated p Y hx hy 0 x y
+even_sample p hx hy r x y ehx ehy = whole_sample p hx hy r x x y y ehx ehy refl refl
+    ∙ sym (whole_sample p hx hy 0 x x y y ehx ehy refl refl)
 
 -- what a vector of whole samples costs doesn't depend on the rounding
-pub not_rounded : (block : List ℕ) (p : Picture) (mb r : ℕ) (v : Vector) → IsEven v → candidate_of block p mb r v ≡ candidate_of block p mb 0 v
+pub not_rounded : (block : List ℕ) (p : Picture) (mb r : ℕ) (v : Vector) → IsEven v → candidate_of block p mb r v
+    ≡ candidate_of block p mb 0 v
 unfolding difference_of
 not_rounded block p mb r v even =
     let left = 16 * (mb % columns_of p.format) in
@@ -58,14 +64,17 @@ not_rounded block p mb r v even =
     ap (λ (l : List ℕ). costing v (differences block l))
     (is_square (square (predicted r)) (predicted 0) (length-square (predicted r))
     (λ j i hj hi. get_or-square (predicted r) j i hj hi
-    ∙ even_sample p (is_half Y v.x) (is_half Y v.y) r (moved (left + i) (whole_part Y v.x)) (moved (top + j) (whole_part Y v.y)) (not_half v.x even.x) (not_half v.y even.y)))
+    ∙ even_sample p (is_half Y v.x) (is_half Y v.y) r (moved (left + i) (whole_part Y v.x))
+        (moved (top + j) (whole_part Y v.y)) (not_half v.x even.x) (not_half v.y even.y)))
 
 -- candidates of whole samples are those of the other rounding too
-pub whole_not_rounded : (block : List ℕ) (p : Picture) (mb radius r : ℕ) (c : Candidate) → IsWholeCandidate block p mb radius 0 c → IsWholeCandidate block p mb radius r c
+pub whole_not_rounded : (block : List ℕ) (p : Picture) (mb radius r : ℕ) (c : Candidate)
+    → IsWholeCandidate block p mb radius 0 c → IsWholeCandidate block p mb radius r c
 whole_not_rounded block p mb radius r c h =
     record {
       whole = h.whole;
-      candidate = record { reach = h.candidate.reach; cost = h.candidate.cost ∙ sym (ap (λ (d : Candidate). d.cost) (not_rounded block p mb r c.vector h.whole.even)) };
+      candidate = record { reach = h.candidate.reach; cost = h.candidate.cost
+          ∙ sym (ap (λ (d : Candidate). d.cost) (not_rounded block p mb r c.vector h.whole.even)) };
     }
 
 stands_still : (x : ℕ) → moved x (whole_part Y (pos 0)) ≡ x
@@ -73,4 +82,5 @@ stands_still x = omega (arith, ints)
 
 -- the zero vector predicts a picture's own samples
 pub own_sample : (p : Picture) (r x y : ℕ) → predicted_sample p Y x y zero_vector r ≡ sample_at p Y x y
-own_sample p r x y = whole_sample p (is_half Y (pos 0)) (is_half Y (pos 0)) r _ x _ y refl refl (stands_still x) (stands_still y)
+own_sample p r x y = whole_sample p (is_half Y (pos 0)) (is_half Y (pos 0)) r _ x _ y refl refl (stands_still x)
+    (stands_still y)

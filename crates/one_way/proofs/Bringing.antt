@@ -63,7 +63,8 @@ some_at (x ∷ pairs) (suc k) few = some_at pairs k (omega (arith, few))
 
 -- a ring has one message at a place
 pub same_about : (o m : Option (ℕ × Said)) (a x : ℕ × Said) → o ≡ Some a → o ≡ m → m ≡ Some x → a.0 ≡ x.0
-same_about o m a x first same second = ap (λ (o : Option (ℕ × Said)). option_map_or (λ (x : ℕ × Said). x.0) o 0) (sym first ∙ same ∙ second)
+same_about o m a x first same second = ap (λ (o : Option (ℕ × Said)). option_map_or (λ (x : ℕ × Said). x.0) o 0)
+    (sym first ∙ same ∙ second)
 
 -- One that was said and is late, or has left the ring, is far.
 pub too_late : (rules : Rules) (sent played : ℕ) (pairs : List (ℕ × Said)) (k : ℕ) → k < length pairs
@@ -78,13 +79,18 @@ too_late rules sent played pairs k said kept late =
         → (t : ℕ) × (first_refusal rules (sent + 1) sent played (map about_of pairs) (Back k) ≡ Some (Far t sent))
     by_place x at (inl near) =
         let none = back_near rules sent played (map about_of pairs) (sent + 1) k x.0 (about_at pairs k x at) near in
-        let here : message_at pairs k ≡ Some x = ap (λ (b : Bool). if b then slice_get pairs k else None) (le-leb (length pairs) (k + 1024) (kept none)) ∙ at in
+        let here : message_at pairs k ≡ Some x = ap (λ (b : Bool). if b then slice_get pairs k else None)
+            (le-leb (length pairs) (k + 1024) (kept none)) ∙ at in
         absurd (omega (arith, near, late x here))
-    by_place x at (inr far) = (x.0, back_far rules sent played (map about_of pairs) (sent + 1) k x.0 (about_at pairs k x at) far)
+    by_place x at (inr far) = (x.0, back_far rules sent played (map about_of pairs) (sent + 1) k x.0
+        (about_at pairs k x at) far)
 
 -- ---- by what both ends have done
 
-module _ (p : Params) (in_range : IsParams p) (laws : NearLaws p) (network : Network) (sender : State) (receiver : Kept) (before : List ReceiverEntry) (frames : List Frame) (past : List Event) (begun : (receiver_end.run_of p before).played ≡ 0) (h : HoldsNetwork p network sender receiver before frames past) where
+module _ (p : Params) (in_range : IsParams p) (laws : NearLaws p) (network : Network) (sender : State) (receiver : Kept)
+    (before : List ReceiverEntry) (frames : List Frame) (past : List Event)
+    (begun : (receiver_end.run_of p before).played
+    ≡ 0) (h : HoldsNetwork p network sender receiver before frames past) where
   abbrev pairs_in : List (ℕ × Said)
   pairs_in = h.messages_are.pairs
 
@@ -92,15 +98,20 @@ module _ (p : Params) (in_range : IsParams p) (laws : NearLaws p) (network : Net
   pub message_kept : (k : ℕ) → MayHappenNow p before frames past (Back k) → length pairs_in ≤ k + 1024
   message_kept k near =
       let all = (both_after p (steady p) frames before past).said in
-      let long : length pairs_in ≡ length all = sym (as_many told_in pairs_in) ∙ ap (λ (l : List SaidMessage). length l) h.messages_are.same in
-      let few = laws.messages (receiver_end.run_of p before) (steady p) frames past k begun (steady_is p in_range) (near, h.way_holds.near) in
+      let long : length pairs_in ≡ length all = sym (as_many told_in pairs_in)
+          ∙ ap (λ (l : List SaidMessage). length l) h.messages_are.same in
+      let few = laws.messages (receiver_end.run_of p before) (steady p) frames past k begun (steady_is p in_range)
+          (near, h.way_holds.near) in
       omega (arith, few, long, half_few p.clock, in_range.lead, in_range.slots_high)
 
   -- the refusal by the messages of the ring
   pub told_is : (sent k : ℕ) → sent ≡ length (both_after p (steady p) frames before past).sender.coded
-      → first_refusal (rules_of p) (sent + 1) sent (both_after p (steady p) frames before past).receiver.played (map about_of pairs_in) (Back k) ≡ refusal_after p before frames past (Back k)
+      → first_refusal (rules_of p) (sent + 1) sent (both_after p (steady p) frames before past).receiver.played
+          (map about_of pairs_in) (Back k) ≡ refusal_after p before frames past (Back k)
   told_is sent k same =
       let abouts : map about_of pairs_in ≡ (in_both (both_after p (steady p) frames before past)).abouts =
-      sym (abouts_are pairs_in) ∙ ap (λ (l : List SaidMessage). map (λ (told : SaidMessage). told.about) l) h.messages_are.same
+      sym (abouts_are pairs_in)
+          ∙ ap (λ (l : List SaidMessage). map (λ (told : SaidMessage). told.about) l) h.messages_are.same
       in
-      λ i. first_refusal (rules_of p) (same i + 1) (same i) (both_after p (steady p) frames before past).receiver.played (abouts i) (Back k)
+      λ i. first_refusal (rules_of p) (same i + 1) (same i) (both_after p (steady p) frames before past).receiver.played
+          (abouts i) (Back k)

@@ -43,13 +43,15 @@ pub as_many : {X Y : Type 0} (f : X → Y) (xs : List X) → length (map f xs) �
 as_many f [] = refl
 as_many f (x ∷ xs) = ap (λ (n : ℕ). suc n) (as_many f xs)
 
-module _ (p : Params) (way : Way) (sender : State) (receiver : Kept) (before : List ReceiverEntry) (frames : List Frame) (past : List Event) (h : HoldsWay p way sender receiver before frames past) where
+module _ (p : Params) (way : Way) (sender : State) (receiver : Kept) (before : List ReceiverEntry) (frames : List Frame)
+    (past : List Event) (h : HoldsWay p way sender receiver before frames past) where
   abbrev both : List Event → Joined Style Mb Picture
   both events = both_after p (steady p) frames before events
 
   -- a packet is delivered, or none is there
   pub holds_packet : (new : Kept) (n j : ℕ) → MayHappenNow p before frames past (Deliver n j)
-      → AreJoined p (steady p) sender new frames before (Deliver n j ∷ past) → HoldsWay p way sender new before frames (Deliver n j ∷ past)
+      → AreJoined p (steady p) sender new frames before (Deliver n j ∷ past)
+          → HoldsWay p way sender new before frames (Deliver n j ∷ past)
   holds_packet new n j near joined =
       let w = both past in
       let o = slice_get (call.packets_of (encoding p) (rules_of p) w.sender.coded n) j in
@@ -58,52 +60,65 @@ module _ (p : Params) (way : Way) (sender : State) (receiver : Kept) (before : L
       record {
         joined = joined;
         near = (near, h.near);
-        tally = subst (λ (l : List (Shown Picture)). AreCounted way.tally l) (sym (plays_after (coding p) (rules_of p) begun (steady p) frames w n o)) h.tally;
-        packets = subst (λ (run : SenderRun Style Mb Picture). HasPackets p way.packets run.coded) (sym sender_same) h.packets;
-        references = subst (λ (run : SenderRun Style Mb Picture). HasReferences way.references run.coded) (sym sender_same) h.references;
+        tally = subst (λ (l : List (Shown Picture)). AreCounted way.tally l)
+            (sym (plays_after (coding p) (rules_of p) begun (steady p) frames w n o)) h.tally;
+        packets = subst (λ (run : SenderRun Style Mb Picture). HasPackets p way.packets run.coded)
+            (sym sender_same) h.packets;
+        references = subst (λ (run : SenderRun Style Mb Picture). HasReferences way.references run.coded)
+            (sym sender_same) h.references;
       }
 
   -- the next picture is played
   pub holds_play : (new : Kept) (tally : Tally) (mark : Mark) → MayHappenNow p before frames past Play
       → AreJoined p (steady p) sender new frames before (Play ∷ past)
-      → tally ≡ counted mark way.tally → mark ≡ mark_of (played_mark (decoding p.format) (rules_of p) (both past).receiver)
+      → tally ≡ counted mark way.tally
+          → mark ≡ mark_of (played_mark (decoding p.format) (rules_of p) (both past).receiver)
       → HoldsWay p (record way { tally = tally }) sender new before frames (Play ∷ past)
   holds_play new tally mark near joined tallied marked = record {
     joined = joined;
     near = (near, h.near);
     tally = subst (λ (x : Tally). AreCounted x (both (Play ∷ past)).plays) (sym tallied)
-        (count_more mark way.tally (played_shown (decoding p.format) (rules_of p) (both past).receiver) (both past).plays marked h.tally);
+        (count_more mark way.tally (played_shown (decoding p.format) (rules_of p) (both past).receiver)
+            (both past).plays marked h.tally);
     packets = h.packets;
     references = h.references;
   }
 
   -- a message comes back
   pub holds_message : (new : State) (k : ℕ) → MayHappenNow p before frames past (Back k)
-      → AreJoined p (steady p) new receiver frames before (Back k ∷ past) → HoldsWay p way new receiver before frames (Back k ∷ past)
+      → AreJoined p (steady p) new receiver frames before (Back k ∷ past)
+          → HoldsWay p way new receiver before frames (Back k ∷ past)
   holds_message new k near joined =
       let w = both past in
-      let same = coded_brought (coding p) (rules_of p) (receiver_end.run_of p before) (steady p) frames w (slice_get w.said k) in
+      let same = coded_brought (coding p) (rules_of p) (receiver_end.run_of p before) (steady p) frames w
+          (slice_get w.said k) in
       record {
         joined = joined;
         near = (near, h.near);
         tally = h.tally;
-        packets = subst (λ (coded : List (Coded Style Mb Picture)). HasPackets p way.packets coded) (sym same) h.packets;
-        references = subst (λ (coded : List (Coded Style Mb Picture)). HasReferences way.references coded) (sym same) h.references;
+        packets = subst (λ (coded : List (Coded Style Mb Picture)). HasPackets p way.packets coded)
+            (sym same) h.packets;
+        references = subst (λ (coded : List (Coded Style Mb Picture)). HasReferences way.references coded)
+            (sym same) h.references;
       }
 
   -- the next picture is sent
-  pub holds_send : EachEndRuns (coding p) (rules_of p) → (new : State) (f : Frame) (packets : SentPackets) (references : References)
+  pub holds_send : EachEndRuns (coding p) (rules_of p)
+      → (new : State) (f : Frame) (packets : SentPackets) (references : References)
       → MayHappenNow p before frames past Send → slice_get frames (length (both past).sender.coded) ≡ Some f
       → AreJoined p (steady p) new receiver frames before (Send ∷ past)
-      → ((pictures : ring.Pictures) → ring.HoldsPackets way.packets pictures → ring.HoldsPackets packets (pictures ++ new.packets ∷ []))
-      → ((list : List (Option ℕ)) → AreNoted way.references list → length (both past).sender.coded ≡ length list → AreNoted references (list ++ (next_of p (steady p) f (both past)).reference ∷ []))
+      → ((pictures : ring.Pictures) → ring.HoldsPackets way.packets pictures
+          → ring.HoldsPackets packets (pictures ++ new.packets ∷ []))
+      → ((list : List (Option ℕ)) → AreNoted way.references list → length (both past).sender.coded ≡ length list
+          → AreNoted references (list ++ (next_of p (steady p) f (both past)).reference ∷ []))
       → new.sent ≡ sender.sent + 1
       → HoldsWay p (record way { packets = packets; references = references }) new receiver before frames (Send ∷ past)
   holds_send runs new f packets references near at joined keeps notes one_more =
       let coded = (both past).sender.coded in
       let next = next_of p (steady p) f (both past) in
       let sent = sent_is p runs (steady p) sender receiver frames before past h.joined in
-      let coded_is : (both (Send ∷ past)).sender.coded ≡ coded ++ next ∷ [] = coded_sent (coding p) (rules_of p) (steady p) frames (receiver_end.run_of p before) past f at in
+      let coded_is : (both (Send ∷ past)).sender.coded ≡ coded ++ next ∷ [] = coded_sent (coding p) (rules_of p)
+          (steady p) frames (receiver_end.run_of p before) past f at in
       let number : new.sent - 1 ≡ length coded = omega (arith, one_more, sent) in
       let cut : new.packets ≡ call.packets_of (encoding p) (rules_of p) (coded ++ next ∷ []) (length coded) =
       packets_are p runs (steady p) new receiver frames before (Send ∷ past) joined

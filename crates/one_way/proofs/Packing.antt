@@ -41,18 +41,25 @@ pub record Room (p : Params) (packets : List (List ℕ)) : Type 0 where
 pub record Below (p : Params) : Type 0 where
   pub limit : 1200 ≤ p.limit
   pub ranged : (messages : List Message) (predicted : Bool) (depth quant : ℕ) (h : Header Style) → IsQuant quant
-      → h.style ≡ style_with p messages predicted depth quant → FitsHeader (rules_of p) predicted h → IsHeader (header_from h)
-  pub chosen_count : (frame : Picture) (reference : Option Picture) (h : picture.Header) → length (choices_of frame reference h p) ≡ mbs_of frame.format
-  pub chosen_each : (frame : Picture) (reference : Option Picture) (h : picture.Header) (k : ℕ) → k < mbs_of frame.format
+      → h.style ≡ style_with p messages predicted depth quant → FitsHeader (rules_of p) predicted h
+          → IsHeader (header_from h)
+  pub chosen_count : (frame : Picture) (reference : Option Picture) (h : picture.Header)
+      → length (choices_of frame reference h p) ≡ mbs_of frame.format
+  pub chosen_each : (frame : Picture) (reference : Option Picture) (h : picture.Header) (k : ℕ)
+      → k < mbs_of frame.format
       → slice_index_or (choices_of frame reference h p) k Skip ≡ choice_of frame reference h p k
-  pub chosen_whole : (frame : Picture) (reference : Option Picture) (h : picture.Header) (k : ℕ) → HasWholeBlocks (choice_of frame reference h p k)
-  pub same_cut : (predicted : Bool) (h : Header Style) (mbs : List Mb) → FitsHeader (rules_of p) predicted h → h.style.kind ≡ kind_of predicted
+  pub chosen_whole : (frame : Picture) (reference : Option Picture) (h : picture.Header) (k : ℕ)
+      → HasWholeBlocks (choice_of frame reference h p k)
+  pub same_cut : (predicted : Bool) (h : Header Style) (mbs : List Mb) → FitsHeader (rules_of p) predicted h
+      → h.style.kind ≡ kind_of predicted
       → cut_of (header_from h) p.limit mbs ≡ (encoding p).cut h.style mbs
   pub are_packets : (number sequence : ℕ) (h : picture.Header) (mbs : List Mb) → IsHeader h → All HasWholeBlocks mbs
       → ArePacketsOf number sequence h p.limit mbs (packets_of number sequence h (cut_of h p.limit mbs))
-  pub bytes : (number sequence : ℕ) (h : picture.Header) (mbs : List Mb) (packets : List (List ℕ)) → IsHeader h → All HasWholeBlocks mbs
+  pub bytes : (number sequence : ℕ) (h : picture.Header) (mbs : List Mb) (packets : List (List ℕ)) → IsHeader h
+      → All HasWholeBlocks mbs
       → ArePacketsOf number sequence h p.limit mbs packets → size_of packets ≤ 1200 * length mbs
-  pub count : (number sequence : ℕ) (h : picture.Header) (mbs : List Mb) (packets : List (List ℕ)) → IsHeader h → All HasWholeBlocks mbs
+  pub count : (number sequence : ℕ) (h : picture.Header) (mbs : List Mb) (packets : List (List ℕ)) → IsHeader h
+      → All HasWholeBlocks mbs
       → ArePacketsOf number sequence h p.limit mbs packets → length packets ≤ length mbs
 
 -- ---- headers
@@ -74,7 +81,8 @@ names_one k (Some r) = refl
 -- the header of a picture fits
 pub fits : (p : Params) (n : ℕ) (reference : Option ℕ) (style : Style)
     → FitsHeader (rules_of p) (is_some reference)
-    (record { number = n % period (rules_of p); reference = option_map (λ m. m % period (rules_of p)) reference; half = (rules_of p).half; style = style })
+    (record { number = n % period (rules_of p); reference = option_map (λ m. m % period (rules_of p)) reference;
+        half = (rules_of p).half; style = style })
 fits p n reference style =
     let some = some_period p.clock in
     record {
@@ -97,8 +105,10 @@ pub record IsCaptured (p : Params) (x : Coded Style Mb Picture) : Type 0 where
 
 module _ (p : Params) (below : Below p) where
   -- choices, with their header, cut and packed
-  chosen_room : (frame : Frame) (predicted : Bool) (depth quant : ℕ) (before : Option Picture) (h : Header Style) (n sequence : ℕ)
-      → IsQuant quant → h.style ≡ style_with p frame.messages predicted depth quant → FitsHeader (rules_of p) predicted h
+  chosen_room : (frame : Frame) (predicted : Bool) (depth quant : ℕ) (before : Option Picture) (h : Header Style)
+      (n sequence : ℕ)
+      → IsQuant quant → h.style ≡ style_with p frame.messages predicted depth quant
+          → FitsHeader (rules_of p) predicted h
       → Room p ((encoding p).packets n sequence h ((encoding p).cut h.style ((encoding p).choice frame before h.style)))
   chosen_room frame predicted depth quant before h n sequence ranged style fit =
       let picture = in_format p.format frame.picture in
@@ -107,7 +117,8 @@ module _ (p : Params) (below : Below p) where
       let kind : h.style.kind ≡ kind_of predicted = ap (λ (s : Style). s.kind) style in
       let many : length mbs ≡ mbs_of p.format = below.chosen_count picture before g in
       let whole : All HasWholeBlocks mbs = All-from_get_or HasWholeBlocks mbs Skip (λ k few.
-      subst HasWholeBlocks (sym (below.chosen_each picture before g k (omega (arith, few, many)))) (below.chosen_whole picture before g k)) in
+      subst HasWholeBlocks (sym (below.chosen_each picture before g k (omega (arith, few, many))))
+          (below.chosen_whole picture before g k)) in
       let header = below.ranged frame.messages predicted depth quant h ranged style fit in
       let packets = packets_of n sequence (header_from h) (cut_of (header_from h) p.limit mbs) in
       let are = below.are_packets n sequence (header_from h) mbs header whole in
@@ -115,10 +126,13 @@ module _ (p : Params) (below : Below p) where
         bytes = omega (arith, below.bytes n sequence (header_from h) mbs packets header whole are, many);
         count = omega (arith, below.count n sequence (header_from h) mbs packets header whole are, many);
       } in
-      subst (λ (slices : List (Slice Mb)). Room p (packets_of n sequence (header_from h) slices)) (below.same_cut predicted h mbs fit kind) room
+      subst (λ (slices : List (Slice Mb)). Room p (packets_of n sequence (header_from h) slices))
+          (below.same_cut predicted h mbs fit kind) room
 
-  pub captured_room : (quant : ℕ) (frame : Frame) (coded : List (Coded Style Mb Picture)) (reference : Option ℕ) (n sequence : ℕ) → IsQuant quant
-      → Room p (let x = capture (pictures p.format) (encoding p) quant frame coded reference in (encoding p).packets n sequence (header_of (rules_of p) n x) x.slices)
+  pub captured_room : (quant : ℕ) (frame : Frame) (coded : List (Coded Style Mb Picture)) (reference : Option ℕ)
+      (n sequence : ℕ) → IsQuant quant
+      → Room p (let x = capture (pictures p.format) (encoding p) quant frame coded reference in
+          (encoding p).packets n sequence (header_of (rules_of p) n x) x.slices)
   unfolding capture header_of
   captured_room quant frame coded reference n sequence ranged =
       chosen_room frame (is_some reference) _ quant _ _ n sequence ranged refl (fits p n reference _)
@@ -128,7 +142,8 @@ module _ (p : Params) (below : Below p) where
   abbrev AllCaptured : List (Coded Style Mb Picture) → Type 0
   AllCaptured coded = (n : ℕ) (x : Coded Style Mb Picture) → slice_get coded n ≡ Some x → IsCaptured p x
 
-  one_more : (coded : List (Coded Style Mb Picture)) (y : Coded Style Mb Picture) → AllCaptured coded → IsCaptured p y → AllCaptured (coded ++ y ∷ [])
+  one_more : (coded : List (Coded Style Mb Picture)) (y : Coded Style Mb Picture) → AllCaptured coded → IsCaptured p y
+      → AllCaptured (coded ++ y ∷ [])
   one_more [] y each last zero x is = let same : y ≡ x = cc is in subst (IsCaptured p) same last
   one_more [] y each last (suc n) x is = absurd (cc is)
   one_more (z ∷ coded) y each last zero x is = each zero x is
@@ -138,7 +153,8 @@ module _ (p : Params) (below : Below p) where
   few_sizes : (coded : List (Coded Style Mb Picture)) → length (call.last_sizes (encoding p) (rules_of p) coded) ≤ 16
   few_sizes coded =
       let count : length (call.last_sizes (encoding p) (rules_of p) coded) ≡ length coded - (length coded - 16) =
-      length-map-range_with_len (λ n. call.bytes_in (call.packets_of (encoding p) (rules_of p) coded n)) (length coded - 16) (length coded - (length coded - 16))
+      length-map-range_with_len (λ n. call.bytes_in (call.packets_of (encoding p) (rules_of p) coded n))
+          (length coded - 16) (length coded - (length coded - 16))
       in
       omega (arith, count)
 
@@ -152,16 +168,21 @@ module _ (p : Params) (below : Below p) where
       (record { quant = _; frame = frame; coded = _; reference = _; some = range.0; few = range.1; is = refl })
   all_captured pace (Feedback bytes ∷ entries) paced = all_captured pace entries paced
 
-  by_slot : (n sequence : ℕ) (o : Option (Coded Style Mb Picture)) → ((x : Coded Style Mb Picture) → o ≡ Some x → IsCaptured p x)
-      → Room p (option_map_or (λ (x : Coded Style Mb Picture). (encoding p).packets n sequence (header_of (rules_of p) n x) x.slices) o [])
+  by_slot : (n sequence : ℕ) (o : Option (Coded Style Mb Picture)) → ((x : Coded Style Mb Picture) → o ≡ Some x
+      → IsCaptured p x)
+      → Room p (option_map_or (λ (x : Coded Style Mb Picture). (encoding p).packets n sequence
+          (header_of (rules_of p) n x) x.slices) o [])
   by_slot n sequence None each = record { bytes = omega arith; count = omega arith }
   by_slot n sequence (Some x) each =
       let c = each x refl in
-      subst (λ (y : Coded Style Mb Picture). Room p ((encoding p).packets n sequence (header_of (rules_of p) n y) y.slices)) (sym c.is)
-      (captured_room c.quant c.frame c.coded c.reference n sequence (record { low = omega (arith, c.some); high = omega (arith, c.few) }))
+      subst (λ (y : Coded Style Mb Picture). Room p ((encoding p).packets n sequence (header_of (rules_of p) n y)
+          y.slices)) (sym c.is)
+      (captured_room c.quant c.frame c.coded c.reference n sequence (record { low = omega (arith, c.some);
+          high = omega (arith, c.few) }))
 
   pub packets_room : (pace : List ℕ → ℕ) (entries : List (SenderEntry Frame)) (n : ℕ) → IsPace pace
-      → Room p (call.packets_of (encoding p) (rules_of p) (sender_run (pictures p.format) (encoding p) (rules_of p) pace entries).coded n)
+      → Room p (call.packets_of (encoding p) (rules_of p) (sender_run (pictures p.format) (encoding p)
+          (rules_of p) pace entries).coded n)
   unfolding call.packets_of
   packets_room pace entries n paced =
       let coded = (sender_run (pictures p.format) (encoding p) (rules_of p) pace entries).coded in

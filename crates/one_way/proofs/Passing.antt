@@ -40,7 +40,8 @@ one_more marks.Patched Held tally is = absurd cc
 one_more marks.Held Exact tally is = absurd cc
 one_more marks.Held Patched tally is = absurd cc
 
-pub count_more : (mark : Mark) (tally : Tally) (shown : Shown Picture) (plays : List (Shown Picture)) → mark ≡ mark_of shown.mark
+pub count_more : (mark : Mark) (tally : Tally) (shown : Shown Picture) (plays : List (Shown Picture))
+    → mark ≡ mark_of shown.mark
     → AreCounted tally plays → AreCounted (counted mark tally) (shown ∷ plays)
 count_more mark tally shown plays is counts =
     let more = one_more mark shown.mark tally is in

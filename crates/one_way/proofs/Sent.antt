@@ -28,7 +28,8 @@ get_past [] n few = refl
 get_past (y ∷ xs) zero few = absurd (omega (arith, few))
 get_past (y ∷ xs) (suc n) few = get_past xs n (omega (arith, few))
 
-or_front : {X : Type 0} (xs : List X) (x d : X) (n : ℕ) → n < length xs → slice_index_or (xs ++ x ∷ []) n d ≡ slice_index_or xs n d
+or_front : {X : Type 0} (xs : List X) (x d : X) (n : ℕ) → n < length xs → slice_index_or (xs ++ x ∷ []) n d
+    ≡ slice_index_or xs n d
 or_front [] x d n few = absurd (omega (arith, few))
 or_front (y ∷ xs) x d zero few = refl
 or_front (y ∷ xs) x d (suc n) few = or_front xs x d n (omega (arith, few))
@@ -62,23 +63,29 @@ module _ (p : Params) where
   packets_of coded n = call.packets_of (encoding p) (rules_of p) coded n
 
   -- the packets of an earlier picture stay
-  packets_stay : (coded : List (Coded Style Mb Picture)) (x : Coded Style Mb Picture) (n : ℕ) → n < length coded → packets_of (coded ++ x ∷ []) n ≡ packets_of coded n
+  packets_stay : (coded : List (Coded Style Mb Picture)) (x : Coded Style Mb Picture) (n : ℕ) → n < length coded
+      → packets_of (coded ++ x ∷ []) n ≡ packets_of coded n
   unfolding call.packets_of
   packets_stay coded x n few =
-      λ i. option_map_or (λ (y : Coded Style Mb Picture). (encoding p).packets n (call.packets_before (take_front coded x n (omega (arith, few)) i)) (call.header_of (rules_of p) n y) y.slices) (get_front coded x n few i) []
+      λ i. option_map_or (λ (y : Coded Style Mb Picture). (encoding p).packets n
+          (call.packets_before (take_front coded x n (omega (arith, few)) i)) (call.header_of (rules_of p) n y)
+          y.slices) (get_front coded x n few i) []
 
   packets_past : (coded : List (Coded Style Mb Picture)) (n : ℕ) → length coded ≤ n → packets_of coded n ≡ []
   unfolding call.packets_of
   packets_past coded n few =
-      ap (λ (o : Option (Coded Style Mb Picture)). option_map_or (λ (y : Coded Style Mb Picture). (encoding p).packets n (call.packets_before (take n coded)) (call.header_of (rules_of p) n y) y.slices) o []) (get_past coded n few)
+      ap (λ (o : Option (Coded Style Mb Picture)). option_map_or (λ (y : Coded Style Mb Picture). (encoding p).packets n
+          (call.packets_before (take n coded)) (call.header_of (rules_of p) n y) y.slices) o []) (get_past coded n few)
 
   -- before the first picture
   pub none_sent : (n : ℕ) → slice_index_or [] n [] ≡ packets_of [] n
   none_sent n = or_past [] [] n (omega arith) ∙ sym (packets_past [] n (omega arith))
 
   -- with those of one picture more
-  pub has_one_more : (ring new : SentPackets) (coded : List (Coded Style Mb Picture)) (x : Coded Style Mb Picture) (packets : List (List ℕ))
-      → HasPackets p ring coded → ((pictures : Pictures) → HoldsPackets ring pictures → HoldsPackets new (pictures ++ packets ∷ []))
+  pub has_one_more : (ring new : SentPackets) (coded : List (Coded Style Mb Picture)) (x : Coded Style Mb Picture)
+      (packets : List (List ℕ))
+      → HasPackets p ring coded → ((pictures : Pictures) → HoldsPackets ring pictures
+          → HoldsPackets new (pictures ++ packets ∷ []))
       → packets ≡ packets_of (coded ++ x ∷ []) (length coded) → HasPackets p new (coded ++ x ∷ [])
   has_one_more ring new coded x packets has kept is = record {
     pictures = has.pictures ++ packets ∷ [];
@@ -87,12 +94,15 @@ module _ (p : Params) where
     each = λ n. by_place n (cases_lt n (length coded));
   }
     where
-      by_place : (n : ℕ) → (n < length coded) ⊎ (length coded ≤ n) → slice_index_or (has.pictures ++ packets ∷ []) n [] ≡ packets_of (coded ++ x ∷ []) n
+      by_place : (n : ℕ) → (n < length coded) ⊎ (length coded ≤ n) → slice_index_or (has.pictures ++ packets ∷ []) n []
+          ≡ packets_of (coded ++ x ∷ []) n
       by_place n (inl few) =
-          or_front has.pictures packets [] n (omega (arith, few, has.count)) ∙ has.each n ∙ sym (packets_stay coded x n few)
+          or_front has.pictures packets [] n (omega (arith, few, has.count)) ∙ has.each n
+              ∙ sym (packets_stay coded x n few)
       by_place n (inr many) = by_end n many (cases_lt (length coded) n)
         where
-          by_end : (n : ℕ) → length coded ≤ n → (length coded < n) ⊎ (n ≤ length coded) → slice_index_or (has.pictures ++ packets ∷ []) n [] ≡ packets_of (coded ++ x ∷ []) n
+          by_end : (n : ℕ) → length coded ≤ n → (length coded < n) ⊎ (n ≤ length coded)
+              → slice_index_or (has.pictures ++ packets ∷ []) n [] ≡ packets_of (coded ++ x ∷ []) n
           by_end n many (inl past) =
               or_past (has.pictures ++ packets ∷ []) [] n (omega (arith, past, has.count, more has.pictures packets))
               ∙ sym (packets_past (coded ++ x ∷ []) n (omega (arith, past, more coded x)))
@@ -107,11 +117,13 @@ module _ (p : Params) where
 -- ---- references
 
 -- the reference of a picture, as it is noted
-pub noted_is : (coded : List (Coded Style Mb Picture)) (n : ℕ) → slice_index_or (map (λ (x : Coded Style Mb Picture). x.reference) coded) n None ≡ reference_in coded n
+pub noted_is : (coded : List (Coded Style Mb Picture)) (n : ℕ)
+    → slice_index_or (map (λ (x : Coded Style Mb Picture). x.reference) coded) n None ≡ reference_in coded n
 noted_is [] n = refl
 noted_is (x ∷ coded) zero = refl
 noted_is (x ∷ coded) (suc n) = noted_is coded n
 
 pub noted_more : (coded : List (Coded Style Mb Picture)) (x : Coded Style Mb Picture)
-    → map (λ (x : Coded Style Mb Picture). x.reference) (coded ++ x ∷ []) ≡ map (λ (x : Coded Style Mb Picture). x.reference) coded ++ x.reference ∷ []
+    → map (λ (x : Coded Style Mb Picture). x.reference) (coded ++ x ∷ [])
+        ≡ map (λ (x : Coded Style Mb Picture). x.reference) coded ++ x.reference ∷ []
 noted_more coded x = map_more (λ (x : Coded Style Mb Picture). x.reference) coded x

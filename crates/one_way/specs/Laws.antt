@@ -82,7 +82,8 @@ pub record PacketLaws (p : Params) : Type 0 where
   pub room : (pace : List ℕ → ℕ) (entries : List (SenderEntry Frame)) (n : ℕ) → IsPace pace
       → let packets = packets_of (encoding p) (rules_of p) (sender_end.run_of p pace entries).coded n in
       (size_of packets ≤ 1200 * mbs_of p.format) × (length packets ≤ mbs_of p.format)
-  pub captured : (quant : ℕ) (frame : Frame) (coded : List (Coded Style Mb Picture)) (reference : Option ℕ) (n sequence : ℕ)
+  pub captured : (quant : ℕ) (frame : Frame) (coded : List (Coded Style Mb Picture)) (reference : Option ℕ)
+      (n sequence : ℕ)
       → (0 < quant) × (quant < 32)
       → let x = capture (pictures p.format) (encoding p) quant frame coded reference in
       let packets = (encoding p).packets n sequence (header_of (rules_of p) n x) x.slices in
@@ -197,7 +198,8 @@ pub record RingLaws (p : Params) : Type 0 where
       → IfSome said (λ s. AreBytes (text_of s)) → told_by n said ≡ said_to write_message n answer
   pub told : (n : ℕ) (said : Option Said) (message : Option Message) → IsMessage p.clock said message
       → IfSome said (λ s. AreBytes (text_of s))
-      → told_by n said ≡ option_map_or (λ (m : Message). let told : SaidMessage = record { about = n; bytes = write_message m } in told ∷ []) message []
+      → told_by n said ≡ option_map_or (λ (m : Message). let told : SaidMessage = record { about = n;
+          bytes = write_message m } in told ∷ []) message []
   -- the mark of one play more
   pub counted : (mark : Mark) (tally : Tally) (shown : Shown Picture) (plays : List (Shown Picture))
       → mark ≡ mark_of shown.mark → AreCounted tally plays → AreCounted (counted mark tally) (shown ∷ plays)

@@ -18,13 +18,16 @@ last_first false true = refl
 last_first false false = refl
 
 -- a test of each of some marks in a row
-pub all_marks : (f : Bool → Bool) (marks : List Bool) (from count : ℕ) → from + count ≤ length marks → list_all f (take count (drop from marks)) ≡ all_below count (λ i. f (get_or marks (from + i) false))
+pub all_marks : (f : Bool → Bool) (marks : List Bool) (from count : ℕ) → from + count ≤ length marks
+    → list_all f (take count (drop from marks)) ≡ all_below count (λ i. f (get_or marks (from + i) false))
 all_marks f marks from zero within = refl
 all_marks f marks from (suc count) within =
     let rest = drop from marks in
-    let more : take (count + 1) rest ≡ take count rest ++ get_or rest count false ∷ [] = take_more rest count false (omega (arith, length-drop from marks)) in
+    let more : take (count + 1) rest ≡ take count rest ++ get_or rest count false ∷ [] = take_more rest count false
+        (omega (arith, length-drop from marks)) in
     let next : suc count ≡ count + 1 = omega arith in
-    let whole : take (suc count) rest ≡ take count rest ++ get_or rest count false ∷ [] = ap (λ (n : ℕ). take n rest) next ∙ more in
+    let whole : take (suc count) rest ≡ take count rest ++ get_or rest count false ∷ [] =
+        ap (λ (n : ℕ). take n rest) next ∙ more in
     ap (list_all f) whole
     ∙ list_all-append f (take count rest) (get_or rest count false ∷ [])
     ∙ last_first (list_all f (take count rest)) (f (get_or rest count false))

@@ -30,18 +30,21 @@ pub header_format : (format : Format) (h : Header) (bits : List Bool) → IsHead
 unfolding header Spells
 header_format format h bits t = ap (λ (x : Header). x.format) t.6.6.6.6.6.6.6.5.6.0
 
-pub extra_format : (format : Format) (plen pebit : ℕ) (extra : Option Header) (bits : List Bool) → IsExtra format plen pebit extra bits → IsExtraOf format extra
+pub extra_format : (format : Format) (plen pebit : ℕ) (extra : Option Header) (bits : List Bool)
+    → IsExtra format plen pebit extra bits → IsExtraOf format extra
 extra_format format plen pebit None bits t = tt
 extra_format format plen pebit (Some h) bits t = header_format format h t.0 t.6
 
 -- a header that was read has the format that was expected
-pub read_format : (format : Format) (r : Result Header Fault) (old new : Bits) → IfOk r (λ h. Takes old new (IsHeaderText format h)) → IfOk r (λ h. h.format ≡ format)
+pub read_format : (format : Format) (r : Result Header Fault) (old new : Bits)
+    → IfOk r (λ h. Takes old new (IsHeaderText format h)) → IfOk r (λ h. h.format ≡ format)
 read_format format (Ok h) old new t = header_format format h t.0 t.3
 read_format format (Err fault) old new t = tt
 
 -- ---- what was read is spelled
 
-headed_sound : (format : Format) (extra : Option Header) (h : Header) (b c : Bits) → headed_at format extra b ≡ Ok (h, c) → (front : List Bool) × (b.bits ≡ front ++ c.bits) × IsHeaded format extra h front
+headed_sound : (format : Format) (extra : Option Header) (h : Header) (b c : Bits) → headed_at format extra b
+    ≡ Ok (h, c) → (front : List Bool) × (b.bits ≡ front ++ c.bits) × IsHeaded format extra h front
 headed_sound format None h b c e = let t = sound (header format) b c h e in (t.0, t.1.parts, t.2)
 headed_sound format (Some x) h b c e =
     let same = ok_is (x, b) (h, c) e in
@@ -64,7 +67,8 @@ record IsAfterText (format : Format) (p : Payload) (s : Slice) (bits : List Bool
   headed : IsHeaded format p.extra s.header front
   text : IsSliceText s.header p.begins s.first s.mbs after
 
-after_sound : PartLaws → (format : Format) (p : Payload) (s : Slice) (b : Bits) → slice_after format p b ≡ Ok s → IsAfterText format p s b.bits
+after_sound : PartLaws → (format : Format) (p : Payload) (s : Slice) (b : Bits) → slice_after format p b ≡ Ok s
+    → IsAfterText format p s b.bits
 unfolding slice_after
 after_sound laws format p s b e =
     let one = bind_ok (headed_at format p.extra b) (λ x. with_header x.0 (slice_at x.0 p.begins x.1)) s e in
@@ -77,16 +81,20 @@ after_sound laws format p s b e =
       after = c.bits;
       parts = front.1;
       headed = subst (λ (x : Header). IsHeaded format p.extra x front.0) (sym w.header) front.2;
-      text = subst (λ (x : Header). IsSliceText x p.begins s.first s.mbs c.bits) (sym w.header) ((laws.slices h p.begins s.first s.mbs c).0 w.read);
+      text = subst (λ (x : Header). IsSliceText x p.begins s.first s.mbs c.bits) (sym w.header)
+          ((laws.slices h p.begins s.first s.mbs c).0 w.read);
     }
 
 -- what is read of a packet is spelled by its bytes
-pub packet_sound : PartLaws → (format : Format) (s : Slice) (bytes : List ℕ) → packet_at format bytes ≡ Ok s → IsPacket format s bytes
+pub packet_sound : PartLaws → (format : Format) (s : Slice) (bytes : List ℕ) → packet_at format bytes ≡ Ok s
+    → IsPacket format s bytes
 unfolding packet_at
 packet_sound laws format s bytes e =
-    let one = bind_ok (rtp_in bytes) (λ r. payload_at format (payload_bits_of bytes r) >>= λ p. slice_after format p (data_of bytes r p)) s e in
+    let one = bind_ok (rtp_in bytes) (λ r. payload_at format (payload_bits_of bytes r) >>= λ p. slice_after format p
+        (data_of bytes r p)) s e in
     let r = one.0 in
-    let two = bind_ok (payload_at format (payload_bits_of bytes r)) (λ p. slice_after format p (data_of bytes r p)) s one.2 in
+    let two = bind_ok (payload_at format (payload_bits_of bytes r)) (λ p. slice_after format p (data_of bytes r p)) s
+        one.2 in
     let p = two.0 in
     let t = after_sound laws format p s (data_of bytes r p) two.2 in
     record {
@@ -103,66 +111,83 @@ packet_sound laws format s bytes e =
 
 -- ---- what is spelled is read
 
-record IsHeadedAgain (format : Format) (extra : Option Header) (h : Header) (at : ℕ) (front rest : List Bool) : Type 0 where
+record IsHeadedAgain (format : Format) (extra : Option Header) (h : Header) (at : ℕ) (front rest : List Bool) : Type
+    0 where
   left : Bits
   read : headed_at format extra (record { at = at; bits = front ++ rest }) ≡ Ok (h, left)
   bits : left.bits ≡ rest
 
-headed_again : HeaderLaws → (format : Format) (extra : Option Header) (h : Header) (at : ℕ) (front rest : List Bool) → IsHeaded format extra h front → IsHeadedAgain format extra h at front rest
+headed_again : HeaderLaws → (format : Format) (extra : Option Header) (h : Header) (at : ℕ) (front rest : List Bool)
+    → IsHeaded format extra h front → IsHeadedAgain format extra h at front rest
 headed_again laws format None h at front rest t =
-    record { left = record { at = at + length front; bits = rest }; read = complete (header format) h front rest at (laws.productive format) t; bits = refl }
+    record { left = record { at = at + length front; bits = rest };
+        read = complete (header format) h front rest at (laws.productive format) t; bits = refl }
 headed_again laws format (Some x) h at front rest t = record {
   left = record { at = at; bits = front ++ rest };
   read = ap (λ (y : Header). Ok (y, record { at = at; bits = front ++ rest })) t.0;
   bits = ap (λ (l : List Bool). l ++ rest) t.1;
 }
 
-pub packet_complete : PartLaws → (format : Format) (s : Slice) (bytes : List ℕ) → IsPacket format s bytes → packet_at format bytes ≡ Ok s
+pub packet_complete : PartLaws → (format : Format) (s : Slice) (bytes : List ℕ) → IsPacket format s bytes
+    → packet_at format bytes ≡ Ok s
 unfolding packet_at slice_after
 packet_complete laws format s bytes t =
     let r = t.rtp in
     let p = t.payload in
     let one : rtp_in bytes ≡ Ok r = laws.rtp_written r bytes t.is_rtp in
-    let two : payload_at format (payload_bits_of bytes r) ≡ Ok p = laws.payload_written format p (payload_bits_of bytes r) t.is_payload in
+    let two : payload_at format (payload_bits_of bytes r)
+        ≡ Ok p = laws.payload_written format p (payload_bits_of bytes r) t.is_payload in
     let again = headed_again laws.headers format p.extra s.header p.from t.front t.after t.headed in
     let three : headed_at format p.extra (data_of bytes r p) ≡ Ok (s.header, again.left) =
     ap (λ (bits : List Bool). headed_at format p.extra (record { at = p.from; bits = bits })) t.parts ∙ again.read in
     let four : slice_at s.header p.begins again.left ≡ Ok (s.first, s.mbs) =
-    (laws.slices s.header p.begins s.first s.mbs again.left).1 (subst (λ (bits : List Bool). IsSliceText s.header p.begins s.first s.mbs bits) (sym again.bits) t.text) in
+    (laws.slices s.header p.begins s.first s.mbs again.left).1
+        (subst (λ (bits : List Bool). IsSliceText s.header p.begins s.first s.mbs bits) (sym again.bits) t.text) in
     rw (one, two, three, four) refl
 
 -- ---- what a call leaves
 
-pub fills_packet : PartLaws → (r : Result Piece Fault) (out : List Mb) (format : Format) (bytes : List ℕ) → FillsPacket r out (packet_at format bytes) → IfOk r (λ piece. IsPacket format (slice_in piece out) bytes)
+pub fills_packet : PartLaws → (r : Result Piece Fault) (out : List Mb) (format : Format) (bytes : List ℕ)
+    → FillsPacket r out (packet_at format bytes) → IfOk r (λ piece. IsPacket format (slice_in piece out) bytes)
 fills_packet laws (Ok piece) out format bytes g = packet_sound laws format (slice_in piece out) bytes g
 fills_packet laws (Err fault) out format bytes g = tt
 
-pub packet_fills : PartLaws → (r : Result Piece Fault) (out : List Mb) (format : Format) (bytes : List ℕ) → IfOk r (IsPieceIn format out) → length out ≡ mbs_of format → FillsPacket r out (packet_at format bytes)
-    → (s : Slice) → IsPacket format s bytes → IsOkAnd r (λ piece. (piece.head.count ≡ length s.mbs) × (slice_in piece out ≡ s))
+pub packet_fills : PartLaws → (r : Result Piece Fault) (out : List Mb) (format : Format) (bytes : List ℕ)
+    → IfOk r (IsPieceIn format out) → length out ≡ mbs_of format → FillsPacket r out (packet_at format bytes)
+    → (s : Slice) → IsPacket format s bytes
+        → IsOkAnd r (λ piece. (piece.head.count ≡ length s.mbs) × (slice_in piece out ≡ s))
 packet_fills laws (Ok piece) out format bytes range size g s is =
     let same = ok_is (slice_in piece out) s (sym g ∙ packet_complete laws format s bytes is) in
     let first = piece.head.first in
     let count = piece.head.count in
     let sized : length out ≡ mbs_of piece.header.format = size ∙ ap mbs_of (sym range.of-format) in
-    let long : length (mbs_from first count out) ≡ count = length-take-le count (drop first out) (omega (arith, sized, length-drop first out, range.slice.head.within)) in
+    let long : length (mbs_from first count out)
+        ≡ count = length-take-le count (drop first out) (omega (arith, sized, length-drop first out,
+        range.slice.head.within)) in
     (sym long ∙ ap (λ (x : Slice). length x.mbs) same, same)
-packet_fills laws (Err fault) out format bytes range size g s is = absurd (err_not_ok fault s (sym g ∙ packet_complete laws format s bytes is))
+packet_fills laws (Err fault) out format bytes range size g s is = absurd (err_not_ok fault s (sym g
+    ∙ packet_complete laws format s bytes is))
 
-pub fault_is : (r : Result Piece Fault) (out : List Mb) (read : Result Slice Fault) → FillsPacket r out read → first_fault r ≡ first_fault read
+pub fault_is : (r : Result Piece Fault) (out : List Mb) (read : Result Slice Fault) → FillsPacket r out read
+    → first_fault r ≡ first_fault read
 fault_is (Ok piece) out read g = ap first_fault (sym g)
 fault_is (Err fault) out read g = ap first_fault (sym g)
 
 -- ---- laws
 
-pub no_fault : PartLaws → (format : Format) (bytes : List ℕ) → packet_fault format bytes ≡ None → (s : Slice) × IsPacket format s bytes
+pub no_fault : PartLaws → (format : Format) (bytes : List ℕ) → packet_fault format bytes ≡ None
+    → (s : Slice) × IsPacket format s bytes
 no_fault laws format bytes e = at (packet_at format bytes) refl e
   where
-    at : (r : Result Slice Fault) → packet_at format bytes ≡ r → first_fault r ≡ None → (s : Slice) × IsPacket format s bytes
+    at : (r : Result Slice Fault) → packet_at format bytes ≡ r → first_fault r ≡ None
+        → (s : Slice) × IsPacket format s bytes
     at (Ok s) is e = (s, packet_sound laws format s bytes is)
     at (Err fault) is e = absurd cc
 
-pub one_packet : PartLaws → (format : Format) (s other : Slice) (bytes : List ℕ) → IsPacket format s bytes → IsPacket format other bytes → s ≡ other
-one_packet laws format s other bytes p q = ok_is s other (sym (packet_complete laws format s bytes p) ∙ packet_complete laws format other bytes q)
+pub one_packet : PartLaws → (format : Format) (s other : Slice) (bytes : List ℕ) → IsPacket format s bytes
+    → IsPacket format other bytes → s ≡ other
+one_packet laws format s other bytes p q = ok_is s other (sym (packet_complete laws format s bytes p)
+    ∙ packet_complete laws format other bytes q)
 
 -- ---- where a slice lies
 
@@ -171,13 +196,16 @@ pub record IsInside (format : Format) (s : Slice) : Type 0 where
   pub some : 0 < length s.mbs
   pub within : s.first + length s.mbs ≤ mbs_of format
 
-headed_format : (format : Format) (plen pebit : ℕ) (extra : Option Header) (middle : List Bool) (h : Header) (front : List Bool) → IsExtra format plen pebit extra middle → IsHeaded format extra h front → h.format ≡ format
+headed_format : (format : Format) (plen pebit : ℕ) (extra : Option Header) (middle : List Bool) (h : Header)
+    (front : List Bool) → IsExtra format plen pebit extra middle → IsHeaded format extra h front → h.format ≡ format
 headed_format format plen pebit None middle h front t headed = header_format format h front headed
-headed_format format plen pebit (Some x) middle h front t headed = ap (λ (y : Header). y.format) (sym headed.0) ∙ extra_format format plen pebit (Some x) middle t
+headed_format format plen pebit (Some x) middle h front t headed = ap (λ (y : Header). y.format) (sym headed.0)
+    ∙ extra_format format plen pebit (Some x) middle t
 
 pub packet_inside : (format : Format) (s : Slice) (bytes : List ℕ) → IsPacket format s bytes → IsInside format s
 packet_inside format s bytes p =
     let payload = p.is_payload in
-    let same = headed_format format payload.opening.plen payload.opening.pebit p.payload.extra payload.middle s.header p.front payload.extra p.headed in
+    let same = headed_format format payload.opening.plen payload.opening.pebit p.payload.extra payload.middle s.header
+        p.front payload.extra p.headed in
     let body = p.text.body in
     record { format_is = same; some = body.some; within = omega (arith, body.some, body.within, ap mbs_of same) }

@@ -15,10 +15,12 @@ use Rattle.packet_collector.proofs.Places.{clash}
 
 -- ---- one place
 
-differs : (taken : List Taken) (n : ℕ) (piece : Piece) → HasOther taken n piece.header → HasNoOther taken n piece.header → ⊥
+differs : (taken : List Taken) (n : ℕ) (piece : Piece) → HasOther taken n piece.header → HasNoOther taken n piece.header
+    → ⊥
 differs taken n piece one none = one.3 (none one.0 one.1 one.2)
 
-pub one_place : (taken : List Taken) (n : ℕ) (piece : Piece) (p q : Place) → IsPlace taken n piece p → IsPlace taken n piece q → p ≡ q
+pub one_place : (taken : List Taken) (n : ℕ) (piece : Piece) (p q : Place) → IsPlace taken n piece p
+    → IsPlace taken n piece q → p ≡ q
 one_place taken n piece HeaderDiffers HeaderDiffers a b = refl
 one_place taken n piece HeaderDiffers Repeat a b = absurd (differs taken n piece a b.0)
 one_place taken n piece HeaderDiffers Overlap a b = absurd (differs taken n piece a b.0)
@@ -39,7 +41,8 @@ one_place taken n piece Fresh Fresh a b = refl
 -- ---- earlier pictures are forgotten
 
 -- a test that fails for the pictures before a number finds the same without them
-any_from : (test : Taken → Bool) (first : ℕ) (taken : List Taken) → ((t : Taken) → t.number < first → test t ≡ false) → list_any test (from_number first taken) ≡ list_any test taken
+any_from : (test : Taken → Bool) (first : ℕ) (taken : List Taken) → ((t : Taken) → t.number < first → test t ≡ false)
+    → list_any test (from_number first taken) ≡ list_any test taken
 any_from test first [] fails = refl
 any_from test first (t ∷ ts) fails = at (nat_le first t.number) refl (any_from test first ts fails)
   where
@@ -55,24 +58,30 @@ any_left : (first n : ℕ) (taken : List Taken) → first ≤ n → has_any (fro
 unfolding has_any
 any_left first n taken low = any_from (λ t. t.number == n) first taken (λ t lt. earlier first n t low lt)
 
-taken_left : (first n k : ℕ) (taken : List Taken) → first ≤ n → has_taken (from_number first taken) n k ≡ has_taken taken n k
+taken_left : (first n k : ℕ) (taken : List Taken) → first ≤ n → has_taken (from_number first taken) n k
+    ≡ has_taken taken n k
 unfolding has_taken
-taken_left first n k taken low = any_from (λ t. (t.number == n) && holds t.piece.head k) first taken (λ t lt. rw (earlier first n t low lt) refl)
+taken_left first n k taken low = any_from (λ t. (t.number == n) && holds t.piece.head k) first taken
+    (λ t lt. rw (earlier first n t low lt) refl)
 
 was_in : (first : ℕ) (taken : List Taken) (u : Taken) → IsIn u (from_number first taken) → IsIn u taken
 was_in first [] u is = elim is [ ]
 was_in first (t ∷ ts) u is = at (nat_le first t.number) is (λ there. was_in first ts u there)
   where
-    at : (b : Bool) → IsIn u (cond b (t ∷ from_number first ts) (from_number first ts)) → (IsIn u (from_number first ts) → IsIn u ts) → (t ≡ u) ⊎ IsIn u ts
+    at : (b : Bool) → IsIn u (cond b (t ∷ from_number first ts) (from_number first ts))
+        → (IsIn u (from_number first ts) → IsIn u ts) → (t ≡ u) ⊎ IsIn u ts
     at true (inl here) more = inl here
     at true (inr there) more = inr (more there)
     at false there more = inr (more there)
 
-kept_left : (first n : ℕ) (taken : List Taken) (kept : Option Header) → first ≤ n → IsKept taken n kept → IsKept (from_number first taken) n kept
+kept_left : (first n : ℕ) (taken : List Taken) (kept : Option Header) → first ≤ n → IsKept taken n kept
+    → IsKept (from_number first taken) n kept
 kept_left first n taken None low is = any_left first n taken low ∙ is
-kept_left first n taken (Some h) low is = (any_left first n taken low ∙ is.0, λ t in-list same. is.1 t (was_in first taken t in-list) same)
+kept_left first n taken (Some h) low is = (any_left first n taken low
+    ∙ is.0, λ t in-list same. is.1 t (was_in first taken t in-list) same)
 
-pub forgotten : (c : Collector) (first : ℕ) (taken : List Taken) → Collects c first taken → Collects c first (from_number first taken)
+pub forgotten : (c : Collector) (first : ℕ) (taken : List Taken) → Collects c first taken
+    → Collects c first (from_number first taken)
 forgotten c first taken so = record {
   begins = so.begins;
   below = λ t is. so.below t (was_in first taken t is);

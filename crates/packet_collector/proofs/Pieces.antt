@@ -19,7 +19,8 @@ unfolding has_any
 member [] n e = absurd cc
 member (t ∷ ts) n e = at (t.number == n) refl e (λ f. member ts n f)
   where
-    at : (b : Bool) → (t.number == n) ≡ b → (b || list_any (λ t. t.number == n) ts) ≡ true → (list_any (λ t. t.number == n) ts ≡ true → IsMember ts n) → IsMember (t ∷ ts) n
+    at : (b : Bool) → (t.number == n) ≡ b → (b || list_any (λ t. t.number == n) ts) ≡ true
+        → (list_any (λ t. t.number == n) ts ≡ true → IsMember ts n) → IsMember (t ∷ ts) n
     at true h e more = record { one = t; in-list = inl refl; number = eqb-true t.number n h }
     at false h e more = let m = more e in record { one = m.one; in-list = inr m.in-list; number = m.number }
 
@@ -28,7 +29,8 @@ unfolding has_any
 absent [] n e t is same = elim is [ ]
 absent (u ∷ us) n e t is same = at (u.number == n) refl e is (λ f there. absent us n f t there same)
   where
-    at : (b : Bool) → (u.number == n) ≡ b → (b || list_any (λ t. t.number == n) us) ≡ false → (u ≡ t) ⊎ IsIn t us → (list_any (λ t. t.number == n) us ≡ false → IsIn t us → ⊥) → ⊥
+    at : (b : Bool) → (u.number == n) ≡ b → (b || list_any (λ t. t.number == n) us) ≡ false → (u ≡ t) ⊎ IsIn t us
+        → (list_any (λ t. t.number == n) us ≡ false → IsIn t us → ⊥) → ⊥
     at true h e is more = absurd cc
     at false h e (inl here) more = eqb-false u.number n h (ap (λ (x : Taken). x.number) here ∙ same)
     at false h e (inr there) more = more e there
@@ -36,7 +38,8 @@ absent (u ∷ us) n e t is same = at (u.number == n) refl e is (λ f there. abse
 pub none_of : (taken : List Taken) (n : ℕ) → ((t : Taken) → IsIn t taken → t.number < n) → has_any taken n ≡ false
 unfolding has_any
 none_of [] n low = refl
-none_of (t ∷ ts) n low = rw (ne_eqb t.number n (λ same. omega (arith, same, low t (inl refl)))) (none_of ts n (λ u is. low u (inr is)))
+none_of (t ∷ ts) n low = rw (ne_eqb t.number n (λ same. omega (arith, same, low t (inl refl))))
+    (none_of ts n (λ u is. low u (inr is)))
 
 -- of a picture of which nothing was taken no macroblock was
 pub never : (taken : List Taken) (n k : ℕ) → has_any taken n ≡ false → has_taken taken n k ≡ false
@@ -44,7 +47,8 @@ unfolding has_any has_taken
 never [] n k e = refl
 never (t ∷ ts) n k e = at (t.number == n) e (λ f. never ts n k f)
   where
-    at : (b : Bool) → (b || list_any (λ t. t.number == n) ts) ≡ false → (list_any (λ t. t.number == n) ts ≡ false → list_any (λ t. (t.number == n) && holds t.piece.head k) ts ≡ false)
+    at : (b : Bool) → (b || list_any (λ t. t.number == n) ts) ≡ false → (list_any (λ t. t.number == n) ts ≡ false
+        → list_any (λ t. (t.number == n) && holds t.piece.head k) ts ≡ false)
         → ((b && holds t.piece.head k) || list_any (λ t. (t.number == n) && holds t.piece.head k) ts) ≡ false
     at true e more = absurd cc
     at false e more = more e
@@ -68,16 +72,19 @@ unfolding has_any
 any_other t ts n other = rw (ne_eqb t.number n other) refl
 
 -- a macroblock that a piece holds was taken with it
-pub taken_held : (t : Taken) (ts : List Taken) (k : ℕ) → holds t.piece.head k ≡ true → has_taken (t ∷ ts) t.number k ≡ true
+pub taken_held : (t : Taken) (ts : List Taken) (k : ℕ) → holds t.piece.head k ≡ true → has_taken (t ∷ ts) t.number k
+    ≡ true
 unfolding has_taken
 taken_held t ts k e = rw (eq-eqb t.number t.number refl, e) refl
 
 -- one that it does not hold was taken or not as before
-pub taken_not_held : (t : Taken) (ts : List Taken) (n k : ℕ) → holds t.piece.head k ≡ false → has_taken (t ∷ ts) n k ≡ has_taken ts n k
+pub taken_not_held : (t : Taken) (ts : List Taken) (n k : ℕ) → holds t.piece.head k ≡ false → has_taken (t ∷ ts) n k
+    ≡ has_taken ts n k
 unfolding has_taken
 taken_not_held t ts n k e = at (t.number == n)
   where
-    at : (b : Bool) → ((b && holds t.piece.head k) || list_any (λ t. (t.number == n) && holds t.piece.head k) ts) ≡ list_any (λ t. (t.number == n) && holds t.piece.head k) ts
+    at : (b : Bool) → ((b && holds t.piece.head k) || list_any (λ t. (t.number == n) && holds t.piece.head k) ts)
+        ≡ list_any (λ t. (t.number == n) && holds t.piece.head k) ts
     at true = rw e refl
     at false = refl
 
@@ -88,26 +95,31 @@ taken_other t ts n k other = rw (ne_eqb t.number n other) refl
 
 -- ---- headers
 
-pub no_other : (taken : List Taken) (n : ℕ) (kept : Option Header) (h : Header) → IsKept taken n kept → FitsKept kept h → HasNoOther taken n h
+pub no_other : (taken : List Taken) (n : ℕ) (kept : Option Header) (h : Header) → IsKept taken n kept → FitsKept kept h
+    → HasNoOther taken n h
 no_other taken n None h is fits = λ t in-list same. absurd (absent taken n is t in-list same)
 no_other taken n (Some x) h is fits = λ t in-list same. is.1 t in-list same ∙ fits
 
-pub other : (taken : List Taken) (n : ℕ) (kept : Option Header) (h : Header) → IsKept taken n kept → (FitsKept kept h → ⊥) → HasOther taken n h
+pub other : (taken : List Taken) (n : ℕ) (kept : Option Header) (h : Header) → IsKept taken n kept
+    → (FitsKept kept h → ⊥) → HasOther taken n h
 other taken n None h is differs = absurd (differs tt)
 other taken n (Some x) h is differs =
     let m = member taken n is.0 in
     (m.one, m.in-list, m.number, λ same. differs (sym (is.1 m.one m.in-list m.number) ∙ same))
 
-pub kept_more : (taken : List Taken) (n : ℕ) (kept : Option Header) (p : Piece) → IsKept taken n kept → FitsKept kept p.header → IsKept (record { number = n; piece = p } ∷ taken) n (Some p.header)
+pub kept_more : (taken : List Taken) (n : ℕ) (kept : Option Header) (p : Piece) → IsKept taken n kept
+    → FitsKept kept p.header → IsKept (record { number = n; piece = p } ∷ taken) n (Some p.header)
 kept_more taken n kept p is fits =
     let t : Taken = record { number = n; piece = p } in
     (any_same t taken, λ u in-list same. at u in-list same)
   where
-    at : (u : Taken) → ((record { number = n; piece = p }) ≡ u) ⊎ IsIn u taken → u.number ≡ n → u.piece.header ≡ p.header
+    at : (u : Taken) → ((record { number = n; piece = p }) ≡ u) ⊎ IsIn u taken → u.number ≡ n
+        → u.piece.header ≡ p.header
     at u (inl here) same = ap (λ (x : Taken). x.piece.header) (sym here)
     at u (inr there) same = no_other taken n kept p.header is fits u there same
 
-pub kept_other : (t : Taken) (taken : List Taken) (n : ℕ) (kept : Option Header) → t.number ≢ n → IsKept taken n kept → IsKept (t ∷ taken) n kept
+pub kept_other : (t : Taken) (taken : List Taken) (n : ℕ) (kept : Option Header) → t.number ≢ n → IsKept taken n kept
+    → IsKept (t ∷ taken) n kept
 kept_other t taken n None differs is = any_other t taken n differs ∙ is
 kept_other t taken n (Some h) differs is = (any_other t taken n differs ∙ is.0, at)
   where

@@ -17,11 +17,13 @@ abbrev pub marks_of : Collector → ℕ → SliceHead → List Bool
 marks_of c n head = take head.count (drop (place_in c n * mbs_of (format_of c) + head.first) c.marks.items.items)
 
 module _ (c : Collector) (n : ℕ) (head : SliceHead) (is : IsHeadOf (format_of c) head) where
-  tests : (f : Bool → Bool) → list_all f (marks_of c n head) ≡ all_below head.count (λ i. f (has_in c n (head.first + i)))
+  tests : (f : Bool → Bool) → list_all f (marks_of c n head)
+      ≡ all_below head.count (λ i. f (has_in c n (head.first + i)))
   tests f =
       let m = mbs_of (format_of c) in
       let p = place_in c n in
-      let fits : p * m + head.first + head.count ≤ length c.marks.items.items = omega (arith, c.each, is.within, mul-le (p + 1) m (row_of c) m (omega (arith, below c n)) (omega arith)) in
+      let fits : p * m + head.first + head.count ≤ length c.marks.items.items = omega (arith, c.each, is.within,
+          mul-le (p + 1) m (row_of c) m (omega (arith, below c n)) (omega arith)) in
       all_marks f c.marks.items.items (p * m + head.first) head.count fits
       ∙ all_same head.count _ _ (λ i lt. ap (λ (k : ℕ). f (get_or c.marks.items.items k false)) (omega arith))
 

@@ -17,7 +17,8 @@ front_short short h first is = at (begins_at first)
     at false = let s = short h is in omega (arith, s.before)
 
 -- whole bytes
-pub payload_whole : (h : Header) (begins : Bool) → 8 * (payload_bits (extra_of h begins) / 8) ≡ payload_bits (extra_of h begins)
+pub payload_whole : (h : Header) (begins : Bool) → 8 * (payload_bits (extra_of h begins) / 8)
+    ≡ payload_bits (extra_of h begins)
 payload_whole h true = omega arith
 payload_whole h false = omega arith
 

@@ -32,26 +32,34 @@ reference_few None = omega arith
 reference_few (Some n) = omega arith
 
 -- with seven zero bits at the end
-headers_short : AreShort → AllShort → (h : Header) (first : ℕ) → IsHeader h → 8 * front_bytes h first + length (opening_text h (begins_at first) first) + 7 ≤ 408
+headers_short : AreShort → AllShort → (h : Header) (first : ℕ) → IsHeader h
+    → 8 * front_bytes h first + length (opening_text h (begins_at first) first) + 7 ≤ 408
 headers_short slices short h first is = at (begins_at first)
   where
-    at : (begins : Bool) → 8 * (12 + payload_bits (extra_of h begins) / 8) + length (opening_text h begins first) + 7 ≤ 408
+    at : (begins : Bool) → 8 * (12 + payload_bits (extra_of h begins) / 8) + length (opening_text h begins first) + 7 ≤
+        408
     at true = omega (arith, slices.opening h true first is)
-    at false = let s = short h is in omega (arith, s.before, slices.later h first, address_few h.format, reference_few h.trp)
+    at false = let s = short h is in omega (arith, s.before, slices.later h first, address_few h.format,
+        reference_few h.trp)
 
-packet_short : AreShort → AllShort → (h : Header) (first : ℕ) (run : List Mb) → IsHeader h → 8 * packet_bytes h first run ≤ 408 + length (mbs_text (around h first) h.quant [] run)
+packet_short : AreShort → AllShort → (h : Header) (first : ℕ) (run : List Mb) → IsHeader h
+    → 8 * packet_bytes h first run ≤ 408 + length (mbs_text (around h first) h.quant [] run)
 packet_short slices short h first run is =
     let opening = opening_text h (begins_at first) first in
     let mbs = mbs_text (around h first) h.quant [] run in
     omega (arith, headers_short slices short h first is, length-append opening mbs)
 
-regrouped : (rtp payload opening mbs zeros : List Bool) → rtp ++ (payload ++ ((opening ++ mbs) ++ zeros)) ≡ (rtp ++ (payload ++ opening)) ++ (mbs ++ zeros)
+regrouped : (rtp payload opening mbs zeros : List Bool) → rtp ++ (payload ++ ((opening ++ mbs) ++ zeros))
+    ≡ (rtp ++ (payload ++ opening)) ++ (mbs ++ zeros)
 regrouped rtp payload opening mbs zeros = simp append_assoc
 
-few_others : (before mbs after bits : List Bool) (size : ℕ) → bits ≡ before ++ (mbs ++ after) → length bits ≡ 8 * size → 8 * size ≤ 408 + length mbs → length before + length after ≤ 8 * 51
-few_others before mbs after bits size parts long few = omega (arith, long, few, ap length parts, length-append before (mbs ++ after), length-append mbs after)
+few_others : (before mbs after bits : List Bool) (size : ℕ) → bits ≡ before ++ (mbs ++ after) → length bits ≡ 8 * size
+    → 8 * size ≤ 408 + length mbs → length before + length after ≤ 8 * 51
+few_others before mbs after bits size parts long few = omega (arith, long, few, ap length parts,
+    length-append before (mbs ++ after), length-append mbs after)
 
-pub other_parts : ArePayloadsLong → AreShort → AllShort → (number sequence : ℕ) (marker : Bool) (h : Header) (first : ℕ) (run : List Mb) → IsHeader h →
+pub other_parts : ArePayloadsLong → AreShort → AllShort
+    → (number sequence : ℕ) (marker : Bool) (h : Header) (first : ℕ) (run : List Mb) → IsHeader h →
     HasShortParts (mbs_text (around h first) h.quant [] run) (bits_of (packet_of number sequence marker h first run))
 other_parts long slices short number sequence marker h first run is =
     let rtp = fields (rtp_fields marker (sequence % 65536) (timestamp_of number)) in
@@ -65,5 +73,6 @@ other_parts long slices short number sequence marker h first run is =
       before = rtp ++ (payload ++ opening);
       after = zeros;
       parts = packet_bits long number sequence marker h first run ∙ parts;
-      short = few_others (rtp ++ (payload ++ opening)) mbs zeros text (packet_bytes h first run) parts (length-packet long number sequence marker h first run) (packet_short slices short h first run is);
+      short = few_others (rtp ++ (payload ++ opening)) mbs zeros text (packet_bytes h first run) parts
+          (length-packet long number sequence marker h first run) (packet_short slices short h first run is);
     }

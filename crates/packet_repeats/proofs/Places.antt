@@ -27,7 +27,8 @@ kept_long longest x e =
       | inr short ↦ absurd cc
     ]
 
-pub kept_at : (places longest remainder : ℕ) (x : List ℕ) → may_stay_at places longest remainder x ≡ true → may_stay longest x ≡ true
+pub kept_at : (places longest remainder : ℕ) (x : List ℕ) → may_stay_at places longest remainder x ≡ true
+    → may_stay longest x ≡ true
 kept_at places longest remainder x e =
     elim (cases_Bool (may_stay longest x)) [
       | inl is ↦ is
@@ -40,7 +41,8 @@ numbered sequence packet = cond (nat_le 12 (length packet)) (sequence_number_of 
 told : (sequence : ℕ) (o : Option (List ℕ)) → ((x : List ℕ) → o ≡ Some x → nat_le 12 (length x) ≡ true)
     → if_numbered sequence o ≡ cond (numbered sequence (bytes_or_none o)) (Some (bytes_or_none o)) None
 told sequence None long = refl
-told sequence (Some x) long = ap (λ (b : Bool). cond (cond b (sequence_number_of x == sequence) false) (Some x) None) (sym (long x refl))
+told sequence (Some x) long = ap (λ (b : Bool). cond (cond b (sequence_number_of x == sequence) false) (Some x) None)
+    (sym (long x refl))
 
 -- what a place has is found where it has the number
 pub place_told : (places longest remainder sequence : ℕ) (sent : List (List ℕ)) (packet : List ℕ)
@@ -49,7 +51,8 @@ pub place_told : (places longest remainder sequence : ℕ) (sent : List (List �
 place_told places longest remainder sequence sent packet is =
     let o = last_at places longest remainder sent in
     told sequence o
-    (λ x e. kept_long longest x (kept_at places longest remainder x (find_passes (may_stay_at places longest remainder) sent x e)))
+    (λ x e. kept_long longest x
+        (kept_at places longest remainder x (find_passes (may_stay_at places longest remainder) sent x e)))
     ∙ ap (λ (b : List ℕ). cond (numbered sequence b) (Some b) None) (sym is)
 
 -- ---- one more
@@ -57,26 +60,31 @@ place_told places longest remainder sequence sent packet is =
 abbrev pub bytes_of : List (Vec ℕ Global) → ℕ → List ℕ
 bytes_of items i = get_or (map (λ v. v.items) items) i []
 
-pub bytes_read : (items : List (Vec ℕ Global)) (i : ℕ) (v : Vec ℕ Global) → i < length items → v ≡ get_or items i v → v.items ≡ bytes_of items i
+pub bytes_read : (items : List (Vec ℕ Global)) (i : ℕ) (v : Vec ℕ Global) → i < length items → v ≡ get_or items i v
+    → v.items ≡ bytes_of items i
 bytes_read items i v low is =
     let bytes = λ (x : Vec ℕ Global). x.items in
     ap bytes is ∙ sym (get_or-map bytes items i v [] low)
 
-bytes_here : (items : List (Vec ℕ Global)) (i : ℕ) (v : Vec ℕ Global) → i < length items → bytes_of (set items i v) i ≡ v.items
+bytes_here : (items : List (Vec ℕ Global)) (i : ℕ) (v : Vec ℕ Global) → i < length items → bytes_of (set items i v) i
+    ≡ v.items
 bytes_here items i v low =
     let bytes = λ (x : Vec ℕ Global). x.items in
     ap (λ (xs : List (List ℕ)). get_or xs i []) (map-set bytes items i v)
     ∙ get_or-set_same (map bytes items) i v.items [] (omega (arith, length-map items bytes))
 
-bytes_other : (items : List (Vec ℕ Global)) (i j : ℕ) (v : Vec ℕ Global) → j ≢ i → bytes_of (set items i v) j ≡ bytes_of items j
+bytes_other : (items : List (Vec ℕ Global)) (i j : ℕ) (v : Vec ℕ Global) → j ≢ i → bytes_of (set items i v) j
+    ≡ bytes_of items j
 bytes_other items i j v other =
     let bytes = λ (x : Vec ℕ Global). x.items in
     ap (λ (xs : List (List ℕ)). get_or xs j []) (map-set bytes items i v)
     ∙ get_or-set_other (map bytes items) i j v.items [] other
 
 -- each place has the last packet, with one more in the place of its number
-pub put_each : (items : List (Vec ℕ Global)) (places longest place : ℕ) (packet : List ℕ) (sent : List (List ℕ)) (v : Vec ℕ Global)
-    → length items ≡ places → place < places → place ≡ sequence_number_of packet % places → may_stay longest packet ≡ true → v.items ≡ packet
+pub put_each : (items : List (Vec ℕ Global)) (places longest place : ℕ) (packet : List ℕ) (sent : List (List ℕ))
+    (v : Vec ℕ Global)
+    → length items ≡ places → place < places → place ≡ sequence_number_of packet % places → may_stay longest packet
+        ≡ true → v.items ≡ packet
     → ((i : ℕ) → i < places → bytes_of items i ≡ bytes_or_none (last_at places longest i sent))
     → (i : ℕ) → i < places → bytes_of (set items place v) i ≡ bytes_or_none (last_at places longest i (packet ∷ sent))
 put_each items places longest place packet sent v count low is kept bytes each i lt =
@@ -84,29 +92,35 @@ put_each items places longest place packet sent v count low is kept bytes each i
     elim (cases_eq i place) [
       | inl same ↦
           let at : may_stay_at places longest i packet ≡ true =
-          cond-true (may_stay longest packet) (sequence_number_of packet % places == i) false kept ∙ eq-eqb (sequence_number_of packet % places) i (sym is ∙ sym same) in
+          cond-true (may_stay longest packet) (sequence_number_of packet % places == i) false kept
+              ∙ eq-eqb (sequence_number_of packet % places) i (sym is ∙ sym same) in
           ap (bytes_of (set items place v)) same ∙ bytes_here items place v (omega (arith, count)) ∙ bytes
           ∙ sym (ap bytes_or_none (cond-true (may_stay_at places longest i packet) (Some packet) rest at))
       | inr other ↦
           let at : may_stay_at places longest i packet ≡ false =
-          cond-true (may_stay longest packet) (sequence_number_of packet % places == i) false kept ∙ ne_eqb (sequence_number_of packet % places) i (λ e. other (sym e ∙ sym is)) in
+          cond-true (may_stay longest packet) (sequence_number_of packet % places == i) false kept
+              ∙ ne_eqb (sequence_number_of packet % places) i (λ e. other (sym e ∙ sym is)) in
           bytes_other items place i v other ∙ each i lt
           ∙ sym (ap bytes_or_none (cond-false (may_stay_at places longest i packet) (Some packet) rest at))
     ]
 
-pub kept_is : (longest : ℕ) (packet : List ℕ) → 12 ≤ length packet → length packet ≤ longest → may_stay longest packet ≡ true
+pub kept_is : (longest : ℕ) (packet : List ℕ) → 12 ≤ length packet → length packet ≤ longest → may_stay longest packet
+    ≡ true
 kept_is longest packet long short =
-    cond-true (nat_le 12 (length packet)) (nat_le (length packet) longest) false (le-leb 12 (length packet) long) ∙ le-leb (length packet) longest short
+    cond-true (nat_le 12 (length packet)) (nat_le (length packet) longest) false (le-leb 12 (length packet) long)
+        ∙ le-leb (length packet) longest short
 
 -- ---- the start
 
-none_of : (items : List (Vec ℕ Global)) (i : ℕ) → i < length items → All (λ place. place.items ≡ []) items → bytes_of items i ≡ []
+none_of : (items : List (Vec ℕ Global)) (i : ℕ) → i < length items → All (λ place. place.items ≡ []) items
+    → bytes_of items i ≡ []
 none_of [] i lt empty = refl
 none_of (v ∷ vs) i lt empty =
     let bytes = λ (x : Vec ℕ Global). x.items in
     get_or-map bytes (v ∷ vs) i v [] lt ∙ empty i v lt
 
-pub none_each : (items : List (Vec ℕ Global)) (places longest : ℕ) → length items ≡ places → All (λ place. place.items ≡ []) items
+pub none_each : (items : List (Vec ℕ Global)) (places longest : ℕ) → length items ≡ places
+    → All (λ place. place.items ≡ []) items
     → (i : ℕ) → i < places → bytes_of items i ≡ bytes_or_none (last_at places longest i [])
 none_each items places longest count empty i lt =
     none_of items i (omega (arith, count, lt)) empty

@@ -26,12 +26,15 @@ with_ok : (h : Header) (r : Result (ℕ × List Mb) Fault) (s : Slice) → with_
 with_ok h (Ok x) s e = ap (λ (t : Slice). t.header) (sym (ok_is (record { header = h; first = x.0; mbs = x.1 }) s e))
 with_ok h (Err fault) s e = absurd cc
 
-pub starts_as_read : (format : Format) (bytes : List ℕ) (s : Slice) → packet_at format bytes ≡ Ok s → start_at format bytes ≡ Ok s.header
+pub starts_as_read : (format : Format) (bytes : List ℕ) (s : Slice) → packet_at format bytes ≡ Ok s
+    → start_at format bytes ≡ Ok s.header
 unfolding packet_at slice_after start_at
 starts_as_read format bytes s e =
-    let one = bind_ok (rtp_in bytes) (λ r. payload_at format (payload_bits_of bytes r) >>= λ p. slice_after format p (data_of bytes r p)) s e in
+    let one = bind_ok (rtp_in bytes) (λ r. payload_at format (payload_bits_of bytes r) >>= λ p. slice_after format p
+        (data_of bytes r p)) s e in
     let r = one.0 in
-    let two = bind_ok (payload_at format (payload_bits_of bytes r)) (λ p. slice_after format p (data_of bytes r p)) s one.2 in
+    let two = bind_ok (payload_at format (payload_bits_of bytes r)) (λ p. slice_after format p (data_of bytes r p)) s
+        one.2 in
     let p = two.0 in
     let three = bind_ok (headed_at format p.extra (data_of bytes r p)) _ s two.2 in
     rw (one.1, two.1, three.1) (ap ok (sym (with_ok three.0.0 _ s three.2)))
@@ -54,9 +57,11 @@ alone_ok (Err fault) h e = absurd cc
 started : (format : Format) (bytes : List ℕ) (h : Header) → start_at format bytes ≡ Ok h → Started format bytes h
 unfolding start_at
 started format bytes h e =
-    let one = bind_ok (rtp_in bytes) (λ r. payload_at format (payload_bits_of bytes r) >>= λ p. alone (headed_at format p.extra (data_of bytes r p))) h e in
+    let one = bind_ok (rtp_in bytes) (λ r. payload_at format (payload_bits_of bytes r) >>=
+        λ p. alone (headed_at format p.extra (data_of bytes r p))) h e in
     let r = one.0 in
-    let two = bind_ok (payload_at format (payload_bits_of bytes r)) (λ p. alone (headed_at format p.extra (data_of bytes r p))) h one.2 in
+    let two = bind_ok (payload_at format (payload_bits_of bytes r))
+        (λ p. alone (headed_at format p.extra (data_of bytes r p))) h one.2 in
     let p = two.0 in
     let three = alone_ok (headed_at format p.extra (data_of bytes r p)) h two.2 in
     record { rtp = r; payload = p; left = three.0; is_rtp = one.1; is_payload = two.1; headed = three.1 }
@@ -70,21 +75,25 @@ spelled_format format h bits t = ap (λ (x : Header). x.format) t.6.6.6.6.6.6.6.
 header_format : (format : Format) (b c : Bits) (h : Header) → reading (header format) b ≡ Ok (h, c) → h.format ≡ format
 header_format format b c h e = let t = sound (header format) b c h e in spelled_format format h t.0 t.2
 
-headed_format : (format : Format) (plen pebit : ℕ) (extra : Option Header) (middle : List Bool) (b c : Bits) (h : Header)
+headed_format : (format : Format) (plen pebit : ℕ) (extra : Option Header) (middle : List Bool) (b c : Bits)
+    (h : Header)
     → IsExtra format plen pebit extra middle → headed_at format extra b ≡ Ok (h, c) → h.format ≡ format
 headed_format format plen pebit None middle b c h is e = header_format format b c h e
 headed_format format plen pebit (Some x) middle b c h is e =
     ap (λ (y : Header × Bits). y.0.format) (sym (ok_is (x, b) (h, c) e)) ∙ spelled_format format x is.0 is.6
 
-pub start_is_of_format : ((format : Format) (p : Payload) (b : Bits) → payload_at format b ≡ Ok p → IsPayload format p b)
+pub start_is_of_format : ((format : Format) (p : Payload) (b : Bits) → payload_at format b ≡ Ok p
+    → IsPayload format p b)
     → (format : Format) (bytes : List ℕ) (h : Header) → start_at format bytes ≡ Ok h → h.format ≡ format
 start_is_of_format texts format bytes h e =
     let s = started format bytes h e in
     let t = texts format s.payload (payload_bits_of bytes s.rtp) s.is_payload in
-    headed_format format t.opening.plen t.opening.pebit s.payload.extra t.middle (data_of bytes s.rtp s.payload) s.left h t.extra s.headed
+    headed_format format t.opening.plen t.opening.pebit s.payload.extra t.middle (data_of bytes s.rtp s.payload) s.left
+        h t.extra s.headed
 
 pub in_format : ((format : Format) (bytes : List ℕ) (h : Header) → start_at format bytes ≡ Ok h → h.format ≡ format)
-    → (r : Result Header Fault) (format : Format) (bytes : List ℕ) → r ≡ start_at format bytes → IfOk r (λ h. h.format ≡ format)
+    → (r : Result Header Fault) (format : Format) (bytes : List ℕ) → r ≡ start_at format bytes
+        → IfOk r (λ h. h.format ≡ format)
 in_format formats (Ok h) format bytes is = formats format bytes h (sym is)
 in_format formats (Err fault) format bytes is = tt
 
@@ -99,12 +108,14 @@ part_read s allowed next b y e =
     (one.0, one.1, (allowed_ok (allowed one.0.0) b.at (reading (next one.0.0) one.0.1) y one.2).1)
 
 field_read : {A : Type 0} (n : ℕ) (allowed : Allowed ℕ) (next : ℕ → Syntax A) (b : Bits) (y : A × Bits)
-    → reading (field n allowed next) b ≡ Ok y → (x : ℕ × Bits) × (field_at n allowed b ≡ Ok x) × (reading (next x.0) x.1 ≡ Ok y)
+    → reading (field n allowed next) b ≡ Ok y → (x : ℕ × Bits) × (field_at n allowed b ≡ Ok x)
+        × (reading (next x.0) x.1 ≡ Ok y)
 unfolding reading
 field_read n allowed next b y e = bind_ok (field_at n allowed b) (λ x. reading (next x.0) x.1) y e
 
 -- the number of a field that was read is allowed
-number_read : (n : ℕ) (allowed : Allowed ℕ) (b : Bits) (x : ℕ × Bits) → field_at n allowed b ≡ Ok x → (number_at n b ≡ Ok x) × (allowed x.0 ≡ None)
+number_read : (n : ℕ) (allowed : Allowed ℕ) (b : Bits) (x : ℕ × Bits) → field_at n allowed b ≡ Ok x
+    → (number_at n b ≡ Ok x) × (allowed x.0 ≡ None)
 number_read n allowed b x e =
     let one = bind_ok (number_at n b) (λ v. refused (allowed v.0) b.at (Ok v)) x e in
     let two = allowed_ok (allowed one.0.0) b.at (ok one.0) x one.2 in
@@ -115,7 +126,8 @@ code_is : (format : Format) (n : ℕ) → allowed_format format n ≡ None → n
 code_is format n e = at (n == format_code format) (nat_lt 0 n) (nat_lt n 4) refl e
   where
     at : (t low high : Bool) → (n == format_code format) ≡ t
-        → cond t None (cond low (cond high (Some faults.OtherFormat) (Some faults.SourceFormat)) (Some faults.SourceFormat)) ≡ None → n ≡ format_code format
+        → cond t None (cond low (cond high (Some faults.OtherFormat) (Some faults.SourceFormat))
+            (Some faults.SourceFormat)) ≡ None → n ≡ format_code format
     at true low high is e = eqb-true n (format_code format) is
     at false true true is e = absurd cc
     at false true false is e = absurd cc
@@ -132,7 +144,8 @@ one_code Cif SubQcif e = absurd cc
 one_code Cif Qcif e = absurd cc
 one_code Cif Cif e = refl
 
-one_source : (a b : Format) (c : Bits) (x y : ℕ × Bits) → field_at 3 (allowed_format a) c ≡ Ok x → field_at 3 (allowed_format b) c ≡ Ok y → a ≡ b
+one_source : (a b : Format) (c : Bits) (x y : ℕ × Bits) → field_at 3 (allowed_format a) c ≡ Ok x
+    → field_at 3 (allowed_format b) c ≡ Ok y → a ≡ b
 one_source a b c x y p q =
     let u = number_read 3 (allowed_format a) c x p in
     let v = number_read 3 (allowed_format b) c y q in
@@ -149,7 +162,8 @@ one_type a b c x y p q =
     let t = field_read 3 (allowed_format b) _ v.0.1 y v.2 in
     one_source a b v.0.1 s.0 t.0 (subst (λ (z : ℕ × Bits). field_at 3 (allowed_format a) z.1 ≡ Ok s.0) same s.1) t.1
 
-one_header : (a b : Format) (c : Bits) (x y : Header × Bits) → reading (header a) c ≡ Ok x → reading (header b) c ≡ Ok y → a ≡ b
+one_header : (a b : Format) (c : Bits) (x y : Header × Bits) → reading (header a) c ≡ Ok x → reading (header b) c ≡ Ok y
+    → a ≡ b
 unfolding header
 one_header a b c x y p q =
     let u = part_read opening any _ c x p in
@@ -161,12 +175,14 @@ one_header a b c x y p q =
 
 -- ---- and so does a start
 
-filled_ok : (r : Result (Header × Bits) Fault) (extra : Option Header) → filled r ≡ Ok extra → (x : Header × Bits) × (r ≡ Ok x)
+filled_ok : (r : Result (Header × Bits) Fault) (extra : Option Header) → filled r ≡ Ok extra
+    → (x : Header × Bits) × (r ≡ Ok x)
 filled_ok (Ok x) extra e = (x, refl)
 filled_ok (Err fault) extra e = absurd cc
 
 -- the extra headers of two formats: each is none, or the formats are the same
-one_extra : (a b : Format) (plen pebit : ℕ) (c : Bits) (m n : Option Header) → extra_at a plen pebit c ≡ Ok m → extra_at b plen pebit c ≡ Ok n
+one_extra : (a b : Format) (plen pebit : ℕ) (c : Bits) (m n : Option Header) → extra_at a plen pebit c ≡ Ok m
+    → extra_at b plen pebit c ≡ Ok n
     → (a ≡ b) ⊎ ((m ≡ None) × (n ≡ None))
 unfolding extra_at
 one_extra a b plen pebit c m n p q = at (plen == 0) (nat_lt (length c.bits) (8 * plen)) p q
@@ -174,8 +190,10 @@ one_extra a b plen pebit c m n p q = at (plen == 0) (nat_lt (length c.bits) (8 *
     w : Bits
     w = first_bits (8 * plen - pebit) c
 
-    at : (none short : Bool) → cond none (ok None) (cond short (fault_at faults.Ended c.at) (filled (reading (header a) w))) ≡ Ok m
-        → cond none (ok None) (cond short (fault_at faults.Ended c.at) (filled (reading (header b) w))) ≡ Ok n → (a ≡ b) ⊎ ((m ≡ None) × (n ≡ None))
+    at : (none short : Bool)
+        → cond none (ok None) (cond short (fault_at faults.Ended c.at) (filled (reading (header a) w))) ≡ Ok m
+        → cond none (ok None) (cond short (fault_at faults.Ended c.at) (filled (reading (header b) w))) ≡ Ok n
+            → (a ≡ b) ⊎ ((m ≡ None) × (n ≡ None))
     at true short p q = inr (sym (ok_is None m p), sym (ok_is None n q))
     at false true p q = absurd cc
     at false false p q =
@@ -186,38 +204,49 @@ one_extra a b plen pebit c m n p q = at (plen == 0) (nat_lt (length c.bits) (8 *
 begun_extra : (extra : Option Header) (at start : ℕ) (p : Payload) → begun_as extra at start ≡ Ok p → p.extra ≡ extra
 begun_extra None at start p e = here (nat_lt start 2) (start == 2) e
   where
-    here : (t u : Bool) → cond t (fault_at faults.NoStart at) (cond u (ok (record { extra = None; begins = true; from = at })) (fault_at {A = Payload} faults.NoExtraHeader at)) ≡ Ok p → p.extra ≡ None
+    here : (t u : Bool) → cond t (fault_at faults.NoStart at)
+        (cond u (ok (record { extra = None; begins = true; from = at }))
+        (fault_at {A = Payload} faults.NoExtraHeader at)) ≡ Ok p → p.extra ≡ None
     here true u e = absurd cc
-    here false true e = ap (λ (x : Payload). x.extra) (sym (ok_is (record { extra = None; begins = true; from = at }) p e))
+    here false true e = ap (λ (x : Payload). x.extra)
+        (sym (ok_is (record { extra = None; begins = true; from = at }) p e))
     here false false e = absurd cc
 begun_extra (Some h) at start p e = here (nat_lt start 2) (start == 2) e
   where
-    here : (t u : Bool) → cond t (fault_at faults.NoStart at) (cond u (fault_at {A = Payload} faults.ExtraHeader at) (ok (record { extra = Some h; begins = false; from = at }))) ≡ Ok p → p.extra ≡ Some h
+    here : (t u : Bool) → cond t (fault_at faults.NoStart at) (cond u (fault_at {A = Payload} faults.ExtraHeader at)
+        (ok (record { extra = Some h; begins = false; from = at }))) ≡ Ok p → p.extra ≡ Some h
     here true u e = absurd cc
     here false true e = absurd cc
-    here false false e = ap (λ (x : Payload). x.extra) (sym (ok_is (record { extra = Some h; begins = false; from = at }) p e))
+    here false false e = ap (λ (x : Payload). x.extra)
+        (sym (ok_is (record { extra = Some h; begins = false; from = at }) p e))
 
-one_payload : (a b : Format) (c : Bits) (p q : Payload) → payload_at a c ≡ Ok p → payload_at b c ≡ Ok q → (a ≡ b) ⊎ ((p.extra ≡ None) × (p ≡ q))
+one_payload : (a b : Format) (c : Bits) (p q : Payload) → payload_at a c ≡ Ok p → payload_at b c ≡ Ok q
+    → (a ≡ b) ⊎ ((p.extra ≡ None) × (p ≡ q))
 unfolding payload_at begun_at
 one_payload a b c p q e f =
-    let u = bind_ok (reading leading c) (λ x. extra_at a x.0.plen x.0.pebit x.1 >>= λ extra. begun_at extra (skip (8 * x.0.plen) x.1)) p e in
-    let v = bind_ok (reading leading c) (λ x. extra_at b x.0.plen x.0.pebit x.1 >>= λ extra. begun_at extra (skip (8 * x.0.plen) x.1)) q f in
+    let u = bind_ok (reading leading c) (λ x. extra_at a x.0.plen x.0.pebit x.1 >>=
+        λ extra. begun_at extra (skip (8 * x.0.plen) x.1)) p e in
+    let v = bind_ok (reading leading c) (λ x. extra_at b x.0.plen x.0.pebit x.1 >>=
+        λ extra. begun_at extra (skip (8 * x.0.plen) x.1)) q f in
     let o = u.0 in
     let same = ok_is u.0 v.0 (sym u.1 ∙ v.1) in
     let left = skip (8 * o.0.plen) o.1 in
     let s = bind_ok (extra_at a o.0.plen o.0.pebit o.1) (λ extra. begun_at extra left) p u.2 in
     let t = bind_ok (extra_at b o.0.plen o.0.pebit o.1) (λ extra. begun_at extra left) q
-    (subst (λ (x : _). (extra_at b x.0.plen x.0.pebit x.1 >>= λ extra. begun_at extra (skip (8 * x.0.plen) x.1)) ≡ Ok q) (sym same) v.2) in
+    (subst (λ (x : _). (extra_at b x.0.plen x.0.pebit x.1 >>= λ extra. begun_at extra (skip (8 * x.0.plen) x.1))
+        ≡ Ok q) (sym same) v.2) in
     at s.0 t.0 left s.2 t.2 (one_extra a b o.0.plen o.0.pebit o.1 s.0 t.0 s.1 t.1)
   where
-    at : (m n : Option Header) (left : Bits) → begun_at m left ≡ Ok p → begun_at n left ≡ Ok q → (a ≡ b) ⊎ ((m ≡ None) × (n ≡ None)) → (a ≡ b) ⊎ ((p.extra ≡ None) × (p ≡ q))
+    at : (m n : Option Header) (left : Bits) → begun_at m left ≡ Ok p → begun_at n left ≡ Ok q
+        → (a ≡ b) ⊎ ((m ≡ None) × (n ≡ None)) → (a ≡ b) ⊎ ((p.extra ≡ None) × (p ≡ q))
     at m n left e f (inl same) = inl same
     at m n left e f (inr none) =
         let alike = ok_is p q (sym e ∙ ap (λ (x : Option Header). begun_at x left) (none.0 ∙ sym none.1) ∙ f) in
         let one = bind_ok (number_at 2 left) (λ x. begun_as m left.at x.0) p e in
         inr (begun_extra m left.at one.0.0 p one.2 ∙ none.0, alike)
 
-one_headed : (a b : Format) (extra : Option Header) (c : Bits) (x y : Header × Bits) → extra ≡ None → headed_at a extra c ≡ Ok x → headed_at b extra c ≡ Ok y → a ≡ b
+one_headed : (a b : Format) (extra : Option Header) (c : Bits) (x y : Header × Bits) → extra ≡ None
+    → headed_at a extra c ≡ Ok x → headed_at b extra c ≡ Ok y → a ≡ b
 one_headed a b None c x y is p q = one_header a b c x y p q
 one_headed a b (Some h) c x y is p q = absurd cc
 
@@ -231,7 +260,8 @@ one_after a b bytes h s q y is headed = at (one_payload a b (payload_bits_of byt
     at (inr alike) = one_headed a b s.payload.extra (data_of bytes s.rtp s.payload) (h, s.left) y alike.0 s.headed
         (subst (λ (x : Payload). headed_at b x.extra (data_of bytes s.rtp x) ≡ Ok y) (sym alike.1) headed)
 
-pub one_format : (a b : Format) (bytes : List ℕ) (h k : Header) → start_at a bytes ≡ Ok h → start_at b bytes ≡ Ok k → a ≡ b
+pub one_format : (a b : Format) (bytes : List ℕ) (h k : Header) → start_at a bytes ≡ Ok h → start_at b bytes ≡ Ok k
+    → a ≡ b
 one_format a b bytes h k e f =
     let s = started a bytes h e in
     let t = started b bytes k f in
@@ -273,7 +303,8 @@ found_of bytes h e = first (start_at SubQcif bytes) (start_at Qcif bytes) (start
     some_is : (x y : Header) → Some x ≡ Some y → x ≡ y
     some_is x y e = cc
 
-    first : (r s t : Result Header Fault) → start_at SubQcif bytes ≡ r → start_at Qcif bytes ≡ s → start_at Cif bytes ≡ t
+    first : (r s t : Result Header Fault) → start_at SubQcif bytes ≡ r → start_at Qcif bytes ≡ s
+        → start_at Cif bytes ≡ t
         → or_else r (or_else s (result_ok t)) ≡ Some h → (format : Format) × (start_at format bytes ≡ Ok h)
     first (Ok x) s t p q u e = (SubQcif, p ∙ ap ok (some_is x h e))
     first (Err f) (Ok x) t p q u e = (Qcif, q ∙ ap ok (some_is x h e))

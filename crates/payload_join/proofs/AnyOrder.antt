@@ -26,7 +26,8 @@ unfolding packet_at
 kept_at top n [] lt = refl
 kept_at top n (h ∷ held) lt = at (nat_lt top (h.number + 64)) refl (h.number == n) refl (kept_at top n held lt)
   where
-    at : (t : Bool) → nat_lt top (h.number + 64) ≡ t → (s : Bool) → (h.number == n) ≡ s → packet_at (kept_from top held) n ≡ packet_at held n
+    at : (t : Bool) → nat_lt top (h.number + 64) ≡ t → (s : Bool) → (h.number == n) ≡ s
+        → packet_at (kept_from top held) n ≡ packet_at held n
         → packet_at (cond t (h ∷ kept_from top held) (kept_from top held)) n ≡ cond s (Some h.packet) (packet_at held n)
     at true is true same more = rw same refl
     at true is false same more = rw same more
@@ -43,7 +44,8 @@ unfolding packet_at
 gone top n [] le = refl
 gone top n (h ∷ held) le = at (nat_lt top (h.number + 64)) refl (h.number == n) refl (gone top n held le)
   where
-    at : (t : Bool) → nat_lt top (h.number + 64) ≡ t → (s : Bool) → (h.number == n) ≡ s → packet_at (kept_from top held) n ≡ None
+    at : (t : Bool) → nat_lt top (h.number + 64) ≡ t → (s : Bool) → (h.number == n) ≡ s
+        → packet_at (kept_from top held) n ≡ None
         → packet_at (cond t (h ∷ kept_from top held) (kept_from top held)) n ≡ None
     at true is true same more =
         let e : h.number ≡ n = eqb-true h.number n same in
@@ -60,7 +62,8 @@ no_some p f = cc
 pub some_same : {A : Type 0} (p q : A) → Some p ≡ Some q → p ≡ q
 some_same p q e = cc
 
-kept_sub : (top n : ℕ) (held : List Held) (p : Packet) → packet_at (kept_from top held) n ≡ Some p → packet_at held n ≡ Some p
+kept_sub : (top n : ℕ) (held : List Held) (p : Packet) → packet_at (kept_from top held) n ≡ Some p
+    → packet_at held n ≡ Some p
 kept_sub top n held p e =
     elim (cases_lt top (n + 64)) [
       | inl lt ↦ sym (kept_at top n held lt) ∙ e
@@ -83,7 +86,8 @@ record IsRunOf (low : ℕ) (zs : List (List ℕ)) (s : Joined) : Type 0 where
   from : (n : ℕ) (p : Packet) → packet_at s.held n ≡ Some p → low ≤ n
   upto : (n t : ℕ) (p : Packet) → packet_at s.held n ≡ Some p → s.top ≡ Some t → n ≤ t
   inside : (n : ℕ) (p : Packet) → packet_at s.held n ≡ Some p → IsFrom low zs n p
-  there : (bytes : List ℕ) (p : Packet) → IsIn bytes zs → packet_in bytes ≡ Ok p → packet_at s.held (near low p.sequence) ≡ Some p
+  there : (bytes : List ℕ) (p : Packet) → IsIn bytes zs → packet_in bytes ≡ Ok p
+      → packet_at s.held (near low p.sequence) ≡ Some p
 
 -- a packet joins those of a run
 record IsNext (low : ℕ) (s : Joined) (z : List ℕ) (p : Packet) (x : ℕ) : Type 0 where
@@ -98,13 +102,17 @@ record IsNext (low : ℕ) (s : Joined) (z : List ℕ) (p : Packet) (x : ℕ) : T
 held_is : (low : ℕ) (s : Joined) (z : List ℕ) (p : Packet) (x : ℕ) → IsNext low s z p x → took s (Ok p) ≡ tooks.Held
 held_is low s z p x n = ap (took_as s) n.number ∙ (rw (n.young, n.fresh) refl)
 
-state_is : (low : ℕ) (s : Joined) (z : List ℕ) (p : Packet) (x : ℕ) → IsNext low s z p x → held_after s (packet_in z) ≡ with_packet s x p
+state_is : (low : ℕ) (s : Joined) (z : List ℕ) (p : Packet) (x : ℕ) → IsNext low s z p x → held_after s (packet_in z)
+    ≡ with_packet s x p
 state_is low s z p x n =
-    ap (held_after s) n.read ∙ ap (held_after_as s p) (held_is low s z p x n) ∙ ap (λ (k : ℕ). with_packet s k p) n.number
+    ap (held_after s) n.read ∙ ap (held_after_as s p) (held_is low s z p x n)
+        ∙ ap (λ (k : ℕ). with_packet s k p) n.number
 
-given_is : (format : Format) (low : ℕ) (s : Joined) (z : List ℕ) (p : Packet) (x : ℕ) → IsNext low s z p x → given format s (packet_in z) ≡ made format s.held (with_packet s x p)
+given_is : (format : Format) (low : ℕ) (s : Joined) (z : List ℕ) (p : Packet) (x : ℕ) → IsNext low s z p x
+    → given format s (packet_in z) ≡ made format s.held (with_packet s x p)
 given_is format low s z p x n =
-    ap (given format s) n.read ∙ ap (given_as format s p) (held_is low s z p x n) ∙ ap (λ (k : ℕ). made format s.held (with_packet s k p)) n.number
+    ap (given format s) n.read ∙ ap (given_as format s p) (held_is low s z p x n)
+        ∙ ap (λ (k : ℕ). made format s.held (with_packet s k p)) n.number
 
 -- the greatest number then
 record IsTop (low : ℕ) (o : Option ℕ) (x top : ℕ) : Type 0 where
@@ -113,14 +121,18 @@ record IsTop (low : ℕ) (o : Option ℕ) (x top : ℕ) : Type 0 where
   over : x ≤ top
   past : (t : ℕ) → o ≡ Some t → t ≤ top
 
-top_is : (low : ℕ) (o : Option ℕ) (x : ℕ) → ((t : ℕ) → o ≡ Some t → (low ≤ t) × (t < low + 64)) → low ≤ x → x < low + 64 → IsTop low o x (top_with o x)
-top_is low None x tops from below = record { from = from; below = below; over = omega arith; past = λ t e. absurd (no_some t e) }
+top_is : (low : ℕ) (o : Option ℕ) (x : ℕ) → ((t : ℕ) → o ≡ Some t → (low ≤ t) × (t < low + 64)) → low ≤ x → x < low + 64
+    → IsTop low o x (top_with o x)
+top_is low None x tops from below = record { from = from; below = below; over = omega arith;
+    past = λ t e. absurd (no_some t e) }
 top_is low (Some top) x tops from below =
     let b = tops top refl in
-    record { from = omega (arith, b.0); below = omega (arith, b.1); over = omega arith; past = λ t e. let same : top ≡ t = some_same top t e in omega (arith, same) }
+    record { from = omega (arith, b.0); below = omega (arith, b.1); over = omega arith; past = λ t e. let same : top
+        ≡ t = some_same top t e in omega (arith, same) }
 
 -- what is held then: the packet, and what was held
-found_at : (low : ℕ) (zs : List (List ℕ)) (s : Joined) (z : List ℕ) (p : Packet) (x m : ℕ) → IsRunOf low zs s → IsNext low s z p x → low ≤ m
+found_at : (low : ℕ) (zs : List (List ℕ)) (s : Joined) (z : List ℕ) (p : Packet) (x m : ℕ) → IsRunOf low zs s
+    → IsNext low s z p x → low ≤ m
     → packet_at (with_packet s x p).held m ≡ cond (x == m) (Some p) (packet_at s.held m)
 unfolding packet_at
 found_at low zs s z p x m run n le =
@@ -128,12 +140,15 @@ found_at low zs s z p x m run n le =
     kept_at (top_with s.top x) m (one_held x p ∷ s.held) (omega (arith, t.below))
 
 -- and nothing else
-found_sub : (low : ℕ) (s : Joined) (p : Packet) (x m : ℕ) (q : Packet) → packet_at (with_packet s x p).held m ≡ Some q → ((x ≡ m) × (p ≡ q)) ⊎ (packet_at s.held m ≡ Some q)
+found_sub : (low : ℕ) (s : Joined) (p : Packet) (x m : ℕ) (q : Packet) → packet_at (with_packet s x p).held m ≡ Some q
+    → ((x ≡ m) × (p ≡ q)) ⊎ (packet_at s.held m ≡ Some q)
 unfolding packet_at
 found_sub low s p x m q e = at (x == m) refl (kept_sub (top_with s.top x) m (one_held x p ∷ s.held) q e)
   where
-    at : (t : Bool) → (x == m) ≡ t → cond (x == m) (Some p) (packet_at s.held m) ≡ Some q → ((x ≡ m) × (p ≡ q)) ⊎ (packet_at s.held m ≡ Some q)
-    at true is f = inl (eqb-true x m is, some_same p q (subst (λ (t : Bool). cond t (Some p) (packet_at s.held m) ≡ Some q) is f))
+    at : (t : Bool) → (x == m) ≡ t → cond (x == m) (Some p) (packet_at s.held m) ≡ Some q
+        → ((x ≡ m) × (p ≡ q)) ⊎ (packet_at s.held m ≡ Some q)
+    at true is f = inl (eqb-true x m is, some_same p q (subst (λ (t : Bool). cond t (Some p) (packet_at s.held m)
+        ≡ Some q) is f))
     at false is f = inr (subst (λ (t : Bool). cond t (Some p) (packet_at s.held m) ≡ Some q) is f)
 
 apart : (s : Joined) (x m : ℕ) (q : Packet) → packet_at s.held x ≡ None → packet_at s.held m ≡ Some q → (x == m) ≡ false
@@ -143,26 +158,34 @@ apart s x m q fresh held = at (x == m) refl
     at true is = let e : x ≡ m = eqb-true x m is in absurd (no_some q (sym fresh ∙ ap (packet_at s.held) e ∙ held))
     at false is = refl
 
-next_grows : (low : ℕ) (zs : List (List ℕ)) (s : Joined) (z : List ℕ) (p : Packet) (x : ℕ) → IsRunOf low zs s → IsNext low s z p x → Grows (packet_at s.held) (packet_at (with_packet s x p).held)
-next_grows low zs s z p x run n m q e = found_at low zs s z p x m run n (run.from m q e) ∙ (rw (apart s x m q n.fresh e) e)
+next_grows : (low : ℕ) (zs : List (List ℕ)) (s : Joined) (z : List ℕ) (p : Packet) (x : ℕ) → IsRunOf low zs s
+    → IsNext low s z p x → Grows (packet_at s.held) (packet_at (with_packet s x p).held)
+next_grows low zs s z p x run n m q e = found_at low zs s z p x m run n (run.from m q e)
+    ∙ (rw (apart s x m q n.fresh e) e)
 
 read_same : (p q : Packet) (r : Result Packet Fault) → r ≡ Ok p → r ≡ Ok q → p ≡ q
 read_same p q r e f = let g : (Ok p) ≡ (Ok q) = sym e ∙ f in cc
 
-next_run : (low : ℕ) (zs : List (List ℕ)) (s : Joined) (z : List ℕ) (p : Packet) (x : ℕ) → IsRunOf low zs s → IsNext low s z p x → IsRunOf low (z ∷ zs) (with_packet s x p)
+next_run : (low : ℕ) (zs : List (List ℕ)) (s : Joined) (z : List ℕ) (p : Packet) (x : ℕ) → IsRunOf low zs s
+    → IsNext low s z p x → IsRunOf low (z ∷ zs) (with_packet s x p)
 next_run low zs s z p x run n =
     let t = top_is low s.top x run.tops n.from n.below in
     record {
-      tops = λ k e. let same : top_with s.top x ≡ k = some_same (top_with s.top x) k e in (omega (arith, t.from, same), omega (arith, t.below, same));
+      tops = λ k e. let same : top_with s.top x ≡ k = some_same (top_with s.top x) k e in
+          (omega (arith, t.from, same), omega (arith, t.below, same));
       empty = λ e. absurd (no_some (top_with s.top x) (sym e));
-      from = λ m q e. elim (found_sub low s p x m q e) [ inl here ↦ omega (arith, here.0, n.from) | inr old ↦ run.from m q old ];
+      from = λ m q e. elim (found_sub low s p x m q e) [ inl here ↦ omega (arith, here.0, n.from)
+          | inr old ↦ run.from m q old ];
       upto = λ m k q e f.
           let same : top_with s.top x ≡ k = some_same (top_with s.top x) k f in
-          elim (found_sub low s p x m q e) [ inl here ↦ omega (arith, here.0, t.over, same) | inr old ↦ omega (arith, same, below_top m q old (top_with s.top x) t) ];
+          elim (found_sub low s p x m q e) [ inl here ↦ omega (arith, here.0, t.over, same)
+              | inr old ↦ omega (arith, same, below_top m q old (top_with s.top x) t) ];
       inside = λ m q e.
           elim (found_sub low s p x m q e) [
-            | inl here ↦ record { bytes = z; listed = inl refl; read = n.read ∙ ap (λ (r : Packet). Ok r) here.1; number = ap (λ (r : Packet). near low r.sequence) (sym here.1) ∙ n.is ∙ here.0 }
-            | inr old ↦ let f = run.inside m q old in record { bytes = f.bytes; listed = inr f.listed; read = f.read; number = f.number }
+            | inl here ↦ record { bytes = z; listed = inl refl; read = n.read ∙ ap (λ (r : Packet). Ok r) here.1;
+                number = ap (λ (r : Packet). near low r.sequence) (sym here.1) ∙ n.is ∙ here.0 }
+            | inr old ↦ let f = run.inside m q old in record { bytes = f.bytes; listed = inr f.listed; read = f.read;
+                number = f.number }
           ];
       there = λ b q listed read. listed_at b q listed read;
     }
@@ -174,11 +197,13 @@ next_run low zs s z p x run n =
         at None is = absurd (run.empty is m q old)
         at (Some k) is = omega (arith, run.upto m k q old is, t.past k is)
 
-    listed_at : (b : List ℕ) (q : Packet) → IsIn b (z ∷ zs) → packet_in b ≡ Ok q → packet_at (with_packet s x p).held (near low q.sequence) ≡ Some q
+    listed_at : (b : List ℕ) (q : Packet) → IsIn b (z ∷ zs) → packet_in b ≡ Ok q
+        → packet_at (with_packet s x p).held (near low q.sequence) ≡ Some q
     listed_at b q (inl same) read =
         let e : p ≡ q = read_same p q (packet_in b) (ap packet_in (sym same) ∙ n.read) read in
         let at : near low q.sequence ≡ x = ap (λ (r : Packet). near low r.sequence) (sym e) ∙ n.is in
-        ap (packet_at (with_packet s x p).held) at ∙ found_at low zs s z p x x run n n.from ∙ (rw (eq-eqb x x refl) (ap (λ (r : Packet). Some r) e))
+        ap (packet_at (with_packet s x p).held) at ∙ found_at low zs s z p x x run n n.from
+            ∙ (rw (eq-eqb x x refl) (ap (λ (r : Packet). Some r) e))
     listed_at b q (inr old) read =
         let e = run.there b q old read in
         next_grows low zs s z p x run n (near low q.sequence) q e
@@ -209,9 +234,12 @@ record Ran (format : Format) (low : ℕ) (zs : List (List ℕ)) : Type 0 where
 nothing_ran : (format : Format) (low : ℕ) → Ran format low []
 unfolding joined_by join_run packet_at
 nothing_ran format low =
-    record { run = nothing_run low; out = subst (λ (t : List (List ℕ)). IsPermutation [] t) (sym (empty_from format nothing nothing (low - 63) 127 (λ j lt. refl))) (IsPermutation-refl []) }
+    record { run = nothing_run low;
+        out = subst (λ (t : List (List ℕ)). IsPermutation [] t)
+        (sym (empty_from format nothing nothing (low - 63) 127 (λ j lt. refl))) (IsPermutation-refl []) }
 
-one_step : (format : Format) (low : ℕ) (zs : List (List ℕ)) (z : List ℕ) (p : Packet) (x : ℕ) → 63 ≤ low → Ran format low zs → IsNext low (joined_by zs) z p x → Ran format low (z ∷ zs)
+one_step : (format : Format) (low : ℕ) (zs : List (List ℕ)) (z : List ℕ) (p : Packet) (x : ℕ) → 63 ≤ low
+    → Ran format low zs → IsNext low (joined_by zs) z p x → Ran format low (z ∷ zs)
 unfolding joined_by join_run
 one_step format low zs z p x some ran n =
     let s = joined_by zs in
@@ -224,17 +252,22 @@ one_step format low zs z p x some ran n =
     (λ m lt. none_of (now m) (λ q f. absurd (omega (arith, run.from m q f))))
     (λ m lt. none_of (now m) (λ q f. absurd (omega (arith, run.upto m (top_with s.top x) q f refl))))
     in
-    let given_so : given format s (packet_in z) ≡ made_from format (packet_at s.held) now (low - 63) 127 = given_is format low s z p x n ∙ window in
+    let given_so : given format s (packet_in z) ≡ made_from format (packet_at s.held) now (low - 63) 127 =
+        given_is format low s z p x n ∙ window in
     let before = made_from format nothing (packet_at s.held) (low - 63) 127 in
     let made_now = made_from format (packet_at s.held) now (low - 63) 127 in
     let all : IsPermutation (join_run format zs ++ made_now) (made_from format nothing now (low - 63) 127) =
-    IsPermutation-trans _ (before ++ made_now) _ (IsPermutation-append_left made_now (join_run format zs) before ran.out)
-    (IsPermutation-sym _ _ (more_out format (packet_at s.held) now (low - 63) 127 (next_grows low zs s z p x ran.run n)))
+    IsPermutation-trans _ (before ++ made_now) _ (IsPermutation-append_left made_now (join_run format zs) before
+        ran.out)
+    (IsPermutation-sym _ _ (more_out format (packet_at s.held) now (low - 63) 127
+        (next_grows low zs s z p x ran.run n)))
     in
     record {
       run = subst (IsRunOf low (z ∷ zs)) (sym e) run;
-      out = subst (λ (u : Joined). IsPermutation (join_run format zs ++ given format s (packet_in z)) (made_from format nothing (packet_at u.held) (low - 63) 127)) (sym e)
-          (subst (λ (g : List (List ℕ)). IsPermutation (join_run format zs ++ g) (made_from format nothing now (low - 63) 127)) (sym given_so) all);
+      out = subst (λ (u : Joined). IsPermutation (join_run format zs ++ given format s (packet_in z))
+          (made_from format nothing (packet_at u.held) (low - 63) 127)) (sym e)
+          (subst (λ (g : List (List ℕ)). IsPermutation (join_run format zs
+              ++ g) (made_from format nothing now (low - 63) 127)) (sym given_so) all);
     }
 
 near_low : (low x : ℕ) → low ≤ x → x < low + 64 → near low (x % 65536) ≡ x
@@ -244,7 +277,8 @@ near_same : (low a b : ℕ) → a < 65536 → b < 65536 → near low a ≡ near 
 near_same low a b p q e = omega arith
 
 -- a packet that comes first
-first_next : (low : ℕ) (z : List ℕ) (a : IsAmong low z) → a.packet.sequence + 65536 ≡ low + a.place → IsNext low nothing_held z a.packet (low + a.place)
+first_next : (low : ℕ) (z : List ℕ) (a : IsAmong low z) → a.packet.sequence + 65536 ≡ low + a.place
+    → IsNext low nothing_held z a.packet (low + a.place)
 unfolding packet_at
 first_next low z a e =
     record {
@@ -258,45 +292,56 @@ first_next low z a e =
     }
 
 -- a later one, whose sequence number none of the others has
-later_next : (low : ℕ) (zs : List (List ℕ)) (s : Joined) (t : ℕ) (z : List ℕ) → IsRunOf low zs s → s.top ≡ Some t → 65536 ≤ low + 63 → (a : IsAmong low z)
-    → ((b : List ℕ) → IsIn b zs → IsAmong low b) → ((b : List ℕ) → IsIn b zs → sequence_of b ≡ sequence_of z → ⊥) → IsNext low s z a.packet (low + a.place)
+later_next : (low : ℕ) (zs : List (List ℕ)) (s : Joined) (t : ℕ) (z : List ℕ) → IsRunOf low zs s → s.top ≡ Some t
+    → 65536 ≤ low + 63 → (a : IsAmong low z)
+    → ((b : List ℕ) → IsIn b zs → IsAmong low b) → ((b : List ℕ) → IsIn b zs → sequence_of b ≡ sequence_of z → ⊥)
+        → IsNext low s z a.packet (low + a.place)
 later_next low zs s t z run top high a among differ =
     let b = run.tops t top in
-    let is : near low a.packet.sequence ≡ low + a.place = ap (near low) a.sequence ∙ near_low low (low + a.place) (omega arith) (omega (arith, a.few)) in
+    let is : near low a.packet.sequence ≡ low + a.place = ap (near low) a.sequence
+        ∙ near_low low (low + a.place) (omega arith) (omega (arith, a.few)) in
     record {
       read = a.read;
       is = is;
       from = omega arith;
       below = omega (arith, a.few);
-      number = ap (λ (o : Option ℕ). number_of o a.packet.sequence) top ∙ ap (near (t - 32768)) a.sequence ∙ near_is low t (low + a.place) high b.0 b.1 (omega arith) (omega (arith, a.few));
+      number = ap (λ (o : Option ℕ). number_of o a.packet.sequence) top ∙ ap (near (t - 32768)) a.sequence
+          ∙ near_is low t (low + a.place) high b.0 b.1 (omega arith) (omega (arith, a.few));
       young = ap (λ (o : Option ℕ). is_old o (low + a.place)) top ∙ lt-leb (low + a.place + 64) t (omega (arith, b.1));
       fresh = none_of (packet_at s.held (low + a.place)) (λ q f. twice q (run.inside (low + a.place) q f) is);
     }
   where
     low_sequence : (b : List ℕ) (q : Packet) → IsAmong low b → packet_in b ≡ Ok q → q.sequence < 65536
-    low_sequence b q m read = let same : m.packet ≡ q = read_same m.packet q (packet_in b) m.read read in let e : m.packet.sequence ≡ q.sequence = ap (λ (r : Packet). r.sequence) same in omega (arith, m.sequence, e)
+    low_sequence b q m read = let same : m.packet ≡ q = read_same m.packet q (packet_in b) m.read read in
+        let e : m.packet.sequence ≡ q.sequence = ap (λ (r : Packet). r.sequence) same in omega (arith, m.sequence, e)
 
     twice : (q : Packet) → IsFrom low zs (low + a.place) q → near low a.packet.sequence ≡ low + a.place → ⊥
     twice q f is =
-        let same : q.sequence ≡ a.packet.sequence = near_same low q.sequence a.packet.sequence (low_sequence f.bytes q (among f.bytes f.listed) f.read) (low_sequence z a.packet a a.read) (f.number ∙ sym is) in
+        let same : q.sequence ≡ a.packet.sequence = near_same low q.sequence a.packet.sequence
+            (low_sequence f.bytes q (among f.bytes f.listed) f.read) (low_sequence z a.packet a a.read) (f.number
+            ∙ sym is) in
         differ f.bytes f.listed (ap sequence_in f.read ∙ same ∙ sym (ap sequence_in a.read))
 
 -- ---- any order
 
-step_top : (low : ℕ) (zs : List (List ℕ)) (z : List ℕ) (p : Packet) (x : ℕ) → IsNext low (joined_by zs) z p x → (joined_by (z ∷ zs)).top ≡ Some (top_with (joined_by zs).top x)
+step_top : (low : ℕ) (zs : List (List ℕ)) (z : List ℕ) (p : Packet) (x : ℕ) → IsNext low (joined_by zs) z p x
+    → (joined_by (z ∷ zs)).top ≡ Some (top_with (joined_by zs).top x)
 unfolding joined_by
 step_top low zs z p x n = ap (λ (u : Joined). u.top) (state_is low (joined_by zs) z p x n)
 
-differ_in : (n : ℕ) (zs : List (List ℕ)) (b : List ℕ) → AllByRecursion (λ y. nat_eq n y ≡ false) (map sequence_of zs) → IsIn b zs → sequence_of b ≡ n → ⊥
+differ_in : (n : ℕ) (zs : List (List ℕ)) (b : List ℕ) → AllByRecursion (λ y. nat_eq n y ≡ false) (map sequence_of zs)
+    → IsIn b zs → sequence_of b ≡ n → ⊥
 differ_in n [] b all listed e = listed
 differ_in n (z ∷ zs) b all (inl same) e = eqb-false n (sequence_of z) all.0 (sym e ∙ ap sequence_of (sym same))
 differ_in n (z ∷ zs) b all (inr later) e = differ_in n zs b all.1 later e
 
-distinct_rest : (z : List ℕ) (zs : List (List ℕ)) → IsDistinct nat_eq (map sequence_of (z ∷ zs)) → IsDistinct nat_eq (map sequence_of zs)
+distinct_rest : (z : List ℕ) (zs : List (List ℕ)) → IsDistinct nat_eq (map sequence_of (z ∷ zs))
+    → IsDistinct nat_eq (map sequence_of zs)
 unfolding IsDistinct
 distinct_rest z zs h = h.1
 
-distinct_here : (z : List ℕ) (zs : List (List ℕ)) → IsDistinct nat_eq (map sequence_of (z ∷ zs)) → (b : List ℕ) → IsIn b zs → sequence_of b ≡ sequence_of z → ⊥
+distinct_here : (z : List ℕ) (zs : List (List ℕ)) → IsDistinct nat_eq (map sequence_of (z ∷ zs)) → (b : List ℕ)
+    → IsIn b zs → sequence_of b ≡ sequence_of z → ⊥
 unfolding IsDistinct
 distinct_here z zs h b listed e = differ_in (sequence_of z) zs b h.0 listed e
 
@@ -306,18 +351,23 @@ record RanUp (format : Format) (low : ℕ) (zs : List (List ℕ)) : Type 0 where
   top : ℕ
   top_is : (joined_by zs).top ≡ Some top
 
-all_ran : (format : Format) (low : ℕ) (xs : List (List ℕ)) (first : List ℕ) (a : IsAmong low first) → a.packet.sequence + 65536 ≡ low + a.place → 65536 ≤ low + 63
-    → ((b : List ℕ) → IsIn b (xs ++ first ∷ []) → IsAmong low b) → IsDistinct nat_eq (map sequence_of (xs ++ first ∷ [])) → RanUp format low (xs ++ first ∷ [])
+all_ran : (format : Format) (low : ℕ) (xs : List (List ℕ)) (first : List ℕ) (a : IsAmong low first)
+    → a.packet.sequence + 65536 ≡ low + a.place → 65536 ≤ low + 63
+    → ((b : List ℕ) → IsIn b (xs ++ first ∷ []) → IsAmong low b)
+        → IsDistinct nat_eq (map sequence_of (xs ++ first ∷ [])) → RanUp format low (xs ++ first ∷ [])
 unfolding joined_by
 all_ran format low [] first a e high among distinct =
     let n = first_next low first a e in
-    record { ran = one_step format low [] first a.packet (low + a.place) (omega arith) (nothing_ran format low) n; top = _; top_is = step_top low [] first a.packet (low + a.place) n }
+    record { ran = one_step format low [] first a.packet (low + a.place) (omega arith) (nothing_ran format low) n;
+        top = _; top_is = step_top low [] first a.packet (low + a.place) n }
 all_ran format low (z ∷ xs) first a e high among distinct =
     let zs = xs ++ first ∷ [] in
     let rest = all_ran format low xs first a e high (λ b l. among b (inr l)) (distinct_rest z zs distinct) in
     let m = among z (inl refl) in
-    let n = later_next low zs (joined_by zs) rest.top z rest.ran.run rest.top_is high m (λ b l. among b (inr l)) (distinct_here z zs distinct) in
-    record { ran = one_step format low zs z m.packet (low + m.place) (omega arith) rest.ran n; top = _; top_is = step_top low zs z m.packet (low + m.place) n }
+    let n = later_next low zs (joined_by zs) rest.top z rest.ran.run rest.top_is high m (λ b l. among b (inr l))
+        (distinct_here z zs distinct) in
+    record { ran = one_step format low zs z m.packet (low + m.place) (omega arith) rest.ran n; top = _;
+        top_is = step_top low zs z m.packet (low + m.place) n }
 
 all_in : {X : Type 0} (P : X → Type 0) (xs : List X) (b : X) → All P xs → IsIn b xs → P b
 all_in P [] b all listed = absurd listed
@@ -332,16 +382,19 @@ each_listed (y ∷ ys) (suc k) d lt = inr (each_listed ys k d (omega arith))
 -- what is in a list is in each of its orders
 in_moved : (xs ys : List (List ℕ)) (b : List ℕ) → IsPermutation xs ys → IsIn b xs → IsIn b ys
 in_moved xs ys b moves listed =
-    all_in (λ (x : List ℕ). IsIn x ys) xs b (All-permutation (λ (x : List ℕ). IsIn x ys) ys xs (IsPermutation-sym xs ys moves) (λ k d lt. each_listed ys k d lt)) listed
+    all_in (λ (x : List ℕ). IsIn x ys) xs b (All-permutation (λ (x : List ℕ). IsIn x ys) ys xs
+        (IsPermutation-sym xs ys moves) (λ k d lt. each_listed ys k d lt)) listed
 
 -- the same packets are found by the same numbers
-found_again : (low : ℕ) (zs ws : List (List ℕ)) (s u : Joined) → IsRunOf low zs s → IsRunOf low ws u → ((b : List ℕ) → IsIn b zs → IsIn b ws)
+found_again : (low : ℕ) (zs ws : List (List ℕ)) (s u : Joined) → IsRunOf low zs s → IsRunOf low ws u
+    → ((b : List ℕ) → IsIn b zs → IsIn b ws)
     → (n : ℕ) (p : Packet) → packet_at s.held n ≡ Some p → packet_at u.held n ≡ Some p
 found_again low zs ws s u r q moved n p e =
     let f = r.inside n p e in
     subst (λ (m : ℕ). packet_at u.held m ≡ Some p) f.number (q.there f.bytes p (moved f.bytes f.listed) f.read)
 
-option_same : (o u : Option Packet) → ((p : Packet) → o ≡ Some p → u ≡ Some p) → ((p : Packet) → u ≡ Some p → o ≡ Some p) → o ≡ u
+option_same : (o u : Option Packet) → ((p : Packet) → o ≡ Some p → u ≡ Some p)
+    → ((p : Packet) → u ≡ Some p → o ≡ Some p) → o ≡ u
 option_same None u to back = sym (none_of u (λ p e. no_some p (back p e)))
 option_same (Some p) u to back = sym (to p refl)
 
@@ -350,9 +403,11 @@ again : (low new place : ℕ) → new % 65536 ≡ low % 65536 → (low + place) 
 again low new place same = omega arith
 
 counted : (low new : ℕ) (b : List ℕ) → new % 65536 ≡ low % 65536 → IsAmong low b → IsAmong new b
-counted low new b same a = record { packet = a.packet; read = a.read; place = a.place; few = a.few; sequence = a.sequence ∙ again low new a.place same }
+counted low new b same a = record { packet = a.packet; read = a.read; place = a.place; few = a.few;
+    sequence = a.sequence ∙ again low new a.place same }
 
-congruent : (sequence place low : ℕ) → place < 64 → sequence ≡ (low + place) % 65536 → (sequence + 65536 - place) % 65536 ≡ low % 65536
+congruent : (sequence place low : ℕ) → place < 64 → sequence ≡ (low + place) % 65536
+    → (sequence + 65536 - place) % 65536 ≡ low % 65536
 congruent sequence place low few e = omega arith
 
 last_in : (xs : List (List ℕ)) (first : List ℕ) → IsIn first (xs ++ first ∷ [])
@@ -376,18 +431,25 @@ any_order format low first xs ys all distinct moves =
     let a : IsAmong low first = all_in (IsAmong low) zs first all (last_in xs first) in
     let new : ℕ = a.packet.sequence + 65536 - a.place in
     let c : new % 65536 ≡ low % 65536 = congruent a.packet.sequence a.place low a.few a.sequence in
-    let among : (b : List ℕ) → IsIn b zs → IsAmong new b = λ b l. counted low new b c (all_in (IsAmong low) zs b all l) in
-    let first_among : IsAmong new first = record { packet = a.packet; read = a.read; place = a.place; few = a.few; sequence = a.sequence ∙ again low new a.place c } in
+    let among : (b : List ℕ) → IsIn b zs
+        → IsAmong new b = λ b l. counted low new b c (all_in (IsAmong low) zs b all l) in
+    let first_among : IsAmong new first = record { packet = a.packet; read = a.read; place = a.place; few = a.few;
+        sequence = a.sequence ∙ again low new a.place c } in
     let number : first_among.packet.sequence + 65536 ≡ new + first_among.place = omega (arith, a.few) in
     let high : 65536 ≤ new + 63 = omega (arith, a.few) in
     let r = all_ran format new xs first first_among number high among distinct in
-    let q = all_ran format new ys first first_among number high (λ b l. among b (in_moved ws zs b (IsPermutation-sym zs ws same) l))
-    (IsDistinct-IsPermutation nat_eq eqb_flips (map sequence_of zs) (map sequence_of ws) (IsPermutation-map sequence_of zs ws same) distinct) in
+    let q = all_ran format new ys first first_among number high
+        (λ b l. among b (in_moved ws zs b (IsPermutation-sym zs ws same) l))
+    (IsDistinct-IsPermutation nat_eq eqb_flips (map sequence_of zs) (map sequence_of ws)
+        (IsPermutation-map sequence_of zs ws same) distinct) in
     let held : packet_at (joined_by zs).held ≡ packet_at (joined_by ws).held =
     λ i n. option_same (packet_at (joined_by zs).held n) (packet_at (joined_by ws).held n)
     (found_again new zs ws (joined_by zs) (joined_by ws) r.ran.run q.ran.run (λ b. in_moved zs ws b same) n)
-    (found_again new ws zs (joined_by ws) (joined_by zs) q.ran.run r.ran.run (λ b. in_moved ws zs b (IsPermutation-sym zs ws same)) n) i
+    (found_again new ws zs (joined_by ws) (joined_by zs) q.ran.run r.ran.run
+        (λ b. in_moved ws zs b (IsPermutation-sym zs ws same)) n) i
     in
-    IsPermutation-trans (join_run format zs) (made_from format nothing (packet_at (joined_by ws).held) (new - 63) 127) (join_run format ws)
-    (subst (λ (at : At). IsPermutation (join_run format zs) (made_from format nothing at (new - 63) 127)) held r.ran.out)
+    IsPermutation-trans (join_run format zs) (made_from format nothing (packet_at (joined_by ws).held) (new - 63) 127)
+        (join_run format ws)
+    (subst (λ (at : At). IsPermutation (join_run format zs) (made_from format nothing at (new - 63) 127)) held
+        r.ran.out)
     (IsPermutation-sym (join_run format ws) _ q.ran.out)

@@ -11,18 +11,22 @@ use Rattle.payload_join.proofs.Words.{event_keeps}
 
 placed_keeps : (place : ℕ) → Keeps (placed place) 6 (λ _. 6)
 unfolding placed
-placed_keeps place = keeps_part event (allowed_place place) _ 6 (λ _. 6) (λ _. 6) event_keeps (λ e. keeps_done _ 6 (λ _. 6) (omega arith))
+placed_keeps place = keeps_part event (allowed_place place) _ 6 (λ _. 6) (λ _. 6) event_keeps
+    (λ e. keeps_done _ 6 (λ _. 6) (omega arith))
 
 event_left : (levels : List ℤ) (p : Placed) → 6 ≤ turn_to 6 (λ _. 6) (after_event levels p)
 event_left levels p = at p.last
   where
-    at : (t : Bool) → 6 ≤ turn_to {S = Events} {A = List ℤ} 6 (λ _. 6) (cond t (finally (slice_set levels p.place p.level)) (again (record { place = p.place + 1; levels = slice_set levels p.place p.level })))
+    at : (t : Bool) → 6 ≤ turn_to {S = Events} {A = List ℤ} 6 (λ _. 6)
+        (cond t (finally (slice_set levels p.place p.level)) (again (record { place = p.place + 1;
+        levels = slice_set levels p.place p.level })))
     at true = omega arith
     at false = omega arith
 
 turn_keeps : (s : Events) → Keeps (event_turn s) 6 (turn_to 6 (λ _. 6))
 unfolding event_turn
-turn_keeps s = keeps_part (placed s.place) any _ 6 (λ _. 6) (turn_to 6 (λ _. 6)) (placed_keeps s.place) (λ p. keeps_done (after_event s.levels p) 6 (turn_to 6 (λ _. 6)) (event_left s.levels p))
+turn_keeps s = keeps_part (placed s.place) any _ 6 (λ _. 6) (turn_to 6 (λ _. 6)) (placed_keeps s.place)
+    (λ p. keeps_done (after_event s.levels p) 6 (turn_to 6 (λ _. 6)) (event_left s.levels p))
 
 pub events_keep : (place : ℕ) (levels : List ℤ) → Keeps (events place levels) 6 (λ _. 6)
 unfolding events
@@ -35,13 +39,15 @@ dcs_tried = refl
 
 intra_dc_keeps : Keeps intra_dc 6 (λ _. 6)
 unfolding intra_dc
-intra_dc_keeps = keeps_tried 8 allowed_dc _ 6 (λ _. 6) (λ _. 6) dcs_tried (λ v free. keeps_done _ 6 (λ _. 6) (omega arith))
+intra_dc_keeps = keeps_tried 8 allowed_dc _ 6 (λ _. 6) (λ _. 6) dcs_tried
+    (λ v free. keeps_done _ 6 (λ _. 6) (omega arith))
 
 pub intra_block_keeps : (coded : Bool) → Keeps (intra_block coded) 6 (λ _. 6)
 unfolding intra_block
 intra_block_keeps coded =
     keeps_part intra_dc any _ 6 (λ _. 6) (λ _. 6) intra_dc_keeps (λ levels.
-    keeps_either coded (events 1 levels) (done levels) 6 (λ _. 6) (events_keep 1 levels) (keeps_done levels 6 (λ _. 6) (omega arith)))
+    keeps_either coded (events 1 levels) (done levels) 6 (λ _. 6) (events_keep 1 levels)
+        (keeps_done levels 6 (λ _. 6) (omega arith)))
 
 pub inter_block_keeps : Keeps inter_block 6 (λ _. 6)
 unfolding inter_block

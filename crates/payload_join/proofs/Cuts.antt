@@ -5,7 +5,8 @@ use Rattle.std.proofs.lemmas.List.{drop_more, length-drop}
 use Rattle.payload_join.specs.Split.{starts, is_cut, onto, split_of}
 
 -- the three bytes at a place
-pub cut_is : (xs : List ℕ) (at : ℕ) → at + 2 < length xs → starts (get_or xs at 0) (get_or xs (at + 1) 0) (get_or xs (at + 2) 0) ≡ is_cut (drop at xs)
+pub cut_is : (xs : List ℕ) (at : ℕ) → at + 2 < length xs
+    → starts (get_or xs at 0) (get_or xs (at + 1) 0) (get_or xs (at + 2) 0) ≡ is_cut (drop at xs)
 cut_is xs at lt =
     let e : at + 1 + 1 ≡ at + 2 = omega arith in
     let a = drop_more xs at 0 (omega arith) in
@@ -23,14 +24,16 @@ short (a ∷ b ∷ []) lt = refl
 short (a ∷ b ∷ c ∷ xs) lt = absurd (omega arith)
 
 -- no cut was found up to the last place
-pub none_left : (xs : List ℕ) (n : ℕ) → length xs ≤ n + 2 → ((k : ℕ) → k < n → is_cut (drop k xs) ≡ false) → (k : ℕ) → is_cut (drop k xs) ≡ false
+pub none_left : (xs : List ℕ) (n : ℕ) → length xs ≤ n + 2 → ((k : ℕ) → k < n → is_cut (drop k xs) ≡ false) → (k : ℕ)
+    → is_cut (drop k xs) ≡ false
 none_left xs n le none k =
     elim (cases_lt k n) [
       | inl lt ↦ none k lt
       | inr ge ↦ let d : length (drop k xs) ≡ length xs - k = length-drop k xs in short (drop k xs) (omega arith)
     ]
 
-uncut_one : (a b c : ℕ) (xs : List ℕ) → starts a b c ≡ false → split_of (a ∷ b ∷ c ∷ xs) ≡ onto a (split_of (b ∷ c ∷ xs))
+uncut_one : (a b c : ℕ) (xs : List ℕ) → starts a b c ≡ false → split_of (a ∷ b ∷ c ∷ xs)
+    ≡ onto a (split_of (b ∷ c ∷ xs))
 unfolding split_of
 uncut_one a b c xs e = rw e refl
 
@@ -48,10 +51,15 @@ uncut (a ∷ b ∷ c ∷ xs) none =
     uncut_one a b c xs (none 0) ∙ ap (onto a) (uncut (b ∷ c ∷ xs) (λ k. none (suc k)))
 
 -- at the first cut the first part ends
-pub first_cut : (xs : List ℕ) (at : ℕ) → ((k : ℕ) → k < at → is_cut (drop k xs) ≡ false) → is_cut (drop at xs) ≡ true → split_of xs ≡ take at xs ∷ split_of (drop (at + 2) xs)
-first_cut [] at none cut = let f : is_cut (drop at []) ≡ false = short (drop at []) (let d = length-drop {A = ℕ} at [] in omega (arith, d)) in absurd cc
-first_cut (a ∷ []) at none cut = let f : is_cut (drop at (a ∷ [])) ≡ false = short (drop at (a ∷ [])) (let d = length-drop {A = ℕ} at (a ∷ []) in omega (arith, d)) in absurd cc
-first_cut (a ∷ b ∷ []) at none cut = let f : is_cut (drop at (a ∷ b ∷ [])) ≡ false = short (drop at (a ∷ b ∷ [])) (let d = length-drop {A = ℕ} at (a ∷ b ∷ []) in omega (arith, d)) in absurd cc
+pub first_cut : (xs : List ℕ) (at : ℕ) → ((k : ℕ) → k < at → is_cut (drop k xs) ≡ false) → is_cut (drop at xs) ≡ true
+    → split_of xs ≡ take at xs ∷ split_of (drop (at + 2) xs)
+first_cut [] at none cut = let f : is_cut (drop at [])
+    ≡ false = short (drop at []) (let d = length-drop {A = ℕ} at [] in omega (arith, d)) in absurd cc
+first_cut (a ∷ []) at none cut = let f : is_cut (drop at (a ∷ []))
+    ≡ false = short (drop at (a ∷ [])) (let d = length-drop {A = ℕ} at (a ∷ []) in omega (arith, d)) in absurd cc
+first_cut (a ∷ b ∷ []) at none cut = let f : is_cut (drop at (a ∷ b ∷ []))
+    ≡ false = short (drop at (a ∷ b ∷ [])) (let d = length-drop {A = ℕ} at (a ∷ b ∷ []) in omega (arith, d)) in
+    absurd cc
 first_cut (a ∷ b ∷ c ∷ xs) zero none cut = cut_one a b c xs cut
 first_cut (a ∷ b ∷ c ∷ xs) (suc at) none cut =
     let e : suc at + 2 ≡ suc (at + 2) = omega arith in

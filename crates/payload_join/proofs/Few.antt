@@ -26,25 +26,29 @@ parts_few (a ∷ []) = omega arith
 parts_few (a ∷ b ∷ []) = omega arith
 parts_few (a ∷ b ∷ c ∷ bytes) = go (starts a b c) refl (parts_few (c ∷ bytes)) (parts_few (b ∷ c ∷ bytes))
   where
-    go : (t : Bool) → starts a b c ≡ t → length (split_of (c ∷ bytes)) ≤ length (c ∷ bytes) + 1 → length (split_of (b ∷ c ∷ bytes)) ≤ length (b ∷ c ∷ bytes) + 1
+    go : (t : Bool) → starts a b c ≡ t → length (split_of (c ∷ bytes)) ≤ length (c ∷ bytes) + 1
+        → length (split_of (b ∷ c ∷ bytes)) ≤ length (b ∷ c ∷ bytes) + 1
         → length (split_of (a ∷ b ∷ c ∷ bytes)) ≤ length (a ∷ b ∷ c ∷ bytes) + 1
     go true e cut whole = rw e (omega arith)
     go false e cut whole = let o = onto_few a (split_of (b ∷ c ∷ bytes)) in rw e (omega arith)
 
-each_few : (first : Packet) (one other : Extra) (parts : List (List ℕ)) → length (each_out first one other parts) ≤ length parts
+each_few : (first : Packet) (one other : Extra) (parts : List (List ℕ))
+    → length (each_out first one other parts) ≤ length parts
 each_few first one other [] = omega arith
 each_few first one other (part ∷ parts) =
     let m : length (map (outgoing first other) parts) ≡ length parts = length-map parts (outgoing first other) in
     omega (arith, m)
 
-picture_few : (first : Packet) (coded : List ℕ) (h : Option Extra) → length (picture_out first coded h) ≤ length coded + 1
+picture_few : (first : Packet) (coded : List ℕ) (h : Option Extra)
+    → length (picture_out first coded h) ≤ length coded + 1
 picture_few first coded None = omega arith
 picture_few first coded (Some h) =
     let e = each_few first no_extra h (split_of coded) in
     let p = parts_few coded in
     omega arith
 
-begun_few : (format : Format) (first : Packet) (coded : List ℕ) (parts : List (List ℕ)) → length (begun_out format first coded parts) ≤ length coded + 1
+begun_few : (format : Format) (first : Packet) (coded : List ℕ) (parts : List (List ℕ))
+    → length (begun_out format first coded parts) ≤ length coded + 1
 begun_few format first coded [] = picture_few first coded (header_of format coded)
 begun_few format first coded (part ∷ []) = omega arith
 begun_few format first coded (part ∷ next ∷ parts) = picture_few first coded (header_of format coded)
@@ -52,7 +56,8 @@ begun_few format first coded (part ∷ next ∷ parts) = picture_few first coded
 -- a unit gives as many packets as 65,400 bytes have parts
 unit_few : (format : Format) (first : Packet) (coded : List ℕ) → length (unit_out format first coded) ≤ 65401
 unfolding unit_out
-unit_few format first coded = go (nat_lt 65400 (length coded)) refl (nat_lt 0 (length first.extra.bytes)) refl (begins_picture coded) refl
+unit_few format first coded = go (nat_lt 65400 (length coded)) refl (nat_lt 0 (length first.extra.bytes)) refl
+    (begins_picture coded) refl
   where
     p : length (split_of coded) ≤ length coded + 1
     p = parts_few coded
@@ -63,7 +68,8 @@ unit_few format first coded = go (nat_lt 65400 (length coded)) refl (nat_lt 0 (l
     each : (one other : Extra) → length (each_out first one other (split_of coded)) ≤ length coded + 1
     each one other = let m = each_few first one other (split_of coded) in omega (arith, m, p)
 
-    go : (large : Bool) → nat_lt 65400 (length coded) ≡ large → (extra : Bool) → nat_lt 0 (length first.extra.bytes) ≡ extra → (picture : Bool) → begins_picture coded ≡ picture
+    go : (large : Bool) → nat_lt 65400 (length coded) ≡ large → (extra : Bool) → nat_lt 0 (length first.extra.bytes)
+        ≡ extra → (picture : Bool) → begins_picture coded ≡ picture
         → length (unit_out format first coded) ≤ 65401
     go true d extra e picture f = rw d (omega arith)
     go false d true e picture f = rw (d, e) (within d (each first.extra first.extra))
@@ -80,13 +86,15 @@ one_few format now x None before = omega arith
 one_few format now x (Some k) None = out_few format (coded_from now x (k + 1)) (now x)
 one_few format now x (Some k) (Some j) = omega arith
 
-made_few : (format : Format) (before now : At) (x count : ℕ) → length (made_from format before now x count) ≤ 65401 * count
+made_few : (format : Format) (before now : At) (x count : ℕ)
+    → length (made_from format before now x count) ≤ 65401 * count
 unfolding made_from
 made_few format before now x zero = omega arith
 made_few format before now x (suc count) =
     let one = one_few format now x (unit_at now x) (unit_at before x) in
     let more = made_few format before now (x + 1) count in
-    let all = length-append (made_one format now x (unit_at now x) (unit_at before x)) (made_from format before now (x + 1) count) in
+    let all = length-append (made_one format now x (unit_at now x) (unit_at before x))
+        (made_from format before now (x + 1) count) in
     omega arith
 
 up_to_few : (format : Format) (before now : At) (top : Option ℕ) → length (made_up_to format before now top) ≤ 2 ^ 22
@@ -94,7 +102,8 @@ up_to_few format before now None = omega arith
 up_to_few format before now (Some top) = let m = made_few format before now (top - 63) 64 in omega arith
 
 as_few : (format : Format) (s : Joined) (p : Packet) (t : Took) → length (given_as format s p t) ≤ 2 ^ 22
-as_few format s p tooks.Held = up_to_few format (packet_at s.held) (packet_at (with_packet s (number_of s.top p.sequence) p).held) (with_packet s (number_of s.top p.sequence) p).top
+as_few format s p tooks.Held = up_to_few format (packet_at s.held)
+    (packet_at (with_packet s (number_of s.top p.sequence) p).held) (with_packet s (number_of s.top p.sequence) p).top
 as_few format s p tooks.Old = omega arith
 as_few format s p tooks.Again = omega arith
 as_few format s p (tooks.Refused fault) = omega arith
@@ -103,5 +112,6 @@ given_few : (format : Format) (s : Joined) (r : Result Packet Fault) → length 
 given_few format s (Err fault) = omega arith
 given_few format s (Ok p) = as_few format s p (took s (Ok p))
 
-pub few_given : (format : Format) (past : List (List ℕ)) (bytes : List ℕ) → length (given_next format past bytes) ≤ 2 ^ 22
+pub few_given : (format : Format) (past : List (List ℕ)) (bytes : List ℕ)
+    → length (given_next format past bytes) ≤ 2 ^ 22
 few_given format past bytes = given_few format (joined_by past) (packet_in bytes)

@@ -19,14 +19,18 @@ pub record IsOpen (at : At) (x k : ℕ) : Type 0 where
 
 -- it ends with a marker
 pub ends_marked : (at : At) (x k : ℕ) → IsOpen at x k → k < 64 → marked_at at (x + k) ≡ true → unit_at at x ≡ Some k
-ends_marked at x k o few m = unit_there at x k few (record { begins = o.begins; follow = o.follow; unmarked = o.unmarked; ends = inl m })
+ends_marked at x k o few m = unit_there at x k few (record { begins = o.begins; follow = o.follow;
+    unmarked = o.unmarked; ends = inl m })
 
 -- it ends before the next unit
-pub ends_begun : (at : At) (x k : ℕ) → IsOpen at x k → k < 64 → marked_at at (x + k) ≡ false → begins_at at (x + (k + 1)) ≡ true → unit_at at x ≡ Some k
-ends_begun at x k o few m b = unit_there at x k few (record { begins = o.begins; follow = o.follow; unmarked = o.unmarked; ends = inr (m, b) })
+pub ends_begun : (at : At) (x k : ℕ) → IsOpen at x k → k < 64 → marked_at at (x + k) ≡ false
+    → begins_at at (x + (k + 1)) ≡ true → unit_at at x ≡ Some k
+ends_begun at x k o few m b = unit_there at x k few (record { begins = o.begins; follow = o.follow;
+    unmarked = o.unmarked; ends = inr (m, b) })
 
 -- it doesn't end
-pub ends_not : (at : At) (x k : ℕ) → IsOpen at x k → marked_at at (x + k) ≡ false → begins_at at (x + (k + 1)) ≡ false → follows_at at (x + (k + 1)) ≡ false → unit_at at x ≡ None
+pub ends_not : (at : At) (x k : ℕ) → IsOpen at x k → marked_at at (x + k) ≡ false → begins_at at (x + (k + 1)) ≡ false
+    → follows_at at (x + (k + 1)) ≡ false → unit_at at x ≡ None
 ends_not at x k o m b f = is_none (unit_at at x) refl
   where
     not_unit : (j : ℕ) → IsUnit at x j → ⊥
@@ -71,7 +75,8 @@ pub outside : (packets : List (Option Packet)) (last n : ℕ) → last < n → w
 outside packets last n lt = rw (lt-leb n last lt) refl
 
 -- the coded bytes of one packet more
-pub coded_more : (at : At) (x count : ℕ) → coded_from at x (count + 1) ≡ coded_from at x count ++ coded_one (at (x + count))
+pub coded_more : (at : At) (x count : ℕ) → coded_from at x (count + 1) ≡ coded_from at x count
+    ++ coded_one (at (x + count))
 unfolding coded_from
 coded_more at x zero =
     let e : x ≡ x + 0 = omega arith in
@@ -85,26 +90,37 @@ coded_more at x (suc count) =
     ∙ sym (append_assoc (coded_one (at x)) (coded_from at (x + 1) count) (coded_one (at (x + 1 + count))))
     ∙ ap (λ (k : ℕ). (coded_one (at x) ++ coded_from at (x + 1) count) ++ coded_one (at k)) e
 
-pub more_len : (at : At) (x count : ℕ) → length (coded_from at x (count + 1)) ≡ length (coded_from at x count) + length (coded_one (at (x + count)))
-more_len at x count = ap (length {A = ℕ}) (coded_more at x count) ∙ length-append (coded_from at x count) (coded_one (at (x + count)))
+pub more_len : (at : At) (x count : ℕ) → length (coded_from at x (count + 1))
+    ≡ length (coded_from at x count) + length (coded_one (at (x + count)))
+more_len at x count = ap (length {A = ℕ}) (coded_more at x count)
+    ∙ length-append (coded_from at x count) (coded_one (at (x + count)))
 
 -- ---- what the forward loop finds
 
-pub finds_none : (packets : List (Option Packet)) (first last : ℕ) → first ≤ last → begins_one (place_at packets first) ≡ false → None ≡ unit_at (window packets last) first
-finds_none packets first last le b = sym (none_begun (window packets last) first (ap begins_one (inside packets last first le) ∙ b))
+pub finds_none : (packets : List (Option Packet)) (first last : ℕ) → first ≤ last → begins_one (place_at packets first)
+    ≡ false → None ≡ unit_at (window packets last) first
+finds_none packets first last le b =
+    sym (none_begun (window packets last) first (ap begins_one (inside packets last first le) ∙ b))
 
-pub finds_marked : (packets : List (Option Packet)) (first last k : ℕ) → first + k ≤ last → last < first + 64 → IsOpen (window packets last) first k → is_marked (place_at packets (first + k)) ≡ true → Some k ≡ unit_at (window packets last) first
-finds_marked packets first last k le few o m = sym (ends_marked (window packets last) first k o (omega arith) (ap is_marked (inside packets last (first + k) le) ∙ m))
+pub finds_marked : (packets : List (Option Packet)) (first last k : ℕ) → first + k ≤ last → last < first + 64
+    → IsOpen (window packets last) first k → is_marked (place_at packets (first + k)) ≡ true
+    → Some k ≡ unit_at (window packets last) first
+finds_marked packets first last k le few o m = sym (ends_marked (window packets last) first k o (omega arith)
+    (ap is_marked (inside packets last (first + k) le) ∙ m))
 
-pub finds_begun : (packets : List (Option Packet)) (first last k : ℕ) → first + k + 1 ≤ last → last < first + 64 → IsOpen (window packets last) first k → is_marked (place_at packets (first + k)) ≡ false
+pub finds_begun : (packets : List (Option Packet)) (first last k : ℕ) → first + k + 1 ≤ last → last < first + 64
+    → IsOpen (window packets last) first k → is_marked (place_at packets (first + k)) ≡ false
     → begins_one (place_at packets (first + k + 1)) ≡ true → Some k ≡ unit_at (window packets last) first
 finds_begun packets first last k le few o m b =
     let e : first + (k + 1) ≡ first + k + 1 = omega arith in
-    sym (ends_begun (window packets last) first k o (omega arith) (ap is_marked (inside packets last (first + k) (omega arith)) ∙ m)
+    sym (ends_begun (window packets last) first k o (omega arith)
+        (ap is_marked (inside packets last (first + k) (omega arith)) ∙ m)
     (ap (begins_at (window packets last)) e ∙ ap begins_one (inside packets last (first + k + 1) le) ∙ b))
 
-pub finds_end : (packets : List (Option Packet)) (first last k : ℕ) → first + k + 1 ≤ last → IsOpen (window packets last) first k → is_marked (place_at packets (first + k)) ≡ false
-    → begins_one (place_at packets (first + k + 1)) ≡ false → follows_one (place_at packets (first + k + 1)) ≡ false → None ≡ unit_at (window packets last) first
+pub finds_end : (packets : List (Option Packet)) (first last k : ℕ) → first + k + 1 ≤ last
+    → IsOpen (window packets last) first k → is_marked (place_at packets (first + k)) ≡ false
+    → begins_one (place_at packets (first + k + 1)) ≡ false → follows_one (place_at packets (first + k + 1)) ≡ false
+        → None ≡ unit_at (window packets last) first
 finds_end packets first last k le o m b f =
     let e : first + (k + 1) ≡ first + k + 1 = omega arith in
     sym (ends_not (window packets last) first k o (ap is_marked (inside packets last (first + k) (omega arith)) ∙ m)
@@ -112,26 +128,35 @@ finds_end packets first last k le o m b f =
     (ap (follows_at (window packets last)) e ∙ ap follows_one (inside packets last (first + k + 1) le) ∙ f))
 
 -- at the greatest number
-pub last_marked : (packets : List (Option Packet)) (first last k : ℕ) → first ≤ last → last < first + 64 → k ≡ last - first → IsOpen (window packets last) first k → is_marked (place_at packets last) ≡ true → Some (last - first) ≡ unit_at (window packets last) first
+pub last_marked : (packets : List (Option Packet)) (first last k : ℕ) → first ≤ last → last < first + 64
+    → k ≡ last - first → IsOpen (window packets last) first k → is_marked (place_at packets last) ≡ true
+    → Some (last - first) ≡ unit_at (window packets last) first
 last_marked packets first last k le few e o m =
     let f : first + k ≡ last = omega arith in
-    ap (λ (n : ℕ). Some n) (sym e) ∙ finds_marked packets first last k (omega arith) few o (ap (λ (n : ℕ). is_marked (place_at packets n)) f ∙ m)
+    ap (λ (n : ℕ). Some n) (sym e)
+        ∙ finds_marked packets first last k (omega arith) few o (ap (λ (n : ℕ). is_marked (place_at packets n)) f ∙ m)
 
-pub last_open : (packets : List (Option Packet)) (first last k : ℕ) → first ≤ last → k ≡ last - first → IsOpen (window packets last) first k → is_marked (place_at packets last) ≡ false → None ≡ unit_at (window packets last) first
+pub last_open : (packets : List (Option Packet)) (first last k : ℕ) → first ≤ last → k ≡ last - first
+    → IsOpen (window packets last) first k → is_marked (place_at packets last) ≡ false
+    → None ≡ unit_at (window packets last) first
 last_open packets first last k le e o m =
     let f : first + k ≡ last = omega arith in
     let none : window packets last (first + (k + 1)) ≡ None = outside packets last (first + (k + 1)) (omega arith) in
-    sym (ends_not (window packets last) first k o (ap is_marked (inside packets last (first + k) (omega arith)) ∙ ap (λ (n : ℕ). is_marked (place_at packets n)) f ∙ m)
+    sym (ends_not (window packets last) first k o (ap is_marked (inside packets last (first + k) (omega arith))
+        ∙ ap (λ (n : ℕ). is_marked (place_at packets n)) f ∙ m)
     (ap begins_one none) (ap follows_one none))
 
 -- ---- what the backward loop finds
 
-back_follow : (packets : List (Option Packet)) (number back : ℕ) → ((j : ℕ) → j < back → follows_one (place_at packets (number - 1 - j)) ≡ true) → (m : ℕ) → number - 1 - back < m → m < number → follows_one (place_at packets m) ≡ true
+back_follow : (packets : List (Option Packet)) (number back : ℕ)
+    → ((j : ℕ) → j < back → follows_one (place_at packets (number - 1 - j)) ≡ true) → (m : ℕ) → number - 1 - back < m
+    → m < number → follows_one (place_at packets m) ≡ true
 back_follow packets number back follow m lt less =
     let e : number - 1 - (number - 1 - m) ≡ m = omega arith in
     ap (λ (n : ℕ). follows_one (place_at packets n)) (sym e) ∙ follow (number - 1 - m) (omega arith)
 
-pub is_before : (packets : List (Option Packet)) (low number back : ℕ) → back < number - low → ((j : ℕ) → j < back → follows_one (place_at packets (number - 1 - j)) ≡ true)
+pub is_before : (packets : List (Option Packet)) (low number back : ℕ) → back < number - low
+    → ((j : ℕ) → j < back → follows_one (place_at packets (number - 1 - j)) ≡ true)
     → begins_one (place_at packets (number - 1 - back)) ≡ true → IsBefore packets low number (number - 1 - back)
 is_before packets low number back lt follow b =
     record { from = omega arith; below = omega arith; begins = b; follow = back_follow packets number back follow }
@@ -144,29 +169,38 @@ both (Some p) q r = at p.begins q r
     at true e f = cc
     at false e f = cc
 
-pub not_before : (packets : List (Option Packet)) (low number back : ℕ) → back < number - low → ((j : ℕ) → j < back → follows_one (place_at packets (number - 1 - j)) ≡ true)
-    → begins_one (place_at packets (number - 1 - back)) ≡ false → follows_one (place_at packets (number - 1 - back)) ≡ false → (x : ℕ) → IsBefore packets low number x → ⊥
+pub not_before : (packets : List (Option Packet)) (low number back : ℕ) → back < number - low
+    → ((j : ℕ) → j < back → follows_one (place_at packets (number - 1 - j)) ≡ true)
+    → begins_one (place_at packets (number - 1 - back)) ≡ false → follows_one (place_at packets (number - 1 - back))
+        ≡ false → (x : ℕ) → IsBefore packets low number x → ⊥
 not_before packets low number back lt follow b f x h =
     let below = h.below in
     elim (cases_lt (number - 1 - back) x) [
       | inl above ↦ both (place_at packets x) h.begins (back_follow packets number back follow x above below)
       | inr upto ↦ elim (cases_lt x (number - 1 - back)) [
         | inl under ↦ let e : true ≡ false = sym (h.follow (number - 1 - back) under (omega arith)) ∙ f in cc
-        | inr same ↦ let e : x ≡ number - 1 - back = omega arith in let g : true ≡ false = sym h.begins ∙ ap (λ (n : ℕ). begins_one (place_at packets n)) e ∙ b in cc
+        | inr same ↦ let e : x ≡ number - 1 - back = omega arith in let g : true ≡ false = sym h.begins
+            ∙ ap (λ (n : ℕ). begins_one (place_at packets n)) e ∙ b in cc
       ]
     ]
 
-pub none_before : (packets : List (Option Packet)) (low number back : ℕ) → number - low ≤ back → ((j : ℕ) → j < back → follows_one (place_at packets (number - 1 - j)) ≡ true) → (x : ℕ) → IsBefore packets low number x → ⊥
+pub none_before : (packets : List (Option Packet)) (low number back : ℕ) → number - low ≤ back
+    → ((j : ℕ) → j < back → follows_one (place_at packets (number - 1 - j)) ≡ true) → (x : ℕ)
+    → IsBefore packets low number x → ⊥
 none_before packets low number back ge follow x h =
     let below = h.below in let from = h.from in
-    both (place_at packets x) h.begins (ap (λ (n : ℕ). follows_one (place_at packets n)) (let e : x ≡ number - 1 - (number - 1 - x) = omega arith in e) ∙ follow (number - 1 - x) (omega arith))
+    both (place_at packets x) h.begins (ap (λ (n : ℕ). follows_one (place_at packets n)) (let e : x
+        ≡ number - 1 - (number - 1 - x) = omega arith in e) ∙ follow (number - 1 - x) (omega arith))
 
 -- ---- a unit that was found
 
-window_coded : (packets : List (Option Packet)) (first last count : ℕ) → first + count ≤ last + 1 → coded_from (window packets last) first count ≡ coded_from (place_at packets) first count
-window_coded packets first last count le = coded_same (place_at packets) (window packets last) first count (λ j lt. inside packets last (first + j) (omega arith))
+window_coded : (packets : List (Option Packet)) (first last count : ℕ) → first + count ≤ last + 1
+    → coded_from (window packets last) first count ≡ coded_from (place_at packets) first count
+window_coded packets first last count le = coded_same (place_at packets) (window packets last) first count
+    (λ j lt. inside packets last (first + j) (omega arith))
 
-too_long : (format : Format) (at : At) (x k : ℕ) → 65400 < length (coded_from at x (k + 1)) → outgoing_of format at x k ≡ []
+too_long : (format : Format) (at : At) (x k : ℕ) → 65400 < length (coded_from at x (k + 1)) → outgoing_of format at x k
+    ≡ []
 unfolding outgoing_of unit_out
 too_long format at x k long = of (at x)
   where
@@ -175,27 +209,45 @@ too_long format at x k long = of (at x)
     of (Some p) = rw (lt-ltb 65400 (length (coded_from at x (k + 1))) long) refl
 
 made_in : (packets : List (Option Packet)) (number first last k : ℕ) → first + k ≤ last
-    → is_made (window packets last) number first k ≡ (nat_le number (first + k) || (nat_eq number (first + k + 1) && not (is_marked (place_at packets (first + k)))))
-made_in packets number first last k le = λ i. nat_le number (first + k) || (nat_eq number (first + k + 1) && not (is_marked (inside packets last (first + k) le i)))
+    → is_made (window packets last) number first k
+        ≡ (nat_le number (first + k) || (nat_eq number (first + k + 1) && not
+        (is_marked (place_at packets (first + k)))))
+made_in packets number first last k le = λ i. nat_le number (first + k) || (nat_eq number (first + k + 1) && not
+    (is_marked (inside packets last (first + k) le i)))
 
-out_some : (format : Format) (packets : List (Option Packet)) (number first last k : ℕ) → first + k ≤ last → (t : Bool) → (nat_le number (first + k) || (nat_eq number (first + k + 1) && not (is_marked (place_at packets (first + k))))) ≡ t → Some k ≡ unit_at (window packets last) first
-    → out_made format (window packets last) number first (unit_at (window packets last) first) ≡ cond t (outgoing_of format (window packets last) first k) []
+out_some : (format : Format) (packets : List (Option Packet)) (number first last k : ℕ) → first + k ≤ last → (t : Bool)
+    → (nat_le number (first + k) || (nat_eq number (first + k + 1) && not (is_marked (place_at packets (first + k)))))
+    ≡ t → Some k ≡ unit_at (window packets last) first
+    → out_made format (window packets last) number first (unit_at (window packets last) first)
+        ≡ cond t (outgoing_of format (window packets last) first k) []
 out_some format packets number first last k le t made e =
     ap (out_made format (window packets last) number first) (sym e)
-    ∙ ap (λ (b : Bool). cond b (outgoing_of format (window packets last) first k) []) (made_in packets number first last k le ∙ made)
+    ∙ ap (λ (b : Bool). cond b (outgoing_of format (window packets last) first k) [])
+        (made_in packets number first last k le ∙ made)
 
-pub out_not : (format : Format) (packets : List (Option Packet)) (number first last k : ℕ) → first + k ≤ last → (nat_le number (first + k) || (nat_eq number (first + k + 1) && not (is_marked (place_at packets (first + k))))) ≡ false → Some k ≡ unit_at (window packets last) first
+pub out_not : (format : Format) (packets : List (Option Packet)) (number first last k : ℕ) → first + k ≤ last
+    → (nat_le number (first + k) || (nat_eq number (first + k + 1) && not (is_marked (place_at packets (first + k)))))
+    ≡ false → Some k ≡ unit_at (window packets last) first
     → [] ≡ out_made format (window packets last) number first (unit_at (window packets last) first)
 out_not format packets number first last k le made e = sym (out_some format packets number first last k le false made e)
 
-pub out_long : (format : Format) (packets : List (Option Packet)) (number first last k : ℕ) → first + k ≤ last → (nat_le number (first + k) || (nat_eq number (first + k + 1) && not (is_marked (place_at packets (first + k))))) ≡ true → Some k ≡ unit_at (window packets last) first
-    → 65400 < length (coded_from (place_at packets) first (k + 1)) → [] ≡ out_made format (window packets last) number first (unit_at (window packets last) first)
+pub out_long : (format : Format) (packets : List (Option Packet)) (number first last k : ℕ) → first + k ≤ last
+    → (nat_le number (first + k) || (nat_eq number (first + k + 1) && not (is_marked (place_at packets (first + k)))))
+    ≡ true → Some k ≡ unit_at (window packets last) first
+    → 65400 < length (coded_from (place_at packets) first (k + 1))
+        → [] ≡ out_made format (window packets last) number first (unit_at (window packets last) first)
 out_long format packets number first last k le made e long =
-    let f : length (coded_from (window packets last) first (k + 1)) ≡ length (coded_from (place_at packets) first (k + 1)) = ap (length {A = ℕ}) (window_coded packets first last (k + 1) (omega arith)) in
-    sym (out_some format packets number first last k le true made e ∙ too_long format (window packets last) first k (omega arith))
+    let f : length (coded_from (window packets last) first (k + 1))
+        ≡ length (coded_from (place_at packets) first (k + 1)) =
+        ap (length {A = ℕ}) (window_coded packets first last (k + 1) (omega arith)) in
+    sym (out_some format packets number first last k le true made e
+        ∙ too_long format (window packets last) first k (omega arith))
 
-pub out_whole : (format : Format) (packets : List (Option Packet)) (number first last k : ℕ) → first + k ≤ last → (nat_le number (first + k) || (nat_eq number (first + k + 1) && not (is_marked (place_at packets (first + k))))) ≡ true → Some k ≡ unit_at (window packets last) first
-    → outgoing_of format (place_at packets) first k ≡ out_made format (window packets last) number first (unit_at (window packets last) first)
+pub out_whole : (format : Format) (packets : List (Option Packet)) (number first last k : ℕ) → first + k ≤ last
+    → (nat_le number (first + k) || (nat_eq number (first + k + 1) && not (is_marked (place_at packets (first + k)))))
+    ≡ true → Some k ≡ unit_at (window packets last) first
+    → outgoing_of format (place_at packets) first k ≡ out_made format (window packets last) number first
+        (unit_at (window packets last) first)
 unfolding outgoing_of
 out_whole format packets number first last k le made e =
     let coded = window_coded packets first last (k + 1) (omega arith) in
@@ -207,7 +259,8 @@ some_of None (inl e) = absurd cc
 some_of None (inr e) = absurd cc
 some_of (Some p) e = refl
 
-pub is_whole : (packets : List (Option Packet)) (first last k : ℕ) → first + k ≤ last → last < 2 ^ 31 → Some k ≡ unit_at (window packets last) first → length (coded_from (place_at packets) first (k + 1)) ≤ 65400
+pub is_whole : (packets : List (Option Packet)) (first last k : ℕ) → first + k ≤ last → last < 2 ^ 31
+    → Some k ≡ unit_at (window packets last) first → length (coded_from (place_at packets) first (k + 1)) ≤ 65400
     → IsWhole packets (record { number = first; follow = k })
 is_whole packets first last k le fits e short =
     let u = unit_laws.only (window packets last) first k (sym e) in
@@ -221,10 +274,13 @@ is_whole packets first last k le fits e short =
     at : (j : ℕ) → j ≤ k → IsUnit (window packets last) first k → is_some (place_at packets (first + j)) ≡ true
     at zero upto u =
         let f : first ≡ first + 0 = omega arith in
-        some_of (place_at packets (first + 0)) (inl (ap begins_one (sym (inside packets last (first + 0) (omega arith)) ∙ ap (window packets last) (sym f)) ∙ u.begins))
+        some_of (place_at packets (first + 0)) (inl (ap begins_one (sym (inside packets last (first + 0) (omega arith))
+            ∙ ap (window packets last) (sym f)) ∙ u.begins))
     at (suc j) upto u =
         let f : first + suc j ≡ first + (j + 1) = omega arith in
-        some_of (place_at packets (first + suc j)) (inr (ap follows_one (sym (inside packets last (first + suc j) (omega arith)) ∙ ap (window packets last) f) ∙ u.follow j (omega arith)))
+        some_of (place_at packets (first + suc j))
+            (inr (ap follows_one (sym (inside packets last (first + suc j) (omega arith)) ∙ ap (window packets last) f)
+            ∙ u.follow j (omega arith)))
 
 -- so many packets have no more coded bytes than more of them
 pub coded_within : (at : At) (x k count : ℕ) → k ≤ count → length (coded_from at x k) ≤ length (coded_from at x count)

@@ -68,8 +68,10 @@ ends_of m b (inr e) = rw (e.0, e.1) refl
 unit_of : (at : At) (x k : ℕ) → IsUnit at x k → is_unit at x k ≡ true
 unfolding is_unit
 unit_of at x k u =
-    let f : each_below k (λ j. follows_at at (x + (j + 1))) ≡ true = each_all k (λ j. follows_at at (x + (j + 1))) u.follow in
-    let m : each_below k (λ j. not (marked_at at (x + j))) ≡ true = each_all k (λ j. not (marked_at at (x + j))) (λ j lt. ap not (u.unmarked j lt)) in
+    let f : each_below k (λ j. follows_at at (x + (j + 1)))
+        ≡ true = each_all k (λ j. follows_at at (x + (j + 1))) u.follow in
+    let m : each_below k (λ j. not (marked_at at (x + j))) ≡ true = each_all k (λ j. not (marked_at at (x + j)))
+        (λ j lt. ap not (u.unmarked j lt)) in
     rw (u.begins, f, m, ends_of (marked_at at (x + k)) (begins_at at (x + (k + 1))) u.ends) refl
 
 -- ---- there is one at most
@@ -92,24 +94,31 @@ one_unit at x j k u v =
       | inr le ↦ elim (cases_lt k j) [ inl lt ↦ absurd (not_less at x k j v u lt) | inr ge ↦ omega arith ]
     ]
 
-least_is : (n from k : ℕ) (test : ℕ → Bool) → least_from n from test ≡ Some k → (test k ≡ true) × (from ≤ k) × (k < from + n)
+least_is : (n from k : ℕ) (test : ℕ → Bool) → least_from n from test ≡ Some k → (test k ≡ true) × (from ≤ k)
+    × (k < from + n)
 unfolding least_from
 least_is zero from k test e = absurd cc
 least_is (suc n) from k test e = at (test from) refl e (λ f. least_is n (from + 1) k test f)
   where
     at : (t : Bool) → test from ≡ t → cond t (Some from) (least_from n (from + 1) test) ≡ Some k
-        → (least_from n (from + 1) test ≡ Some k → (test k ≡ true) × (from + 1 ≤ k) × (k < from + 1 + n)) → (test k ≡ true) × (from ≤ k) × (k < from + suc n)
-    at true is f more = let same : from ≡ k = cc in (subst (λ (m : ℕ). test m ≡ true) same is, omega (arith, same), omega (arith, same))
+        → (least_from n (from + 1) test ≡ Some k → (test k ≡ true) × (from + 1 ≤ k) × (k < from + 1 + n))
+            → (test k ≡ true) × (from ≤ k) × (k < from + suc n)
+    at true is f more = let same : from ≡ k = cc in (subst (λ (m : ℕ). test m ≡ true) same is, omega (arith, same),
+        omega (arith, same))
     at false is f more = let m = more f in (m.0, omega (arith, m.1), omega (arith, m.2))
 
-least_of : (n from k : ℕ) (test : ℕ → Bool) → test k ≡ true → ((j : ℕ) → test j ≡ true → j ≡ k) → from ≤ k → k < from + n → least_from n from test ≡ Some k
+least_of : (n from k : ℕ) (test : ℕ → Bool) → test k ≡ true → ((j : ℕ) → test j ≡ true → j ≡ k) → from ≤ k
+    → k < from + n → least_from n from test ≡ Some k
 unfolding least_from
 least_of zero from k test good one le lt = absurd (omega arith)
-least_of (suc n) from k test good one le lt = at (test from) refl (λ le. least_of n (from + 1) k test good one le (omega arith))
+least_of (suc n) from k test good one le lt = at (test from) refl (λ le. least_of n (from + 1) k test good one le
+    (omega arith))
   where
-    at : (t : Bool) → test from ≡ t → (from + 1 ≤ k → least_from n (from + 1) test ≡ Some k) → cond t (Some from) (least_from n (from + 1) test) ≡ Some k
+    at : (t : Bool) → test from ≡ t → (from + 1 ≤ k → least_from n (from + 1) test ≡ Some k)
+        → cond t (Some from) (least_from n (from + 1) test) ≡ Some k
     at true is more = ap (λ (m : ℕ). Some m) (one from is)
-    at false is more = more (elim (cases_lt from k) [ inl lt ↦ omega arith | inr ge ↦ let same : from ≡ k = omega arith in absurd (let e : test k ≡ false = subst (λ (m : ℕ). test m ≡ false) same is in cc) ])
+    at false is more = more (elim (cases_lt from k) [ inl lt ↦ omega arith | inr ge ↦ let same : from
+        ≡ k = omega arith in absurd (let e : test k ≡ false = subst (λ (m : ℕ). test m ≡ false) same is in cc) ])
 
 least_none : (n from : ℕ) (test : ℕ → Bool) → ((k : ℕ) → test k ≡ false) → least_from n from test ≡ None
 unfolding least_from
@@ -133,7 +142,8 @@ follows_grows before now n grows e = at (before n) refl e
     at (Some p) is e = rw (grows n p is) e
 
 -- what is held stays as it is
-stays_at : (before now : At) (n : ℕ) → Grows before now → (begins_at before n ≡ true) ⊎ (follows_at before n ≡ true) → now n ≡ before n
+stays_at : (before now : At) (n : ℕ) → Grows before now → (begins_at before n ≡ true) ⊎ (follows_at before n ≡ true)
+    → now n ≡ before n
 stays_at before now n grows h = at (before n) refl h
   where
     at : (o : Option Packet) → before n ≡ o → (begins_one o ≡ true) ⊎ (follows_one o ≡ true) → now n ≡ before n
@@ -143,9 +153,11 @@ stays_at before now n grows h = at (before n) refl h
 
 -- the packets of a unit stay
 in_unit : (before now : At) (x k j : ℕ) → Grows before now → IsUnit before x k → j ≤ k → now (x + j) ≡ before (x + j)
-in_unit before now x k zero grows u le = stays_at before now (x + 0) grows (inl (let e : x ≡ x + 0 = omega arith in subst (λ (n : ℕ). begins_at before n ≡ true) e u.begins))
+in_unit before now x k zero grows u le = stays_at before now (x + 0) grows (inl (let e : x ≡ x + 0 = omega arith in
+    subst (λ (n : ℕ). begins_at before n ≡ true) e u.begins))
 in_unit before now x k (suc j) grows u le =
-    stays_at before now (x + suc j) grows (inr (let e : x + (j + 1) ≡ x + suc j = omega arith in subst (λ (n : ℕ). follows_at before n ≡ true) e (u.follow j (omega arith))))
+    stays_at before now (x + suc j) grows (inr (let e : x + (j + 1) ≡ x + suc j = omega arith in
+        subst (λ (n : ℕ). follows_at before n ≡ true) e (u.follow j (omega arith))))
 
 unit_grows : (before now : At) (x k : ℕ) → Grows before now → IsUnit before x k → IsUnit now x k
 unit_grows before now x k grows u =
@@ -156,10 +168,12 @@ unit_grows before now x k grows u =
       ends = at_end u.ends;
     }
   where
-    at_end : (marked_at before (x + k) ≡ true) ⊎ ((marked_at before (x + k) ≡ false) × (begins_at before (x + (k + 1)) ≡ true))
+    at_end : (marked_at before (x + k) ≡ true) ⊎ ((marked_at before (x + k) ≡ false)
+        × (begins_at before (x + (k + 1)) ≡ true))
         → (marked_at now (x + k) ≡ true) ⊎ ((marked_at now (x + k) ≡ false) × (begins_at now (x + (k + 1)) ≡ true))
     at_end (inl m) = inl (ap is_marked (in_unit before now x k k grows u (omega arith)) ∙ m)
-    at_end (inr b) = inr (ap is_marked (in_unit before now x k k grows u (omega arith)) ∙ b.0, begins_grows before now (x + (k + 1)) grows b.1)
+    at_end (inr b) = inr (ap is_marked (in_unit before now x k k grows u (omega arith))
+        ∙ b.0, begins_grows before now (x + (k + 1)) grows b.1)
 
 -- a unit that is whole stays so
 pub at_grows : (before now : At) (x k : ℕ) → Grows before now → unit_at before x ≡ Some k → unit_at now x ≡ Some k
@@ -167,17 +181,22 @@ unfolding unit_at
 at_grows before now x k grows e =
     let l = least_is 64 0 k (is_unit before x) e in
     let u = unit_grows before now x k grows (unit_is before x k l.0) in
-    least_of 64 0 k (is_unit now x) (unit_of now x k u) (λ j t. one_unit now x j k (unit_is now x j t) u) (omega arith) (omega (arith, l.2))
+    least_of 64 0 k (is_unit now x) (unit_of now x k u) (λ j t. one_unit now x j k (unit_is now x j t) u) (omega arith)
+        (omega (arith, l.2))
 
-pub coded_same : (before now : At) (x count : ℕ) → ((j : ℕ) → j < count → now (x + j) ≡ before (x + j)) → coded_from now x count ≡ coded_from before x count
+pub coded_same : (before now : At) (x count : ℕ) → ((j : ℕ) → j < count → now (x + j) ≡ before (x + j))
+    → coded_from now x count ≡ coded_from before x count
 unfolding coded_from
 coded_same before now x zero same = refl
 coded_same before now x (suc count) same =
-    let first : now x ≡ before x = let e : x + 0 ≡ x = omega arith in subst (λ (n : ℕ). now n ≡ before n) e (same 0 (omega arith)) in
-    let more = coded_same before now (x + 1) count (λ j lt. let e : x + suc j ≡ x + 1 + j = omega arith in subst (λ (n : ℕ). now n ≡ before n) e (same (suc j) (omega arith))) in
+    let first : now x ≡ before x = let e : x + 0 ≡ x = omega arith in
+        subst (λ (n : ℕ). now n ≡ before n) e (same 0 (omega arith)) in
+    let more = coded_same before now (x + 1) count (λ j lt. let e : x + suc j ≡ x + 1 + j = omega arith in
+        subst (λ (n : ℕ). now n ≡ before n) e (same (suc j) (omega arith))) in
     λ i. coded_one (first i) ++ more i
 
-outgoing_same : (format : Format) (before now : At) (x k : ℕ) → Grows before now → IsUnit before x k → outgoing_of format now x k ≡ outgoing_of format before x k
+outgoing_same : (format : Format) (before now : At) (x k : ℕ) → Grows before now → IsUnit before x k
+    → outgoing_of format now x k ≡ outgoing_of format before x k
 unfolding outgoing_of
 outgoing_same format before now x k grows u =
     let coded = coded_same before now x (k + 1) (λ j lt. in_unit before now x k j grows u (omega arith)) in
@@ -186,7 +205,8 @@ outgoing_same format before now x k grows u =
 
 pub unit_there : (at : At) (x k : ℕ) → k < 64 → IsUnit at x k → unit_at at x ≡ Some k
 unfolding unit_at
-unit_there at x k lt u = least_of 64 0 k (is_unit at x) (unit_of at x k u) (λ j t. one_unit at x j k (unit_is at x j t) u) (omega arith) (omega arith)
+unit_there at x k lt u = least_of 64 0 k (is_unit at x) (unit_of at x k u)
+    (λ j t. one_unit at x j k (unit_is at x j t) u) (omega arith) (omega arith)
 
 -- ---- what goes out
 
@@ -211,28 +231,35 @@ few_follow at x k e = omega (arith, (least_is 64 0 k (is_unit at x) e).2)
 -- what goes out now is what went out before and what is made whole
 one_more : (format : Format) (before now : At) (x : ℕ) → Grows before now
     → made_one format now x (unit_at now x) (unit_at nothing x)
-    ≡ made_one format before x (unit_at before x) (unit_at nothing x) ++ made_one format now x (unit_at now x) (unit_at before x)
+    ≡ made_one format before x (unit_at before x) (unit_at nothing x)
+        ++ made_one format now x (unit_at now x) (unit_at before x)
 one_more format before now x grows = rw (none_at nothing x refl) (at (unit_at before x) refl (unit_at now x) refl)
   where
-    at : (b : Option ℕ) → unit_at before x ≡ b → (n : Option ℕ) → unit_at now x ≡ n → made_one format now x n None ≡ made_one format before x b None ++ made_one format now x n b
+    at : (b : Option ℕ) → unit_at before x ≡ b → (n : Option ℕ) → unit_at now x ≡ n → made_one format now x n None
+        ≡ made_one format before x b None ++ made_one format now x n b
     at None is None was = refl
     at None is (Some k) was = refl
     at (Some k) is None was = let e = at_grows before now x k grows is in absurd cc
     at (Some k) is (Some j) was =
         let same : Some j ≡ Some k = sym was ∙ at_grows before now x k grows is in
         let u = unit_is before x k (unit_found before x k is) in
-        ap (λ (m : ℕ). outgoing_of format now x m) (some_is j k same) ∙ outgoing_same format before now x k grows u ∙ sym (append-nil (outgoing_of format before x k))
+        ap (λ (m : ℕ). outgoing_of format now x m) (some_is j k same) ∙ outgoing_same format before now x k grows u
+            ∙ sym (append-nil (outgoing_of format before x k))
 
 crossed : {X : Type 0} (a b ads bs : List X) → IsPermutation ((a ++ b) ++ (ads ++ bs)) ((a ++ ads) ++ (b ++ bs))
 crossed {X} a b ads bs =
-    let left : (a ++ b) ++ (ads ++ bs) ≡ a ++ ((b ++ ads) ++ bs) = append_assoc a b (ads ++ bs) ∙ ap (λ (t : List X). a ++ t) (sym (append_assoc b ads bs)) in
-    let right : a ++ ((ads ++ b) ++ bs) ≡ (a ++ ads) ++ (b ++ bs) = ap (λ (t : List X). a ++ t) (append_assoc ads b bs) ∙ sym (append_assoc a ads (b ++ bs)) in
+    let left : (a ++ b) ++ (ads ++ bs) ≡ a ++ ((b ++ ads) ++ bs) = append_assoc a b (ads ++ bs)
+        ∙ ap (λ (t : List X). a ++ t) (sym (append_assoc b ads bs)) in
+    let right : a ++ ((ads ++ b) ++ bs) ≡ (a ++ ads) ++ (b ++ bs) = ap (λ (t : List X). a ++ t) (append_assoc ads b bs)
+        ∙ sym (append_assoc a ads (b ++ bs)) in
     subst (λ (t : List X). IsPermutation t ((a ++ ads) ++ (b ++ bs))) (sym left)
     (subst (λ (t : List X). IsPermutation (a ++ ((b ++ ads) ++ bs)) t) right
-    (IsPermutation-append_right a ((b ++ ads) ++ bs) ((ads ++ b) ++ bs) (IsPermutation-append_left bs (b ++ ads) (ads ++ b) (IsPermutation-append_comm b ads))))
+    (IsPermutation-append_right a ((b ++ ads) ++ bs) ((ads ++ b) ++ bs) (IsPermutation-append_left bs (b ++ ads) (ads
+        ++ b) (IsPermutation-append_comm b ads))))
 
 pub more_out : (format : Format) (before now : At) (x count : ℕ) → Grows before now
-    → IsPermutation (made_from format nothing now x count) (made_from format nothing before x count ++ made_from format before now x count)
+    → IsPermutation (made_from format nothing now x count) (made_from format nothing before x count
+        ++ made_from format before now x count)
 unfolding made_from
 more_out format before now x zero grows = IsPermutation-refl []
 more_out format before now x (suc count) grows =
@@ -241,8 +268,10 @@ more_out format before now x (suc count) grows =
     let ads = made_from format nothing before (x + 1) count in
     let bs = made_from format before now (x + 1) count in
     let rest = more_out format before now (x + 1) count grows in
-    subst (λ (first : List (List ℕ)). IsPermutation (first ++ made_from format nothing now (x + 1) count) ((a ++ ads) ++ (b ++ bs))) (sym (one_more format before now x grows))
-    (IsPermutation-trans _ ((a ++ b) ++ (ads ++ bs)) _ (IsPermutation-append_right (a ++ b) _ (ads ++ bs) rest) (crossed a b ads bs))
+    subst (λ (first : List (List ℕ)). IsPermutation (first ++ made_from format nothing now (x + 1) count) ((a ++ ads)
+        ++ (b ++ bs))) (sym (one_more format before now x grows))
+    (IsPermutation-trans _ ((a ++ b) ++ (ads ++ bs)) _ (IsPermutation-append_right (a ++ b) _ (ads ++ bs) rest)
+        (crossed a b ads bs))
 
 -- a unit of fewer than 64 packets after its first is found
 pub unit_laws : UnitLaws

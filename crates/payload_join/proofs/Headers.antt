@@ -1,4 +1,5 @@
--- Zero bits in a row in the texts of picture headers: at most nine at the end. Before it there may be fifteen, since the
+-- Zero bits in a row in the texts of picture headers: at most nine at the end. Before it there may be
+-- fifteen, since the
 -- first bit is 1.
 use Rattle.std.proofs.Common.{◌≡◌, ℕ, ◌≤◌, true, cond, List, [], length, refl, arith}
 use Rattle.std.specs.Prelude.{Option, Some, None, ◌==◌}
@@ -91,7 +92,8 @@ cpm_tried = refl
 
 multipoint_keeps : Keeps multipoint 0 (λ _. 1)
 unfolding multipoint
-multipoint_keeps = keeps_tried 1 (only 0 faults.Cpm) _ 0 (λ _. 1) (λ _. 1) cpm_tried (λ cpm free. keeps_done tt 1 (λ _. 1) (omega arith))
+multipoint_keeps = keeps_tried 1 (only 0 faults.Cpm) _ 0 (λ _. 1) (λ _. 1) cpm_tried
+    (λ cpm free. keeps_done tt 1 (λ _. 1) (omega arith))
 
 divisors_tried : all_below 256 (is_fine 8 1 allowed_divisor (λ _. 6)) ≡ true
 unfolding all_below zeros spelled
@@ -125,7 +127,8 @@ refers_tried = refl
 
 reference_keeps : (clock : Clock) (kind : Kind) → Keeps (reference clock kind) 2 (λ _. 10)
 unfolding reference
-reference_keeps clock kinds.I = keeps_any 1 (only 0 faults.IntraReference) _ 2 (λ _. 10) (λ refers. keeps_done None 3 (λ _. 10) (omega arith))
+reference_keeps clock kinds.I = keeps_any 1 (only 0 faults.IntraReference) _ 2 (λ _. 10)
+    (λ refers. keeps_done None 3 (λ _. 10) (omega arith))
 reference_keeps clock kinds.P =
     keeps_tried 1 (only 1 faults.NoReference) _ 2 (λ _. 0) (λ _. 10) refers_tried (λ refers free.
     keeps_any 10 (allowed_low clock) _ 0 (λ _. 10) (λ trp. keeps_done _ 10 (λ _. 10) (omega arith)))
@@ -144,7 +147,8 @@ unfolding bci
 bci_keeps =
     keeps_tried 1 any _ 10 (λ more. cond (more == 0) 11 0) (λ _. 0) more_tried (λ more free.
     keeps_chosen (more == 0) _ (done 1) 11 0 (λ _. 0)
-    (keeps_tried 1 (only 1 faults.Bci) _ 11 (λ _. 0) (λ _. 0) one_tried (λ end free. keeps_done 0 0 (λ _. 0) (omega arith)))
+    (keeps_tried 1 (only 1 faults.Bci) _ 11 (λ _. 0) (λ _. 0) one_tried (λ end free. keeps_done 0 0 (λ _. 0)
+        (omega arith)))
     (keeps_done 1 0 (λ _. 0) (omega arith)))
 
 -- a message, or the end
@@ -157,16 +161,19 @@ unfolding next_message
 next_keeps clock used =
     keeps_element bci (has_room used) _ 10 (λ _. 0) after_next_bit bci_keeps (λ more.
     keeps_either (more == 0) (done None) _ 0 after_next_bit (keeps_done None 0 after_next_bit (omega arith))
-    (keeps_part (message clock) any _ 0 (λ _. 10) after_next_bit (message_keeps clock) (λ m. keeps_done (Some m) 10 after_next_bit (omega arith))))
+    (keeps_part (message clock) any _ 0 (λ _. 10) after_next_bit (message_keeps clock)
+        (λ m. keeps_done (Some m) 10 after_next_bit (omega arith))))
 
-next_left : (messages : List Message) (next : Option Message) → after_next_bit next ≤ turn_to 10 (λ _. 0) (after_message messages next)
+next_left : (messages : List Message) (next : Option Message)
+    → after_next_bit next ≤ turn_to 10 (λ _. 0) (after_message messages next)
 next_left messages None = omega arith
 next_left messages (Some m) = omega arith
 
 back_turn_keeps : (clock : Clock) (messages : List Message) → Keeps (back_turn clock messages) 10 (turn_to 10 (λ _. 0))
 unfolding back_turn
 back_turn_keeps clock messages =
-    keeps_part (next_message clock (length messages)) any _ 10 after_next_bit (turn_to 10 (λ _. 0)) (next_keeps clock (length messages)) (λ next.
+    keeps_part (next_message clock (length messages)) any _ 10 after_next_bit (turn_to 10 (λ _. 0))
+        (next_keeps clock (length messages)) (λ next.
     keeps_done (after_message messages next) (after_next_bit next) (turn_to 10 (λ _. 0)) (next_left messages next))
 
 back_keeps : (clock : Clock) → Keeps (back clock) 10 (λ _. 0)

@@ -15,7 +15,8 @@ use Rattle.payload_join.proofs.Zeros.{zeros, zeros_add, zeros_then}
 use Rattle.payload_join.proofs.Kept.{Keeps, keeps_done, keeps_field, keeps_part, keeps_either}
 
 -- a fault that a test did not find
-passes : (t : Bool) (fault : MessageFault) (x : Option MessageFault) → cond t (Some fault) x ≡ None → (t ≡ false) × (x ≡ None)
+passes : (t : Bool) (fault : MessageFault) (x : Option MessageFault) → cond t (Some fault) x ≡ None
+    → (t ≡ false) × (x ≡ None)
 passes true fault x e = absurd cc
 passes false fault x e = (refl, e)
 
@@ -30,7 +31,8 @@ unfolding spelled
 first_bits n high marker =
     let len : length (take 12 (spelled 23 n)) ≡ 12 = refl in
     zeros_then 0 0 10 (is_set n 23 ∷ []) (spelled 23 n) (after_one [] 0 (is_set n 23) (omega arith) high)
-    (zeros_then 0 12 10 (take 12 (spelled 23 n)) (spelled 11 n) (omega (arith, zeros_add 0 (take 12 (spelled 23 n)), len))
+    (zeros_then 0 12 10 (take 12 (spelled 23 n)) (spelled 11 n) (omega (arith, zeros_add 0 (take 12 (spelled 23 n)),
+        len))
     (omega (arith, after_one (spelled 10 n) 12 (is_set n 10) (omega arith) marker, length-spelled 10 n)))
 
 -- those of its flags: a 1, 7 bits, a 1, 7 bits
@@ -47,7 +49,8 @@ no_fault None e = refl
 no_fault (Some fault) e = absurd cc
 
 -- what a message without fault has
-fields_have : (clock : Clock) (long : Bool) (type urf tr marker rtr : ℕ) → fault_of clock long type urf tr marker rtr ≡ None → (2 ≤ type) × (marker ≡ 0 → ⊥)
+fields_have : (clock : Clock) (long : Bool) (type urf tr marker rtr : ℕ) → fault_of clock long type urf tr marker rtr
+    ≡ None → (2 ≤ type) × (marker ≡ 0 → ⊥)
 fields_have clock long type urf tr marker rtr e =
     let a = passes (nat_lt type 2) _ _ e in
     let l = passes (not (same_bit long (urf == 1))) _ _ a.1 in
@@ -55,10 +58,12 @@ fields_have clock long type urf tr marker rtr e =
     let m = passes (marker == 0) _ _ t.1 in
     (ltb-false type 2 a.0, eqb-false marker 0 m.0)
 
-facts : (clock : Clock) (long : Bool) (n : ℕ) → n < 2 ^ 24 → message_fault clock long n ≡ None → (is_set n 23 ≡ true) × (is_set n 10 ≡ true)
+facts : (clock : Clock) (long : Bool) (n : ℕ) → n < 2 ^ 24 → message_fault clock long n ≡ None
+    → (is_set n 23 ≡ true) × (is_set n 10 ≡ true)
 unfolding message_fault
 facts clock long n lt e =
-    let f = fields_have clock long (n / 2 ^ 22) (n / 2 ^ 21 % 2) (n / 2 ^ 11 % 2 ^ 10) (n / 2 ^ 10 % 2) (n % 2 ^ 10) e in
+    let f = fields_have clock long (n / 2 ^ 22) (n / 2 ^ 21 % 2) (n / 2 ^ 11 % 2 ^ 10) (n / 2 ^ 10 % 2)
+        (n % 2 ^ 10) e in
     (eq-eqb (n / 2 ^ 23 % 2) 1 (omega (arith, f.0)), eq-eqb (n / 2 ^ 10 % 2) 1 (omega (arith, f.1)))
 
 message_first : (clock : Clock) (n : ℕ) → n < 2 ^ 24 → allowed_message clock n ≡ None → zeros 0 (spelled 24 n) ≤ 10
@@ -73,7 +78,8 @@ marked n e = at (has_markers n) refl e
 
 flags_keep : Keeps flags 10 (λ _. 10)
 unfolding flags
-flags_keep = keeps_field 16 allowed_markers _ 10 (λ _. 7) (λ _. 10) (λ v lt free. marked v free) (λ v free. keeps_done _ 7 (λ _. 10) (omega arith))
+flags_keep = keeps_field 16 allowed_markers _ 10 (λ _. 7) (λ _. 10) (λ v lt free. marked v free)
+    (λ v free. keeps_done _ 7 (λ _. 10) (omega arith))
 
 pub message_keeps : (clock : Clock) → Keeps (message clock) 0 (λ _. 10)
 unfolding message

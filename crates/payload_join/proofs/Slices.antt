@@ -68,7 +68,8 @@ refers_tried = refl
 
 reference_keeps : (trp : Option ℕ) → Keeps (reference trp) 3 (λ _. 10)
 unfolding reference
-reference_keeps None = keeps_any 1 (only 0 faults.SliceReference) _ 3 (λ _. 10) (λ refers. keeps_done tt 4 (λ _. 10) (omega arith))
+reference_keeps None = keeps_any 1 (only 0 faults.SliceReference) _ 3 (λ _. 10) (λ refers. keeps_done tt 4 (λ _. 10)
+    (omega arith))
 reference_keeps (Some trp) =
     keeps_tried 1 (only 1 faults.SliceReference) _ 3 (λ _. 0) (λ _. 10) refers_tried (λ refers free.
     keeps_any 10 (only trp faults.SliceReference) _ 0 (λ _. 10) (λ again. keeps_done tt 10 (λ _. 10) (omega arith)))
@@ -93,26 +94,36 @@ later_head_keeps h =
     keeps_part (tail h.trp) any _ 0 (λ _. 0) (λ _. 0) (tail_keeps h.trp) (λ end.
     keeps_done at 0 (λ _. 0) (omega arith)))
 
-texts_keep : (a : Around) (quant : ℕ) (before mbs : List Mb) (text : List Bool) → AreTexts a quant before mbs text → zeros 6 text ≤ 6
+texts_keep : (a : Around) (quant : ℕ) (before mbs : List Mb) (text : List Bool) → AreTexts a quant before mbs text
+    → zeros 6 text ≤ 6
 unfolding AreTexts zeros
 texts_keep a quant before [] text h = rw h (omega arith)
 texts_keep a quant before (m ∷ mbs) text h =
-    rw h.2 (zeros_then 6 6 6 h.0 h.1 (mb_keeps a.kind quant (a.reaches (a.first + length before)) (a.predictor before) m h.0 h.3) (texts_keep a (quant_after quant m) (before ++ m ∷ []) mbs h.1 h.4))
+    rw h.2 (zeros_then 6 6 6 h.0 h.1 (mb_keeps a.kind quant (a.reaches (a.first + length before))
+        (a.predictor before) m h.0 h.3) (texts_keep a (quant_after quant m) (before ++ m ∷ []) mbs h.1 h.4))
 
 -- a slice after its header
-first_keeps : (h : Header) (first quant : ℕ) (mbs : List Mb) (front held_after : List Bool) → Spells (head h true) (first, quant) front → AreTexts (around h first) quant [] mbs held_after → zeros 9 (front ++ held_after) ≤ 6
+first_keeps : (h : Header) (first quant : ℕ) (mbs : List Mb) (front held_after : List Bool)
+    → Spells (head h true) (first, quant) front → AreTexts (around h first) quant [] mbs held_after
+    → zeros 9 (front ++ held_after) ≤ 6
 first_keeps h first quant mbs front held_after opened each =
-    zeros_then 9 6 6 front held_after (omega (arith, first_head_keeps h (first, quant) front opened)) (texts_keep (around h first) quant [] mbs held_after each)
+    zeros_then 9 6 6 front held_after (omega (arith, first_head_keeps h (first, quant) front opened))
+        (texts_keep (around h first) quant [] mbs held_after each)
 
-later_keeps : (h : Header) (first quant : ℕ) (mbs : List Mb) (front held_after : List Bool) → Spells (head h false) (first, quant) front → AreTexts (around h first) quant [] mbs held_after → zeros 15 (front ++ held_after) ≤ 6
+later_keeps : (h : Header) (first quant : ℕ) (mbs : List Mb) (front held_after : List Bool)
+    → Spells (head h false) (first, quant) front → AreTexts (around h first) quant [] mbs held_after
+    → zeros 15 (front ++ held_after) ≤ 6
 later_keeps h first quant mbs front held_after opened each =
-    zeros_then 15 6 6 front held_after (omega (arith, later_head_keeps h (first, quant) front opened)) (texts_keep (around h first) quant [] mbs held_after each)
+    zeros_then 15 6 6 front held_after (omega (arith, later_head_keeps h (first, quant) front opened))
+        (texts_keep (around h first) quant [] mbs held_after each)
 
 -- sixteen after the first bit are sixteen
 none_in : (text : List Bool) → zeros 15 text < 16 → HasZeros (drop 1 text) → ⊥
 unfolding zeros
-none_in [] lt h = let e : zeros 15 (h.front ++ (replicate 16 false ++ h.rest)) < 16 = subst (λ (t : List Bool). zeros 15 t < 16) h.parts lt in seen 15 h.front h.rest e
-none_in (b ∷ text) lt h = seen (after_bit 15 b) h.front h.rest (subst (λ (t : List Bool). zeros (after_bit 15 b) t < 16) h.parts lt)
+none_in [] lt h = let e : zeros 15 (h.front ++ (replicate 16 false ++ h.rest)) < 16 =
+    subst (λ (t : List Bool). zeros 15 t < 16) h.parts lt in seen 15 h.front h.rest e
+none_in (b ∷ text) lt h = seen (after_bit 15 b) h.front h.rest
+    (subst (λ (t : List Bool). zeros (after_bit 15 b) t < 16) h.parts lt)
 
 -- ---- with padding
 
@@ -120,26 +131,36 @@ padding_few : (bits : List Bool) → is_padding bits ≡ true → length bits < 
 padding_few bits e = ltb-true (length bits) 8 (and_both (nat_lt (length bits) 8) (list_all not bits) e).0
 
 -- with the padding there are at most thirteen at the end
-padded_keeps : (from : ℕ) (text padding : List Bool) → zeros from text ≤ 6 → is_padding padding ≡ true → zeros from (text ++ padding) ≤ 13
-padded_keeps from text padding le e = zeros_then from 6 13 text padding le (omega (arith, zeros_add 6 padding, padding_few padding e))
+padded_keeps : (from : ℕ) (text padding : List Bool) → zeros from text ≤ 6 → is_padding padding ≡ true
+    → zeros from (text ++ padding) ≤ 13
+padded_keeps from text padding le e = zeros_then from 6 13 text padding le (omega (arith, zeros_add 6 padding,
+    padding_few padding e))
 
-whole_slice : (from : ℕ) (h : Header) (begins : Bool) (first : ℕ) (mbs : List Mb) (bits : List Bool) → (is : IsSliceText h begins first mbs bits)
-    → ((text : List Bool) → AreTexts (around h first) is.quant [] mbs text → zeros from (is.front ++ text) ≤ 6) → zeros from bits ≤ 13
+whole_slice : (from : ℕ) (h : Header) (begins : Bool) (first : ℕ) (mbs : List Mb) (bits : List Bool)
+    → (is : IsSliceText h begins first mbs bits)
+    → ((text : List Bool) → AreTexts (around h first) is.quant [] mbs text → zeros from (is.front ++ text) ≤ 6)
+        → zeros from bits ≤ 13
 whole_slice from h begins first mbs bits is each =
-    rw (is.parts, is.body.whole, sym (append_assoc is.front is.body.text is.body.padding)) (padded_keeps from (is.front ++ is.body.text) is.body.padding (each is.body.text is.body.each) is.body.zeros)
+    rw (is.parts, is.body.whole, sym (append_assoc is.front is.body.text is.body.padding)) (padded_keeps from (is.front
+        ++ is.body.text) is.body.padding (each is.body.text is.body.each) is.body.zeros)
 
-begun_quiet : (format : Format) (h : Header) (first : ℕ) (mbs : List Mb) (text slice : List Bool) → IsHeaderText format h text → IsSliceText h true first mbs slice → zeros 15 (text ++ slice) ≤ 13
+begun_quiet : (format : Format) (h : Header) (first : ℕ) (mbs : List Mb) (text slice : List Bool)
+    → IsHeaderText format h text → IsSliceText h true first mbs slice → zeros 15 (text ++ slice) ≤ 13
 begun_quiet format h first mbs text slice spelt is =
     zeros_then 15 9 13 text slice (header_keeps format h text spelt)
-    (whole_slice 9 h true first mbs slice is (λ held_after each. first_keeps h first is.quant mbs is.front held_after is.opened each))
+    (whole_slice 9 h true first mbs slice is (λ held_after each. first_keeps h first is.quant mbs is.front held_after
+        is.opened each))
 
-later_quiet : (h : Header) (first : ℕ) (mbs : List Mb) (slice : List Bool) → IsSliceText h false first mbs slice → zeros 15 slice ≤ 13
+later_quiet : (h : Header) (first : ℕ) (mbs : List Mb) (slice : List Bool) → IsSliceText h false first mbs slice
+    → zeros 15 slice ≤ 13
 later_quiet h first mbs slice is =
-    whole_slice 15 h false first mbs slice is (λ held_after each. later_keeps h first is.quant mbs is.front held_after is.opened each)
+    whole_slice 15 h false first mbs slice is (λ held_after each. later_keeps h first is.quant mbs is.front held_after
+        is.opened each)
 
 pub no_starts : NoStart
 no_starts = record {
-  picture = λ format h first mbs text slice spelt is. none_in (text ++ slice) (omega (arith, begun_quiet format h first mbs text slice spelt is));
+  picture = λ format h first mbs text slice spelt is. none_in (text
+      ++ slice) (omega (arith, begun_quiet format h first mbs text slice spelt is));
   later = λ h first mbs slice is. none_in slice (omega (arith, later_quiet h first mbs slice is));
 }
 

@@ -26,18 +26,22 @@ module _ (at bt : At) (x y : ℕ) (same : (j : ℕ) → at (x + j) ≡ bt (y + j
   unit_moved : unit_at at x ≡ unit_at bt y
   unfolding unit_at is_unit
   unit_moved = λ i. least_from 64 0 (λ k.
-      begins_one (first_same i) && each_below k (λ j. follows_one (same (j + 1) i)) && each_below k (λ j. not (is_marked (same j i)))
+      begins_one (first_same i) && each_below k (λ j. follows_one (same (j + 1) i)) && each_below k
+          (λ j. not (is_marked (same j i)))
       && (is_marked (same k i) || begins_one (same (k + 1) i)))
 
-coded_moved : (at bt : At) (x y count : ℕ) → ((j : ℕ) → at (x + j) ≡ bt (y + j)) → coded_from at x count ≡ coded_from bt y count
+coded_moved : (at bt : At) (x y count : ℕ) → ((j : ℕ) → at (x + j) ≡ bt (y + j)) → coded_from at x count
+    ≡ coded_from bt y count
 unfolding coded_from
 coded_moved at bt x y zero same = refl
 coded_moved at bt x y (suc count) same =
     let first = first_same at bt x y same in
-    let more = coded_moved at bt (x + 1) (y + 1) count (λ j. let e : x + 1 + j ≡ x + (j + 1) = omega arith in let f : y + (j + 1) ≡ y + 1 + j = omega arith in ap at e ∙ same (j + 1) ∙ ap bt f) in
+    let more = coded_moved at bt (x + 1) (y + 1) count (λ j. let e : x + 1 + j ≡ x + (j + 1) = omega arith in
+        let f : y + (j + 1) ≡ y + 1 + j = omega arith in ap at e ∙ same (j + 1) ∙ ap bt f) in
     λ i. coded_one (first i) ++ more i
 
-outgoing_moved : (format : Format) (at bt : At) (x y k : ℕ) → ((j : ℕ) → at (x + j) ≡ bt (y + j)) → outgoing_of format at x k ≡ outgoing_of format bt y k
+outgoing_moved : (format : Format) (at bt : At) (x y k : ℕ) → ((j : ℕ) → at (x + j) ≡ bt (y + j))
+    → outgoing_of format at x k ≡ outgoing_of format bt y k
 unfolding outgoing_of
 outgoing_moved format at bt x y k same =
     let coded = coded_moved at bt x y (k + 1) same in
@@ -56,7 +60,8 @@ eq_moved a b d = elim (cases_eq a b) [
   | inr ne ↦ ne_eqb (a + d) (b + d) (λ e. ne (omega arith)) ∙ sym (ne_eqb a b ne)
 ]
 
-made_moved : (at bt : At) (n y k d : ℕ) → ((j : ℕ) → at (y + d + j) ≡ bt (y + j)) → is_made at (n + d) (y + d) k ≡ is_made bt n y k
+made_moved : (at bt : At) (n y k d : ℕ) → ((j : ℕ) → at (y + d + j) ≡ bt (y + j)) → is_made at (n + d) (y + d) k
+    ≡ is_made bt n y k
 made_moved at bt n y k d same =
     let e : y + d + k ≡ y + k + d = omega arith in
     let f : y + d + k + 1 ≡ y + k + 1 + d = omega arith in
@@ -64,8 +69,10 @@ made_moved at bt n y k d same =
     let eq = ap (nat_eq (n + d)) f ∙ eq_moved n (y + k + 1) d in
     λ i. le i || (eq i && not (is_marked (same k i)))
 
-out_moved : (format : Format) (at bt : At) (n y d : ℕ) → ((j : ℕ) → at (y + d + j) ≡ bt (y + j)) → out_made format at (n + d) (y + d) (unit_at at (y + d)) ≡ out_made format bt n y (unit_at bt y)
-out_moved format at bt n y d same = ap (out_made format at (n + d) (y + d)) (unit_moved at bt (y + d) y same) ∙ of (unit_at bt y)
+out_moved : (format : Format) (at bt : At) (n y d : ℕ) → ((j : ℕ) → at (y + d + j) ≡ bt (y + j))
+    → out_made format at (n + d) (y + d) (unit_at at (y + d)) ≡ out_made format bt n y (unit_at bt y)
+out_moved format at bt n y d same = ap (out_made format at (n + d) (y + d)) (unit_moved at bt (y + d) y same)
+    ∙ of (unit_at bt y)
   where
     of : (o : Option ℕ) → out_made format at (n + d) (y + d) o ≡ out_made format bt n y o
     of None = refl
@@ -79,10 +86,13 @@ record IsMoved (now : At) (packets : List (Option Packet)) (last d top : ℕ) : 
   low : 63 ≤ last
   same : (m : ℕ) → last < m + 64 → now (m + d) ≡ window packets last m
 
-along : (now : At) (packets : List (Option Packet)) (last d top y : ℕ) → IsMoved now packets last d top → last < y + 64 → (j : ℕ) → now (y + d + j) ≡ window packets last (y + j)
-along now packets last d top y m lt j = let e : y + d + j ≡ y + j + d = omega arith in ap now e ∙ m.same (y + j) (omega arith)
+along : (now : At) (packets : List (Option Packet)) (last d top y : ℕ) → IsMoved now packets last d top → last < y + 64
+    → (j : ℕ) → now (y + d + j) ≡ window packets last (y + j)
+along now packets last d top y m lt j = let e : y + d + j ≡ y + j + d = omega arith in ap now e
+    ∙ m.same (y + j) (omega arith)
 
-from_is : (now : At) (packets : List (Option Packet)) (last d top n y : ℕ) → IsMoved now packets last d top → n ≤ last → IsBefore packets (last - 63) n y → IsFrom now (top - 63) (n + d) (y + d)
+from_is : (now : At) (packets : List (Option Packet)) (last d top n y : ℕ) → IsMoved now packets last d top → n ≤ last
+    → IsBefore packets (last - 63) n y → IsFrom now (top - 63) (n + d) (y + d)
 from_is now packets last d top n y m le b =
     let e = m.top_is in let low = m.low in let from = b.from in let below = b.below in
     record {
@@ -91,38 +101,49 @@ from_is now packets last d top n y m le b =
       begins = ap begins_one (m.same y (omega arith) ∙ inside packets last y (omega arith)) ∙ b.begins;
       follow = λ k lt less.
           let f : k - d + d ≡ k = omega arith in
-          ap follows_one (sym (ap now f) ∙ m.same (k - d) (omega arith) ∙ inside packets last (k - d) (omega arith)) ∙ b.follow (k - d) (omega arith) (omega arith);
+          ap follows_one (sym (ap now f) ∙ m.same (k - d) (omega arith) ∙ inside packets last (k - d) (omega arith))
+              ∙ b.follow (k - d) (omega arith) (omega arith);
     }
 
-before_is : (now : At) (packets : List (Option Packet)) (last d top n y : ℕ) → IsMoved now packets last d top → n ≤ last → IsFrom now (top - 63) (n + d) y → IsBefore packets (last - 63) n (y - d)
+before_is : (now : At) (packets : List (Option Packet)) (last d top n y : ℕ) → IsMoved now packets last d top → n ≤ last
+    → IsFrom now (top - 63) (n + d) y → IsBefore packets (last - 63) n (y - d)
 before_is now packets last d top n y m le b =
     let e = m.top_is in let low = m.low in let from = b.from in let below = b.below in
     let f : y - d + d ≡ y = omega arith in
     record {
       from = omega arith;
       below = omega arith;
-      begins = ap begins_one (sym (inside packets last (y - d) (omega arith)) ∙ sym (m.same (y - d) (omega arith)) ∙ ap now f) ∙ b.begins;
-      follow = λ k lt less. ap follows_one (sym (inside packets last k (omega arith)) ∙ sym (m.same k (omega arith))) ∙ b.follow (k + d) (omega arith) (omega arith);
+      begins = ap begins_one (sym (inside packets last (y - d) (omega arith)) ∙ sym (m.same (y - d) (omega arith))
+          ∙ ap now f) ∙ b.begins;
+      follow = λ k lt less. ap follows_one (sym (inside packets last k (omega arith)) ∙ sym (m.same k (omega arith)))
+          ∙ b.follow (k + d) (omega arith) (omega arith);
     }
 
 -- what the two units give is what is made whole
-both_made : (format : Format) (before now : At) (packets : List (Option Packet)) (last d top n : ℕ) (u v : Option Span) → IsMoved now packets last d top → IsStep before now (n + d) top
-    → IsFirst format packets last n u → unit_left format packets v ≡ out_made format (window packets last) n n (unit_at (window packets last) n)
+both_made : (format : Format) (before now : At) (packets : List (Option Packet)) (last d top n : ℕ) (u v : Option Span)
+    → IsMoved now packets last d top → IsStep before now (n + d) top
+    → IsFirst format packets last n u → unit_left format packets v
+        ≡ out_made format (window packets last) n n (unit_at (window packets last) n)
     → unit_left format packets u ++ unit_left format packets v ≡ made_from format before now (top - 63) 64
 both_made format before now packets last d top n u v m step (inl first) second =
     let y : ℕ = first.0 in
     let upto = step.upto in let young = step.young in let e = m.top_is in
     let from = first.1.from in let below = first.1.below in
     let le : n ≤ last = omega arith in
-    let one = first.2 ∙ sym (out_moved format now (window packets last) n y d (along now packets last d top y m (omega arith))) in
-    let two = second ∙ sym (out_moved format now (window packets last) n n d (along now packets last d top n m (omega arith))) in
-    (λ i. one i ++ two i) ∙ sym (made_two format before now (n + d) top (y + d) step (from_is now packets last d top n y m le first.1))
+    let one = first.2 ∙ sym (out_moved format now (window packets last) n y d
+        (along now packets last d top y m (omega arith))) in
+    let two = second ∙ sym (out_moved format now (window packets last) n n d
+        (along now packets last d top n m (omega arith))) in
+    (λ i. one i ++ two i) ∙ sym (made_two format before now (n + d) top (y + d) step
+        (from_is now packets last d top n y m le first.1))
 both_made format before now packets last d top n u v m step (inr none) second =
     let upto = step.upto in let young = step.young in let e = m.top_is in
     let le : n ≤ last = omega arith in
-    let two = second ∙ sym (out_moved format now (window packets last) n n d (along now packets last d top n m (omega arith))) in
+    let two = second ∙ sym (out_moved format now (window packets last) n n d
+        (along now packets last d top n m (omega arith))) in
     ap (λ (l : List (List ℕ)). l ++ unit_left format packets v) none.1 ∙ two
-    ∙ sym (made_alone format before now (n + d) top step (λ y from. none.0 (y - d) (before_is now packets last d top n y m le from)))
+    ∙ sym (made_alone format before now (n + d) top step
+        (λ y from. none.0 (y - d) (before_is now packets last d top n y m le from)))
 
 fresh_of : (s : Joined) (x : ℕ) → took_as s x ≡ tooks.Held → packet_at s.held x ≡ None
 fresh_of s x held = at (packet_at s.held x) refl
@@ -136,13 +157,19 @@ fresh_of s x held = at (packet_at s.held x) refl
         not_held false e = let f : took_as s x ≡ tooks.Again = rw (e, is) refl in cc
 
 -- so all that goes out with a packet that is held
-pub goes_out : (format : Format) (top : Option ℕ) (packets : List (Option Packet)) (s : Joined) (sequence : ℕ) (p : Packet) (u v : Option Span) → Shows top packets s → IsWindow s → sequence < 65536 → length packets ≡ 64
+pub goes_out : (format : Format) (top : Option ℕ) (packets : List (Option Packet)) (s : Joined) (sequence : ℕ)
+    (p : Packet) (u v : Option Span) → Shows top packets s → IsWindow s → sequence < 65536 → length packets ≡ 64
     → took_as s (number_of s.top sequence) ≡ tooks.Held
-    → IsFirst format (set (left_at top packets sequence) (sequence % 64) (Some p)) (top_after top sequence + 65536) (number_by (top_after top sequence + 65536) sequence) u
+    → IsFirst format (set (left_at top packets sequence) (sequence % 64) (Some p)) (top_after top sequence + 65536)
+        (number_by (top_after top sequence + 65536) sequence) u
     → unit_left format (set (left_at top packets sequence) (sequence % 64) (Some p)) v
-    ≡ out_made format (window (set (left_at top packets sequence) (sequence % 64) (Some p)) (top_after top sequence + 65536)) (number_by (top_after top sequence + 65536) sequence) (number_by (top_after top sequence + 65536) sequence)
-    (unit_at (window (set (left_at top packets sequence) (sequence % 64) (Some p)) (top_after top sequence + 65536)) (number_by (top_after top sequence + 65536) sequence))
-    → unit_left format (set (left_at top packets sequence) (sequence % 64) (Some p)) u ++ unit_left format (set (left_at top packets sequence) (sequence % 64) (Some p)) v
+    ≡ out_made format (window (set (left_at top packets sequence) (sequence % 64) (Some p))
+        (top_after top sequence + 65536)) (number_by (top_after top sequence + 65536) sequence)
+        (number_by (top_after top sequence + 65536) sequence)
+    (unit_at (window (set (left_at top packets sequence) (sequence % 64) (Some p)) (top_after top sequence + 65536))
+        (number_by (top_after top sequence + 65536) sequence))
+    → unit_left format (set (left_at top packets sequence) (sequence % 64) (Some p)) u
+        ++ unit_left format (set (left_at top packets sequence) (sequence % 64) (Some p)) v
     ≡ made format s.held (with_packet s (number_of s.top sequence) p)
 unfolding packet_at
 goes_out format top packets s sequence p u v shows w small long held first second =
@@ -163,7 +190,8 @@ goes_out format top packets s sequence p u v shows w small long held first secon
         | inl over ↦ h.window.over t (m + d) refl (omega arith) ∙ sym (outside new last m over)
         | inr le ↦
             let place : (m + d) % 64 ≡ m % 64 = omega arith in
-            sym (h.shows.packet t (m + d) refl (omega arith) (omega arith)) ∙ ap (λ (k : ℕ). get_or new k None) place ∙ sym (inside new last m le)
+            sym (h.shows.packet t (m + d) refl (omega arith) (omega arith)) ∙ ap (λ (k : ℕ). get_or new k None) place
+                ∙ sym (inside new last m le)
       ];
     } in
     let step : IsStep (packet_at s.held) (packet_at (with_packet s x p).held) (n + d) t = record {

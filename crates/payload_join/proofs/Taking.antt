@@ -17,20 +17,25 @@ use Rattle.payload_join.proofs.Windows.{is_window, judged_is, holds}
 use Rattle.payload_join.proofs.Taken.{goes_out}
 
 -- a ring that is empty
-pub shows_nothing : (top : Option ℕ) (packets : List (Option Packet)) → top ≡ None → packets ≡ replicate 64 None → Shows top packets (joined_by [])
+pub shows_nothing : (top : Option ℕ) (packets : List (Option Packet)) → top ≡ None → packets ≡ replicate 64 None
+    → Shows top packets (joined_by [])
 unfolding joined_by packet_at
 shows_nothing top packets e f =
     record {
       top_is = e;
       packet = λ t n g le lt. absurd (no_some t g);
-      nothing = λ g n. let nothing : Option Packet = None in ap (λ (l : List (Option Packet)). get_or l (n % 64) None) f ∙ get_or-replicate 64 (n % 64) nothing nothing (omega arith);
+      nothing = λ g n. let nothing : Option Packet = None in ap (λ (l : List (Option Packet)). get_or l (n % 64) None) f
+          ∙ get_or-replicate 64 (n % 64) nothing nothing (omega arith);
     }
 
 -- ---- a packet that can't be read
 
-pub refused_stands : (top : Option ℕ) (packets : List (Option Packet)) (past : List (List ℕ)) (bytes : List ℕ) (fault : Fault) → Err fault ≡ packet_in bytes → Shows top packets (joined_by past) → Shows top packets (joined_by (bytes ∷ past))
+pub refused_stands : (top : Option ℕ) (packets : List (Option Packet)) (past : List (List ℕ)) (bytes : List ℕ)
+    (fault : Fault) → Err fault ≡ packet_in bytes → Shows top packets (joined_by past)
+    → Shows top packets (joined_by (bytes ∷ past))
 unfolding joined_by
-refused_stands top packets past bytes fault e shows = subst (Shows top packets) (ap (held_after (joined_by past)) e) shows
+refused_stands top packets past bytes fault e shows = subst (Shows top packets) (ap (held_after (joined_by past)) e)
+    shows
 
 -- ---- one that can
 
@@ -53,13 +58,16 @@ held_as tooks.Again e = absurd cc
 held_as (tooks.Refused fault) e = absurd cc
 
 -- a packet that was read, whose answer the code found
-pub record IsConsidered (top : Option ℕ) (packets : List (Option Packet)) (bytes : List ℕ) (p : Packet) (t : Took) : Type 0 where
+pub record IsConsidered (top : Option ℕ) (packets : List (Option Packet)) (bytes : List ℕ) (p : Packet)
+    (t : Took) : Type 0 where
   pub read : packet_in bytes ≡ Ok p
   pub small : p.sequence < 65536
   pub many : length packets ≡ 64
   pub answer : t ≡ judged top packets p.sequence
 
-pub considered : (v j : Joining) (bytes : List ℕ) (p : Packet) (t : Took) → v ≡ j → packet_in bytes ≡ Ok p → p.sequence < 65536 → t ≡ judged v.top v.packets p.sequence → length v.packets ≡ 64 → IsConsidered j.top j.packets bytes p t
+pub considered : (v j : Joining) (bytes : List ℕ) (p : Packet) (t : Took) → v ≡ j → packet_in bytes ≡ Ok p
+    → p.sequence < 65536 → t ≡ judged v.top v.packets p.sequence → length v.packets ≡ 64
+    → IsConsidered j.top j.packets bytes p t
 considered v j bytes p t view read small answer many = record {
   read = read;
   small = small;
@@ -67,7 +75,8 @@ considered v j bytes p t view read small answer many = record {
   answer = answer ∙ ap (λ (k : Joining). judged k.top k.packets p.sequence) view;
 }
 
-module _ (top : Option ℕ) (packets : List (Option Packet)) (bytes : List ℕ) (p : Packet) (t : Took) (c : IsConsidered top packets bytes p t) (past : List (List ℕ)) (shows : Shows top packets (joined_by past)) where
+module _ (top : Option ℕ) (packets : List (Option Packet)) (bytes : List ℕ) (p : Packet) (t : Took)
+    (c : IsConsidered top packets bytes p t) (past : List (List ℕ)) (shows : Shows top packets (joined_by past)) where
   as_is : t ≡ took (joined_by past) (Ok p)
   as_is = c.answer ∙ judged_is top packets (joined_by past) p.sequence shows (is_window past) c.small
 
@@ -90,14 +99,18 @@ module _ (top : Option ℕ) (packets : List (Option Packet)) (bytes : List ℕ) 
   is_taken : is_held t ≡ true → took_as (joined_by past) (number_of (joined_by past).top p.sequence) ≡ tooks.Held
   is_taken e = sym as_is ∙ held_as t e
 
-  pub held_stands : is_held t ≡ true → Shows (Some (top_after top p.sequence)) (holding_at top packets p.sequence p) (joined_by (bytes ∷ past))
+  pub held_stands : is_held t ≡ true → Shows (Some (top_after top p.sequence)) (holding_at top packets p.sequence p)
+      (joined_by (bytes ∷ past))
   unfolding joined_by
   held_stands e =
-      subst (Shows (Some (top_after top p.sequence)) (holding_at top packets p.sequence p)) (sym (ap (held_after_as (joined_by past) p) (held_as t e)) ∙ after_is)
+      subst (Shows (Some (top_after top p.sequence)) (holding_at top packets p.sequence p))
+          (sym (ap (held_after_as (joined_by past) p) (held_as t e)) ∙ after_is)
       (holds top packets (joined_by past) p.sequence p shows (is_window past) c.small c.many (is_taken e))
 
-  pub held_left : (format : Format) (left : List (List ℕ)) → is_held t ≡ true → HasMade format top p.sequence (holding_at top packets p.sequence p) left → left ≡ given_next format past bytes
+  pub held_left : (format : Format) (left : List (List ℕ)) → is_held t ≡ true
+      → HasMade format top p.sequence (holding_at top packets p.sequence p) left → left ≡ given_next format past bytes
   held_left format left e m =
       m.left_is
-      ∙ goes_out format top packets (joined_by past) p.sequence p m.first m.second shows (is_window past) c.small c.many (is_taken e) m.first_is m.second_is
+      ∙ goes_out format top packets (joined_by past) p.sequence p m.first m.second shows (is_window past) c.small c.many
+          (is_taken e) m.first_is m.second_is
       ∙ sym (ap (given_as format (joined_by past) p) (held_as t e)) ∙ given_is format

@@ -19,8 +19,10 @@ behind_mcbpc (Word class cbpc) = 2
 
 pub mcbpc_keeps : (kind : Kind) → Keeps (mcbpc kind) 7 behind_mcbpc
 unfolding mcbpc mcbpc_table mcbpc_words class_texts zeros
-mcbpc_keeps kinds.I = keeps_code (mcbpc_table kinds.I) done 7 behind_mcbpc behind_mcbpc refl (λ x. keeps_done x (behind_mcbpc x) behind_mcbpc (omega arith))
-mcbpc_keeps kinds.P = keeps_code (mcbpc_table kinds.P) done 7 behind_mcbpc behind_mcbpc refl (λ x. keeps_done x (behind_mcbpc x) behind_mcbpc (omega arith))
+mcbpc_keeps kinds.I = keeps_code (mcbpc_table kinds.I) done 7 behind_mcbpc behind_mcbpc refl
+    (λ x. keeps_done x (behind_mcbpc x) behind_mcbpc (omega arith))
+mcbpc_keeps kinds.P = keeps_code (mcbpc_table kinds.P) done 7 behind_mcbpc behind_mcbpc refl
+    (λ x. keeps_done x (behind_mcbpc x) behind_mcbpc (omega arith))
 
 pub cbpy_keeps : (intra : Bool) → Keeps (cbpy intra) 2 (λ _. 3)
 unfolding cbpy cbpy_table cbpy_words cbpy_texts zeros
@@ -30,19 +32,23 @@ pub dquant_keeps : Keeps dquant 3 (λ _. 5)
 unfolding dquant dquant_table dquant_words zeros
 dquant_keeps = keeps_code dquant_table done 3 (λ _. 5) (λ _. 5) refl (λ x. keeps_done x 5 (λ _. 5) (omega arith))
 
-sign_keeps : (size : ℕ) → Keeps (either (size == 0) (done (pos 0)) (field 1 any (λ sign. done (signed sign size)))) 4 (λ _. 5)
+sign_keeps : (size : ℕ) → Keeps (either (size == 0) (done (pos 0)) (field 1 any (λ sign. done (signed sign size)))) 4
+    (λ _. 5)
 sign_keeps size =
     keeps_either (size == 0) (done (pos 0)) (field 1 any (λ sign. done (signed sign size))) 4 (λ _. 5)
     (keeps_done (pos 0) 4 (λ _. 5) (omega arith))
-    (keeps_any 1 any (λ sign. done (signed sign size)) 4 (λ _. 5) (λ v. keeps_done (signed v size) 5 (λ _. 5) (omega arith)))
+    (keeps_any 1 any (λ sign. done (signed sign size)) 4 (λ _. 5) (λ v. keeps_done (signed v size) 5 (λ _. 5)
+        (omega arith)))
 
 mvd_parts_keep : Keeps mvd_parts 5 (λ _. 5)
 unfolding mvd_parts magnitude_table magnitude_words magnitude_texts zeros
-mvd_parts_keep = keeps_code magnitude_table (λ size. either (size == 0) (done (pos 0)) (field 1 any (λ sign. done (signed sign size)))) 5 (λ _. 4) (λ _. 5) refl sign_keeps
+mvd_parts_keep = keeps_code magnitude_table (λ size. either (size == 0) (done (pos 0))
+    (field 1 any (λ sign. done (signed sign size)))) 5 (λ _. 4) (λ _. 5) refl sign_keeps
 
 pub mvd_keeps : Keeps mvd 5 (λ _. 5)
 unfolding mvd
-mvd_keeps = keeps_element mvd_parts allowed_difference done 5 (λ _. 5) (λ _. 5) mvd_parts_keep (λ x. keeps_done x 5 (λ _. 5) (omega arith))
+mvd_keeps = keeps_element mvd_parts allowed_difference done 5 (λ _. 5) (λ _. 5) mvd_parts_keep
+    (λ x. keeps_done x 5 (λ _. 5) (omega arith))
 
 -- the escape's word ends with a 1, and another with five zeros at most
 abbrev behind_word : Option Event → ℕ
@@ -58,7 +64,8 @@ after_keeps : (o : Option Event) → Keeps (after_word o) (behind_word o) (λ _.
 after_keeps (Some e) = keeps_any 1 any _ 5 (λ _. 6) (λ v. keeps_done _ 6 (λ _. 6) (omega arith))
 after_keeps None =
     keeps_any 1 any _ 0 (λ _. 6) (λ last. keeps_any 6 any _ 1 (λ _. 6) (λ run.
-    keeps_tried 8 allowed_level _ 7 (λ _. 6) (λ _. 6) levels_tried (λ level free. keeps_done _ 6 (λ _. 6) (omega arith))))
+    keeps_tried 8 allowed_level _ 7 (λ _. 6) (λ _. 6) levels_tried (λ level free. keeps_done _ 6 (λ _. 6)
+        (omega arith))))
 
 event_parts_keep : Keeps event_parts 6 (λ _. 6)
 unfolding event_parts event_table tcoef_words last_0_texts last_1_texts zeros
@@ -66,4 +73,5 @@ event_parts_keep = keeps_code event_table after_word 6 behind_word (λ _. 6) ref
 
 pub event_keeps : Keeps event 6 (λ _. 6)
 unfolding event
-event_keeps = keeps_element event_parts any done 6 (λ _. 6) (λ _. 6) event_parts_keep (λ x. keeps_done x 6 (λ _. 6) (omega arith))
+event_keeps = keeps_element event_parts any done 6 (λ _. 6) (λ _. 6) event_parts_keep
+    (λ x. keeps_done x 6 (λ _. 6) (omega arith))

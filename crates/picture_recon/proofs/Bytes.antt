@@ -21,7 +21,8 @@ use Rattle.picture_recon.specs.Undrawn.{block_of_bytes, byte_in_block, byte_of, 
 
 -- ---- lists by functions of the place
 
-same_map : {X : Type 0} (f g : ℕ → X) (n : ℕ) (d : X) → ((k : ℕ) → k < n → f k ≡ g k) → map f (range_with_len 0 n) ≡ map g (range_with_len 0 n)
+same_map : {X : Type 0} (f g : ℕ → X) (n : ℕ) (d : X) → ((k : ℕ) → k < n → f k ≡ g k) → map f (range_with_len 0 n)
+    ≡ map g (range_with_len 0 n)
 same_map f g n d same =
     fill_by_all g (map f (range_with_len 0 n)) n d (length-map-range_with_len f 0 n)
     (λ k h. get_or-map-range_with_len f 0 n k k d h (omega arith) ∙ same k h)
@@ -34,9 +35,11 @@ none = record { levels = [] }
 
 pub same_bytes : (f g : ℕ → ℕ) → ((k : ℕ) → k < 64 → f k ≡ g k) → block_of_bytes f ≡ block_of_bytes g
 same_bytes f g same =
-    ap block (same_map (λ k. level_by_byte k (f k)) (λ k. level_by_byte k (g k)) 64 (pos 0) (λ k h. ap (level_by_byte k) (same k h)))
+    ap block (same_map (λ k. level_by_byte k (f k)) (λ k. level_by_byte k (g k)) 64 (pos 0)
+        (λ k h. ap (level_by_byte k) (same k h)))
 
-pub block_by_all : (b : Block) (f : ℕ → ℕ) → length b.levels ≡ 64 → ((k : ℕ) → k < 64 → level_at b k ≡ level_by_byte k (f k)) → b ≡ block_of_bytes f
+pub block_by_all : (b : Block) (f : ℕ → ℕ) → length b.levels ≡ 64
+    → ((k : ℕ) → k < 64 → level_at b k ≡ level_by_byte k (f k)) → b ≡ block_of_bytes f
 block_by_all b f long each = ap block (fill_by_all (λ k. level_by_byte k (f k)) b.levels 64 (pos 0) long each)
 
 -- ---- a level comes back from its byte
@@ -62,7 +65,8 @@ level_again (negsuc n) h =
 
 again : (b : Block) (k : ℕ) → IsIntraBlock b → k < 64 → level_at b k ≡ level_by_byte k (byte_of (level_at b k))
 again b zero is h = dc_again (level_at b 0) is.dc
-again b (suc k) is h = level_again (level_at b (suc k)) (is.levels (suc k) (omega arith) h) ∙ later_byte (suc k) (byte_of (level_at b (suc k))) (omega arith)
+again b (suc k) is h = level_again (level_at b (suc k)) (is.levels (suc k) (omega arith) h)
+    ∙ later_byte (suc k) (byte_of (level_at b (suc k))) (omega arith)
 
 -- ---- where a block stands
 
@@ -76,9 +80,12 @@ record IsAt (f : Format) (at : ℕ) : Type 0 where
   pub half_height : height_of f / 2 ≡ 8 * rows_of f
 
 is_at : (f : Format) (at : ℕ) → at < mbs_of f → IsAt f at
-is_at SubQcif at h = record { column = omega (arith, h); row = omega (arith, h); same = omega (arith, h); width = refl; height = refl; half_width = refl; half_height = refl }
-is_at Qcif at h = record { column = omega (arith, h); row = omega (arith, h); same = omega (arith, h); width = refl; height = refl; half_width = refl; half_height = refl }
-is_at Cif at h = record { column = omega (arith, h); row = omega (arith, h); same = omega (arith, h); width = refl; height = refl; half_width = refl; half_height = refl }
+is_at SubQcif at h = record { column = omega (arith, h); row = omega (arith, h); same = omega (arith, h); width = refl;
+    height = refl; half_width = refl; half_height = refl }
+is_at Qcif at h = record { column = omega (arith, h); row = omega (arith, h); same = omega (arith, h); width = refl;
+    height = refl; half_width = refl; half_height = refl }
+is_at Cif at h = record { column = omega (arith, h); row = omega (arith, h); same = omega (arith, h); width = refl;
+    height = refl; half_width = refl; half_height = refl }
 
 -- the place of the byte of a level
 pub record IsPlaced (f : Format) (plane : Plane) (x y at b k : ℕ) : Type 0 where
@@ -93,10 +100,12 @@ column_16 m b k hb hk = omega (arith, hb, hk)
 row_16 : (r b k : ℕ) → b < 4 → k < 64 → (16 * r + 8 * (b / 2) + k / 8) / 16 ≡ r
 row_16 r b k hb hk = omega (arith, hb, hk)
 
-block_16 : (m r b k : ℕ) → b < 4 → k < 64 → 2 * ((16 * r + 8 * (b / 2) + k / 8) % 16 / 8) + (16 * m + 8 * (b % 2) + k % 8) % 16 / 8 ≡ b
+block_16 : (m r b k : ℕ) → b < 4 → k < 64
+    → 2 * ((16 * r + 8 * (b / 2) + k / 8) % 16 / 8) + (16 * m + 8 * (b % 2) + k % 8) % 16 / 8 ≡ b
 block_16 m r b k hb hk = omega (arith, hb, hk)
 
-place_16 : (m r b k : ℕ) → b < 4 → k < 64 → 8 * ((16 * r + 8 * (b / 2) + k / 8) % 8) + (16 * m + 8 * (b % 2) + k % 8) % 8 ≡ k
+place_16 : (m r b k : ℕ) → b < 4 → k < 64
+    → 8 * ((16 * r + 8 * (b / 2) + k / 8) % 8) + (16 * m + 8 * (b % 2) + k % 8) % 8 ≡ k
 place_16 m r b k hb hk = omega (arith, hb, hk)
 
 across_16 : (m c w b k : ℕ) → m < c → w ≡ 16 * c → (16 * m + 8 * (b % 2) + k % 8) + 1 ≤ w
@@ -109,12 +118,14 @@ numbered : (c r m y x at : ℕ) → y ≡ r → x ≡ m → c * r + m ≡ at →
 numbered c r m y x at ey ex e = ap (λ (n : ℕ). c * n + x) ey ∙ ap (λ (n : ℕ). c * r + n) ex ∙ e
 
 luma : (f : Format) (at b k : ℕ) → IsAt f at → b < 4 → k < 64 →
-    IsPlaced f Y (16 * (at % columns_of f) + 8 * (b % 2) + k % 8) (16 * (at / columns_of f) + 8 * (b / 2) + k / 8) at b k
+    IsPlaced f Y (16 * (at % columns_of f) + 8 * (b % 2) + k % 8) (16 * (at / columns_of f) + 8 * (b / 2) + k / 8) at b
+        k
 luma f at b k is hb hk =
     let m = at % columns_of f in
     let r = at / columns_of f in
     record {
-      inside = record { in_row = across_16 m (columns_of f) (width_of f) b k is.column is.width; in_plane = down_16 r (rows_of f) (height_of f) b k is.row is.height hb hk };
+      inside = record { in_row = across_16 m (columns_of f) (width_of f) b k is.column is.width;
+          in_plane = down_16 r (rows_of f) (height_of f) b k is.row is.height hb hk };
       mb = numbered (columns_of f) r m _ _ at (row_16 r b k hb hk) (column_16 m b k hb hk) is.same;
       block = block_16 m r b k hb hk;
       place = place_16 m r b k hb hk;
@@ -135,30 +146,35 @@ across_8 m c w k less e = omega (arith, less, e)
 down_8 : (r c h k : ℕ) → r < c → h ≡ 8 * c → k < 64 → 8 * r + k / 8 < h
 down_8 r c h k less e hk = omega (arith, less, e, hk)
 
-cb : (f : Format) (at k : ℕ) → IsAt f at → k < 64 → IsPlaced f Cb (8 * (at % columns_of f) + k % 8) (8 * (at / columns_of f) + k / 8) at 4 k
+cb : (f : Format) (at k : ℕ) → IsAt f at → k < 64
+    → IsPlaced f Cb (8 * (at % columns_of f) + k % 8) (8 * (at / columns_of f) + k / 8) at 4 k
 cb f at k is hk =
     let m = at % columns_of f in
     let r = at / columns_of f in
     record {
-      inside = record { in_row = across_8 m (columns_of f) (width_of f / 2) k is.column is.half_width; in_plane = down_8 r (rows_of f) (height_of f / 2) k is.row is.half_height hk };
+      inside = record { in_row = across_8 m (columns_of f) (width_of f / 2) k is.column is.half_width;
+          in_plane = down_8 r (rows_of f) (height_of f / 2) k is.row is.half_height hk };
       mb = numbered (columns_of f) r m _ _ at (row_8 r k hk) (column_8 m k) is.same;
       block = refl;
       place = place_8 m r k hk;
     }
 
-cr : (f : Format) (at k : ℕ) → IsAt f at → k < 64 → IsPlaced f Cr (8 * (at % columns_of f) + k % 8) (8 * (at / columns_of f) + k / 8) at 5 k
+cr : (f : Format) (at k : ℕ) → IsAt f at → k < 64
+    → IsPlaced f Cr (8 * (at % columns_of f) + k % 8) (8 * (at / columns_of f) + k / 8) at 5 k
 cr f at k is hk =
     let m = at % columns_of f in
     let r = at / columns_of f in
     record {
-      inside = record { in_row = across_8 m (columns_of f) (width_of f / 2) k is.column is.half_width; in_plane = down_8 r (rows_of f) (height_of f / 2) k is.row is.half_height hk };
+      inside = record { in_row = across_8 m (columns_of f) (width_of f / 2) k is.column is.half_width;
+          in_plane = down_8 r (rows_of f) (height_of f / 2) k is.row is.half_height hk };
       mb = numbered (columns_of f) r m _ _ at (row_8 r k hk) (column_8 m k) is.same;
       block = refl;
       place = place_8 m r k hk;
     }
 
 abbrev Placed : Format → ℕ → ℕ → ℕ → Type 0
-Placed f at b k = IsPlaced f (corner_of f at b).plane ((corner_of f at b).x + k % 8) ((corner_of f at b).y + k / 8) at b k
+Placed f at b k = IsPlaced f (corner_of f at b).plane ((corner_of f at b).x + k % 8) ((corner_of f at b).y + k / 8) at b
+    k
 
 placed : (f : Format) (at b k : ℕ) → at < mbs_of f → b < 6 → k < 64 → Placed f at b k
 placed f at zero k h hb hk = luma f at 0 k (is_at f at h) (lit< tt) hk
@@ -191,36 +207,47 @@ module _ (f : Format) (at : ℕ) (blocks : List Block) (p q : Picture)
       let corner = corner_of f at b in
       let x = corner.x + k % 8 in
       let y = corner.y + k / 8 in
-      written (mb_of f corner.plane x y) at (block_of corner.plane x y) _ _ _ (sets corner.plane x y here.inside) here.mb (omega (arith, here.block, hb))
+      written (mb_of f corner.plane x y) at (block_of corner.plane x y) _ _ _ (sets corner.plane x y here.inside)
+          here.mb (omega (arith, here.block, hb))
       ∙ ap (λ (n : ℕ). byte_of (level_at (block_in blocks n) (8 * (y % 8) + x % 8))) here.block
       ∙ ap (λ (n : ℕ). byte_of (level_at (block_in blocks b) n)) here.place
 
-  other_byte : (other b k : ℕ) → other < mbs_of f → other ≢ at → b < 6 → k < 64 → byte_at f q other b k ≡ byte_at f p other b k
+  other_byte : (other b k : ℕ) → other < mbs_of f → other ≢ at → b < 6 → k < 64
+      → byte_at f q other b k ≡ byte_at f p other b k
   other_byte other b k h apart hb hk =
       let here = placed f other b k h hb hk in
       let corner = corner_of f other b in
       let x = corner.x + k % 8 in
       let y = corner.y + k / 8 in
-      kept (mb_of f corner.plane x y) at (block_of corner.plane x y) _ _ _ (sets corner.plane x y here.inside) (λ e. apart (sym here.mb ∙ e))
+      kept (mb_of f corner.plane x y) at (block_of corner.plane x y) _ _ _ (sets corner.plane x y here.inside)
+          (λ e. apart (sym here.mb ∙ e))
 
-  put_block : (b : ℕ) → q.format ≡ f → at < mbs_of f → b < 6 → IsIntraBlock (block_in blocks b) → length (block_in blocks b).levels ≡ 64 →
+  put_block : (b : ℕ) → q.format ≡ f → at < mbs_of f → b < 6 → IsIntraBlock (block_in blocks b)
+      → length (block_in blocks b).levels ≡ 64 →
       block_in blocks b ≡ undrawn_block q at b
   unfolding undrawn_block
   put_block b e h hb is long =
       block_by_all (block_in blocks b) (byte_in_block q at b) long
-      (λ k hk. again (block_in blocks b) k is hk ∙ ap (level_by_byte k) (sym (by_format f q at b k e ∙ put_byte b k h hb hk)))
+      (λ k hk. again (block_in blocks b) k is hk
+          ∙ ap (level_by_byte k) (sym (by_format f q at b k e ∙ put_byte b k h hb hk)))
 
-  other_block : (other b : ℕ) → p.format ≡ f → q.format ≡ f → other < mbs_of f → other ≢ at → b < 6 → undrawn_block q other b ≡ undrawn_block p other b
+  other_block : (other b : ℕ) → p.format ≡ f → q.format ≡ f → other < mbs_of f → other ≢ at → b < 6
+      → undrawn_block q other b ≡ undrawn_block p other b
   unfolding undrawn_block
   other_block other b ep eq h apart hb =
       same_bytes (byte_in_block q other b) (byte_in_block p other b)
       (λ k hk. by_format f q other b k eq ∙ other_byte other b k h apart hb hk ∙ sym (by_format f p other b k ep))
 
-  pub put_blocks : q.format ≡ f → at < mbs_of f → length blocks ≡ 6 → ((b : ℕ) → b < 6 → IsIntraBlock (block_in blocks b)) → ((b : ℕ) → b < 6 → length (block_in blocks b).levels ≡ 64) →
+  pub put_blocks : q.format ≡ f → at < mbs_of f → length blocks ≡ 6
+      → ((b : ℕ) → b < 6 → IsIntraBlock (block_in blocks b))
+      → ((b : ℕ) → b < 6 → length (block_in blocks b).levels ≡ 64) →
       blocks ≡ map (undrawn_block q at) (range_with_len 0 6)
-  put_blocks e h six is long = fill_by_all (undrawn_block q at) blocks 6 none six (λ b hb. put_block b e h hb (is b hb) (long b hb))
+  put_blocks e h six is long = fill_by_all (undrawn_block q at) blocks 6 none six (λ b hb. put_block b e h hb (is b hb)
+      (long b hb))
 
-  pub other_mb : (quant other : ℕ) → p.format ≡ f → q.format ≡ f → other < mbs_of f → other ≢ at → undrawn_mb quant q other ≡ undrawn_mb quant p other
+  pub other_mb : (quant other : ℕ) → p.format ≡ f → q.format ≡ f → other < mbs_of f → other ≢ at
+      → undrawn_mb quant q other ≡ undrawn_mb quant p other
   unfolding undrawn_mb
   other_mb quant other ep eq h apart =
-      ap (Intra quant) (same_map (undrawn_block q other) (undrawn_block p other) 6 none (λ b hb. other_block other b ep eq h apart hb))
+      ap (Intra quant) (same_map (undrawn_block q other) (undrawn_block p other) 6 none
+          (λ b hb. other_block other b ep eq h apart hb))

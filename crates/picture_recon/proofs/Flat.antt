@@ -1,4 +1,5 @@
--- A block with its first level alone: the inverse transform gives the same number everywhere, INTRADC in an intra block.
+-- A block with its first level alone: the inverse transform gives the same number everywhere, INTRADC in an
+-- intra block.
 use Rattle.std.proofs.Common.{◌≡◌, ℕ, ◌+◌, ◌*◌, ◌<◌, ◌≤◌, zero, suc, ℤ, pos, ◌+ℤ◌, ◌*ℤ◌, List, get_or, arith, refl, ap, sym, ◌∙◌, lit<}
 use Rattle.std.proofs.lemmas.Int.{ints}
 use Rattle.std.proofs.lemmas.List.{get_or-replicate}
@@ -40,14 +41,18 @@ first_basis : (x : ℕ) → x < 8 → basis 0 x ≡ pos 2048
 unfolding basis
 first_basis x h = get_or-replicate 8 x (pos 2048) (pos 0) h
 
-inverse_of_first : (values : List ℤ) → ((at : ℕ) → 1 ≤ at → at < 64 → get_or values at (pos 0) ≡ pos 0) → (y x : ℕ) → y < 8 → x < 8 →
+inverse_of_first : (values : List ℤ) → ((at : ℕ) → 1 ≤ at → at < 64 → get_or values at (pos 0) ≡ pos 0) → (y x : ℕ)
+    → y < 8 → x < 8 →
     inverse_at values y x ≡ rounded (pos 2048 *ℤ pos 2048 *ℤ get_or values 0 (pos 0))
 inverse_of_first values h y x hy hx =
     let terms = λ (u v : ℕ). basis u x *ℤ basis v y *ℤ entry values v u in
-    let zeros = λ (u v : ℕ) (some : 1 ≤ 8 * v + u) (less : 8 * v + u < 64). times_zero (basis u x *ℤ basis v y) (entry values v u) (h (8 * v + u) some less) in
+    let zeros = λ (u v : ℕ) (some : 1 ≤ 8 * v + u) (less : 8 * v + u < 64). times_zero (basis u x *ℤ basis v y)
+        (entry values v u) (h (8 * v + u) some less) in
     let outer : sum_below 8 (λ u. sum_below 8 (terms u)) ≡ sum_below 8 (terms 0) =
-    first_alone 7 (λ u. sum_below 8 (terms u)) (λ u some less. none_at_all 8 (terms u) (λ v lv. zeros u v (omega arith) (omega arith))) in
-    let inner : sum_below 8 (terms 0) ≡ terms 0 0 = first_alone 7 (terms 0) (λ v some less. zeros 0 v (omega arith) (omega arith)) in
+    first_alone 7 (λ u. sum_below 8 (terms u)) (λ u some less. none_at_all 8 (terms u)
+        (λ v lv. zeros u v (omega arith) (omega arith))) in
+    let inner : sum_below 8 (terms 0)
+        ≡ terms 0 0 = first_alone 7 (terms 0) (λ v some less. zeros 0 v (omega arith) (omega arith)) in
     ap rounded (outer ∙ inner
     ∙ ap (λ (k : ℤ). k *ℤ basis 0 y *ℤ get_or values 0 (pos 0)) (first_basis x hx)
     ∙ ap (λ (k : ℤ). pos 2048 *ℤ k *ℤ get_or values 0 (pos 0)) (first_basis y hy))
@@ -58,9 +63,11 @@ unfolding intra_values
 first_value quant b = get_or-map-range_with_len (intra_value quant b) 0 64 0 0 (pos 0) (lit< tt) refl
 
 -- the others are the values of the levels
-pub other_values : (quant : ℕ) (b : Block) (at : ℕ) → 1 ≤ at → at < 64 → get_or (intra_values quant b) at (pos 0) ≡ inter_value quant b at
+pub other_values : (quant : ℕ) (b : Block) (at : ℕ) → 1 ≤ at → at < 64 → get_or (intra_values quant b) at (pos 0)
+    ≡ inter_value quant b at
 unfolding intra_values
-other_values quant b at some less = get_or-map-range_with_len (intra_value quant b) 0 64 at at (pos 0) less (omega arith) ∙ sym (other_value quant b at some)
+other_values quant b at some less = get_or-map-range_with_len (intra_value quant b) 0 64 at at (pos 0) less
+    (omega arith) ∙ sym (other_value quant b at some)
 
 limited_dc : (n : ℕ) (z : ℤ) → IsDc z → pos n ≡ z → n ≡ limited (pos n)
 limited_dc n z h e = omega (arith, ints)
@@ -77,14 +84,16 @@ no_values_inter : (one : IsOneOrder) (quant : ℕ) (b : Block) → ((k : ℕ) �
 unfolding inter_values
 no_values_inter one quant b none at some less =
     get_or-map-range_with_len (inter_value quant b) 0 64 at at (pos 0) less (omega arith)
-    ∙ ap (value_of quant) (none (zigzag_place_of at) (later (zigzag_place_of at) at (one.from_block at less) some) (within (zigzag_place_of at) at (one.from_block at less) some))
+    ∙ ap (value_of quant) (none (zigzag_place_of at) (later (zigzag_place_of at) at (one.from_block at less) some)
+        (within (zigzag_place_of at) at (one.from_block at less) some))
 
 first_value_inter : (quant : ℕ) (b : Block) → get_or (inter_values quant b) 0 (pos 0) ≡ value_of quant (level_at b 0)
 unfolding inter_values zigzag_place_of
 first_value_inter quant b = get_or-map-range_with_len (inter_value quant b) 0 64 0 0 (pos 0) (lit< tt) refl
 
 pub number_of_first : (one : IsOneOrder) (quant : ℕ) (b : Block) → ((k : ℕ) → 1 ≤ k → k < 64 → level_at b k ≡ pos 0) →
-    (y x : ℕ) → y < 8 → x < 8 → inverse_at (inter_values quant b) y x ≡ rounded (pos 2048 *ℤ pos 2048 *ℤ value_of quant (level_at b 0))
+    (y x : ℕ) → y < 8 → x < 8 → inverse_at (inter_values quant b) y x
+        ≡ rounded (pos 2048 *ℤ pos 2048 *ℤ value_of quant (level_at b 0))
 number_of_first one quant b none y x hy hx =
     inverse_of_first (inter_values quant b) (no_values_inter one quant b none) y x hy hx
     ∙ ap (λ (k : ℤ). rounded (pos 2048 *ℤ pos 2048 *ℤ k)) (first_value_inter quant b)
@@ -93,4 +102,5 @@ number_of_first one quant b none y x hy hx =
 pub no_levels : (one : IsOneOrder) (quant : ℕ) (b : Block) → ((k : ℕ) → k < 64 → level_at b k ≡ pos 0) →
     (at : ℕ) → at < 64 → get_or (inter_values quant b) at (pos 0) ≡ pos 0
 no_levels one quant b none zero less = first_value_inter quant b ∙ ap (value_of quant) (none 0 less)
-no_levels one quant b none (suc at) less = no_values_inter one quant b (λ k some below. none k below) (suc at) (omega arith) less
+no_levels one quant b none (suc at) less = no_values_inter one quant b (λ k some below. none k below) (suc at)
+    (omega arith) less

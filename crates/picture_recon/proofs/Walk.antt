@@ -50,7 +50,8 @@ zero_value : IsValue (pos 0)
 zero_value = record { low = omega (arith, ints); high = omega (arith, ints) }
 
 -- the marks but for the first
-pub starts : (one : IsOneOrder) (quant : ℕ) (b : Block) (marks rest : ℕ) → AreMarked b.levels marks → ((i : ℕ) → i < 64 → i ≢ 0 → bit_at rest i ≡ bit_at marks i) →
+pub starts : (one : IsOneOrder) (quant : ℕ) (b : Block) (marks rest : ℕ) → AreMarked b.levels marks
+    → ((i : ℕ) → i < 64 → i ≢ 0 → bit_at rest i ≡ bit_at marks i) →
     ArePut quant b rest (replicate 64 (pos 0))
 starts one quant b marks rest marked others = record {
   long = refl;
@@ -60,7 +61,9 @@ starts one quant b marks rest marked others = record {
       let e = one.from_block at less in
       let first : z ≢ 0 = let h = later z at e some in omega arith in
       get_or-replicate 64 at (pos 0) (pos 0) less
-      ∙ none_marked (bit_at rest z) (inter_value quant b at) (λ none. ap (value_of quant) (marked z (within z at e some) (sym (others z (within z at e some) first) ∙ none)));
+      ∙ none_marked (bit_at rest z) (inter_value quant b at)
+          (λ none. ap (value_of quant) (marked z (within z at e some) (sym (others z (within z at e some) first)
+          ∙ none)));
   range = All-replicate IsValue 64 (pos 0) zero_value;
 }
 
@@ -72,7 +75,8 @@ not_at_first one k less some here =
     omega arith
 
 -- a marked level puts its value, and its mark is taken away
-pub put : (one : IsOneOrder) (quant : ℕ) (b : Block) (k rest : ℕ) (values : List ℤ) (v : ℤ) → IsMark rest k → 1 ≤ k → block_place_of k < 64 →
+pub put : (one : IsOneOrder) (quant : ℕ) (b : Block) (k rest : ℕ) (values : List ℤ) (v : ℤ) → IsMark rest k → 1 ≤ k
+    → block_place_of k < 64 →
     v ≡ value_of quant (level_at b k) → IsValue v →
     ArePut quant b rest values → ArePut quant b (without rest k) (slice_set values (block_place_of k) v)
 put one quant b k rest values v mark past room value range before = record {
@@ -84,25 +88,31 @@ put one quant b k rest values v mark past room value range before = record {
       one_put z k (bit_at rest z) (bit_at (without rest k) z) _ _ _ (before.stand at less some)
       (λ same. let here : block_place_of k ≡ at = ap block_place_of (sym same) ∙ e in (
         subst (λ (j : ℕ). get_or (slice_set values (block_place_of k) v) j (pos 0) ≡ inter_value quant b at) here
-            (get_or-set_same values (block_place_of k) v (pos 0) (omega (arith, before.long)) ∙ value ∙ ap (λ (j : ℕ). value_of quant (level_at b j)) (sym same)),
+            (get_or-set_same values (block_place_of k) v (pos 0) (omega (arith, before.long)) ∙ value
+                ∙ ap (λ (j : ℕ). value_of quant (level_at b j)) (sym same)),
         ap (bit_at (without rest k)) same ∙ mark.gone,
       ))
-      (λ differs. let other : at ≢ block_place_of k = λ here. differs (ap zigzag_place_of here ∙ one.from_order k mark.below) in
+      (λ differs. let other : at ≢ block_place_of k = λ here. differs (ap zigzag_place_of here
+          ∙ one.from_order k mark.below) in
       (get_or-set_other values (block_place_of k) at v (pos 0) other, mark.others z (within z at e some) differs));
   range = All-set IsValue values (block_place_of k) v range before.range;
 }
 
-pub ends : (one : IsOneOrder) (quant : ℕ) (b : Block) (rest : ℕ) (values : List ℤ) → rest ≡ 0 → ArePut quant b rest values →
+pub ends : (one : IsOneOrder) (quant : ℕ) (b : Block) (rest : ℕ) (values : List ℤ) → rest ≡ 0
+    → ArePut quant b rest values →
     (at : ℕ) → 1 ≤ at → at < 64 → get_or values at (pos 0) ≡ inter_value quant b at
 ends one quant b rest values none before at some less =
-    no_mark (bit_at rest (zigzag_place_of at)) _ _ (ap (λ (n : ℕ). bit_at n (zigzag_place_of at)) none ∙ bit_at-zero (zigzag_place_of at)) (before.stand at less some)
+    no_mark (bit_at rest (zigzag_place_of at)) _ _ (ap (λ (n : ℕ). bit_at n (zigzag_place_of at)) none
+        ∙ bit_at-zero (zigzag_place_of at)) (before.stand at less some)
 
 -- which levels are 0, where no mark is set, and where only the first is
-pub none_at_all : (b : Block) (marks : ℕ) → AreMarked b.levels marks → marks ≡ 0 → (k : ℕ) → k < 64 → level_at b k ≡ pos 0
+pub none_at_all : (b : Block) (marks : ℕ) → AreMarked b.levels marks → marks ≡ 0 → (k : ℕ) → k < 64
+    → level_at b k ≡ pos 0
 none_at_all b marks marked none k less = marked k less (ap (λ (n : ℕ). bit_at n k) none ∙ bit_at-zero k)
 
 -- where the first place alone is marked no later level is left
-pub none_later : (b : Block) (marks : ℕ) → AreMarked b.levels marks → marks ≡ 1 → (k : ℕ) → 1 ≤ k → k < 64 → level_at b k ≡ pos 0
+pub none_later : (b : Block) (marks : ℕ) → AreMarked b.levels marks → marks ≡ 1 → (k : ℕ) → 1 ≤ k → k < 64
+    → level_at b k ≡ pos 0
 none_later b marks marked first k some less =
     let other : k ≢ 0 = omega arith in
     marked k less (ap (λ (n : ℕ). bit_at n k) first ∙ bit_at-pow_other 0 k other)

@@ -36,11 +36,13 @@ zigzag_place_fits at h = small (get_or figure at 0) (holds_at (λ n. nat_lt n 64
 
 pub from_order : (k : ℕ) → k < 64 → zigzag_place_of (block_place_of k) ≡ k
 unfolding zigzag_place_of block_place_of
-from_order k h = same (get_or figure (get_or order k 0) 0) k (holds_below (λ n. nat_eq (get_or figure (get_or order n 0) 0) n) k h refl)
+from_order k h = same (get_or figure (get_or order k 0) 0) k
+    (holds_below (λ n. nat_eq (get_or figure (get_or order n 0) 0) n) k h refl)
 
 pub from_block : (at : ℕ) → at < 64 → block_place_of (zigzag_place_of at) ≡ at
 unfolding zigzag_place_of block_place_of
-from_block at h = same (get_or order (get_or figure at 0) 0) at (holds_below (λ n. nat_eq (get_or order (get_or figure n 0) 0) n) at h refl)
+from_block at h = same (get_or order (get_or figure at 0) 0) at
+    (holds_below (λ n. nat_eq (get_or order (get_or figure n 0) 0) n) at h refl)
 
 above_first : (k at : ℕ) → get_or order k 0 ≡ at → 0 < at → 0 < k
 above_first zero at e h = absurd (omega arith)

@@ -17,7 +17,8 @@ low p n d m e a r whole exact =
     let product : a * (m * d) ≡ a * (p + e) = ap (λ (k : ℕ). a * k) exact in
     omega (arith, rows, product)
 
-high_by : (b : Bool) (p n d m e a r : ℕ) → nat_lt (n * m) (a * p + p) ≡ b → d * a + r ≡ n → r < d → m * d ≡ p + e → n * e < p → n * m < a * p + p
+high_by : (b : Bool) (p n d m e a r : ℕ) → nat_lt (n * m) (a * p + p) ≡ b → d * a + r ≡ n → r < d → m * d ≡ p + e
+    → n * e < p → n * m < a * p + p
 high_by true p n d m e a r test whole rest exact few = ltb-true _ _ test
 high_by false p n d m e a r test whole rest exact few =
     let large : a * p + p ≤ n * m = not_less (n * m) (a * p + p) test in
@@ -40,7 +41,8 @@ by_parts p n d m e a r whole rest exact few =
 -- Division by a product: where m is p / d, rounded up, and n times what the rounding adds stays below p, then n * m / p
 -- is n / d.
 pub by_product : (p n d m e : ℕ) → 0 < d → m * d ≡ p + e → n * e < p → n * m / p ≡ n / d
-by_product p n d m e some exact few = by_parts p n d m e (n / d) (n % d) (omega (arith, some)) (omega (arith, some)) exact few
+by_product p n d m e some exact few = by_parts p n d m e (n / d) (n % d) (omega (arith, some))
+    (omega (arith, some)) exact few
 
 -- no more than 127 steps
 limited_by : (b : Bool) (n d : ℕ) → nat_lt (127 * d) n ≡ b → 0 < d → min n (127 * d) / d ≡ min (n / d) 127
@@ -52,7 +54,8 @@ limited_by true n d test some =
     ap (λ (k : ℕ). k / d) all ∙ most ∙ sym (up (at_least (nat_lt (n / d) 127) refl))
   where
     at_least : (t : Bool) → nat_lt (n / d) 127 ≡ t → t ≡ false
-    at_least true h = let less : n < 127 * d = (div-lt_iff_lt-mul {k = d} {x = n} {y = 127} some).0 (ltb-true _ _ h) in let more : 127 * d < n = ltb-true _ _ test in absurd (omega (arith, less, more))
+    at_least true h = let less : n < 127 * d = (div-lt_iff_lt-mul {k = d} {x = n} {y = 127} some).0 (ltb-true _ _ h) in
+        let more : 127 * d < n = ltb-true _ _ test in absurd (omega (arith, less, more))
     at_least false h = refl
 limited_by false n d test some =
     let few : n ≤ 127 * d = not_less (127 * d) n test in
@@ -68,25 +71,32 @@ pub same_steps : (m n d : ℕ) → 0 < d → min m (127 * d) ≡ min n (127 * d)
 same_steps m n d some e = sym (limited m d some) ∙ ap (λ (k : ℕ). k / d) e ∙ limited n d some
 
 -- the factor's product with twice the quantiser, where k is the power of two
-product_of : (q k : ℕ) → 0 < q → (32768 * k + (q - 1)) / q * (2 * q) ≡ 65536 * k + 2 * (q - 1 - (32768 * k + (q - 1)) % q)
+product_of : (q k : ℕ) → 0 < q → (32768 * k + (q - 1)) / q * (2 * q)
+    ≡ 65536 * k + 2 * (q - 1 - (32768 * k + (q - 1)) % q)
 product_of q k some =
-    let whole : q * ((32768 * k + (q - 1)) / q) + (32768 * k + (q - 1)) % q ≡ 32768 * k + (q - 1) = omega (arith, some) in
+    let whole : q * ((32768 * k + (q - 1)) / q) + (32768 * k + (q - 1)) % q ≡ 32768 * k + (q - 1) = omega (arith,
+        some) in
     let rest : (32768 * k + (q - 1)) % q < q = omega (arith, some) in
     omega (arith, whole, rest)
 
--- what the rounding adds, 2 * (q - 1) at most, is so little that 2 ^ 15 + 6 times as much is below 2 ^ 16 times the power of two
-exact_beyond : (q size : ℕ) (f : Factor) → IsQuant q → IsFactor q f → size ≤ 32774 → size * f.number / 2 ^ 16 / 2 ^ f.shift ≡ size / (2 * q)
+-- what the rounding adds, 2 * (q - 1) at most, is so little that 2 ^ 15 + 6 times as much is below 2 ^ 16
+-- times the power of two
+exact_beyond : (q size : ℕ) (f : Factor) → IsQuant q → IsFactor q f → size ≤ 32774
+    → size * f.number / 2 ^ 16 / 2 ^ f.shift ≡ size / (2 * q)
 exact_beyond q size f h is few =
     let k : ℕ = 2 ^ f.shift in
     let e : ℕ = 2 * (q - 1 - (32768 * k + (q - 1)) % q) in
     let some : 0 < q = omega (arith, h.low) in
     let reaches : q ≤ k = is.shift.reaches in
     let number : f.number * (2 * q) ≡ 65536 * k + e = ap (λ (m : ℕ). m * (2 * q)) is.number ∙ product_of q k some in
-    let small : size * e ≤ 32774 * (2 * (q - 1)) = mul-le-mul few (let added : e ≤ 2 * (q - 1) = omega arith in added) in
+    let small : size * e ≤ 32774 * (2 * (q - 1)) = mul-le-mul few (let added : e ≤ 2 * (q - 1) = omega arith in
+        added) in
     let less : size * e < 65536 * k = omega (arith, small, reaches, h.low, h.high) in
-    div-div-eq-div-mul (size * f.number) 65536 k ∙ by_product (65536 * k) size (2 * q) f.number e (omega (arith, some)) number less
+    div-div-eq-div-mul (size * f.number) 65536 k
+        ∙ by_product (65536 * k) size (2 * q) f.number e (omega (arith, some)) number less
 
-pub exact : (q size : ℕ) (f : Factor) → IsQuant q → IsFactor q f → size ≤ 32768 → size * f.number / 2 ^ 16 / 2 ^ f.shift ≡ size / (2 * q)
+pub exact : (q size : ℕ) (f : Factor) → IsQuant q → IsFactor q f → size ≤ 32768 → size * f.number / 2 ^ 16 / 2 ^ f.shift
+    ≡ size / (2 * q)
 exact q size f h is few = exact_beyond q size f h is (omega (arith, few))
 
 -- sixteenths of a size in steps of twice the quantiser
@@ -96,7 +106,8 @@ in_sixteenths q size =
     div-div-eq-div-mul size 16 (2 * q) ∙ ap (λ (d : ℕ). size / d) whole
 
 -- with four bits of shift more the product gives the quotient of sixteenths
-pub exact_sixteenths : (q size : ℕ) (f : Factor) → IsQuant q → IsFactor q f → size ≤ 32774 → size * f.number / 2 ^ 16 / 2 ^ (f.shift + 4) ≡ size / (32 * q)
+pub exact_sixteenths : (q size : ℕ) (f : Factor) → IsQuant q → IsFactor q f → size ≤ 32774
+    → size * f.number / 2 ^ 16 / 2 ^ (f.shift + 4) ≡ size / (32 * q)
 exact_sixteenths q size f h is few =
     let n : ℕ = size * f.number / 2 ^ 16 in
     let whole : 2 * q * 16 ≡ 32 * q = omega arith in
@@ -107,15 +118,18 @@ exact_sixteenths q size f h is few =
     ∙ ap (λ (d : ℕ). size / d) whole
 
 -- the quotient as the product has it, and what is left
-pub product_quotient : (q size a b : ℕ) (f : Factor) → IsQuant q → IsFactor q f → size ≤ 32774 → a ≡ size → b ≡ f.number → a * b / 65536 / 2 ^ (f.shift + 4) ≡ size / (32 * q)
+pub product_quotient : (q size a b : ℕ) (f : Factor) → IsQuant q → IsFactor q f → size ≤ 32774 → a ≡ size → b ≡ f.number
+    → a * b / 65536 / 2 ^ (f.shift + 4) ≡ size / (32 * q)
 product_quotient q size a b f h is few first second =
     let product : a * b ≡ size * f.number = cc (first, second) in
     ap (λ (k : ℕ). k / 65536 / 2 ^ (f.shift + 4)) product ∙ exact_sixteenths q size f h is few
 
-pub product_steps : (q size a b n : ℕ) (f : Factor) → IsQuant q → IsFactor q f → size ≤ 32774 → a ≡ size → b ≡ f.number → n ≡ q →
+pub product_steps : (q size a b n : ℕ) (f : Factor) → IsQuant q → IsFactor q f → size ≤ 32774 → a ≡ size → b ≡ f.number
+    → n ≡ q →
     a * b / 65536 / 2 ^ (f.shift + 4) * (32 * n) ≡ size / (32 * q) * (32 * q)
 product_steps q size a b n f h is few first second third =
-    ap (λ (k : ℕ). k * (32 * n)) (product_quotient q size a b f h is few first second) ∙ ap (λ (k : ℕ). size / (32 * q) * (32 * k)) third
+    ap (λ (k : ℕ). k * (32 * n)) (product_quotient q size a b f h is few first second)
+        ∙ ap (λ (k : ℕ). size / (32 * q) * (32 * k)) third
 
 pub rest_after : (n d : ℕ) → 0 < d → n - n / d * d ≡ n % d
 rest_after n d some =
@@ -126,7 +140,8 @@ rest_after n d some =
 shift_by : (b : Bool) (q shift : ℕ) → nat_lt shift 6 ≡ b → IsQuant q → 2 ^ shift < 2 * q → shift < 6
 shift_by true q shift test h least = ltb-true _ _ test
 shift_by false q shift test h least =
-    let large : 2 ^ 6 ≤ 2 ^ shift = pow-le-pow_right {n = 2} (let two : 0 < 2 = omega arith in two) (not_less shift 6 test) in
+    let large : 2 ^ 6 ≤ 2 ^ shift = pow-le-pow_right {n = 2} (let two : 0 < 2 = omega arith in
+        two) (not_less shift 6 test) in
     absurd (omega (arith, large, least, h.high))
 
 pub shift_small : (q shift : ℕ) → IsQuant q → 2 ^ shift < 2 * q → shift < 6

@@ -14,13 +14,15 @@ kept_value z h = omega (arith, ints)
 limited_up : (n : ℕ) (z : ℤ) → z ≡ pos 1 *ℤ pos n → int_max (negsuc 2047) (int_min z (pos 2047)) ≡ pos (min n 2047)
 limited_up n z e = omega (arith, ints, clamps)
 
-limited_down : (n : ℕ) (z : ℤ) → z ≡ negsuc 0 *ℤ pos n → int_max (negsuc 2047) (int_min z (pos 2047)) ≡ neg_ℤ (pos (min n 2048))
+limited_down : (n : ℕ) (z : ℤ) → z ≡ negsuc 0 *ℤ pos n → int_max (negsuc 2047) (int_min z (pos 2047))
+    ≡ neg_ℤ (pos (min n 2048))
 limited_down n z e = omega (arith, ints, clamps)
 
 limited_none : (n : ℕ) (z : ℤ) → z ≡ pos 0 *ℤ pos n → int_max (negsuc 2047) (int_min z (pos 2047)) ≡ pos 0
 limited_none n z e = omega (arith, ints, clamps)
 
-pub same_value : (q : ℕ) (z v : ℤ) → v ≡ int_signum z *ℤ pos (value_size q (unsigned_abs z)) → int_max (negsuc 2047) (int_min v (pos 2047)) ≡ value_of q z
+pub same_value : (q : ℕ) (z v : ℤ) → v ≡ int_signum z *ℤ pos (value_size q (unsigned_abs z))
+    → int_max (negsuc 2047) (int_min v (pos 2047)) ≡ value_of q z
 same_value q (pos zero) v e = limited_none (value_size q 0) v e
 same_value q (pos (suc n)) v e =
     let one : min (suc n) 1 ≡ 1 = omega arith in

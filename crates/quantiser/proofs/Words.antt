@@ -13,7 +13,8 @@ pub word_kept : (z : ℤ) → IsWord z → to_z w16 (of_z w16 z) ≡ z
 word_kept z h = omega (arith, ints)
 
 -- 127 steps and a half of one are fewer than 2 ^ 15
-same_inter : (q m n : ℕ) → IsQuant q → min m 32767 ≡ min n 32767 → min ((m - q / 2) / (2 * q)) 127 ≡ min ((n - q / 2) / (2 * q)) 127
+same_inter : (q m n : ℕ) → IsQuant q → min m 32767 ≡ min n 32767 → min ((m - q / 2) / (2 * q)) 127
+    ≡ min ((n - q / 2) / (2 * q)) 127
 same_inter q m n h e = same_steps (m - q / 2) (n - q / 2) (2 * q) (omega (arith, h.low)) (omega (arith, e, h.high))
 
 same_intra : (q m n : ℕ) → IsQuant q → min m 32767 ≡ min n 32767 → min (m / (2 * q)) 127 ≡ min (n / (2 * q)) 127

@@ -37,37 +37,47 @@ module _ (b : Bucket) where
   abbrev state : List (List ℕ) → ℕ → RateState
   state packets plays = record { bucket = b; packets = packets; plays = plays }
 
-  mind_is : (packets : List (List ℕ)) (plays : ℕ) (e : Entry) (bytes : List ℕ) → mind_with rate_rules (state packets plays) e bytes ≡ state (packets_with packets e bytes) (plays_with plays e)
+  mind_is : (packets : List (List ℕ)) (plays : ℕ) (e : Entry) (bytes : List ℕ)
+      → mind_with rate_rules (state packets plays) e bytes ≡ state (packets_with packets e bytes) (plays_with plays e)
   mind_is packets plays (Packet len) bytes = refl
   mind_is packets plays Capture bytes = refl
   mind_is packets plays (Back len) bytes = refl
   mind_is packets plays Play bytes = refl
 
-  minds_are : (found : List Found) (packets : List (List ℕ)) (plays : ℕ) → mind_after rate_rules (state packets plays) found ≡ state (measured_packets packets found) (plays_after plays found)
+  minds_are : (found : List Found) (packets : List (List ℕ)) (plays : ℕ)
+      → mind_after rate_rules (state packets plays) found
+      ≡ state (measured_packets packets found) (plays_after plays found)
   minds_are [] packets plays = refl
   minds_are (x ∷ more) packets plays =
       ap (λ (s : RateState). mind_after rate_rules s more) (mind_is packets plays x.entry x.bytes)
       ∙ minds_are more (packets_with packets x.entry x.bytes) (plays_with plays x.entry)
 
-  text_is : (packets : List (List ℕ)) (plays : ℕ) (e : Entry) (bytes : List ℕ) → text_with rate_rules (state packets plays) e bytes Report ≡ answer_line b.target packets e bytes
+  text_is : (packets : List (List ℕ)) (plays : ℕ) (e : Entry) (bytes : List ℕ)
+      → text_with rate_rules (state packets plays) e bytes Report ≡ answer_line b.target packets e bytes
   text_is packets plays (Packet len) bytes = answered (metered b.target packets bytes)
   text_is packets plays Capture bytes = refl
   text_is packets plays (Back len) bytes = refl
   text_is packets plays Play bytes = refl
 
-  texts_are : (found : List Found) (packets : List (List ℕ)) (plays : ℕ) → text_after rate_rules (state packets plays) found Report ≡ answer_lines b.target packets found
+  texts_are : (found : List Found) (packets : List (List ℕ)) (plays : ℕ)
+      → text_after rate_rules (state packets plays) found Report ≡ answer_lines b.target packets found
   texts_are [] packets plays = refl
   texts_are (x ∷ more) packets plays =
-      ap (λ (s : RateState). text_with rate_rules (state packets plays) x.entry x.bytes Report ++ text_after rate_rules s more Report) (mind_is packets plays x.entry x.bytes)
-      ∙ ap (λ (l : List ℕ). l ++ text_after rate_rules (state (packets_with packets x.entry x.bytes) (plays_with plays x.entry)) more Report) (text_is packets plays x.entry x.bytes)
-      ∙ ap (λ (l : List ℕ). answer_line b.target packets x.entry x.bytes ++ l) (texts_are more (packets_with packets x.entry x.bytes) (plays_with plays x.entry))
+      ap (λ (s : RateState). text_with rate_rules (state packets plays) x.entry x.bytes Report
+          ++ text_after rate_rules s more Report) (mind_is packets plays x.entry x.bytes)
+      ∙ ap (λ (l : List ℕ). l ++ text_after rate_rules (state (packets_with packets x.entry x.bytes)
+          (plays_with plays x.entry)) more Report) (text_is packets plays x.entry x.bytes)
+      ∙ ap (λ (l : List ℕ). answer_line b.target packets x.entry x.bytes
+          ++ l) (texts_are more (packets_with packets x.entry x.bytes) (plays_with plays x.entry))
 
   turn_count : (found : List Found) (s : RateState) → length (turns_over rate_rules s found) ≡ length found
   turn_count [] s = refl
   turn_count (x ∷ more) s = ap suc (turn_count more (mind_with rate_rules s x.entry x.bytes))
 
-  module _ (inputs : Role → List ℕ) (run : Run) (f : FollowsItsLog rate_rules (nothing_measured b) no_texts inputs run) where
-    minds : mind_after rate_rules (nothing_measured b) f.accepted ≡ state (measured_packets [] f.accepted) (plays_after 0 f.accepted)
+  module _ (inputs : Role → List ℕ) (run : Run) (f : FollowsItsLog rate_rules (nothing_measured b) no_texts inputs
+      run) where
+    minds : mind_after rate_rules (nothing_measured b) f.accepted
+        ≡ state (measured_packets [] f.accepted) (plays_after 0 f.accepted)
     minds = minds_are f.accepted [] 0
 
     pub measures : MeasuresItsLog b inputs run
@@ -75,11 +85,17 @@ module _ (b : Bucket) where
       accepted = f.accepted;
       refused = f.refused;
       read = f.read;
-      taken = ap length f.turns ∙ ap suc (turn_count f.accepted (nothing_measured b)) ∙ one_turn_each (length f.accepted);
+      taken = ap length f.turns ∙ ap suc (turn_count f.accepted (nothing_measured b))
+          ∙ one_turn_each (length f.accepted);
       report =
           f.texts Report
-          ∙ ap (λ (l : List ℕ). l ++ told run.last.status (rate_rules.end_text (mind_after rate_rules (nothing_measured b) f.accepted) Report)) (texts_are f.accepted [] 0)
-          ∙ ap (λ (s : RateState). answer_lines b.target [] f.accepted ++ told run.last.status (rate_rules.end_text s Report)) minds
-          ∙ ap (λ (l : List ℕ). answer_lines b.target [] f.accepted ++ told run.last.status l) (closes (totals_of b.target b.bucket (measured_packets [] f.accepted)));
-      end = subst (λ (s : RateState). IsEnd (log_fault OfReceiver (inputs Events)) (rate_rules.plays s) f.refused run.last.status) minds f.end;
+          ∙ ap (λ (l : List ℕ). l ++ told run.last.status
+              (rate_rules.end_text (mind_after rate_rules (nothing_measured b) f.accepted) Report))
+              (texts_are f.accepted [] 0)
+          ∙ ap (λ (s : RateState). answer_lines b.target [] f.accepted
+              ++ told run.last.status (rate_rules.end_text s Report)) minds
+          ∙ ap (λ (l : List ℕ). answer_lines b.target [] f.accepted ++ told run.last.status l)
+              (closes (totals_of b.target b.bucket (measured_packets [] f.accepted)));
+      end = subst (λ (s : RateState). IsEnd (log_fault OfReceiver (inputs Events)) (rate_rules.plays s) f.refused
+          run.last.status) minds f.end;
     }

@@ -15,10 +15,12 @@ on_err (Ok x) p = tt
 on_err (Err e) p = p
 
 module _ (laws : TurnLaws) (t : Totals) where
-  pub cut_last : (old a : Role → Option (List ℕ)) → GainsFronts (last_text t.last) old a → GainsFronts (closing_text t) old a
+  pub cut_last : (old a : Role → Option (List ℕ)) → GainsFronts (last_text t.last) old a
+      → GainsFronts (closing_text t) old a
   cut_last old a p = laws.front_of_first (last_text t.last) (on Report (totals_line t)) old a p
 
-  module _ (old a b : Role → Option (List ℕ)) (last : Gains (last_text t.last) old a) (text : List ℕ) (is : text ≡ totals_line t) where
+  module _ (old a b : Role → Option (List ℕ)) (last : Gains (last_text t.last) old a) (text : List ℕ) (is : text
+      ≡ totals_line t) where
     pub cut_totals : GainsFronts (on Report text) a b → GainsFronts (closing_text t) old b
     cut_totals q =
         laws.front_of_second (last_text t.last) (on Report (totals_line t)) old a b last

@@ -15,7 +15,8 @@ prefixes_push (y ∷ sizes) x =
     ∙ ap (λ (l : List (List ℕ)). (y ∷ []) ∷ l)
     (map_push (λ (more : List ℕ). y ∷ more) (prefixes sizes) (sizes ++ x ∷ []))
 
-levels_push : (t : ℕ) (sizes : List ℕ) (x : ℕ) → levels t (sizes ++ x ∷ []) ≡ levels t sizes ++ level_of t (sizes ++ x ∷ []) ∷ []
+levels_push : (t : ℕ) (sizes : List ℕ) (x : ℕ) → levels t (sizes ++ x ∷ []) ≡ levels t sizes
+    ++ level_of t (sizes ++ x ∷ []) ∷ []
 levels_push t sizes x =
     ap (λ (l : List (List ℕ)). map (level_of t) l) (prefixes_push sizes x)
     ∙ map_push (level_of t) (prefixes sizes) (sizes ++ x ∷ [])

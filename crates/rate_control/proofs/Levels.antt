@@ -39,7 +39,8 @@ level_more t sizes i d h = ap (level_of t) (take_more sizes i d h) ∙ level_pus
 
 -- ---- the greatest of the suffixes
 
-level_cons : (t y : ℕ) (sizes : List ℕ) → level_of t (y ∷ sizes) ≡ max (sum (y ∷ sizes) - length (y ∷ sizes) * t) (level_of t sizes)
+level_cons : (t y : ℕ) (sizes : List ℕ) → level_of t (y ∷ sizes) ≡ max (sum (y ∷ sizes) - length (y ∷ sizes) * t)
+    (level_of t sizes)
 unfolding level_of
 level_cons t y sizes = refl
 
@@ -61,12 +62,14 @@ bounds t sizes front back e =
     subst (λ (l : List ℕ). sum back ≤ level_of t l + length back * t) e (bound t front back)
 
 -- the whole list lies furthest above its target, or a suffix after its first picture does
-at_front : (t y : ℕ) (sizes : List ℕ) → level_of t sizes < (sum (y ∷ sizes) - length (y ∷ sizes) * t) → IsReached t (y ∷ sizes)
+at_front : (t y : ℕ) (sizes : List ℕ) → level_of t sizes < (sum (y ∷ sizes) - length (y ∷ sizes) * t)
+    → IsReached t (y ∷ sizes)
 at_front t y sizes h =
     let e = level_cons t y sizes in
     record { front = []; back = y ∷ sizes; whole = refl; same = omega (arith, e) }
 
-further : (t y : ℕ) (sizes : List ℕ) → (sum (y ∷ sizes) - length (y ∷ sizes) * t) ≤ level_of t sizes → IsReached t sizes → IsReached t (y ∷ sizes)
+further : (t y : ℕ) (sizes : List ℕ) → (sum (y ∷ sizes) - length (y ∷ sizes) * t) ≤ level_of t sizes → IsReached t sizes
+    → IsReached t (y ∷ sizes)
 further t y sizes h r =
     let e = level_cons t y sizes in
     let s = r.same in
@@ -161,7 +164,8 @@ quotient_greater a b t more h some greater =
     let less = mul-le (a / more) t (a / more) more (omega arith) greater in
     le-div (a / more) b t (omega (arith, some)) (omega (arith, below, less, h))
 
-pub quant_no_coarser : (t more first : ℕ) (sizes : List ℕ) → 1 ≤ t → t ≤ more → quant_after more first sizes ≤ quant_after t first sizes
+pub quant_no_coarser : (t more first : ℕ) (sizes : List ℕ) → 1 ≤ t → t ≤ more
+    → quant_after more first sizes ≤ quant_after t first sizes
 quant_no_coarser t more first sizes some greater =
     let l = level_greater t more sizes greater in
     let q = quotient_greater (4 * level_of more sizes) (4 * level_of t sizes) t more (omega (arith, l)) some greater in

@@ -34,7 +34,8 @@ level_after : (m : Meter) (sizes : List ℕ) (size : ℕ) → Counts m sizes
 level_after m sizes size s =
     ap (λ (n : ℕ). n + size - m.target) s.level ∙ sym (level_push m.target sizes size)
 
-counts_after : (m : Meter) (sizes : List ℕ) (size : ℕ) → Counts m sizes → Counts (after_picture m size) (sizes ++ size ∷ [])
+counts_after : (m : Meter) (sizes : List ℕ) (size : ℕ) → Counts m sizes
+    → Counts (after_picture m size) (sizes ++ size ∷ [])
 counts_after m sizes size s =
     let level = level_after m sizes size s in
     let n = length_push sizes size in
@@ -67,7 +68,8 @@ sizes_push past p = map_push (λ (q : Picture). q.size) past p
 
 -- ---- an accepted packet
 
-pub new_stands : (target bucket : ℕ) → MeterStands (record { target = target; bucket = bucket; picture = None; pictures = 0; level = 0; greatest = 0; over = 0; refused = 0 }) []
+pub new_stands : (target bucket : ℕ) → MeterStands (record { target = target; bucket = bucket; picture = None;
+    pictures = 0; level = 0; greatest = 0; over = 0; refused = 0 }) []
 unfolding pictures_of
 new_stands target bucket =
     record {
@@ -82,10 +84,12 @@ new_stands target bucket =
     }
 
 -- the picture that is going on, as the pictures have it
-going_none : (m : Meter) (packets : List (List ℕ)) → m.picture ≡ None → (s : MeterStands m packets) → IsGoing None s.past (pictures_of packets)
+going_none : (m : Meter) (packets : List (List ℕ)) → m.picture ≡ None → (s : MeterStands m packets)
+    → IsGoing None s.past (pictures_of packets)
 going_none m packets e s = subst (λ (o : Option Picture). IsGoing o s.past (pictures_of packets)) e s.going
 
-going_at : (m : Meter) (packets : List (List ℕ)) (p : Picture) → m.picture ≡ Some p → (s : MeterStands m packets) → pictures_of packets ≡ s.past ++ p ∷ []
+going_at : (m : Meter) (packets : List (List ℕ)) (p : Picture) → m.picture ≡ Some p → (s : MeterStands m packets)
+    → pictures_of packets ≡ s.past ++ p ∷ []
 going_at m packets p e s = subst (λ (o : Option Picture). IsGoing o s.past (pictures_of packets)) e s.going
 
 first_stands : (m : Meter) (packets : List (List ℕ)) (bytes : List ℕ) (x : Picture) (r : Rtp)
@@ -187,7 +191,8 @@ tells m packets p x true e = refl
 tells m packets p x false e = ap (λ (l : ℕ × ℕ × ℕ). ended l) (sym e)
 
 answer_at : (m : Meter) (packets : List (List ℕ)) (r : Rtp) (o : Option ℕ) → last_time (accepted packets) ≡ o
-    → cond (differs o r.timestamp) (ended (last_of m.target (sizes_of packets))) Same ≡ answer_of m.target packets (Ok r)
+    → cond (differs o r.timestamp) (ended (last_of m.target (sizes_of packets))) Same
+        ≡ answer_of m.target packets (Ok r)
 answer_at m packets r o e =
     ap (λ (t : Option ℕ). cond (differs t r.timestamp) (ended (last_of m.target (sizes_of packets))) Same) (sym e)
 
@@ -213,7 +218,8 @@ pub refused_stands : (m : Meter) (packets : List (List ℕ)) (bytes : List ℕ) 
 refused_stands m packets bytes fault e s =
     record {
       past = s.past;
-      going = subst (λ (l : List Picture). IsGoing m.picture s.past l) (sym (pictures_refused packets bytes fault e)) s.going;
+      going = subst (λ (l : List Picture). IsGoing m.picture s.past l) (sym (pictures_refused packets bytes fault e))
+          s.going;
       time = ap (λ (l : List Picture). last_time l) (accepted_refused packets bytes fault e) ∙ s.time;
       count = s.count;
       level = s.level;
@@ -233,7 +239,8 @@ past_few (Some p) past pictures g =
     let b = length_push past p in
     omega (arith, a, b)
 
-pub past_room : (law : ReadsShort) (m : Meter) (packets : List (List ℕ)) → MeterStands m packets → length packets ≤ 16777216
+pub past_room : (law : ReadsShort) (m : Meter) (packets : List (List ℕ)) → MeterStands m packets
+    → length packets ≤ 16777216
     → (m.pictures < 4294967295) × (m.over < 4294967295)
 past_room law m packets s few =
     let a = past_few m.picture s.past (pictures_of packets) s.going in
@@ -244,7 +251,8 @@ past_room law m packets s few =
     let f = s.over in
     (omega (arith, a, b, c, few), omega (arith, a, b, d, e, f, few))
 
-pub level_room : (law : ReadsShort) (m : Meter) (packets : List (List ℕ)) → MeterStands m packets → length packets ≤ 16777216
+pub level_room : (law : ReadsShort) (m : Meter) (packets : List (List ℕ)) → MeterStands m packets
+    → length packets ≤ 16777216
     → (p : Picture) → m.picture ≡ Some p → m.level + p.size ≤ 1099511627776
 level_room law m packets s few p is =
     let a = bytes_short law packets in
@@ -254,7 +262,8 @@ level_room law m packets s few p is =
     let e = s.level in
     omega (arith, a, b, c, d, e, few)
 
-pub room_at_end : (law : ReadsShort) (m : Meter) (packets : List (List ℕ)) → MeterStands m packets → length packets ≤ 16777216
+pub room_at_end : (law : ReadsShort) (m : Meter) (packets : List (List ℕ)) → MeterStands m packets
+    → length packets ≤ 16777216
     → (p : Picture) → m.picture ≡ Some p → HasRoomAtEnd m p.size
 room_at_end law m packets s few p is =
     let a = past_room law m packets s few in
@@ -265,7 +274,8 @@ room_with : (m : Meter) (p x : Picture) → m.level + p.size ≤ 1099511627776 �
     → m.level + p.size + x.size < 18446744073709551616
 room_with m p x h k = omega (arith, h, k)
 
-pub room_for : (law : ReadsShort) (m : Meter) (packets : List (List ℕ)) → MeterStands m packets → length packets < 16777216
+pub room_for : (law : ReadsShort) (m : Meter) (packets : List (List ℕ)) → MeterStands m packets
+    → length packets < 16777216
     → (x : Picture) → x.size ≤ 65535 → HasRoomFor m x
 room_for law m packets s few x short =
     let a = past_room law m packets s (omega (arith, few)) in
@@ -296,7 +306,8 @@ totals_by target bucket packets sizes e =
     }) e
 
 -- two totals with the same fields
-same_totals : (a b : Totals) → a.last ≡ b.last → a.pictures ≡ b.pictures → a.greatest ≡ b.greatest → a.over ≡ b.over → a.refused ≡ b.refused → a ≡ b
+same_totals : (a b : Totals) → a.last ≡ b.last → a.pictures ≡ b.pictures → a.greatest ≡ b.greatest → a.over ≡ b.over
+    → a.refused ≡ b.refused → a ≡ b
 same_totals a b last pictures greatest over refused =
     ap (λ (x : Option (ℕ × ℕ × ℕ)). record a { last = x }) last
     ∙ ap (λ (x : ℕ). record a { last = b.last; pictures = x }) pictures
@@ -317,23 +328,29 @@ closed_empty m packets none s =
     let k = subst (λ (l : List ℕ). Counts m l) past (counts_of m packets s) in
     same_totals
     (record { last = None; pictures = m.pictures; greatest = m.greatest; over = m.over; refused = m.refused })
-    (record { last = None; pictures = 0; greatest = greatest_level m.target []; over = over_in m.target m.bucket []; refused = refused_in packets })
+    (record { last = None; pictures = 0; greatest = greatest_level m.target []; over = over_in m.target m.bucket [];
+        refused = refused_in packets })
     refl k.count k.greatest k.over s.refused
     ∙ sym (totals_by m.target m.bucket packets [] (no_sizes packets g.1))
 
 pub closed_with : (m : Meter) (packets : List (List ℕ)) (p : Picture) → m.picture ≡ Some p → MeterStands m packets
     → (n : Meter) → n ≡ after_picture m p.size
-    → record { last = Some (m.pictures, p.size, n.level); pictures = n.pictures; greatest = n.greatest; over = n.over; refused = n.refused }
+    → record { last = Some (m.pictures, p.size, n.level); pictures = n.pictures; greatest = n.greatest; over = n.over;
+        refused = n.refused }
     ≡ totals_of m.target m.bucket packets
 closed_with m packets p is s n e =
     let sizes = sizes_in s.past ++ p.size ∷ [] in
     let k = counts_after m (sizes_in s.past) p.size (counts_of m packets s) in
     let c = counts_of m packets s in
-    ap (λ (w : Meter). record { last = Some (m.pictures, p.size, w.level); pictures = w.pictures; greatest = w.greatest; over = w.over; refused = w.refused }) e
+    ap (λ (w : Meter). record { last = Some (m.pictures, p.size, w.level); pictures = w.pictures; greatest = w.greatest;
+        over = w.over; refused = w.refused }) e
     ∙ same_totals
-    (record { last = Some (m.pictures, p.size, m.level + p.size - m.target); pictures = m.pictures + 1; greatest = (after_picture m p.size).greatest; over = (after_picture m p.size).over; refused = m.refused })
-    (record { last = going_on m.target sizes; pictures = length sizes; greatest = greatest_level m.target sizes; over = over_in m.target m.bucket sizes; refused = refused_in packets })
-    (ap (λ (x : ℕ × ℕ × ℕ). Some x) (sym (last_at m packets p is s) ∙ ap (λ (l : List ℕ). last_of m.target l) (sizes_at packets s.past p (going_at m packets p is s)))
+    (record { last = Some (m.pictures, p.size, m.level + p.size - m.target); pictures = m.pictures + 1;
+        greatest = (after_picture m p.size).greatest; over = (after_picture m p.size).over; refused = m.refused })
+    (record { last = going_on m.target sizes; pictures = length sizes; greatest = greatest_level m.target sizes;
+        over = over_in m.target m.bucket sizes; refused = refused_in packets })
+    (ap (λ (x : ℕ × ℕ × ℕ). Some x) (sym (last_at m packets p is s)
+        ∙ ap (λ (l : List ℕ). last_of m.target l) (sizes_at packets s.past p (going_at m packets p is s)))
     ∙ sym (going_push m.target (sizes_in s.past) p.size))
     k.count k.greatest k.over s.refused
     ∙ sym (totals_by m.target m.bucket packets sizes (sizes_at packets s.past p (going_at m packets p is s)))

@@ -105,7 +105,8 @@ pushed_at (a ∷ b ∷ past) p x = ap (λ (l : List Picture). a ∷ l) (pushed_a
 
 -- ---- a packet after a log
 
-accepted_push : (packets : List (List ℕ)) (bytes : List ℕ) → accepted (packets ++ bytes ∷ []) ≡ accepted packets ++ alone bytes
+accepted_push : (packets : List (List ℕ)) (bytes : List ℕ) → accepted (packets ++ bytes ∷ []) ≡ accepted packets
+    ++ alone bytes
 accepted_push packets bytes = sym (flat_map_more alone [] packets bytes)
 
 alone_err : (bytes : List ℕ) (fault : Fault) → rtp_in bytes ≡ Err fault → alone bytes ≡ []
@@ -252,7 +253,8 @@ bytes_accepted law (bytes ∷ packets) =
     let l = length-append (alone bytes) (accepted packets) in
     (omega (arith, a, one, rest), omega (arith, l, one, rest))
 
-pub bytes_short : (law : ReadsShort) (packets : List (List ℕ)) → sum (sizes_in (pictures_of packets)) ≤ 65535 * length packets
+pub bytes_short : (law : ReadsShort) (packets : List (List ℕ))
+    → sum (sizes_in (pictures_of packets)) ≤ 65535 * length packets
 unfolding pictures_of
 bytes_short law packets =
     let a = bytes_runs (accepted packets) in

@@ -12,12 +12,15 @@ use Rattle.receiver_end.proofs.Marked.{all_same}
 use Rattle.receiver_end.proofs.Rings.{kept_stays}
 
 -- what is marked of a picture is what was taken
-pub all_marked : (r : Kept) (n : ℕ) (ok : Fits r) → IsInRow r.collector n → all_below (mbs_of r.params.format) (has_in r.collector n) ≡ is_whole (format_of r.collector) ok.taken n
+pub all_marked : (r : Kept) (n : ℕ) (ok : Fits r) → IsInRow r.collector n
+    → all_below (mbs_of r.params.format) (has_in r.collector n) ≡ is_whole (format_of r.collector) ok.taken n
 all_marked r n ok row =
     ap (λ (f : Format). all_below (mbs_of f) (has_in r.collector n)) (sym ok.collected)
-    ∙ all_same (mbs_of (format_of r.collector)) (has_in r.collector n) (has_taken ok.taken n) (λ k lt. ok.collects.marks n k row lt)
+    ∙ all_same (mbs_of (format_of r.collector)) (has_in r.collector n) (has_taken ok.taken n)
+        (λ k lt. ok.collects.marks n k row lt)
 
-pub fits_whole : OneRestIsFar → (r : Kept) (u : Pictures) (n : ℕ) → Fits r → IsInRow r.collector n → Keeps r.store u n (work_of r.params n) → Fits (record r { store = u })
+pub fits_whole : OneRestIsFar → (r : Kept) (u : Pictures) (n : ℕ) → Fits r → IsInRow r.collector n
+    → Keeps r.store u n (work_of r.params n) → Fits (record r { store = u })
 fits_whole far r u n ok row k = record {
   params = ok.params;
   format = k.format ∙ ok.format;

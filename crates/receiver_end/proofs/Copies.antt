@@ -4,7 +4,8 @@ use Rattle.std.proofs.lemmas.Bool.{eqb-true, eqb-false, ltb-true, ltb-false, lt-
 use Rattle.std.specs.Prelude.{if◌then◌else◌}
 
 -- a macroblock that was not taken is copied, and one that was taken stays
-pub missing_set : (e h : Bool) (now screen old : ℕ) → h ≡ false → now ≡ (if e then screen else old) → now ≡ (if e && not h then screen else old)
+pub missing_set : (e h : Bool) (now screen old : ℕ) → h ≡ false → now ≡ (if e then screen else old)
+    → now ≡ (if e && not h then screen else old)
 missing_set true true now screen old is set = absurd cc
 missing_set false true now screen old is set = absurd cc
 missing_set true false now screen old is set = set

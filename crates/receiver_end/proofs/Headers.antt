@@ -35,13 +35,15 @@ headers_are f a b e =
     let p = and_parts _ _ e in let q = and_parts _ _ p.1 in let r = and_parts _ _ q.1 in
     joined a b (eqb-true _ _ p.0) (references_are _ _ q.0) (eqb-true _ _ r.0) (styles_are _ _ r.1)
   where
-    joined : (a b : call.Header Style) → a.number ≡ b.number → a.reference ≡ b.reference → a.half ≡ b.half → a.style ≡ b.style → a ≡ b
+    joined : (a b : call.Header Style) → a.number ≡ b.number → a.reference ≡ b.reference → a.half ≡ b.half
+        → a.style ≡ b.style → a ≡ b
     joined a b p q r s = λ i. record { number = p i; reference = q i; half = r i; style = s i }
 
 header_self : (f : Format) (a : call.Header Style) → call.same_header (decoding f) a a ≡ true
 unfolding call.same_header
 header_self f a =
-    and_from _ _ (eq-eqb a.number a.number refl) (and_from _ _ (reference_self a.reference) (and_from _ _ (eq-eqb a.half a.half refl) (style_self a.style)))
+    and_from _ _ (eq-eqb a.number a.number refl) (and_from _ _ (reference_self a.reference)
+        (and_from _ _ (eq-eqb a.half a.half refl) (style_self a.style)))
 
 -- one of the slices that were taken of a picture
 pub record Member (taken : List Taken) (n : ℕ) : Type 0 where
@@ -54,7 +56,8 @@ unfolding has_any
 member [] n e = absurd cc
 member (t ∷ ts) n e = at (eqb t.number n) refl e (member ts n)
   where
-    at : (b : Bool) → eqb t.number n ≡ b → (b || has_any ts n) ≡ true → (has_any ts n ≡ true → Member ts n) → Member (t ∷ ts) n
+    at : (b : Bool) → eqb t.number n ≡ b → (b || has_any ts n) ≡ true → (has_any ts n ≡ true → Member ts n)
+        → Member (t ∷ ts) n
     at true same e more = record { one = t; in_list = inl refl; number = eqb-true _ _ same }
     at false same e more = let m = more e in record { one = m.one; in_list = inr m.in_list; number = m.number }
 
@@ -63,20 +66,25 @@ unfolding has_any
 absent [] n e t is same = elim is [ ]
 absent (u ∷ us) n e t is same = at (eqb u.number n) refl e is (λ none there. absent us n none t there same)
   where
-    at : (b : Bool) → eqb u.number n ≡ b → (b || has_any us n) ≡ false → (u ≡ t) ⊎ IsIn t us → (has_any us n ≡ false → IsIn t us → ⊥) → ⊥
+    at : (b : Bool) → eqb u.number n ≡ b → (b || has_any us n) ≡ false → (u ≡ t) ⊎ IsIn t us
+        → (has_any us n ≡ false → IsIn t us → ⊥) → ⊥
     at true same' e is more = absurd cc
-    at false other e (inl here) more = both (eqb u.number n) (eq-eqb _ _ (ap (λ (x : Taken). x.number) here ∙ same)) other
+    at false other e (inl here) more = both (eqb u.number n) (eq-eqb _ _ (ap (λ (x : Taken). x.number) here
+        ∙ same)) other
     at false other e (inr there) more = more e there
 
 module _ (f : Format) (whole : (h : Header) → header_from (header_of h) ≡ h) where
-  pub fits : (taken : List Taken) (n : ℕ) (h : Header) (o : Option Header) → IsKept taken n o → HasNoOther taken n h → fits_kept (decoding f) (option_map header_of o) (header_of h) ≡ true
+  pub fits : (taken : List Taken) (n : ℕ) (h : Header) (o : Option Header) → IsKept taken n o → HasNoOther taken n h
+      → fits_kept (decoding f) (option_map header_of o) (header_of h) ≡ true
   fits taken n h None kept none = refl
   fits taken n h (Some k) kept none =
       let m = member taken n kept.0 in
       let same : k ≡ h = sym (kept.1 m.one m.in_list m.number) ∙ none m.one m.in_list m.number in
-      subst (λ (x : Header). call.same_header (decoding f) (header_of x) (header_of h) ≡ true) (sym same) (header_self f (header_of h))
+      subst (λ (x : Header). call.same_header (decoding f) (header_of x) (header_of h) ≡ true) (sym same)
+          (header_self f (header_of h))
 
-  pub differs : (taken : List Taken) (n : ℕ) (h : Header) (o : Option Header) → IsKept taken n o → HasOther taken n h → fits_kept (decoding f) (option_map header_of o) (header_of h) ≡ false
+  pub differs : (taken : List Taken) (n : ℕ) (h : Header) (o : Option Header) → IsKept taken n o → HasOther taken n h
+      → fits_kept (decoding f) (option_map header_of o) (header_of h) ≡ false
   differs taken n h None kept (t, is, same, other) = absurd (absent taken n kept t is same)
   differs taken n h (Some k) kept (t, is, same, other) = false_from_ne_true _ (λ e.
       let equal : k ≡ h = sym (whole k) ∙ ap header_from (headers_are f (header_of k) (header_of h) e) ∙ whole h in
@@ -88,23 +96,27 @@ one_kept taken n None None p q = refl
 one_kept taken n None (Some k) p q = absurd (both _ q.0 p)
 one_kept taken n (Some h) None p q = absurd (both _ p.0 q)
 one_kept taken n (Some h) (Some k) p q =
-    let m = member taken n p.0 in ap (λ (x : Header). Some x) (sym (p.1 m.one m.in_list m.number) ∙ q.1 m.one m.in_list m.number)
+    let m = member taken n p.0 in ap (λ (x : Header). Some x) (sym (p.1 m.one m.in_list m.number)
+        ∙ q.1 m.one m.in_list m.number)
 
 -- a slice of another picture changes nothing
-pub kept_before : (t : Taken) (taken : List Taken) (m : ℕ) (o : Option Header) → (t.number ≡ m → ⊥) → IsKept (t ∷ taken) m o → IsKept taken m o
+pub kept_before : (t : Taken) (taken : List Taken) (m : ℕ) (o : Option Header) → (t.number ≡ m → ⊥)
+    → IsKept (t ∷ taken) m o → IsKept taken m o
 unfolding has_any
 kept_before t taken m None other is = rest (eqb t.number m) (has_any taken m) is
   where
     rest : (a b : Bool) → (a || b) ≡ false → b ≡ false
     rest true b e = absurd cc
     rest false b e = e
-kept_before t taken m (Some h) other is = (rest (ne_eqb t.number m other) is.0, λ u in-list same. is.1 u (inr in-list) same)
+kept_before t taken m (Some h) other is = (rest (ne_eqb t.number m other) is.0,
+    λ u in-list same. is.1 u (inr in-list) same)
   where
     rest : eqb t.number m ≡ false → (eqb t.number m || has_any taken m) ≡ true → has_any taken m ≡ true
     rest e got = subst (λ (b : Bool). (b || has_any taken m) ≡ true) e got
 
 -- a slice of the picture itself has its header
-pub kept_now : (t : Taken) (taken : List Taken) (n : ℕ) (o : Option Header) → t.number ≡ n → IsKept (t ∷ taken) n o → o ≡ Some t.piece.header
+pub kept_now : (t : Taken) (taken : List Taken) (n : ℕ) (o : Option Header) → t.number ≡ n → IsKept (t ∷ taken) n o
+    → o ≡ Some t.piece.header
 kept_now t taken n None same is = absurd (absent (t ∷ taken) n is t (inl refl) same)
 kept_now t taken n (Some h) same is = ap (λ (x : Header). Some x) (sym (is.1 t (inl refl) same))
 
@@ -123,6 +135,7 @@ unfolding has_any has_taken
 untaken [] n k none = refl
 untaken (t ∷ ts) n k none = at (eqb t.number n) (has_piece t.piece.head k) none (untaken ts n k)
   where
-    at : (a b : Bool) → (a || has_any ts n) ≡ false → (has_any ts n ≡ false → has_taken ts n k ≡ false) → ((a && b) || has_taken ts n k) ≡ false
+    at : (a b : Bool) → (a || has_any ts n) ≡ false → (has_any ts n ≡ false → has_taken ts n k ≡ false)
+        → ((a && b) || has_taken ts n k) ≡ false
     at true b e more = absurd cc
     at false b e more = more e

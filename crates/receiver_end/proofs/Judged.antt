@@ -28,64 +28,85 @@ use Rattle.receiver_end.proofs.Marked.{all_same}
 
 abbrev chosen : Bool → Bool → Bool → Bool → Kept → ℕ → call.Piece Style Mb → Heard Fault
 chosen fitting there every none r n p =
-    if not fitting then HeaderDiffers else if not there then MissingReference else if every then Repeat else if not none then Overlap else taking r n p
+    if not fitting then HeaderDiffers else if not there then MissingReference else if every then Repeat else if not
+        none then Overlap else taking r n p
 
-module _ (whole : (h : Header) → header_from (header_of h) ≡ h) (r : Kept) (n : ℕ) (piece : Piece) (p : call.Piece Style Mb) (ok : Fits r)
-    (low : r.played ≤ n) (high : n ≤ r.played + r.params.lead) (head : IsHeadOf r.params.format piece.head) (spells : Spells piece p) where
+module _ (whole : (h : Header) → header_from (header_of h) ≡ h) (r : Kept) (n : ℕ) (piece : Piece)
+    (p : call.Piece Style Mb) (ok : Fits r)
+    (low : r.played ≤ n) (high : n ≤ r.played + r.params.lead) (head : IsHeadOf r.params.format piece.head)
+        (spells : Spells piece p) where
   abbrev the_header : Bool
   the_header = fits_kept (decoding r.params.format) ((seen r).header n) p.header
 
   abbrev the_reference : Bool
   the_reference = reference_is_kept (decoding r.params.format) (rules_of r.params) (seen r) n p.header.reference
 
-  chain : (a b c d : Bool) → the_header ≡ a → the_reference ≡ b → all_in p.slice ((seen r).has n) ≡ c → none_in p.slice ((seen r).has n) ≡ d
+  chain : (a b c d : Bool) → the_header ≡ a → the_reference ≡ b → all_in p.slice ((seen r).has n) ≡ c
+      → none_in p.slice ((seen r).has n) ≡ d
       → judged (decoding r.params.format) (rules_of r.params) (seen r) n p ≡ chosen a b c d r n p
   unfolding judged
   chain a b c d e f g h = λ i. chosen (e i) (f i) (g i) (h i) r n p
 
   in_row : IsInRow r.collector n
-  in_row = record { low = omega (arith, low, ok.collects.begins); high = omega (arith, high, ok.collects.begins, ok.row) }
+  in_row = record { low = omega (arith, low, ok.collects.begins);
+      high = omega (arith, high, ok.collects.begins, ok.row) }
 
   marked : (k : ℕ) → k < mbs_of r.params.format → has_in r.collector n k ≡ kept.has_taken ok.taken n k
   marked k lt = ok.collects.marks n k in_row (subst (λ (f : Format). k < mbs_of f) (sym ok.collected) lt)
 
-  at : (i : ℕ) → i < piece.head.count → has_in r.collector n (p.slice.first + i) ≡ kept.has_taken ok.taken n (piece.head.first + i)
-  at i lt = ap (λ (k : ℕ). has_in r.collector n (k + i)) spells.first ∙ marked (piece.head.first + i) (omega (arith, lt, head.within))
+  at : (i : ℕ) → i < piece.head.count → has_in r.collector n (p.slice.first + i)
+      ≡ kept.has_taken ok.taken n (piece.head.first + i)
+  at i lt = ap (λ (k : ℕ). has_in r.collector n (k + i)) spells.first
+      ∙ marked (piece.head.first + i) (omega (arith, lt, head.within))
 
   every_is : all_in p.slice ((seen r).has n) ≡ kept.all_in piece.head (kept.has_taken ok.taken n)
-  every_is = ap (λ (k : ℕ). all_below k (λ i. has_in r.collector n (p.slice.first + i))) spells.count ∙ all_same piece.head.count _ _ at
+  every_is = ap (λ (k : ℕ). all_below k (λ i. has_in r.collector n (p.slice.first + i))) spells.count
+      ∙ all_same piece.head.count _ _ at
 
   none_is : none_in p.slice ((seen r).has n) ≡ kept.none_in piece.head (kept.has_taken ok.taken n)
-  none_is = ap (λ (k : ℕ). all_below k (λ i. not (has_in r.collector n (p.slice.first + i)))) spells.count ∙ all_same piece.head.count _ _ (λ i lt. ap not (at i lt))
+  none_is = ap (λ (k : ℕ). all_below k (λ i. not (has_in r.collector n (p.slice.first + i)))) spells.count
+      ∙ all_same piece.head.count _ _ (λ i lt. ap not (at i lt))
 
   header_fits : HasNoOther ok.taken n piece.header → the_header ≡ true
   header_fits none =
       ap (fits_kept (decoding r.params.format) ((seen r).header n)) spells.header
       ∙ fits r.params.format whole ok.taken n piece.header (header_in r.collector n) (ok.collects.headers n in_row) none
 
-  pub other_header : IsPlace ok.taken n piece places.HeaderDiffers → judged (decoding r.params.format) (rules_of r.params) (seen r) n p ≡ HeaderDiffers
+  pub other_header : IsPlace ok.taken n piece places.HeaderDiffers
+      → judged (decoding r.params.format) (rules_of r.params) (seen r) n p ≡ HeaderDiffers
   other_header is =
-      chain false _ _ _ (ap (fits_kept (decoding r.params.format) ((seen r).header n)) spells.header ∙ differs r.params.format whole ok.taken n piece.header (header_in r.collector n) (ok.collects.headers n in_row) is) refl refl refl
+      chain false _ _ _ (ap (fits_kept (decoding r.params.format) ((seen r).header n)) spells.header
+          ∙ differs r.params.format whole ok.taken n piece.header (header_in r.collector n)
+          (ok.collects.headers n in_row) is) refl refl refl
 
-  no_other : (place : Place) → IsPlace ok.taken n piece place → (place ≡ places.HeaderDiffers → ⊥) → HasNoOther ok.taken n piece.header
+  no_other : (place : Place) → IsPlace ok.taken n piece place → (place ≡ places.HeaderDiffers → ⊥)
+      → HasNoOther ok.taken n piece.header
   no_other places.HeaderDiffers is other = absurd (other refl)
   no_other places.Repeat is other = is.0
   no_other places.Overlap is other = is.0
   no_other places.Fresh is other = is.0
 
   named : reference_is_kept (decoding r.params.format) (rules_of r.params) (seen r) n piece.header.trp ≡ the_reference
-  named = ap (λ (h : call.Header Style). reference_is_kept (decoding r.params.format) (rules_of r.params) (seen r) n h.reference) (sym spells.header)
+  named = ap (λ (h : call.Header Style). reference_is_kept (decoding r.params.format) (rules_of r.params)
+      (seen r) n h.reference) (sym spells.header)
 
-  pub missing : (place : Place) → IsPlace ok.taken n piece place → (place ≡ places.HeaderDiffers → ⊥) → false ≡ reference_is_kept (decoding r.params.format) (rules_of r.params) (seen r) n piece.header.trp
+  pub missing : (place : Place) → IsPlace ok.taken n piece place → (place ≡ places.HeaderDiffers → ⊥)
+      → false ≡ reference_is_kept (decoding r.params.format) (rules_of r.params) (seen r) n piece.header.trp
       → judged (decoding r.params.format) (rules_of r.params) (seen r) n p ≡ MissingReference
-  missing place is other there = chain true false _ _ (header_fits (no_other place is other)) (sym (there ∙ named)) refl refl
+  missing place is other there = chain true false _ _ (header_fits (no_other place is other)) (sym (there ∙ named)) refl
+      refl
 
-  module _ (there : true ≡ reference_is_kept (decoding r.params.format) (rules_of r.params) (seen r) n piece.header.trp) where
-    pub repeats : IsPlace ok.taken n piece places.Repeat → judged (decoding r.params.format) (rules_of r.params) (seen r) n p ≡ Repeat
+  module _ (there : true ≡ reference_is_kept (decoding r.params.format) (rules_of r.params)
+      (seen r) n piece.header.trp) where
+    pub repeats : IsPlace ok.taken n piece places.Repeat
+        → judged (decoding r.params.format) (rules_of r.params) (seen r) n p ≡ Repeat
     repeats is = chain true true true _ (header_fits is.0) (sym (there ∙ named)) (every_is ∙ is.1) refl
 
-    pub overlaps : IsPlace ok.taken n piece places.Overlap → judged (decoding r.params.format) (rules_of r.params) (seen r) n p ≡ Overlap
-    overlaps is = chain true true false false (header_fits is.0) (sym (there ∙ named)) (every_is ∙ is.1) (none_is ∙ is.2)
+    pub overlaps : IsPlace ok.taken n piece places.Overlap
+        → judged (decoding r.params.format) (rules_of r.params) (seen r) n p ≡ Overlap
+    overlaps is = chain true true false false (header_fits is.0) (sym (there ∙ named)) (every_is ∙ is.1) (none_is
+        ∙ is.2)
 
-    pub is_fresh : IsPlace ok.taken n piece places.Fresh → judged (decoding r.params.format) (rules_of r.params) (seen r) n p ≡ taking r n p
+    pub is_fresh : IsPlace ok.taken n piece places.Fresh
+        → judged (decoding r.params.format) (rules_of r.params) (seen r) n p ≡ taking r n p
     is_fresh is = chain true true false true (header_fits is.0) (sym (there ∙ named)) (every_is ∙ is.1) (none_is ∙ is.2)

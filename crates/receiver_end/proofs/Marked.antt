@@ -8,13 +8,16 @@ use Rattle.packet_collector.specs.Taken.{Taken, has_taken, holds}
 pub all_same : (n : ℕ) (f g : ℕ → Bool) → ((k : ℕ) → k < n → f k ≡ g k) → all_below n f ≡ all_below n g
 all_same zero f g same = refl
 all_same (suc n) f g same =
-    ap (λ (b : Bool). b && all_below n f) (same n (omega arith)) ∙ ap (λ (b : Bool). g n && b) (all_same n f g (λ k lt. same k (omega (arith, lt))))
+    ap (λ (b : Bool). b && all_below n f) (same n (omega arith))
+        ∙ ap (λ (b : Bool). g n && b) (all_same n f g (λ k lt. same k (omega (arith, lt))))
 
 -- of a picture's slices one more was taken
-pub taken_more : (t : Taken) (taken : List Taken) (n k : ℕ) → t.number ≡ n → has_taken (t ∷ taken) n k ≡ (holds t.piece.head k || has_taken taken n k)
+pub taken_more : (t : Taken) (taken : List Taken) (n k : ℕ) → t.number ≡ n → has_taken (t ∷ taken) n k
+    ≡ (holds t.piece.head k || has_taken taken n k)
 unfolding has_taken
 taken_more t taken n k same = rw (eq-eqb t.number n same) refl
 
-pub taken_other : (t : Taken) (taken : List Taken) (n k : ℕ) → (t.number ≡ n → ⊥) → has_taken (t ∷ taken) n k ≡ has_taken taken n k
+pub taken_other : (t : Taken) (taken : List Taken) (n k : ℕ) → (t.number ≡ n → ⊥) → has_taken (t ∷ taken) n k
+    ≡ has_taken taken n k
 unfolding has_taken
 taken_other t taken n k other = rw (ne_eqb t.number n other) refl

@@ -44,7 +44,9 @@ high n k m d e h = omega (arith, e, h)
 
 -- ---- as the laws of a call see it
 
-module _ {Style Mb Picture Fault : Type 0} (decoding : Decoding Style Mb Picture Fault) (rules : Rules) (lawful : IsDecoding decoding rules) (new : NewReceiverStands decoding rules) (play : PlayStands decoding rules) where
+module _ {Style Mb Picture Fault : Type 0} (decoding : Decoding Style Mb Picture Fault) (rules : Rules)
+    (lawful : IsDecoding decoding rules) (new : NewReceiverStands decoding rules)
+    (play : PlayStands decoding rules) where
   -- one that has played n pictures, with all rows and slots empty
   abbrev alone : ℕ → Receiver Style Picture
   alone n = record {
@@ -63,7 +65,8 @@ module _ {Style Mb Picture Fault : Type 0} (decoding : Decoding Style Mb Picture
   shows n = lawful.pictures.picture_same _ _ (λ s inside. lawful.pictures.sample_is (λ (k : ℕ). 128) s inside)
 
   stood : (n : ℕ) → ReceiverStands decoding rules (alone n) (plays_alone n)
-  stood zero = new (alone zero) (record { played = refl; screen = refl; headers = λ n low. refl; has = λ n k low lt. refl; slots = λ rest lt. refl })
+  stood zero = new (alone zero) (record { played = refl; screen = refl; headers = λ n low. refl;
+      has = λ n k low lt. refl; slots = λ rest lt. refl })
   stood (suc n) =
       play (alone n) (alone (suc n)) (plays_alone n) (stood n)
       (record {
@@ -85,8 +88,11 @@ module _ {Style Mb Picture Fault : Type 0} (decoding : Decoding Style Mb Picture
       record {
         played = played ∙ a.played;
         screen = screen ∙ a.screen;
-        headers = λ m inside h. a.headers m inside h ∙ ap (λ (o : Option (Header Style)). fits_kept decoding o h) (sym (headers m (low n _ m a.played inside.0) (high n _ m rules.lead a.played inside.1)));
-        taken = λ m k inside lt. has m k (low n _ m a.played inside.0) (high n _ m rules.lead a.played inside.1) lt ∙ a.taken m k inside lt;
+        headers = λ m inside h. a.headers m inside h
+            ∙ ap (λ (o : Option (Header Style)). fits_kept decoding o h)
+            (sym (headers m (low n _ m a.played inside.0) (high n _ m rules.lead a.played inside.1)));
+        taken = λ m k inside lt. has m k (low n _ m a.played inside.0) (high n _ m rules.lead a.played inside.1) lt
+            ∙ a.taken m k inside lt;
         work = λ m s inside lt is. absurd (false≢true (a.taken m (decoding.pictures.owner s) inside lt ∙ is));
         slots = λ rest lt. slots rest lt ∙ a.slots rest lt;
         pictures = λ rest m lt is. absurd (apart m (a.slots rest lt ∙ is));
@@ -97,39 +103,49 @@ module _ {Style Mb Picture Fault : Type 0} (decoding : Decoding Style Mb Picture
 
 -- ---- what is kept
 
-module _ (p : Params) (old : Pictures) (slots : slots_of old ≡ p.slots) (many : length old.pictures ≡ p.slots + (p.lead + 2)) where
+module _ (p : Params) (old : Pictures) (slots : slots_of old ≡ p.slots) (many : length old.pictures
+    ≡ p.slots + (p.lead + 2)) where
   works_are : works_of old ≡ p.lead + 2
   works_are = omega (arith, slots, many)
 
   -- a receiver's store that keeps no picture any more is one as at its start
-  pub emptied : (new : Pictures) → old.format ≡ p.format → IsEmpty old.format (slots_of old) (works_of old) new → IsEmpty p.format p.slots (p.lead + 2) new
+  pub emptied : (new : Pictures) → old.format ≡ p.format → IsEmpty old.format (slots_of old) (works_of old) new
+      → IsEmpty p.format p.slots (p.lead + 2) new
   emptied new format empty =
       subst (λ (f : Format). IsEmpty f p.slots (p.lead + 2) new) format
       (subst (λ (n : ℕ). IsEmpty old.format n (p.lead + 2) new) slots
       (subst (λ (w : ℕ). IsEmpty old.format (slots_of old) w new) works_are empty))
 
 -- the work picture on the screen is one of such a store
-pub last_inside : (p : Params) (n : ℕ) (s : Pictures) → IsEmpty p.format p.slots (p.lead + 2) s → last_work p n < works_of s
+pub last_inside : (p : Params) (n : ℕ) (s : Pictures) → IsEmpty p.format p.slots (p.lead + 2) s
+    → last_work p n < works_of s
 last_inside p n s empty =
-    let slots : length s.numbers ≡ p.slots = ap (λ (l : List (Option ℕ)). length l) empty.numbers ∙ length-replicate p.slots None in
+    let slots : length s.numbers ≡ p.slots = ap (λ (l : List (Option ℕ)). length l) empty.numbers
+        ∙ length-replicate p.slots None in
     let below : last_work p n < p.lead + 2 = mod-lt (n + p.lead + 1) (omega arith) in
     omega (arith, below, slots, empty.pictures)
 
-module _ (p : Params) (is : IsParams p) (n : ℕ) (c : Collector) (s t : Pictures) (empty : IsEmpty p.format p.slots (p.lead + 2) s) (same : IsSameBut s t (last_work p n))
+module _ (p : Params) (is : IsParams p) (n : ℕ) (c : Collector) (s t : Pictures)
+    (empty : IsEmpty p.format p.slots (p.lead + 2) s) (same : IsSameBut s t (last_work p n))
     (collects : Collects c n []) (many : row_of c ≡ p.lead + 1) (format : format_of c ≡ p.format) where
   abbrev new_at : Kept
   new_at = record { params = p; played = n; exact = false; collector = c; store = t }
 
   row : (m : ℕ) → n ≤ m → m ≤ n + p.lead → IsInRow c m
-  row m low high = record { low = omega (arith, low, collects.begins); high = omega (arith, high, collects.begins, many) }
+  row m low high = record { low = omega (arith, low, collects.begins);
+      high = omega (arith, high, collects.begins, many) }
 
-  pub is_alone : IsDecoding (decoding p.format) (rules_of p) → NewReceiverStands (decoding p.format) (rules_of p) → PlayStands (decoding p.format) (rules_of p)
+  pub is_alone : IsDecoding (decoding p.format) (rules_of p) → NewReceiverStands (decoding p.format) (rules_of p)
+      → PlayStands (decoding p.format) (rules_of p)
       → work_in t (last_work p n) ≡ picture_by p.format (λ s. 128) → Stands new_at (plays_alone n)
   is_alone lawful law_new law_play grey_there =
       stands_alone (decoding p.format) (rules_of p) lawful law_new law_play n (seen new_at) refl grey_there
-      (λ m low high. ap (option_map header_of) (kept_none [] m (header_in c m) (nothing m) (collects.headers m (row m low high))))
-      (λ m k low high lt. collects.marks m k (row m low high) (subst (λ (f : Format). k < mbs_of f) (sym format) lt) ∙ untaken [] m k (nothing m))
-      (λ rest lt. ap (λ (l : List (Option ℕ)). get_or l rest None) (same.numbers ∙ empty.numbers) ∙ none_in p.slots rest)
+      (λ m low high. ap (option_map header_of) (kept_none [] m (header_in c m) (nothing m)
+          (collects.headers m (row m low high))))
+      (λ m k low high lt. collects.marks m k (row m low high) (subst (λ (f : Format). k < mbs_of f) (sym format) lt)
+          ∙ untaken [] m k (nothing m))
+      (λ rest lt. ap (λ (l : List (Option ℕ)). get_or l rest None) (same.numbers ∙ empty.numbers)
+          ∙ none_in p.slots rest)
 
   pub fits_alone : n ≤ 2 ^ 20 → Fits new_at
   fits_alone few = record {

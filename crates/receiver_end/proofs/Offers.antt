@@ -8,9 +8,11 @@ use Rattle.receiver_end.specs.declared.kept.Kept.{Kept}
 use Rattle.receiver_end.specs.Decoding.{decoding}
 use Rattle.receiver_end.specs.State.{holds, seen}
 
-pub offers : GreatestIs → (r : Kept) (m : ℕ) → holds r.params r.store m ≡ true → r.played < m + r.params.slots → m < r.played + r.params.lead + 1
+pub offers : GreatestIs → (r : Kept) (m : ℕ) → holds r.params r.store m ≡ true → r.played < m + r.params.slots
+    → m < r.played + r.params.lead + 1
     → ((k : ℕ) → m < k → k < r.played + r.params.lead + 1 → holds r.params r.store k ≡ false)
     → Some m ≡ offer_by_kept (decoding r.params.format) (rules_of r.params) (seen r)
 offers greatest r m held near below above =
-    sym ((greatest (λ k. holds r.params r.store k && ltb r.played (k + r.params.slots)) (r.played + r.params.lead + 1) m).1
+    sym ((greatest (λ k. holds r.params r.store k && ltb r.played (k + r.params.slots)) (r.played + r.params.lead + 1)
+        m).1
     (and_from _ _ held (lt-ltb r.played (m + r.params.slots) near), below, λ k more lt. and_left _ _ (above k more lt)))

@@ -26,7 +26,8 @@ same_reference_self : (o : Option ℕ) → same_reference o o ≡ true
 same_reference_self None = refl
 same_reference_self (Some m) = eq-eqb m m refl
 
-module _ {Style Mb Picture Fault : Type 0} (codec : Decoding Style Mb Picture Fault) (rules : Rules) (lawful : IsDecoding codec rules) where
+module _ {Style Mb Picture Fault : Type 0} (codec : Decoding Style Mb Picture Fault) (rules : Rules)
+    (lawful : IsDecoding codec rules) where
   same_header_self : (h : Header Style) → same_header codec h h ≡ true
   unfolding same_header
   same_header_self h =
@@ -58,44 +59,57 @@ module _ {Style Mb Picture Fault : Type 0} (codec : Decoding Style Mb Picture Fa
   fits_first (t ∷ ts) n first h is fits = go (eqb t.number n) is fits (fits_first ts n first h)
     where
       go : (b : Bool) → (if b then Some t.piece.header else header_taken ts n) ≡ Some first
-          → ((not b || same_header codec t.piece.header h) && list_all (λ x. not (eqb x.number n) || same_header codec x.piece.header h) ts) ≡ true
-          → (header_taken ts n ≡ Some first → list_all (λ x. not (eqb x.number n) || same_header codec x.piece.header h) ts ≡ true → same_header codec first h ≡ true)
+          → ((not b || same_header codec t.piece.header h) && list_all
+              (λ x. not (eqb x.number n) || same_header codec x.piece.header h) ts) ≡ true
+          → (header_taken ts n ≡ Some first
+              → list_all (λ x. not (eqb x.number n) || same_header codec x.piece.header h) ts ≡ true
+              → same_header codec first h ≡ true)
           → same_header codec first h ≡ true
       go true here fits rest =
           let e : t.piece.header ≡ first = cc in
-          subst (λ (g : Header Style). same_header codec g h ≡ true) e (and_parts (same_header codec t.piece.header h) _ fits).0
+          subst (λ (g : Header Style). same_header codec g h ≡ true) e (and_parts (same_header codec t.piece.header h)
+              _ fits).0
       go false there fits rest = rest there fits
 
   -- where nothing was taken of a picture any header fits
-  fits_nothing : (ts : List (TakenSlice Style Mb)) (n : ℕ) (h : Header Style) → header_taken ts n ≡ None → header_fits codec rules ts n h ≡ true
+  fits_nothing : (ts : List (TakenSlice Style Mb)) (n : ℕ) (h : Header Style) → header_taken ts n ≡ None
+      → header_fits codec rules ts n h ≡ true
   unfolding header_fits
   fits_nothing [] n h is = refl
   fits_nothing (t ∷ ts) n h is = go (eqb t.number n) is (fits_nothing ts n h)
     where
       go : (b : Bool) → (if b then Some t.piece.header else header_taken ts n) ≡ None
-          → (header_taken ts n ≡ None → list_all (λ x. not (eqb x.number n) || same_header codec x.piece.header h) ts ≡ true)
-          → ((not b || same_header codec t.piece.header h) && list_all (λ x. not (eqb x.number n) || same_header codec x.piece.header h) ts) ≡ true
+          → (header_taken ts n ≡ None → list_all (λ x. not (eqb x.number n) || same_header codec x.piece.header h) ts
+              ≡ true)
+          → ((not b || same_header codec t.piece.header h) && list_all
+              (λ x. not (eqb x.number n) || same_header codec x.piece.header h) ts) ≡ true
       go true is rest = cc
       go false is rest = rest is
 
   -- a kept header, which fits as what was taken does, names the same reference
-  pub same_name : (ts : List (TakenSlice Style Mb)) (n : ℕ) (kept : Option (Header Style)) → ((h : Header Style) → header_fits codec rules ts n h ≡ fits_kept codec kept h)
-      → option_and_then (reference_in codec rules n) kept ≡ option_and_then (reference_in codec rules n) (header_taken ts n)
+  pub same_name : (ts : List (TakenSlice Style Mb)) (n : ℕ) (kept : Option (Header Style))
+      → ((h : Header Style) → header_fits codec rules ts n h ≡ fits_kept codec kept h)
+      → option_and_then (reference_in codec rules n) kept
+          ≡ option_and_then (reference_in codec rules n) (header_taken ts n)
   same_name ts n kept each = go kept (header_taken ts n) refl each
     where
-      go : (kept first : Option (Header Style)) → header_taken ts n ≡ first → ((h : Header Style) → header_fits codec rules ts n h ≡ fits_kept codec kept h)
+      go : (kept first : Option (Header Style)) → header_taken ts n ≡ first
+          → ((h : Header Style) → header_fits codec rules ts n h ≡ fits_kept codec kept h)
           → option_and_then (reference_in codec rules n) kept ≡ option_and_then (reference_in codec rules n) first
       go None None is each = refl
       go None (Some first) is each =
-          absurd (false≢true (sym (not_same first) ∙ fits_first ts n first (other_header first) is (each (other_header first))))
+          absurd (false≢true (sym (not_same first)
+              ∙ fits_first ts n first (other_header first) is (each (other_header first))))
       go (Some mine) None is each =
-          absurd (false≢true (sym (not_same mine) ∙ sym (each (other_header mine)) ∙ fits_nothing ts n (other_header mine) is))
+          absurd (false≢true (sym (not_same mine) ∙ sym (each (other_header mine))
+              ∙ fits_nothing ts n (other_header mine) is))
       go (Some mine) (Some first) is each =
           let same = fits_first ts n first mine is (each mine ∙ same_header_self mine) in
           ap (option_and_then (nearest_below rules n)) (sym (names_same first mine same))
 
 -- what is kept of the next picture names the reference that its run has
-pub reference_is : (r : Kept) (past : List ReceiverEntry) → IsDecoding (decoding r.params.format) (rules_of r.params) → Stands r past → reference_kept r ≡ reference_after r.params past
+pub reference_is : (r : Kept) (past : List ReceiverEntry) → IsDecoding (decoding r.params.format) (rules_of r.params)
+    → Stands r past → reference_kept r ≡ reference_after r.params past
 reference_is r past lawful stands =
     let run = run_of r.params past in
     let codec = decoding r.params.format in

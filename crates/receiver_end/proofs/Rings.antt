@@ -18,9 +18,12 @@ module _ (far : OneRestIsFar) where
   ]
 
   -- another number is kept, and an earlier one stays
-  pub kept_stays : (s t : Pictures) (n m : ℕ) → t.numbers ≡ set s.numbers (slot_of s n) (Some n) → m < n → n < m + slots_of s → IsKept s m → IsKept t m
+  pub kept_stays : (s t : Pictures) (n m : ℕ) → t.numbers ≡ set s.numbers (slot_of s n) (Some n) → m < n
+      → n < m + slots_of s → IsKept s m → IsKept t m
   kept_stays s t n m e less near kept =
       let xs = s.numbers in
       subst (λ (l : List (Option ℕ)). get_or l (m % length l) None ≡ Some m) (sym e)
-      (subst (λ (k : ℕ). get_or (set s.numbers (n % length s.numbers) (Some n)) (m % k) None ≡ Some m) (sym (length-set s.numbers (n % length s.numbers) (Some n)))
-      (get_or-set_other s.numbers (n % length s.numbers) (m % length s.numbers) (Some n) None (apart (length s.numbers) m n less near) ∙ kept))
+      (subst (λ (k : ℕ). get_or (set s.numbers (n % length s.numbers) (Some n)) (m % k) None
+          ≡ Some m) (sym (length-set s.numbers (n % length s.numbers) (Some n)))
+      (get_or-set_other s.numbers (n % length s.numbers) (m % length s.numbers) (Some n) None
+          (apart (length s.numbers) m n less near) ∙ kept))

@@ -6,7 +6,8 @@ use Rattle.call_model.specs.Receiving as runs
 use Rattle.receiver_end.specs.declared.answers.Heard.{Heard}
 use Rattle.receiver_end.specs.Answers.{IsHeard, IsMessage, said_by, said_in}
 
-pub answer_says : (clock : Clock) (h : Heard) (answer : runs.Heard Fault) → IsHeard clock h answer → IsMessage clock (said_in h) (said_by answer)
+pub answer_says : (clock : Clock) (h : Heard) (answer : runs.Heard Fault) → IsHeard clock h answer
+    → IsMessage clock (said_in h) (said_by answer)
 answer_says clock h (runs.Refused fault) is = ap said_in is
 answer_says clock h runs.OtherClock is = ap said_in is
 answer_says clock h runs.Late is = ap said_in is

@@ -18,12 +18,14 @@ use Rattle.receiver_end.specs.State.{holds, seen}
 
 module _ (r : Kept) (b : Bool) (held : holds r.params r.store r.played ≡ b) where
   abbrev the_mark : Bool → call.Mark
-  the_mark b = if b then call.Exact else if is_some (option_map header_of (header_in r.collector r.played)) then call.Patched else call.Held
+  the_mark b = if b then call.Exact else if is_some
+      (option_map header_of (header_in r.collector r.played)) then call.Patched else call.Held
 
   abbrev the_message : Bool → Option call.Message
   the_message b =
       if b then None
-      else Some (nack (rules_of r.params) r.played (offer_by_kept (decoding r.params.format) (rules_of r.params) (seen r)) (flags_of (call.Rules.flags (rules_of r.params)) (holds r.params r.store) r.played))
+      else Some (nack (rules_of r.params) r.played (offer_by_kept (decoding r.params.format) (rules_of r.params)
+          (seen r)) (flags_of (call.Rules.flags (rules_of r.params)) (holds r.params r.store) r.played))
 
   pub mark_is : mark_by_kept (decoding r.params.format) (rules_of r.params) (seen r) ≡ the_mark b
   unfolding mark_by_kept
@@ -33,6 +35,7 @@ module _ (r : Kept) (b : Bool) (held : holds r.params r.store r.played ≡ b) wh
   unfolding message_by_kept
   message_is = ap the_message held
 
-pub part_is : (o : Option Header) → (if is_some o then marks.Patched else marks.Held) ≡ mark_of (if is_some (option_map header_of o) then call.Patched else call.Held)
+pub part_is : (o : Option Header) → (if is_some o then marks.Patched else marks.Held)
+    ≡ mark_of (if is_some (option_map header_of o) then call.Patched else call.Held)
 part_is None = refl
 part_is (Some h) = refl

@@ -14,24 +14,32 @@ use Rattle.receiver_end.specs.Steps.{IsSameBut, SetsSlice, Patches}
 abbrev with_bytes : Pictures → ℕ → List ℕ → Pictures
 with_bytes s w bytes = record s { pictures = set s.pictures (slots_of s + w) (picture_of s.format bytes) }
 
-written : (s : Pictures) (w : ℕ) (bytes : List ℕ) → length bytes ≡ size_of_picture s.format → with_work s w bytes ≡ with_bytes s w bytes
+written : (s : Pictures) (w : ℕ) (bytes : List ℕ) → length bytes ≡ size_of_picture s.format
+    → with_work s w bytes ≡ with_bytes s w bytes
 written s w bytes long = rw (eq-eqb (length bytes) (size_of_picture s.format) long) refl
 
-pub same_but : (s : Pictures) (w : ℕ) (bytes : List ℕ) → length bytes ≡ size_of_picture s.format → IsSameBut s (with_work s w bytes) w
+pub same_but : (s : Pictures) (w : ℕ) (bytes : List ℕ) → length bytes ≡ size_of_picture s.format
+    → IsSameBut s (with_work s w bytes) w
 same_but s w bytes long = subst (λ (t : Pictures). IsSameBut s t w) (sym (written s w bytes long)) (record {
   format = refl;
   numbers = refl;
   many = length-set s.pictures (slots_of s + w) (picture_of s.format bytes);
   room = refl;
-  others = λ k other. get_or-set_other s.pictures (slots_of s + w) k (picture_of s.format bytes) (picture_of s.format []) other;
+  others = λ k other. get_or-set_other s.pictures (slots_of s + w) k (picture_of s.format bytes)
+      (picture_of s.format []) other;
 })
 
-pub work_is : (s : Pictures) (w : ℕ) (bytes : List ℕ) → w < works_of s → length bytes ≡ size_of_picture s.format → work_in (with_work s w bytes) w ≡ picture_of s.format bytes
-work_is s w bytes inside long = ap (λ (t : Pictures). work_in t w) (written s w bytes long) ∙ get_or-set_same s.pictures (slots_of s + w) (picture_of s.format bytes) (picture_of s.format []) (omega (arith, inside))
+pub work_is : (s : Pictures) (w : ℕ) (bytes : List ℕ) → w < works_of s → length bytes ≡ size_of_picture s.format
+    → work_in (with_work s w bytes) w ≡ picture_of s.format bytes
+work_is s w bytes inside long = ap (λ (t : Pictures). work_in t w) (written s w bytes long)
+    ∙ get_or-set_same s.pictures (slots_of s + w) (picture_of s.format bytes) (picture_of s.format [])
+    (omega (arith, inside))
 
-module _ (f : Format) (s : Pictures) (bytes : List ℕ) (w : ℕ) (same : f ≡ s.format) (inside : w < works_of s) (long : length bytes ≡ size_of_picture f) where
+module _ (f : Format) (s : Pictures) (bytes : List ℕ) (w : ℕ) (same : f ≡ s.format) (inside : w < works_of s)
+    (long : length bytes ≡ size_of_picture f) where
   pub new_is : picture_of f bytes ≡ work_in (with_work s w bytes) w
-  new_is = ap (λ (k : Format). picture_of k bytes) same ∙ sym (work_is s w bytes inside (long ∙ ap size_of_picture same))
+  new_is = ap (λ (k : Format). picture_of k bytes) same
+      ∙ sym (work_is s w bytes inside (long ∙ ap size_of_picture same))
 
   -- a slice drawn into the bytes that a work picture is given is drawn into that picture
   pub sets_kept : (mbs : List Mb) (piece : Piece) (reference kept : Option Picture) (before : List ℕ)
@@ -45,7 +53,8 @@ module _ (f : Format) (s : Pictures) (bytes : List ℕ) (w : ℕ) (same : f ≡ 
       (subst (λ (r : Option Picture). SetsSlice f mbs piece r (picture_of f before) (picture_of f bytes)) seen sets))
 
   -- a patch of the bytes that a work picture is given is a patch of that picture
-  pub patched_kept : (test : ℕ → Bool) (screen before : List ℕ) (q : Picture) → picture_of s.format screen ≡ q → picture_of s.format before ≡ work_in s w
+  pub patched_kept : (test : ℕ → Bool) (screen before : List ℕ) (q : Picture) → picture_of s.format screen ≡ q
+      → picture_of s.format before ≡ work_in s w
       → Patches f test (picture_of f screen) (picture_of f before) (picture_of f bytes)
       → Patches f test q (work_in s w) (work_in (with_work s w bytes) w)
   patched_kept test screen before q seen old patches =

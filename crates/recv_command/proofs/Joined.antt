@@ -12,7 +12,8 @@ use Rattle.payload_join.specs.Run.{given_next, joined_by}
 use Rattle.recv_command.specs.Join.{Delivering, JoinState, given_to, delivers_next, delivers_one, joined_state, packets_in, through}
 
 pub reversed : (x : ReceiverEntry) (xs ys : List ReceiverEntry) → reverse xs ++ (x ∷ ys) ≡ reverse (x ∷ xs) ++ ys
-reversed x xs ys = sym (ap (λ (l : List ReceiverEntry). l ++ ys) (reverse-append (x ∷ []) xs) ∙ append_assoc (reverse xs) (x ∷ []) ys)
+reversed x xs ys = sym (ap (λ (l : List ReceiverEntry). l ++ ys) (reverse-append (x ∷ []) xs)
+    ∙ append_assoc (reverse xs) (x ∷ []) ys)
 
 -- the parameters stay
 pub params_stay : (packets : List (List ℕ)) (h : Delivering) → (delivers_next h packets).state.params ≡ h.state.params
@@ -20,7 +21,8 @@ params_stay [] h = refl
 params_stay (bytes ∷ packets) h = params_stay packets (delivers_one h bytes)
 
 -- each packet joins the entries so far
-pub entries_are : (packets : List (List ℕ)) (h : Delivering) → (delivers_next h packets).state.past ≡ reverse (map Packet packets) ++ h.state.past
+pub entries_are : (packets : List (List ℕ)) (h : Delivering) → (delivers_next h packets).state.past
+    ≡ reverse (map Packet packets) ++ h.state.past
 entries_are [] h = refl
 entries_are (bytes ∷ packets) h =
     entries_are packets (delivers_one h bytes) ∙ reversed (Packet bytes) (map Packet packets) h.state.past
@@ -33,7 +35,8 @@ params_are : (p : Params) (past : List ReceiverEntry) → (joined_state p past).
 unfolding joined_state
 params_are p [] = refl
 params_are p (PlayNext ∷ past) = params_are p past
-params_are p (Packet bytes ∷ past) = params_stay (given_to (joined_state p past) bytes) (begun (joined_state p past)) ∙ params_are p past
+params_are p (Packet bytes ∷ past) = params_stay (given_to (joined_state p past) bytes) (begun (joined_state p past))
+    ∙ params_are p past
 
 packets_are : (p : Params) (past : List ReceiverEntry) → (joined_state p past).packets ≡ packets_in past
 unfolding joined_state packets_in
@@ -46,13 +49,16 @@ unfolding joined_state through
 past_is p [] = refl
 past_is p (PlayNext ∷ past) = ap (λ (l : List ReceiverEntry). PlayNext ∷ l) (past_is p past)
 past_is p (Packet bytes ∷ past) =
-    let given : given_next (joined_state p past).receiver.params.format (joined_state p past).packets bytes ≡ given_next p.format (packets_in past) bytes =
+    let given : given_next (joined_state p past).receiver.params.format (joined_state p past).packets bytes
+        ≡ given_next p.format (packets_in past) bytes =
     λ i. given_next (params_are p past i).format (packets_are p past i) bytes in
-    entries_are (given_to (joined_state p past) bytes) (begun (joined_state p past)) ∙ (λ i. reverse (map Packet (given i)) ++ past_is p past i)
+    entries_are (given_to (joined_state p past) bytes) (begun (joined_state p past))
+        ∙ (λ i. reverse (map Packet (given i)) ++ past_is p past i)
 
 -- ---- the joiner, after what was left is given
 
-pub stands_after : (a b : Joining) (past : List (List ℕ)) → a.top ≡ b.top → a.packets ≡ b.packets → Stands b past → Stands a past
+pub stands_after : (a b : Joining) (past : List (List ℕ)) → a.top ≡ b.top → a.packets ≡ b.packets → Stands b past
+    → Stands a past
 stands_after a b past tops packets stands =
     subst (λ (o : Option ℕ). Shows o a.packets (joined_by past)) (sym tops)
     (subst (λ (l : List (Option joins.Packet)). Shows b.top l (joined_by past)) (sym packets) stands)

@@ -19,7 +19,8 @@ use Rattle.recv_command.specs.Tally.{with_answer, with_heard}
 
 -- ---- answers
 
-pub heard_count : (clock : Clock) (h : Heard) (answer : runs.Heard Fault) (t : Tally) → IsHeard clock h answer → with_heard h t ≡ with_answer answer t
+pub heard_count : (clock : Clock) (h : Heard) (answer : runs.Heard Fault) (t : Tally) → IsHeard clock h answer
+    → with_heard h t ≡ with_answer answer t
 heard_count clock h (runs.Refused fault) t is = ap (λ (x : Heard). with_heard x t) is
 heard_count clock h runs.OtherClock t is = ap (λ (x : Heard). with_heard x t) is
 heard_count clock h runs.Late t is = ap (λ (x : Heard). with_heard x t) is
@@ -42,9 +43,11 @@ SaysBytes =
 some_is : (a b : Said) (o : Option Said) → o ≡ Some a → o ≡ Some b → a ≡ b
 some_is a b o p q = cc (p, q)
 
-pub said_text : SaysBytes → (clock : Clock) (o : Option Said) (said : Said) (message : Option Message) → o ≡ Some said → AreBytes (text_of said)
+pub said_text : SaysBytes → (clock : Clock) (o : Option Said) (said : Said) (message : Option Message) → o ≡ Some said
+    → AreBytes (text_of said)
     → IsMessage clock o message → on Wire (entry_text 66 (text_of said)) ≡ back_text message
 said_text law clock o said None is fit none = absurd (cc (none, is))
 said_text law clock o said (Some message) is fit m =
     let same : m.0 ≡ said = some_is m.0 said o m.1 is in
-    ap (λ (bytes : List ℕ). on Wire (entry_text 66 bytes)) (law clock said message fit (subst (λ (x : Said). IsSaid clock x message) same m.2))
+    ap (λ (bytes : List ℕ). on Wire (entry_text 66 bytes))
+        (law clock said message fit (subst (λ (x : Said). IsSaid clock x message) same m.2))

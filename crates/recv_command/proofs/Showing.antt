@@ -18,24 +18,31 @@ on_err (Ok x) p = tt
 on_err (Err e) p = p
 
 module _ (laws : TurnLaws) (number : ℕ) (mark : Mark) (picture : Picture) (message : Option Message) where
-  pub cut_picture : (old a : Role → Option (List ℕ)) → GainsFronts (on Pictures (frame_text mark picture)) old a → GainsFronts (shown_text number mark picture message) old a
+  pub cut_picture : (old a : Role → Option (List ℕ)) → GainsFronts (on Pictures (frame_text mark picture)) old a
+      → GainsFronts (shown_text number mark picture message) old a
   cut_picture old a p =
-      laws.front_of_first (on Pictures (frame_text mark picture)) (then_also (on Report (picture_text number (Some mark) None None)) (back_text message)) old a p
+      laws.front_of_first (on Pictures (frame_text mark picture))
+          (then_also (on Report (picture_text number (Some mark) None None)) (back_text message)) old a p
 
-  module _ (old a b : Role → Option (List ℕ)) (shown : Gains (on Pictures (frame_text mark picture)) old a) (text : List ℕ) (is : text ≡ picture_text number (Some mark) None None) where
+  module _ (old a b : Role → Option (List ℕ)) (shown : Gains (on Pictures (frame_text mark picture)) old a)
+      (text : List ℕ) (is : text ≡ picture_text number (Some mark) None None) where
     pub cut_line : GainsFronts (on Report text) a b → GainsFronts (shown_text number mark picture message) old b
     cut_line p =
-        laws.front_of_second (on Pictures (frame_text mark picture)) (then_also (on Report (picture_text number (Some mark) None None)) (back_text message)) old a b shown
+        laws.front_of_second (on Pictures (frame_text mark picture))
+            (then_also (on Report (picture_text number (Some mark) None None)) (back_text message)) old a b shown
         (laws.front_of_first (on Report (picture_text number (Some mark) None None)) (back_text message) a b
         (subst (λ (l : List ℕ). GainsFronts (on Report l) a b) is p))
 
-    pub cut_message : (c : Role → Option (List ℕ)) → Gains (on Report text) a b → GainsFronts (back_text message) b c → GainsFronts (shown_text number mark picture message) old c
+    pub cut_message : (c : Role → Option (List ℕ)) → Gains (on Report text) a b → GainsFronts (back_text message) b c
+        → GainsFronts (shown_text number mark picture message) old c
     cut_message c p q =
-        laws.front_of_second (on Pictures (frame_text mark picture)) (then_also (on Report (picture_text number (Some mark) None None)) (back_text message)) old a c shown
+        laws.front_of_second (on Pictures (frame_text mark picture))
+            (then_also (on Report (picture_text number (Some mark) None None)) (back_text message)) old a c shown
         (laws.front_of_second (on Report (picture_text number (Some mark) None None)) (back_text message) a b c
         (subst (λ (l : List ℕ). Gains (on Report l) a b) is p) q)
 
 -- the text of equal parts
-pub shown_same : {number number' : ℕ} {mark mark' : Mark} {picture picture' : Picture} (message : Option Message) → number ≡ number' → mark ≡ mark' → picture ≡ picture'
+pub shown_same : {number number' : ℕ} {mark mark' : Mark} {picture picture' : Picture} (message : Option Message)
+    → number ≡ number' → mark ≡ mark' → picture ≡ picture'
     → shown_text number mark picture message ≡ shown_text number' mark' picture' message
 shown_same message numbers marks pictures = λ i. shown_text (numbers i) (marks i) (pictures i) message

@@ -31,35 +31,46 @@ long_row bytes lt = rw (lt-ltb 65535 (length bytes) lt) refl
 short_row : (bytes : List ℕ) → length bytes < 12 → rtp_in bytes ≡ Err (stands faults.Short (8 * length bytes))
 short_row bytes lt = few_is bytes (omega arith) ∙ at_head (reading head (from_byte 0 bytes)) refl
   where
-    at_head : (r : Result (Head × Bits) Fault) → reading head (from_byte 0 bytes) ≡ r → with_head bytes r ≡ Err (stands faults.Short (8 * length bytes))
+    at_head : (r : Result (Head × Bits) Fault) → reading head (from_byte 0 bytes) ≡ r
+        → with_head bytes r ≡ Err (stands faults.Short (8 * length bytes))
     at_head (Err e) is = refl
     at_head (Ok x) is =
         let t = sound head (from_byte 0 bytes) x.1 x.0 is in
-        absurd (omega (arith, head_length x.0 t.0 t.2, ap length t.1.parts, length-append t.0 x.1.bits, length-bits_of bytes))
+        absurd (omega (arith, head_length x.0 t.0 t.2, ap length t.1.parts, length-append t.0 x.1.bits,
+            length-bits_of bytes))
 
 -- the bits after the fixed header
 abbrev after : List Bool → Bits
 after left = record { at = 96; bits = left }
 
-begun : (bytes : List ℕ) (h : Head) (left : List Bool) → Begins bytes h left → reading head (from_byte 0 bytes) ≡ Ok (h, after left)
+begun : (bytes : List ℕ) (h : Head) (left : List Bool) → Begins bytes h left → reading head (from_byte 0 bytes)
+    ≡ Ok (h, after left)
 begun bytes h left b =
-    ap (λ (t : List Bool). reading head (record { at = 0; bits = t })) b.parts ∙ complete head h b.fixed left 0 head_productive b.text
+    ap (λ (t : List Bool). reading head (record { at = 0; bits = t })) b.parts
+        ∙ complete head h b.fixed left 0 head_productive b.text
     ∙ ap (λ (n : ℕ). Ok (h, record { at = n; bits = left })) (omega (arith, head_length h b.fixed b.text))
 
-version_row : (bytes : List ℕ) (h : Head) (left : List Bool) → Begins bytes h left → (h.version ≡ 2 → ⊥) → rtp_in bytes ≡ Err (stands faults.Version 0)
-version_row bytes h left b other = few_is bytes b.few ∙ ap (with_head bytes) (begun bytes h left b) ∙ rw (ne_eqb h.version 2 other) refl
+version_row : (bytes : List ℕ) (h : Head) (left : List Bool) → Begins bytes h left → (h.version ≡ 2 → ⊥)
+    → rtp_in bytes ≡ Err (stands faults.Version 0)
+version_row bytes h left b other = few_is bytes b.few ∙ ap (with_head bytes) (begun bytes h left b)
+    ∙ rw (ne_eqb h.version 2 other) refl
 
-versioned : (bytes : List ℕ) (h : Head) (left : List Bool) → Begins bytes h left → h.version ≡ 2 → rtp_in bytes ≡ with_end bytes h (end_of (reading (after_fixed h) (after left)))
-versioned bytes h left b two = few_is bytes b.few ∙ ap (with_head bytes) (begun bytes h left b) ∙ rw (eq-eqb h.version 2 two) refl
+versioned : (bytes : List ℕ) (h : Head) (left : List Bool) → Begins bytes h left → h.version ≡ 2
+    → rtp_in bytes ≡ with_end bytes h (end_of (reading (after_fixed h) (after left)))
+versioned bytes h left b two = few_is bytes b.few ∙ ap (with_head bytes) (begun bytes h left b)
+    ∙ rw (eq-eqb h.version 2 two) refl
 
 -- the first bits as a field
-first_field : (n : ℕ) (left : List Bool) → n ≤ length left → (v : ℕ) × (rest : List Bool) × (v < 2 ^ n) × (left ≡ spelled n v ++ rest)
+first_field : (n : ℕ) (left : List Bool) → n ≤ length left → (v : ℕ) × (rest : List Bool) × (v < 2 ^ n)
+    × (left ≡ spelled n v ++ rest)
 first_field n left fits =
     let front = take n left in
     let len : length front ≡ n = omega (arith, length-take n left, fits) in
     let small : number front < 2 ^ n = subst (λ (k : ℕ). number front < 2 ^ k) len (number-lt front) in
-    let text : spelled n (number front) ≡ front = subst (λ (k : ℕ). spelled k (number front) ≡ front) len (spelled-number front) in
-    (number front, drop n left, small, sym (take-append-drop n left) ∙ ap (λ (t : List Bool). t ++ drop n left) (sym text))
+    let text : spelled n (number front) ≡ front = subst (λ (k : ℕ). spelled k (number front) ≡ front) len
+        (spelled-number front) in
+    (number front, drop n left, small, sym (take-append-drop n left)
+        ∙ ap (λ (t : List Bool). t ++ drop n left) (sym text))
 
 -- a list of bits in which a syntax is cut
 abbrev IsCutIn : {A : Type 0} → Syntax A → List Bool → Type 0
@@ -73,12 +84,16 @@ cut_extension left (inl lt) =
       | inl few ↦ ([], left, refl, inl (refl, inl (few, refl)))
       | inr enough ↦
           let f = first_field 16 left enough in
-          let len : length left ≡ 16 + length f.1 = ap length f.3 ∙ length-append (spelled 16 f.0) f.1 ∙ ap (λ (n : ℕ). n + length f.1) (length-spelled 16 f.0) in
-          let parts : left ≡ (spelled 16 f.0 ++ []) ++ f.1 = f.3 ∙ ap (λ (t : List Bool). t ++ f.1) (sym (append-nil (spelled 16 f.0))) in
-          (spelled 16 f.0 ++ [], f.1, parts, inr (f.0, [], f.2, refl, refl, inl (refl, inl (omega (arith, len, lt), refl))))
+          let len : length left ≡ 16 + length f.1 = ap length f.3 ∙ length-append (spelled 16 f.0) f.1
+              ∙ ap (λ (n : ℕ). n + length f.1) (length-spelled 16 f.0) in
+          let parts : left ≡ (spelled 16 f.0 ++ []) ++ f.1 = f.3
+              ∙ ap (λ (t : List Bool). t ++ f.1) (sym (append-nil (spelled 16 f.0))) in
+          (spelled 16 f.0 ++ [], f.1, parts,
+              inr (f.0, [], f.2, refl, refl, inl (refl, inl (omega (arith, len, lt), refl))))
     ]
 cut_extension left (inr e) =
-    (fields ((16, e.0) ∷ (16, e.1) ∷ []), e.2, e.5, inr (e.0, fields ((16, e.1) ∷ []), e.3, refl, refl, inr (e.1, [], e.4, refl, refl, inl (refl, inl (omega (arith, e.6), refl)))))
+    (fields ((16, e.0) ∷ (16, e.1) ∷ []), e.2, e.5, inr (e.0, fields ((16, e.1) ∷ []), e.3, refl, refl,
+        inr (e.1, [], e.4, refl, refl, inl (refl, inl (omega (arith, e.6), refl)))))
 
 cut_after : (h : Head) (left : List Bool) → EndsInside h left → IsCutIn (after_fixed h) left
 unfolding after_fixed Faults
@@ -88,50 +103,68 @@ cut_after h left (inr e) =
     let c = cut_extension e.2 e.5 in
     let len : length e.1 ≡ n = omega (arith, e.3) in
     let small : number e.1 < 2 ^ n = subst (λ (k : ℕ). number e.1 < 2 ^ k) len (number-lt e.1) in
-    let text : spelled n (number e.1) ≡ e.1 = subst (λ (k : ℕ). spelled k (number e.1) ≡ e.1) len (spelled-number e.1) in
+    let text : spelled n (number e.1) ≡ e.1 = subst (λ (k : ℕ). spelled k (number e.1)
+        ≡ e.1) len (spelled-number e.1) in
     let more : Faults (either (h.extension == 0) (done tt) extension) c.0 c.1 faults.Ended =
-    subst (λ (t : Bool). Faults (either t (done tt) extension) c.0 c.1 faults.Ended) (sym (ne_eqb h.extension 0 e.0)) c.3 in
-    let parts : left ≡ (e.1 ++ c.0) ++ c.1 = e.4 ∙ ap (λ (t : List Bool). e.1 ++ t) c.2 ∙ sym (append_assoc e.1 c.0 c.1) in
+    subst (λ (t : Bool). Faults (either t (done tt) extension) c.0 c.1 faults.Ended) (sym (ne_eqb h.extension 0 e.0))
+        c.3 in
+    let parts : left ≡ (e.1 ++ c.0) ++ c.1 = e.4 ∙ ap (λ (t : List Bool). e.1 ++ t) c.2
+        ∙ sym (append_assoc e.1 c.0 c.1) in
     (e.1 ++ c.0, c.1, parts, inr (number e.1, c.0, small, refl, ap (λ (t : List Bool). t ++ c.0) (sym text), more))
 
-short_after_fixed_row : (bytes : List ℕ) (h : Head) (left : List Bool) → Begins bytes h left → h.version ≡ 2 → EndsInside h left → rtp_in bytes ≡ Err (stands faults.Short (8 * length bytes))
+short_after_fixed_row : (bytes : List ℕ) (h : Head) (left : List Bool) → Begins bytes h left → h.version ≡ 2
+    → EndsInside h left → rtp_in bytes ≡ Err (stands faults.Short (8 * length bytes))
 short_after_fixed_row bytes h left b two cut =
     let c = cut_after h left cut in
-    versioned bytes h left b two ∙ ap (λ (t : List Bool). with_end bytes h (end_of (reading (after_fixed h) (after t)))) c.2
-    ∙ ap (λ (r : Result (Unit {0} × Bits) Fault). with_end bytes h (end_of r)) (fault_again (after_fixed h) 96 c.0 c.1 faults.Ended (after_fixed_productive h) c.3)
+    versioned bytes h left b two
+        ∙ ap (λ (t : List Bool). with_end bytes h (end_of (reading (after_fixed h) (after t)))) c.2
+    ∙ ap (λ (r : Result (Unit {0} × Bits) Fault). with_end bytes h (end_of r))
+        (fault_again (after_fixed h) 96 c.0 c.1 faults.Ended (after_fixed_productive h) c.3)
 
-carried : (bytes : List ℕ) (h : Head) (rest : List ℕ) (c : Carries bytes h rest) → rtp_in bytes ≡ with_payload bytes h (length c.front) (payload_end_of h bytes (length c.front))
+carried : (bytes : List ℕ) (h : Head) (rest : List ℕ) (c : Carries bytes h rest)
+    → rtp_in bytes ≡ with_payload bytes h (length c.front) (payload_end_of h bytes (length c.front))
 carried bytes h rest c = opened bytes c.front rest h c.few c.parts c.text c.version
 
 -- the padding's count doesn't fit
-no_end : (h : Head) (bytes : List ℕ) (from : ℕ) → (h.padding ≡ 0 → ⊥) → (slice_index bytes (length bytes - 1) ≡ 0) ⊎ (length bytes - from < slice_index bytes (length bytes - 1)) → payload_end_of h bytes from ≡ None
-no_end h bytes from padded (inl z) = rw (ne_eqb h.padding 0 padded, eq-eqb (slice_index bytes (length bytes - 1)) 0 z) refl
-no_end h bytes from padded (inr lt) = rw (ne_eqb h.padding 0 padded, lt-ltb (length bytes - from) (slice_index bytes (length bytes - 1)) lt) (either_way (slice_index bytes (length bytes - 1) == 0))
+no_end : (h : Head) (bytes : List ℕ) (from : ℕ) → (h.padding ≡ 0 → ⊥) → (slice_index bytes (length bytes - 1) ≡ 0)
+    ⊎ (length bytes - from < slice_index bytes (length bytes - 1)) → payload_end_of h bytes from ≡ None
+no_end h bytes from padded (inl z) = rw (ne_eqb h.padding 0 padded, eq-eqb (slice_index bytes (length bytes - 1)) 0 z)
+    refl
+no_end h bytes from padded (inr lt) = rw (ne_eqb h.padding 0 padded,
+    lt-ltb (length bytes - from) (slice_index bytes (length bytes - 1)) lt)
+    (either_way (slice_index bytes (length bytes - 1) == 0))
   where
     either_way : (t : Bool) → cond (t || true) None (Some (length bytes - slice_index bytes (length bytes - 1))) ≡ None
     either_way true = refl
     either_way false = refl
 
 -- as many bytes as there are after the header
-rest_is : (bytes : List ℕ) (h : Head) (rest : List ℕ) (c : Carries bytes h rest) → length rest ≡ length bytes - length c.front
+rest_is : (bytes : List ℕ) (h : Head) (rest : List ℕ) (c : Carries bytes h rest)
+    → length rest ≡ length bytes - length c.front
 rest_is bytes h rest c = omega (arith, ap length c.parts, length-append c.front rest)
 
-padding_row : (bytes : List ℕ) (h : Head) (rest : List ℕ) → Carries bytes h rest → (h.padding ≡ 0 → ⊥) → (slice_index bytes (length bytes - 1) ≡ 0) ⊎ (length rest < slice_index bytes (length bytes - 1))
+padding_row : (bytes : List ℕ) (h : Head) (rest : List ℕ) → Carries bytes h rest → (h.padding ≡ 0 → ⊥)
+    → (slice_index bytes (length bytes - 1) ≡ 0) ⊎ (length rest < slice_index bytes (length bytes - 1))
     → rtp_in bytes ≡ Err (stands faults.Padding (8 * length bytes - 8))
 padding_row bytes h rest c padded bad =
     let last = slice_index bytes (length bytes - 1) in
-    carried bytes h rest c ∙ ap (with_payload bytes h (length c.front)) (no_end h bytes (length c.front) padded (subst (λ (n : ℕ). (last ≡ 0) ⊎ (n < last)) (rest_is bytes h rest c) bad))
+    carried bytes h rest c ∙ ap (with_payload bytes h (length c.front)) (no_end h bytes (length c.front) padded
+        (subst (λ (n : ℕ). (last ≡ 0) ⊎ (n < last)) (rest_is bytes h rest c) bad))
 
-whole : (bytes : List ℕ) (h : Head) (w : IsWhole bytes h) → rtp_in bytes ≡ accepted_of h (length w.carries.front) (length w.carries.front + length w.payload)
+whole : (bytes : List ℕ) (h : Head) (w : IsWhole bytes h)
+    → rtp_in bytes ≡ accepted_of h (length w.carries.front) (length w.carries.front + length w.payload)
 whole bytes h w =
     let front = w.carries.front in
-    let end : payload_end_of h bytes (length front) ≡ Some (length front + length w.payload) = payload_is h.padding bytes front w.payload w.padding w.carries.parts w.padded in
+    let end : payload_end_of h bytes (length front) ≡ Some (length front + length w.payload) =
+        payload_is h.padding bytes front w.payload w.padding w.carries.parts w.padded in
     carried bytes h (w.payload ++ w.padding) w.carries ∙ ap (with_payload bytes h (length front)) end
 
-type_row : (bytes : List ℕ) (h : Head) → IsWhole bytes h → (h.type ≡ 96 → ⊥) → rtp_in bytes ≡ Err (stands faults.PayloadType 9)
+type_row : (bytes : List ℕ) (h : Head) → IsWhole bytes h → (h.type ≡ 96 → ⊥)
+    → rtp_in bytes ≡ Err (stands faults.PayloadType 9)
 type_row bytes h w other = whole bytes h w ∙ rw (ne_eqb h.type 96 other) refl
 
-source_row : (bytes : List ℕ) (h : Head) → IsWhole bytes h → h.type ≡ 96 → (h.source ≡ 1211250227 → ⊥) → rtp_in bytes ≡ Err (stands faults.Source 64)
+source_row : (bytes : List ℕ) (h : Head) → IsWhole bytes h → h.type ≡ 96 → (h.source ≡ 1211250227 → ⊥)
+    → rtp_in bytes ≡ Err (stands faults.Source 64)
 source_row bytes h w is other = whole bytes h w ∙ rw (eq-eqb h.type 96 is, ne_eqb h.source 1211250227 other) refl
 
 of_row : (bytes : List ℕ) (kind : FaultKind) (at : ℕ) → IsRtpFault bytes kind at → rtp_in bytes ≡ Err (stands kind at)
@@ -153,8 +186,10 @@ unfolding Faults
 nothing_left x front left kind f = f
 
 -- a field that may have any number, and what comes after it
-any_step : {A : Type 0} (n m : ℕ) (next : ℕ → Syntax A) (front left : List Bool) (kind : FaultKind) → Faults (field n any next) front left kind
-    → ((v : ℕ) (rest : List Bool) → Faults (next v) rest left kind → length rest + length left < m) → length front + length left < n + m
+any_step : {A : Type 0} (n m : ℕ) (next : ℕ → Syntax A) (front left : List Bool) (kind : FaultKind)
+    → Faults (field n any next) front left kind
+    → ((v : ℕ) (rest : List Bool) → Faults (next v) rest left kind → length rest + length left < m)
+        → length front + length left < n + m
 unfolding Faults
 any_step n m next front left kind (inl (none, inl cut)) more = omega (arith, ap length none, cut.0)
 any_step n m next front left kind (inl (none, inr refused)) more = absurd (no_fault kind refused.4)
@@ -165,39 +200,55 @@ any_step n m next front left kind (inr f) more =
 cut_head : (front left : List Bool) (kind : FaultKind) → Faults head front left kind → length front + length left < 96
 unfolding head
 cut_head front left kind f =
-    any_step 2 94 _ front left kind f λ version r f. any_step 1 93 _ r left kind f λ padding r f. any_step 1 92 _ r left kind f λ extension r f.
-    any_step 4 88 _ r left kind f λ sources r f. any_step 1 87 _ r left kind f λ marker r f. any_step 7 80 _ r left kind f λ type r f.
-    any_step 16 64 _ r left kind f λ sequence r f. any_step 32 32 _ r left kind f λ timestamp r f. any_step 32 0 _ r left kind f λ source r f. absurd (nothing_left _ r left kind f)
+    any_step 2 94 _ front left kind f λ version r f. any_step 1 93 _ r left kind f λ padding r f. any_step 1 92
+        _ r left kind f λ extension r f.
+    any_step 4 88 _ r left kind f λ sources r f. any_step 1 87 _ r left kind f λ marker r f. any_step 7 80
+        _ r left kind f λ type r f.
+    any_step 16 64 _ r left kind f λ sequence r f. any_step 32 32 _ r left kind f λ timestamp r f. any_step 32 0
+        _ r left kind f λ source r f. absurd (nothing_left _ r left kind f)
 
 -- what an extension that has a fault ends inside of
-extension_found : (front left : List Bool) (kind : FaultKind) → Faults extension front left kind → EndsInExtension (front ++ left)
+extension_found : (front left : List Bool) (kind : FaultKind) → Faults extension front left kind
+    → EndsInExtension (front ++ left)
 unfolding extension Faults
-extension_found front left kind (inl (none, inl cut)) = inl (omega (arith, length-append front left, ap length none, cut.0))
+extension_found front left kind (inl (none, inl cut)) = inl (omega (arith, length-append front left, ap length none,
+    cut.0))
 extension_found front left kind (inl (none, inr refused)) = absurd (no_fault kind refused.4)
 extension_found front left kind (inr (profile, rest, p, ok, parts, inl (none, inl cut))) =
-    inl (omega (arith, length-append front left, ap length parts, length-append (spelled 16 profile) rest, length-spelled 16 profile, ap length none, cut.0))
-extension_found front left kind (inr (profile, rest, p, ok, parts, inl (none, inr refused))) = absurd (no_fault kind refused.4)
-extension_found front left kind (inr (profile, rest, p, ok, parts, inr (words, rest2, w, ok2, parts2, inl (none, inl cut)))) =
+    inl (omega (arith, length-append front left, ap length parts, length-append (spelled 16 profile) rest,
+        length-spelled 16 profile, ap length none, cut.0))
+extension_found front left kind (inr (profile, rest, p, ok, parts, inl (none, inr refused))) =
+    absurd (no_fault kind refused.4)
+extension_found front left kind (inr (profile, rest, p, ok, parts,
+    inr (words, rest2, w, ok2, parts2, inl (none, inl cut)))) =
     let text : front ≡ fields ((16, profile) ∷ (16, words) ∷ []) =
-    parts ∙ ap (λ (t : List Bool). spelled 16 profile ++ t) (parts2 ∙ ap (λ (t : List Bool). spelled 16 words ++ t) none) in
+    parts ∙ ap (λ (t : List Bool). spelled 16 profile ++ t) (parts2
+        ∙ ap (λ (t : List Bool). spelled 16 words ++ t) none) in
     inr (profile, words, left, p, w, ap (λ (t : List Bool). t ++ left) text, omega (arith, cut.0))
-extension_found front left kind (inr (profile, rest, p, ok, parts, inr (words, rest2, w, ok2, parts2, inl (none, inr refused)))) = absurd (no_fault kind refused.4)
-extension_found front left kind (inr (profile, rest, p, ok, parts, inr (words, rest2, w, ok2, parts2, inr f))) = absurd f.5
+extension_found front left kind (inr (profile, rest, p, ok, parts,
+    inr (words, rest2, w, ok2, parts2, inl (none, inr refused)))) = absurd (no_fault kind refused.4)
+extension_found front left kind (inr (profile, rest, p, ok, parts, inr (words, rest2, w, ok2, parts2, inr f))) =
+    absurd f.5
 
-after_fixed_found : (h : Head) (front left : List Bool) (kind : FaultKind) → Faults (after_fixed h) front left kind → EndsInside h (front ++ left)
+after_fixed_found : (h : Head) (front left : List Bool) (kind : FaultKind) → Faults (after_fixed h) front left kind
+    → EndsInside h (front ++ left)
 unfolding after_fixed Faults
-after_fixed_found h front left kind (inl (none, inl cut)) = inl (omega (arith, length-append front left, ap length none, cut.0))
+after_fixed_found h front left kind (inl (none, inl cut)) = inl (omega (arith, length-append front left, ap length none,
+    cut.0))
 after_fixed_found h front left kind (inl (none, inr refused)) = absurd (no_fault kind refused.4)
 after_fixed_found h front left kind (inr (v, rest, small, ok, parts, f)) = at_extension (h.extension == 0) refl f
   where
     n : ℕ
     n = 8 * (4 * h.sources)
 
-    at_extension : (t : Bool) → (h.extension == 0) ≡ t → Faults (either t (done tt) extension) rest left kind → EndsInside h (front ++ left)
+    at_extension : (t : Bool) → (h.extension == 0) ≡ t → Faults (either t (done tt) extension) rest left kind
+        → EndsInside h (front ++ left)
     at_extension true e g = absurd g
     at_extension false e g =
-        let text : front ++ left ≡ spelled n v ++ (rest ++ left) = ap (λ (t : List Bool). t ++ left) parts ∙ append_assoc (spelled n v) rest left in
-        inr (eqb-false h.extension 0 e, spelled n v, rest ++ left, omega (arith, length-spelled n v), text, extension_found rest left kind g)
+        let text : front ++ left ≡ spelled n v ++ (rest ++ left) = ap (λ (t : List Bool). t ++ left) parts
+            ∙ append_assoc (spelled n v) rest left in
+        inr (eqb-false h.extension 0 e, spelled n v, rest ++ left, omega (arith, length-spelled n v), text,
+            extension_found rest left kind g)
 
 -- the bytes are in a row of the table, or spell a header
 abbrev Stands : List ℕ → Type 0
@@ -232,7 +283,8 @@ at_type bytes h w = by (h.type == 96) refl (h.source == 1211250227) refl
     )
 
 -- where no payload ends
-none_is : (a b c : Bool) (x y : ℕ) → cond a (Some x) (cond (b || c) None (Some y)) ≡ None → (a ≡ false) × ((b ≡ true) ⊎ (c ≡ true))
+none_is : (a b c : Bool) (x y : ℕ) → cond a (Some x) (cond (b || c) None (Some y)) ≡ None
+    → (a ≡ false) × ((b ≡ true) ⊎ (c ≡ true))
 none_is true b c x y e = absurd cc
 none_is false true c x y e = (refl, inl refl)
 none_is false false true x y e = (refl, inr refl)
@@ -246,7 +298,8 @@ at_end bytes h from fits c = by (payload_end_of h bytes from) refl
 
     by : (o : Option ℕ) → payload_end_of h bytes from ≡ o → Stands bytes
     by None e =
-        let n = none_is (h.padding == 0) (last == 0) (nat_lt (length bytes - from) last) (length bytes) (length bytes - last) e in
+        let n = none_is (h.padding == 0) (last == 0) (nat_lt (length bytes - from) last) (length bytes)
+            (length bytes - last) e in
         let bad : (last ≡ 0) ⊎ (length (drop from bytes) < last) =
         elim n.1 [
           | inl zero ↦ inl (eqb-true last 0 zero)
@@ -255,20 +308,24 @@ at_end bytes h from fits c = by (payload_end_of h bytes from) refl
         row faults.Padding (8 * length bytes - 8) (padding h (drop from bytes) c (eqb-false h.padding 0 n.0) bad)
     by (Some to) e =
         let p = padding_ok h.padding bytes from to fits e in
-        at_type bytes h (record { payload = p.payload; padding = p.padding; carries = subst (λ (t : List ℕ). Carries bytes h t) p.parts c; padded = p.text })
+        at_type bytes h (record { payload = p.payload; padding = p.padding;
+            carries = subst (λ (t : List ℕ). Carries bytes h t) p.parts c; padded = p.text })
 
-at_after_fixed : (bytes : List ℕ) (h : Head) (b : Bits) → length bytes ≤ 65535 → reading head (from_byte 0 bytes) ≡ Ok (h, b) → h.version ≡ 2 → Begins bytes h b.bits → Stands bytes
+at_after_fixed : (bytes : List ℕ) (h : Head) (b : Bits) → length bytes ≤ 65535 → reading head (from_byte 0 bytes)
+    ≡ Ok (h, b) → h.version ≡ 2 → Begins bytes h b.bits → Stands bytes
 at_after_fixed bytes h b few is two begins = by (reading (after_fixed h) b) refl
   where
     by : (r : Result (Unit {0} × Bits) Fault) → reading (after_fixed h) b ≡ r → Stands bytes
     by (Err d) e =
         let f = fault_found (after_fixed h) b d (after_fixed_productive h) e in
-        let cut : EndsInside h b.bits = subst (λ (t : List Bool). EndsInside h t) (sym f.2) (after_fixed_found h f.0 f.1 d.kind f.4) in
+        let cut : EndsInside h b.bits = subst (λ (t : List Bool). EndsInside h t) (sym f.2)
+            (after_fixed_found h f.0 f.1 d.kind f.4) in
         row faults.Short (8 * length bytes) (short_after_fixed h b.bits begins two cut)
     by (Ok x) e =
         let from = x.1.at / 8 in
         let front = front_is h bytes b x.1 is e in
-        at_end bytes h from front.fits (record { few = few; version = two; front = take from bytes; text = front.text; parts = sym (take-append-drop from bytes) })
+        at_end bytes h from front.fits (record { few = few; version = two; front = take from bytes; text = front.text;
+            parts = sym (take-append-drop from bytes) })
 
 at_head : (bytes : List ℕ) → length bytes ≤ 65535 → 12 ≤ length bytes → Stands bytes
 at_head bytes few enough = by (reading head (from_byte 0 bytes)) refl
@@ -282,7 +339,8 @@ at_head bytes few enough = by (reading head (from_byte 0 bytes)) refl
         let begins : Begins bytes x.0 x.1.bits = record { few = few; fixed = s.0; text = s.2; parts = s.1.parts } in
         versioned_or (x.0.version == 2) refl e begins
       where
-        versioned_or : (t : Bool) → (x.0.version == 2) ≡ t → reading head (from_byte 0 bytes) ≡ Ok x → Begins bytes x.0 x.1.bits → Stands bytes
+        versioned_or : (t : Bool) → (x.0.version == 2) ≡ t → reading head (from_byte 0 bytes) ≡ Ok x
+            → Begins bytes x.0 x.1.bits → Stands bytes
         versioned_or true e is begins = at_after_fixed bytes x.0 x.1 few is (eqb-true x.0.version 2 e) begins
         versioned_or false e is begins = row faults.Version 0 (version x.0 x.1.bits begins (eqb-false x.0.version 2 e))
 
@@ -290,10 +348,12 @@ each_stands : (bytes : List ℕ) → Stands bytes
 each_stands bytes =
     elim (cases_lt 65535 (length bytes)) [
       | inl lt ↦ row faults.Long 0 (long lt)
-      | inr few ↦ elim (cases_lt (length bytes) 12) [ inl lt ↦ row faults.Short (8 * length bytes) (short lt) | inr enough ↦ at_head bytes few enough ]
+      | inr few ↦ elim (cases_lt (length bytes) 12) [ inl lt ↦ row faults.Short (8 * length bytes) (short lt)
+          | inr enough ↦ at_head bytes few enough ]
     ]
 
-to_row : (bytes : List ℕ) (fault : Fault) → Stands bytes → rtp_in bytes ≡ Err fault → IsRtpFault bytes fault.kind fault.at
+to_row : (bytes : List ℕ) (fault : Fault) → Stands bytes → rtp_in bytes ≡ Err fault
+    → IsRtpFault bytes fault.kind fault.at
 to_row bytes fault (inl r) e =
     let same : stands r.0 r.1 ≡ fault = err_is {A = Rtp} (stands r.0 r.1) fault (sym (of_row bytes r.0 r.1 r.2) ∙ e) in
     subst (λ (d : Fault). IsRtpFault bytes d.kind d.at) same r.2

@@ -28,28 +28,37 @@ on_ok_so P Q (Ok x) p f = f p
 on_ok_so P Q (Err e) p f = tt
 
 -- a write that failed
-pub if_cut : {T : Type 0} (P : Type 0) (Q : Status → Type 0) (r : Result T Status) → IfErr r (λ status. status ≡ WriteFault) → OnErr r P → (P → Q WriteFault) → IfErr r Q
+pub if_cut : {T : Type 0} (P : Type 0) (Q : Status → Type 0) (r : Result T Status)
+    → IfErr r (λ status. status ≡ WriteFault) → OnErr r P → (P → Q WriteFault) → IfErr r Q
 if_cut P Q (Ok x) is p f = tt
 if_cut P Q (Err e) is p f = subst Q (sym is) (f p)
 
 -- a call that gave up with a status
-pub if_err : {T : Type 0} (Q : Status → Type 0) (r : Result T Status) (s : Status) → IsErrAnd r (λ x. x ≡ s) → Q s → IfErr r Q
+pub if_err : {T : Type 0} (Q : Status → Type 0) (r : Result T Status) (s : Status) → IsErrAnd r (λ x. x ≡ s) → Q s
+    → IfErr r Q
 if_err Q (Ok x) s gave q = absurd gave
 if_err Q (Err e) s gave q = subst Q (sym gave) q
 
 -- a turn that gives up with a status
-pub turn_err : (r : Result Bool Status) (s : Status) (step : Step SendState) (after : SendState → (Role → List ℕ) → Type 0) (inputs : Role → List ℕ) (old new : Outside)
-    → IsErrAnd r (λ x. x ≡ s) → GivesUp (phase s) s step true inputs old new → TurnGives r step after (λ _. true) true inputs old new
+pub turn_err : (r : Result Bool Status) (s : Status) (step : Step SendState) (after : SendState → (Role → List ℕ)
+    → Type 0) (inputs : Role → List ℕ) (old new : Outside)
+    → IsErrAnd r (λ x. x ≡ s) → GivesUp (phase s) s step true inputs old new
+        → TurnGives r step after (λ _. true) true inputs old new
 turn_err (Ok b) s step after inputs old new gave gives = absurd gave
-turn_err (Err x) s step after inputs old new gave gives = subst (λ (x : Status). GivesUp (phase x) x step true inputs old new) (sym gave) gives
+turn_err (Err x) s step after inputs old new gave gives =
+    subst (λ (x : Status). GivesUp (phase x) x step true inputs old new) (sym gave) gives
 
 -- a turn whose write failed
-pub turn_cut : (r : Result Bool Status) (s : Status) (step : Step SendState) (after : SendState → (Role → List ℕ) → Type 0) (inputs : Role → List ℕ) (old new : Outside)
-    → IsErrAnd r (λ x. x ≡ s) → s ≡ WriteFault → GainsFronts (step_texts step) old.written new.written → TurnGives r step after (λ _. true) true inputs old new
+pub turn_cut : (r : Result Bool Status) (s : Status) (step : Step SendState) (after : SendState → (Role → List ℕ)
+    → Type 0) (inputs : Role → List ℕ) (old new : Outside)
+    → IsErrAnd r (λ x. x ≡ s) → s ≡ WriteFault → GainsFronts (step_texts step) old.written new.written
+        → TurnGives r step after (λ _. true) true inputs old new
 turn_cut r s step after inputs old new gave is fronts =
-    turn_err r s step after inputs old new gave (subst (λ (x : Status). GivesUp (phase x) x step true inputs old new) (sym is) fronts)
+    turn_err r s step after inputs old new gave (subst (λ (x : Status). GivesUp (phase x) x step true inputs old new)
+        (sym is) fronts)
 
 -- a start for which there was no memory, where no call had failed
-pub starved_cause : {Machine : Type 0} (r : Result Machine Status) (old new : Faults) → IsErrAnd r (λ x. x ≡ OutOfMemory) → new ≡ old → HasCause (start_status r) old new
+pub starved_cause : {Machine : Type 0} (r : Result Machine Status) (old new : Faults)
+    → IsErrAnd r (λ x. x ≡ OutOfMemory) → new ≡ old → HasCause (start_status r) old new
 starved_cause (Ok m) old new is quiet = absurd is
 starved_cause (Err x) old new is quiet = subst (λ (y : Status). HasCause y old new) (sym is) quiet

@@ -13,12 +13,14 @@ use Rattle.send_command.specs.Sent.{Sent, aim_after, counted_bytes, first_by, ne
 use Rattle.send_command.specs.Stands.{IsCaptured}
 
 -- the packets of a sender are those of its run's last picture
-packets_are : (p : Params) (state : SenderState SendPace) (run : Run) → state.params ≡ p → Holds state run → state.packets ≡ packets_after p run
+packets_are : (p : Params) (state : SenderState SendPace) (run : Run) → state.params ≡ p → Holds state run
+    → state.packets ≡ packets_after p run
 packets_are p state run same h =
     sym h.seen.packets ∙ h.holds.keeps.packets ∙ ap (λ (q : Params). packets_after q run) same
 
 module _ (p : Params) (run : Run) (aim : Aim) (kind : Kind) (pace : SendPace) (kind_is : kind ≡ next_kind p run)
-    (target_is : target_of pace ≡ target_by aim.target aim.fit) (first_is : first_of pace ≡ first_by aim.quant kind aim.fit) where
+    (target_is : target_of pace ≡ target_by aim.target aim.fit) (first_is : first_of pace
+        ≡ first_by aim.quant kind aim.fit) where
   abbrev sent : Sent
   sent = record { run = run; aim = aim }
 
@@ -26,13 +28,15 @@ module _ (p : Params) (run : Run) (aim : Aim) (kind : Kind) (pace : SendPace) (k
   paced = quant_after_sizes (target_of pace) (first_of pace)
 
   pace_is : paced ≡ pace_by p sent
-  pace_is = λ i. quant_after_sizes (target_is i) ((first_is ∙ ap (λ (k : Kind). first_by aim.quant k aim.fit) kind_is) i)
+  pace_is = λ i. quant_after_sizes (target_is i) ((first_is
+      ∙ ap (λ (k : Kind). first_by aim.quant k aim.fit) kind_is) i)
 
   pub is_captured : (frame : Frame) (new : SenderState SendPace) (after : Aim) (answer : Coded) → new.params ≡ p
       → Holds new (after_code p paced frame run) → Describes (length run.run.coded) (next_in p paced frame run) answer
       → after ≡ aim_after kind (counted_bytes new.packets) aim → IsCaptured frame p sent new after answer
   is_captured frame new after answer same holds tells told =
-      let held : Holds new (after_code p (pace_by p sent) frame run) = subst (λ (f : List ℕ → ℕ). Holds new (after_code p f frame run)) pace_is holds in
+      let held : Holds new (after_code p (pace_by p sent) frame run) =
+          subst (λ (f : List ℕ → ℕ). Holds new (after_code p f frame run)) pace_is holds in
       let says : Describes (length run.run.coded) (next_in p (pace_by p sent) frame run) answer =
       subst (λ (f : List ℕ → ℕ). Describes (length run.run.coded) (next_in p f frame run) answer) pace_is tells
       in

@@ -32,34 +32,45 @@ use Rattle.send_command.proofs.Held.{no_entry_held, not_none}
 
 -- ---- a part of an entry holds no turn
 
-part_of_frame : (s : SendState) (size : ℕ) (r : Result (List ℕ) Y4mFault) (k : Role → ℕ) → (3 ≤ k Events → ⊥) → IsPart (step_turns (frame_step s size r)) k
+part_of_frame : (s : SendState) (size : ℕ) (r : Result (List ℕ) Y4mFault) (k : Role → ℕ) → (3 ≤ k Events → ⊥)
+    → IsPart (step_turns (frame_step s size r)) k
 part_of_frame s size (Ok frame) k few =
-    no_entry_held (record { taken = and_of (of Events 3) (of Video size); whole = true; texts = capture_texts s.params (captured s.params.format frame) s.sent }) k few
+    no_entry_held (record { taken = and_of (of Events 3) (of Video size); whole = true;
+        texts = capture_texts s.params (captured s.params.format frame) s.sent }) k few
 part_of_frame s size (Err fault) k few = tt
 
-part_of_capture : (s : SendState) (video : List ℕ) (k : Role → ℕ) → (3 ≤ k Events → ⊥) → IsPart (step_turns (capture_step s video)) k
+part_of_capture : (s : SendState) (video : List ℕ) (k : Role → ℕ) → (3 ≤ k Events → ⊥)
+    → IsPart (step_turns (capture_step s video)) k
 part_of_capture s [] k few = tt
 part_of_capture s (b ∷ video) k few = part_of_frame s _ (next_frame s.more s.params.format s.video_at (b ∷ video)) k few
 
-part_of_entry : (s : SendState) (inputs : Role → List ℕ) (e : Option Entry) (k : ℕ) → ((entry : Entry) → e ≡ Some entry → 3 + bytes_of entry ≤ k → ⊥) → IsPart (step_turns (entry_step s inputs e)) (of Events k)
+part_of_entry : (s : SendState) (inputs : Role → List ℕ) (e : Option Entry) (k : ℕ)
+    → ((entry : Entry) → e ≡ Some entry → 3 + bytes_of entry ≤ k → ⊥)
+    → IsPart (step_turns (entry_step s inputs e)) (of Events k)
 part_of_entry s inputs None k few = tt
-part_of_entry s inputs (Some log_entry.Capture) k few = part_of_capture s (inputs Video) (of Events k) (few log_entry.Capture refl)
-part_of_entry s inputs (Some (log_entry.Back len)) k few = no_entry_held (record { taken = of Events (3 + len); whole = true; texts = no_texts }) (of Events k) (few (log_entry.Back len) refl)
+part_of_entry s inputs (Some log_entry.Capture) k few = part_of_capture s (inputs Video) (of Events k)
+    (few log_entry.Capture refl)
+part_of_entry s inputs (Some (log_entry.Back len)) k few = no_entry_held (record { taken = of Events (3 + len);
+    whole = true; texts = no_texts }) (of Events k) (few (log_entry.Back len) refl)
 part_of_entry s inputs (Some (log_entry.Packet len)) k few = tt
 part_of_entry s inputs (Some log_entry.Play) k few = tt
 
 abbrev pub CutAfter : Type 0
-CutAfter = (side : Side) (entry : Entry) (text : List ℕ) (k : ℕ) → entry_in side text ≡ Some entry → 3 + bytes_of entry ≤ k → entry_in side (take k text) ≡ Some entry
+CutAfter = (side : Side) (entry : Entry) (text : List ℕ) (k : ℕ) → entry_in side text ≡ Some entry
+    → 3 + bytes_of entry ≤ k → entry_in side (take k text) ≡ Some entry
 
 -- the step, where another entry may come or not
 abbrev chosen : Bool → SendState → (Role → List ℕ) → Option Entry → Step SendState
 chosen t s inputs e = if t then entry_step s inputs e else Ends (bad_entry (TooMany s.at))
 
-part_of_choice : (t : Bool) (s : SendState) (inputs : Role → List ℕ) (e : Option Entry) (k : ℕ) → ((entry : Entry) → e ≡ Some entry → 3 + bytes_of entry ≤ k → ⊥) → IsPart (step_turns (chosen t s inputs e)) (of Events k)
+part_of_choice : (t : Bool) (s : SendState) (inputs : Role → List ℕ) (e : Option Entry) (k : ℕ)
+    → ((entry : Entry) → e ≡ Some entry → 3 + bytes_of entry ≤ k → ⊥)
+    → IsPart (step_turns (chosen t s inputs e)) (of Events k)
 part_of_choice true s inputs e k few = part_of_entry s inputs e k few
 part_of_choice false s inputs e k few = tt
 
-part_of_log : CutAfter → (s : SendState) (inputs : Role → List ℕ) (log : List ℕ) (k : ℕ) → entry_in sides.Send (take k log) ≡ None → IsPart (step_turns (log_step s inputs log)) (of Events k)
+part_of_log : CutAfter → (s : SendState) (inputs : Role → List ℕ) (log : List ℕ) (k : ℕ)
+    → entry_in sides.Send (take k log) ≡ None → IsPart (step_turns (log_step s inputs log)) (of Events k)
 part_of_log cut s inputs [] k none = tt
 part_of_log cut s inputs (b ∷ log) k none =
     part_of_choice (nat_lt s.read most_entries) s inputs (entry_in sides.Send (b ∷ log)) k
@@ -67,19 +78,23 @@ part_of_log cut s inputs (b ∷ log) k none =
 
 -- ---- which step it is
 
-entry_is : (s : SendState) (inputs : Role → List ℕ) (log : List ℕ) (e : Option Entry) → 0 < length log → s.read < most_entries → entry_in sides.Send log ≡ e → log_step s inputs log ≡ entry_step s inputs e
+entry_is : (s : SendState) (inputs : Role → List ℕ) (log : List ℕ) (e : Option Entry) → 0 < length log
+    → s.read < most_entries → entry_in sides.Send log ≡ e → log_step s inputs log ≡ entry_step s inputs e
 entry_is s inputs [] e some few is = absurd (omega arith)
 entry_is s inputs (b ∷ log) e some few is =
-    ap (λ (t : Bool). chosen t s inputs (entry_in sides.Send (b ∷ log))) (lt-ltb s.read most_entries few) ∙ ap (entry_step s inputs) is
+    ap (λ (t : Bool). chosen t s inputs (entry_in sides.Send (b ∷ log))) (lt-ltb s.read most_entries few)
+        ∙ ap (entry_step s inputs) is
 
 some_entry : (log : List ℕ) (entry : Entry) → entry_in sides.Send log ≡ Some entry → 0 < length log
 some_entry [] entry is = absurd (cc is)
 some_entry (b ∷ log) entry is = omega arith
 
-many_is : (s : SendState) (inputs : Role → List ℕ) (log : List ℕ) → 0 < length log → s.read ≡ most_entries → log_step s inputs log ≡ Ends (bad_entry (TooMany s.at))
+many_is : (s : SendState) (inputs : Role → List ℕ) (log : List ℕ) → 0 < length log → s.read ≡ most_entries
+    → log_step s inputs log ≡ Ends (bad_entry (TooMany s.at))
 many_is s inputs [] some many = absurd (omega arith)
 many_is s inputs (b ∷ log) some many =
-    ap (λ (t : Bool). chosen t s inputs (entry_in sides.Send (b ∷ log))) (le-ltb s.read most_entries (omega (arith, many)))
+    ap (λ (t : Bool). chosen t s inputs (entry_in sides.Send (b ∷ log)))
+        (le-ltb s.read most_entries (omega (arith, many)))
 
 -- ---- the turn
 
@@ -92,15 +107,22 @@ pub record IsReadAt (s : SendState) (reader : LogPlace) : Type 0 where
   pub at_is : s.at ≡ reader.at
   pub read_is : s.read ≡ reader.entries
 
-module _ (laws : TurnLaws) (cut : CutAfter) (s : SendState) (inputs : Role → List ℕ) (old mid : Outside) (told : Tells old inputs) (others : (r : Role) → r ≢ Events → mid.left r ≡ old.left r) (same : mid.written ≡ old.written) (reader after : LogPlace) (at : IsReadAt s reader) (bytes : List ℕ) where
+module _ (laws : TurnLaws) (cut : CutAfter) (s : SendState) (inputs : Role
+    → List ℕ) (old mid : Outside) (told : Tells old inputs) (others : (r : Role) → r ≢ Events
+    → mid.left r ≡ old.left r) (same : mid.written ≡ old.written) (reader after : LogPlace) (at : IsReadAt s reader)
+    (bytes : List ℕ) where
   -- the reader of a sender's log
   sent_in : (text : List ℕ) (e : Option Entry) → entry_in reader.side text ≡ e → entry_in sides.Send text ≡ e
   sent_in text e is = ap (λ (side : Side). entry_in side text) (sym at.side_is) ∙ is
 
-  refused : (fault : LogFault) → send_step s inputs ≡ no_step (bad_entry fault) → Ended (send_step s inputs) (LogRefused fault) inputs old mid
-  refused fault is = record { last = bad_entry fault; is = is; by = log_refused laws (LogRefused fault) inputs old mid told others same }
+  refused : (fault : LogFault) → send_step s inputs ≡ no_step (bad_entry fault)
+      → Ended (send_step s inputs) (LogRefused fault) inputs old mid
+  refused fault is = record { last = bad_entry fault; is = is;
+      by = log_refused laws (LogRefused fault) inputs old mid told others same }
 
-  pub log_stops : (stop : LogStop) → EntryGives (Err stop) reader (inputs Events) bytes (mid.left Events) → Moves (Err stop) reader after → GivesUp (phase (log_stop stop)) (log_stop stop) (send_step s inputs) true inputs old mid
+  pub log_stops : (stop : LogStop) → EntryGives (Err stop) reader (inputs Events) bytes (mid.left Events)
+      → Moves (Err stop) reader after
+      → GivesUp (phase (log_stop stop)) (log_stop stop) (send_step s inputs) true inputs old mid
   log_stops stops.Read e moves = record {
     part = of Events e.taken;
     partly = part_of_log cut s inputs (inputs Events) e.taken (sent_in (take e.taken (inputs Events)) None e.none);
@@ -110,7 +132,8 @@ module _ (laws : TurnLaws) (cut : CutAfter) (s : SendState) (inputs : Role → L
   }
   log_stops (stops.BadRecord place) e moves =
       refused (BadRecord place)
-      (entry_is s inputs (inputs Events) None e.0 (omega (arith, moves.0, at.read_is)) (sent_in (inputs Events) None e.1)
+      (entry_is s inputs (inputs Events) None e.0 (omega (arith, moves.0, at.read_is))
+          (sent_in (inputs Events) None e.1)
       ∙ ap (λ (n : ℕ). no_step (bad_entry (BadRecord n))) (at.at_is ∙ sym moves.1))
   log_stops (stops.TooMany place) e moves =
       refused (TooMany place)
@@ -122,41 +145,52 @@ module _ (laws : TurnLaws) (cut : CutAfter) (s : SendState) (inputs : Role → L
     end_is : send_step s inputs ≡ Ends (all_read s.tally)
     end_is = ap (log_step s inputs) e.0
 
-    pub end_cut : GainsFronts (on Report (count_text s.tally)) mid.written new.written → GainsFronts (step_texts (send_step s inputs)) old.written new.written
+    pub end_cut : GainsFronts (on Report (count_text s.tally)) mid.written new.written
+        → GainsFronts (step_texts (send_step s inputs)) old.written new.written
     end_cut g =
         subst (λ (x : Step SendState). GainsFronts (step_texts x) old.written new.written) (sym end_is)
         (subst (λ (w : Role → Option (List ℕ)). GainsFronts (on Report (count_text s.tally)) w new.written) same g)
 
-    pub log_ends : new.left ≡ mid.left → Gains (on Report (count_text s.tally)) mid.written new.written → Ended (send_step s inputs) Fine inputs old new
+    pub log_ends : new.left ≡ mid.left → Gains (on Report (count_text s.tally)) mid.written new.written
+        → Ended (send_step s inputs) Fine inputs old new
     log_ends still g = record {
       last = all_read s.tally;
       is = end_is;
       by =
           laws.ends Fine no_bytes (on Report (count_text s.tally)) inputs old new
-          (laws.none_read Events old new inputs told e.0 (ap (λ (l : Role → Option (List ℕ)). l Events) still ∙ e.1) (λ r other. ap (λ (l : Role → Option (List ℕ)). l r) still ∙ others r other))
+          (laws.none_read Events old new inputs told e.0 (ap (λ (l : Role → Option (List ℕ)). l Events) still
+              ∙ e.1) (λ r other. ap (λ (l : Role → Option (List ℕ)). l r) still ∙ others r other))
           (subst (λ (w : Role → Option (List ℕ)). Gains (on Report (count_text s.tally)) w new.written) same g);
     }
 
   -- after an entry
-  module _ (found : ℕ × Entry) (e : EntryGives (Ok (Some found)) reader (inputs Events) bytes (mid.left Events)) (few : reader.entries < 16777216) where
+  module _ (found : ℕ × Entry) (e : EntryGives (Ok (Some found)) reader (inputs Events) bytes (mid.left Events))
+      (few : reader.entries < 16777216) where
     pub found_is : send_step s inputs ≡ entry_step s inputs (Some found.1)
     found_is =
         let is : entry_in sides.Send (inputs Events) ≡ Some found.1 = sent_in (inputs Events) (Some found.1) e.0 in
-        entry_is s inputs (inputs Events) (Some found.1) (some_entry (inputs Events) found.1 is) (omega (arith, few, at.read_is)) is
+        entry_is s inputs (inputs Events) (Some found.1) (some_entry (inputs Events) found.1 is)
+            (omega (arith, few, at.read_is)) is
 
     pub found_told : Tells mid (left_after inputs (of Events (3 + bytes_of found.1)))
     found_told = laws.one_read Events (3 + bytes_of found.1) old mid inputs told e.2 others
 
 -- what the reader says, by what it answered
-pub gave_entry : (o known : Option (ℕ × Entry)) (reader : LogPlace) (rest bytes : List ℕ) (left : Option (List ℕ)) → o ≡ known → EntryGives (Ok o) reader rest bytes left → EntryGives (Ok known) reader rest bytes left
-gave_entry o known reader rest bytes left is gives = subst (λ (x : Option (ℕ × Entry)). EntryGives (Ok x) reader rest bytes left) is gives
+pub gave_entry : (o known : Option (ℕ × Entry)) (reader : LogPlace) (rest bytes : List ℕ) (left : Option (List ℕ))
+    → o ≡ known → EntryGives (Ok o) reader rest bytes left → EntryGives (Ok known) reader rest bytes left
+gave_entry o known reader rest bytes left is gives =
+    subst (λ (x : Option (ℕ × Entry)). EntryGives (Ok x) reader rest bytes left) is gives
 
-pub moved_entry : (o known : Option (ℕ × Entry)) (reader after : LogPlace) → o ≡ known → Moves (Ok o) reader after → Moves (Ok known) reader after
+pub moved_entry : (o known : Option (ℕ × Entry)) (reader after : LogPlace) → o ≡ known → Moves (Ok o) reader after
+    → Moves (Ok known) reader after
 moved_entry o known reader after is moves = subst (λ (x : Option (ℕ × Entry)). Moves (Ok x) reader after) is moves
 
 -- an entry of a receiver's log is refused
-pub other_entry : (s : SendState) (inputs : Role → List ℕ) (place : ℕ) (entry : Entry) → ((x : ℕ) × entry ≡ log_entry.Packet x) ⊎ (entry ≡ log_entry.Play) → place ≡ s.at → entry_step s inputs (Some entry) ≡ no_step (bad_entry (BadRecord place))
+pub other_entry : (s : SendState) (inputs : Role → List ℕ) (place : ℕ) (entry : Entry)
+    → ((x : ℕ) × entry ≡ log_entry.Packet x) ⊎ (entry ≡ log_entry.Play) → place ≡ s.at
+    → entry_step s inputs (Some entry) ≡ no_step (bad_entry (BadRecord place))
 other_entry s inputs place entry (inl packet) at =
-    ap (λ (e : Entry). entry_step s inputs (Some e)) packet.1 ∙ ap (λ (n : ℕ). no_step (bad_entry (BadRecord n))) (sym at)
+    ap (λ (e : Entry). entry_step s inputs (Some e)) packet.1
+        ∙ ap (λ (n : ℕ). no_step (bad_entry (BadRecord n))) (sym at)
 other_entry s inputs place entry (inr play) at =
     ap (λ (e : Entry). entry_step s inputs (Some e)) play ∙ ap (λ (n : ℕ). no_step (bad_entry (BadRecord n))) (sym at)

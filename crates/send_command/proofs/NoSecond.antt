@@ -18,7 +18,8 @@ use Rattle.send_command.specs.Send.{SendState, send_begin, send_step, log_step, 
 module _ (fault : Y4mFault) where
   module _ (s : SendState) (inputs : Role → List ℕ) (rest : SendState → (Role → ℕ) → Run)
       (more : (next : SendState) (taken : Role → ℕ) → (rest next taken).last.status ≡ Video2Refused fault → ⊥) where
-    at_frame : (size : ℕ) (r : Result (List ℕ) Y4mFault) → (follow (frame_step s size r) rest).last.status ≡ Video2Refused fault → ⊥
+    at_frame : (size : ℕ) (r : Result (List ℕ) Y4mFault) → (follow (frame_step s size r) rest).last.status
+        ≡ Video2Refused fault → ⊥
     at_frame size (Ok planes) ends = more _ _ ends
     at_frame size (Err broken) ends = absurd (cc ends)
 
@@ -38,20 +39,26 @@ module _ (fault : Y4mFault) where
     at_log [] ends = absurd (cc ends)
     at_log (b ∷ log) ends = within (nat_lt s.read most_entries) refl ends
       where
-        within : (t : Bool) → nat_lt s.read most_entries ≡ t → (follow (log_step s inputs (b ∷ log)) rest).last.status ≡ Video2Refused fault → ⊥
+        within : (t : Bool) → nat_lt s.read most_entries ≡ t → (follow (log_step s inputs (b ∷ log)) rest).last.status
+            ≡ Video2Refused fault → ⊥
         within true is ends = at_entry (entry_in sides.Send (b ∷ log)) (rw is at ends)
         within false is ends = absurd (cc (rw is at ends))
 
-  run_refuses_none : (n : ℕ) (s : SendState) (inputs : Role → List ℕ) → (run_of send_step n s inputs).last.status ≡ Video2Refused fault → ⊥
+  run_refuses_none : (n : ℕ) (s : SendState) (inputs : Role → List ℕ) → (run_of send_step n s inputs).last.status
+      ≡ Video2Refused fault → ⊥
   unfolding run_of
-  run_refuses_none zero s inputs ends = at_log s inputs (λ next taken. silence) (λ next taken is. absurd (cc is)) (inputs Events) ends
+  run_refuses_none zero s inputs ends = at_log s inputs (λ next taken. silence) (λ next taken is. absurd (cc is))
+      (inputs Events) ends
   run_refuses_none (suc n) s inputs ends =
-      at_log s inputs (λ next taken. run_of send_step n next (left_after inputs taken)) (λ next taken is. run_refuses_none n next (left_after inputs taken) is) (inputs Events) ends
+      at_log s inputs (λ next taken. run_of send_step n next (left_after inputs taken))
+          (λ next taken is. run_refuses_none n next (left_after inputs taken) is) (inputs Events) ends
 
-  pub none_refused : (setup : Sending) (inputs : Role → List ℕ) → (run_from (send_begin setup inputs) send_step 16777216 inputs).last.status ≡ Video2Refused fault → ⊥
+  pub none_refused : (setup : Sending) (inputs : Role → List ℕ)
+      → (run_from (send_begin setup inputs) send_step 16777216 inputs).last.status ≡ Video2Refused fault → ⊥
   none_refused setup inputs ends = by_head (head_of (inputs Video)) ends
     where
       by_head : (r : Result Format Y4mFault)
-          → (follow (head_step setup (head_size (inputs Video)) r) (λ next taken. run_of send_step 16777216 next (left_after inputs taken))).last.status ≡ Video2Refused fault → ⊥
+          → (follow (head_step setup (head_size (inputs Video)) r) (λ next taken. run_of send_step 16777216 next
+              (left_after inputs taken))).last.status ≡ Video2Refused fault → ⊥
       by_head (Ok f) ends = run_refuses_none 16777216 _ _ ends
       by_head (Err broken) ends = absurd (cc ends)

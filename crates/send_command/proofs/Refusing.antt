@@ -32,12 +32,15 @@ module _ (frame_laws : FrameLaws) (fault : Y4mFault) where
     abbrev faulty : List ℕ → Type 0
     faulty video = fault_of s.params.format s.more s.video_at video ≡ Some fault
 
-    at_frame : (b : ℕ) (v : List ℕ) → inputs Video ≡ b ∷ v → (r : Result (List ℕ) Y4mFault) → next_frame s.more s.params.format s.video_at (b ∷ v) ≡ r
-        → (follow (frame_step s (frame_size s.params.format (b ∷ v)) r) rest).last.status ≡ VideoRefused fault → faulty (b ∷ v)
+    at_frame : (b : ℕ) (v : List ℕ) → inputs Video ≡ b ∷ v → (r : Result (List ℕ) Y4mFault)
+        → next_frame s.more s.params.format s.video_at (b ∷ v) ≡ r
+        → (follow (frame_step s (frame_size s.params.format (b ∷ v)) r) rest).last.status ≡ VideoRefused fault
+            → faulty (b ∷ v)
     at_frame b v video (Ok planes) is ends =
         let f = s.params.format in
         let size = frame_size f (b ∷ v) in
-        let e = frame_laws.next f s.more (s.more - 1) s.video_at (b ∷ v) planes (some_left s.more s.video_at f (b ∷ v) planes is) (omega arith) is in
+        let e = frame_laws.next f s.more (s.more - 1) s.video_at (b ∷ v) planes
+            (some_left s.more s.video_at f (b ∷ v) planes is) (omega arith) is in
         let taken : 0 + size ≡ size = omega arith in
         e.fault
         ∙ sym (λ i. fault_of f (s.more - 1) (s.video_at + size) (drop (taken i) (video i)))
@@ -46,39 +49,49 @@ module _ (frame_laws : FrameLaws) (fault : Y4mFault) where
         (frame_laws.stops s.params.format s.more s.video_at (b ∷ v) broken (omega arith) is).1
         ∙ ap (λ (x : Y4mFault). Some x) (refused_is broken fault ends)
 
-    at_capture : (video : List ℕ) → inputs Video ≡ video → (follow (capture_step s video) rest).last.status ≡ VideoRefused fault → faulty video
+    at_capture : (video : List ℕ) → inputs Video ≡ video → (follow (capture_step s video) rest).last.status
+        ≡ VideoRefused fault → faulty video
     at_capture [] is ends = absurd (cc ends)
     at_capture (b ∷ v) is ends = at_frame b v is (next_frame s.more s.params.format s.video_at (b ∷ v)) refl ends
 
-    at_entry : (o : Option Entry) → (follow (entry_step s inputs o) rest).last.status ≡ VideoRefused fault → faulty (inputs Video)
+    at_entry : (o : Option Entry) → (follow (entry_step s inputs o) rest).last.status ≡ VideoRefused fault
+        → faulty (inputs Video)
     at_entry None ends = absurd (cc ends)
     at_entry (Some log_entry.Capture) ends = at_capture (inputs Video) refl ends
     at_entry (Some (log_entry.Back len)) ends = more _ (of Events (3 + len)) ends
     at_entry (Some (log_entry.Packet len)) ends = absurd (cc ends)
     at_entry (Some log_entry.Play) ends = absurd (cc ends)
 
-    at_log : (log : List ℕ) → (follow (log_step s inputs log) rest).last.status ≡ VideoRefused fault → faulty (inputs Video)
+    at_log : (log : List ℕ) → (follow (log_step s inputs log) rest).last.status ≡ VideoRefused fault
+        → faulty (inputs Video)
     at_log [] ends = absurd (cc ends)
     at_log (b ∷ log) ends = within (nat_lt s.read most_entries) refl ends
       where
-        within : (t : Bool) → nat_lt s.read most_entries ≡ t → (follow (log_step s inputs (b ∷ log)) rest).last.status ≡ VideoRefused fault → faulty (inputs Video)
+        within : (t : Bool) → nat_lt s.read most_entries ≡ t → (follow (log_step s inputs (b ∷ log)) rest).last.status
+            ≡ VideoRefused fault → faulty (inputs Video)
         within true is ends = at_entry (entry_in sides.Send (b ∷ log)) (rw is at ends)
         within false is ends = absurd (cc (rw is at ends))
 
-  run_refused : (n : ℕ) (s : SendState) (inputs : Role → List ℕ) → (run_of send_step n s inputs).last.status ≡ VideoRefused fault
+  run_refused : (n : ℕ) (s : SendState) (inputs : Role → List ℕ) → (run_of send_step n s inputs).last.status
+      ≡ VideoRefused fault
       → fault_of s.params.format s.more s.video_at (inputs Video) ≡ Some fault
   unfolding run_of
-  run_refused zero s inputs ends = at_log s inputs (λ next taken. silence) (λ next taken is. absurd (cc is)) (inputs Events) ends
+  run_refused zero s inputs ends = at_log s inputs (λ next taken. silence) (λ next taken is. absurd (cc is))
+      (inputs Events) ends
   run_refused (suc n) s inputs ends =
-      at_log s inputs (λ next taken. run_of send_step n next (left_after inputs taken)) (λ next taken is. run_refused n next (left_after inputs taken) is) (inputs Events) ends
+      at_log s inputs (λ next taken. run_of send_step n next (left_after inputs taken))
+          (λ next taken is. run_refused n next (left_after inputs taken) is) (inputs Events) ends
 
-  pub video_refused : (setup : Sending) (inputs : Role → List ℕ) → (run_from (send_begin setup inputs) send_step 16777216 inputs).last.status ≡ VideoRefused fault
+  pub video_refused : (setup : Sending) (inputs : Role → List ℕ)
+      → (run_from (send_begin setup inputs) send_step 16777216 inputs).last.status ≡ VideoRefused fault
       → video_fault (inputs Video) ≡ Some fault
   unfolding video_fault
   video_refused setup inputs ends = by_head (head_of (inputs Video)) refl ends
     where
       by_head : (r : Result Format Y4mFault) → head_of (inputs Video) ≡ r
-          → (follow (head_step setup (head_size (inputs Video)) r) (λ next taken. run_of send_step 16777216 next (left_after inputs taken))).last.status ≡ VideoRefused fault
+          → (follow (head_step setup (head_size (inputs Video)) r) (λ next taken. run_of send_step 16777216 next
+              (left_after inputs taken))).last.status ≡ VideoRefused fault
           → fault_after_head r (head_size (inputs Video)) (drop (head_size (inputs Video)) (inputs Video)) ≡ Some fault
-      by_head (Ok f) is ends = run_refused 16777216 (first_state setup f (head_size (inputs Video))) (left_after inputs (of Video (head_size (inputs Video)))) ends
+      by_head (Ok f) is ends = run_refused 16777216 (first_state setup f (head_size (inputs Video)))
+          (left_after inputs (of Video (head_size (inputs Video)))) ends
       by_head (Err broken) is ends = ap (λ (x : Y4mFault). Some x) (refused_is broken fault ends)

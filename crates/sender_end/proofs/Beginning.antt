@@ -49,7 +49,8 @@ module _ {P : Type 0} (state : SenderState P) (new : IsNew state) where
     selects = new.selects;
   }
 
-  pub stands_new : (pace : List ℕ → ℕ) → NewSenderStands (pictures state.params.format) (encoding state.params) (rules_of state.params) → Stands pace state []
+  pub stands_new : (pace : List ℕ → ℕ) → NewSenderStands (pictures state.params.format) (encoding state.params)
+      (rules_of state.params) → Stands pace state []
   stands_new pace stands = record {
     s = unsent;
     seen = seen_new;
@@ -57,7 +58,8 @@ module _ {P : Type 0} (state : SenderState P) (new : IsNew state) where
     stands = stands pace unsent refl new.sequence new.packets new.sizes;
   }
 
-  pub holds_new : NewHolds (pictures state.params.format) (encoding state.params) (rules_of state.params) → Holds state nothing_done
+  pub holds_new : NewHolds (pictures state.params.format) (encoding state.params) (rules_of state.params)
+      → Holds state nothing_done
   holds_new holds = record {
     s = unsent;
     seen = seen_new;
@@ -66,8 +68,10 @@ module _ {P : Type 0} (state : SenderState P) (new : IsNew state) where
   }
 
 -- its parts fit each other, if its cutter and its store do
-pub ready_new : {P : Type 0} (s : Inside P) → 0 ≡ s.sent → IsParams s.params → format_of s.cutter ≡ s.params.format → limit_of s.cutter ≡ s.params.limit
-    → packets_of s.cutter ≡ [] → s.store.store.format ≡ s.params.format → slots_of s.store.store ≡ s.params.slots → length s.store.store.pictures ≡ s.params.slots + 1
+pub ready_new : {P : Type 0} (s : Inside P) → 0 ≡ s.sent → IsParams s.params → format_of s.cutter ≡ s.params.format
+    → limit_of s.cutter ≡ s.params.limit
+    → packets_of s.cutter ≡ [] → s.store.store.format ≡ s.params.format → slots_of s.store.store ≡ s.params.slots
+        → length s.store.store.pictures ≡ s.params.slots + 1
     → SelectorStands (rules_of s.params) s.selector s.sent (λ m. 0) (λ m. false) → IsReady s
 ready_new s none params cutter_format cutter_limit packets store_format slots works selects = record {
   params = params;
@@ -86,7 +90,8 @@ ready_new s none params cutter_format cutter_limit packets store_format slots wo
 
 -- ---- neither the pace nor what was forgotten matters to these
 
-pub ready_as : {P : Type 0} (s : Inside P) (pace : P) (since : ℕ) → IsReady s → IsReady (record s { pace = pace; since = since })
+pub ready_as : {P : Type 0} (s : Inside P) (pace : P) (since : ℕ) → IsReady s
+    → IsReady (record s { pace = pace; since = since })
 ready_as s pace since ready = record {
   params = ready.params;
   cutter_format = ready.cutter_format;
@@ -100,7 +105,8 @@ ready_as s pace since ready = record {
   small = ready.small;
 }
 
-pub seen_as : {P : Type 0} (state : SenderState P) (pace : P) (since : ℕ) (s : Sender Picture) → IsSeen state s → IsSeen (record state { pace = pace; since = since }) s
+pub seen_as : {P : Type 0} (state : SenderState P) (pace : P) (since : ℕ) (s : Sender Picture) → IsSeen state s
+    → IsSeen (record state { pace = pace; since = since }) s
 seen_as state pace since s seen = record {
   sent = seen.sent;
   sequence = seen.sequence;

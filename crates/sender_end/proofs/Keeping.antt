@@ -27,7 +27,8 @@ at_other n m v f differ = rw (ne_eqb m n differ) refl
 -- ---- the selector
 
 pub stands_same : (rules : Rules) (selector : Selector) (n : ℕ) (depth depth' : ℕ → ℕ) (known known' : ℕ → Bool)
-    → ((m : ℕ) → m < n → n ≤ m + rules.slots → depth m ≡ depth' m) → ((m : ℕ) → m < n → n ≤ m + rules.slots → known m ≡ known' m)
+    → ((m : ℕ) → m < n → n ≤ m + rules.slots → depth m ≡ depth' m) → ((m : ℕ) → m < n → n ≤ m + rules.slots
+        → known m ≡ known' m)
     → SelectorStands rules selector n depth known → SelectorStands rules selector n depth' known'
 stands_same rules selector n depth depth' known known' depths flags stands = record {
   slots = stands.slots;
@@ -39,8 +40,10 @@ stands_same rules selector n depth depth' known known' depths flags stands = rec
 }
 
 -- by what the selector keeps itself
-pub own_numbers : (rules : Rules) (selector : Selector) (n : ℕ) (depth : ℕ → ℕ) (known : ℕ → Bool) → SelectorStands rules selector n depth known
-    → SelectorStands rules selector n (λ m. get_or selector.depths (m % rules.slots) 0) (λ m. get_or selector.known (m % rules.slots) false)
+pub own_numbers : (rules : Rules) (selector : Selector) (n : ℕ) (depth : ℕ → ℕ) (known : ℕ → Bool)
+    → SelectorStands rules selector n depth known
+    → SelectorStands rules selector n (λ m. get_or selector.depths (m % rules.slots) 0)
+        (λ m. get_or selector.known (m % rules.slots) false)
 own_numbers rules selector n depth known stands = record {
   slots = stands.slots;
   lead = stands.lead;
@@ -51,7 +54,8 @@ own_numbers rules selector n depth known stands = record {
 }
 
 -- the same of what is known alone
-pub own_known : (rules : Rules) (selector : Selector) (n : ℕ) (depth : ℕ → ℕ) (known : ℕ → Bool) → SelectorStands rules selector n depth known
+pub own_known : (rules : Rules) (selector : Selector) (n : ℕ) (depth : ℕ → ℕ) (known : ℕ → Bool)
+    → SelectorStands rules selector n depth known
     → SelectorStands rules selector n depth (λ m. get_or selector.known (m % rules.slots) false)
 own_known rules selector n depth known stands = record {
   slots = stands.slots;
@@ -65,10 +69,13 @@ own_known rules selector n depth known stands = record {
 -- what coding picture n of this depth does to a selector
 abbrev pub Codes : Selector → Selector → ℕ → ℕ → Type 0
 Codes old new n d =
-    (rules : Rules) (depths : ℕ → ℕ) (known : ℕ → Bool) → depths n ≡ d → known n ≡ false → SelectorStands rules old n depths known → SelectorStands rules new (n + 1) depths known
+    (rules : Rules) (depths : ℕ → ℕ) (known : ℕ → Bool) → depths n ≡ d → known n ≡ false
+        → SelectorStands rules old n depths known → SelectorStands rules new (n + 1) depths known
 
-pub coded_numbers : (rules : Rules) (old new : Selector) (n d : ℕ) (depth : ℕ → ℕ) (known : ℕ → Bool) → Codes old new n d
-    → SelectorStands rules old n depth known → SelectorStands rules new (n + 1) (at_new n d depth) (at_new n false known)
+pub coded_numbers : (rules : Rules) (old new : Selector) (n d : ℕ) (depth : ℕ → ℕ) (known : ℕ → Bool)
+    → Codes old new n d
+    → SelectorStands rules old n depth known
+        → SelectorStands rules new (n + 1) (at_new n d depth) (at_new n false known)
 coded_numbers rules old new n d depth known codes stands =
     codes rules (at_new n d depth) (at_new n false known) (at_same n d depth) (at_same n false known)
     (stands_same rules old n depth (at_new n d depth) known (at_new n false known)
@@ -87,13 +94,17 @@ by_rest far slots n m v f some below last =
     ]
   where
     apart : (m ≡ n → ⊥) → m % slots ≡ n % slots → ⊥
-    apart differ same = let distance : m + slots ≤ n = far slots m n some same (omega (arith, below, differ)) in omega (arith, distance, last)
+    apart differ same = let distance : m + slots ≤ n = far slots m n some same (omega (arith, below, differ)) in
+        omega (arith, distance, last)
 
-pub coded_rests : OneRestIsFar → (rules : Rules) (old new : Selector) (n d : ℕ) (depth : ℕ → ℕ) (known : ℕ → Bool) → 0 < rules.slots → Codes old new n d
+pub coded_rests : OneRestIsFar → (rules : Rules) (old new : Selector) (n d : ℕ) (depth : ℕ → ℕ) (known : ℕ → Bool)
+    → 0 < rules.slots → Codes old new n d
     → SelectorStands rules old n (λ m. depth (m % rules.slots)) (λ m. known (m % rules.slots))
-    → SelectorStands rules new (n + 1) (λ m. at_new (n % rules.slots) d depth (m % rules.slots)) (λ m. at_new (n % rules.slots) false known (m % rules.slots))
+    → SelectorStands rules new (n + 1) (λ m. at_new (n % rules.slots) d depth (m % rules.slots))
+        (λ m. at_new (n % rules.slots) false known (m % rules.slots))
 coded_rests far rules old new n d depth known some codes stands =
-    stands_same rules new (n + 1) (at_new n d (λ m. depth (m % rules.slots))) (λ m. at_new (n % rules.slots) d depth (m % rules.slots))
+    stands_same rules new (n + 1) (at_new n d (λ m. depth (m % rules.slots))) (λ m. at_new (n % rules.slots) d depth
+        (m % rules.slots))
     (at_new n false (λ m. known (m % rules.slots))) (λ m. at_new (n % rules.slots) false known (m % rules.slots))
     (λ m below last. by_rest far rules.slots n m d depth some below last)
     (λ m below last. by_rest far rules.slots n m false known some below last)
@@ -111,31 +122,39 @@ number_kept far numbers slots n long some kept m below last =
           subst (λ (k : ℕ). get_or (set numbers (n % slots) (Some n)) (k % slots) None ≡ Some k) (sym same)
           (get_or-set_same numbers (n % slots) (Some n) None (omega (arith, mod-lt n some, long)))
       | inr differ ↦
-          get_or-set_other numbers (n % slots) (m % slots) (Some n) None (apart differ) ∙ kept m (omega (arith, below, differ)) (omega (arith, last))
+          get_or-set_other numbers (n % slots) (m % slots) (Some n) None (apart differ)
+              ∙ kept m (omega (arith, below, differ)) (omega (arith, last))
     ]
   where
     apart : (m ≡ n → ⊥) → m % slots ≡ n % slots → ⊥
-    apart differ same = let distance : m + slots ≤ n = far slots m n some same (omega (arith, below, differ)) in omega (arith, distance, last)
+    apart differ same = let distance : m + slots ≤ n = far slots m n some same (omega (arith, below, differ)) in
+        omega (arith, distance, last)
 
 pub still_kept : OneRestIsFar → (old new : Pictures) (slots n : ℕ) → slots_of old ≡ slots → 0 < slots
     → ((m : ℕ) → m < n → n ≤ m + slots → IsKept old m) → new.numbers ≡ set old.numbers (slot_of old n) (Some n)
     → (m : ℕ) → m < n + 1 → n + 1 ≤ m + slots → IsKept new m
 still_kept far old new slots n long some kept numbers m below last =
-    let before : (k : ℕ) → k < n → n ≤ k + slots → get_or old.numbers (k % slots) None ≡ Some k = λ k low high. subst (λ (l : ℕ). get_or old.numbers (k % l) None ≡ Some k) long (kept k low high) in
-    let is : new.numbers ≡ set old.numbers (n % slots) (Some n) = numbers ∙ ap (λ (l : ℕ). set old.numbers (n % l) (Some n)) long in
-    let count : length (set old.numbers (n % slots) (Some n)) ≡ slots = length-set old.numbers (n % slots) (Some n) ∙ long in
+    let before : (k : ℕ) → k < n → n ≤ k + slots → get_or old.numbers (k % slots) None
+        ≡ Some k = λ k low high. subst (λ (l : ℕ). get_or old.numbers (k % l) None ≡ Some k) long (kept k low high) in
+    let is : new.numbers ≡ set old.numbers (n % slots) (Some n) = numbers
+        ∙ ap (λ (l : ℕ). set old.numbers (n % l) (Some n)) long in
+    let count : length (set old.numbers (n % slots) (Some n)) ≡ slots = length-set old.numbers (n % slots) (Some n)
+        ∙ long in
     subst (λ (l : List (Option ℕ)). get_or l (m % length l) None ≡ Some m) (sym is)
     (subst (λ (l : ℕ). get_or (set old.numbers (n % slots) (Some n)) (m % l) None ≡ Some m) (sym count)
     (number_kept far old.numbers slots n long some before m below last))
 
 -- ---- the reference
 
-pub has_kept : (store : Pictures) (reference : Option ℕ) → IfSome reference (λ m. IsKept store m) → HasKept (kind_of (is_some reference)) store reference
+pub has_kept : (store : Pictures) (reference : Option ℕ) → IfSome reference (λ m. IsKept store m)
+    → HasKept (kind_of (is_some reference)) store reference
 has_kept store None kept = tt
 has_kept store (Some m) kept = kept
 
-pub same_picture : (store : Pictures) (slots : ℕ) (picture : ℕ → Picture) (reference : Option ℕ) → 0 < slots → slots_of store ≡ slots
-    → ((rest : ℕ) → rest < slots → picture rest ≡ picture_in store rest) → kept_picture store reference ≡ option_map (λ m. picture (m % slots)) reference
+pub same_picture : (store : Pictures) (slots : ℕ) (picture : ℕ → Picture) (reference : Option ℕ) → 0 < slots
+    → slots_of store ≡ slots
+    → ((rest : ℕ) → rest < slots → picture rest ≡ picture_in store rest) → kept_picture store reference
+        ≡ option_map (λ m. picture (m % slots)) reference
 same_picture store slots picture None some long same = refl
 same_picture store slots picture (Some m) some long same =
     ap (λ (p : Picture). let o : Option Picture = Some p in o)

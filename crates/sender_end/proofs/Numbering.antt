@@ -14,7 +14,8 @@ in_period : (clock : Clock) (n : ℕ) → n % period_of clock < period_of clock
 in_period Standard n = omega arith
 in_period Custom n = omega arith
 
-reference_below : (clock : Clock) (reference : Option ℕ) (m : ℕ) → option_map (λ k. k % period_of clock) reference ≡ Some m → m < period_of clock
+reference_below : (clock : Clock) (reference : Option ℕ) (m : ℕ) → option_map (λ k. k % period_of clock) reference
+    ≡ Some m → m < period_of clock
 reference_below clock None m e = cc
 reference_below clock (Some k) m e =
     let same : k % period_of clock ≡ m = cc in
@@ -25,7 +26,8 @@ still_some f None = refl
 still_some f (Some k) = refl
 
 -- a picture's header fits the call's rules
-pub numbered_fits : (p : Params) (number : ℕ) (reference : Option ℕ) (style : Style) → FitsHeader (rules_of p) (is_some reference) (numbered p.clock number reference style)
+pub numbered_fits : (p : Params) (number : ℕ) (reference : Option ℕ) (style : Style)
+    → FitsHeader (rules_of p) (is_some reference) (numbered p.clock number reference style)
 numbered_fits p number reference style = record {
   number = in_period p.clock number;
   reference = reference_below p.clock reference;

@@ -20,7 +20,8 @@ use Rattle.sender_end.specs.Stands.{Holds, IsSeen, Run, Stands}
 use Rattle.sender_end.specs.State.{SenderState}
 use Rattle.sender_end.proofs.Captured.{made, with_kept}
 
-pub holds_as : {P : Type 0} (p : Params) (state : SenderState P) (run : Run) (t : Sender Picture) → state.params ≡ p → IsSeen state t → state.since ≡ run.since
+pub holds_as : {P : Type 0} (p : Params) (state : SenderState P) (run : Run) (t : Sender Picture) → state.params ≡ p
+    → IsSeen state t → state.since ≡ run.since
     → SenderHolds (pictures p.format) (encoding p) (rules_of p) t run.run → Holds state run
 holds_as p state run t same seen since holds = record {
   s = t;
@@ -29,13 +30,17 @@ holds_as p state run t same seen since holds = record {
   holds = subst (λ (q : Params). SenderHolds (pictures q.format) (encoding q) (rules_of q) t run.run) (sym same) holds;
 }
 
-pub stands_as : {P : Type 0} (p : Params) (pace : List ℕ → ℕ) (state : SenderState P) (entries : List (SenderEntry Frame)) (t : Sender Picture) → state.params ≡ p → IsSeen state t
-    → state.since ≡ 0 → SenderStands (pictures p.format) (encoding p) (rules_of p) pace t entries → Stands pace state entries
+pub stands_as : {P : Type 0} (p : Params) (pace : List ℕ
+    → ℕ) (state : SenderState P) (entries : List (SenderEntry Frame)) (t : Sender Picture) → state.params ≡ p
+    → IsSeen state t
+    → state.since ≡ 0 → SenderStands (pictures p.format) (encoding p) (rules_of p) pace t entries
+        → Stands pace state entries
 stands_as p pace state entries t same seen since stands = record {
   s = t;
   seen = seen;
   since = since;
-  stands = subst (λ (q : Params). SenderStands (pictures q.format) (encoding q) (rules_of q) pace t entries) (sym same) stands;
+  stands = subst (λ (q : Params). SenderStands (pictures q.format) (encoding q) (rules_of q) pace t entries)
+      (sym same) stands;
 }
 
 -- ---- a reference that was given, by what is kept of it
@@ -50,12 +55,14 @@ module _ (p : Params) (s : Sender Picture) (run : SenderRun Style Mb Picture)
     (holds : SenderHolds (pictures p.format) (encoding p) (rules_of p) s run) where
   -- one of the last pictures
   kept_at : (m : ℕ) → m < s.sent → s.sent ≤ m + p.slots
-      → (x : CodedPicture Style Mb Picture) × (slice_get run.coded m ≡ Some x) × (s.depth (m % p.slots) ≡ x.depth) × (s.picture (m % p.slots) ≡ x.picture)
+      → (x : CodedPicture Style Mb Picture) × (slice_get run.coded m ≡ Some x) × (s.depth (m % p.slots) ≡ x.depth)
+          × (s.picture (m % p.slots) ≡ x.picture)
   kept_at m below last =
       let long : m < length run.coded = subst (λ (n : ℕ). m < n) holds.keeps.sent below in
       let late : length run.coded ≤ m + p.slots = subst (λ (n : ℕ). n ≤ m + p.slots) holds.keeps.sent last in
       let found = slice_found run.coded m long in
-      (found.0, found.1, holds.keeps.depths m found.0 (long, late) found.1, holds.keeps.kept m found.0 (long, late) found.1)
+      (found.0, found.1, holds.keeps.depths m found.0 (long, late) found.1,
+          holds.keeps.kept m found.0 (long, late) found.1)
 
   depth_kept : (m : ℕ) → m < s.sent → s.sent ≤ m + p.slots → s.depth (m % p.slots) ≡ depth_at run.coded m
   depth_kept m below last =
@@ -65,18 +72,23 @@ module _ (p : Params) (s : Sender Picture) (run : SenderRun Style Mb Picture)
   picture_kept : (m : ℕ) → m < s.sent → s.sent ≤ m + p.slots → Some (s.picture (m % p.slots)) ≡ picture_at run.coded m
   picture_kept m below last =
       let at = kept_at m below last in
-      ap (λ (q : Picture). let o : Option Picture = Some q in o) at.3 ∙ sym (ap (λ (o : Option (CodedPicture Style Mb Picture)). option_map (λ x. x.picture) o) at.1)
+      ap (λ (q : Picture). let o : Option Picture = Some q in o) at.3
+          ∙ sym (ap (λ (o : Option (CodedPicture Style Mb Picture)). option_map (λ x. x.picture) o) at.1)
 
   pub chain_kept : (reference : Option ℕ) → IfSome reference (λ m. (m < s.sent) × (s.sent ≤ m + p.slots))
-      → within_chain (rules_of p) (λ m. s.depth (m % p.slots)) reference ≡ within_chain (rules_of p) (depth_at run.coded) reference
+      → within_chain (rules_of p) (λ m. s.depth (m % p.slots)) reference
+          ≡ within_chain (rules_of p) (depth_at run.coded) reference
   chain_kept None recent = refl
   chain_kept (Some m) recent = ap (λ (d : ℕ). if ltb d 131 then Some m else None) (depth_kept m recent.0 recent.1)
 
   -- a picture that is made by what is kept is that of the run
-  pub kept_is_capture : (quant : ℕ) (frame : Frame) (reference : Option ℕ) → IfSome reference (λ m. (m < s.sent) × (s.sent ≤ m + p.slots))
+  pub kept_is_capture : (quant : ℕ) (frame : Frame) (reference : Option ℕ)
+      → IfSome reference (λ m. (m < s.sent) × (s.sent ≤ m + p.slots))
       → with_kept p quant frame s reference ≡ capture (pictures p.format) (encoding p) quant frame run.coded reference
   unfolding made_by_kept capture
   kept_is_capture quant frame None recent = refl
   kept_is_capture quant frame (Some m) recent =
-      ap (λ (d : ℕ). made p frame (Some m) (d + 1) quant (Some (s.picture (m % p.slots)))) (depth_kept m recent.0 recent.1)
-      ∙ ap (λ (o : Option Picture). made p frame (Some m) (depth_at run.coded m + 1) quant o) (picture_kept m recent.0 recent.1)
+      ap (λ (d : ℕ). made p frame (Some m) (d + 1) quant (Some (s.picture (m % p.slots))))
+          (depth_kept m recent.0 recent.1)
+      ∙ ap (λ (o : Option Picture). made p frame (Some m) (depth_at run.coded m + 1) quant o)
+          (picture_kept m recent.0 recent.1)

@@ -9,17 +9,20 @@ use Rattle.h263_planes.specs.Picture.{Picture}
 use Rattle.picture_store.specs.Pictures.{Pictures, slots_of, with_work, works_of}
 use Rattle.sender_end.specs.Coding.{IsCodedInto}
 
-pub coded_into : (store : Pictures) (bytes : List ℕ) (picture : Picture) → length bytes ≡ size_of_picture store.format → 0 < works_of store
+pub coded_into : (store : Pictures) (bytes : List ℕ) (picture : Picture) → length bytes ≡ size_of_picture store.format
+    → 0 < works_of store
     → picture_of store.format bytes ≡ picture → IsCodedInto store (with_work store 0 bytes) picture
 coded_into store bytes picture long some is =
     let at = slots_of store + 0 in
     let changed : Pictures = record store { pictures = set store.pictures at (picture_of store.format bytes) } in
-    let same : with_work store 0 bytes ≡ changed = ap (λ (t : Bool). if t then changed else store) (eq-eqb (length bytes) (size_of_picture store.format) long) in
+    let same : with_work store 0 bytes ≡ changed = ap (λ (t : Bool). if t then changed else store)
+        (eq-eqb (length bytes) (size_of_picture store.format) long) in
     subst (λ (s : Pictures). IsCodedInto store s picture) (sym same)
     (record {
       format = refl;
       numbers = refl;
       pictures = length-set store.pictures at (picture_of store.format bytes);
       work = get_or-set_same store.pictures at (picture_of store.format bytes) _ (omega (arith, some)) ∙ is;
-      others = λ k below. get_or-set_other store.pictures at k (picture_of store.format bytes) _ (λ e. omega (arith, below, e));
+      others = λ k below. get_or-set_other store.pictures at k (picture_of store.format bytes) _
+          (λ e. omega (arith, below, e));
     })

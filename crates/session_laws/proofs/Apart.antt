@@ -20,7 +20,8 @@ granted_now : (g : Bool) (c : Config) (seen : Seen) (t : Taker) (bytes : List �
 granted_now false c seen t bytes st = refl
 granted_now true c seen t bytes st = refl
 
-reading_now : (r : Result Seen Cause) (c : Config) (bytes : List ℕ) (st : State) → (after_reading c r bytes st).now ≡ st.now
+reading_now : (r : Result Seen Cause) (c : Config) (bytes : List ℕ) (st : State) → (after_reading c r bytes st).now
+    ≡ st.now
 reading_now (Err cause) c bytes st = refl
 reading_now (Ok seen) c bytes st =
     granted_now (is_looked_at (taker_in seen st) st) c seen (taker_in seen st) bytes st
@@ -104,7 +105,8 @@ said_both : (x y : List Said) (a b : List Said) → x ≡ y → a ≡ b → x ++
 said_both x y a b e f = ap (λ (l : List Said). l ++ a) e ∙ ap (λ (l : List Said). y ++ l) f
 
 -- what a packet of it gives, at this time, after what came with others' and without
-record OwnGoes (r : Result Seen Cause) (c : Config) (source : ℕ) (bytes : List ℕ) (now : ℕ) (a b : State) (x y : List Said) : Type 0 where
+record OwnGoes (r : Result Seen Cause) (c : Config) (source : ℕ) (bytes : List ℕ) (now : ℕ) (a b : State)
+    (x y : List Said) : Type 0 where
   said : said_of_packet (is_from source r) (outcome_of_reading c r bytes (at now a)) ++ x
       ≡ said_of_packet (is_from source r) (outcome_of_reading c r bytes (at now b)) ++ y
   same : followed_in (after_reading c r bytes (at now a)) ≡ followed_in (after_reading c r bytes (at now b))
@@ -143,7 +145,8 @@ le_later : (a b n : ℕ) → a ≤ b → b ≤ n → a ≤ n
 le_later a b n h i = omega arith
 
 -- and one of others
-record OthersGo (r : Result Seen Cause) (c : Config) (source : ℕ) (bytes : List ℕ) (now : ℕ) (a b : State) (x y : List Said) : Type 0 where
+record OthersGo (r : Result Seen Cause) (c : Config) (source : ℕ) (bytes : List ℕ) (now : ℕ) (a b : State)
+    (x y : List Said) : Type 0 where
   said : said_of_packet (is_from source r) (outcome_of_reading c r bytes (at now a)) ++ x ≡ y
   same : followed_in (after_reading c r bytes (at now a)) ≡ followed_in b
   source_is : is_of (after_reading c r bytes (at now a)).follows.streams.followed source ≡ true
@@ -166,7 +169,8 @@ others_go r c source bytes now before es owns i j x k e =
     beside_at r now (time_of a.now now) b.follows.streams.followed a.follows.streams.followed a.follows.streams.former
     (sym f) (sym (ap (λ (v : Followed). v.stream) k.same)) (x y)) in
     record {
-      said = ap (λ (y : Bool). said_of_packet y (outcome_of_reading c r bytes (at now a)) ++ said_of c source before es) e
+      said = ap (λ (y : Bool). said_of_packet y (outcome_of_reading c r bytes (at now a))
+          ++ said_of c source before es) e
           ∙ k.said;
       same = left ∙ k.same;
       source_is = ap (λ (v : Followed). is_of v.stream source) left ∙ k.source_is;
@@ -195,7 +199,8 @@ turn c source before now es owns i j k =
           ∙ ap (own.after_turn c (time_of b.now now)) k.same
           ∙ sym (own.by_turn c (at now b));
       source_is = ap (λ (v : Followed). is_of v.stream source) (own.by_turn c (at now a))
-          ∙ ap (λ (o : Option Stream). is_of o source) (own.of_turn c (time_of a.now now) (followed_in a)) ∙ k.source_is;
+          ∙ ap (λ (o : Option Stream). is_of o source) (own.of_turn c (time_of a.now now) (followed_in a))
+              ∙ k.source_is;
       now = to_most (time_of a.now now) now now f refl;
       own_now = to_most (time_of b.now now) now now g refl;
     }
@@ -268,7 +273,8 @@ others_end c source before other now es owns i j k e =
       own_now = le_later b.now (newest_time (es ++ before)) now k.own_now i;
     }
 
-pub goes : (c : Config) (source : ℕ) (before es : List Entry) → is_of (session_run c before).follows.streams.followed source ≡ true
+pub goes : (c : Config) (source : ℕ) (before es : List Entry)
+    → is_of (session_run c before).follows.streams.followed source ≡ true
     → InOrder (es ++ before) → StaysLive c source before es → Goes c source before es (own_of c source es)
 goes c source before [] h o s =
     record {

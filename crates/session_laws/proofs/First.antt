@@ -100,7 +100,8 @@ no_former None (Err cause) e h = true≢false (sym h)
 no_former None (Ok seen) e h = true≢false (sym h)
 no_former (Some f) r e h = absurd cc
 
-live_at : (o p : Option Stream) (n m : ℕ) → o ≡ p → n ≡ m → choice.is_live_one o n ≡ true → choice.is_live_one p m ≡ true
+live_at : (o p : Option Stream) (n m : ℕ) → o ≡ p → n ≡ m → choice.is_live_one o n ≡ true → choice.is_live_one p m
+    ≡ true
 live_at o p n m e f h =
     sym (ap (λ (x : Option Stream). choice.is_live_one x m) e) ∙ sym (ap (choice.is_live_one o) f) ∙ h
 
@@ -113,7 +114,8 @@ packet : (r : Result Seen Cause) (c : Config) (source : ℕ) (bytes : List ℕ) 
     → (is_from_other source r ≡ true
     → IsBeside r now (session.session_run c (own_of c source es ++ before)).follows.streams.followed
     (session.session_run c (es ++ before)).follows.streams.former)
-    × ((session.after_reading c r bytes (session.at now (session.session_run c (es ++ before)))).follows.streams.former ≡ None)
+    × ((session.after_reading c r bytes (session.at now (session.session_run c (es ++ before)))).follows.streams.former
+        ≡ None)
 packet r c source bytes now before es h i j o k l =
     let a = session.session_run c (es ++ before) in
     let b = session.session_run c (own_of c source es ++ before) in

@@ -95,19 +95,24 @@ here : (b d : Bool) (first : ℕ) (bytes : List ℕ) (a : Arrival) (past : List 
     → HasPacket bytes (timed.entries_of first (cond b past (timed.Came bytes a ∷ past)))
 here true d first bytes a past e f g = absurd cc
 here false d first bytes a past e f g =
-    subst (λ (x : Bool). HasPacket bytes (cond x (timed.entries_of first past) (Packet bytes ∷ timed.entries_of first past)))
+    subst (λ (x : Bool). HasPacket bytes (cond x (timed.entries_of first past)
+        (Packet bytes ∷ timed.entries_of first past)))
     (sym f ∙ g) (inl refl)
 
 placed : (o : Option Place) (place : Place) (first lead : ℕ) (bytes : List ℕ) (now : ℕ) (past : List timed.Entry)
     → o ≡ Some place → place.number ≤ timed.next_after first past + lead → timed.next_after first past ≤ place.number
     → HasPacket bytes (timed.entries_of first (run.with_place first lead o bytes now past))
 placed o place first lead bytes now past e h i =
-    subst (λ (x : Option Place). HasPacket bytes (timed.entries_of first (run.with_place first lead x bytes now past))) (sym e)
-    (here (ltb (timed.next_after first past + lead) place.number) (ltb place.number (timed.next_after first past)) first bytes
+    subst (λ (x : Option Place). HasPacket bytes (timed.entries_of first (run.with_place first lead x bytes now past)))
+        (sym e)
+    (here (ltb (timed.next_after first past + lead) place.number) (ltb place.number (timed.next_after first past)) first
+        bytes
     (record { picture = place.number; captured = place.captured; at = now }) past
-    (le-ltb (timed.next_after first past + lead) place.number h) (le-ltb place.number (timed.next_after first past) i) refl)
+    (le-ltb (timed.next_after first past + lead) place.number h) (le-ltb place.number (timed.next_after first past) i)
+        refl)
 
-pub given_in_time : (c : Config) (h : History) (later earlier : List run.Entry) (packet : Told) (bytes : List ℕ) (at : ℕ)
+pub given_in_time : (c : Config) (h : History) (later earlier : List run.Entry) (packet : Told) (bytes : List ℕ)
+    (at : ℕ)
     (place : Place)
     → h.past ≡ later ++ (run.Came packet bytes at ∷ earlier)
     → place_of c.rate (run.heard_of earlier) packet at ≡ Some place
@@ -119,7 +124,8 @@ given_in_time c h later earlier packet bytes at place e f g i =
     let all = ap (λ (l : List run.Entry). timed.next_after h.first (run.timed_of c.rate h.first c.lead l)) e in
     let l = grows c.rate h.first c.lead later (run.Came packet bytes at ∷ earlier) in
     let m = next_by (place_of c.rate (run.heard_of earlier) packet at) h.first c.lead bytes at before in
-    subst (λ (l : List run.Entry). HasPacket bytes (timed.entries_of h.first (run.timed_of c.rate h.first c.lead l))) (sym e)
+    subst (λ (l : List run.Entry). HasPacket bytes (timed.entries_of h.first (run.timed_of c.rate h.first c.lead l)))
+        (sym e)
     (stays c.rate h.first c.lead bytes later (run.Came packet bytes at ∷ earlier)
     (placed (place_of c.rate (run.heard_of earlier) packet at) place h.first c.lead bytes at before f i
     (below (timed.next_after h.first before)
@@ -189,7 +195,8 @@ module _ {Style Mb Picture Fault : Type 0} (decoding : Decoding Style Mb Picture
       played_if (ltb a.picture (timed.next_after first past)) bytes (timed.entries_of first past) ∙ played_is first past
   played_is first (timed.Shown now ∷ past) = ap (λ (n : ℕ). n + 1) (played_is first past)
 
-pub in_time : ((p : Params) → IsDecoding (decoding p.format) (rules_of p)) → ((p : Params) → IsParams p → IsRules (rules_of p))
+pub in_time : ((p : Params) → IsDecoding (decoding p.format) (rules_of p))
+    → ((p : Params) → IsParams p → IsRules (rules_of p))
     → ((d : Decoding Style Mb Picture Fault) (r : Rules) → IsDecoding d r → IsRules r → AnySoundSender d r)
     → (c : Config) (h : History) (source : Source Style Mb Picture) (packets : Packets Style Mb Picture) (count : ℕ)
     (events : List Event) (x : Coded Style Mb Picture)

@@ -43,7 +43,8 @@ grown p n ts ns k h =
     both : (t u m x n k : ℕ) → u ≡ x + t → m ≡ x + n → t ≤ n + k → u ≤ m + k
     both t u m x n k d e h = omega arith
 
-by_grant : (g : Bool) (t : Taker) (p : ℕ → Bool) (c : Config) (seen : Seen) (own : List ℕ) (st : State) (ts ns : List ℕ) (k : ℕ)
+by_grant : (g : Bool) (t : Taker) (p : ℕ → Bool) (c : Config) (seen : Seen) (own : List ℕ) (st : State) (ts ns : List ℕ)
+    (k : ℕ)
     → count_by p ts ≤ count_by p ns + k
     → count_by p (taken_if (outcome_of_grant c seen t own g st) st.now ++ ts)
     ≤ count_by p (cond g (st.now ∷ ns) ns) + k
@@ -65,7 +66,8 @@ by_taker : (t : Taker) (p : ℕ → Bool) (c : Config) (seen : Seen) (own : List
     → Bound p (taken_if (outcome_of_grant c seen t own (is_looked_at t st) st) st.now ++ ts)
     (asked_for t st).asked
 by_taker takers.Followed p c seen own st ts h =
-    let f = by_grant (is_looked_at takers.Followed st) takers.Followed p c seen own st ts (granted 12000 st.asked.followed)
+    let f = by_grant (is_looked_at takers.Followed st) takers.Followed p c seen own st ts
+        (granted 12000 st.asked.followed)
     (few p st.asked.former + few p st.asked.others) (omega (arith, h)) in
     omega (arith, f)
 by_taker takers.Former p c seen own st ts h =
@@ -107,9 +109,11 @@ by_reading (Ok seen) p c own st ts h =
 bound : (p : ℕ → Bool) (c : Config) (past : List Entry) → Bound p (taken c past) (session_run c past).asked
 bound p c [] = omega arith
 bound p c (Datagram bytes now ∷ past) =
-    by_reading (seen_in c.params bytes) p c (renamed bytes) (at now (session_run c past)) (taken c past) (bound p c past)
+    by_reading (seen_in c.params bytes) p c (renamed bytes) (at now (session_run c past)) (taken c past)
+        (bound p c past)
 bound p c (DatagramOf only bytes now ∷ past) =
-    by_reading (seen_of_one c only bytes) p c (renamed bytes) (at now (session_run c past)) (taken c past) (bound p c past)
+    by_reading (seen_of_one c only bytes) p c (renamed bytes) (at now (session_run c past)) (taken c past)
+        (bound p c past)
 bound p c (Turn now ∷ past) = bound p c past
 bound p c (Asked round_trip now ∷ past) = bound p c past
 bound p c (Ended source now ∷ past) = bound p c past

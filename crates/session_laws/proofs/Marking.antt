@@ -46,7 +46,8 @@ shows false false false false false = refl
 
 -- ---- with a complete picture
 
-kept_if : (P : Stream → Type 0) (b : Bool) (f g : Stream) → P f → P g → MatchOption (cond b (Some f) (Some g)) (Unit {0}) P
+kept_if : (P : Stream → Type 0) (b : Bool) (f g : Stream) → P f → P g
+    → MatchOption (cond b (Some f) (Some g)) (Unit {0}) P
 kept_if P true f g h i = h
 kept_if P false f g h i = i
 

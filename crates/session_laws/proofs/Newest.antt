@@ -41,7 +41,8 @@ advances r x p number stamp now h =
     least : (a b : ℕ) → min a b ≤ b
     least a b = omega arith
 
-moves : (r : Rate) (x : Newest) (p : Packet) (number stamp now : ℕ) → MovesTo x number now (moved r x p number stamp now)
+moves : (r : Rate) (x : Newest) (p : Packet) (number stamp now : ℕ)
+    → MovesTo x number now (moved r x p number stamp now)
 moves r x p number stamp now =
     cond_both (leb 1048576 number) None
     (cond (ltb x.number number) (advanced r x p number stamp now) (Some (record x { sequence = sequence_after x p })))
@@ -135,7 +136,8 @@ at_later : (o : Option Newest) (then now : ℕ) → then ≤ now → MatchOption
 at_later None then now i h = tt
 at_later (Some x) then now i h = omega arith
 
-ats : (r : Rate) (now : ℕ) (hs : List Heard) → Back now hs → MatchOption (newest_after r hs) (Unit {0}) (λ x. x.at ≤ now)
+ats : (r : Rate) (now : ℕ) (hs : List Heard) → Back now hs
+    → MatchOption (newest_after r hs) (Unit {0}) (λ x. x.at ≤ now)
 ats r now [] b = tt
 ats r now (h ∷ hs) b =
     at_later (newest_after r (h ∷ hs)) h.1 now b.0
@@ -153,10 +155,12 @@ is_small r hs x e = held (newest_after r hs) x e (credits r hs)
         let g = ap (λ (z : Newest). z.credit) f in
         omega (arith, g, h)
 
-pub is_past : (r : Rate) (now : ℕ) (hs : List Heard) (x : Newest) → newest_after r hs ≡ Some x → Back now hs → x.at ≤ now
+pub is_past : (r : Rate) (now : ℕ) (hs : List Heard) (x : Newest) → newest_after r hs ≡ Some x → Back now hs
+    → x.at ≤ now
 is_past r now hs x e b = held (newest_after r hs) x now e (ats r now hs b)
   where
-    held : (o : Option Newest) (x : Newest) (now : ℕ) → o ≡ Some x → MatchOption o (Unit {0}) (λ y. y.at ≤ now) → x.at ≤ now
+    held : (o : Option Newest) (x : Newest) (now : ℕ) → o ≡ Some x → MatchOption o (Unit {0}) (λ y. y.at ≤ now)
+        → x.at ≤ now
     held None x now e h = absurd cc
     held (Some y) x now e h =
         let f : y ≡ x = cc in
@@ -217,10 +221,12 @@ some_same x y o e f = inside (Some x) x y refl (sym e ∙ f)
 
 pub after_later : (r : Rate) (later before after : List Heard) (x z : Newest) → newest_after r before ≡ Some x
     → newest_after r (later ++ before) ≡ Some z → after_all r x (onto later after) ≡ after_all r z after
-after_later r [] before after x z e f = ap (λ (y : Newest). after_all r y after) (some_same x z (newest_after r before) e f)
+after_later r [] before after x z e f = ap (λ (y : Newest). after_all r y after)
+    (some_same x z (newest_after r before) e f)
 after_later r (h ∷ later) before after x z e f =
     let k = still_some r later before x e in
-    let g = ap (λ (o : Option Newest). kept (step_of r o h.0 h.1) o) k.1 ∙ kept_some (step_of r (Some k.0) h.0 h.1) k.0 in
+    let g = ap (λ (o : Option Newest). kept (step_of r o h.0 h.1) o) k.1
+        ∙ kept_some (step_of r (Some k.0) h.0 h.1) k.0 in
     after_later r later before (h ∷ after) x k.0 e k.1
     ∙ ap (λ (y : Newest). after_all r y after)
     (some_same (newest_of (step_of r (Some k.0) h.0 h.1) k.0) z (newest_after r (h ∷ (later ++ before))) g f)

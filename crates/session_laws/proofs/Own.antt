@@ -28,7 +28,8 @@ use Rattle.session_laws.proofs.Others.{same_parts}
 
 abbrev with_asked : ℕ → Followed → Followed
 with_asked now v =
-    record { stream = v.stream; line = v.line; asked = now ∷ v.asked; exact = v.exact; patched = v.patched; held = v.held }
+    record { stream = v.stream; line = v.line; asked = now ∷ v.asked; exact = v.exact; patched = v.patched;
+        held = v.held }
 
 abbrev heard : Bool → ℕ → History → Followed → Followed
 heard k now line v =
@@ -133,7 +134,8 @@ outcome_by : (g : Bool) (c : Config) (seen : Seen) (own : List ℕ) (st : State)
 outcome_by false c seen own st = refl
 outcome_by true c seen own st = refl
 
-pub outcome_own : (r : Result Seen Cause) (c : Config) (source : ℕ) (own : List ℕ) (st : State) → is_from source r ≡ true
+pub outcome_own : (r : Result Seen Cause) (c : Config) (source : ℕ) (own : List ℕ) (st : State)
+    → is_from source r ≡ true
     → choice.is_of st.follows.streams.followed source ≡ true
     → outcome_of_reading c r own st ≡ outcome r c own st.now (followed_in st)
 outcome_own (Err cause) c source own st e h = absurd cc
@@ -148,11 +150,14 @@ due c now v = cond (is_some (option_map (λ s. s.source) v.stream)) (is_due_in c
 
 abbrev marked : Mark → Followed → Followed
 marked marks.Exact v =
-    record { stream = v.stream; line = v.line; asked = v.asked; exact = counting.one_more v.exact; patched = v.patched; held = v.held }
+    record { stream = v.stream; line = v.line; asked = v.asked; exact = counting.one_more v.exact; patched = v.patched;
+        held = v.held }
 marked marks.Patched v =
-    record { stream = v.stream; line = v.line; asked = v.asked; exact = v.exact; patched = counting.one_more v.patched; held = v.held }
+    record { stream = v.stream; line = v.line; asked = v.asked; exact = v.exact; patched = counting.one_more v.patched;
+        held = v.held }
 marked marks.Held v =
-    record { stream = v.stream; line = v.line; asked = v.asked; exact = v.exact; patched = v.patched; held = counting.one_more v.held }
+    record { stream = v.stream; line = v.line; asked = v.asked; exact = v.exact; patched = v.patched;
+        held = counting.one_more v.held }
 
 abbrev with_line : History → Followed → Followed
 with_line line v =

@@ -86,7 +86,8 @@ heard_if : (b : Bool) (n : ℕ) (bytes : List ℕ) (a : Arrival) (past : List ti
 heard_if true n bytes a past i x = x
 heard_if false n bytes a past i x = (i, x)
 
-heard_after : (before : Option Newest) (s : Option Step) (first lead : ℕ) (bytes : List ℕ) (now : ℕ) (past : List timed.Entry)
+heard_after : (before : Option Newest) (s : Option Step) (first lead : ℕ) (bytes : List ℕ) (now : ℕ)
+    (past : List timed.Entry)
     → StepsTo before now s → AreBelow (number_of before) (timed.arrivals_of past)
     → AreBelow (number_of (kept s before))
     (timed.arrivals_of (with_place first lead (option_map (λ x. x.place) s) bytes now past))
@@ -125,7 +126,8 @@ until_place : (c : Config) (before : Option Newest) (s : Option Step) (first : �
     → m + c.lead < number_of (kept s before)
 until_place c before None first bytes now past m until g f l = f l
 until_place c before (Some s) first bytes now past m until g f l =
-    until_if (ltb (timed.next_after first past + c.lead) s.place.number) (ltb s.place.number (timed.next_after first past))
+    until_if (ltb (timed.next_after first past + c.lead) s.place.number)
+        (ltb s.place.number (timed.next_after first past))
     s.place.number receiving.Late (answer_after c.params (timed.entries_of first past) bytes) m until c.lead
     (number_of before) s.newest.number f g.old g.place l
 
@@ -207,7 +209,8 @@ completed_fine : (k : Bool) (c : Config) (run : Run) (now : ℕ) (f : Follows) �
 completed_fine false c run now f x = x
 completed_fine true c run now f x = turned_fine (choice.turn_of f.streams run now) c now f.lines x
 
-run_fine : (o : Option Run) (c : Config) (packet : Packet) (bytes : List ℕ) (now : ℕ) (f : Follows) → AreFine c now f.lines
+run_fine : (o : Option Run) (c : Config) (packet : Packet) (bytes : List ℕ) (now : ℕ) (f : Follows)
+    → AreFine c now f.lines
     → AreFine c now (after_run c o packet bytes now f).lines
 run_fine None c packet bytes now f x = x
 run_fine (Some run) c packet bytes now f x =
@@ -229,7 +232,8 @@ granted_fine true c seen t own st x =
     })
     (made_fine t c st.now seen.packet.reference st.follows.lines x)
 
-reading_fine : (r : Result Seen Cause) (c : Config) (own : List ℕ) (st : session.State) → AreFine c st.now st.follows.lines
+reading_fine : (r : Result Seen Cause) (c : Config) (own : List ℕ) (st : session.State)
+    → AreFine c st.now st.follows.lines
     → AreFine c st.now (session.after_reading c r own st).follows.lines
 reading_fine (Err cause) c own st x = x
 reading_fine (Ok seen) c own st x =
@@ -277,7 +281,8 @@ pub at_fine : (c : Config) (now : ℕ) (st : session.State) → AreFine c st.now
     → AreFine c (session.time_of st.now now) st.follows.lines
 at_fine c now st x = lines_later c st.now (session.time_of st.now now) st.follows.lines (no_later st.now now) x
 
-datagram_fine : (r : Result Seen Cause) (c : Config) (own : List ℕ) (a : session.State) → AreFine c a.now a.follows.lines
+datagram_fine : (r : Result Seen Cause) (c : Config) (own : List ℕ) (a : session.State)
+    → AreFine c a.now a.follows.lines
     → AreFine c (session.after_reading c r own a).now (session.after_reading c r own a).follows.lines
 datagram_fine r c own a x =
     lines_later c a.now (session.after_reading c r own a).now (session.after_reading c r own a).follows.lines

@@ -32,7 +32,8 @@ HasPacket bytes (PlayNext ∷ past) = HasPacket bytes past
 -- receiver before that play, unless its picture was more than the lead after the next one then.
 abbrev pub GivenInTime : Type 0
 GivenInTime =
-    (c : Config) (h : History) (later earlier : List run.Entry) (packet : Told) (bytes : List ℕ) (at : ℕ) (place : Place)
+    (c : Config) (h : History) (later earlier : List run.Entry) (packet : Told) (bytes : List ℕ) (at : ℕ)
+        (place : Place)
     → h.past ≡ later ++ (run.Came packet bytes at ∷ earlier)
     → place_of c.rate (run.heard_of earlier) packet at ≡ Some place
     → place.number ≡ next_in c h
@@ -108,7 +109,8 @@ IsPlacedAt number None = ⊥
 IsPlacedAt number (Some place) = place.number ≡ number
 
 -- Each packet is the sender's, of this slice of this picture, and that is its place when it comes.
-abbrev pub AreOfSender : Config → ℕ → Source Style Mb Picture → Packets Style Mb Picture → List Event → List Step → Type 0
+abbrev pub AreOfSender : Config → ℕ → Source Style Mb Picture → Packets Style Mb Picture → List Event → List Step
+    → Type 0
 AreOfSender c first source packets begun [] = Unit {0}
 AreOfSender c first source packets begun (Sends ∷ past) = AreOfSender c first source packets begun past
 AreOfSender c first source packets begun (Brings message ∷ past) = AreOfSender c first source packets begun past

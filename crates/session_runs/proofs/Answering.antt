@@ -27,7 +27,8 @@ tests clock n heard answer true late a l o = a refl
 tests clock n heard answer false true a l o = (heards.Late, l refl, refl)
 tests clock n heard answer false false a l o = o refl refl
 
-pub answered : (p : Params) (first lead : ℕ) (past : List timed.Entry) (place : Option Place) (bytes : List ℕ) (answer : Arrived)
+pub answered : (p : Params) (first lead : ℕ) (past : List timed.Entry) (place : Option Place) (bytes : List ℕ)
+    (answer : Arrived)
     → IsArrived p first lead past place bytes answer
     → IsAnswer p.clock answer (answer_at p first lead past place bytes)
 answered p first lead past None bytes answer x = x

@@ -18,16 +18,20 @@ use Rattle.slice_layer.specs.Written.{opening_text, mbs_text, slice_text, bytes_
 use Rattle.slice_layer.specs.declared.writing.Added.TheVariants.{Fits, Full}
 use Rattle.slice_layer.specs.Writer.{answer}
 
-pub quant_after_all-append : (quant : ℕ) (mbs : List Mb) (m : Mb) → quant_after_all quant (mbs ++ m ∷ []) ≡ quant_after (quant_after_all quant mbs) m
+pub quant_after_all-append : (quant : ℕ) (mbs : List Mb) (m : Mb) → quant_after_all quant (mbs ++ m ∷ [])
+    ≡ quant_after (quant_after_all quant mbs) m
 quant_after_all-append quant [] m = refl
 quant_after_all-append quant (n ∷ mbs) m = quant_after_all-append (quant_after quant n) mbs m
 
-pub vectors_of-append : (first : ℕ) (mbs : List Mb) (m : Mb) → vectors_of first (mbs ++ m ∷ []) ≡ vectors_of first mbs ++ vector_of m ∷ []
+pub vectors_of-append : (first : ℕ) (mbs : List Mb) (m : Mb) → vectors_of first (mbs ++ m ∷ []) ≡ vectors_of first mbs
+    ++ vector_of m ∷ []
 vectors_of-append first mbs m =
-    ap (λ (t : List Vector). replicate first no_vector ++ t) (map-append vector_of mbs (m ∷ [])) ∙ sym (append_assoc (replicate first no_vector) (map vector_of mbs) (vector_of m ∷ []))
+    ap (λ (t : List Vector). replicate first no_vector ++ t) (map-append vector_of mbs (m ∷ []))
+        ∙ sym (append_assoc (replicate first no_vector) (map vector_of mbs) (vector_of m ∷ []))
 
 pub mbs_text-append : (a : Around) (quant : ℕ) (before mbs : List Mb) (m : Mb)
-    → mbs_text a quant before (mbs ++ m ∷ []) ≡ mbs_text a quant before mbs ++ mb_text a.kind (quant_after_all quant mbs) (a.predictor (before ++ mbs)) m
+    → mbs_text a quant before (mbs ++ m ∷ []) ≡ mbs_text a quant before mbs
+        ++ mb_text a.kind (quant_after_all quant mbs) (a.predictor (before ++ mbs)) m
 unfolding mbs_text
 mbs_text-append a quant before [] m =
     let e : before ++ [] ≡ before = append-nil before in
@@ -38,17 +42,20 @@ mbs_text-append a quant before (n ∷ mbs) m =
     let e : (before ++ n ∷ []) ++ mbs ≡ before ++ n ∷ mbs = append_assoc before (n ∷ []) mbs in
     let last = λ (l : List Mb). mb_text a.kind (quant_after_all (quant_after quant n) mbs) (a.predictor l) m in
     let after = mbs_text a (quant_after quant n) (before ++ n ∷ []) mbs in
-    ap (λ (t : List Bool). front ++ t) (more ∙ ap (λ (l : List Mb). after ++ last l) e) ∙ sym (append_assoc front after (last (before ++ n ∷ mbs)))
+    ap (λ (t : List Bool). front ++ t) (more ∙ ap (λ (l : List Mb). after ++ last l) e)
+        ∙ sym (append_assoc front after (last (before ++ n ∷ mbs)))
 
 -- the text of the next macroblock
 abbrev pub next_text : Header → ℕ → List Mb → Mb → List Bool
 next_text h first mbs m = mb_text h.kind (quant_after_all h.quant mbs) (next_predictor h.format first mbs) m
 
-pub slice_text-append : (h : Header) (begins : Bool) (first : ℕ) (mbs : List Mb) (m : Mb) → slice_text h begins first (mbs ++ m ∷ []) ≡ slice_text h begins first mbs ++ next_text h first mbs m
+pub slice_text-append : (h : Header) (begins : Bool) (first : ℕ) (mbs : List Mb) (m : Mb)
+    → slice_text h begins first (mbs ++ m ∷ []) ≡ slice_text h begins first mbs ++ next_text h first mbs m
 slice_text-append h begins first mbs m =
     let opening = opening_text h begins first in
     let text = mbs_text (around h first) h.quant [] mbs in
-    ap (λ (t : List Bool). opening ++ t) (mbs_text-append (around h first) h.quant [] mbs m) ∙ sym (append_assoc opening text (next_text h first mbs m))
+    ap (λ (t : List Bool). opening ++ t) (mbs_text-append (around h first) h.quant [] mbs m)
+        ∙ sym (append_assoc opening text (next_text h first mbs m))
 
 -- a slice without macroblocks is what it opens with
 pub no_text : (h : Header) (begins : Bool) (first : ℕ) → slice_text h begins first [] ≡ opening_text h begins first
@@ -71,7 +78,8 @@ pub answer_full : (room : ℕ) (text : List Bool) → 8 * room < length text →
 answer_full room text h = rw (lt-ltb room (bytes_of text) (bytes_past room text h)) refl
 
 -- a slice of one macroblock
-one_short : HeaderLaws → MbLaws → (h : Header) (begins : Bool) (first : ℕ) (m : Mb) → IsHeader h → HasWholeBlocks m → bytes_of (slice_text h begins first (m ∷ [])) ≤ 1095
+one_short : HeaderLaws → MbLaws → (h : Header) (begins : Bool) (first : ℕ) (m : Mb) → IsHeader h → HasWholeBlocks m
+    → bytes_of (slice_text h begins first (m ∷ [])) ≤ 1095
 one_short laws of_mbs h begins first m is whole =
     let bits : length (slice_text h begins first (m ∷ [])) ≤ 8754 =
     omega (
@@ -86,4 +94,5 @@ one_short laws of_mbs h begins first m is whole =
 
 -- how many bits the text of a slice has at most
 pub are_short : HeaderLaws → MbLaws → AreShort
-are_short laws of_mbs = record { begins = length-begins laws; later = length-later; opening = opening_short laws; one = one_short laws of_mbs }
+are_short laws of_mbs = record { begins = length-begins laws; later = length-later; opening = opening_short laws;
+    one = one_short laws of_mbs }

@@ -19,8 +19,10 @@ use Rattle.slice_layer.specs.Writer.{kind_of, format_of, first_of, next_of, quan
 no_step : (quant : ℕ) → quant ≡ quant_after_all quant []
 no_step quant = refl
 
-pub begun : (w : SliceWriter) (h : Header) (begins : Bool) (first : ℕ) → IsFront (opening_text h begins first) (bytes_in w) → w.len ≡ length (opening_text h begins first)
-    → kind_of w ≡ h.kind → format_of w ≡ h.format → first_of w ≡ first → next_of w ≡ first → quant_of w ≡ h.quant → w.vectors ≡ replicate 396 no_vector → HoldsSlice w h begins first []
+pub begun : (w : SliceWriter) (h : Header) (begins : Bool) (first : ℕ)
+    → IsFront (opening_text h begins first) (bytes_in w) → w.len ≡ length (opening_text h begins first)
+    → kind_of w ≡ h.kind → format_of w ≡ h.format → first_of w ≡ first → next_of w ≡ first → quant_of w ≡ h.quant
+        → w.vectors ≡ replicate 396 no_vector → HoldsSlice w h begins first []
 begun w h begins first text len kind format from next quant vectors = record {
   text = subst (λ (t : List Bool). IsFront t (bytes_in w)) (sym (no_text h begins first)) text;
   len = len ∙ ap length (sym (no_text h begins first));
@@ -29,7 +31,8 @@ begun w h begins first text len kind format from next quant vectors = record {
   from = from;
   next = omega (arith, next);
   quant = quant ∙ no_step h.quant;
-  vectors = ap (take (next_of w)) vectors ∙ take-replicate (next_of w) 396 no_vector w.within ∙ ap (λ (k : ℕ). replicate k no_vector) next ∙ sym (append-nil (replicate first no_vector));
+  vectors = ap (take (next_of w)) vectors ∙ take-replicate (next_of w) 396 no_vector w.within
+      ∙ ap (λ (k : ℕ). replicate k no_vector) next ∙ sym (append-nil (replicate first no_vector));
 }
 
 -- the prediction of the next macroblock's vector
@@ -46,8 +49,10 @@ HasNoVector (Intra quant blocks) = Unit {0}
 HasNoVector (Inter quant v blocks) = ⊥
 
 -- each does where there is no vector to predict
-pub not_predicted : (kind : Kind) (quant : ℕ) (a b : Vector) (m n : Mb) → m ≡ n → HasNoVector n → mb_text kind quant a m ≡ mb_text kind quant b m
-not_predicted kind quant a b m n same none = subst (λ (x : Mb). mb_text kind quant a x ≡ mb_text kind quant b x) (sym same) (each n none)
+pub not_predicted : (kind : Kind) (quant : ℕ) (a b : Vector) (m n : Mb) → m ≡ n → HasNoVector n → mb_text kind quant a m
+    ≡ mb_text kind quant b m
+not_predicted kind quant a b m n same none = subst (λ (x : Mb). mb_text kind quant a x ≡ mb_text kind quant b x)
+    (sym same) (each n none)
   where
     each : (n : Mb) → HasNoVector n → mb_text kind quant a n ≡ mb_text kind quant b n
     each Skip none = refl
@@ -55,15 +60,22 @@ not_predicted kind quant a b m n same none = subst (λ (x : Mb). mb_text kind qu
     each (Inter q v blocks) none = absurd none
 
 -- what is written of the next macroblock is its text after those that are held
-pub next_is : (w : SliceWriter) (h : Header) (begins : Bool) (first : ℕ) (mbs : List Mb) (m : Mb) (v : Vector) → HoldsSlice w h begins first mbs → Serves w m v
+pub next_is : (w : SliceWriter) (h : Header) (begins : Bool) (first : ℕ) (mbs : List Mb) (m : Mb) (v : Vector)
+    → HoldsSlice w h begins first mbs → Serves w m v
     → mb_text (kind_of w) (quant_of w) v m ≡ next_text h first mbs m
 next_is w h begins first mbs m v holds serves =
     let p : prediction w ≡ next_predictor h.format first mbs =
-    ap (λ (l : List Vector). predictor_of l (first_of w) (next_of w) (columns_of (format_of w))) holds.vectors ∙ ap (λ (k : ℕ). predictor_of (vectors_of first mbs) k (next_of w) (columns_of (format_of w))) holds.from
-    ∙ ap (λ (k : ℕ). predictor_of (vectors_of first mbs) first k (columns_of (format_of w))) holds.next ∙ ap (λ (f : Format). predictor_of (vectors_of first mbs) first (first + length mbs) (columns_of f)) holds.format in
-    serves ∙ ap (λ (k : Kind). mb_text k (quant_of w) (prediction w) m) holds.kind ∙ ap (λ (q : ℕ). mb_text h.kind q (prediction w) m) holds.quant ∙ ap (λ (u : Vector). mb_text h.kind (quant_after_all h.quant mbs) u m) p
+    ap (λ (l : List Vector). predictor_of l (first_of w) (next_of w) (columns_of (format_of w))) holds.vectors
+        ∙ ap (λ (k : ℕ). predictor_of (vectors_of first mbs) k (next_of w) (columns_of (format_of w))) holds.from
+    ∙ ap (λ (k : ℕ). predictor_of (vectors_of first mbs) first k (columns_of (format_of w))) holds.next
+        ∙ ap (λ (f : Format). predictor_of (vectors_of first mbs) first (first + length mbs) (columns_of f))
+        holds.format in
+    serves ∙ ap (λ (k : Kind). mb_text k (quant_of w) (prediction w) m) holds.kind
+        ∙ ap (λ (q : ℕ). mb_text h.kind q (prediction w) m) holds.quant
+        ∙ ap (λ (u : Vector). mb_text h.kind (quant_after_all h.quant mbs) u m) p
 
-pub next_length : (w : SliceWriter) (h : Header) (begins : Bool) (first : ℕ) (mbs : List Mb) (m : Mb) (v : Vector) → HoldsSlice w h begins first mbs → Serves w m v
+pub next_length : (w : SliceWriter) (h : Header) (begins : Bool) (first : ℕ) (mbs : List Mb) (m : Mb) (v : Vector)
+    → HoldsSlice w h begins first mbs → Serves w m v
     → length (slice_text h begins first (mbs ++ m ∷ [])) ≡ w.len + length (mb_text (kind_of w) (quant_of w) v m)
 next_length w h begins first mbs m v holds serves =
     omega (
@@ -83,18 +95,22 @@ pub record Keeps (old new : SliceWriter) (m : Mb) : Type 0 where
   pub quant : quant_of new ≡ quant_after (quant_of old) m
   pub vectors : take (next_of new) new.vectors ≡ take (next_of old) old.vectors ++ vector_of m ∷ []
 
-pub held : (old new : SliceWriter) (h : Header) (begins : Bool) (first : ℕ) (mbs : List Mb) (m : Mb) → HoldsSlice old h begins first mbs
-    → IsFront (slice_text h begins first mbs ++ next_text h first mbs m) (bytes_in new) → new.len ≡ old.len + length (next_text h first mbs m) → Keeps old new m
+pub held : (old new : SliceWriter) (h : Header) (begins : Bool) (first : ℕ) (mbs : List Mb) (m : Mb)
+    → HoldsSlice old h begins first mbs
+    → IsFront (slice_text h begins first mbs ++ next_text h first mbs m) (bytes_in new)
+        → new.len ≡ old.len + length (next_text h first mbs m) → Keeps old new m
     → HoldsSlice new h begins first (mbs ++ m ∷ [])
 held old new h begins first mbs m holds text len keeps =
     let e = slice_text-append h begins first mbs m in
     record {
       text = subst (λ (t : List Bool). IsFront t (bytes_in new)) (sym e) text;
-      len = omega (arith, len, holds.len, ap length e, length-append (slice_text h begins first mbs) (next_text h first mbs m));
+      len = omega (arith, len, holds.len, ap length e,
+          length-append (slice_text h begins first mbs) (next_text h first mbs m));
       kind = keeps.kind ∙ holds.kind;
       format = keeps.format ∙ holds.format;
       from = keeps.from ∙ holds.from;
       next = omega (arith, keeps.next, holds.next, length-append mbs (m ∷ []));
       quant = keeps.quant ∙ ap (λ (q : ℕ). quant_after q m) holds.quant ∙ sym (quant_after_all-append h.quant mbs m);
-      vectors = keeps.vectors ∙ ap (λ (l : List Vector). l ++ vector_of m ∷ []) holds.vectors ∙ sym (vectors_of-append first mbs m);
+      vectors = keeps.vectors ∙ ap (λ (l : List Vector). l ++ vector_of m ∷ []) holds.vectors
+          ∙ sym (vectors_of-append first mbs m);
     }

@@ -42,7 +42,8 @@ unfolding mcbpc_table mcbpc_words class_texts
 words_marked kinds.I = refl
 words_marked kinds.P = refl
 
-marked_word : {S : Type 0} (words : List (List Bool × S)) (w : List Bool × S) → list_all (λ v. not (list_all not v.0)) words ≡ true → IsIn w words → HasOne w.0
+marked_word : {S : Type 0} (words : List (List Bool × S)) (w : List Bool × S)
+    → list_all (λ v. not (list_all not v.0)) words ≡ true → IsIn w words → HasOne w.0
 marked_word [] w e h = absurd h
 marked_word {S} (v ∷ words) w e (inl same) =
     let p = and_both (not (list_all not v.0)) (list_all (λ v. not (list_all not v.0)) words) e in
@@ -53,9 +54,11 @@ marked_word (v ∷ words) w e (inr later) =
 
 word_marked : (kind : Kind) (m : Mcbpc) (text : List Bool) → Spells (mcbpc kind) m text → HasOne text
 unfolding Spells mcbpc
-word_marked kind m text h = whole_one h.0 h.2 text h.4 (marked_word (mcbpc_table kind).list (h.0, h.1) (words_marked kind) h.3)
+word_marked kind m text h = whole_one h.0 h.2 text h.4 (marked_word (mcbpc_table kind).list (h.0,
+    h.1) (words_marked kind) h.3)
 
-class_marked : (kind : Kind) (t : Turn (Unit {0}) Lead) (text : List Bool) → Spells (class_turn kind) t text → HasOne text
+class_marked : (kind : Kind) (t : Turn (Unit {0}) Lead) (text : List Bool) → Spells (class_turn kind) t text
+    → HasOne text
 unfolding Spells class_turn
 class_marked kind t text h = whole_one h.1 h.2 text h.3 (word_marked kind h.0 h.1 h.4)
 
@@ -72,19 +75,25 @@ unfolding spelled
 set = refl
 
 -- COD is 1, or it stands before MCBPC
-cod_marked : (cod : ℕ) (t : Turn (Unit {0}) Lead) (rest text : List Bool) → text ≡ spelled 1 cod ++ rest → Spells (either (cod == 1) (done (skipped)) (class_turn kinds.P)) t rest → HasOne text
+cod_marked : (cod : ℕ) (t : Turn (Unit {0}) Lead) (rest text : List Bool) → text ≡ spelled 1 cod ++ rest
+    → Spells (either (cod == 1) (done (skipped)) (class_turn kinds.P)) t rest → HasOne text
 cod_marked cod t rest text e = at (cod == 1) refl
   where
-    at : (test : Bool) → (cod == 1) ≡ test → Spells (either test (done (skipped)) (class_turn kinds.P)) t rest → HasOne text
-    at true is h = whole_one (spelled 1 cod) rest text e (subst (λ (v : ℕ). HasOne (spelled 1 v)) (sym (eqb-true cod 1 is)) set)
-    at false is h = subst (λ (b : List Bool). HasOne b) (sym e) (one_after (spelled 1 cod) rest (class_marked kinds.P t rest h))
+    at : (test : Bool) → (cod == 1) ≡ test → Spells (either test (done (skipped)) (class_turn kinds.P)) t rest
+        → HasOne text
+    at true is h = whole_one (spelled 1 cod) rest text e (subst (λ (v : ℕ). HasOne (spelled 1 v))
+        (sym (eqb-true cod 1 is)) set)
+    at false is h = subst (λ (b : List Bool). HasOne b) (sym e)
+        (one_after (spelled 1 cod) rest (class_marked kinds.P t rest h))
 
-turn_marked : (kind : Kind) (u : Unit {0}) (t : Turn (Unit {0}) Lead) (text : List Bool) → Spells (lead_turn kind u) t text → HasOne text
+turn_marked : (kind : Kind) (u : Unit {0}) (t : Turn (Unit {0}) Lead) (text : List Bool)
+    → Spells (lead_turn kind u) t text → HasOne text
 unfolding Spells lead_turn
 turn_marked kinds.I u t text h = class_marked kinds.I t text h
 turn_marked kinds.P u t text h = cod_marked h.0 t h.1 text h.4 h.5
 
-turns_marked : (kind : Kind) (n : ℕ) (u : Unit {0}) (l : Lead) (text : List Bool) → Turns (λ t x front. Spells (lead_turn kind t) x front) n u l text → HasOne text
+turns_marked : (kind : Kind) (n : ℕ) (u : Unit {0}) (l : Lead) (text : List Bool)
+    → Turns (λ t x front. Spells (lead_turn kind t) x front) n u l text → HasOne text
 turns_marked kind zero u l text h = turn_marked kind u (finally l) text h
 turns_marked kind (suc n) u l text h = whole_one h.1 h.2 text h.3 (turn_marked kind u (again h.0) h.1 h.4)
 
@@ -92,6 +101,8 @@ lead_marked : (kind : Kind) (l : Lead) (text : List Bool) → Spells (lead kind)
 unfolding Spells lead
 lead_marked kind l text h = turns_marked kind h.0 tt l text h.1
 
-pub mb_marked : (kind : Kind) (quant : ℕ) (reach : Reach) (predictor : Vector) (m : Mb) (front rest : List Bool) → Spells (mb kind quant reach predictor) m front → is_padding (front ++ rest) ≡ false
+pub mb_marked : (kind : Kind) (quant : ℕ) (reach : Reach) (predictor : Vector) (m : Mb) (front rest : List Bool)
+    → Spells (mb kind quant reach predictor) m front → is_padding (front ++ rest) ≡ false
 unfolding Spells mb
-mb_marked kind quant reach predictor m front rest h = no_padding front rest (whole_one h.1 h.2 front h.3 (lead_marked kind h.0 h.1 h.4))
+mb_marked kind quant reach predictor m front rest h =
+    no_padding front rest (whole_one h.1 h.2 front h.3 (lead_marked kind h.0 h.1 h.4))

@@ -25,22 +25,27 @@ use Rattle.stream_audit.specs.Stream.{Feedback, Item, Part, Picture, StreamPictu
 use Rattle.stream_audit.specs.Verdict.{has}
 use Rattle.stream_audit.proofs.Lists.{any_append}
 
-pub count_stays : (items : List (Item Style Mb)) (part : Part Style Mb) → pictures_in (with_part items part) ≡ pictures_in items
+pub count_stays : (items : List (Item Style Mb)) (part : Part Style Mb) → pictures_in (with_part items part)
+    ≡ pictures_in items
 count_stays [] part = refl
 count_stays (Picture p ∷ items) part = refl
 count_stays (Feedback bytes ∷ items) part = count_stays items part
 
-last_longer : (items : List (Item Style Mb)) (part : Part Style Mb) → last_picture (with_part items part) ≡ option_map (λ p. with_more p part) (last_picture items)
+last_longer : (items : List (Item Style Mb)) (part : Part Style Mb) → last_picture (with_part items part)
+    ≡ option_map (λ p. with_more p part) (last_picture items)
 last_longer [] part = refl
 last_longer (Picture p ∷ items) part = refl
 last_longer (Feedback bytes ∷ items) part = last_longer items part
 
-known_stays : (read : List ℕ → Result call.Message MessageFault) (rules : call.Rules) (items : List (Item Style Mb)) (part : Part Style Mb) → known_of read rules (with_part items part) ≡ known_of read rules items
+known_stays : (read : List ℕ → Result call.Message MessageFault) (rules : call.Rules) (items : List (Item Style Mb))
+    (part : Part Style Mb) → known_of read rules (with_part items part) ≡ known_of read rules items
 known_stays read rules [] part = refl
 known_stays read rules (Picture p ∷ items) part = refl
 known_stays read rules (Feedback bytes ∷ items) part =
-    ap (λ (n : ℕ). known_by_feedback rules n (result_ok (read bytes)) ++ known_of read rules (with_part items part)) (count_stays items part)
-    ∙ ap (λ (l : List ℕ). known_by_feedback rules (pictures_in items) (result_ok (read bytes)) ++ l) (known_stays read rules items part)
+    ap (λ (n : ℕ). known_by_feedback rules n (result_ok (read bytes)) ++ known_of read rules (with_part items part))
+        (count_stays items part)
+    ∙ ap (λ (l : List ℕ). known_by_feedback rules (pictures_in items) (result_ok (read bytes))
+        ++ l) (known_stays read rules items part)
 
 -- a macroblock is in the piece's slice where it is in the packet's
 held : (piece : Piece) (q : call.Piece Style Mb) (m : ℕ) → Spells piece q → call.has_mb q.slice m ≡ holds piece.head m
@@ -52,40 +57,51 @@ or_false true = refl
 or_false false = refl
 
 -- which macroblocks the picture has with one part more
-one_more : (p : StreamPicture Style Mb) (part : Part Style Mb) (m : ℕ) → has (with_more p part) m ≡ (has p m || call.has_mb part.piece.slice m)
+one_more : (p : StreamPicture Style Mb) (part : Part Style Mb) (m : ℕ) → has (with_more p part) m
+    ≡ (has p m || call.has_mb part.piece.slice m)
 one_more p part m =
     any_append (λ x. call.has_mb x.piece.slice m) p.parts (part ∷ []) ∙ ap (λ (b : Bool). has p m || b) (or_false _)
 
-module _ (laws : TakenLaws) (k : Kept) (items : List (Item Style Mb)) (part : Part Style Mb) (piece : Piece) (keeps : Keeps k items) (spells : Spells piece part.piece) where
+module _ (laws : TakenLaws) (k : Kept) (items : List (Item Style Mb)) (part : Part Style Mb) (piece : Piece)
+    (keeps : Keeps k items) (spells : Spells piece part.piece) where
   pub added : (c : Collector) (p : StreamPicture Style Mb) → last_picture items ≡ Some p → part.piece.header ≡ p.header
-      → Collects c (k.pictures - 1) (record { number = k.pictures - 1; piece = piece } ∷ keeps.taken) → Keeps (record k { collector = c }) (with_part items part)
+      → Collects c (k.pictures - 1) (record { number = k.pictures - 1; piece = piece } ∷ keeps.taken)
+          → Keeps (record k { collector = c }) (with_part items part)
   added c p is header collects = record {
     count = keeps.count ∙ sym (count_stays items part);
-    tr = keeps.tr ∙ same_number (last_picture items) ∙ ap (option_map (λ (x : StreamPicture Style Mb). x.header.number)) (sym (last_longer items part));
+    tr = keeps.tr ∙ same_number (last_picture items)
+        ∙ ap (option_map (λ (x : StreamPicture Style Mb). x.header.number)) (sym (last_longer items part));
     taken = t ∷ keeps.taken;
     collects = collects;
-    last = subst (λ (o : Option (StreamPicture Style Mb)). IsLast o (k.pictures - 1) (mbs_of k.params.format) (t ∷ keeps.taken)) (sym (last_longer items part ∙ ap (option_map (λ p. with_more p part)) is)) taken_of;
-    known = subst (λ (l : List ℕ). SelectorStands (rules_of k.params) k.selector k.pictures (λ m. 0) (is_among l)) (sym (known_stays (read_message k.params.clock) (rules_of k.params) items part)) keeps.known;
+    last = subst (λ (o : Option (StreamPicture Style Mb)). IsLast o (k.pictures - 1) (mbs_of k.params.format)
+        (t ∷ keeps.taken)) (sym (last_longer items part ∙ ap (option_map (λ p. with_more p part)) is)) taken_of;
+    known = subst (λ (l : List ℕ). SelectorStands (rules_of k.params) k.selector k.pictures (λ m. 0) (is_among l))
+        (sym (known_stays (read_message k.params.clock) (rules_of k.params) items part)) keeps.known;
   }
     where
       t : Taken
       t = record { number = k.pictures - 1; piece = piece }
 
-      same_number : (o : Option (StreamPicture Style Mb)) → option_map (λ x. x.header.number) o ≡ option_map (λ x. x.header.number) (option_map (λ p. with_more p part) o)
+      same_number : (o : Option (StreamPicture Style Mb)) → option_map (λ x. x.header.number) o
+          ≡ option_map (λ x. x.header.number) (option_map (λ p. with_more p part) o)
       same_number None = refl
       same_number (Some x) = refl
 
       of_last : IsTakenOf p (k.pictures - 1) (mbs_of k.params.format) keeps.taken
-      of_last = subst (λ (o : Option (StreamPicture Style Mb)). IsLast o (k.pictures - 1) (mbs_of k.params.format) keeps.taken) is keeps.last
+      of_last = subst (λ (o : Option (StreamPicture Style Mb)). IsLast o (k.pictures - 1) (mbs_of k.params.format)
+          keeps.taken) is keeps.last
 
-      marks : (m : ℕ) → m < mbs_of k.params.format → has_taken (t ∷ keeps.taken) (k.pictures - 1) m ≡ has (with_more p part) m
+      marks : (m : ℕ) → m < mbs_of k.params.format → has_taken (t ∷ keeps.taken) (k.pictures - 1) m
+          ≡ has (with_more p part) m
       marks m lt =
           elim (cases_Bool (holds piece.head m)) [
             | inl in_it ↦
-                let more : has (with_more p part) m ≡ true = one_more p part m ∙ or_right _ _ (held piece part.piece m spells ∙ in_it) in
+                let more : has (with_more p part) m ≡ true = one_more p part m
+                    ∙ or_right _ _ (held piece part.piece m spells ∙ in_it) in
                 laws.held t keeps.taken m in_it ∙ sym more
             | inr out ↦
-                let same : has (with_more p part) m ≡ has p m = one_more p part m ∙ ap (λ (b : Bool). has p m || b) (held piece part.piece m spells ∙ out) ∙ or_false (has p m) in
+                let same : has (with_more p part) m ≡ has p m = one_more p part m
+                    ∙ ap (λ (b : Bool). has p m || b) (held piece part.piece m spells ∙ out) ∙ or_false (has p m) in
                 laws.not_held t keeps.taken (k.pictures - 1) m out ∙ of_last.marks m lt ∙ sym same
           ]
 
@@ -101,8 +117,10 @@ module _ (laws : TakenLaws) (k : Kept) (items : List (Item Style Mb)) (part : Pa
 
   pub begun : (c : Collector) (s : Selector) → has_any keeps.taken k.pictures ≡ false
       → Collects c k.pictures (record { number = k.pictures; piece = piece } ∷ keeps.taken)
-      → SelectorStands (rules_of k.params) s (k.pictures + 1) (λ m. 0) (is_among (known_of (read_message k.params.clock) (rules_of k.params) items))
-      → Keeps (record k { pictures = k.pictures + 1; tr = Some piece.header.tr; collector = c; selector = s }) (Picture (begun_by part) ∷ items)
+      → SelectorStands (rules_of k.params) s (k.pictures + 1) (λ m. 0)
+          (is_among (known_of (read_message k.params.clock) (rules_of k.params) items))
+      → Keeps (record k { pictures = k.pictures + 1; tr = Some piece.header.tr; collector = c; selector = s })
+          (Picture (begun_by part) ∷ items)
   begun c s absent collects stands = record {
     count = ap (λ (n : ℕ). n + 1) keeps.count;
     tr = ap (λ (h : call.Header Style). Some h.number) (sym spells.header);
@@ -121,8 +139,10 @@ module _ (laws : TakenLaws) (k : Kept) (items : List (Item Style Mb)) (part : Pa
       marks : (m : ℕ) → has_taken (t ∷ keeps.taken) k.pictures m ≡ (call.has_mb part.piece.slice m || false)
       marks m =
           elim (cases_Bool (holds piece.head m)) [
-            | inl in_it ↦ laws.held t keeps.taken m in_it ∙ sym (or_left _ false (held piece part.piece m spells ∙ in_it))
-            | inr out ↦ laws.not_held t keeps.taken k.pictures m out ∙ laws.never keeps.taken k.pictures m absent ∙ sym (or_false _ ∙ held piece part.piece m spells ∙ out)
+            | inl in_it ↦ laws.held t keeps.taken m in_it
+                ∙ sym (or_left _ false (held piece part.piece m spells ∙ in_it))
+            | inr out ↦ laws.not_held t keeps.taken k.pictures m out ∙ laws.never keeps.taken k.pictures m absent
+                ∙ sym (or_false _ ∙ held piece part.piece m spells ∙ out)
           ]
 
       taken_of : IsTakenOf (begun_by part) k.pictures (mbs_of k.params.format) (t ∷ keeps.taken)
@@ -136,10 +156,12 @@ module _ (laws : TakenLaws) (k : Kept) (items : List (Item Style Mb)) (part : Pa
       }
 
 -- before the first picture nothing is taken
-pub none_at_first : (k : Kept) (items : List (Item Style Mb)) (keeps : Keeps k items) → k.pictures ≡ 0 → has_any keeps.taken 0 ≡ false
+pub none_at_first : (k : Kept) (items : List (Item Style Mb)) (keeps : Keeps k items) → k.pictures ≡ 0
+    → has_any keeps.taken 0 ≡ false
 none_at_first k items keeps first =
     subst (λ (n : ℕ). has_any keeps.taken n ≡ false) (let z : k.pictures - 1 ≡ 0 = omega arith in z)
-    (subst (λ (o : Option (StreamPicture Style Mb)). IsLast o (k.pictures - 1) (mbs_of k.params.format) keeps.taken) (none items (sym keeps.count ∙ first)) keeps.last)
+    (subst (λ (o : Option (StreamPicture Style Mb)). IsLast o (k.pictures - 1) (mbs_of k.params.format) keeps.taken)
+        (none items (sym keeps.count ∙ first)) keeps.last)
   where
     none : (items : List (Item Style Mb)) → pictures_in items ≡ 0 → last_picture items ≡ None
     none [] e = refl

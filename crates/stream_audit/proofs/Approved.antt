@@ -23,9 +23,11 @@ use Rattle.stream_audit.proofs.Verdicts.{IsGoing, IsClean, first_part, has_from,
 -- a macroblock of the slice
 in_slice : {Mb : Type 0} (slice : Slice Mb) (i : ℕ) → i < length slice.mbs → has_mb slice (slice.first + i) ≡ true
 unfolding has_mb
-in_slice slice i lt = and_from _ _ (le-leb slice.first (slice.first + i) (omega arith)) (lt-ltb (slice.first + i) (slice.first + length slice.mbs) (omega (arith, lt)))
+in_slice slice i lt = and_from _ _ (le-leb slice.first (slice.first + i) (omega arith))
+    (lt-ltb (slice.first + i) (slice.first + length slice.mbs) (omega (arith, lt)))
 
-module _ {Style Mb P Fault MessageFault : Type 0} (decoding : Decoding Style Mb P Fault) (read : List ℕ → Result Message MessageFault) (rules : Rules) (lawful : IsDecoding decoding rules) (below : AllBelowIs) where
+module _ {Style Mb P Fault MessageFault : Type 0} (decoding : Decoding Style Mb P Fault) (read : List ℕ
+    → Result Message MessageFault) (rules : Rules) (lawful : IsDecoding decoding rules) (below : AllBelowIs) where
   abbrev Going : List (Item Style Mb) → StreamPicture Style Mb → Type 0
   Going items p = IsGoing decoding read rules lawful below items p
 
@@ -34,12 +36,15 @@ module _ {Style Mb P Fault MessageFault : Type 0} (decoding : Decoding Style Mb 
 
   -- ---- a sound picture
 
-  slice_at : (p : StreamPicture Style Mb) (j : ℕ) (part : Part Style Mb) → slice_get p.parts j ≡ Some part → slice_get (slices_of p) j ≡ Some part.piece.slice
+  slice_at : (p : StreamPicture Style Mb) (j : ℕ) (part : Part Style Mb) → slice_get p.parts j ≡ Some part
+      → slice_get (slices_of p) j ≡ Some part.piece.slice
   slice_at p j part at =
-      slice_get-map (λ (x : Part Style Mb). x.piece.slice) p.parts j ∙ ap (option_map (λ (x : Part Style Mb). x.piece.slice)) at
+      slice_get-map (λ (x : Part Style Mb). x.piece.slice) p.parts j
+          ∙ ap (option_map (λ (x : Part Style Mb). x.piece.slice)) at
 
   -- the place of the only packet that has a macroblock
-  one_place : (p : StreamPicture Style Mb) (covers : Covers rules.mbs (slices_of p)) (j k : ℕ) (part : Part Style Mb) → slice_get p.parts j ≡ Some part → has_mb part.piece.slice k ≡ true → j ≡ covers.place_of k
+  one_place : (p : StreamPicture Style Mb) (covers : Covers rules.mbs (slices_of p)) (j k : ℕ) (part : Part Style Mb)
+      → slice_get p.parts j ≡ Some part → has_mb part.piece.slice k ≡ true → j ≡ covers.place_of k
   one_place p covers j k part at held =
       let there = slice_at p j part at in
       let inside = (covers.inside j part.piece.slice there).1 in
@@ -47,7 +52,8 @@ module _ {Style Mb P Fault MessageFault : Type 0} (decoding : Decoding Style Mb 
       let lt : k < rules.mbs = omega (arith, inside, within.1) in
       eqb-true j (covers.place_of k) (sym (covers.has j k part.piece.slice lt there) ∙ held)
 
-  going_of : (items : List (Item Style Mb)) (p : StreamPicture Style Mb) → IsSoundAfter decoding read rules items p → Going items p
+  going_of : (items : List (Item Style Mb)) (p : StreamPicture Style Mb) → IsSoundAfter decoding read rules items p
+      → Going items p
   going_of items p sound = record {
     number = sound.number;
     half = sound.half;
@@ -69,9 +75,11 @@ module _ {Style Mb P Fault MessageFault : Type 0} (decoding : Decoding Style Mb 
         | inl h ↦
             let there = slice_at p (covers.place_of k) h.0 h.2 in
             any_at (λ (x : Part Style Mb). has_mb x.piece.slice k) p.parts (covers.place_of k) h.0 h.2
-            (covers.has (covers.place_of k) k h.0.piece.slice lt there ∙ eq-eqb (covers.place_of k) (covers.place_of k) refl)
+            (covers.has (covers.place_of k) k h.0.piece.slice lt there
+                ∙ eq-eqb (covers.place_of k) (covers.place_of k) refl)
         | inr h ↦
-            let same : length (slices_of p) ≡ length p.parts = length_map (λ (x : Part Style Mb). x.piece.slice) p.parts in
+            let same : length (slices_of p) ≡ length p.parts = length_map (λ (x : Part Style Mb). x.piece.slice) p.parts
+                in
             absurd (omega (arith, far, h.0, same))
       ]
 
@@ -82,33 +90,44 @@ module _ {Style Mb P Fault MessageFault : Type 0} (decoding : Decoding Style Mb 
 
   -- ---- a packet of the last picture
 
-  part_before : (items : List (Item Style Mb)) (p : StreamPicture Style Mb) (part : Part Style Mb) → Going items (with_more p part) → Going items p
+  part_before : (items : List (Item Style Mb)) (p : StreamPicture Style Mb) (part : Part Style Mb)
+      → Going items (with_more p part) → Going items p
   part_before items p part going = record {
     number = going.number;
     half = going.half;
     packets = λ j x at. going.packets j x (slice_get_left p.parts (part ∷ []) j x at);
     reference = going.reference;
     apart = λ i j k a b at_i at_j in_a in_b.
-        going.apart i j k a b (slice_get_left p.parts (part ∷ []) i a at_i) (slice_get_left p.parts (part ∷ []) j b at_j) in_a in_b;
+        going.apart i j k a b (slice_get_left p.parts (part ∷ []) i a at_i)
+            (slice_get_left p.parts (part ∷ []) j b at_j) in_a in_b;
   }
 
-  fresh_before : (items : List (Item Style Mb)) (p : StreamPicture Style Mb) (part : Part Style Mb) → Going items (with_more p part) → (k : ℕ) → has_mb part.piece.slice k ≡ true → has p k ≡ false
+  fresh_before : (items : List (Item Style Mb)) (p : StreamPicture Style Mb) (part : Part Style Mb)
+      → Going items (with_more p part) → (k : ℕ) → has_mb part.piece.slice k ≡ true → has p k ≡ false
   fresh_before items p part going k held = false_from_ne_true _ (λ (old : has p k ≡ true).
       let first = first_part p.parts k old in
-      let at : slice_get (p.parts ++ part ∷ []) (place_in p.parts k) ≡ Some first.0 = slice_get_left p.parts (part ∷ []) (place_in p.parts k) first.0 first.1 in
-      let same : place_in p.parts k ≡ length p.parts = going.apart (place_in p.parts k) (length p.parts) k first.0 part at (slice_get_last p.parts part) first.2 held in
+      let at : slice_get (p.parts ++ part ∷ []) (place_in p.parts k) ≡ Some first.0 = slice_get_left p.parts (part ∷ [])
+          (place_in p.parts k) first.0 first.1 in
+      let same : place_in p.parts k ≡ length p.parts = going.apart (place_in p.parts k) (length p.parts) k first.0 part
+          at (slice_get_last p.parts part) first.2 held in
       let near = slice_get_within p.parts (place_in p.parts k) first.0 first.1 in
       absurd (omega (arith, same, near)))
 
-  own_before : (items : List (Item Style Mb)) (p : StreamPicture Style Mb) (part : Part Style Mb) → Going items (with_more p part) → broken_within decoding read rules (Some p) part.piece ≡ None
+  own_before : (items : List (Item Style Mb)) (p : StreamPicture Style Mb) (part : Part Style Mb)
+      → Going items (with_more p part) → broken_within decoding read rules (Some p) part.piece ≡ None
   own_before items p part going =
       let header = (going.packets (length p.parts) part (slice_get_last p.parts part)).1 in
-      let same : same_header decoding p.header part.piece.header ≡ true = subst (λ (h : Header Style). same_header decoding p.header h ≡ true) (sym header) (header_self decoding rules lawful p.header) in
-      let none : none_in part.piece.slice (has p) ≡ true = (below (length part.piece.slice.mbs) (λ i. not (has p (part.piece.slice.first + i)))).1
-      (λ i lt. ap not (fresh_before items p part going (part.piece.slice.first + i) (in_slice part.piece.slice i lt))) in
+      let same : same_header decoding p.header part.piece.header
+          ≡ true = subst (λ (h : Header Style). same_header decoding p.header h ≡ true) (sym header)
+          (header_self decoding rules lawful p.header) in
+      let none : none_in part.piece.slice (has p)
+          ≡ true = (below (length part.piece.slice.mbs) (λ i. not (has p (part.piece.slice.first + i)))).1
+      (λ i lt. ap not (fresh_before items p part going (part.piece.slice.first + i) (in_slice part.piece.slice i lt)))
+          in
       rw (same, none) refl
 
-  part_last : (items : List (Item Style Mb)) (part : Part Style Mb) → Clean (with_part items part) → Clean items × (broken_within decoding read rules (last_picture items) part.piece ≡ None)
+  part_last : (items : List (Item Style Mb)) (part : Part Style Mb) → Clean (with_part items part)
+      → Clean items × (broken_within decoding read rules (last_picture items) part.piece ≡ None)
   part_last [] part clean = (tt, refl)
   part_last (Feedback bytes ∷ items) part clean = part_last items part clean
   part_last (Picture p ∷ items) part clean =
@@ -119,48 +138,65 @@ module _ {Style Mb P Fault MessageFault : Type 0} (decoding : Decoding Style Mb 
   refers : (items : List (Item Style Mb)) (o : Option ℕ)
       → ((rest : ℕ) → o ≡ Some rest → (m : ℕ) × (nearest_below rules (pictures_in items) rest ≡ Some m)
       × (pictures_in items ≤ m + window rules) × (is_among (known_of read rules items) m ≡ true))
-      → option_map_or (λ rest. option_map_or (may_refer rules (known_of read rules items) (pictures_in items)) (nearest_below rules (pictures_in items) rest) false) o true ≡ true
+      → option_map_or (λ rest. option_map_or (may_refer rules (known_of read rules items) (pictures_in items))
+          (nearest_below rules (pictures_in items) rest) false) o true ≡ true
   refers items None there = refl
   refers items (Some rest) there =
       let r = there rest refl in
       ap (λ (o : Option ℕ). option_map_or (may_refer rules (known_of read rules items) (pictures_in items)) o false) r.1
       ∙ and_from _ _ r.3 (le-leb (pictures_in items) (r.0 + window rules) r.2)
 
-  next_before : (items : List (Item Style Mb)) (part : Part Style Mb) → Clean (Picture (begun_by part) ∷ items) → Clean items × (broken_next decoding read rules items part.piece ≡ None)
+  next_before : (items : List (Item Style Mb)) (part : Part Style Mb) → Clean (Picture (begun_by part) ∷ items)
+      → Clean items × (broken_next decoding read rules items part.piece ≡ None)
   next_before items part clean =
       let whole = whole_of items clean.1 in
-      let right : eqb part.piece.header.number (pictures_in items % period rules) ≡ true = eq-eqb part.piece.header.number (pictures_in items % period rules) clean.0.number in
-      let there : has_reference decoding read rules items part.piece.header ≡ true = refers items part.piece.header.reference clean.0.reference in
+      let right : eqb part.piece.header.number (pictures_in items % period rules)
+          ≡ true = eq-eqb part.piece.header.number (pictures_in items % period rules) clean.0.number in
+      let there : has_reference decoding read rules items part.piece.header
+          ≡ true = refers items part.piece.header.reference clean.0.reference in
       (clean_of items clean.1, rw (whole, right, there) refl)
 
   -- ---- a log
 
-  packet_before : (items : List (Item Style Mb)) (part : Part Style Mb) → part.piece.header.half ≡ rules.half → Clean (with_packet items part) → Clean items × (broken_by decoding read rules items (Ok part.piece) ≡ None)
+  packet_before : (items : List (Item Style Mb)) (part : Part Style Mb) → part.piece.header.half ≡ rules.half
+      → Clean (with_packet items part) → Clean items × (broken_by decoding read rules items (Ok part.piece) ≡ None)
   packet_before items part half clean =
       let clock : eqb part.piece.header.half rules.half ≡ true = eq-eqb part.piece.header.half rules.half half in
       elim (cases_Bool (is_of (last_picture items) part.piece)) [
         | inl own ↦
-            let r = part_last items part (subst (λ (b : Bool). Clean (if b then with_part items part else Picture (begun_by part) ∷ items)) own clean) in
+            let r = part_last items part
+                (subst (λ (b : Bool). Clean (if b then with_part items part else Picture (begun_by part) ∷ items)) own
+                clean) in
             (r.0, rw (clock, own) (ap (option_map (broken_at (present items))) r.1))
         | inr next ↦
-            let r = next_before items part (subst (λ (b : Bool). Clean (if b then with_part items part else Picture (begun_by part) ∷ items)) next clean) in
+            let r = next_before items part
+                (subst (λ (b : Bool). Clean (if b then with_part items part else Picture (begun_by part) ∷ items)) next
+                clean) in
             (r.0, rw (clock, next) r.1)
       ]
 
-  unbroken : (past : List LogEntry) → AllReadable decoding rules past → Clean (stream_of decoding past) → first_broken decoding read rules past ≡ None
+  unbroken : (past : List LogEntry) → AllReadable decoding rules past → Clean (stream_of decoding past)
+      → first_broken decoding read rules past ≡ None
   unbroken [] readable clean = refl
-  unbroken (Fed bytes ∷ past) readable clean = ap (λ (o : Option Broken). first_of o None) (unbroken past readable clean)
+  unbroken (Fed bytes ∷ past) readable clean = ap (λ (o : Option Broken). first_of o None)
+      (unbroken past readable clean)
   unbroken (Sent bytes ∷ past) readable clean =
       let piece = readable.0.0 in
       let reads : decoding.read bytes ≡ Ok piece = readable.0.1 in
       let part : Part Style Mb = record { bytes = bytes; piece = piece } in
       let r = packet_before (stream_of decoding past) part readable.0.2
-      (subst (λ (x : Result (Piece Style Mb) Fault). Clean (with_bytes decoding (stream_of decoding past) bytes x)) reads clean) in
-      ap (λ (o : Option Broken). first_of o (broken_by decoding read rules (stream_of decoding past) (decoding.read bytes))) (unbroken past readable.1 r.0)
+      (subst (λ (x : Result (Piece Style Mb) Fault). Clean (with_bytes decoding (stream_of decoding past) bytes x))
+          reads clean) in
+      ap (λ (o : Option Broken). first_of o (broken_by decoding read rules (stream_of decoding past)
+          (decoding.read bytes))) (unbroken past readable.1 r.0)
       ∙ ap (broken_by decoding read rules (stream_of decoding past)) reads
       ∙ r.1
 
-  pub sound_is_yes : (past : List LogEntry) → AllReadable decoding rules past → IsSound decoding read rules (stream_of decoding past) → verdict_of decoding read rules past ≡ Yes (pictures_in (stream_of decoding past))
+  pub sound_is_yes : (past : List LogEntry) → AllReadable decoding rules past
+      → IsSound decoding read rules (stream_of decoding past) → verdict_of decoding read rules past
+      ≡ Yes (pictures_in (stream_of decoding past))
   sound_is_yes past readable sound =
-      ap (λ (o : Option Broken). verdict_by decoding read rules o (stream_of decoding past)) (unbroken past readable (clean_of (stream_of decoding past) sound))
-      ∙ ap (λ (b : Bool). if b then Yes (pictures_in (stream_of decoding past)) else No (present (stream_of decoding past)) rule.Gap) (whole_of (stream_of decoding past) sound)
+      ap (λ (o : Option Broken). verdict_by decoding read rules o (stream_of decoding past))
+          (unbroken past readable (clean_of (stream_of decoding past) sound))
+      ∙ ap (λ (b : Bool). if b then Yes (pictures_in (stream_of decoding past)) else No
+          (present (stream_of decoding past)) rule.Gap) (whole_of (stream_of decoding past) sound)

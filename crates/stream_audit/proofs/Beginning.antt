@@ -11,7 +11,8 @@ use Rattle.packet_collector.specs.Collected.{Collects, FitsKept, IsFreshIn, IsIn
 use Rattle.call_model.specs.Numbers.{AllBelowIs}
 use Rattle.packet_collector.specs.Taken.{Taken, TakenLaws, has_any}
 
-module _ (laws : TakenLaws) (below : AllBelowIs) (c : Collector) (n : ℕ) (taken : List Taken) (collects : Collects c n taken) (row : row_of c ≡ 1) (absent : has_any taken n ≡ false) where
+module _ (laws : TakenLaws) (below : AllBelowIs) (c : Collector) (n : ℕ) (taken : List Taken)
+    (collects : Collects c n taken) (row : row_of c ≡ 1) (absent : has_any taken n ≡ false) where
   in_row : IsInRow c n
   in_row = record { low = omega (arith, collects.begins); high = omega (arith, collects.begins, row) }
 
@@ -24,11 +25,13 @@ module _ (laws : TakenLaws) (below : AllBelowIs) (c : Collector) (n : ℕ) (take
     header = no_header (header_in c n) piece.header (collects.headers n in_row);
     none = (below piece.head.count (λ i. not (has_in c n (piece.head.first + i)))).1 (λ i lt.
         let inside : piece.head.first + i < mbs_of (format_of c) = omega (arith, lt, head.within) in
-        ap not (collects.marks n (piece.head.first + i) in_row inside ∙ laws.never taken n (piece.head.first + i) absent));
+        ap not (collects.marks n (piece.head.first + i) in_row inside
+            ∙ laws.never taken n (piece.head.first + i) absent));
   }
 
 -- after the row's end nothing was taken
-pub absent_after : TakenLaws → (c : Collector) (first n : ℕ) (taken : List Taken) → Collects c first taken → row_of c ≡ 1 → n ≡ first + 1 → has_any taken n ≡ false
+pub absent_after : TakenLaws → (c : Collector) (first n : ℕ) (taken : List Taken) → Collects c first taken
+    → row_of c ≡ 1 → n ≡ first + 1 → has_any taken n ≡ false
 absent_after laws c first n taken collects row is =
     false_from_ne_true _ (λ e.
     let m = laws.member taken n e in

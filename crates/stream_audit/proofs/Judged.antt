@@ -26,12 +26,15 @@ positive zero none = absurd (none refl)
 positive (suc n) none = omega arith
 
 -- where a temporal reference is the last picture's, there is one
-pub some_before : (k : Kept) → Fits k → (number : ℕ) → option_map_or (λ n. eqb n number) k.tr false ≡ true → 0 < k.pictures
+pub some_before : (k : Kept) → Fits k → (number : ℕ) → option_map_or (λ n. eqb n number) k.tr false ≡ true
+    → 0 < k.pictures
 some_before k fits number is =
-    positive k.pictures (λ first. false≢true (ap (λ (o : Option ℕ). option_map_or (λ n. eqb n number) o false) (sym (fits.before_first first).0) ∙ is))
+    positive k.pictures (λ first. false≢true (ap (λ (o : Option ℕ). option_map_or (λ n. eqb n number) o false)
+        (sym (fits.before_first first).0) ∙ is))
 
 -- a packet is of the last picture where it has that one's temporal reference
-pub last_own : (k : Kept) (items : List (Item Style Mb)) (piece : Piece) (q : call.Piece Style Mb) → Keeps k items → Spells piece q
+pub last_own : (k : Kept) (items : List (Item Style Mb)) (piece : Piece) (q : call.Piece Style Mb) → Keeps k items
+    → Spells piece q
     → option_map_or (λ n. eqb n piece.header.tr) k.tr false ≡ is_of (last_picture items) q
 last_own k items piece q keeps spells =
     ap (λ (o : Option ℕ). option_map_or (λ n. eqb n piece.header.tr) o false) keeps.tr ∙ go (last_picture items)
@@ -39,11 +42,13 @@ last_own k items piece q keeps spells =
     number : piece.header.tr ≡ q.header.number
     number = ap (λ (h : call.Header Style). h.number) (sym spells.header)
 
-    go : (o : Option (StreamPicture Style Mb)) → option_map_or (λ n. eqb n piece.header.tr) (option_map (λ p. p.header.number) o) false ≡ is_of o q
+    go : (o : Option (StreamPicture Style Mb))
+        → option_map_or (λ n. eqb n piece.header.tr) (option_map (λ p. p.header.number) o) false ≡ is_of o q
     go None = refl
     go (Some p) = ap (λ (n : ℕ). eqb p.header.number n) number
 
-module _ (k : Kept) (items : List (Item Style Mb)) (part : Part Style Mb) (piece : Piece) (keeps : Keeps k items) (spells : Spells piece part.piece) where
+module _ (k : Kept) (items : List (Item Style Mb)) (part : Part Style Mb) (piece : Piece) (keeps : Keeps k items)
+    (spells : Spells piece part.piece) where
   abbrev By : Option Broken
   By = broken_by (decoding k.params.format) (read_message k.params.clock) (rules_of k.params) items (Ok part.piece)
 
@@ -56,28 +61,38 @@ module _ (k : Kept) (items : List (Item Style Mb)) (part : Part Style Mb) (piece
   same_half : piece.header.clock ≡ k.params.clock → eqb part.piece.header.half (half_of k.params.clock) ≡ true
   same_half same = eq-eqb part.piece.header.half (half_of k.params.clock) (half ∙ ap half_of same)
 
-  pub own_picture : is_of (last_picture items) part.piece ≡ true → (p : StreamPicture Style Mb) × (last_picture items ≡ Some p)
+  pub own_picture : is_of (last_picture items) part.piece ≡ true → (p : StreamPicture Style Mb)
+      × (last_picture items ≡ Some p)
   own_picture own = go (last_picture items) refl own
     where
-      go : (o : Option (StreamPicture Style Mb)) → last_picture items ≡ o → is_of o part.piece ≡ true → (p : StreamPicture Style Mb) × (last_picture items ≡ Some p)
+      go : (o : Option (StreamPicture Style Mb)) → last_picture items ≡ o → is_of o part.piece ≡ true
+          → (p : StreamPicture Style Mb) × (last_picture items ≡ Some p)
       go None is own = absurd (false≢true own)
       go (Some p) is own = (p, is)
 
-  pub at_own : piece.header.clock ≡ k.params.clock → is_of (last_picture items) part.piece ≡ true → (p : StreamPicture Style Mb) → last_picture items ≡ Some p
-      → (o : Option Rule) → o ≡ broken_within (decoding k.params.format) (read_message k.params.clock) (rules_of k.params) (Some p) part.piece
+  pub at_own : piece.header.clock ≡ k.params.clock → is_of (last_picture items) part.piece ≡ true
+      → (p : StreamPicture Style Mb) → last_picture items ≡ Some p
+      → (o : Option Rule) → o ≡ broken_within (decoding k.params.format) (read_message k.params.clock)
+          (rules_of k.params) (Some p) part.piece
       → option_map (broken_at (k.pictures - 1)) o ≡ By
   at_own same own p is o at =
       ap (λ (n : ℕ). option_map (broken_at n) o) (sym here)
-      ∙ ap (option_map (broken_at (present items))) (at ∙ ap (λ (x : Option (StreamPicture Style Mb)). broken_within (decoding k.params.format) (read_message k.params.clock) (rules_of k.params) x part.piece) (sym is))
+      ∙ ap (option_map (broken_at (present items))) (at
+          ∙ ap (λ (x : Option (StreamPicture Style Mb)). broken_within (decoding k.params.format)
+          (read_message k.params.clock) (rules_of k.params) x part.piece) (sym is))
       ∙ sym (rw (same_half same, own) refl)
 
-  pub kept_own : (new : Kept) → is_of (last_picture items) part.piece ≡ true → Keeps new (with_part items part) → Keeps new (with_packet items part)
+  pub kept_own : (new : Kept) → is_of (last_picture items) part.piece ≡ true → Keeps new (with_part items part)
+      → Keeps new (with_packet items part)
   kept_own new own keeps' = rw own keeps'
 
   -- a packet of the last picture that breaks nothing has its header
-  pub one_header : IsDecoding (decoding k.params.format) (rules_of k.params) → (p : StreamPicture Style Mb) → None ≡ broken_within (decoding k.params.format) (read_message k.params.clock) (rules_of k.params) (Some p) part.piece → part.piece.header ≡ p.header
+  pub one_header : IsDecoding (decoding k.params.format) (rules_of k.params) → (p : StreamPicture Style Mb)
+      → None ≡ broken_within (decoding k.params.format) (read_message k.params.clock) (rules_of k.params)
+      (Some p) part.piece → part.piece.header ≡ p.header
   one_header lawful p none =
       elim (cases_Bool (call.same_header (decoding k.params.format) p.header part.piece.header)) [
-        | inl same ↦ sym (same_header_is (decoding k.params.format) (rules_of k.params) lawful p.header part.piece.header same)
+        | inl same ↦ sym (same_header_is (decoding k.params.format) (rules_of k.params) lawful p.header
+            part.piece.header same)
         | inr other ↦ absurd (not_none rule.Header (sym (none ∙ rw other refl)))
       ]

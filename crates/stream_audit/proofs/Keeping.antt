@@ -41,8 +41,10 @@ not_both true e f = cc
 not_both false e f = cc
 
 -- where all are taken, not none is
-some_of_all : AllBelowIs → (count : ℕ) (f : ℕ → Bool) → 0 < count → all_below count f ≡ true → all_below count (λ i. not (f i)) ≡ false
-some_of_all below count f some all = false_from_ne_true _ (λ none. not_both (f 0) ((below count f).0 all 0 some) ((below count (λ i. not (f i))).0 none 0 some))
+some_of_all : AllBelowIs → (count : ℕ) (f : ℕ → Bool) → 0 < count → all_below count f ≡ true
+    → all_below count (λ i. not (f i)) ≡ false
+some_of_all below count f some all = false_from_ne_true _ (λ none. not_both (f 0) ((below count f).0 all 0 some)
+    ((below count (λ i. not (f i))).0 none 0 some))
 
 -- the rule that a slice breaks by its place
 abbrev pub rule_of : Place → Option Rule
@@ -51,53 +53,76 @@ rule_of places.Repeat = Some rule.Overlap
 rule_of places.Overlap = Some rule.Overlap
 rule_of places.Fresh = None
 
-module _ (laws : TakenLaws) (whole : (h : Header) → header_from (header_of h) ≡ h) (k : Kept) (lawful : IsDecoding (decoding k.params.format) (rules_of k.params)) (below : AllBelowIs) where
-  module _ (items : List (Item Style Mb)) (p : StreamPicture Style Mb) (piece : Piece) (q : call.Piece Style Mb) (keeps : Keeps k items) (is : last_picture items ≡ Some p) (head : IsHeadOf k.params.format piece.head) (spells : Spells piece q) where
+module _ (laws : TakenLaws) (whole : (h : Header) → header_from (header_of h) ≡ h) (k : Kept)
+    (lawful : IsDecoding (decoding k.params.format) (rules_of k.params)) (below : AllBelowIs) where
+  module _ (items : List (Item Style Mb)) (p : StreamPicture Style Mb) (piece : Piece) (q : call.Piece Style Mb)
+      (keeps : Keeps k items) (is : last_picture items ≡ Some p) (head : IsHeadOf k.params.format piece.head)
+      (spells : Spells piece q) where
     of_last : IsTakenOf p (k.pictures - 1) (mbs_of k.params.format) keeps.taken
-    of_last = subst (λ (o : Option (StreamPicture Style Mb)). IsLast o (k.pictures - 1) (mbs_of k.params.format) keeps.taken) is keeps.last
+    of_last = subst (λ (o : Option (StreamPicture Style Mb)). IsLast o (k.pictures - 1) (mbs_of k.params.format)
+        keeps.taken) is keeps.last
 
-    same_from : HasNoOther keeps.taken (k.pictures - 1) piece.header → call.same_header (decoding k.params.format) p.header q.header ≡ true
+    same_from : HasNoOther keeps.taken (k.pictures - 1) piece.header
+        → call.same_header (decoding k.params.format) p.header q.header ≡ true
     same_from no_other =
         let m = laws.member keeps.taken (k.pictures - 1) of_last.some in
-        let equal : p.header ≡ q.header = sym (of_last.header m.0 m.1 m.2) ∙ ap header_of (no_other m.0 m.1 m.2) ∙ sym spells.header in
-        subst (λ (h : call.Header Style). call.same_header (decoding k.params.format) p.header h ≡ true) equal (header_self (decoding k.params.format) (rules_of k.params) lawful p.header)
+        let equal : p.header ≡ q.header = sym (of_last.header m.0 m.1 m.2) ∙ ap header_of (no_other m.0 m.1 m.2)
+            ∙ sym spells.header in
+        subst (λ (h : call.Header Style). call.same_header (decoding k.params.format) p.header h ≡ true) equal
+            (header_self (decoding k.params.format) (rules_of k.params) lawful p.header)
 
-    other_from : HasOther keeps.taken (k.pictures - 1) piece.header → call.same_header (decoding k.params.format) p.header q.header ≡ false
+    other_from : HasOther keeps.taken (k.pictures - 1) piece.header
+        → call.same_header (decoding k.params.format) p.header q.header ≡ false
     other_from other = false_from_ne_true _ (λ e.
-        let equal : p.header ≡ q.header = same_header_is (decoding k.params.format) (rules_of k.params) lawful p.header q.header e in
-        let seen : header_of other.0.piece.header ≡ header_of piece.header = of_last.header other.0 other.1 other.2 ∙ equal ∙ spells.header in
+        let equal : p.header ≡ q.header = same_header_is (decoding k.params.format) (rules_of k.params) lawful p.header
+            q.header e in
+        let seen : header_of other.0.piece.header ≡ header_of piece.header = of_last.header other.0 other.1 other.2
+            ∙ equal ∙ spells.header in
         other.3 (sym (whole other.0.piece.header) ∙ ap header_from seen ∙ whole piece.header))
 
-    marked : (i : ℕ) → i < piece.head.count → has p (q.slice.first + i) ≡ has_taken keeps.taken (k.pictures - 1) (piece.head.first + i)
-    marked i lt = ap (λ (m : ℕ). has p (m + i)) spells.first ∙ sym (of_last.marks (piece.head.first + i) (omega (arith, lt, head.within)))
+    marked : (i : ℕ) → i < piece.head.count → has p (q.slice.first + i)
+        ≡ has_taken keeps.taken (k.pictures - 1) (piece.head.first + i)
+    marked i lt = ap (λ (m : ℕ). has p (m + i)) spells.first
+        ∙ sym (of_last.marks (piece.head.first + i) (omega (arith, lt, head.within)))
 
     none_same : none_in q.slice (has p) ≡ kept.none_in piece.head (has_taken keeps.taken (k.pictures - 1))
     none_same =
         ap (λ (m : ℕ). all_below m (λ i. not (has p (q.slice.first + i)))) spells.count
         ∙ all_below_same piece.head.count _ _ (λ i lt. ap not (marked i lt))
 
-    broken : (same none : Bool) → call.same_header (decoding k.params.format) p.header q.header ≡ same → none_in q.slice (has p) ≡ none
-        → broken_within (decoding k.params.format) (read_message k.params.clock) (rules_of k.params) (Some p) q ≡ (if not same then Some rule.Header else if not none then Some rule.Overlap else None)
+    broken : (same none : Bool) → call.same_header (decoding k.params.format) p.header q.header ≡ same
+        → none_in q.slice (has p) ≡ none
+        → broken_within (decoding k.params.format) (read_message k.params.clock) (rules_of k.params) (Some p) q
+            ≡ (if not same then Some rule.Header else if not none then Some rule.Overlap else None)
     broken same none e f = λ i. if not (e i) then Some rule.Header else if not (f i) then Some rule.Overlap else None
 
-    pub within_is : (place : Place) → IsPlace keeps.taken (k.pictures - 1) piece place → rule_of place ≡ broken_within (decoding k.params.format) (read_message k.params.clock) (rules_of k.params) (Some p) q
+    pub within_is : (place : Place) → IsPlace keeps.taken (k.pictures - 1) piece place
+        → rule_of place ≡ broken_within (decoding k.params.format) (read_message k.params.clock) (rules_of k.params)
+        (Some p) q
     within_is places.HeaderDiffers at = sym (broken false _ (other_from at) refl)
-    within_is places.Repeat at = sym (broken true false (same_from at.0) (none_same ∙ some_of_all below piece.head.count _ head.some at.1))
+    within_is places.Repeat at = sym (broken true false (same_from at.0) (none_same
+        ∙ some_of_all below piece.head.count _ head.some at.1))
     within_is places.Overlap at = sym (broken true false (same_from at.0) (none_same ∙ at.2))
     within_is places.Fresh at = sym (broken true true (same_from at.0) (none_same ∙ at.2))
 
 -- the last picture is whole where all its macroblocks are taken
-pub whole_is : (k : Kept) (items : List (Item Style Mb)) (keeps : Keeps k items) (p : StreamPicture Style Mb) → last_picture items ≡ Some p
+pub whole_is : (k : Kept) (items : List (Item Style Mb)) (keeps : Keeps k items) (p : StreamPicture Style Mb)
+    → last_picture items ≡ Some p
     → is_whole k.params.format keeps.taken (k.pictures - 1) ≡ last_is_whole (rules_of k.params) items
 whole_is k items keeps p is =
-    let last = subst (λ (o : Option (StreamPicture Style Mb)). IsLast o (k.pictures - 1) (mbs_of k.params.format) keeps.taken) is keeps.last in
+    let last = subst (λ (o : Option (StreamPicture Style Mb)). IsLast o (k.pictures - 1) (mbs_of k.params.format)
+        keeps.taken) is keeps.last in
     all_below_same (mbs_of k.params.format) _ _ (λ m lt. last.marks m lt)
-    ∙ ap (λ (o : Option (StreamPicture Style Mb)). option_map_or (rules_for.is_whole (rules_of k.params)) o true) (sym is)
+    ∙ ap (λ (o : Option (StreamPicture Style Mb)). option_map_or (rules_for.is_whole (rules_of k.params)) o true)
+        (sym is)
 
 -- the last picture, if its number is kept
-last_is : (k : Kept) (items : List (Item Style Mb)) → Keeps k items → (o : Option (StreamPicture Style Mb)) → last_picture items ≡ o → k.tr ≡ None → o ≡ None
+last_is : (k : Kept) (items : List (Item Style Mb)) → Keeps k items → (o : Option (StreamPicture Style Mb))
+    → last_picture items ≡ o → k.tr ≡ None → o ≡ None
 last_is k items keeps None is none = refl
-last_is k items keeps (Some p) is none = absurd (not_none p.header.number (sym (keeps.tr ∙ ap (option_map (λ (x : StreamPicture Style Mb). x.header.number)) is) ∙ none))
+last_is k items keeps (Some p) is none =
+    absurd (not_none p.header.number (sym (keeps.tr
+    ∙ ap (option_map (λ (x : StreamPicture Style Mb). x.header.number)) is) ∙ none))
 
 -- the next picture of a stream of n may have the reference that is named
 abbrev pub referred : call.Rules → List ℕ → ℕ → Option ℕ → Bool
@@ -106,7 +131,8 @@ referred rules known n o = option_map_or (may_refer rules known n) o false
 far : (rules : call.Rules) (known : List ℕ) (n m : ℕ) → m + call.window rules < n → may_refer rules known n m ≡ false
 far rules known n m lt = and_right _ _ (lt-leb n (m + call.window rules) lt)
 
-near : (rules : call.Rules) (known : List ℕ) (n m : ℕ) → n ≤ m + call.window rules → may_refer rules known n m ≡ is_among known m
+near : (rules : call.Rules) (known : List ℕ) (n m : ℕ) → n ≤ m + call.window rules → may_refer rules known n m
+    ≡ is_among known m
 near rules known n m le = rw (le-leb n (m + call.window rules) le) (go (is_among known m))
   where
     go : (b : Bool) → (b && true) ≡ b
@@ -120,29 +146,40 @@ module _ (k : Kept) (items : List (Item Style Mb)) (keeps : Keeps k items) (rest
   abbrev Reference : Option ℕ → Bool
   Reference o = referred (rules_of k.params) known (pictures_in items) o
 
-  named : (o : Option ℕ) → nearest_below (rules_of k.params) k.pictures rest ≡ o → nearest_below (rules_of k.params) (pictures_in items) rest ≡ o
+  named : (o : Option ℕ) → nearest_below (rules_of k.params) k.pictures rest ≡ o
+      → nearest_below (rules_of k.params) (pictures_in items) rest ≡ o
   named o e = ap (λ (n : ℕ). nearest_below (rules_of k.params) n rest) (sym keeps.count) ∙ e
 
-  pub near_named : (m : ℕ) → nearest_below (rules_of k.params) k.pictures rest ≡ Some m → k.pictures ≤ m + (k.params.slots - k.params.lead - 1) → Reference (nearest_below (rules_of k.params) (pictures_in items) rest) ≡ is_among known m
+  pub near_named : (m : ℕ) → nearest_below (rules_of k.params) k.pictures rest ≡ Some m
+      → k.pictures ≤ m + (k.params.slots - k.params.lead - 1)
+      → Reference (nearest_below (rules_of k.params) (pictures_in items) rest) ≡ is_among known m
   near_named m e le =
-      ap Reference (named (Some m) e) ∙ near (rules_of k.params) known (pictures_in items) m (omega (arith, le, keeps.count))
+      ap Reference (named (Some m) e)
+          ∙ near (rules_of k.params) known (pictures_in items) m (omega (arith, le, keeps.count))
 
 -- the last picture is whole where all its macroblocks are taken, or there is none
 pub whole_where : (k : Kept) (items : List (Item Style Mb)) (keeps : Keeps k items) (tr : ℕ) → k.tr ≡ Some tr
     → is_whole k.params.format keeps.taken (k.pictures - 1) ≡ last_is_whole (rules_of k.params) items
 whole_where k items keeps tr there = go (last_picture items) refl
   where
-    go : (o : Option (StreamPicture Style Mb)) → last_picture items ≡ o → is_whole k.params.format keeps.taken (k.pictures - 1) ≡ last_is_whole (rules_of k.params) items
-    go None is = absurd (not_none tr (sym (sym (keeps.tr ∙ ap (option_map (λ (x : StreamPicture Style Mb). x.header.number)) is) ∙ there)))
+    go : (o : Option (StreamPicture Style Mb)) → last_picture items ≡ o
+        → is_whole k.params.format keeps.taken (k.pictures - 1) ≡ last_is_whole (rules_of k.params) items
+    go None is = absurd (not_none tr
+        (sym (sym (keeps.tr ∙ ap (option_map (λ (x : StreamPicture Style Mb). x.header.number)) is) ∙ there)))
     go (Some p) is = whole_is k items keeps p is
 
-pub whole_none : (k : Kept) (items : List (Item Style Mb)) → Keeps k items → k.tr ≡ None → true ≡ last_is_whole (rules_of k.params) items
+pub whole_none : (k : Kept) (items : List (Item Style Mb)) → Keeps k items → k.tr ≡ None
+    → true ≡ last_is_whole (rules_of k.params) items
 whole_none k items keeps none =
-    ap (λ (o : Option (StreamPicture Style Mb)). option_map_or (rules_for.is_whole (rules_of k.params)) o true) (sym (last_is k items keeps (last_picture items) refl none))
+    ap (λ (o : Option (StreamPicture Style Mb)). option_map_or (rules_for.is_whole (rules_of k.params)) o true)
+        (sym (last_is k items keeps (last_picture items) refl none))
 
 -- what feedback makes known is known after it
-pub noted : (k : Kept) (s : Selector) (items : List (Item Style Mb)) (bytes : List ℕ) (message : call.Message) → Keeps k items
-    → SelectorStands (rules_of k.params) s k.pictures (λ m. 0) (λ m. is_among (known_by_feedback (rules_of k.params) k.pictures (Some message)) m || is_among (known_of (read_message k.params.clock) (rules_of k.params) items) m)
+pub noted : (k : Kept) (s : Selector) (items : List (Item Style Mb)) (bytes : List ℕ) (message : call.Message)
+    → Keeps k items
+    → SelectorStands (rules_of k.params) s k.pictures (λ m. 0)
+        (λ m. is_among (known_by_feedback (rules_of k.params) k.pictures (Some message)) m || is_among
+        (known_of (read_message k.params.clock) (rules_of k.params) items) m)
     → read_message k.params.clock bytes ≡ Ok message → Keeps (record k { selector = s }) (Feedback bytes ∷ items)
 noted k s items bytes message keeps stands read = record {
   count = keeps.count;
@@ -158,8 +195,12 @@ noted k s items bytes message keeps stands read = record {
     depth_is = stands.depth_is;
     known_is = λ m low high.
         stands.known_is m low high
-        ∙ sym (any_append (λ (q : ℕ). q == m) (known_by_feedback (rules_of k.params) k.pictures (Some message)) (known_of (read_message k.params.clock) (rules_of k.params) items))
-        ∙ ap (λ (n : ℕ). is_among (known_by_feedback (rules_of k.params) n (Some message) ++ known_of (read_message k.params.clock) (rules_of k.params) items) m) keeps.count
-        ∙ ap (λ (r : Result call.Message MessageFault). is_among (known_by_feedback (rules_of k.params) (pictures_in items) (result_ok r) ++ known_of (read_message k.params.clock) (rules_of k.params) items) m) (sym read);
+        ∙ sym (any_append (λ (q : ℕ). q == m) (known_by_feedback (rules_of k.params) k.pictures (Some message))
+            (known_of (read_message k.params.clock) (rules_of k.params) items))
+        ∙ ap (λ (n : ℕ). is_among (known_by_feedback (rules_of k.params) n (Some message)
+            ++ known_of (read_message k.params.clock) (rules_of k.params) items) m) keeps.count
+        ∙ ap (λ (r : Result call.Message MessageFault). is_among (known_by_feedback (rules_of k.params)
+            (pictures_in items) (result_ok r) ++ known_of (read_message k.params.clock) (rules_of k.params) items) m)
+            (sym read);
   };
 }

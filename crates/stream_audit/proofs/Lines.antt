@@ -51,7 +51,8 @@ no_space d = ne_eqb (48 + d) 32 (λ (e : 48 + d ≡ 32). omega (arith, e))
 
 digits_alone : (n : ℕ) → n < 2 ^ 64 → LacksByte 32 (decimal n)
 digits_alone n small =
-    decimal_by_steps (λ n ds. LacksByte 32 ds) (λ n one. (no_space n, tt)) (λ n ds more lacks. lacks_push 32 ds (48 + n % 10) lacks (no_space (n % 10))) n small
+    decimal_by_steps (λ n ds. LacksByte 32 ds) (λ n one. (no_space n, tt)) (λ n ds more lacks. lacks_push 32 ds
+        (48 + n % 10) lacks (no_space (n % 10))) n small
 
 -- ---- a line
 
@@ -87,21 +88,27 @@ other_line n m r e =
     let first : 121 ≡ 110 = ap (λ (l : List ℕ). slice_index l 0) (sym (yes_line n) ∙ e ∙ no_line m r) in
     absurd (omega (arith, first))
 
-pub lines_tell : (v w : Verdict) → number_told v < 2 ^ 64 → number_told w < 2 ^ 64 → verdict_line v ≡ verdict_line w → v ≡ w
+pub lines_tell : (v w : Verdict) → number_told v < 2 ^ 64 → number_told w < 2 ^ 64 → verdict_line v ≡ verdict_line w
+    → v ≡ w
 lines_tell (Yes n) (Yes m) small also e =
-    let rests = append_cancel_left (codes "yes pictures ") (decimal n ++ newline) (decimal m ++ newline) (sym (yes_line n) ∙ e ∙ yes_line m) in
+    let rests = append_cancel_left (codes "yes pictures ") (decimal n ++ newline) (decimal m ++ newline)
+        (sym (yes_line n) ∙ e ∙ yes_line m) in
     ap Yes (decimal_injective n m small also (append_cancel_right (decimal n) (decimal m) newline rests))
 lines_tell (Yes n) (No m r) small also e = absurd (other_line n m r e)
 lines_tell (No n r) (Yes m) small also e = absurd (other_line m n r (sym e))
 lines_tell (No n r) (No m s) small also e =
-    let rests = append_cancel_left (codes "no ") (decimal n ++ (32 ∷ (word_of r ++ newline))) (decimal m ++ (32 ∷ (word_of s ++ newline))) (sym (no_line n r) ∙ e ∙ no_line m s) in
+    let rests = append_cancel_left (codes "no ") (decimal n ++ (32 ∷ (word_of r ++ newline))) (decimal m
+        ++ (32 ∷ (word_of s ++ newline))) (sym (no_line n r) ∙ e ∙ no_line m s) in
     let numbers : decimal n ≡ decimal m =
-    sym (before_is 32 (decimal n) (word_of r ++ newline) (digits_alone n small)) ∙ ap (before 32) rests ∙ before_is 32 (decimal m) (word_of s ++ newline) (digits_alone m also)
+    sym (before_is 32 (decimal n) (word_of r ++ newline) (digits_alone n small)) ∙ ap (before 32) rests
+        ∙ before_is 32 (decimal m) (word_of s ++ newline) (digits_alone m also)
     in
     let words : word_of r ++ newline ≡ word_of s ++ newline =
-    sym (after_is 32 (decimal n) (word_of r ++ newline) (digits_alone n small)) ∙ ap (after 32) rests ∙ after_is 32 (decimal m) (word_of s ++ newline) (digits_alone m also)
+    sym (after_is 32 (decimal n) (word_of r ++ newline) (digits_alone n small)) ∙ ap (after 32) rests
+        ∙ after_is 32 (decimal m) (word_of s ++ newline) (digits_alone m also)
     in
-    let same : r ≡ s = sym (rule_again r) ∙ ap rule_by (append_cancel_right (word_of r) (word_of s) newline words) ∙ rule_again s in
+    let same : r ≡ s = sym (rule_again r) ∙ ap rule_by (append_cancel_right (word_of r) (word_of s) newline words)
+        ∙ rule_again s in
     ap (λ (k : ℕ). No k r) (decimal_injective n m small also numbers) ∙ ap (No m) same
 
 -- ---- the number in the verdict on a log
@@ -116,7 +123,8 @@ within_some most x few b is = let same : x ≡ b = cc in subst (λ (y : Broken).
 within_none : (most : ℕ) → Within most None
 within_none most b is = absurd (cc is)
 
-within_if : (most : ℕ) (t : Bool) (x y : Option Broken) → Within most x → Within most y → Within most (if t then x else y)
+within_if : (most : ℕ) (t : Bool) (x y : Option Broken) → Within most x → Within most y
+    → Within most (if t then x else y)
 within_if most true x y one two = one
 within_if most false x y one two = two
 
@@ -128,60 +136,81 @@ within_first : (most : ℕ) (x y : Option Broken) → Within most x → Within m
 within_first most None y one two = two
 within_first most (Some x) y one two = one
 
-module _ {Style Mb P Fault MessageFault : Type 0} (decoding : Decoding Style Mb P Fault) (read : List ℕ → Result Message MessageFault) (rules : Rules) where
+module _ {Style Mb P Fault MessageFault : Type 0} (decoding : Decoding Style Mb P Fault) (read : List ℕ
+    → Result Message MessageFault) (rules : Rules) where
   going : (items : List (Item Style Mb)) → present items ≤ pictures_in items
   going items = omega arith
 
-  packet_within : (items : List (Item Style Mb)) (r : Result (Piece Style Mb) Fault) → Within (pictures_in items) (broken_by decoding read rules items r)
-  packet_within items (Err fault) = within_some (pictures_in items) (broken_at (present items) rule.Packet) (going items)
+  packet_within : (items : List (Item Style Mb)) (r : Result (Piece Style Mb) Fault)
+      → Within (pictures_in items) (broken_by decoding read rules items r)
+  packet_within items (Err fault) = within_some (pictures_in items) (broken_at (present items) rule.Packet)
+      (going items)
   packet_within items (Ok piece) =
       let most = pictures_in items in
       let n : most ≤ most = omega arith in
-      within_if most (not (eqb piece.header.half rules.half)) (Some (broken_at (present items) rule.Packet)) _ (within_some most (broken_at (present items) rule.Packet) (going items))
+      within_if most (not (eqb piece.header.half rules.half)) (Some (broken_at (present items) rule.Packet)) _
+          (within_some most (broken_at (present items) rule.Packet) (going items))
       (within_if most (is_of (last_picture items) piece) _ _
       (within_at most (present items) (broken_within decoding read rules (last_picture items) piece) (going items))
-      (within_if most (not (last_is_whole rules items)) (Some (broken_at (present items) rule.Gap)) _ (within_some most (broken_at (present items) rule.Gap) (going items))
-      (within_if most (not (eqb piece.header.number (pictures_in items % period rules))) (Some (broken_at most rule.Number)) _ (within_some most (broken_at most rule.Number) n)
-      (within_if most (not (has_reference decoding read rules items piece.header)) (Some (broken_at most rule.Reference)) None (within_some most (broken_at most rule.Reference) n) (within_none most)))))
+      (within_if most (not (last_is_whole rules items)) (Some (broken_at (present items) rule.Gap)) _
+          (within_some most (broken_at (present items) rule.Gap) (going items))
+      (within_if most (not (eqb piece.header.number (pictures_in items % period rules)))
+          (Some (broken_at most rule.Number)) _ (within_some most (broken_at most rule.Number) n)
+      (within_if most (not (has_reference decoding read rules items piece.header))
+          (Some (broken_at most rule.Reference)) None (within_some most (broken_at most rule.Reference) n)
+          (within_none most)))))
 
-  count_stays : (items : List (Item Style Mb)) (part : Part Style Mb) → pictures_in (with_part items part) ≡ pictures_in items
+  count_stays : (items : List (Item Style Mb)) (part : Part Style Mb) → pictures_in (with_part items part)
+      ≡ pictures_in items
   count_stays [] part = refl
   count_stays (Picture p ∷ items) part = refl
   count_stays (Feedback bytes ∷ items) part = count_stays items part
 
-  one_more : (t : Bool) (items : List (Item Style Mb)) (part : Part Style Mb) → pictures_in (if t then with_part items part else Picture (begun_by part) ∷ items) ≤ pictures_in items + 1
+  one_more : (t : Bool) (items : List (Item Style Mb)) (part : Part Style Mb)
+      → pictures_in (if t then with_part items part else Picture (begun_by part) ∷ items) ≤ pictures_in items + 1
   one_more true items part = omega (arith, count_stays items part)
   one_more false items part = omega arith
 
-  bytes_more : (items : List (Item Style Mb)) (bytes : List ℕ) (r : Result (Piece Style Mb) Fault) → pictures_in (with_bytes decoding items bytes r) ≤ pictures_in items + 1
-  bytes_more items bytes (Ok piece) = let part : Part Style Mb = record { bytes = bytes; piece = piece } in one_more (is_of (last_picture items) piece) items part
+  bytes_more : (items : List (Item Style Mb)) (bytes : List ℕ) (r : Result (Piece Style Mb) Fault)
+      → pictures_in (with_bytes decoding items bytes r) ≤ pictures_in items + 1
+  bytes_more items bytes (Ok piece) = let part : Part Style Mb = record { bytes = bytes; piece = piece } in
+      one_more (is_of (last_picture items) piece) items part
   bytes_more items bytes (Err fault) = omega arith
 
   pub few_pictures : (log : List LogEntry) → pictures_in (stream_of decoding log) ≤ length log
   few_pictures [] = omega arith
-  few_pictures (Sent bytes ∷ past) = let r = few_pictures past in let more = bytes_more (stream_of decoding past) bytes (decoding.read bytes) in omega (arith, r, more)
+  few_pictures (Sent bytes ∷ past) = let r = few_pictures past in
+      let more = bytes_more (stream_of decoding past) bytes (decoding.read bytes) in omega (arith, r, more)
   few_pictures (Fed bytes ∷ past) = let r = few_pictures past in omega (arith, r)
 
   widen : (n m : ℕ) (o : Option Broken) → n ≤ m → Within n o → Within m o
   widen n m o le within b is = let few = within b is in omega (arith, le, few)
 
-  entry_within : (items : List (Item Style Mb)) (e : LogEntry) → Within (pictures_in items) (broken_in decoding read rules items e)
+  entry_within : (items : List (Item Style Mb)) (e : LogEntry)
+      → Within (pictures_in items) (broken_in decoding read rules items e)
   entry_within items (Sent bytes) = packet_within items (decoding.read bytes)
   entry_within items (Fed bytes) = within_none (pictures_in items)
 
   first_within : (log : List LogEntry) → Within (length log) (first_broken decoding read rules log)
   first_within [] = within_none 0
   first_within (e ∷ past) =
-      within_first (suc (length past)) (first_broken decoding read rules past) (broken_in decoding read rules (stream_of decoding past) e)
-      (widen (length past) (suc (length past)) (first_broken decoding read rules past) (omega arith) (first_within past))
-      (widen (pictures_in (stream_of decoding past)) (suc (length past)) (broken_in decoding read rules (stream_of decoding past) e) (omega (arith, few_pictures past)) (entry_within (stream_of decoding past) e))
+      within_first (suc (length past)) (first_broken decoding read rules past)
+          (broken_in decoding read rules (stream_of decoding past) e)
+      (widen (length past) (suc (length past)) (first_broken decoding read rules past) (omega arith)
+          (first_within past))
+      (widen (pictures_in (stream_of decoding past)) (suc (length past))
+          (broken_in decoding read rules (stream_of decoding past) e) (omega (arith, few_pictures past))
+          (entry_within (stream_of decoding past) e))
 
-  closing_within : (items : List (Item Style Mb)) (t : Bool) → number_told (if t then Yes (pictures_in items) else No (present items) rule.Gap) ≤ pictures_in items
+  closing_within : (items : List (Item Style Mb)) (t : Bool)
+      → number_told (if t then Yes (pictures_in items) else No (present items) rule.Gap) ≤ pictures_in items
   closing_within items true = omega arith
   closing_within items false = going items
 
-  verdict_within : (log : List LogEntry) (o : Option Broken) → first_broken decoding read rules log ≡ o → number_told (verdict_by decoding read rules o (stream_of decoding log)) ≤ length log
-  verdict_within log None is = let c = closing_within (stream_of decoding log) (last_is_whole rules (stream_of decoding log)) in omega (arith, c, few_pictures log)
+  verdict_within : (log : List LogEntry) (o : Option Broken) → first_broken decoding read rules log ≡ o
+      → number_told (verdict_by decoding read rules o (stream_of decoding log)) ≤ length log
+  verdict_within log None is = let c = closing_within (stream_of decoding log)
+      (last_is_whole rules (stream_of decoding log)) in omega (arith, c, few_pictures log)
   verdict_within log (Some b) is = first_within log b is
 
   pub few_in_verdict : (log : List LogEntry) → number_told (verdict_of decoding read rules log) ≤ length log

@@ -8,7 +8,8 @@ use Rattle.call_model.specs.Numbers.{all_below}
 pub not_none : {A : Type 0} (x : A) → Some x ≡ None → ⊥
 not_none x e = cc
 
-pub slice_get_left : {X : Type 0} (xs ys : List X) (n : ℕ) (x : X) → slice_get xs n ≡ Some x → slice_get (xs ++ ys) n ≡ Some x
+pub slice_get_left : {X : Type 0} (xs ys : List X) (n : ℕ) (x : X) → slice_get xs n ≡ Some x → slice_get (xs ++ ys) n
+    ≡ Some x
 slice_get_left [] ys n x e = cc
 slice_get_left (y ∷ xs) ys zero x e = e
 slice_get_left (y ∷ xs) ys (suc n) x e = slice_get_left xs ys n x e
@@ -18,7 +19,8 @@ slice_get_last [] x = refl
 slice_get_last (y ∷ xs) x = slice_get_last xs x
 
 -- an element of the longer list is the new one or an old one
-pub slice_get_push : {X : Type 0} (xs : List X) (y : X) (n : ℕ) (x : X) → slice_get (xs ++ y ∷ []) n ≡ Some x → (slice_get xs n ≡ Some x) ⊎ ((n ≡ length xs) × (x ≡ y))
+pub slice_get_push : {X : Type 0} (xs : List X) (y : X) (n : ℕ) (x : X) → slice_get (xs ++ y ∷ []) n ≡ Some x
+    → (slice_get xs n ≡ Some x) ⊎ ((n ≡ length xs) × (x ≡ y))
 slice_get_push [] y zero x e = inr (refl, cc)
 slice_get_push [] y (suc n) x e = inl e
 slice_get_push (z ∷ xs) y zero x e = inl e
@@ -42,7 +44,8 @@ all_below_same (suc n) f g each =
     cc
 
 -- where an element passes, some do
-pub any_at : {X : Type 0} (f : X → Bool) (xs : List X) (n : ℕ) (x : X) → slice_get xs n ≡ Some x → f x ≡ true → list_any f xs ≡ true
+pub any_at : {X : Type 0} (f : X → Bool) (xs : List X) (n : ℕ) (x : X) → slice_get xs n ≡ Some x → f x ≡ true
+    → list_any f xs ≡ true
 any_at f [] n x at is = cc
 any_at f (y ∷ xs) zero x at is =
     let same : y ≡ x = cc in

@@ -31,9 +31,11 @@ low_from clock v e =
     ]
 
 -- what the reference's field allows
-named : (clock : Clock) (kind : Kind) (trp : Option ℕ) (bits : List Bool) → Spells (reference clock kind) trp bits → (rest : ℕ) → trp ≡ Some rest → rest < period_of clock
+named : (clock : Clock) (kind : Kind) (trp : Option ℕ) (bits : List Bool) → Spells (reference clock kind) trp bits
+    → (rest : ℕ) → trp ≡ Some rest → rest < period_of clock
 unfolding Spells reference
-named clock kinds.I trp bits spells rest is = let none : trp ≡ None = spells.5.0 in absurd (not_none rest (sym (sym none ∙ is)))
+named clock kinds.I trp bits spells rest is = let none : trp ≡ None = spells.5.0 in
+    absurd (not_none rest (sym (sym none ∙ is)))
 named clock kinds.P trp bits spells rest is =
     let v = spells.5.0 in
     let some : trp ≡ Some v = spells.5.5.0 in
@@ -41,7 +43,8 @@ named clock kinds.P trp bits spells rest is =
     let equal : v ≡ rest = cc in
     subst (λ (k : ℕ). k < period_of clock) equal (low_from clock v spells.5.3)
 
-in_text : (format : Format) (h : Header) (bits : List Bool) → IsHeaderText format h bits → (rest : ℕ) → h.trp ≡ Some rest → rest < period_of h.clock
+in_text : (format : Format) (h : Header) (bits : List Bool) → IsHeaderText format h bits → (rest : ℕ)
+    → h.trp ≡ Some rest → rest < period_of h.clock
 unfolding Spells header
 in_text format h bits text rest is =
     let type = text.6 in
@@ -50,14 +53,19 @@ in_text format h bits text rest is =
     let end = trp.6.6.5.6 in
     let same : h.trp ≡ trp.0 = ap (λ (x : Header). x.trp) end.0 in
     let clock : h.clock ≡ type.0.0 = ap (λ (x : Header). x.clock) end.0 in
-    subst (λ (c : Clock). rest < period_of c) (sym clock) (named type.0.0 type.0.1 trp.0 trp.1 trp.4 rest (sym same ∙ is))
+    subst (λ (c : Clock). rest < period_of c) (sym clock) (named type.0.0 type.0.1 trp.0 trp.1 trp.4 rest (sym same
+        ∙ is))
 
-in_packet : (format : Format) (o : Option Header) (h : Header) (plen pebit : ℕ) (front middle : List Bool) → IsHeaded format o h front → IsExtra format plen pebit o middle → (rest : ℕ) → h.trp ≡ Some rest → rest < period_of h.clock
+in_packet : (format : Format) (o : Option Header) (h : Header) (plen pebit : ℕ) (front middle : List Bool)
+    → IsHeaded format o h front → IsExtra format plen pebit o middle → (rest : ℕ) → h.trp ≡ Some rest
+    → rest < period_of h.clock
 in_packet format None h plen pebit front middle headed extra rest is = in_text format h front headed rest is
 in_packet format (Some x) h plen pebit front middle headed extra rest is =
-    subst (λ (y : Header). y.trp ≡ Some rest → rest < period_of y.clock) headed.0 (in_text format x extra.0 extra.6 rest) is
+    subst (λ (y : Header). y.trp ≡ Some rest → rest < period_of y.clock) headed.0
+        (in_text format x extra.0 extra.6 rest) is
 
-pub reads_in_period : (p : Params) → ((s : Slice) (bytes : List ℕ) → (packet_at p.format bytes ≡ Ok s) ↔ IsPacket p.format s bytes) → ReadsInPeriod (decoding p.format) (rules_of p)
+pub reads_in_period : (p : Params) → ((s : Slice) (bytes : List ℕ) → (packet_at p.format bytes ≡ Ok s)
+    ↔ IsPacket p.format s bytes) → ReadsInPeriod (decoding p.format) (rules_of p)
 reads_in_period p exact bytes piece rest reads half is = go (packet_at p.format bytes) refl reads
   where
     go : (r : Result Slice Fault) → packet_at p.format bytes ≡ r → with_piece r ≡ Ok piece → rest < 2 * half_of p.clock
@@ -66,6 +74,9 @@ reads_in_period p exact bytes piece rest reads half is = go (packet_at p.format 
         let one : piece_of s ≡ piece = cc in
         let packet = (exact s bytes).0 at in
         let trp : s.header.trp ≡ Some rest = ap (λ (x : call.Piece Style Mb). x.header.reference) one ∙ is in
-        let clock : half_of s.header.clock ≡ half_of p.clock = ap (λ (x : call.Piece Style Mb). x.header.half) one ∙ half in
-        let low : rest < period_of s.header.clock = in_packet p.format packet.payload.extra s.header packet.is_payload.opening.plen packet.is_payload.opening.pebit packet.front packet.is_payload.middle packet.headed packet.is_payload.extra rest trp in
+        let clock : half_of s.header.clock ≡ half_of p.clock = ap (λ (x : call.Piece Style Mb). x.header.half) one
+            ∙ half in
+        let low : rest < period_of s.header.clock = in_packet p.format packet.payload.extra s.header
+            packet.is_payload.opening.plen packet.is_payload.opening.pebit packet.front packet.is_payload.middle
+            packet.headed packet.is_payload.extra rest trp in
         omega (arith, low, clock)

@@ -18,11 +18,13 @@ pub none_left : (b : Broken) (o : Option Broken) → o ≡ Some b → o ≡ None
 none_left b o e f = not_none b (sym e ∙ f)
 
 -- after a broken rule nothing changes
-pub stays_broken : (k : Kept) (past : List LogEntry) (e : LogEntry) (b : Broken) → k.broken ≡ Some b → Stands k past → Stands k (e ∷ past)
+pub stays_broken : (k : Kept) (past : List LogEntry) (e : LogEntry) (b : Broken) → k.broken ≡ Some b → Stands k past
+    → Stands k (e ∷ past)
 stays_broken k past e b is stands = record {
   broken =
       is
-      ∙ ap (λ (o : Option Broken). first_of o (broken_in_on k.params (stream_on k.params past) e)) (sym is ∙ stands.broken);
+      ∙ ap (λ (o : Option Broken). first_of o (broken_in_on k.params (stream_on k.params past) e)) (sym is
+          ∙ stands.broken);
   keeps = λ none. absurd (none_left b k.broken is none);
 }
 
@@ -30,7 +32,8 @@ module _ (k : Kept) (past : List LogEntry) (stands : Stands k past) (going : k.b
   -- where no rule was broken before, the new entry decides
   first_is : (e : LogEntry) → first_broken_on k.params (e ∷ past) ≡ broken_in_on k.params (stream_on k.params past) e
   first_is e =
-      ap (λ (o : Option Broken). first_of o (broken_in_on k.params (stream_on k.params past) e)) (sym stands.broken ∙ going)
+      ap (λ (o : Option Broken). first_of o (broken_in_on k.params (stream_on k.params past) e)) (sym stands.broken
+          ∙ going)
 
   pub judged : (new : Kept) (bytes : List ℕ) (q : call.Piece Style Mb) → new.params ≡ k.params
       → (decoding k.params.format).read bytes ≡ Ok q
@@ -42,7 +45,8 @@ module _ (k : Kept) (past : List LogEntry) (stands : Stands k past) (going : k.b
         ∙ ap (λ (p : Params). first_broken_on p (Sent bytes ∷ past)) (sym same);
     keeps = λ none.
         subst (λ (p : Params). Keeps new (stream_on p (Sent bytes ∷ past))) (sym same)
-        (subst (λ (r : Result (call.Piece Style Mb) Fault). Keeps new (with_bytes (decoding k.params.format) (stream_on k.params past) bytes r)) (sym read) (is.keeps none));
+        (subst (λ (r : Result (call.Piece Style Mb) Fault). Keeps new (with_bytes (decoding k.params.format)
+            (stream_on k.params past) bytes r)) (sym read) (is.keeps none));
   }
 
   pub fed : (new : Kept) (bytes : List ℕ) → new.params ≡ k.params → new.broken ≡ k.broken

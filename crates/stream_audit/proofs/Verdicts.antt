@@ -23,18 +23,22 @@ use Rattle.stream_audit.proofs.Lists.{not_none, slice_get_push}
 
 -- ---- slices
 
-pub has_from : {Mb : Type 0} (slice : Slice Mb) (k : ℕ) → has_mb slice k ≡ true → (slice.first ≤ k) × (k < slice.first + length slice.mbs)
+pub has_from : {Mb : Type 0} (slice : Slice Mb) (k : ℕ) → has_mb slice k ≡ true
+    → (slice.first ≤ k) × (k < slice.first + length slice.mbs)
 unfolding has_mb
 has_from slice k e =
     let parts = and_parts (leb slice.first k) (ltb k (slice.first + length slice.mbs)) e in
     (leb-true _ _ parts.0, ltb-true _ _ parts.1)
 
 -- what is not in a slice that has no macroblock of the others
-pub none_of : AllBelowIs → {Mb : Type 0} (slice : Slice Mb) (test : ℕ → Bool) (k : ℕ) → none_in slice test ≡ true → has_mb slice k ≡ true → test k ≡ false
+pub none_of : AllBelowIs → {Mb : Type 0} (slice : Slice Mb) (test : ℕ → Bool) (k : ℕ) → none_in slice test ≡ true
+    → has_mb slice k ≡ true → test k ≡ false
 none_of below slice test k none inside =
     let within = has_from slice k inside in
     let i = k - slice.first in
-    let here : not (test (slice.first + (k - slice.first))) ≡ true = (below (length slice.mbs) (λ i. not (test (slice.first + i)))).0 none (k - slice.first) (omega (arith, within.0, within.1)) in
+    let here : not (test (slice.first + (k - slice.first)))
+        ≡ true = (below (length slice.mbs) (λ i. not (test (slice.first + i)))).0 none (k - slice.first)
+        (omega (arith, within.0, within.1)) in
     let is : slice.first + (k - slice.first) ≡ k = omega (arith, within.0) in
     turned (test k) (subst (λ (m : ℕ). not (test m) ≡ true) is here)
   where
@@ -48,7 +52,8 @@ module _ {Style Mb : Type 0} where
   place_in [] k = 0
   place_in (part ∷ parts) k = if has_mb part.piece.slice k then 0 else suc (place_in parts k)
 
-  pub first_part : (parts : List (Part Style Mb)) (k : ℕ) → list_any (λ part. has_mb part.piece.slice k) parts ≡ true → (part : Part Style Mb) × (slice_get parts (place_in parts k) ≡ Some part) × (has_mb part.piece.slice k ≡ true)
+  pub first_part : (parts : List (Part Style Mb)) (k : ℕ) → list_any (λ part. has_mb part.piece.slice k) parts ≡ true
+      → (part : Part Style Mb) × (slice_get parts (place_in parts k) ≡ Some part) × (has_mb part.piece.slice k ≡ true)
   unfolding place_in
   first_part [] k e = absurd (false≢true e)
   first_part (part ∷ parts) k e =
@@ -62,7 +67,9 @@ module _ {Style Mb : Type 0} where
       rest : has_mb part.piece.slice k ≡ false → list_any (λ part. has_mb part.piece.slice k) parts ≡ true
       rest there = elim (or_cases _ _ e) [ inl is ↦ absurd (both_ways _ there is) | inr is ↦ is ]
 
-  in_none : (parts : List (Part Style Mb)) (k j : ℕ) (part : Part Style Mb) → list_any (λ part. has_mb part.piece.slice k) parts ≡ false → slice_get parts j ≡ Some part → has_mb part.piece.slice k ≡ false
+  in_none : (parts : List (Part Style Mb)) (k j : ℕ) (part : Part Style Mb)
+      → list_any (λ part. has_mb part.piece.slice k) parts ≡ false → slice_get parts j ≡ Some part
+      → has_mb part.piece.slice k ≡ false
   in_none [] k j part none e = cc
   in_none (q ∷ parts) k zero part none e =
       let parts' = or_parts (has_mb q.piece.slice k) (list_any (λ part. has_mb part.piece.slice k) parts) none in
@@ -75,7 +82,8 @@ module _ {Style Mb : Type 0} where
       let parts' = or_parts (has_mb q.piece.slice k) (list_any (λ part. has_mb part.piece.slice k) parts) none in
       in_none parts k j part parts'.1 e
 
-module _ {Style Mb P Fault MessageFault : Type 0} (decoding : Decoding Style Mb P Fault) (read : List ℕ → Result Message MessageFault) (rules : Rules) (lawful : IsDecoding decoding rules) (below : AllBelowIs) where
+module _ {Style Mb P Fault MessageFault : Type 0} (decoding : Decoding Style Mb P Fault) (read : List ℕ
+    → Result Message MessageFault) (rules : Rules) (lawful : IsDecoding decoding rules) (below : AllBelowIs) where
   -- a picture of which more packets may come
   pub record IsGoing (items : List (Item Style Mb)) (p : StreamPicture Style Mb) : Type 0 where
     pub number : p.header.number ≡ pictures_in items % period rules
@@ -95,52 +103,66 @@ module _ {Style Mb P Fault MessageFault : Type 0} (decoding : Decoding Style Mb 
 
   -- ---- a picture that is whole
 
-  covered : (items : List (Item Style Mb)) (p : StreamPicture Style Mb) → IsGoing items p → is_whole rules p ≡ true → Covers rules.mbs (slices_of p)
+  covered : (items : List (Item Style Mb)) (p : StreamPicture Style Mb) → IsGoing items p → is_whole rules p ≡ true
+      → Covers rules.mbs (slices_of p)
   covered items p going whole = record {
     place_of = place_in p.parts;
     below = λ k lt.
         let r = first_part p.parts k ((below rules.mbs (has p)).0 whole k lt) in
-        slice_get_within (slices_of p) (place_in p.parts k) r.0.piece.slice (slice_get-map (λ (part : Part Style Mb). part.piece.slice) p.parts (place_in p.parts k) ∙ ap (option_map (λ (part : Part Style Mb). part.piece.slice)) r.1);
+        slice_get_within (slices_of p) (place_in p.parts k) r.0.piece.slice
+            (slice_get-map (λ (part : Part Style Mb). part.piece.slice) p.parts (place_in p.parts k)
+            ∙ ap (option_map (λ (part : Part Style Mb). part.piece.slice)) r.1);
     has = λ j k slice lt at_j.
         let r = first_part p.parts k ((below rules.mbs (has p)).0 whole k lt) in
         let part = of_slice j slice at_j in
         elim (cases_Bool (has_mb slice k)) [
           | inl held ↦
-              let same : j ≡ place_in p.parts k = going.apart j (place_in p.parts k) k part.0 r.0 part.1 r.1 (subst (λ (s : Slice Mb). has_mb s k ≡ true) (sym part.2) held) r.2 in
+              let same : j ≡ place_in p.parts k = going.apart j (place_in p.parts k) k part.0 r.0 part.1 r.1
+                  (subst (λ (s : Slice Mb). has_mb s k ≡ true) (sym part.2) held) r.2 in
               held ∙ sym (eq-eqb j (place_in p.parts k) same)
           | inr free ↦
               free ∙ sym (ne_eqb j (place_in p.parts k) (λ (e : j ≡ place_in p.parts k).
               let here : slice_get p.parts j ≡ Some r.0 = ap (slice_get p.parts) e ∙ r.1 in
               let one : Some part.0 ≡ Some r.0 = sym part.1 ∙ here in
               let same : part.0 ≡ r.0 = cc in
-              both_ways _ free (subst (λ (s : Slice Mb). has_mb s k ≡ true) (ap (λ (x : Part Style Mb). x.piece.slice) (sym same) ∙ part.2) r.2)))
+              both_ways _ free (subst (λ (s : Slice Mb). has_mb s k ≡ true) (ap (λ (x : Part Style Mb). x.piece.slice)
+                  (sym same) ∙ part.2) r.2)))
         ];
     inside = λ j slice at_j.
         let part = of_slice j slice at_j in
-        subst (λ (s : Slice Mb). (0 < length s.mbs) × (s.first + length s.mbs ≤ rules.mbs)) part.2 (lawful.read_inside part.0.bytes part.0.piece (going.packets j part.0 part.1).0);
+        subst (λ (s : Slice Mb). (0 < length s.mbs) × (s.first + length s.mbs ≤ rules.mbs)) part.2
+            (lawful.read_inside part.0.bytes part.0.piece (going.packets j part.0 part.1).0);
   }
     where
-      of_slice : (j : ℕ) (slice : Slice Mb) → slice_get (slices_of p) j ≡ Some slice → (part : Part Style Mb) × (slice_get p.parts j ≡ Some part) × (part.piece.slice ≡ slice)
+      of_slice : (j : ℕ) (slice : Slice Mb) → slice_get (slices_of p) j ≡ Some slice → (part : Part Style Mb)
+          × (slice_get p.parts j ≡ Some part) × (part.piece.slice ≡ slice)
       of_slice j slice e =
           elim (slice_get_cases p.parts j).1 [
             | inl h ↦
-                let same : Some h.0.piece.slice ≡ Some slice = sym (slice_get-map (λ (part : Part Style Mb). part.piece.slice) p.parts j ∙ ap (option_map (λ (part : Part Style Mb). part.piece.slice)) h.2) ∙ e in
+                let same : Some h.0.piece.slice
+                    ≡ Some slice = sym (slice_get-map (λ (part : Part Style Mb). part.piece.slice) p.parts j
+                    ∙ ap (option_map (λ (part : Part Style Mb). part.piece.slice)) h.2) ∙ e in
                 (h.0, h.2, (let equal : h.0.piece.slice ≡ slice = cc in equal))
             | inr h ↦
-                let none : None ≡ Some slice = sym (slice_get-map (λ (part : Part Style Mb). part.piece.slice) p.parts j ∙ ap (option_map (λ (part : Part Style Mb). part.piece.slice)) h.1) ∙ e in
+                let none : None ≡ Some slice = sym (slice_get-map (λ (part : Part Style Mb). part.piece.slice) p.parts j
+                    ∙ ap (option_map (λ (part : Part Style Mb). part.piece.slice)) h.1) ∙ e in
                 absurd (not_none slice (sym none))
           ]
 
-  pub whole_is_sound : (items : List (Item Style Mb)) → IsClean items → last_is_whole rules items ≡ true → IsSound decoding read rules items
+  pub whole_is_sound : (items : List (Item Style Mb)) → IsClean items → last_is_whole rules items ≡ true
+      → IsSound decoding read rules items
   whole_is_sound [] clean whole = tt
   whole_is_sound (Feedback bytes ∷ items) clean whole = whole_is_sound items clean whole
   whole_is_sound (Picture p ∷ items) clean whole =
       let going = clean.0 in
-      (record { number = going.number; half = going.half; packets = going.packets; covers = covered items p going whole; reference = going.reference }, clean.1)
+      (record { number = going.number; half = going.half; packets = going.packets; covers = covered items p going whole;
+          reference = going.reference }, clean.1)
 
   -- ---- a packet of the last picture
 
-  more_of : (items : List (Item Style Mb)) (p : StreamPicture Style Mb) (part : Part Style Mb) → decoding.read part.bytes ≡ Ok part.piece → IsGoing items p → broken_within decoding read rules (Some p) part.piece ≡ None → IsGoing items (with_more p part)
+  more_of : (items : List (Item Style Mb)) (p : StreamPicture Style Mb) (part : Part Style Mb)
+      → decoding.read part.bytes ≡ Ok part.piece → IsGoing items p
+      → broken_within decoding read rules (Some p) part.piece ≡ None → IsGoing items (with_more p part)
   more_of items p part reads going unbroken =
       elim (cases_Bool (same_header decoding p.header part.piece.header)) [
         | inl same ↦ elim (cases_Bool (none_in part.piece.slice (has p))) [
@@ -156,7 +178,8 @@ module _ {Style Mb P Fault MessageFault : Type 0} (decoding : Decoding Style Mb 
         half = going.half;
         packets = λ j x at_j. elim (slice_get_push p.parts part j x at_j) [
           | inl old ↦ going.packets j x old
-          | inr new ↦ subst (λ (y : Part Style Mb). (decoding.read y.bytes ≡ Ok y.piece) × (y.piece.header ≡ p.header)) (sym new.1) (reads, header)
+          | inr new ↦ subst (λ (y : Part Style Mb). (decoding.read y.bytes ≡ Ok y.piece) × (y.piece.header ≡ p.header))
+              (sym new.1) (reads, header)
         ];
         reference = going.reference;
         apart = λ i j k a b at_i at_j in_a in_b.
@@ -172,26 +195,34 @@ module _ {Style Mb P Fault MessageFault : Type 0} (decoding : Decoding Style Mb 
             ];
       }
         where
-          crossed : (k i : ℕ) (a b : Part Style Mb) → slice_get p.parts i ≡ Some a → b ≡ part → has_mb a.piece.slice k ≡ true → has_mb b.piece.slice k ≡ true → ⊥
+          crossed : (k i : ℕ) (a b : Part Style Mb) → slice_get p.parts i ≡ Some a → b ≡ part → has_mb a.piece.slice k
+              ≡ true → has_mb b.piece.slice k ≡ true → ⊥
           crossed k i a b old new in_a in_b =
-              let outside : has p k ≡ false = none_of below part.piece.slice (has p) k none (subst (λ (y : Part Style Mb). has_mb y.piece.slice k ≡ true) new in_b) in
+              let outside : has p k ≡ false = none_of below part.piece.slice (has p) k none
+                  (subst (λ (y : Part Style Mb). has_mb y.piece.slice k ≡ true) new in_b) in
               both_ways _ (in_none p.parts k i a outside old) in_a
 
-  clean_part : (items : List (Item Style Mb)) (part : Part Style Mb) → decoding.read part.bytes ≡ Ok part.piece → IsClean items → broken_within decoding read rules (last_picture items) part.piece ≡ None → IsClean (with_part items part)
+  clean_part : (items : List (Item Style Mb)) (part : Part Style Mb) → decoding.read part.bytes ≡ Ok part.piece
+      → IsClean items → broken_within decoding read rules (last_picture items) part.piece ≡ None
+      → IsClean (with_part items part)
   clean_part [] part reads clean unbroken = tt
   clean_part (Feedback bytes ∷ items) part reads clean unbroken = clean_part items part reads clean unbroken
   clean_part (Picture p ∷ items) part reads clean unbroken = (more_of items p part reads clean.0 unbroken, clean.1)
 
   -- ---- the first packet of the next picture
 
-  next_of : (items : List (Item Style Mb)) (part : Part Style Mb) → decoding.read part.bytes ≡ Ok part.piece → part.piece.header.half ≡ rules.half → IsClean items → broken_next decoding read rules items part.piece ≡ None → IsClean (Picture (begun_by part) ∷ items)
+  next_of : (items : List (Item Style Mb)) (part : Part Style Mb) → decoding.read part.bytes ≡ Ok part.piece
+      → part.piece.header.half ≡ rules.half → IsClean items → broken_next decoding read rules items part.piece ≡ None
+      → IsClean (Picture (begun_by part) ∷ items)
   next_of items part reads half clean unbroken =
       elim (cases_Bool (last_is_whole rules items)) [
         | inr gap ↦ absurd (not_none (broken_at (present items) rule.Gap) (sym (rw gap refl) ∙ unbroken))
         | inl whole ↦ elim (cases_Bool (eqb part.piece.header.number (pictures_in items % period rules))) [
-          | inr wrong ↦ absurd (not_none (broken_at (pictures_in items) rule.Number) (sym (rw (whole, wrong) refl) ∙ unbroken))
+          | inr wrong ↦ absurd (not_none (broken_at (pictures_in items) rule.Number) (sym (rw (whole, wrong) refl)
+              ∙ unbroken))
           | inl right ↦ elim (cases_Bool (has_reference decoding read rules items part.piece.header)) [
-            | inr none ↦ absurd (not_none (broken_at (pictures_in items) rule.Reference) (sym (rw (whole, right, none) refl) ∙ unbroken))
+            | inr none ↦ absurd (not_none (broken_at (pictures_in items) rule.Reference)
+                (sym (rw (whole, right, none) refl) ∙ unbroken))
             | inl there ↦ (begun (eqb-true _ _ right) there, whole_is_sound items clean whole)
           ]
         ]
@@ -201,40 +232,55 @@ module _ {Style Mb P Fault MessageFault : Type 0} (decoding : Decoding Style Mb 
       one x zero e = (refl, cc)
       one x (suc j) e = cc
 
-      begun : part.piece.header.number ≡ pictures_in items % period rules → has_reference decoding read rules items part.piece.header ≡ true → IsGoing items (begun_by part)
+      begun : part.piece.header.number ≡ pictures_in items % period rules
+          → has_reference decoding read rules items part.piece.header ≡ true → IsGoing items (begun_by part)
       begun number there = record {
         number = number;
         half = half;
-        packets = λ j x at_j. subst (λ (y : Part Style Mb). (decoding.read y.bytes ≡ Ok y.piece) × (y.piece.header ≡ part.piece.header)) (sym (one x j at_j).1) (reads, refl);
+        packets = λ j x at_j. subst (λ (y : Part Style Mb). (decoding.read y.bytes ≡ Ok y.piece)
+            × (y.piece.header ≡ part.piece.header)) (sym (one x j at_j).1) (reads, refl);
         reference = λ rest is. named rest (subst (λ (o : Option ℕ). option_map_or (λ rest.
             option_map_or (may_refer rules (known_of read rules items) (pictures_in items))
             (nearest_below rules (pictures_in items) rest) false) o true ≡ true) is there);
         apart = λ i j k a b at_i at_j in_a in_b. (one a i at_i).0 ∙ sym (one b j at_j).0;
       }
         where
-          found : (o : Option ℕ) → option_map_or (may_refer rules (known_of read rules items) (pictures_in items)) o false ≡ true → (m : ℕ) × (o ≡ Some m) × (pictures_in items ≤ m + window rules) × (is_among (known_of read rules items) m ≡ true)
+          found : (o : Option ℕ) → option_map_or (may_refer rules (known_of read rules items) (pictures_in items)) o
+              false ≡ true → (m : ℕ) × (o ≡ Some m) × (pictures_in items ≤ m + window rules)
+              × (is_among (known_of read rules items) m ≡ true)
           found None e = absurd (false≢true e)
           found (Some m) e =
-              let parts = and_parts (is_among (known_of read rules items) m) (leb (pictures_in items) (m + window rules)) e in
+              let parts = and_parts (is_among (known_of read rules items) m)
+                  (leb (pictures_in items) (m + window rules)) e in
               (m, refl, leb-true _ _ parts.1, parts.0)
 
-          named : (rest : ℕ) → option_map_or (may_refer rules (known_of read rules items) (pictures_in items)) (nearest_below rules (pictures_in items) rest) false ≡ true → (m : ℕ) × (nearest_below rules (pictures_in items) rest ≡ Some m) × (pictures_in items ≤ m + window rules) × (is_among (known_of read rules items) m ≡ true)
+          named : (rest : ℕ) → option_map_or (may_refer rules (known_of read rules items) (pictures_in items))
+              (nearest_below rules (pictures_in items) rest) false ≡ true
+              → (m : ℕ) × (nearest_below rules (pictures_in items) rest ≡ Some m)
+              × (pictures_in items ≤ m + window rules) × (is_among (known_of read rules items) m ≡ true)
           named rest e = found (nearest_below rules (pictures_in items) rest) e
 
   -- ---- a log
 
-  clean_packet : (items : List (Item Style Mb)) (bytes : List ℕ) (r : Result (Piece Style Mb) Fault) → decoding.read bytes ≡ r → IsClean items → broken_by decoding read rules items r ≡ None → IsClean (with_bytes decoding items bytes r)
+  clean_packet : (items : List (Item Style Mb)) (bytes : List ℕ) (r : Result (Piece Style Mb) Fault)
+      → decoding.read bytes ≡ r → IsClean items → broken_by decoding read rules items r ≡ None
+      → IsClean (with_bytes decoding items bytes r)
   clean_packet items bytes (Err fault) reads clean unbroken = clean
   clean_packet items bytes (Ok piece) reads clean unbroken =
       elim (cases_Bool (eqb piece.header.half rules.half)) [
         | inr other ↦ absurd (not_none (broken_at (present items) rule.Packet) (sym (rw other refl) ∙ unbroken))
         | inl half ↦ elim (cases_Bool (is_of (last_picture items) piece)) [
           | inl own ↦
-              let unbroken' : option_map (broken_at (present items)) (broken_within decoding read rules (last_picture items) piece) ≡ None = sym (rw (half, own) refl) ∙ unbroken in
-              rw own (clean_part items (record { bytes = bytes; piece = piece }) reads clean (within (broken_within decoding read rules (last_picture items) piece) unbroken'))
+              let unbroken' : option_map (broken_at (present items))
+                  (broken_within decoding read rules (last_picture items) piece) ≡ None = sym (rw (half, own) refl)
+                  ∙ unbroken in
+              rw own (clean_part items (record { bytes = bytes; piece = piece }) reads clean
+                  (within (broken_within decoding read rules (last_picture items) piece) unbroken'))
           | inr next ↦
-              let unbroken' : broken_next decoding read rules items piece ≡ None = sym (rw (half, next) refl) ∙ unbroken in
-              rw next (next_of items (record { bytes = bytes; piece = piece }) reads (eqb-true _ _ half) clean unbroken')
+              let unbroken' : broken_next decoding read rules items piece ≡ None = sym (rw (half, next) refl)
+                  ∙ unbroken in
+              rw next (next_of items (record { bytes = bytes; piece = piece }) reads (eqb-true _ _ half) clean
+                  unbroken')
         ]
       ]
     where
@@ -248,13 +294,17 @@ module _ {Style Mb P Fault MessageFault : Type 0} (decoding : Decoding Style Mb 
 
   clean_log : (past : List LogEntry) → first_broken decoding read rules past ≡ None → IsClean (stream_of decoding past)
   clean_log [] unbroken = tt
-  clean_log (Fed bytes ∷ past) unbroken = clean_log past (both_none (first_broken decoding read rules past) None unbroken).0
+  clean_log (Fed bytes ∷ past) unbroken =
+      clean_log past (both_none (first_broken decoding read rules past) None unbroken).0
   clean_log (Sent bytes ∷ past) unbroken =
-      let both = both_none (first_broken decoding read rules past) (broken_in decoding read rules (stream_of decoding past) (Sent bytes)) unbroken in
+      let both = both_none (first_broken decoding read rules past)
+          (broken_in decoding read rules (stream_of decoding past) (Sent bytes)) unbroken in
       clean_packet (stream_of decoding past) bytes (decoding.read bytes) refl (clean_log past both.0) both.1
 
-  readable_packet : (items : List (Item Style Mb)) (bytes : List ℕ) (r : Result (Piece Style Mb) Fault) → decoding.read bytes ≡ r → broken_by decoding read rules items r ≡ None → IsReadable decoding rules bytes
-  readable_packet items bytes (Err fault) reads unbroken = absurd (not_none (broken_at (present items) rule.Packet) unbroken)
+  readable_packet : (items : List (Item Style Mb)) (bytes : List ℕ) (r : Result (Piece Style Mb) Fault)
+      → decoding.read bytes ≡ r → broken_by decoding read rules items r ≡ None → IsReadable decoding rules bytes
+  readable_packet items bytes (Err fault) reads unbroken =
+      absurd (not_none (broken_at (present items) rule.Packet) unbroken)
   readable_packet items bytes (Ok piece) reads unbroken =
       elim (cases_Bool (eqb piece.header.half rules.half)) [
         | inr other ↦ absurd (not_none (broken_at (present items) rule.Packet) (sym (rw other refl) ∙ unbroken))
@@ -263,20 +313,27 @@ module _ {Style Mb P Fault MessageFault : Type 0} (decoding : Decoding Style Mb 
 
   readable_log : (past : List LogEntry) → first_broken decoding read rules past ≡ None → AllReadable decoding rules past
   readable_log [] unbroken = tt
-  readable_log (Fed bytes ∷ past) unbroken = readable_log past (both_none (first_broken decoding read rules past) None unbroken).0
+  readable_log (Fed bytes ∷ past) unbroken =
+      readable_log past (both_none (first_broken decoding read rules past) None unbroken).0
   readable_log (Sent bytes ∷ past) unbroken =
-      let both = both_none (first_broken decoding read rules past) (broken_in decoding read rules (stream_of decoding past) (Sent bytes)) unbroken in
+      let both = both_none (first_broken decoding read rules past)
+          (broken_in decoding read rules (stream_of decoding past) (Sent bytes)) unbroken in
       (readable_packet (stream_of decoding past) bytes (decoding.read bytes) refl both.1, readable_log past both.0)
 
   pub yes_is_sound : (past : List LogEntry) (count : ℕ) → verdict_of decoding read rules past ≡ Yes count
-      → AllReadable decoding rules past × (pictures_in (stream_of decoding past) ≡ count) × IsSound decoding read rules (stream_of decoding past)
+      → AllReadable decoding rules past × (pictures_in (stream_of decoding past) ≡ count)
+          × IsSound decoding read rules (stream_of decoding past)
   yes_is_sound past count is = go (first_broken decoding read rules past) refl is
     where
-      closed : (b : Bool) → (if b then Yes (pictures_in (stream_of decoding past)) else No (present (stream_of decoding past)) rule.Gap) ≡ Yes count → (b ≡ true) × (pictures_in (stream_of decoding past) ≡ count)
+      closed : (b : Bool) → (if b then Yes (pictures_in (stream_of decoding past)) else No
+          (present (stream_of decoding past)) rule.Gap) ≡ Yes count
+          → (b ≡ true) × (pictures_in (stream_of decoding past) ≡ count)
       closed true e = (refl, cc)
       closed false e = cc
 
-      go : (o : Option Broken) → first_broken decoding read rules past ≡ o → verdict_by decoding read rules o (stream_of decoding past) ≡ Yes count → AllReadable decoding rules past × (pictures_in (stream_of decoding past) ≡ count) × IsSound decoding read rules (stream_of decoding past)
+      go : (o : Option Broken) → first_broken decoding read rules past ≡ o
+          → verdict_by decoding read rules o (stream_of decoding past) ≡ Yes count → AllReadable decoding rules past
+          × (pictures_in (stream_of decoding past) ≡ count) × IsSound decoding read rules (stream_of decoding past)
       go (Some b) unbroken e = cc
       go None unbroken e =
           let r = closed (last_is_whole rules (stream_of decoding past)) e in

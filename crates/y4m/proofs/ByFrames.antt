@@ -10,38 +10,48 @@ use Rattle.y4m.specs.Video.{after_frame, frames_from, frames_of, fault_from, fau
 use Rattle.y4m.specs.Laws.{IsFollowed}
 use Rattle.y4m.proofs.Cuts.{frame_stays}
 
-frames_step : (f : Format) (n m at : ℕ) (rest frame : List ℕ) → m + 1 ≡ n → 0 < length rest → next_frame n f at rest ≡ Ok frame → frames_of f n at rest ≡ frame ∷ frames_of f m (at + frame_size f rest) (after_frame f rest)
+frames_step : (f : Format) (n m at : ℕ) (rest frame : List ℕ) → m + 1 ≡ n → 0 < length rest → next_frame n f at rest
+    ≡ Ok frame → frames_of f n at rest ≡ frame ∷ frames_of f m (at + frame_size f rest) (after_frame f rest)
 unfolding frames_of
 frames_step f zero m at rest frame less some is = absurd (omega (arith, less))
 frames_step f (suc n) m at [] frame less some is = absurd (omega arith)
 frames_step f (suc n) m at (b ∷ rest) frame less some is =
     let same : n ≡ m = omega (arith, less) in
-    ap (λ (r : Result (List ℕ) Y4mFault). frames_from r (frames_of f n (at + frame_size f (b ∷ rest)) (after_frame f (b ∷ rest)))) is
+    ap (λ (r : Result (List ℕ) Y4mFault). frames_from r (frames_of f n (at + frame_size f (b ∷ rest))
+        (after_frame f (b ∷ rest)))) is
     ∙ ap (λ (k : ℕ). frame ∷ frames_of f k (at + frame_size f (b ∷ rest)) (after_frame f (b ∷ rest))) same
 
-fault_step : (f : Format) (n m at : ℕ) (rest frame : List ℕ) → m + 1 ≡ n → 0 < length rest → next_frame n f at rest ≡ Ok frame → fault_of f n at rest ≡ fault_of f m (at + frame_size f rest) (after_frame f rest)
+fault_step : (f : Format) (n m at : ℕ) (rest frame : List ℕ) → m + 1 ≡ n → 0 < length rest → next_frame n f at rest
+    ≡ Ok frame → fault_of f n at rest ≡ fault_of f m (at + frame_size f rest) (after_frame f rest)
 unfolding fault_of
 fault_step f zero m at rest frame less some is = absurd (omega (arith, less))
 fault_step f (suc n) m at [] frame less some is = absurd (omega arith)
 fault_step f (suc n) m at (b ∷ rest) frame less some is =
     let same : n ≡ m = omega (arith, less) in
-    ap (λ (r : Result (List ℕ) Y4mFault). fault_from r (fault_of f n (at + frame_size f (b ∷ rest)) (after_frame f (b ∷ rest)))) is
+    ap (λ (r : Result (List ℕ) Y4mFault). fault_from r (fault_of f n (at + frame_size f (b ∷ rest))
+        (after_frame f (b ∷ rest)))) is
     ∙ ap (λ (k : ℕ). fault_of f k (at + frame_size f (b ∷ rest)) (after_frame f (b ∷ rest))) same
 
-pub frames_stop : (f : Format) (n at : ℕ) (rest : List ℕ) (fault : Y4mFault) → next_frame n f at rest ≡ Err fault → frames_of f n at rest ≡ []
+pub frames_stop : (f : Format) (n at : ℕ) (rest : List ℕ) (fault : Y4mFault) → next_frame n f at rest ≡ Err fault
+    → frames_of f n at rest ≡ []
 unfolding frames_of
 frames_stop f zero at rest fault is = refl
 frames_stop f (suc n) at [] fault is = refl
-frames_stop f (suc n) at (b ∷ rest) fault is = ap (λ (r : Result (List ℕ) Y4mFault). frames_from r (frames_of f n (at + frame_size f (b ∷ rest)) (after_frame f (b ∷ rest)))) is
+frames_stop f (suc n) at (b ∷ rest) fault is =
+    ap (λ (r : Result (List ℕ) Y4mFault). frames_from r (frames_of f n (at + frame_size f (b ∷ rest))
+    (after_frame f (b ∷ rest)))) is
 
-pub fault_stop : (f : Format) (n at : ℕ) (rest : List ℕ) (fault : Y4mFault) → 0 < length rest → next_frame n f at rest ≡ Err fault → fault_of f n at rest ≡ Some fault
+pub fault_stop : (f : Format) (n at : ℕ) (rest : List ℕ) (fault : Y4mFault) → 0 < length rest → next_frame n f at rest
+    ≡ Err fault → fault_of f n at rest ≡ Some fault
 unfolding fault_of
 fault_stop f n at [] fault some is = absurd (omega arith)
 fault_stop f zero at (b ∷ rest) fault some is = full (b ∷ rest) is
   where
     full : (rest : List ℕ) → next_frame 0 f at rest ≡ Err fault → fault_of f 0 at (b ∷ rest) ≡ Some fault
     full rest is = cc
-fault_stop f (suc n) at (b ∷ rest) fault some is = ap (λ (r : Result (List ℕ) Y4mFault). fault_from r (fault_of f n (at + frame_size f (b ∷ rest)) (after_frame f (b ∷ rest)))) is
+fault_stop f (suc n) at (b ∷ rest) fault some is =
+    ap (λ (r : Result (List ℕ) Y4mFault). fault_from r (fault_of f n (at + frame_size f (b ∷ rest))
+    (after_frame f (b ∷ rest)))) is
 
 pub frames-nil : (f : Format) (n at : ℕ) → frames_of f n at [] ≡ []
 unfolding frames_of
@@ -61,8 +71,10 @@ some_size Qcif = omega arith
 some_size Cif = omega arith
 
 -- a whole frame, and those of the k bytes after it
-frames_cut : (f : Format) (n m at k : ℕ) (rest frame : List ℕ) → m + 1 ≡ n → 0 < length rest → next_frame n f at rest ≡ Ok frame
-    → frames_of f n at (take (frame_size f rest + k) rest) ≡ frame ∷ frames_of f m (at + frame_size f rest) (take k (after_frame f rest))
+frames_cut : (f : Format) (n m at k : ℕ) (rest frame : List ℕ) → m + 1 ≡ n → 0 < length rest → next_frame n f at rest
+    ≡ Ok frame
+    → frames_of f n at (take (frame_size f rest + k) rest) ≡ frame ∷ frames_of f m (at + frame_size f rest)
+        (take k (after_frame f rest))
 frames_cut f zero m at k rest frame less some is = absurd (omega (arith, less))
 frames_cut f (suc n) m at k rest frame less some is =
     let size = frame_size f rest in
@@ -72,7 +84,8 @@ frames_cut f (suc n) m at k rest frame less some is =
     ∙ ap (λ (s : ℕ). frame ∷ frames_of f m (at + s) (drop s cut)) stays.1
     ∙ ap (λ (l : List ℕ). frame ∷ frames_of f m (at + size) l) (drop-take size k rest)
 
-pub followed : (f : Format) (n m at : ℕ) (rest frame : List ℕ) → m + 1 ≡ n → 0 < length rest → next_frame n f at rest ≡ Ok frame → IsFollowed f n m at rest frame
+pub followed : (f : Format) (n m at : ℕ) (rest frame : List ℕ) → m + 1 ≡ n → 0 < length rest → next_frame n f at rest
+    ≡ Ok frame → IsFollowed f n m at rest frame
 followed f n m at rest frame less some is = record {
   frames = frames_step f n m at rest frame less some is;
   fault = fault_step f n m at rest frame less some is;
@@ -88,4 +101,5 @@ pub frames_lost : (f : Format) (n at : ℕ) (rest : List ℕ) → IsErr (frame_o
 unfolding frames_of
 frames_lost f zero at rest lost = refl
 frames_lost f (suc n) at [] lost = refl
-frames_lost f (suc n) at (b ∷ rest) lost = none_from (frame_of f at (b ∷ rest)) (frames_of f n (at + frame_size f (b ∷ rest)) (after_frame f (b ∷ rest))) lost
+frames_lost f (suc n) at (b ∷ rest) lost = none_from (frame_of f at (b ∷ rest))
+    (frames_of f n (at + frame_size f (b ∷ rest)) (after_frame f (b ∷ rest))) lost

@@ -93,7 +93,8 @@ module _ (left came : List ℕ) (k n : ℕ) (same : came ≡ take k left) (le : 
       ∙ ap (λ (l : List ℕ). through_newline (l ++ take (n - k) (drop k left))) (sym same)
 
   -- with a newline among them
-  pub ends_within : (at : ℕ) → position (λ b. b == 10) came ≡ Some at → at < length came → take (at + 1) came ≡ line_within n left
+  pub ends_within : (at : ℕ) → position (λ b. b == 10) came ≡ Some at → at < length came
+      → take (at + 1) came ≡ line_within n left
   ends_within at is lt =
       let place : place_in came ≡ at = place_some came at is in
       let next : at + 1 ≡ suc (place_in came) = omega (arith, place) in
@@ -111,23 +112,28 @@ module _ (left came : List ℕ) (k n : ℕ) (same : came ≡ take k left) (le : 
   ends_all none all =
       let nothing : drop k left ≡ [] = drop_of_length-le left (omega (arith, all)) in
       sym (append-nil came)
-      ∙ ap (λ (l : List ℕ). came ++ l) (sym (ap (λ (l : List ℕ). line_within (n - k) l) nothing ∙ ap through_newline (take-nil (n - k))))
+      ∙ ap (λ (l : List ℕ). came ++ l) (sym (ap (λ (l : List ℕ). line_within (n - k) l) nothing
+          ∙ ap through_newline (take-nil (n - k))))
       ∙ goes_past none
 
 -- the first k bytes of the buffer are the video's, and what followed was read after them
-module _ (buf left : List ℕ) (k n : ℕ) (same : take k buf ≡ take k left) (le : k ≤ n) (none : NoNewline (take k buf)) where
-  pub goes_on : (more after : List ℕ) (least j m : ℕ) → k ≡ least → k ≤ length buf → j ≤ length more → m ≡ n - k → take j more ≡ line_within m (drop k left)
+module _ (buf left : List ℕ) (k n : ℕ) (same : take k buf ≡ take k left) (le : k ≤ n)
+    (none : NoNewline (take k buf)) where
+  pub goes_on : (more after : List ℕ) (least j m : ℕ) → k ≡ least → k ≤ length buf → j ≤ length more → m ≡ n - k
+      → take j more ≡ line_within m (drop k left)
       → take (least + j) (take least buf ++ (more ++ after)) ≡ line_within n left
   goes_on more after least j m is there within size rest =
       let long : least ≡ length (take least buf) = omega (arith, length-take least buf, is, there) in
       ap (λ (i : ℕ). take (i + j) (take least buf ++ (more ++ after))) long
       ∙ take-append-add (take least buf) (more ++ after) j
-      ∙ ap (λ (l : List ℕ). take least buf ++ l) (take-append-le j more after within ∙ rest ∙ ap (λ (i : ℕ). line_within i (drop k left)) size)
+      ∙ ap (λ (l : List ℕ). take least buf ++ l) (take-append-le j more after within ∙ rest
+          ∙ ap (λ (i : ℕ). line_within i (drop k left)) size)
       ∙ ap (λ (i : ℕ). take i buf ++ line_within (n - k) (drop k left)) (sym is)
       ∙ goes_past left (take k buf) k n same le none
 
 -- where the least number of bytes was asked for, as many are gone, or all
-pub gone_is : (left : List ℕ) (k len least : ℕ) → k ≤ least → (k < least → k ≡ length left) → len ≤ least → drop k left ≡ drop (max len least) left
+pub gone_is : (left : List ℕ) (k len least : ℕ) → k ≤ least → (k < least → k ≡ length left) → len ≤ least
+    → drop k left ≡ drop (max len least) left
 gone_is left k len least le ends short =
     let most : max len least ≡ least = omega arith in
     elim (cases_lt k least) [
@@ -138,9 +144,11 @@ gone_is left k len least le ends short =
     ]
 
 -- what was gone when a read failed after them
-pub cut_past : (left : List ℕ) (k : ℕ) (now : Option (List ℕ)) → NoNewline (take k left) → IsCut 0 (drop k left) now → IsCut k left now
+pub cut_past : (left : List ℕ) (k : ℕ) (now : Option (List ℕ)) → NoNewline (take k left) → IsCut 0 (drop k left) now
+    → IsCut k left now
 cut_past left k now none cut = record {
   taken = k + cut.taken;
   gone = cut.gone ∙ ap (λ (l : List ℕ). Some l) (drop-drop cut.taken k left);
-  free = λ _. subst NoNewline (sym (take-add k cut.taken left)) (All-append Other (take k left) (take cut.taken (drop k left)) none (cut.free (omega arith)));
+  free = λ _. subst NoNewline (sym (take-add k cut.taken left))
+      (All-append Other (take k left) (take cut.taken (drop k left)) none (cut.free (omega arith)));
 }

@@ -6,7 +6,8 @@ pub err_is : {A E : Type 0} (r : Result A E) (e : E) → IsErrAnd r (λ x. x ≡
 err_is (Ok x) e is = absurd is
 err_is {E = E} (Err x) e is = ap (λ (x : E). Err x) is
 
-pub err_gives : {A E : Type 0} (r : Result A E) (e : E) (P : A → Type 0) (Q : E → Type 0) → IsErrAnd r (λ x. x ≡ e) → Q e → MatchResult r P Q
+pub err_gives : {A E : Type 0} (r : Result A E) (e : E) (P : A → Type 0) (Q : E → Type 0) → IsErrAnd r (λ x. x ≡ e)
+    → Q e → MatchResult r P Q
 err_gives {A = A} {E = E} r e P Q is q = subst (λ (r : Result A E). MatchResult r P Q) (sym (err_is r e is)) q
 
 -- what holds anyway holds after an error

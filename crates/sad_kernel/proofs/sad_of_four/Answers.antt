@@ -7,12 +7,14 @@ use Rattle.sad_kernel.proofs.sad_of_four.Goals as goal
 pub overflow_add-upper : goal.overflow_add-upper
 overflow_add-upper c =
     adds_fit w32 c.lanes.result c.lanes-2.result
-    (omega (arith, sum_small c.lanes.result c.lanes.ensures.length c.lanes.ensures.most, sum_small c.lanes-2.result c.lanes-2.ensures.length c.lanes-2.ensures.most))
+    (omega (arith, sum_small c.lanes.result c.lanes.ensures.length c.lanes.ensures.most,
+        sum_small c.lanes-2.result c.lanes-2.ensures.length c.lanes-2.ensures.most))
 
 pub overflow_add-lower : goal.overflow_add-lower
 overflow_add-lower c =
     adds_fit w32 c.lanes-3.result c.lanes-4.result
-    (omega (arith, sum_small c.lanes-3.result c.lanes-3.ensures.length c.lanes-3.ensures.most, sum_small c.lanes-4.result c.lanes-4.ensures.length c.lanes-4.ensures.most))
+    (omega (arith, sum_small c.lanes-3.result c.lanes-3.ensures.length c.lanes-3.ensures.most,
+        sum_small c.lanes-4.result c.lanes-4.ensures.length c.lanes-4.ensures.most))
 
 pub overflow_add-result : goal.overflow_add-result
 overflow_add-result c =
@@ -32,7 +34,8 @@ overflow_add-result-2 c =
     sum_fits w32 0 (sums (sums c.lanes.result c.lanes-2.result) (sums c.lanes-3.result c.lanes-4.result))
     (omega (
       arith,
-      sum_of_four c.lanes.result c.lanes-2.result c.lanes-3.result c.lanes-4.result c.lanes.ensures.length c.lanes-2.ensures.length c.lanes-3.ensures.length c.lanes-4.ensures.length,
+      sum_of_four c.lanes.result c.lanes-2.result c.lanes-3.result c.lanes-4.result c.lanes.ensures.length
+          c.lanes-2.ensures.length c.lanes-3.ensures.length c.lanes-4.ensures.length,
       sum_small c.lanes.result c.lanes.ensures.length c.lanes.ensures.most,
       sum_small c.lanes-2.result c.lanes-2.ensures.length c.lanes-2.ensures.most,
       sum_small c.lanes-3.result c.lanes-3.ensures.length c.lanes-3.ensures.most,
@@ -45,7 +48,8 @@ returns-clause-most c =
     omega (
       arith,
       fold-sum 0 all,
-      sum_of_four c.lanes.result c.lanes-2.result c.lanes-3.result c.lanes-4.result c.lanes.ensures.length c.lanes-2.ensures.length c.lanes-3.ensures.length c.lanes-4.ensures.length,
+      sum_of_four c.lanes.result c.lanes-2.result c.lanes-3.result c.lanes-4.result c.lanes.ensures.length
+          c.lanes-2.ensures.length c.lanes-3.ensures.length c.lanes-4.ensures.length,
       sum_small c.lanes.result c.lanes.ensures.length c.lanes.ensures.most,
       sum_small c.lanes-2.result c.lanes-2.ensures.length c.lanes-2.ensures.most,
       sum_small c.lanes-3.result c.lanes-3.ensures.length c.lanes-3.ensures.most,
@@ -58,9 +62,14 @@ returns-clause-value c =
     fold-sum 0 all
     ∙ omega (
       arith,
-      sum_of_four c.lanes.result c.lanes-2.result c.lanes-3.result c.lanes-4.result c.lanes.ensures.length c.lanes-2.ensures.length c.lanes-3.ensures.length c.lanes-4.ensures.length,
-      sum_of c.lanes.result c.args.first.0.now c.args.first.1.now c.lanes.ensures.value c.requires.first.0 c.requires.first.1,
-      sum_of c.lanes-2.result c.args.second.0.now c.args.second.1.now c.lanes-2.ensures.value c.requires.second.0 c.requires.second.1,
-      sum_of c.lanes-3.result c.args.third.0.now c.args.third.1.now c.lanes-3.ensures.value c.requires.third.0 c.requires.third.1,
-      sum_of c.lanes-4.result c.args.fourth.0.now c.args.fourth.1.now c.lanes-4.ensures.value c.requires.fourth.0 c.requires.fourth.1,
+      sum_of_four c.lanes.result c.lanes-2.result c.lanes-3.result c.lanes-4.result c.lanes.ensures.length
+          c.lanes-2.ensures.length c.lanes-3.ensures.length c.lanes-4.ensures.length,
+      sum_of c.lanes.result c.args.first.0.now c.args.first.1.now c.lanes.ensures.value c.requires.first.0
+          c.requires.first.1,
+      sum_of c.lanes-2.result c.args.second.0.now c.args.second.1.now c.lanes-2.ensures.value c.requires.second.0
+          c.requires.second.1,
+      sum_of c.lanes-3.result c.args.third.0.now c.args.third.1.now c.lanes-3.ensures.value c.requires.third.0
+          c.requires.third.1,
+      sum_of c.lanes-4.result c.args.fourth.0.now c.args.fourth.1.now c.lanes-4.ensures.value c.requires.fourth.0
+          c.requires.fourth.1,
     )

@@ -8,12 +8,17 @@ use Rattle.block_layer.proofs.reading.read_inter.Goals as goal
 
 pub returns-clause-found : goal.returns-clause-found
 unfolding inter_block events
-returns-clause-found c = reads_texts (λ u. c.read_events.new.levels) inter_block c.read_events.result c.args.reader.now c.read_events.new.reader c.read_events.ensures
+returns-clause-found c = reads_texts (λ u. c.read_events.new.levels) inter_block c.read_events.result c.args.reader.now
+    c.read_events.new.reader c.read_events.ensures
 
 pub returns-clause-only : goal.returns-clause-only
 unfolding inter_block events
-returns-clause-only c = λ levels text rest spelt parts. texts_read (λ u. c.read_events.new.levels) inter_block c.read_events.result c.args.reader.now c.read_events.new.reader (inter_productive c.in_a_syntax.ensures) c.read_events.ensures levels text rest spelt parts
+returns-clause-only c = λ levels text rest spelt parts. texts_read (λ u. c.read_events.new.levels) inter_block
+    c.read_events.result c.args.reader.now c.read_events.new.reader (inter_productive c.in_a_syntax.ensures)
+    c.read_events.ensures levels text rest spelt parts
 
 pub returns-clause-range : goal.returns-clause-range
 unfolding inter_block events
-returns-clause-range c = reads_within (λ u. c.read_events.new.levels) inter_block c.read_events.result c.args.reader.now c.read_events.new.reader (λ (levels : List ℤ). IsInterBlock (record { levels = levels })) c.read_events.ensures inter_within
+returns-clause-range c = reads_within (λ u. c.read_events.new.levels) inter_block c.read_events.result c.args.reader.now
+    c.read_events.new.reader (λ (levels : List ℤ). IsInterBlock (record { levels = levels })) c.read_events.ensures
+    inter_within

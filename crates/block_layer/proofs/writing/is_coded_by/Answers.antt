@@ -11,4 +11,5 @@ returns-then-intra c = λ levels marked.
     )
 
 pub returns-else-intra : goal.returns-else-intra
-returns-else-intra c = λ levels marked. rw c.if-intra.false (ap (λ n. not (eqb n 0)) marked ∙ ap (λ (b : Bool). not b) (none_marked levels))
+returns-else-intra c = λ levels marked. rw c.if-intra.false (ap (λ n. not (eqb n 0)) marked
+    ∙ ap (λ (b : Bool). not b) (none_marked levels))

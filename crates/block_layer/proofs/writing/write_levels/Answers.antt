@@ -15,8 +15,12 @@ pub events-init : goal.events-init
 events-init c = record {
   buffer = refl;
   room = refl;
-  text = append_assoc (written c.args.writer.now) (waiting_text c.args.before) (left_text 0 c.args.from c.args.block.now.levels) ∙ ap (λ (l : List Bool). written c.args.writer.now ++ (waiting_text c.args.before ++ l)) (text_is c.args.from c.args.block.now.levels);
-  len = ap (λ (l : List Bool). c.args.writer.now.len + c.args.before.count + length l) (text_is c.args.from c.args.block.now.levels);
+  text = append_assoc (written c.args.writer.now) (waiting_text c.args.before)
+      (left_text 0 c.args.from c.args.block.now.levels)
+      ∙ ap (λ (l : List Bool). written c.args.writer.now ++ (waiting_text c.args.before ++ l))
+      (text_is c.args.from c.args.block.now.levels);
+  len = ap (λ (l : List Bool). c.args.writer.now.len + c.args.before.count + length l)
+      (text_is c.args.from c.args.block.now.levels);
   waiting = c.requires.before;
   marked = ap (λ n. n / 2 ^ c.args.from) c.requires.marks ∙ marks_after c.args.from c.args.block.now.levels;
   since = omega arith;
@@ -26,12 +30,14 @@ events-init c = record {
 pub event_at-requires-clause-place : goal.event_at-requires-clause-place
 event_at-requires-clause-place c =
     let e = c.events in
-    (next e.place (count_trailing_zeros 64 e.left) e.left c.args.block.now.levels c.requires.whole e.invariant.marked c.events-test.true refl).inside
+    (next e.place (count_trailing_zeros 64 e.left) e.left c.args.block.now.levels c.requires.whole e.invariant.marked
+        c.events-test.true refl).inside
 
 pub event_at-requires-clause-size : goal.event_at-requires-clause-size
 event_at-requires-clause-size c =
     let e = c.events in
-    let n = next e.place (count_trailing_zeros 64 e.left) e.left c.args.block.now.levels c.requires.whole e.invariant.marked c.events-test.true refl in
+    let n = next e.place (count_trailing_zeros 64 e.left) e.left c.args.block.now.levels c.requires.whole
+        e.invariant.marked c.events-test.true refl in
     c.requires.levels.sizes (e.place + count_trailing_zeros 64 e.left) (omega arith) (omega (arith, n.inside))
 
 pub event_number-number-requires : goal.event_number-number-requires
@@ -68,7 +74,8 @@ events-preserved c =
     record {
       buffer = more.buffer ∙ e.invariant.buffer;
       room = more.room ∙ e.invariant.room;
-      text = goes e.place run e.left levels (written e.writer ++ waiting_text e.waiting) (written c.gather-waiting.new.writer ++ waiting_text c.gather-waiting.result) _ n
+      text = goes e.place run e.left levels (written e.writer ++ waiting_text e.waiting)
+          (written c.gather-waiting.new.writer ++ waiting_text c.gather-waiting.result) _ n
           (more.text ∙ ap (λ (t : List Bool). (written e.writer ++ waiting_text e.waiting) ++ t) text) e.invariant.text;
       len = omega (arith, n.length, long, more.len, e.invariant.len);
       waiting = more.waiting;
@@ -88,12 +95,14 @@ returns-clause-bits c =
     record {
       buffer = bits.buffer ∙ e.invariant.buffer;
       room = bits.room ∙ e.invariant.room;
-      text = bits.text ∙ ended 0 e.place c.args.block.now.levels (written e.writer ++ waiting_text e.waiting) _ none e.invariant.text;
+      text = bits.text ∙ ended 0 e.place c.args.block.now.levels (written e.writer ++ waiting_text e.waiting)
+          _ none e.invariant.text;
     }
 
 pub returns-clause-len : goal.returns-clause-len
 returns-clause-len c =
     let e = c.events in
     let none = none_next e.place e.left c.args.block.now.levels e.invariant.marked c.events-test.false in
-    let nothing : length (left_text 0 e.place c.args.block.now.levels) ≡ 0 = ap length (none_text 0 e.place c.args.block.now.levels none) in
+    let nothing : length (left_text 0 e.place c.args.block.now.levels)
+        ≡ 0 = ap length (none_text 0 e.place c.args.block.now.levels none) in
     omega (arith, nothing, c.put.ensures.len, e.invariant.len)

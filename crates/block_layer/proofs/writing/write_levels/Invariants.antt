@@ -11,8 +11,10 @@ abbrev pub invariant-events : goal.invariant-events
 invariant-events l = record {
   buffer : buffer_of l.writer ≡ buffer_of l.initial.writer;
   room : room_of l.writer ≡ room_of l.initial.writer;
-  text : (written l.writer ++ waiting_text l.waiting) ++ left_text 0 l.place l.block.levels ≡ written l.initial.writer ++ (waiting_text l.fn.before ++ levels_text l.fn.from l.block.levels);
-  len : len_of l.writer + l.waiting.count + length (left_text 0 l.place l.block.levels) ≡ len_of l.initial.writer + l.fn.before.count + length (levels_text l.fn.from l.block.levels);
+  text : (written l.writer ++ waiting_text l.waiting) ++ left_text 0 l.place l.block.levels ≡ written l.initial.writer
+      ++ (waiting_text l.fn.before ++ levels_text l.fn.from l.block.levels);
+  len : len_of l.writer + l.waiting.count + length (left_text 0 l.place l.block.levels)
+      ≡ len_of l.initial.writer + l.fn.before.count + length (levels_text l.fn.from l.block.levels);
   waiting : DoWait l.waiting;
   marked : l.left ≡ marks_of (drop l.place l.block.levels);
   since : l.fn.from ≤ l.place;

@@ -7,10 +7,13 @@ pub returns-clause-counts : goal.returns-clause-counts
 returns-clause-counts g c coding rules pace frames = counts_are_those coding rules pace frames
 
 pub returns-clause-arrived : goal.returns-clause-arrived
-returns-clause-arrived g c coding rules pace frames = arrived_by_events (pictures_of coding) rules (encoded coding rules pace frames)
+returns-clause-arrived g c coding rules pace frames = arrived_by_events (pictures_of coding) rules
+    (encoded coding rules pace frames)
 
 pub returns-clause-exact : goal.returns-clause-exact
-returns-clause-exact g c coding rules pace frames = exact_by_events (pictures_of coding) rules (encoded coding rules pace frames)
+returns-clause-exact g c coding rules pace frames = exact_by_events (pictures_of coding) rules
+    (encoded coding rules pace frames)
 
 pub returns-clause-stays : goal.returns-clause-stays
-returns-clause-stays g c coding rules pace frames = shown_by_events (pictures_of coding) rules (encoded coding rules pace frames)
+returns-clause-stays g c coding rules pace frames = shown_by_events (pictures_of coding) rules
+    (encoded coding rules pace frames)

@@ -13,15 +13,18 @@ returns-then-size-eq0 c = λ b enough is.
     let none : c.args.size ≡ 0 = omega (arith, c.if-size-eq0.true) in
     record {
       few = omega (arith, c.requires.len);
-      read = zero_read b c.args.seen c.args.len (subst (λ (k : ℕ). IsMagnitudeIn c.args.seen k c.args.len) none c.requires.word) enough is;
+      read = zero_read b c.args.seen c.args.len (subst (λ (k : ℕ). IsMagnitudeIn c.args.seen k c.args.len) none
+          c.requires.word) enough is;
     }
 
 pub returns : goal.returns
 returns c =
     let some : c.args.size ≡ 0 → ⊥ = λ e. omega (arith, e, c.if-size-eq0.false) in
     let sign = c.args.seen / 2 ^ (12 - c.args.len) % 2 in
-    let fits : SFits w8 c.with_sign.result = subst (λ (z : ℤ). SFits w8 z) (sym c.with_sign.ensures) (signed_fits sign c.args.size (omega (arith, c.requires.size))) in
+    let fits : SFits w8 c.with_sign.result = subst (λ (z : ℤ). SFits w8 z) (sym c.with_sign.ensures)
+        (signed_fits sign c.args.size (omega (arith, c.requires.size))) in
     λ b enough is. record {
       few = omega (arith, c.requires.len);
-      read = signed_read b c.args.seen c.args.size c.args.len _ c.requires.len c.requires.size some c.requires.word enough is (to_z-of_z w8 c.with_sign.result fits ∙ c.with_sign.ensures);
+      read = signed_read b c.args.seen c.args.size c.args.len _ c.requires.len c.requires.size some c.requires.word
+          enough is (to_z-of_z w8 c.with_sign.result fits ∙ c.with_sign.ensures);
     }

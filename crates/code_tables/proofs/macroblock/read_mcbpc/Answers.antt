@@ -14,9 +14,11 @@ use Rattle.h263_bits.proofs.SyntaxLaws.{reads_texts, texts_read, reads_within, r
 use Rattle.code_tables.proofs.macroblock.read_mcbpc.Goals as goal
 
 -- what is said of each return
-every : (kind : Kind) (r : Result Mcbpc Fault) (old new : Bits) → Gives (λ (m : Mcbpc). m) r new (reading (mcbpc kind) old) → record {
+every : (kind : Kind) (r : Result Mcbpc Fault) (old new : Bits)
+    → Gives (λ (m : Mcbpc). m) r new (reading (mcbpc kind) old) → record {
   found : IfOk r (λ m. Takes old new (Spells (mcbpc kind) m));
-  only : (m : Mcbpc) (text rest : List Bool) → Spells (mcbpc kind) m text → old.bits ≡ text ++ rest → IsOkAnd r (λ found. (found ≡ m) × (new.bits ≡ rest));
+  only : (m : Mcbpc) (text rest : List Bool) → Spells (mcbpc kind) m text → old.bits ≡ text ++ rest
+      → IsOkAnd r (λ found. (found ≡ m) × (new.bits ≡ rest));
   fault : IfErr r (λ d. (d.at ≡ old.at) × IsWordFault (λ w. IsWordOf (mcbpc_words kind) w) old.bits d.kind);
   exact : Gives (λ (m : Mcbpc). m) r new (reading (mcbpc kind) old);
   range : IfOk r (IsInTable kind);
@@ -27,15 +29,18 @@ every kind r old new e =
     record {
       found = reads_texts view s r old new e;
       only = texts_read view s r old new (mcbpc_productive kind) e;
-      fault = reads_err view s r old new (λ (d : Fault). (d.at ≡ old.at) × IsWordFault (λ w. IsWordOf (mcbpc_words kind) w) old.bits d.kind) e (λ d f. (mcbpc_are kind old d).0 f);
+      fault = reads_err view s r old new (λ (d : Fault). (d.at ≡ old.at)
+          × IsWordFault (λ w. IsWordOf (mcbpc_words kind) w) old.bits d.kind) e (λ d f. (mcbpc_are kind old d).0 f);
       exact = e;
       range = reads_within view s r old new (λ (m : Mcbpc). IsInTable kind m) e (mcbpc_within kind);
     }
 
 pub returns-in-I : goal.returns-in-I
 unfolding mcbpc mcbpc_table reading
-returns-in-I c = every c.args.kind c.read_intra_mcbpc.result c.args.reader.now c.read_intra_mcbpc.new.reader (search rules)
+returns-in-I c = every c.args.kind c.read_intra_mcbpc.result c.args.reader.now c.read_intra_mcbpc.new.reader
+    (search rules)
 
 pub returns-in-P : goal.returns-in-P
 unfolding mcbpc mcbpc_table reading
-returns-in-P c = every c.args.kind c.read_inter_mcbpc.result c.args.reader.now c.read_inter_mcbpc.new.reader (search rules)
+returns-in-P c = every c.args.kind c.read_inter_mcbpc.result c.args.reader.now c.read_inter_mcbpc.new.reader
+    (search rules)

@@ -12,15 +12,19 @@ use Rattle.code_tables.proofs.SignedTexts.{signed_event}
 use Rattle.code_tables.proofs.words.event_number.Goals as goal
 
 pub signed_number-requires-clause-there : goal.signed_number-requires-clause-there
-signed_number-requires-clause-there c = triple_below c.args.event.now.last c.args.event.now.run c.size.result c.in-Some.place (sym c.in-Some.ensures)
+signed_number-requires-clause-there c = triple_below c.args.event.now.last c.args.event.now.run c.size.result
+    c.in-Some.place (sym c.in-Some.ensures)
 
 pub returns-in-Some-clause-text : goal.returns-in-Some-clause-text
 returns-in-Some-clause-text c =
     let e = coefficient_of c.args.event.now in
     let back = to_z-of_z w8 e.level (level_fits e.level c.requires.level) in
-    let text = signed_event e c.size.result c.in-Some.place (c.size.ensures ∙ ap size_of back) c.requires.some (sym c.in-Some.ensures) in
-    let word : spelled c.signed_number.result.1 c.signed_number.result.0 ≡ word_of (code_at EVENTS c.in-Some.place) ++ int_lt e.level (pos 0) ∷ [] =
-    subst (λ (z : ℤ). spelled c.signed_number.result.1 c.signed_number.result.0 ≡ word_of (code_at EVENTS c.in-Some.place) ++ int_lt z (pos 0) ∷ []) back c.signed_number.ensures.text in
+    let text = signed_event e c.size.result c.in-Some.place (c.size.ensures
+        ∙ ap size_of back) c.requires.some (sym c.in-Some.ensures) in
+    let word : spelled c.signed_number.result.1 c.signed_number.result.0 ≡ word_of (code_at EVENTS c.in-Some.place)
+        ++ int_lt e.level (pos 0) ∷ [] =
+    subst (λ (z : ℤ). spelled c.signed_number.result.1 c.signed_number.result.0
+        ≡ word_of (code_at EVENTS c.in-Some.place) ++ int_lt z (pos 0) ∷ []) back c.signed_number.ensures.text in
     word ∙ text
 
 pub returns-in-None-clause-text : goal.returns-in-None-clause-text

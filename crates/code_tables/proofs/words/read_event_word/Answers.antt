@@ -19,4 +19,5 @@ unfolding event_table
 returns-clause-reads c = found c.args.reader.now _ _ _ c.in_ok-place.ensures.reads (ap event_of_code c.level_at.ensures)
 
 pub returns-clause-small : goal.returns-clause-small
-returns-clause-small c = subst (λ (o : Option Level). IfSome o (λ level. level.size < 128)) (sym c.level_at.ensures) (small LEVELS c.in_ok-place.place all_small)
+returns-clause-small c = subst (λ (o : Option Level). IfSome o (λ level. level.size < 128)) (sym c.level_at.ensures)
+    (small LEVELS c.in_ok-place.place all_small)

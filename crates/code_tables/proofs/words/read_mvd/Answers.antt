@@ -21,7 +21,8 @@ in_range v low high = omega (arith, ints)
 -- what is said of each return
 every : (r : Result ℤ Fault) (old new : Bits) → Gives (λ (v : ℤ). v) r new (reading mvd old) → record {
   found : IfOk r (λ v. Takes old new (Spells mvd v));
-  only : (v : ℤ) (text rest : List Bool) → Spells mvd v text → old.bits ≡ text ++ rest → IsOkAnd r (λ found. (found ≡ v) × (new.bits ≡ rest));
+  only : (v : ℤ) (text rest : List Bool) → Spells mvd v text → old.bits ≡ text ++ rest
+      → IsOkAnd r (λ found. (found ≡ v) × (new.bits ≡ rest));
   fault : IfErr r (λ d. (d.at ≡ old.at) × IsWordFault (λ w. IsWordOf mvd_words w) old.bits d.kind);
   exact : Gives (λ (v : ℤ). v) r new (reading mvd old);
   low : IfOk r (λ v. negsuc 31 ≤ℤ v);
@@ -32,7 +33,8 @@ every r old new e =
     record {
       found = reads_texts view mvd r old new e;
       only = texts_read view mvd r old new mvd_productive e;
-      fault = reads_err view mvd r old new (λ (d : Fault). (d.at ≡ old.at) × IsWordFault (λ w. IsWordOf mvd_words w) old.bits d.kind) e (λ d f. (mvd_words_are old d).0 f);
+      fault = reads_err view mvd r old new (λ (d : Fault). (d.at ≡ old.at)
+          × IsWordFault (λ w. IsWordOf mvd_words w) old.bits d.kind) e (λ d f. (mvd_words_are old d).0 f);
       exact = e;
       low = reads_within view mvd r old new (λ (v : ℤ). negsuc 31 ≤ℤ v) e mvd_low;
       high = reads_within view mvd r old new (λ (v : ℤ). v ≤ℤ pos 31) e mvd_high;
@@ -41,14 +43,16 @@ every r old new e =
 pub returns-in-Some : goal.returns-in-Some
 returns-in-Some c =
     let old = c.args.reader.now in
-    let first = c.in-Some.ensures old (omega (arith, c.rest.ensures, c.if-rest-ge64.true)) (sym c.peek_early-seen.ensures.value) in
+    let first = c.in-Some.ensures old (omega (arith, c.rest.ensures, c.if-rest-ge64.true))
+        (sym c.peek_early-seen.ensures.value) in
     let value = c.in-Some.found.value in
     let after = skip c.in-Some.found.len old in
     let view = λ (v : ℤ). v in
     let low = reads_within view mvd (Ok value) old after (λ (v : ℤ). negsuc 31 ≤ℤ v) first.read mvd_low in
     let high = reads_within view mvd (Ok value) old after (λ (v : ℤ). v ≤ℤ pos 31) first.read mvd_high in
     let kept = to_z-of_z w8 value (in_range value low high) in
-    every (Ok _) old c.skip.new.self (first.read ∙ ap (λ (v : ℤ). Ok (v, after)) (sym kept) ∙ ap (λ (b : Bits). Ok (to_z w8 (of_z w8 value), b)) (sym c.skip.ensures))
+    every (Ok _) old c.skip.new.self (first.read ∙ ap (λ (v : ℤ). Ok (v, after)) (sym kept)
+        ∙ ap (λ (b : Bits). Ok (to_z w8 (of_z w8 value), b)) (sym c.skip.ensures))
 
 pub returns-else-value-eq32 : goal.returns-else-value-eq32
 unfolding mvd reading

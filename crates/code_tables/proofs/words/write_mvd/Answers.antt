@@ -13,8 +13,10 @@ pub write_code-requires-clause-room : goal.write_code-requires-clause-room
 write_code-requires-clause-room c =
     let v = c.args.value in
     let none : c.size-size.result ≡ 0 = omega (arith, c.if-size-eq0.true) in
-    let text = no_difference v c.size-size.result (c.size-size.ensures ∙ ap size_of (to_z-of_z w8 v c.ranges.value)) none in
-    subst (λ (t : List Bool). len_of c.args.writer.now + length t ≤ room_of c.args.writer.now) (sym text) c.requires.room
+    let text = no_difference v c.size-size.result (c.size-size.ensures
+        ∙ ap size_of (to_z-of_z w8 v c.ranges.value)) none in
+    subst (λ (t : List Bool). len_of c.args.writer.now + length t ≤ room_of c.args.writer.now)
+        (sym text) c.requires.room
 
 pub write_signed_code-requires-clause-room : goal.write_signed_code-requires-clause-room
 write_signed_code-requires-clause-room c =
@@ -23,22 +25,26 @@ write_signed_code-requires-clause-room c =
     let same : n ≡ size_of v = c.size-size.ensures ∙ ap size_of (to_z-of_z w8 v c.ranges.value) in
     let some : 0 < n = omega (arith, c.if-size-eq0.false) in
     let text = signed_difference v n same some (omega (arith, same, size_below v c.requires.low c.requires.high)) in
-    let long : length (mvd_text v) ≡ length (word_of (code_at MAGNITUDES n)) + 1 = ap length (sym text) ∙ length-append _ _ in
+    let long : length (mvd_text v) ≡ length (word_of (code_at MAGNITUDES n)) + 1 = ap length (sym text)
+        ∙ length-append _ _ in
     omega (arith, c.requires.room, long)
 
 pub returns-then-size-eq0-clause-bits : goal.returns-then-size-eq0-clause-bits
 returns-then-size-eq0-clause-bits c =
     let v = c.args.value in
     let none : c.size-size.result ≡ 0 = omega (arith, c.if-size-eq0.true) in
-    let text = no_difference v c.size-size.result (c.size-size.ensures ∙ ap size_of (to_z-of_z w8 v c.ranges.value)) none in
+    let text = no_difference v c.size-size.result (c.size-size.ensures
+        ∙ ap size_of (to_z-of_z w8 v c.ranges.value)) none in
     subst (λ (t : List Bool). Appends c.args.writer.now c.write_code.new.writer t) text c.write_code.ensures.bits
 
 pub returns-then-size-eq0-clause-len : goal.returns-then-size-eq0-clause-len
 returns-then-size-eq0-clause-len c =
     let v = c.args.value in
     let none : c.size-size.result ≡ 0 = omega (arith, c.if-size-eq0.true) in
-    let text = no_difference v c.size-size.result (c.size-size.ensures ∙ ap size_of (to_z-of_z w8 v c.ranges.value)) none in
-    subst (λ (t : List Bool). len_of c.write_code.new.writer ≡ len_of c.args.writer.now + length t) text c.write_code.ensures.len
+    let text = no_difference v c.size-size.result (c.size-size.ensures
+        ∙ ap size_of (to_z-of_z w8 v c.ranges.value)) none in
+    subst (λ (t : List Bool). len_of c.write_code.new.writer ≡ len_of c.args.writer.now + length t) text
+        c.write_code.ensures.len
 
 pub returns-else-size-eq0-clause-bits : goal.returns-else-size-eq0-clause-bits
 returns-else-size-eq0-clause-bits c =
@@ -48,8 +54,10 @@ returns-else-size-eq0-clause-bits c =
     let same : n ≡ size_of v = c.size-size.ensures ∙ ap size_of back in
     let some : 0 < n = omega (arith, c.if-size-eq0.false) in
     let text = signed_difference v n same some (omega (arith, same, size_below v c.requires.low c.requires.high)) in
-    let bits : Appends c.args.writer.now c.write_signed_code.new.writer (word_of (code_at MAGNITUDES n) ++ int_lt v (pos 0) ∷ []) =
-    subst (λ (z : ℤ). Appends c.args.writer.now c.write_signed_code.new.writer (word_of (code_at MAGNITUDES n) ++ int_lt z (pos 0) ∷ [])) back c.write_signed_code.ensures.bits in
+    let bits : Appends c.args.writer.now c.write_signed_code.new.writer (word_of (code_at MAGNITUDES n)
+        ++ int_lt v (pos 0) ∷ []) =
+    subst (λ (z : ℤ). Appends c.args.writer.now c.write_signed_code.new.writer (word_of (code_at MAGNITUDES n)
+        ++ int_lt z (pos 0) ∷ [])) back c.write_signed_code.ensures.bits in
     subst (λ (t : List Bool). Appends c.args.writer.now c.write_signed_code.new.writer t) text bits
 
 pub returns-else-size-eq0-clause-len : goal.returns-else-size-eq0-clause-len
@@ -59,5 +67,6 @@ returns-else-size-eq0-clause-len c =
     let same : n ≡ size_of v = c.size-size.ensures ∙ ap size_of (to_z-of_z w8 v c.ranges.value) in
     let some : 0 < n = omega (arith, c.if-size-eq0.false) in
     let text = signed_difference v n same some (omega (arith, same, size_below v c.requires.low c.requires.high)) in
-    let long : length (mvd_text v) ≡ length (word_of (code_at MAGNITUDES n)) + 1 = ap length (sym text) ∙ length-append _ _ in
+    let long : length (mvd_text v) ≡ length (word_of (code_at MAGNITUDES n)) + 1 = ap length (sym text)
+        ∙ length-append _ _ in
     omega (arith, c.write_signed_code.ensures.len, long)

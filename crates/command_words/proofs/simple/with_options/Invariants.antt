@@ -5,4 +5,5 @@ use Rattle.command_words.proofs.simple.with_options.Given as goal
 
 -- with the rest the command has what it is to have
 abbrev pub invariant-loop-option : goal.invariant-loop-option
-invariant-loop-option l = with_rules (app_of l.command) (map option_rule (texts (drop l.option-index l.options))) ≡ with_rules (app_of l.initial.command) (map option_rule (texts l.options))
+invariant-loop-option l = with_rules (app_of l.command) (map option_rule (texts (drop l.option-index l.options)))
+    ≡ with_rules (app_of l.initial.command) (map option_rule (texts l.options))

@@ -5,4 +5,5 @@ use Rattle.command_words.proofs.simple.with_places.Given as goal
 
 -- with the rest the command has what it is to have
 abbrev pub invariant-loop-place : goal.invariant-loop-place
-invariant-loop-place l = with_rules (app_of l.command) (map place_rule (texts (drop l.place-index l.places))) ≡ with_rules (app_of l.initial.command) (map place_rule (texts l.places))
+invariant-loop-place l = with_rules (app_of l.command) (map place_rule (texts (drop l.place-index l.places)))
+    ≡ with_rules (app_of l.initial.command) (map place_rule (texts l.places))

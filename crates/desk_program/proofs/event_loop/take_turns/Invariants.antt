@@ -10,9 +10,11 @@ invariant-loop-status g l =
     let outside = g.D.Desk.outside in
     let m = g.M.Turns in
     record {
-      plays : (run : Run) (inputs : Role → List ℕ) (start : Role → Option (List ℕ)) → IsUnderWay m.step m.reads run inputs start (m.stands l.fn.machine) (m.more l.fn.machine) (outside l.fn.desk)
+      plays : (run : Run) (inputs : Role → List ℕ) (start : Role → Option (List ℕ))
+          → IsUnderWay m.step m.reads run inputs start (m.stands l.fn.machine) (m.more l.fn.machine) (outside l.fn.desk)
           → IsUnderWay m.step m.reads run inputs start (m.stands l.machine) (m.more l.machine) (outside l.desk);
-      ends : (final : m.State) → EndsIn m.step final (m.stands l.fn.machine) (m.more l.fn.machine) (outside l.fn.desk) → EndsIn m.step final (m.stands l.machine) (m.more l.machine) (outside l.desk);
+      ends : (final : m.State) → EndsIn m.step final (m.stands l.fn.machine) (m.more l.fn.machine) (outside l.fn.desk)
+          → EndsIn m.step final (m.stands l.machine) (m.more l.machine) (outside l.desk);
       stays : (first : g.row.M.Denot) → m.stays first l.fn.machine → m.stays first l.machine;
       ready : m.ready l.machine (outside l.desk).attached;
       source : m.reading l.machine ≡ m.reading l.fn.machine;

@@ -13,9 +13,13 @@ returns g c =
     let stands = g.M.Turns.stands in
     record {
       begins = λ machine first step reads most inputs old new is w.
-          subst (λ (n : ℕ). IsUnderWay step reads (run_from first step most inputs) inputs old.written (stands machine) n new) (sym is)
+          subst (λ (n : ℕ). IsUnderWay step reads (run_from first step most inputs) inputs old.written
+              (stands machine) n new) (sym is)
           (started first step reads most inputs old new (stands machine) w);
-      begins_from = λ from first step reads most inputs old new w. started first step reads most inputs old new (IsFrom from) w;
-      gives_up = λ first step most inputs old new status e. gives_up _ _ _ _ _ old new _ (at_start first step most inputs old) (phase status) status e;
-      no_memory = λ from step reads run inputs start more now p. stops step reads run inputs start now now (IsFrom from) more p starved OutOfMemory refl;
+      begins_from = λ from first step reads most inputs old new w. started first step reads most inputs old new
+          (IsFrom from) w;
+      gives_up = λ first step most inputs old new status e. gives_up _ _ _ _ _ old new _
+          (at_start first step most inputs old) (phase status) status e;
+      no_memory = λ from step reads run inputs start more now p. stops step reads run inputs start now now
+          (IsFrom from) more p starved OutOfMemory refl;
     }

@@ -12,8 +12,10 @@ returns-in-Ok c =
     record {
       video_a = refl;
       video_b = refl;
-      new_a = subst (λ (f : Format). IsNewParty (record p { format = f }) c.in_ok-first.first) c.format.ensures c.in_ok-first.ensures;
-      new_b = subst (λ (f : Format). IsNewParty (record p { format = f }) c.in-Ok.second) c.format-2.ensures c.in-Ok.ensures;
+      new_a = subst (λ (f : Format). IsNewParty (record p { format = f }) c.in_ok-first.first) c.format.ensures
+          c.in_ok-first.ensures;
+      new_b = subst (λ (f : Format). IsNewParty (record p { format = f }) c.in-Ok.second) c.format-2.ensures
+          c.in-Ok.ensures;
       lines = c.new.ensures.lines;
       ended = c.new.ensures.ended;
       room_a = fits c.format.result heads.a.format _ _ c.format.ensures long c.room_for.ensures.first;

@@ -10,4 +10,5 @@ returns c = λ p x far ways h.
     let sent = c.sent.ensures ∙ laws.sent x own far ways h in
     let played = c.played.ensures ∙ laws.played x own far ways h in
     let tally = c.tally.ensures p x far ways h in
-    c.counts_line.ensures ∙ (λ i. counts_text_of word (played i) (sent i) (tally.exact i) (tally.patched i) (tally.held i))
+    c.counts_line.ensures ∙ (λ i. counts_text_of word (played i) (sent i) (tally.exact i) (tally.patched i)
+        (tally.held i))

@@ -7,5 +7,6 @@ abbrev pub invariant-header : goal.invariant-header
 invariant-header l = record {
   few : l.count ≤ l.place-index;
   long : length l.messages ≡ 4;
-  messages : take l.count l.messages ++ map message_in (carried_in (drop l.place-index l.header)) ≡ map message_in (carried_in l.header);
+  messages : take l.count l.messages ++ map message_in (carried_in (drop l.place-index l.header))
+      ≡ map message_in (carried_in l.header);
 }

@@ -23,7 +23,8 @@ returns c = λ p in_range k before lived frame quant count there new ranged are 
     let coded = (group_run (pictures_of coding_of) (encoding p) rules (group_entries k before lived)).coded in
     let blank = capture (pictures_of coding_of) (encoding p) quant frame [] None in
     let source = lived_source 0 blank coded in
-    let law = c.group.ensures coding_of rules (c.is_coding.ensures p in_range) (c.are_rules.ensures p in_range) k before lived frame quant count there ranged in
+    let law = c.group.ensures coding_of rules (c.is_coding.ensures p in_range) (c.are_rules.ensures p in_range) k before
+        lived frame quant count there ranged in
     let follows : FollowsTheGroup coding_of rules 0 count source coded (lived_events 0 lived) =
     subst (λ (j : ℕ). AreLived coding_of rules k j (lived_source j blank coded) lived
     → AllMayHappenFrom (pictures_of coding_of) rules (lived_source j blank coded) count (lived_events j lived)
@@ -33,6 +34,8 @@ returns c = λ p in_range k before lived frame quant count there new ranged are 
     let is = received_is p source coded lived in
     record {
       own = λ n. follows.own n (omega arith);
-      state = subst (λ (run : ReceiverRun Style Mb Picture). ReceiverIsAt (decoding p.format) rules (call_from (pictures_of coding_of) rules source (lived_events 0 lived)) run) (sym is) follows.follows.state;
-      shows = λ some. ap (λ (run : ReceiverRun Style Mb Picture). played_shown (decoding p.format) rules run) is ∙ (follows.follows.plays some).0;
+      state = subst (λ (run : ReceiverRun Style Mb Picture). ReceiverIsAt (decoding p.format) rules
+          (call_from (pictures_of coding_of) rules source (lived_events 0 lived)) run) (sym is) follows.follows.state;
+      shows = λ some. ap (λ (run : ReceiverRun Style Mb Picture). played_shown (decoding p.format) rules run) is
+          ∙ (follows.follows.plays some).0;
     }

@@ -9,4 +9,5 @@ pub returns-clause-all : goal.returns-clause-all
 returns-clause-all g c = all_have_is
 
 pub returns-clause-waits : goal.returns-clause-waits
-returns-clause-waits g c pictures encoding rules = waiting_is_intra pictures encoding rules c.searches.ensures.greatest c.searches.ensures.no_greatest
+returns-clause-waits g c pictures encoding rules = waiting_is_intra pictures encoding rules c.searches.ensures.greatest
+    c.searches.ensures.no_greatest

@@ -15,7 +15,8 @@ returns-then-all_have_it-clause-value c = λ rules parties stand is wide.
     sym ((c.searches.ensures.greatest (λ k. all_have parties k && leb sent (k + window_of rules)) sent m).1 (
       and_from (all_have parties m) (leb sent (m + window_of rules)) all (le-leb sent (m + window_of rules) near),
       below,
-      λ k newer last. and_left (all_have parties k) (leb sent (k + window_of rules)) (c.back.invariant rules parties stand is wide k last (omega (arith, newer))),
+      λ k newer last. and_left (all_have parties k) (leb sent (k + window_of rules))
+          (c.back.invariant rules parties stand is wide k last (omega (arith, newer))),
     ))
 
 pub back-preserved : goal.back-preserved
@@ -27,6 +28,7 @@ back-preserved c = λ rules parties stand is wide m below near.
     elim (cases_lt (m + c.back.back) sent) [
       | inl far ↦
           let same : m ≡ here = omega (arith, far, near, c.if-sent-back.false) in
-          ap (all_have parties) same ∙ sym (c.all_have_it.ensures rules sent parties stand low close) ∙ c.if-all_have_it.false
+          ap (all_have parties) same ∙ sym (c.all_have_it.ensures rules sent parties stand low close)
+              ∙ c.if-all_have_it.false
       | inr late ↦ c.back.invariant rules parties stand is wide m below late
     ]

@@ -7,5 +7,6 @@ use Rattle.group_sender.proofs.members.tell_coded.Given as goal
 
 -- the places below k were told
 abbrev pub invariant-places : goal.invariant-places
-invariant-places l = (length l.members ≡ length l.initial.members) × ((rules : Rules) (parties : List Party) → MembersStand rules l.initial.members l.number parties
+invariant-places l = (length l.members ≡ length l.initial.members) × ((rules : Rules) (parties : List Party)
+    → MembersStand rules l.initial.members l.number parties
     → AreTold rules l.members l.number l.k parties)

@@ -8,5 +8,6 @@ use Rattle.group_sender.proofs.waiting.first_late.Given as goal
 
 -- none of the receivers that were looked at is waited for
 abbrev pub invariant-places : goal.invariant-places
-invariant-places l = (rules : Rules) (parties : List Party) → MembersStand rules l.fn.members l.sent parties → l.window ≡ window_of rules
+invariant-places l = (rules : Rules) (parties : List Party) → MembersStand rules l.fn.members l.sent parties
+    → l.window ≡ window_of rules
     → window_of rules ≤ rules.slots → (j : ℕ) → j < l.k → is_waited_for rules l.sent (party_at parties j) ≡ false

@@ -7,5 +7,6 @@ use Rattle.group_sender.proofs.waiting.has_one.Given as goal
 
 -- it has none of the pictures that were looked at
 abbrev pub invariant-back : goal.invariant-back
-invariant-back l = (rules : Rules) (party : Party) → MemberStands rules l.fn.member l.sent party → l.window ≡ window_of rules
+invariant-back l = (rules : Rules) (party : Party) → MemberStands rules l.fn.member l.sent party
+    → l.window ≡ window_of rules
     → window_of rules ≤ rules.slots → (m : ℕ) → m < l.sent → l.sent ≤ m + l.back → party_has party m ≡ false

@@ -7,7 +7,8 @@ invariant-loop-done g l =
     let outside = g.D.Desk.outside in
     record {
       within : l.done ≤ length l.buf;
-      front : IfSome ((outside l.fn.desk).left l.role) (λ left. (l.done ≤ length left) × (take l.done l.buf ≡ take l.done left));
+      front : IfSome ((outside l.fn.desk).left l.role) (λ left. (l.done ≤ length left)
+          × (take l.done l.buf ≡ take l.done left));
       lost : (outside l.desk).left ≡ consumed (outside l.fn.desk).left l.role l.done;
       faults : (outside l.desk).faults ≡ (outside l.fn.desk).faults;
       rest : OnlyReads (outside l.fn.desk) (outside l.desk);

@@ -5,8 +5,10 @@ use Rattle.h263_outside.proofs.whole.write_all.Goals as goal
 
 pub loop-done-preserved : goal.loop-done-preserved
 loop-done-preserved g c = record {
-  within = rest_within c.args.bytes.now c.loop-done.done c.in_ok-done.field-0 c.loop-done.invariant.within c.in_ok-done.ensures.count;
-  gained = gained_more _ c.args.role _ _ _ _ _ c.loop-done.invariant.gained c.in_ok-done.ensures.written (next_piece c.args.bytes.now c.loop-done.done c.in_ok-done.field-0);
+  within = rest_within c.args.bytes.now c.loop-done.done c.in_ok-done.field-0 c.loop-done.invariant.within
+      c.in_ok-done.ensures.count;
+  gained = gained_more _ c.args.role _ _ _ _ _ c.loop-done.invariant.gained c.in_ok-done.ensures.written
+      (next_piece c.args.bytes.now c.loop-done.done c.in_ok-done.field-0);
   faults = c.in_ok-done.ensures.ok_faults ∙ c.loop-done.invariant.faults;
   rest = writes_on _ _ _ c.loop-done.invariant.rest c.write.ensures.rest;
 }

@@ -12,7 +12,8 @@ loop-k-init g c = (
 pub loop-k-preserved : goal.loop-k-preserved
 loop-k-preserved g c =
     let inv = c.loop-k.invariant in (
-      one_more_at c.args.width g.row.N c.args.stride c.args.samples.now c.args.from c.loop-k.k c.loop-k.to c.loop-k.at c.args.bytes.now c.loop-k.bytes _ inv.1 inv.2 inv.0 c.put_row.ensures,
+      one_more_at c.args.width g.row.N c.args.stride c.args.samples.now c.args.from c.loop-k.k c.loop-k.to c.loop-k.at
+          c.args.bytes.now c.loop-k.bytes _ inv.1 inv.2 inv.0 c.put_row.ensures,
       omega (arith, inv.1),
       omega (arith, inv.2),
     )

@@ -7,4 +7,5 @@ use Rattle.h263rps_c.proofs.group.h263rps_raw_group_quant.Goals as goal
 pub returns-in-Ok-clause-stands : goal.returns-in-Ok-clause-stands
 returns-in-Ok-clause-stands c = λ p first past before status.
     let ok : IsOk c.fix.result = search rules in
-    c.fix.ensures.stands p first past (subst (λ (o : Option KeptGroup). HoldsKept p first past o) c.group_mut.ensures.value before) ok
+    c.fix.ensures.stands p first past (subst (λ (o : Option KeptGroup). HoldsKept p first past o)
+        c.group_mut.ensures.value before) ok

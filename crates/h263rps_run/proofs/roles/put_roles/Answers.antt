@@ -11,7 +11,8 @@ use Rattle.h263rps_run.proofs.roles.put_roles.Goals as goal
 use Rattle.h263rps_run.proofs.roles.put_roles.Goals.{in-Some, in_default}
 
 pub order-init : goal.order-init
-order-init c = record { few = omega arith; long = c.told-places; roles = all_named (asked_of c.args.words.now) c.requires }
+order-init c = record { few = omega arith; long = c.told-places;
+    roles = all_named (asked_of c.args.words.now) c.requires }
 
 pub order-preserved : goal.order-preserved
 order-preserved c =
@@ -22,7 +23,8 @@ order-preserved c =
     elim c.match-name.branch [
       | in-Some w ↦ record {
         few = omega (arith, w.count-is, i.few);
-        long = ap length w.places-is ∙ length-set c.order.places c.order.count (get_or order at Video, w.in-Some.word) ∙ i.long;
+        long = ap length w.places-is ∙ length-set c.order.places c.order.count (get_or order at Video, w.in-Some.word)
+            ∙ i.long;
         roles =
             (λ i. names (take (w.count-is i) (w.places-is i)) ++ named a (drop (at + 1) order))
             ∙ put a c.order.places c.order.count at w.in-Some.word _ more (omega (arith, i.few, i.long, more))

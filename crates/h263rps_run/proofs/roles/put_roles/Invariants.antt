@@ -10,5 +10,6 @@ abbrev pub invariant-order : goal.invariant-order
 invariant-order l = record {
   few : l.count ≤ l.role-index;
   long : length l.places ≡ 6;
-  roles : names (take l.count l.places) ++ named (asked_of l.words) (drop l.role-index order) ≡ roles_of l.words.command (asked_of l.words);
+  roles : names (take l.count l.places) ++ named (asked_of l.words) (drop l.role-index order)
+      ≡ roles_of l.words.command (asked_of l.words);
 }

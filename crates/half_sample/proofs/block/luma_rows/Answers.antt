@@ -6,7 +6,8 @@ use Rattle.half_sample.proofs.block.luma_rows.Goals as goal
 
 pub next_row-step-requires-clause-reach : goal.next_row-step-requires-clause-reach
 next_row-step-requires-clause-reach c =
-    row_reach c.args.source c.args.half 16 c.loop-j.j c.loop-j.at c.requires.rows c.loop-j-test.true c.loop-j.invariant.0
+    row_reach c.args.source c.args.half 16 c.loop-j.j c.loop-j.at c.requires.rows c.loop-j-test.true
+        c.loop-j.invariant.0
 
 pub loop-j-preserved : goal.loop-j-preserved
 loop-j-preserved c =
@@ -17,7 +18,9 @@ loop-j-preserved c =
     let inv = c.loop-j.invariant in (
       omega (arith, inv.0),
       c.next_row-step.ensures.below,
-      row_step (λ k i. lane_between s half r (s.width * k) (0 + i)) c.loop-j.out c.store.new.out c.next_row-step.result.row 16 j
+      row_step (λ k i. lane_between s half r (s.width * k) (0 + i)) c.loop-j.out c.store.new.out
+          c.next_row-step.result.row 16 j
           c.store.ensures.before c.store.ensures.stored inv.2
-          (λ i hi. c.next_row-step.ensures.row i hi ∙ lane_at s half r c.loop-j.at (s.width * j) i (0 + i) inv.0 (omega arith)),
+          (λ i hi. c.next_row-step.ensures.row i hi
+              ∙ lane_at s half r c.loop-j.at (s.width * j) i (0 + i) inv.0 (omega arith)),
     )

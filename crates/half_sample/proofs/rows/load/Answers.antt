@@ -8,4 +8,5 @@ returns-clause-value g c = load_is g.row.N c.args.row.now c.requires
 
 pub returns-clause-samples : goal.returns-clause-samples
 returns-clause-samples g c =
-    (length-chunk 0 g.row.N c.args.row.now (omega (arith, c.requires)), load_small g.row.N c.args.row.now c.type_inv.row)
+    (length-chunk 0 g.row.N c.args.row.now (omega (arith, c.requires)),
+        load_small g.row.N c.args.row.now c.type_inv.row)

@@ -6,10 +6,12 @@ use Rattle.half_sample.proofs.Lanes.{mean_is, mean_fits, mean_small}
 use Rattle.half_sample.proofs.rows.mean.Goals as goal
 
 pub overflow_cast-a : goal.overflow_cast-a
-overflow_cast-a g c = Each1-weaker (λ x. x < 256) (Fits w16) (λ x h. record { fits = omega (arith, h) }) c.args.a c.requires.a.1
+overflow_cast-a g c = Each1-weaker (λ x. x < 256) (Fits w16) (λ x h. record { fits = omega (arith, h) }) c.args.a
+    c.requires.a.1
 
 pub overflow_cast-b : goal.overflow_cast-b
-overflow_cast-b g c = Each1-weaker (λ x. x < 256) (Fits w16) (λ x h. record { fits = omega (arith, h) }) c.args.b c.requires.b.1
+overflow_cast-b g c = Each1-weaker (λ x. x < 256) (Fits w16) (λ x h. record { fits = omega (arith, h) }) c.args.b
+    c.requires.b.1
 
 pub overflow_shr-result : goal.overflow_shr-result
 overflow_shr-result g c = shifts_fit_splat 16 _ g.row.N 1 (omega arith)

@@ -5,7 +5,8 @@ use Rattle.half_sample.proofs.Lanes.{lanes, minus, two_at}
 use Rattle.half_sample.proofs.rows.of_mean.Goals as goal
 
 pub returns-clause-length : goal.returns-clause-length
-returns-clause-length g c = lanes minus c.args.mean _ c.requires.mean.long (lanes bit_and c.args.odd _ c.requires.odd (length-replicate g.row.N c.args.rounding))
+returns-clause-length g c = lanes minus c.args.mean _ c.requires.mean.long (lanes bit_and c.args.odd _ c.requires.odd
+    (length-replicate g.row.N c.args.rounding))
 
 pub returns-clause-lanes : goal.returns-clause-lanes
 returns-clause-lanes g c = λ xs ys hx hy are i hi.

@@ -9,4 +9,5 @@ pub returns-clause-before : goal.returns-clause-before
 returns-clause-before g c = λ k hk. get_or-put_chunk_below c.args.at c.args.out.now c.args.samples k 0 hk
 
 pub returns-clause-stored : goal.returns-clause-stored
-returns-clause-stored g c = λ i hi. get_or-put_chunk_at c.args.at c.args.out.now c.args.samples i 0 (omega (arith, hi, c.requires.samples)) (omega (arith, c.requires.samples, c.requires.room))
+returns-clause-stored g c = λ i hi. get_or-put_chunk_at c.args.at c.args.out.now c.args.samples i 0
+    (omega (arith, hi, c.requires.samples)) (omega (arith, c.requires.samples, c.requires.room))

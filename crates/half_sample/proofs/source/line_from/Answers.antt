@@ -15,7 +15,8 @@ returns-then-not-right c =
       here_samples = is.samples;
       further_samples = is.samples;
       here_is = is.value;
-      further_is = λ i hi. is.value i hi ∙ ap (λ (k : ℕ). lane_of c.args.source k i) (not_further c.args.right c.args.at c.if-not-right.true);
+      further_is = λ i hi. is.value i hi
+          ∙ ap (λ (k : ℕ). lane_of c.args.source k i) (not_further c.args.right c.args.at c.if-not-right.true);
       means = is.samples;
       odd = refl;
       are = record { mean = own_means here; odd = none_odd 16 here is.samples.long };
@@ -33,7 +34,8 @@ returns c =
       here_samples = is.samples;
       further_samples = next.samples;
       here_is = is.value;
-      further_is = λ i hi. next.value i hi ∙ ap (λ (k : ℕ). lane_of c.args.source k i) (one_further c.args.right c.args.at c.if-not-right.false);
+      further_is = λ i hi. next.value i hi
+          ∙ ap (λ (k : ℕ). lane_of c.args.source k i) (one_further c.args.right c.args.at c.if-not-right.false);
       means = samples_are c.mean.ensures.samples;
       odd = lanes bit_xor here further is.samples.long next.samples.long;
       are = record { mean = c.mean.ensures.value; odd = refl };

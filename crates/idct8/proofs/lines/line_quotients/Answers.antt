@@ -11,4 +11,5 @@ pub returns-clause-value : goal.returns-clause-value
 returns-clause-value c i hi = numbers16 (lit≤ tt) (narrow_words (lit≤ tt) (line_words c.args.v c.requires)) i hi
 
 pub returns-clause-size : goal.returns-clause-size
-returns-clause-size c = numbers_small16 32000 (lit≤ tt) (lit≤ tt) (narrow_words (lit≤ tt) (line_words c.args.v c.requires))
+returns-clause-size c = numbers_small16 32000 (lit≤ tt) (lit≤ tt)
+    (narrow_words (lit≤ tt) (line_words c.args.v c.requires))

@@ -16,8 +16,11 @@ loop-r-preserved c =
     let v : List ℤ = map (to_z w16) (map (of_z w16) c.args.v) in
     let eight : EightWithin 32000 v = passed_within16 32000 32000 (lit≤ tt) (lit≤ tt) c.requires in (
       ap length c.store.ensures ∙ length-put_chunk (8 * r) out v ∙ c.loop-r.invariant.0,
-      λ j k hj hk. ap (λ (u : List ℤ). entry u j k) c.store.ensures ∙ row_step (λ r k. lane v k) out v r c.loop-r.invariant.0 eight.long c.loop-r-test.true (λ k hk. refl) c.loop-r.invariant.1 j k hj hk,
+      λ j k hj hk. ap (λ (u : List ℤ). entry u j k) c.store.ensures
+          ∙ row_step (λ r k. lane v k) out v r c.loop-r.invariant.0 eight.long c.loop-r-test.true
+          (λ k hk. refl) c.loop-r.invariant.1 j k hj hk,
     )
 
 pub returns : goal.returns
-returns c r k hr hk = c.loop-r.invariant.1 r k (omega (arith, hr, c.loop-r-test.false)) hk ∙ passed_lane16 32000 k (lit≤ tt) c.requires
+returns c r k hr hk = c.loop-r.invariant.1 r k (omega (arith, hr, c.loop-r-test.false)) hk
+    ∙ passed_lane16 32000 k (lit≤ tt) c.requires

@@ -7,4 +7,5 @@ pub returns-clause-sums : goal.returns-clause-sums
 returns-clause-sums c i hi = numbers (lit≤ tt) (dot_words c.args.a c.args.m c.requires.a c.requires.m) i hi
 
 pub returns-clause-size : goal.returns-clause-size
-returns-clause-size c = numbers_small (2 ^ 26) (lit≤ tt) (lit≤ tt) (dot_words c.args.a c.args.m c.requires.a c.requires.m)
+returns-clause-size c = numbers_small (2 ^ 26) (lit≤ tt) (lit≤ tt)
+    (dot_words c.args.a c.args.m c.requires.a c.requires.m)

@@ -9,7 +9,8 @@ use Rattle.idct8.proofs.Steps.{passes_are}
 use Rattle.idct8.proofs.narrow.inverse_of_rows.Goals as goal
 
 pub columns-sums-requires-clause-fits : goal.columns-sums-requires-clause-fits
-columns-sums-requires-clause-fits c = column_fits c.args.block.now c.sums_of_rows.result c.requires.small c.sums_of_rows.ensures.sums
+columns-sums-requires-clause-fits c = column_fits c.args.block.now c.sums_of_rows.result c.requires.small
+    c.sums_of_rows.ensures.sums
 
 pub store_rounded-requires : goal.store_rounded-requires
 store_rounded-requires c k hk = (c.columns-sums.ensures k hk).size

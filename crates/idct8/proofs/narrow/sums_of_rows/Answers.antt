@@ -24,13 +24,15 @@ loop-j-preserved c =
     let below : j < 8 = omega (arith, c.loop-j-test.true, c.requires.count) in
     let long : length sums ≡ 8 = c.loop-j.invariant.0 in
     let read : List ℤ = map (to_z w32) (map (of_z w32) c.row_of_sums.result) in
-    let numbers = λ (i : ℕ) (hi : i < 8). passed_lane16 8191 i (lit≤ tt) c.row.ensures.size ∙ c.row.ensures.numbers i hi in
+    let numbers = λ (i : ℕ) (hi : i < 8). passed_lane16 8191 i (lit≤ tt) c.row.ensures.size
+        ∙ c.row.ensures.numbers i hi in
     let own : (k : ℕ) → k < 8 → lane read k ≡ row_sums Inverse values j k = λ k hk.
     passed_lane (2 ^ 28) k (lit≤ tt) c.row_of_sums.ensures.size
     ∙ c.row_of_sums.ensures.sums k hk
     ∙ row_terms Inverse (map (to_z w16) (map (of_z w16) c.row.result)) values j k numbers in (
       length-set sums j (sum_with read) ∙ long,
-      one_sum (λ j v. EightWithin (2 ^ 28) v × ((k : ℕ) → k < 8 → lane v k ≡ row_sums Inverse values j k)) sums j read (omega (arith, below, long)) c.loop-j.invariant.1
+      one_sum (λ j v. EightWithin (2 ^ 28) v × ((k : ℕ) → k < 8 → lane v k ≡ row_sums Inverse values j k)) sums j read
+          (omega (arith, below, long)) c.loop-j.invariant.1
           (passed_within (2 ^ 28) (2 ^ 28) (lit≤ tt) (lit≤ tt) c.row_of_sums.ensures.size, own),
       λ i from hi. sum_other sums j i read (omega (arith, from)) ∙ c.loop-j.invariant.2 i (omega (arith, from)) hi,
     )
@@ -41,12 +43,14 @@ zero_lane = below_eight (λ k. lane (replicate 8 (pos 0)) k ≡ pos 0) refl refl
 pub returns-clause-sums : goal.returns-clause-sums
 returns-clause-sums c j k hj hk = by_row (nat_le c.loop-j.j j) refl
   where
-    by_row : (t : Bool) → nat_le c.loop-j.j j ≡ t → lane (sum_at c.loop-j.sums j) k ≡ row_sums Inverse c.args.values.now j k
+    by_row : (t : Bool) → nat_le c.loop-j.j j ≡ t → lane (sum_at c.loop-j.sums j) k
+        ≡ row_sums Inverse c.args.values.now j k
     by_row true e =
         let past : c.loop-j.j ≤ j = leb-true c.loop-j.j j e in
         ap (λ (v : List ℤ). lane v k) (c.loop-j.invariant.2 j past hj)
         ∙ zero_lane k hk
-        ∙ sym (sums_of_zeros c.args.values.now j k (λ i hi. c.requires.zeros j i (omega (arith, past, c.loop-j-test.false)) hj hi))
+        ∙ sym (sums_of_zeros c.args.values.now j k
+            (λ i hi. c.requires.zeros j i (omega (arith, past, c.loop-j-test.false)) hj hi))
     by_row false e = (c.loop-j.invariant.1 j (leb-false c.loop-j.j j e)).1 k hk
 
 sums_long : (sums : List ℤ) → sums ≡ replicate 8 (pos 0) → length sums ≡ 8
@@ -57,7 +61,8 @@ returns-clause-size c j hj = record {
   long = by_row (nat_le c.loop-j.j j) refl;
   within = λ k hk.
       within_same (2841 * 2 ^ 11 * 8) 46546944 (lit≤ tt) (returns-clause-sums c j k hj hk)
-      (within_pass Inverse (2 ^ 11) k (λ i. entry c.args.values.now j i) hk (λ i hi. c.requires.values (8 * j + i) (pos 0) (omega arith)));
+      (within_pass Inverse (2 ^ 11) k (λ i. entry c.args.values.now j i) hk (λ i hi. c.requires.values (8 * j + i)
+          (pos 0) (omega arith)));
 }
   where
     by_row : (t : Bool) → nat_le c.loop-j.j j ≡ t → length (sum_at c.loop-j.sums j) ≡ 8

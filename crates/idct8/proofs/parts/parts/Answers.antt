@@ -16,7 +16,9 @@ returns-clause-whole c i hi =
     (numbers16 (lit≤ tt) (narrow_words (lit≤ tt) (low_words c.args.v c.requires)) i hi)
 
 pub returns-clause-high_size : goal.returns-clause-high_size
-returns-clause-high_size c = numbers_small16 8191 (lit≤ tt) (lit≤ tt) (narrow_words (lit≤ tt) (high_words c.args.v c.requires))
+returns-clause-high_size c = numbers_small16 8191 (lit≤ tt) (lit≤ tt)
+    (narrow_words (lit≤ tt) (high_words c.args.v c.requires))
 
 pub returns-clause-low_size : goal.returns-clause-low_size
-returns-clause-low_size c = numbers_small16 8191 (lit≤ tt) (lit≤ tt) (narrow_words (lit≤ tt) (low_words c.args.v c.requires))
+returns-clause-low_size c = numbers_small16 8191 (lit≤ tt) (lit≤ tt)
+    (narrow_words (lit≤ tt) (low_words c.args.v c.requires))

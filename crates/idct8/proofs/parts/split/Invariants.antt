@@ -5,4 +5,5 @@ use Rattle.idct8.proofs.parts.split.Given as goal
 
 -- the sums before are split
 abbrev pub invariant-loop-k : goal.invariant-loop-k
-invariant-loop-k l = (length l.high ≡ 8) × (length l.low ≡ 8) × ((j : ℕ) → j < l.k → AreParts (sum_at l.fn.s j) (row_at l.high j) (row_at l.low j))
+invariant-loop-k l = (length l.high ≡ 8) × (length l.low ≡ 8) × ((j : ℕ) → j < l.k
+    → AreParts (sum_at l.fn.s j) (row_at l.high j) (row_at l.low j))

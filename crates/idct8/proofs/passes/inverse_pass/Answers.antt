@@ -75,13 +75,15 @@ pub mirrored_less-requires-clause-b : goal.mirrored_less-requires-clause-b
 mirrored_less-requires-clause-b c = passed_within (2 ^ 28) (2 ^ 28) (lit≤ tt) (lit≤ tt) c.rotated-6.ensures.first_size
 
 pub mirrored_less-requires-2-clause-even : goal.mirrored_less-requires-2-clause-even
-mirrored_less-requires-2-clause-even c = passed_within (2 ^ 29) (2 ^ 29) (lit≤ tt) (lit≤ tt) c.halves-2.ensures.difference_size
+mirrored_less-requires-2-clause-even c = passed_within (2 ^ 29) (2 ^ 29) (lit≤ tt)
+    (lit≤ tt) c.halves-2.ensures.difference_size
 
 pub mirrored_less-requires-2-clause-a : goal.mirrored_less-requires-2-clause-a
 mirrored_less-requires-2-clause-a c = passed_within (2 ^ 28) (2 ^ 28) (lit≤ tt) (lit≤ tt) c.rotated-5.ensures.first_size
 
 pub mirrored_less-requires-2-clause-b : goal.mirrored_less-requires-2-clause-b
-mirrored_less-requires-2-clause-b c = passed_within (2 ^ 28) (2 ^ 28) (lit≤ tt) (lit≤ tt) c.rotated-6.ensures.second_size
+mirrored_less-requires-2-clause-b c = passed_within (2 ^ 28) (2 ^ 28) (lit≤ tt)
+    (lit≤ tt) c.rotated-6.ensures.second_size
 
 pub mirrored-requires-2-clause-even : goal.mirrored-requires-2-clause-even
 mirrored-requires-2-clause-even c = passed_within (2 ^ 29) (2 ^ 29) (lit≤ tt) (lit≤ tt) c.halves.ensures.difference_size
@@ -114,19 +116,75 @@ returns-clause-sums c x i hx hi =
     let a211 = plain_difference (pos 2408) (pos 1609) (c.rotated-5.ensures.second i hi) r1 r7 in
     let b120 = plain_sum (pos 565) (pos 2841) (c.rotated-6.ensures.first i hi) r3 r5 in
     let b121 = plain_difference (pos 2841) (pos 565) (c.rotated-6.ensures.second i hi) r3 r5 in
-    let sum1 = sum_of (c.halves.ensures.sum i hi) (passed_lane (2 ^ 28) i (lit≤ tt) c.rotated.ensures.first_size) (passed_lane (2 ^ 28) i (lit≤ tt) c.rotated-2.ensures.first_size) in
-    let difference1 = difference_of (c.halves.ensures.difference i hi) (passed_lane (2 ^ 28) i (lit≤ tt) c.rotated.ensures.first_size) (passed_lane (2 ^ 28) i (lit≤ tt) c.rotated-2.ensures.first_size) in
-    let sum2 = sum_of (c.halves-2.ensures.sum i hi) (passed_lane (2 ^ 28) i (lit≤ tt) c.rotated.ensures.second_size) (passed_lane (2 ^ 28) i (lit≤ tt) c.rotated-2.ensures.second_size) in
-    let difference2 = difference_of (c.halves-2.ensures.difference i hi) (passed_lane (2 ^ 28) i (lit≤ tt) c.rotated.ensures.second_size) (passed_lane (2 ^ 28) i (lit≤ tt) c.rotated-2.ensures.second_size) in
+    let sum1 = sum_of (c.halves.ensures.sum i hi) (passed_lane (2 ^ 28) i (lit≤ tt) c.rotated.ensures.first_size)
+        (passed_lane (2 ^ 28) i (lit≤ tt) c.rotated-2.ensures.first_size) in
+    let difference1 = difference_of (c.halves.ensures.difference i hi)
+        (passed_lane (2 ^ 28) i (lit≤ tt) c.rotated.ensures.first_size)
+        (passed_lane (2 ^ 28) i (lit≤ tt) c.rotated-2.ensures.first_size) in
+    let sum2 = sum_of (c.halves-2.ensures.sum i hi) (passed_lane (2 ^ 28) i (lit≤ tt) c.rotated.ensures.second_size)
+        (passed_lane (2 ^ 28) i (lit≤ tt) c.rotated-2.ensures.second_size) in
+    let difference2 = difference_of (c.halves-2.ensures.difference i hi)
+        (passed_lane (2 ^ 28) i (lit≤ tt) c.rotated.ensures.second_size)
+        (passed_lane (2 ^ 28) i (lit≤ tt) c.rotated-2.ensures.second_size) in
     each_sum (λ k v. lane v i ≡ pass_at Inverse (list_at c.args.r i) k)
-    (passed_lane (2 ^ 30) i (lit≤ tt) c.mirrored.ensures.sum_size ∙ inverse_sum_0 (lane (row_at c.args.r 0) i) (lane (row_at c.args.r 1) i) (lane (row_at c.args.r 2) i) (lane (row_at c.args.r 3) i) (lane (row_at c.args.r 4) i) (lane (row_at c.args.r 5) i) (lane (row_at c.args.r 6) i) (lane (row_at c.args.r 7) i) (sum_then_sum (c.mirrored.ensures.sum i hi) (passed_lane (2 ^ 29) i (lit≤ tt) c.halves.ensures.sum_size) (passed_lane (2 ^ 28) i (lit≤ tt) c.rotated-3.ensures.first_size) (passed_lane (2 ^ 28) i (lit≤ tt) c.rotated-4.ensures.first_size)) sum1 outer0 inner0 a030 b030)
-    (passed_lane (2 ^ 30) i (lit≤ tt) c.mirrored_less.ensures.sum_size ∙ inverse_sum_1 (lane (row_at c.args.r 0) i) (lane (row_at c.args.r 1) i) (lane (row_at c.args.r 2) i) (lane (row_at c.args.r 3) i) (lane (row_at c.args.r 4) i) (lane (row_at c.args.r 5) i) (lane (row_at c.args.r 6) i) (lane (row_at c.args.r 7) i) (sum_then_less (c.mirrored_less.ensures.sum i hi) (passed_lane (2 ^ 29) i (lit≤ tt) c.halves-2.ensures.sum_size) (passed_lane (2 ^ 28) i (lit≤ tt) c.rotated-5.ensures.second_size) (passed_lane (2 ^ 28) i (lit≤ tt) c.rotated-6.ensures.first_size)) sum2 outer1 inner1 a211 b120)
-    (passed_lane (2 ^ 30) i (lit≤ tt) c.mirrored_less-2.ensures.sum_size ∙ inverse_sum_2 (lane (row_at c.args.r 0) i) (lane (row_at c.args.r 1) i) (lane (row_at c.args.r 2) i) (lane (row_at c.args.r 3) i) (lane (row_at c.args.r 4) i) (lane (row_at c.args.r 5) i) (lane (row_at c.args.r 6) i) (lane (row_at c.args.r 7) i) (sum_then_less (c.mirrored_less-2.ensures.sum i hi) (passed_lane (2 ^ 29) i (lit≤ tt) c.halves-2.ensures.difference_size) (passed_lane (2 ^ 28) i (lit≤ tt) c.rotated-5.ensures.first_size) (passed_lane (2 ^ 28) i (lit≤ tt) c.rotated-6.ensures.second_size)) difference2 outer1 inner1 a210 b121)
-    (passed_lane (2 ^ 30) i (lit≤ tt) c.mirrored-2.ensures.sum_size ∙ inverse_sum_3 (lane (row_at c.args.r 0) i) (lane (row_at c.args.r 1) i) (lane (row_at c.args.r 2) i) (lane (row_at c.args.r 3) i) (lane (row_at c.args.r 4) i) (lane (row_at c.args.r 5) i) (lane (row_at c.args.r 6) i) (lane (row_at c.args.r 7) i) (sum_then_sum (c.mirrored-2.ensures.sum i hi) (passed_lane (2 ^ 29) i (lit≤ tt) c.halves.ensures.difference_size) (passed_lane (2 ^ 28) i (lit≤ tt) c.rotated-3.ensures.second_size) (passed_lane (2 ^ 28) i (lit≤ tt) c.rotated-4.ensures.second_size)) difference1 outer0 inner0 a031 b031)
-    (passed_lane (2 ^ 30) i (lit≤ tt) c.mirrored-2.ensures.difference_size ∙ inverse_sum_4 (lane (row_at c.args.r 0) i) (lane (row_at c.args.r 1) i) (lane (row_at c.args.r 2) i) (lane (row_at c.args.r 3) i) (lane (row_at c.args.r 4) i) (lane (row_at c.args.r 5) i) (lane (row_at c.args.r 6) i) (lane (row_at c.args.r 7) i) (less_then_less (c.mirrored-2.ensures.difference i hi) (passed_lane (2 ^ 29) i (lit≤ tt) c.halves.ensures.difference_size) (passed_lane (2 ^ 28) i (lit≤ tt) c.rotated-3.ensures.second_size) (passed_lane (2 ^ 28) i (lit≤ tt) c.rotated-4.ensures.second_size)) difference1 outer0 inner0 a031 b031)
-    (passed_lane (2 ^ 30) i (lit≤ tt) c.mirrored_less-2.ensures.difference_size ∙ inverse_sum_5 (lane (row_at c.args.r 0) i) (lane (row_at c.args.r 1) i) (lane (row_at c.args.r 2) i) (lane (row_at c.args.r 3) i) (lane (row_at c.args.r 4) i) (lane (row_at c.args.r 5) i) (lane (row_at c.args.r 6) i) (lane (row_at c.args.r 7) i) (less_then_sum (c.mirrored_less-2.ensures.difference i hi) (passed_lane (2 ^ 29) i (lit≤ tt) c.halves-2.ensures.difference_size) (passed_lane (2 ^ 28) i (lit≤ tt) c.rotated-5.ensures.first_size) (passed_lane (2 ^ 28) i (lit≤ tt) c.rotated-6.ensures.second_size)) difference2 outer1 inner1 a210 b121)
-    (passed_lane (2 ^ 30) i (lit≤ tt) c.mirrored_less.ensures.difference_size ∙ inverse_sum_6 (lane (row_at c.args.r 0) i) (lane (row_at c.args.r 1) i) (lane (row_at c.args.r 2) i) (lane (row_at c.args.r 3) i) (lane (row_at c.args.r 4) i) (lane (row_at c.args.r 5) i) (lane (row_at c.args.r 6) i) (lane (row_at c.args.r 7) i) (less_then_sum (c.mirrored_less.ensures.difference i hi) (passed_lane (2 ^ 29) i (lit≤ tt) c.halves-2.ensures.sum_size) (passed_lane (2 ^ 28) i (lit≤ tt) c.rotated-5.ensures.second_size) (passed_lane (2 ^ 28) i (lit≤ tt) c.rotated-6.ensures.first_size)) sum2 outer1 inner1 a211 b120)
-    (passed_lane (2 ^ 30) i (lit≤ tt) c.mirrored.ensures.difference_size ∙ inverse_sum_7 (lane (row_at c.args.r 0) i) (lane (row_at c.args.r 1) i) (lane (row_at c.args.r 2) i) (lane (row_at c.args.r 3) i) (lane (row_at c.args.r 4) i) (lane (row_at c.args.r 5) i) (lane (row_at c.args.r 6) i) (lane (row_at c.args.r 7) i) (less_then_less (c.mirrored.ensures.difference i hi) (passed_lane (2 ^ 29) i (lit≤ tt) c.halves.ensures.sum_size) (passed_lane (2 ^ 28) i (lit≤ tt) c.rotated-3.ensures.first_size) (passed_lane (2 ^ 28) i (lit≤ tt) c.rotated-4.ensures.first_size)) sum1 outer0 inner0 a030 b030)
+    (passed_lane (2 ^ 30) i (lit≤ tt) c.mirrored.ensures.sum_size
+        ∙ inverse_sum_0 (lane (row_at c.args.r 0) i) (lane (row_at c.args.r 1) i) (lane (row_at c.args.r 2) i)
+        (lane (row_at c.args.r 3) i) (lane (row_at c.args.r 4) i) (lane (row_at c.args.r 5) i)
+        (lane (row_at c.args.r 6) i) (lane (row_at c.args.r 7) i) (sum_then_sum (c.mirrored.ensures.sum i hi)
+        (passed_lane (2 ^ 29) i (lit≤ tt) c.halves.ensures.sum_size)
+        (passed_lane (2 ^ 28) i (lit≤ tt) c.rotated-3.ensures.first_size)
+        (passed_lane (2 ^ 28) i (lit≤ tt) c.rotated-4.ensures.first_size)) sum1 outer0 inner0 a030 b030)
+    (passed_lane (2 ^ 30) i (lit≤ tt) c.mirrored_less.ensures.sum_size
+        ∙ inverse_sum_1 (lane (row_at c.args.r 0) i) (lane (row_at c.args.r 1) i) (lane (row_at c.args.r 2) i)
+        (lane (row_at c.args.r 3) i) (lane (row_at c.args.r 4) i) (lane (row_at c.args.r 5) i)
+        (lane (row_at c.args.r 6) i) (lane (row_at c.args.r 7) i) (sum_then_less (c.mirrored_less.ensures.sum i hi)
+        (passed_lane (2 ^ 29) i (lit≤ tt) c.halves-2.ensures.sum_size)
+        (passed_lane (2 ^ 28) i (lit≤ tt) c.rotated-5.ensures.second_size)
+        (passed_lane (2 ^ 28) i (lit≤ tt) c.rotated-6.ensures.first_size)) sum2 outer1 inner1 a211 b120)
+    (passed_lane (2 ^ 30) i (lit≤ tt) c.mirrored_less-2.ensures.sum_size
+        ∙ inverse_sum_2 (lane (row_at c.args.r 0) i) (lane (row_at c.args.r 1) i) (lane (row_at c.args.r 2) i)
+        (lane (row_at c.args.r 3) i) (lane (row_at c.args.r 4) i) (lane (row_at c.args.r 5) i)
+        (lane (row_at c.args.r 6) i) (lane (row_at c.args.r 7) i) (sum_then_less (c.mirrored_less-2.ensures.sum i hi)
+        (passed_lane (2 ^ 29) i (lit≤ tt) c.halves-2.ensures.difference_size)
+        (passed_lane (2 ^ 28) i (lit≤ tt) c.rotated-5.ensures.first_size)
+        (passed_lane (2 ^ 28) i (lit≤ tt) c.rotated-6.ensures.second_size)) difference2 outer1 inner1 a210 b121)
+    (passed_lane (2 ^ 30) i (lit≤ tt) c.mirrored-2.ensures.sum_size
+        ∙ inverse_sum_3 (lane (row_at c.args.r 0) i) (lane (row_at c.args.r 1) i) (lane (row_at c.args.r 2) i)
+        (lane (row_at c.args.r 3) i) (lane (row_at c.args.r 4) i) (lane (row_at c.args.r 5) i)
+        (lane (row_at c.args.r 6) i) (lane (row_at c.args.r 7) i) (sum_then_sum (c.mirrored-2.ensures.sum i hi)
+        (passed_lane (2 ^ 29) i (lit≤ tt) c.halves.ensures.difference_size)
+        (passed_lane (2 ^ 28) i (lit≤ tt) c.rotated-3.ensures.second_size)
+        (passed_lane (2 ^ 28) i (lit≤ tt) c.rotated-4.ensures.second_size)) difference1 outer0 inner0 a031 b031)
+    (passed_lane (2 ^ 30) i (lit≤ tt) c.mirrored-2.ensures.difference_size
+        ∙ inverse_sum_4 (lane (row_at c.args.r 0) i) (lane (row_at c.args.r 1) i) (lane (row_at c.args.r 2) i)
+        (lane (row_at c.args.r 3) i) (lane (row_at c.args.r 4) i) (lane (row_at c.args.r 5) i)
+        (lane (row_at c.args.r 6) i) (lane (row_at c.args.r 7) i) (less_then_less (c.mirrored-2.ensures.difference i hi)
+        (passed_lane (2 ^ 29) i (lit≤ tt) c.halves.ensures.difference_size)
+        (passed_lane (2 ^ 28) i (lit≤ tt) c.rotated-3.ensures.second_size)
+        (passed_lane (2 ^ 28) i (lit≤ tt) c.rotated-4.ensures.second_size)) difference1 outer0 inner0 a031 b031)
+    (passed_lane (2 ^ 30) i (lit≤ tt) c.mirrored_less-2.ensures.difference_size
+        ∙ inverse_sum_5 (lane (row_at c.args.r 0) i) (lane (row_at c.args.r 1) i) (lane (row_at c.args.r 2) i)
+        (lane (row_at c.args.r 3) i) (lane (row_at c.args.r 4) i) (lane (row_at c.args.r 5) i)
+        (lane (row_at c.args.r 6) i) (lane (row_at c.args.r 7) i)
+        (less_then_sum (c.mirrored_less-2.ensures.difference i hi)
+        (passed_lane (2 ^ 29) i (lit≤ tt) c.halves-2.ensures.difference_size)
+        (passed_lane (2 ^ 28) i (lit≤ tt) c.rotated-5.ensures.first_size)
+        (passed_lane (2 ^ 28) i (lit≤ tt) c.rotated-6.ensures.second_size)) difference2 outer1 inner1 a210 b121)
+    (passed_lane (2 ^ 30) i (lit≤ tt) c.mirrored_less.ensures.difference_size
+        ∙ inverse_sum_6 (lane (row_at c.args.r 0) i) (lane (row_at c.args.r 1) i) (lane (row_at c.args.r 2) i)
+        (lane (row_at c.args.r 3) i) (lane (row_at c.args.r 4) i) (lane (row_at c.args.r 5) i)
+        (lane (row_at c.args.r 6) i) (lane (row_at c.args.r 7) i)
+        (less_then_sum (c.mirrored_less.ensures.difference i hi)
+        (passed_lane (2 ^ 29) i (lit≤ tt) c.halves-2.ensures.sum_size)
+        (passed_lane (2 ^ 28) i (lit≤ tt) c.rotated-5.ensures.second_size)
+        (passed_lane (2 ^ 28) i (lit≤ tt) c.rotated-6.ensures.first_size)) sum2 outer1 inner1 a211 b120)
+    (passed_lane (2 ^ 30) i (lit≤ tt) c.mirrored.ensures.difference_size
+        ∙ inverse_sum_7 (lane (row_at c.args.r 0) i) (lane (row_at c.args.r 1) i) (lane (row_at c.args.r 2) i)
+        (lane (row_at c.args.r 3) i) (lane (row_at c.args.r 4) i) (lane (row_at c.args.r 5) i)
+        (lane (row_at c.args.r 6) i) (lane (row_at c.args.r 7) i) (less_then_less (c.mirrored.ensures.difference i hi)
+        (passed_lane (2 ^ 29) i (lit≤ tt) c.halves.ensures.sum_size)
+        (passed_lane (2 ^ 28) i (lit≤ tt) c.rotated-3.ensures.first_size)
+        (passed_lane (2 ^ 28) i (lit≤ tt) c.rotated-4.ensures.first_size)) sum1 outer0 inner0 a030 b030)
     x hx
 
 pub returns-clause-size : goal.returns-clause-size

@@ -18,5 +18,7 @@ loop-j-preserved c =
     let small = c.requires j c.loop-j-test.true in
     let is = c.store.ensures ∙ ap (λ (u : List ℤ). put_chunk (8 * j) out u) (passed16 32640 (lit≤ tt) small) in (
       ap length is ∙ length-put_chunk (8 * j) out v ∙ c.loop-j.invariant.0,
-      λ k i hk hi. ap (λ (u : List ℤ). entry u k i) is ∙ row_step (λ k i. lane (row_at c.args.r k) i) out v j c.loop-j.invariant.0 small.long c.loop-j-test.true (λ i hi. refl) c.loop-j.invariant.1 k i hk hi,
+      λ k i hk hi. ap (λ (u : List ℤ). entry u k i) is
+          ∙ row_step (λ k i. lane (row_at c.args.r k) i) out v j c.loop-j.invariant.0 small.long c.loop-j-test.true
+          (λ i hi. refl) c.loop-j.invariant.1 k i hk hi,
     )

@@ -7,7 +7,8 @@ pub larger_half-requires : goal.larger_half-requires
 larger_half-requires c = passed_within 1073479696 1073479696 (lit≤ tt) (lit≤ tt) c.squares_across.ensures.sums_size
 
 pub larger_half-requires-2 : goal.larger_half-requires-2
-larger_half-requires-2 c = passed_within 1073479696 1073479696 (lit≤ tt) (lit≤ tt) c.squares_across.ensures.differences_size
+larger_half-requires-2 c = passed_within 1073479696 1073479696 (lit≤ tt)
+    (lit≤ tt) c.squares_across.ensures.differences_size
 
 first_half : (k : ℕ) → k < 4 → k < 8
 first_half k h = omega (arith, h)
@@ -25,11 +26,17 @@ returns c small v u hv hu =
     let few : most + 4 * c.args.least + 4 < 4 * c.args.least * c.args.least = ltb-true _ _ small in
     each_part_below s v u c.args.least most hv hu
     (energy_of s rows false false (λ k. k) first_half c.folded.ensures.sums c.squares_across.result.0 across.sums
-    _ (λ i. passed_lane 1073479696 i (lit≤ tt) across.sums_size) most (omega (arith, c.larger_half.ensures.first, largest)))
-    (energy_of s rows false true (λ k. 4 + k) last_half c.folded.ensures.differences c.squares_across.result.0 across.sums
-    _ (λ i. passed_lane 1073479696 i (lit≤ tt) across.sums_size) most (omega (arith, c.larger_half.ensures.last, largest)))
+    _ (λ i. passed_lane 1073479696 i (lit≤ tt) across.sums_size) most (omega (arith, c.larger_half.ensures.first,
+        largest)))
+    (energy_of s rows false true (λ k. 4 + k) last_half c.folded.ensures.differences c.squares_across.result.0
+        across.sums
+    _ (λ i. passed_lane 1073479696 i (lit≤ tt) across.sums_size) most (omega (arith, c.larger_half.ensures.last,
+        largest)))
     (energy_of s rows true false (λ k. k) first_half c.folded.ensures.sums c.squares_across.result.1 across.differences
-    _ (λ i. passed_lane 1073479696 i (lit≤ tt) across.differences_size) most (omega (arith, c.larger_half-2.ensures.first, largest)))
-    (energy_of s rows true true (λ k. 4 + k) last_half c.folded.ensures.differences c.squares_across.result.1 across.differences
-    _ (λ i. passed_lane 1073479696 i (lit≤ tt) across.differences_size) most (omega (arith, c.larger_half-2.ensures.last, largest)))
+    _ (λ i. passed_lane 1073479696 i (lit≤ tt) across.differences_size) most
+        (omega (arith, c.larger_half-2.ensures.first, largest)))
+    (energy_of s rows true true (λ k. 4 + k) last_half c.folded.ensures.differences c.squares_across.result.1
+        across.differences
+    _ (λ i. passed_lane 1073479696 i (lit≤ tt) across.differences_size) most
+        (omega (arith, c.larger_half-2.ensures.last, largest)))
     (omega (arith, few)) c.requires.least

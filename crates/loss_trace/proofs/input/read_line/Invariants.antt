@@ -9,7 +9,8 @@ abbrev pub invariant-loop-i : goal.invariant-loop-i
 invariant-loop-i g l =
     let outside = g.D.Desk.outside in
     record {
-      told : (left : List ℕ) → (outside l.fn.desk).left Events ≡ Some left → Came left l.line l.i × ((outside l.desk).left Events ≡ Some (drop l.i left));
+      told : (left : List ℕ) → (outside l.fn.desk).left Events ≡ Some left
+          → Came left l.line l.i × ((outside l.desk).left Events ≡ Some (drop l.i left));
       others : (r : Role) → r ≢ Events → (outside l.desk).left r ≡ (outside l.fn.desk).left r;
       rest : OnlyReads (outside l.fn.desk) (outside l.desk);
     }

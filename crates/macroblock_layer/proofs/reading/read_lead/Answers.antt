@@ -6,11 +6,13 @@ use Rattle.macroblock_layer.proofs.Leads.{lead_some}
 use Rattle.macroblock_layer.proofs.reading.read_lead.Goals as goal
 
 pub turns-smaller : goal.turns-smaller
-turns-smaller c = turn_shorter tt tt (lead_turn c.args.kind) c.turns.reader c.read_lead_turn.new.reader (lead_some c.args.kind) (rw c.in-None.is at c.in_ok-lead.ensures)
+turns-smaller c = turn_shorter tt tt (lead_turn c.args.kind) c.turns.reader c.read_lead_turn.new.reader
+    (lead_some c.args.kind) (rw c.in-None.is at c.in_ok-lead.ensures)
 
 pub turns-preserved : goal.turns-preserved
 unfolding lead
-turns-preserved c = sym (repeat-again tt tt (lead_turn c.args.kind) c.turns.reader c.read_lead_turn.new.reader (lead_some c.args.kind) (rw c.in-None.is at c.in_ok-lead.ensures)) ∙ c.turns.invariant
+turns-preserved c = sym (repeat-again tt tt (lead_turn c.args.kind) c.turns.reader c.read_lead_turn.new.reader
+    (lead_some c.args.kind) (rw c.in-None.is at c.in_ok-lead.ensures)) ∙ c.turns.invariant
 
 pub returns-in_err-lead : goal.returns-in_err-lead
 unfolding lead
@@ -20,4 +22,6 @@ returns-in_err-lead c =
 
 pub returns-in-Some : goal.returns-in-Some
 unfolding lead
-returns-in-Some c = sym c.turns.invariant ∙ repeat-finally tt c.in-Some.lead (lead_turn c.args.kind) c.turns.reader c.read_lead_turn.new.reader (rw c.in-Some.is at c.in_ok-lead.ensures)
+returns-in-Some c = sym c.turns.invariant
+    ∙ repeat-finally tt c.in-Some.lead (lead_turn c.args.kind) c.turns.reader c.read_lead_turn.new.reader
+    (rw c.in-Some.is at c.in_ok-lead.ensures)

@@ -15,10 +15,13 @@ use Rattle.macroblock_layer.proofs.Within.{mb_within}
 use Rattle.macroblock_layer.proofs.reading.read_mb.Goals as goal
 
 -- what is said of each return
-every : BlockLaws → (kind : Kind) (quant : ℕ) (reach : Reach) (predictor : Vector) (r : Result (Unit {0}) Fault) (out : Mb) (old new : Bits)
-    → IsProductive (mb kind quant reach predictor) → Gives (λ u. out) r new (reading (mb kind quant reach predictor) old) → record {
+every : BlockLaws → (kind : Kind) (quant : ℕ) (reach : Reach) (predictor : Vector) (r : Result (Unit {0}) Fault)
+    (out : Mb) (old new : Bits)
+    → IsProductive (mb kind quant reach predictor)
+        → Gives (λ u. out) r new (reading (mb kind quant reach predictor) old) → record {
       found : IfOk r (λ u. Takes old new (IsMbText kind quant reach predictor out));
-      only : (m : Mb) (text rest : List Bool) → IsMbText kind quant reach predictor m text → old.bits ≡ text ++ rest → IsOkAnd r (λ u. (out ≡ m) × (new.bits ≡ rest));
+      only : (m : Mb) (text rest : List Bool) → IsMbText kind quant reach predictor m text → old.bits ≡ text ++ rest
+          → IsOkAnd r (λ u. (out ≡ m) × (new.bits ≡ rest));
       fault : first_fault r ≡ macroblock_fault kind quant reach predictor old;
       exact : Gives (λ u. out) r new (reading (mb kind quant reach predictor) old);
       range : IsQuant quant → IfOk r (λ u. IsMb out × IsOfKind kind out);
@@ -30,17 +33,21 @@ every laws kind quant reach predictor r out old new productive e =
       only = texts_read (λ u. out) s r old new productive e;
       fault = reads_fault (λ u. out) r new (reading s old) e;
       exact = e;
-      range = λ is. reads_within (λ u. out) s r old new (λ (m : Mb). IsMb m × IsOfKind kind m) e (mb_within laws kind quant reach predictor is);
+      range = λ is. reads_within (λ u. out) s r old new (λ (m : Mb). IsMb m × IsOfKind kind m) e
+          (mb_within laws kind quant reach predictor is);
     }
 
 pub returns-in_err-lead : goal.returns-in_err-lead
 unfolding mb reading
 returns-in_err-lead c =
     let a = c.args in
-    every c.in_a_syntax.ensures a.kind a.quant a.reach a.predictor c.from_residual.result a.out.now a.reader.now c.read_lead.new.reader (c.in_a_syntax-2.ensures.productive a.kind a.quant a.reach a.predictor) (search rules)
+    every c.in_a_syntax.ensures a.kind a.quant a.reach a.predictor c.from_residual.result a.out.now a.reader.now
+        c.read_lead.new.reader (c.in_a_syntax-2.ensures.productive a.kind a.quant a.reach a.predictor) (search rules)
 
 pub returns : goal.returns
 unfolding mb reading
 returns c =
     let a = c.args in
-    every c.in_a_syntax.ensures a.kind a.quant a.reach a.predictor c.read_after_lead.result c.read_after_lead.new.out a.reader.now c.read_after_lead.new.reader (c.in_a_syntax-2.ensures.productive a.kind a.quant a.reach a.predictor) (search rules)
+    every c.in_a_syntax.ensures a.kind a.quant a.reach a.predictor c.read_after_lead.result c.read_after_lead.new.out
+        a.reader.now c.read_after_lead.new.reader
+        (c.in_a_syntax-2.ensures.productive a.kind a.quant a.reach a.predictor) (search rules)

@@ -8,4 +8,5 @@ use Rattle.macroblock_layer.proofs.reading.read_mb_in_i.Goals as goal
 pub returns-clause-exact : goal.returns-clause-exact
 returns-clause-exact c = λ reach predictor.
     let old = c.args.reader.now in
-    subst (λ (x : Result (Mb × Bits) Fault). Gives (λ _. c.read_mb.new.out) c.read_mb.result c.read_mb.new.reader x) (same_in_i c.args.quant _ reach _ predictor old) c.read_mb.ensures.exact
+    subst (λ (x : Result (Mb × Bits) Fault). Gives (λ _. c.read_mb.new.out) c.read_mb.result c.read_mb.new.reader x)
+        (same_in_i c.args.quant _ reach _ predictor old) c.read_mb.ensures.exact

@@ -3,7 +3,8 @@ use Rattle.code_tables.specs.Tables.{bit_of}
 use Rattle.macroblock_layer.specs.Written.{levels_at}
 use Rattle.macroblock_layer.proofs.writing.pattern_by.Goals as goal
 
-four_bits : (a b c d s t u v : Bool) → a ≡ s → b ≡ t → c ≡ u → d ≡ v → 8 * bit_of a + 4 * bit_of b + 2 * bit_of c + bit_of d ≡ 8 * bit_of s + 4 * bit_of t + 2 * bit_of u + bit_of v
+four_bits : (a b c d s t u v : Bool) → a ≡ s → b ≡ t → c ≡ u → d ≡ v
+    → 8 * bit_of a + 4 * bit_of b + 2 * bit_of c + bit_of d ≡ 8 * bit_of s + 4 * bit_of t + 2 * bit_of u + bit_of v
 four_bits a b c d s t u v p q r o = rw (p, q, r, o) refl
 
 two_bits : (a b s t : Bool) → a ≡ s → b ≡ t → 2 * bit_of a + bit_of b ≡ 2 * bit_of s + bit_of t

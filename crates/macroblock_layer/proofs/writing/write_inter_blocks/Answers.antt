@@ -19,7 +19,8 @@ all-preserved c =
     record {
       buffer = c.write_inter_marked.ensures.bits.buffer ∙ c.all.invariant.buffer;
       room = c.write_inter_marked.ensures.bits.room ∙ c.all.invariant.room;
-      text = goes inter_text c.args.blocks.now c.all.k (written c.all.writer) (written c.write_inter_marked.new.writer) _ inside c.write_inter_marked.ensures.bits.text c.all.invariant.text;
+      text = goes inter_text c.args.blocks.now c.all.k (written c.all.writer) (written c.write_inter_marked.new.writer)
+          _ inside c.write_inter_marked.ensures.bits.text c.all.invariant.text;
       len = omega (arith, long);
     }
 
@@ -32,5 +33,6 @@ returns-clause-bits c = record {
 
 pub returns-clause-len : goal.returns-clause-len
 returns-clause-len c =
-    let nothing : length (left inter_text c.args.blocks.now c.all.k) ≡ 0 = ap length (none_left_text inter_text c.args.blocks.now c.all.k (omega arith)) in
+    let nothing : length (left inter_text c.args.blocks.now c.all.k)
+        ≡ 0 = ap length (none_left_text inter_text c.args.blocks.now c.all.k (omega arith)) in
     omega (arith, nothing)

@@ -11,5 +11,6 @@ invariant-all l = record {
   buffer : buffer_of l.writer ≡ buffer_of l.initial.writer;
   room : room_of l.writer ≡ room_of l.initial.writer;
   text : written l.writer ++ left inter_text l.blocks l.k ≡ written l.initial.writer ++ blocks_text inter_text l.blocks;
-  len : len_of l.writer + length (left inter_text l.blocks l.k) ≡ len_of l.initial.writer + length (blocks_text inter_text l.blocks);
+  len : len_of l.writer + length (left inter_text l.blocks l.k)
+      ≡ len_of l.initial.writer + length (blocks_text inter_text l.blocks);
 }

@@ -8,6 +8,7 @@ use Rattle.mode_choice.proofs.coefficients.levels_by_rows.Given as goal
 abbrev pub invariant-loop-at : goal.invariant-loop-at
 invariant-loop-at l = record {
   long : length l.levels ≡ 64;
-  stand : (k : ℕ) → k < l.at → get_or l.levels k (pos 0) ≡ level_by l.coding l.quantisation.quant (get_or l.coefficients k (pos 0));
+  stand : (k : ℕ) → k < l.at → get_or l.levels k (pos 0)
+      ≡ level_by l.coding l.quantisation.quant (get_or l.coefficients k (pos 0));
   range : All IsLevel l.levels;
 }

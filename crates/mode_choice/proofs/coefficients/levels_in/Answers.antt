@@ -7,4 +7,5 @@ use Rattle.mode_choice.proofs.coefficients.levels_in.Goals as goal
 pub returns-clause-levels : goal.returns-clause-levels
 returns-clause-levels c k h =
     c.put_in_order.ensures.levels k h
-    ∙ ap (kept_level c.args.quantisation.keep k) (c.levels_by_rows-by_rows.ensures.levels (block_place_of k) (block_place_below k))
+    ∙ ap (kept_level c.args.quantisation.keep k) (c.levels_by_rows-by_rows.ensures.levels (block_place_of k)
+        (block_place_below k))

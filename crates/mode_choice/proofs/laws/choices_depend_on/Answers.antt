@@ -21,9 +21,11 @@ chosen frame (Some reference) rounding quant radius keep mb =
     else inter_of frame reference quant keep rounding mb best.vector
 
 abbrev all_chosen : Picture → Option Picture → ℕ → ℕ → ℕ → ℕ → List Mb
-all_chosen frame reference rounding quant radius keep = map (chosen frame reference rounding quant radius keep) (range_with_len 0 (mbs_of frame.format))
+all_chosen frame reference rounding quant radius keep = map (chosen frame reference rounding quant radius keep)
+    (range_with_len 0 (mbs_of frame.format))
 
-by_numbers : (frame : Picture) (reference : Option Picture) (h : Header) (params : Params) → choices_of frame reference h params ≡ all_chosen frame reference h.rounding h.quant params.radius params.keep
+by_numbers : (frame : Picture) (reference : Option Picture) (h : Header) (params : Params)
+    → choices_of frame reference h params ≡ all_chosen frame reference h.rounding h.quant params.radius params.keep
 unfolding choices_of
 by_numbers frame None h params = refl
 by_numbers frame (Some reference) h params = refl

@@ -11,14 +11,16 @@ use Rattle.picture_header.specs.declared.header.Header.{Header}
 use Rattle.mode_choice.specs.Choice.{choice_of, choices_of}
 use Rattle.mode_choice.proofs.laws.one_for_each_place.Goals as goal
 
-count : (frame : Picture) (reference : Option Picture) (h : Header) (params : Params) → length (choices_of frame reference h params) ≡ mbs_of frame.format
+count : (frame : Picture) (reference : Option Picture) (h : Header) (params : Params)
+    → length (choices_of frame reference h params) ≡ mbs_of frame.format
 unfolding choices_of
 count frame reference h params = length-map-range_with_len (choice_of frame reference h params) 0 (mbs_of frame.format)
 
 each : (frame : Picture) (reference : Option Picture) (h : Header) (params : Params) (mb : ℕ) → mb < mbs_of frame.format
     → get_or (choices_of frame reference h params) mb Skip ≡ choice_of frame reference h params mb
 unfolding choices_of
-each frame reference h params mb here = get_or-map-range_with_len (choice_of frame reference h params) 0 (mbs_of frame.format) mb mb Skip here (omega arith)
+each frame reference h params mb here = get_or-map-range_with_len (choice_of frame reference h params) 0
+    (mbs_of frame.format) mb mb Skip here (omega arith)
 
 pub returns-clause-count : goal.returns-clause-count
 returns-clause-count c = count
@@ -29,7 +31,8 @@ returns-clause-each c = each
 pub returns-clause-next : goal.returns-clause-next
 returns-clause-next c = λ frame reference h params mb here.
     let mbs = choices_of frame reference h params in
-    let next : take (mb + 1) mbs ≡ take mb mbs ++ get_or mbs mb Skip ∷ [] = rw (add-one) (take-suc mbs mb Skip (omega (arith, here, count frame reference h params))) in
+    let next : take (mb + 1) mbs ≡ take mb mbs ++ get_or mbs mb Skip ∷ [] =
+        rw (add-one) (take-suc mbs mb Skip (omega (arith, here, count frame reference h params))) in
     next ∙ ap (λ (m : Mb). take mb mbs ++ m ∷ []) (each frame reference h params mb here)
 
 pub returns-clause-all : goal.returns-clause-all

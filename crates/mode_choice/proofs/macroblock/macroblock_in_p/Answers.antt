@@ -10,7 +10,8 @@ returns-clause-choice c =
     let q = picture c.args.reference in
     let h = c.args.header.now in
     let search = c.search_from-cost in
-    by_best p q h c.args.params.now c.args.mb _ _ _ search.ensures.range search.ensures.vector search.ensures.cost (sym c.is_nearer_to_mean.ensures ∙ c.if-is_nearer_to_mean.false)
+    by_best p q h c.args.params.now c.args.mb _ _ _ search.ensures.range search.ensures.vector search.ensures.cost
+        (sym c.is_nearer_to_mean.ensures ∙ c.if-is_nearer_to_mean.false)
     (c.inter_macroblock.ensures.choice q h.rounding c.predict_into.ensures)
 
 pub returns-clause-predicted : goal.returns-clause-predicted
@@ -18,4 +19,5 @@ returns-clause-predicted c =
     let p = picture c.args.frame in
     let q = picture c.args.reference in
     let h = c.args.header.now in
-    of_inter h.rounding c.args.mb h.quant q _ (residual_blocks_of p q h.quant c.args.params.now.keep h.rounding c.args.mb _) _ _ (c.inter_macroblock.ensures.choice q h.rounding c.predict_into.ensures) c.predict_into.ensures
+    of_inter h.rounding c.args.mb h.quant q _ (residual_blocks_of p q h.quant c.args.params.now.keep h.rounding
+        c.args.mb _) _ _ (c.inter_macroblock.ensures.choice q h.rounding c.predict_into.ensures) c.predict_into.ensures

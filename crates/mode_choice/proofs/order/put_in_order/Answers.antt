@@ -14,7 +14,8 @@ marks-init c = record {
   set =
       subst (AreSet c.args.standing c.args.keep c.args.levels.now _) (sym c.requires.zeros)
       (starts c.marks-2.ensures c.args.standing c.args.keep c.args.levels.now _ c.marks-rest.ensures.marks);
-  some = λ i mark. marked_some c.marks-2.ensures c.args.levels.now i (ap (λ (n : ℕ). bit_at n i) (sym c.marks-rest.ensures.marks) ∙ mark);
+  some = λ i mark. marked_some c.marks-2.ensures c.args.levels.now i
+      (ap (λ (n : ℕ). bit_at n i) (sym c.marks-rest.ensures.marks) ∙ mark);
   marks = none_in_zeros c.args.out.now c.requires.zeros;
 }
 
@@ -29,14 +30,17 @@ put_level-kept-requires-clause-some c =
     let at = trailing_zeros w64 rest in
     let mark = c.lowest.ensures rest c.marks.auto.rest-fits.fits c.marks-test.true in
     let level : ℤ = get_or c.args.levels.now at (pos 0) in
-    let own : to_z w16 (of_z w16 level) ≡ level = level_kept level (c.requires.levels at (pos 0) (subst (λ (n : ℕ). at < n) (sym c.told-levels) mark.below)) in
+    let own : to_z w16 (of_z w16 level)
+        ≡ level = level_kept level
+        (c.requires.levels at (pos 0) (subst (λ (n : ℕ). at < n) (sym c.told-levels) mark.below)) in
     subst (λ (z : ℤ). z ≢ pos 0) (sym own) (c.marks.invariant.some at mark.set)
 
 pub put_level-kept-requires-clause-none : goal.put_level-kept-requires-clause-none
 put_level-kept-requires-clause-none c =
     let rest = c.marks.rest in
     let mark = c.lowest.ensures rest c.marks.auto.rest-fits.fits c.marks-test.true in
-    not_yet c.one_order.ensures c.args.standing c.args.keep c.args.levels.now (trailing_zeros w64 rest) c.place_in_order-k.result rest c.marks.out
+    not_yet c.one_order.ensures c.args.standing c.args.keep c.args.levels.now (trailing_zeros w64 rest)
+        c.place_in_order-k.result rest c.marks.out
     mark c.place_in_order-k.ensures.place c.place_in_order-k.ensures.range c.marks.invariant.set
 
 pub marks-preserved : goal.marks-preserved
@@ -51,7 +55,8 @@ marks-preserved c =
     let v : ℤ = kept_level c.args.keep k (to_z w16 (of_z w16 level)) in
     record {
       set =
-          subst (AreSet c.args.standing c.args.keep c.args.levels.now (without rest at)) (sym c.put_level-kept.ensures.levels)
+          subst (AreSet c.args.standing c.args.keep c.args.levels.now (without rest at))
+              (sym c.put_level-kept.ensures.levels)
           (set_one c.one_order.ensures c.args.standing c.args.keep c.args.levels.now at k rest c.marks.out v
           mark c.place_in_order-k.ensures.place c.place_in_order-k.ensures.range
           (ap (kept_level c.args.keep k) own)
@@ -61,4 +66,5 @@ marks-preserved c =
     }
 
 pub returns-clause-levels : goal.returns-clause-levels
-returns-clause-levels c = ends c.args.standing c.args.keep c.args.levels.now c.marks.rest c.marks.out c.marks-test.false c.marks.invariant.set
+returns-clause-levels c = ends c.args.standing c.args.keep c.args.levels.now c.marks.rest c.marks.out c.marks-test.false
+    c.marks.invariant.set

@@ -6,7 +6,8 @@ use Rattle.mode_choice.proofs.Rows.{row_is_put}
 use Rattle.mode_choice.proofs.predicted.put_difference.Goals as goal
 
 pub returns-clause-long : goal.returns-clause-long
-returns-clause-long c = length-put_chunk (8 * c.args.j) c.args.residuals.now (differences_l (take 8 c.args.row.now) (take 8 c.args.predicted.now)) ∙ c.requires.block
+returns-clause-long c = length-put_chunk (8 * c.args.j) c.args.residuals.now (differences_l (take 8 c.args.row.now)
+    (take 8 c.args.predicted.now)) ∙ c.requires.block
 
 pub returns-clause-residuals : goal.returns-clause-residuals
 returns-clause-residuals c =
@@ -14,7 +15,8 @@ returns-clause-residuals c =
     let predicted : List ℕ = c.args.predicted.now in
     let eight : length (take 8 row) ≡ 8 = omega (arith, length-take 8 row, c.requires.row) in
     let as_long : length (take 8 predicted) ≡ 8 = omega (arith, length-take 8 predicted, c.requires.predicted) in
-    row_is_put c.args.residuals.now (differences_l (take 8 row) (take 8 predicted)) (λ x. pos (get_or row x 0) -ℤ pos (get_or predicted x 0)) c.args.j c.requires.block
+    row_is_put c.args.residuals.now (differences_l (take 8 row) (take 8 predicted))
+        (λ x. pos (get_or row x 0) -ℤ pos (get_or predicted x 0)) c.args.j c.requires.block
     (length_differences (take 8 row) (take 8 predicted) (omega (arith, eight, as_long)) ∙ eight) c.requires.j
     (λ x h.
     let same_row : get_or (take 8 row) x 0 ≡ get_or row x 0 = get_or-take 8 row x 0 h in

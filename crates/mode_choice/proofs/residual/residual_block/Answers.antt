@@ -10,7 +10,9 @@ pub transformed-first-requires-clause-zeros : goal.transformed-first-requires-cl
 transformed-first-requires-clause-zeros c = ap (λ (b : Block). b.levels) c.requires.zeros
 
 pub returns-then-are_small-clause-levels : goal.returns-then-are_small-clause-levels
-returns-then-are_small-clause-levels c = c.requires.zeros ∙ no_levels c.args.quantisation.quant c.args.quantisation.keep c.args.residuals.now (c.are_small.ensures c.if-are_small.true)
+returns-then-are_small-clause-levels c = c.requires.zeros
+    ∙ no_levels c.args.quantisation.quant c.args.quantisation.keep c.args.residuals.now
+    (c.are_small.ensures c.if-are_small.true)
 
 pub returns-then-are_small-clause-marks : goal.returns-then-are_small-clause-marks
 returns-then-are_small-clause-marks c = none_of_zeros c.args.out.now c.requires.zeros
@@ -19,5 +21,6 @@ pub returns-clause-levels : goal.returns-clause-levels
 unfolding residual_levels_of
 returns-clause-levels c =
     let block : List ℤ → Block = λ ls. record { levels = ls } in
-    ap block (fill_by_all (λ (k : ℕ). residual_level_of c.args.quantisation.quant c.args.quantisation.keep k (coefficient_at c.args.residuals.now k)) c.transformed-first.new.out 64 (pos 0) c.transformed-first.ensures.long
+    ap block (fill_by_all (λ (k : ℕ). residual_level_of c.args.quantisation.quant c.args.quantisation.keep k
+        (coefficient_at c.args.residuals.now k)) c.transformed-first.new.out 64 (pos 0) c.transformed-first.ensures.long
     c.transformed-first.ensures.levels)

@@ -6,4 +6,5 @@ abbrev pub invariant-loop-j : goal.invariant-loop-j
 invariant-loop-j l =
     (length l.samples ≡ 64)
     × (l.at ≡ 0 + l.width * l.j)
-    × ((k : ℕ) → k < 64 → k / 8 < l.j → get_or l.samples k (pos 0) ≡ pos (get_or l.rows (0 + l.width * (k / 8) + k % 8) 0))
+    × ((k : ℕ) → k < 64 → k / 8 < l.j → get_or l.samples k (pos 0)
+        ≡ pos (get_or l.rows (0 + l.width * (k / 8) + k % 8) 0))

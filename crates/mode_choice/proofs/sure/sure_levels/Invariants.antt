@@ -10,6 +10,8 @@ abbrev pub invariant-loop-at : goal.invariant-loop-at
 invariant-loop-at l = record {
   long : length l.levels ≡ 64;
   few : l.most < 1024;
-  stand : l.most + 3 < 32 * l.fn.quantisation.quant → (k : ℕ) (f : ℤ) → k < l.at → IsBracketed (get_or l.sixteenths k (pos 0)) f → get_or l.levels k (pos 0) ≡ level_by l.fn.coding l.fn.quantisation.quant f;
+  stand : l.most + 3 < 32 * l.fn.quantisation.quant → (k : ℕ) (f : ℤ) → k < l.at
+      → IsBracketed (get_or l.sixteenths k (pos 0)) f → get_or l.levels k (pos 0)
+      ≡ level_by l.fn.coding l.fn.quantisation.quant f;
   range : All IsLevel l.levels;
 }

@@ -12,7 +12,8 @@ loop-k-preserved c =
     let j = c.args.j in
     let k = c.loop-k.k in (
       omega (arith, c.loop-k-test.true),
-      c.with_row-columns.ensures (twice block) j k (λ x y. c.are_samples.ensures (16 * y + x % 16)) (omega (arith, c.loop-k-test.true))
+      c.with_row-columns.ensures (twice block) j k (λ x y. c.are_samples.ensures (16 * y + x % 16))
+          (omega (arith, c.loop-k-test.true))
           (block_row_twice block c.block_row-row.result.now (j + k) c.block_row-row.ensures.value) c.loop-k.invariant.1,
     )
 

@@ -5,7 +5,8 @@ use Rattle.motion_search.proofs.Nears.{none_yet, one_more, all_eight, by_differe
 use Rattle.motion_search.proofs.half.best_inside.Goals as goal
 
 pub loop-n-init : goal.loop-n-init
-loop-n-init c = none_yet c.args.block.now (picture c.args.reference) c.args.mb c.args.rounding c.args.best c.requires.candidate c.requires.cost
+loop-n-init c = none_yet c.args.block.now (picture c.args.reference) c.args.mb c.args.rounding c.args.best
+    c.requires.candidate c.requires.cost
 
 pub loop-n-preserved : goal.loop-n-preserved
 loop-n-preserved c =
@@ -24,7 +25,8 @@ loop-n-preserved c =
     c.loop-n.invariant
 
 pub returns-clause-best : goal.returns-clause-best
-returns-clause-best c = all_eight c.args.block.now (picture c.args.reference) c.args.mb c.args.rounding c.args.best c.loop-n.n c.loop-n.so_far (omega arith) c.requires.candidate c.loop-n.invariant
+returns-clause-best c = all_eight c.args.block.now (picture c.args.reference) c.args.mb c.args.rounding c.args.best
+    c.loop-n.n c.loop-n.so_far (omega arith) c.requires.candidate c.loop-n.invariant
 
 pub returns-clause-cost : goal.returns-clause-cost
 returns-clause-cost c = c.loop-n.invariant.cost

@@ -8,7 +8,9 @@ abbrev pub invariant-loop-k : goal.invariant-loop-k
 invariant-loop-k l = record {
   few : l.k ≤ l.fn.rows.end;
   rest : LeavesRest l.fn.rows l.fn.out l.out;
-  columns : (f : ℕ → ℕ → ℕ) → AreBytes f → IsBeside (picture l.reference) l.x l.z f → AreColumns f (l.first + l.k) 7 l.columns;
-  stored : (f : ℕ → ℕ → ℕ) → AreBytes f → IsBeside (picture l.reference) l.x l.z f → (k i : ℕ) → l.fn.rows.begin ≤ k → k < l.k → i < 24 → slice_index l.out (384 * k + (l.x + i)) ≡ area_sum f i (l.first + k);
+  columns : (f : ℕ → ℕ → ℕ) → AreBytes f → IsBeside (picture l.reference) l.x l.z f
+      → AreColumns f (l.first + l.k) 7 l.columns;
+  stored : (f : ℕ → ℕ → ℕ) → AreBytes f → IsBeside (picture l.reference) l.x l.z f → (k i : ℕ) → l.fn.rows.begin ≤ k
+      → k < l.k → i < 24 → slice_index l.out (384 * k + (l.x + i)) ≡ area_sum f i (l.first + k);
   before : (k c : ℕ) → c < l.x → slice_index l.out (384 * k + c) ≡ slice_index l.fn.out (384 * k + c);
 }

@@ -14,7 +14,8 @@ loop-s-init g c =
     }
 
 pub add_strip-requires-clause-beside : goal.add_strip-requires-clause-beside
-add_strip-requires-clause-beside g c = some_next (picture c.args.reference) (24 * c.loop-s.s) (24 * c.loop-s.s + 16) c.requires.picture refl
+add_strip-requires-clause-beside g c = some_next (picture c.args.reference) (24 * c.loop-s.s)
+    (24 * c.loop-s.s + 16) c.requires.picture refl
 
 pub add_strip-requires-clause-across : goal.add_strip-requires-clause-across
 add_strip-requires-clause-across g c =
@@ -35,7 +36,8 @@ loop-s-preserved g c =
       sums = λ n k hn from to.
           strip_kept p x 24 c.args.rows.first k c.loop-s.out c.add_strip.new.out n (omega (arith, hn))
           (λ below. inv.sums n k below from to) add.before
-          (λ i hi. add.stored (samples_from p x) (next_bytes p x c.requires.picture) (next_beside p x (x + 16) refl) k i from to hi ∙ area_next p x i (c.args.rows.first + k));
+          (λ i hi. add.stored (samples_from p x) (next_bytes p x c.requires.picture) (next_beside p x (x + 16) refl) k i
+              from to hi ∙ area_next p x i (c.args.rows.first + k));
     }
 
 pub add_strip-requires-clause-whole : goal.add_strip-requires-clause-whole
@@ -62,7 +64,9 @@ returns g c =
     record {
       rest = rest_twice _ _ _ _ inv.rest add.rest;
       sums = λ n k hn from to.
-          strip_kept p x 9 c.args.rows.first k c.loop-s.out c.add_strip-2.new.out n (omega (arith, hn, ends.1, c.requires.width))
+          strip_kept p x 9 c.args.rows.first k c.loop-s.out c.add_strip-2.new.out n (omega (arith, hn, ends.1,
+              c.requires.width))
           (λ below. inv.sums n k (omega (arith, below, ends.0, ends.1, c.loop-s-test.false)) from to) add.before
-          (λ i hi. add.stored (again p x) (again_bytes p x c.requires.picture) (again_beside p x) k i from to (omega (arith, hi)) ∙ area_again p x i (c.args.rows.first + k) (omega (arith, hi)));
+          (λ i hi. add.stored (again p x) (again_bytes p x c.requires.picture) (again_beside p x) k i from to
+              (omega (arith, hi)) ∙ area_again p x i (c.args.rows.first + k) (omega (arith, hi)));
     }

@@ -10,5 +10,6 @@ abbrev pub invariant-loop-s : goal.invariant-loop-s
 invariant-loop-s g l = record {
   few : l.s ≤ g.row.WIDTH / 24;
   rest : LeavesRest l.rows l.fn.out l.out;
-  sums : (x k : ℕ) → x < 24 * l.s → l.rows.begin ≤ k → k < l.rows.end → slice_index l.out (384 * k + x) ≡ area_sum (sample_at (picture l.reference) Y) x (l.rows.first + k);
+  sums : (x k : ℕ) → x < 24 * l.s → l.rows.begin ≤ k → k < l.rows.end → slice_index l.out (384 * k + x)
+      ≡ area_sum (sample_at (picture l.reference) Y) x (l.rows.first + k);
 }

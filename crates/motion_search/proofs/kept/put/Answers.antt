@@ -10,4 +10,5 @@ pub returns-clause-others : goal.returns-clause-others
 returns-clause-others c = put_apart c.args.at c.args.out.now c.args.sums c.requires.sums
 
 pub returns-clause-stored : goal.returns-clause-stored
-returns-clause-stored c = λ i hi. get_or-put_chunk_at c.args.at c.args.out.now c.args.sums i 0 (omega (arith, hi, c.requires.sums)) (omega (arith, c.requires.sums, c.requires.room))
+returns-clause-stored c = λ i hi. get_or-put_chunk_at c.args.at c.args.out.now c.args.sums i 0
+    (omega (arith, hi, c.requires.sums)) (omega (arith, c.requires.sums, c.requires.room))

@@ -17,7 +17,8 @@ pub loop-j-preserved : goal.loop-j-preserved
 loop-j-preserved c =
     record {
       few = omega (arith, c.loop-j-test.true);
-      sums = λ f bytes beside. c.with_samples-columns.ensures f c.args.y c.loop-j.j bytes beside (omega (arith, c.loop-j-test.true)) refl (c.loop-j.invariant.sums f bytes beside);
+      sums = λ f bytes beside. c.with_samples-columns.ensures f c.args.y c.loop-j.j bytes beside
+          (omega (arith, c.loop-j-test.true)) refl (c.loop-j.invariant.sums f bytes beside);
     }
 
 pub returns : goal.returns

@@ -8,7 +8,8 @@ abbrev pub invariant-loop-left : goal.invariant-loop-left
 invariant-loop-left l = record {
   so_far : IsSoFar l.window l.first;
   kept : IsKept l.fn.best l.first;
-  none : (i : ℕ) → i < 16 → bit_at l.left i ≡ 0 → l.column + i < 2 * l.window.radius + 1 → IsNoBetter l.window (l.column + i) l.row l.first;
+  none : (i : ℕ) → i < 16 → bit_at l.left i ≡ 0 → l.column + i < 2 * l.window.radius + 1
+      → IsNoBetter l.window (l.column + i) l.row l.first;
 }
 
 abbrev pub decreases-loop-left : goal.decreases-loop-left

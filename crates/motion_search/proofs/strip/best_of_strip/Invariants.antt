@@ -9,5 +9,6 @@ invariant-loop-row l = record {
   so_far : IsSoFar l.window l.first.best;
   most : HasLimit l.first;
   kept : IsKept l.fn.best l.first.best;
-  none : (m i : ℕ) → m < l.row → i < 16 → l.column + i < 2 * l.window.radius + 1 → IsNoBetter l.window (l.column + i) m l.first.best;
+  none : (m i : ℕ) → m < l.row → i < 16 → l.column + i < 2 * l.window.radius + 1
+      → IsNoBetter l.window (l.column + i) m l.first.best;
 }

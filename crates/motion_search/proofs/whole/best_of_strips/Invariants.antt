@@ -8,7 +8,8 @@ abbrev pub invariant-loop-column : goal.invariant-loop-column
 invariant-loop-column l = record {
   left : l.window.reach.left ≤ℤ whole_component l.window.radius l.column;
   so_far : IsSoFar l.window l.first;
-  none : (m n : ℕ) → m < 2 * l.window.radius + 1 → n < 2 * l.window.radius + 1 → n < l.column → IsNoBetter l.window n m l.first;
+  none : (m n : ℕ) → m < 2 * l.window.radius + 1 → n < 2 * l.window.radius + 1 → n < l.column
+      → IsNoBetter l.window n m l.first;
 }
 
 abbrev pub decreases-loop-column : goal.decreases-loop-column

@@ -11,15 +11,19 @@ returns c = λ p in_range.
       chosen_each = λ frame reference h k few. c.one_for_each_place.ensures.each frame reference h p k few;
       chosen_whole = λ frame reference h k. c.chosen_is_in_range.ensures.whole frame reference h p k;
       same_cut = c.written_packets.ensures.cut p;
-      are_packets = λ number sequence h mbs header whole. c.by_functions.ensures.whole number sequence h p.limit mbs header in_range.limit_low whole;
-      bytes = λ number sequence h mbs packets header whole are. c.room_of_a_picture.ensures.bytes number sequence h p.limit mbs packets header whole are;
-      count = λ number sequence h mbs packets header whole are. c.room_of_a_picture.ensures.count number sequence h p.limit mbs packets header whole are;
+      are_packets = λ number sequence h mbs header whole. c.by_functions.ensures.whole number sequence h p.limit mbs
+          header in_range.limit_low whole;
+      bytes = λ number sequence h mbs packets header whole are. c.room_of_a_picture.ensures.bytes number sequence h
+          p.limit mbs packets header whole are;
+      count = λ number sequence h mbs packets header whole are. c.room_of_a_picture.ensures.count number sequence h
+          p.limit mbs packets header whole are;
     } in
     record {
       room = λ pace entries n paced.
           let room = packets_room p below pace entries n paced in
           (room.bytes, room.count);
       captured = λ quant frame coded reference n sequence ranged.
-          let room = captured_room p below quant frame coded reference n sequence (record { low = omega (arith, ranged.0); high = omega (arith, ranged.1) }) in
+          let room = captured_room p below quant frame coded reference n sequence
+              (record { low = omega (arith, ranged.0); high = omega (arith, ranged.1) }) in
           (room.bytes, room.count);
     }

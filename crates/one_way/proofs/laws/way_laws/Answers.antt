@@ -11,7 +11,8 @@ pub returns : goal.returns
 returns c = λ p. record {
   first = λ pictures network sender receiver before frames new sender_params sends receiver_params receives. record {
     way_holds = record {
-      joined = record { sender_params = sender_params; receiver_params = receiver_params; sends = sends; receives = receives };
+      joined = record { sender_params = sender_params; receiver_params = receiver_params; sends = sends;
+          receives = receives };
       near = tt;
       tally = new.way_is.tally;
       packets = new.way_is.packets;
@@ -30,9 +31,13 @@ returns c = λ p. record {
         keeping = record { pictures = new.packets.pictures; keeps = new.packets.keeps };
         begun = new.begun ∙ sym sent;
       };
-  later = λ way sender receiver before frames more past h. holds_later p (c.later_frames.ensures p) way sender receiver before frames past more h;
-  sent = λ sender receiver before frames past j. sent_is p (c.ends_run.ensures p) (steady p) sender receiver frames before past j;
-  played = λ sender receiver before frames past j. played_is p (c.ends_run.ensures p) (steady p) sender receiver frames before past j;
+  later = λ way sender receiver before frames more past h. holds_later p (c.later_frames.ensures p) way sender receiver
+      before frames past more h;
+  sent = λ sender receiver before frames past j. sent_is p (c.ends_run.ensures p) (steady p) sender receiver frames
+      before past j;
+  played = λ sender receiver before frames past j. played_is p (c.ends_run.ensures p) (steady p) sender receiver frames
+      before past j;
   shown = λ sender receiver before frames past picture j screen.
-      screen (heard_in p (steady p) frames before past) j.receives ∙ screen_is p (c.ends_run.ensures p) (steady p) sender receiver frames before past j;
+      screen (heard_in p (steady p) frames before past) j.receives
+          ∙ screen_is p (c.ends_run.ensures p) (steady p) sender receiver frames before past j;
 }

@@ -5,7 +5,8 @@ use Rattle.one_way.proofs.way.keep_packets.Given as goal
 -- the packets below `place` are kept
 abbrev pub invariant-packets : goal.invariant-packets
 invariant-packets l = record {
-  kept : (pictures : Pictures) → HoldsPackets l.fn.packets pictures → HoldsPackets l.packets (pictures ++ take l.place (l.sender.packets) ∷ []);
+  kept : (pictures : Pictures) → HoldsPackets l.fn.packets pictures
+      → HoldsPackets l.packets (pictures ++ take l.place (l.sender.packets) ∷ []);
   sizes : HasSizes l.packets (period_of l.fn.packets) (room_of l.fn.packets) (most_of l.fn.packets);
   begun : begun_of l.packets ≡ begun_of l.fn.packets + 1;
 }

@@ -5,7 +5,8 @@ use Rattle.packet_cutter.proofs.cutter.cut.Given as goal
 
 abbrev pub invariant-packets : goal.invariant-packets
 invariant-packets l = record {
-  under_way : IsUnderWay l.number l.sequence l.header (most_bytes l.initial.packets) l.mbs l.first (kept_packets l.packets);
+  under_way : IsUnderWay l.number l.sequence l.header (most_bytes l.initial.packets) l.mbs l.first
+      (kept_packets l.packets);
   within : l.first ≤ length l.mbs;
   few : count_of l.packets ≤ l.first;
   limit : most_bytes l.packets ≡ most_bytes l.initial.packets;

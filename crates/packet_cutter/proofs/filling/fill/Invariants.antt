@@ -6,7 +6,8 @@ use Rattle.packet_cutter.proofs.filling.fill.Given as goal
 abbrev pub invariant-each : goal.invariant-each
 invariant-each l = record {
   count : l.count ≡ l.mb-index;
-  holds : (h : Header) (begins : Bool) (first : ℕ) → HoldsSlice l.initial.writer h begins first [] → HoldsSlice l.writer h begins first (take l.mb-index l.mbs);
+  holds : (h : Header) (begins : Bool) (first : ℕ) → HoldsSlice l.initial.writer h begins first []
+      → HoldsSlice l.writer h begins first (take l.mb-index l.mbs);
   kind : kind_of l.writer ≡ kind_of l.initial.writer;
   format : format_of l.writer ≡ format_of l.initial.writer;
   quant : quant_of l.writer ≡ quant_of l.initial.writer;

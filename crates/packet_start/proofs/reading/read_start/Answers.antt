@@ -8,4 +8,5 @@ unfolding start_at
 returns-clause-exact c = search rules
 
 pub returns-clause-format : goal.returns-clause-format
-returns-clause-format c = in_format c.start_is_of_format.ensures c.read_after.result c.args.format c.args.bytes.now (returns-clause-exact c)
+returns-clause-format c = in_format c.start_is_of_format.ensures c.read_after.result c.args.format c.args.bytes.now
+    (returns-clause-exact c)

@@ -1,3 +1,4 @@
+-- The coded bytes of the packets before the place stand in the room, one after the other.
 use Rattle.std.proofs.Common.{ℕ, ◌+◌, ◌++◌, List, Option, length, refl, sym, ap, ◌∙◌, arith}
 use Rattle.payload_join.specs.Packet.{Packet, bytes_between}
 use Rattle.payload_join.specs.Outgoing.{coded_one, coded_from}
@@ -21,7 +22,8 @@ pub copy_coded-at-requires : goal.copy_coded-at-requires
 copy_coded-at-requires c =
     let held = place_at c.args.ring.now.packets in
     let end = c.packets.invariant.end in let short = c.requires.short in let less = c.packets-test.true in
-    let same = ap (λ (l : List (Option Packet)). length {A = ℕ} (coded_one (place_at l (c.args.number + c.packets.k)))) c.packets.invariant.packets in
+    let same = ap (λ (l : List (Option Packet)). length {A = ℕ} (coded_one (place_at l (c.args.number + c.packets.k))))
+        c.packets.invariant.packets in
     let more = more_len held c.args.number c.packets.k in
     let within = coded_within held c.args.number (c.packets.k + 1) c.args.count (omega arith) in
     omega arith
@@ -32,8 +34,10 @@ packets-preserved c =
     let room = c.packets.ring.room in let at = c.packets.at in
     let packet = coded_one (place_at c.packets.ring.packets (c.args.number + c.packets.k)) in
     let is = c.copy_coded-at.ensures.room in
-    let end = c.packets.invariant.end in let size = c.packets.invariant.size in let short = c.requires.short in let less = c.packets-test.true in
-    let same = ap (λ (l : List (Option Packet)). coded_one (place_at l (c.args.number + c.packets.k))) c.packets.invariant.packets in
+    let end = c.packets.invariant.end in let size = c.packets.invariant.size in let short = c.requires.short in
+        let less = c.packets-test.true in
+    let same = ap (λ (l : List (Option Packet)). coded_one (place_at l (c.args.number + c.packets.k)))
+        c.packets.invariant.packets in
     let long = ap (length {A = ℕ}) same in
     let more = more_len held c.args.number c.packets.k in
     let within = coded_within held c.args.number (c.packets.k + 1) c.args.count (omega arith) in

@@ -9,4 +9,5 @@ loop-k-init c = refl
 
 pub loop-k-preserved : goal.loop-k-preserved
 unfolding forgotten
-loop-k-preserved c = rw add-one (ap (λ (l : List (Option Parts)). set l ((c.args.from + c.loop-k.k) % 64) None) c.loop-k.invariant)
+loop-k-preserved c = rw add-one (ap (λ (l : List (Option Parts)). set l ((c.args.from + c.loop-k.k) % 64) None)
+    c.loop-k.invariant)

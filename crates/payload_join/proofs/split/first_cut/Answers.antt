@@ -7,7 +7,8 @@ returns-then-bytes-lt3-clause-none c e =
     uncut c.args.bytes.now (none_left c.args.bytes.now 0 (omega arith) (λ k lt. absurd (omega arith)))
 
 pub returns-then-is_cut-clause-some : goal.returns-then-is_cut-clause-some
-returns-then-is_cut-clause-some c = first_cut c.args.bytes.now c.bytes.at c.bytes.invariant (sym c.is_cut.ensures ∙ c.if-is_cut.true)
+returns-then-is_cut-clause-some c = first_cut c.args.bytes.now c.bytes.at c.bytes.invariant (sym c.is_cut.ensures
+    ∙ c.if-is_cut.true)
 
 pub returns-clause-none : goal.returns-clause-none
 returns-clause-none c e = uncut c.args.bytes.now (none_left c.args.bytes.now c.bytes.at (omega arith) c.bytes.invariant)

@@ -11,10 +11,12 @@ use Rattle.picture_coder.proofs.coding.code_picture.Given as goal
 -- the macroblocks before `at` were chosen, are added, and are shown
 abbrev pub invariant-loop-at : goal.invariant-loop-at
 invariant-loop-at l = record {
-  added : HoldsFirst l.number l.header (choices_of (picture l.frame) (option_map picture l.reference) l.header l.params) l.at l.cutter;
+  added : HoldsFirst l.number l.header (choices_of (picture l.frame) (option_map picture l.reference) l.header l.params)
+      l.at l.cutter;
   limit : limit_of l.cutter ≡ limit_of l.fn.cutter;
   sequence : sequence_of l.cutter ≡ sequence_of l.fn.cutter;
-  shown : HasShown l.header (option_map picture l.reference) (choices_of (picture l.frame) (option_map picture l.reference) l.header l.params) l.at (lent.work l.work);
+  shown : HasShown l.header (option_map picture l.reference)
+      (choices_of (picture l.frame) (option_map picture l.reference) l.header l.params) l.at (lent.work l.work);
   sums : AreSumsOfAny (option_map picture l.reference) l.chosen.sums;
   same_loan : lent.loan_of l.work ≡ lent.loan_of l.fn.work;
 }

@@ -11,6 +11,8 @@ invariant-places l = record {
   each : AreMessages Custom (messages_in (drop l.place-index l.places));
   buffer : buffer_of l.writer ≡ buffer_of l.initial.writer;
   room : room_of l.writer ≡ room_of l.initial.writer;
-  len : len_of l.writer + back_bits (messages_in (drop l.place-index l.places)) ≡ len_of l.initial.writer + back_bits (messages_in l.places);
-  text : written l.writer ++ back_text (messages_in (drop l.place-index l.places)) ≡ written l.initial.writer ++ back_text (messages_in l.places);
+  len : len_of l.writer + back_bits (messages_in (drop l.place-index l.places))
+      ≡ len_of l.initial.writer + back_bits (messages_in l.places);
+  text : written l.writer ++ back_text (messages_in (drop l.place-index l.places)) ≡ written l.initial.writer
+      ++ back_text (messages_in l.places);
 }

@@ -12,5 +12,6 @@ abbrev pub invariant-loop-block : goal.invariant-loop-block
 invariant-loop-block l =
     (loan_of l.out ≡ loan_of l.initial.out)
     × ((work l.out).format ≡ l.format)
-    × SetsBlocks l.format l.at l.block (λ (b old y x : ℕ). byte_of (level_at (block_in l.blocks b) (8 * y + x))) (work l.initial.out) (work l.out)
+    × SetsBlocks l.format l.at l.block (λ (b old y x : ℕ). byte_of (level_at (block_in l.blocks b) (8 * y + x)))
+        (work l.initial.out) (work l.out)
     × IsPicture (work l.out)

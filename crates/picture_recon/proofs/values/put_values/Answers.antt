@@ -13,8 +13,10 @@ unfolding inter_values zigzag_place_of
 returns-clause-values c =
     let block = c.args.block.now in
     first_put (inter_value c.args.quant block) c.put_values_but_first.new.values _ c.put_values_but_first.ensures.long
-    (kept c.value.result c.value.ensures.range ∙ c.value.ensures.value ∙ ap (value_of c.args.quant) (kept_level (level_at block 0) (c.requires.block.levels 0 (lit< tt))))
+    (kept c.value.result c.value.ensures.range ∙ c.value.ensures.value
+        ∙ ap (value_of c.args.quant) (kept_level (level_at block 0) (c.requires.block.levels 0 (lit< tt))))
     c.put_values_but_first.ensures.values
 
 pub returns-clause-marked : goal.returns-clause-marked
-returns-clause-marked c = λ at some less none. other_put c.put_values_but_first.new.values _ at some ∙ c.put_values_but_first.ensures.marked at some less none
+returns-clause-marked c = λ at some less none. other_put c.put_values_but_first.new.values _ at some
+    ∙ c.put_values_but_first.ensures.marked at some less none

@@ -46,7 +46,8 @@ marks-preserved c =
     (same ∙ c.value.ensures.value ∙ ap (value_of quant) (kept_level (level_at block k) level))
     (subst IsValue (sym same) c.value.ensures.range) c.marks.invariant.0 in
     let first : 0 ≢ k = let h = past in omega arith in (
-      subst (λ (n : ℕ). ArePut quant block (without rest k) (slice_set c.marks.values n v)) (sym c.block_place.ensures.place) next,
+      subst (λ (n : ℕ). ArePut quant block (without rest k) (slice_set c.marks.values n v))
+          (sym c.block_place.ensures.place) next,
       mark.others 0 (lit< tt) first ∙ c.marks.invariant.1,
     )
 
@@ -60,4 +61,6 @@ returns-clause-first c = c.marks.invariant.0.first
 
 pub returns-clause-marked : goal.returns-clause-marked
 returns-clause-marked c = λ at some less none.
-    returns-clause-values c at some less ∙ unmarked_value c.one_order.ensures c.args.quant c.args.block.now c.args.marks c.requires.marked at some less none
+    returns-clause-values c at some less
+        ∙ unmarked_value c.one_order.ensures c.args.quant c.args.block.now c.args.marks c.requires.marked at some less
+        none

@@ -15,7 +15,8 @@ Within f (Ok p) = (0 < length p.slice.mbs) × (p.slice.first + length p.slice.mb
 Within f (Err fault) = Unit {0}
 
 -- what a packet's piece has is what its slice has
-within : (f : Format) (bytes : List ℕ) (p : call.Piece Style Mb) (o : Result Slice Fault) → ((s : Slice) → o ≡ Ok s → (0 < length s.mbs) × (s.first + length s.mbs ≤ mbs_of f)) → with_piece o ≡ Ok p
+within : (f : Format) (bytes : List ℕ) (p : call.Piece Style Mb) (o : Result Slice Fault)
+    → ((s : Slice) → o ≡ Ok s → (0 < length s.mbs) × (s.first + length s.mbs ≤ mbs_of f)) → with_piece o ≡ Ok p
     → (0 < length p.slice.mbs) × (p.slice.first + length p.slice.mbs ≤ mbs_of f)
 within f bytes p (Ok s) inside e = subst (λ (x : Result (call.Piece Style Mb) Fault). Within f x) e (inside s refl)
 within f bytes p (Err fault) inside e = absurd cc
@@ -23,6 +24,7 @@ within f bytes p (Err fault) inside e = absurd cc
 pub returns : goal.returns
 returns c = λ p. record {
   pictures = c.are_pictures.ensures.pictures p;
-  read_inside = λ bytes piece e. within p.format bytes piece (packet_at p.format bytes) (λ s is. c.read_inside.ensures.inside p.format s bytes is) e;
+  read_inside = λ bytes piece e. within p.format bytes piece (packet_at p.format bytes)
+      (λ s is. c.read_inside.ensures.inside p.format s bytes is) e;
   same_style_is = same_style_is;
 }

@@ -8,4 +8,5 @@ pub returns-clause-value : goal.returns-clause-value
 unfolding nearest
 returns-clause-value c p same =
     c.nearest_below.ensures.value (rules_of p) (ap half_of same)
-    ∙ ap (λ (k : ℕ). nearest_below (rules_of p) (c.args.played + k) c.args.rest) (c.half.ensures ∙ ap half_of (sym same))
+    ∙ ap (λ (k : ℕ). nearest_below (rules_of p) (c.args.played + k) c.args.rest) (c.half.ensures
+        ∙ ap half_of (sym same))

@@ -11,7 +11,8 @@ abbrev pub invariant-loop-packet : goal.invariant-loop-packet
 invariant-loop-packet g l =
     let outside = g.D.Desk.outside in
     record {
-      total : total_of l.receiving.tally + length l.joiner.left ≡ total_of l.fn.receiving.tally + length l.fn.joiner.left;
+      total : total_of l.receiving.tally + length l.joiner.left
+          ≡ total_of l.fn.receiving.tally + length l.fn.joiner.left;
       joined : l.took.joined + length l.joiner.left ≡ l.fn.took.joined + length l.fn.joiner.left;
       took : with_joined (length l.joiner.left) l.took ≡ with_joined (length l.fn.joiner.left) l.fn.took;
       top : l.joiner.top ≡ l.fn.joiner.top;
@@ -19,7 +20,8 @@ invariant-loop-packet g l =
       wire : (outside l.desk).attached Wire ≡ true;
       has_written : HasWritten l.outcome (outside l.fn.desk) (outside l.desk);
       delivering : (s : RecvState) → RecvStands l.fn.receiving s
-          → IsDelivering l.receiving l.joiner.left l.outcome (delivers s l.fn.joiner.left) (outside l.fn.desk).written (outside l.desk).written;
+          → IsDelivering l.receiving l.joiner.left l.outcome (delivers s l.fn.joiner.left) (outside l.fn.desk).written
+              (outside l.desk).written;
     }
 
 abbrev pub decreases-loop-packet : goal.decreases-loop-packet

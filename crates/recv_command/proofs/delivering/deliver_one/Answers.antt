@@ -10,5 +10,7 @@ returns-clause-delivering g c = λ left all old is.
       so_far = delivers_one is.so_far c.args.bytes.now;
       rest = is.rest;
       stands = c.deliver-message.ensures.stands s is.stands;
-      written = c.say_after.ensures.said old is.so_far.texts s.params.clock (said_by (answer_after s.params s.past c.args.bytes.now)) (c.deliver-message.ensures.says s is.stands) is.written;
+      written = c.say_after.ensures.said old is.so_far.texts s.params.clock
+          (said_by (answer_after s.params s.past c.args.bytes.now)) (c.deliver-message.ensures.says s is.stands)
+          is.written;
     }

@@ -18,7 +18,8 @@ returns-in-Some-clause-ok g c = λ clock message is.
     ap (λ (l : List ℕ). on Wire (entry_text 66 l)) c.text-text.ensures
     ∙ said_text c.said_bytes.ensures.written clock c.args.said c.in-Some.said message c.in-Some.is fit is
     in
-    subst (λ (t : Role → List ℕ). OnOk c.put_entry.result (Gains t (outside c.args.desk.now).written (outside c.put_entry.new.desk).written)) text c.put_entry.ensures.ok
+    subst (λ (t : Role → List ℕ). OnOk c.put_entry.result (Gains t (outside c.args.desk.now).written
+        (outside c.put_entry.new.desk).written)) text c.put_entry.ensures.ok
 
 pub returns-in-Some-clause-err : goal.returns-in-Some-clause-err
 returns-in-Some-clause-err g c = λ clock message is.
@@ -28,4 +29,5 @@ returns-in-Some-clause-err g c = λ clock message is.
     ap (λ (l : List ℕ). on Wire (entry_text 66 l)) c.text-text.ensures
     ∙ said_text c.said_bytes.ensures.written clock c.args.said c.in-Some.said message c.in-Some.is fit is
     in
-    subst (λ (t : Role → List ℕ). OnErr c.put_entry.result (GainsFronts t (outside c.args.desk.now).written (outside c.put_entry.new.desk).written)) text c.put_entry.ensures.err
+    subst (λ (t : Role → List ℕ). OnErr c.put_entry.result (GainsFronts t (outside c.args.desk.now).written
+        (outside c.put_entry.new.desk).written)) text c.put_entry.ensures.err

@@ -11,6 +11,7 @@ abbrev pub invariant-loop-i : goal.invariant-loop-i
 invariant-loop-i g l =
     let outside = g.D.Desk.outside in
     record {
-      written : Gains (on Wire (packets_text (take l.i l.sender.packets))) (outside l.fn.desk).written (outside l.desk).written;
+      written : Gains (on Wire (packets_text (take l.i l.sender.packets))) (outside l.fn.desk).written
+          (outside l.desk).written;
       rest : OnlyWrites (outside l.fn.desk) (outside l.desk);
     }

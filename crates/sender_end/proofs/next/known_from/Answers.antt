@@ -18,7 +18,8 @@ numbers-preserved c =
       few = at_most l.count n c.counted-count.result c.counts.result l.invariant.few c.counted-count.ensures;
       low = omega (arith, l.invariant.low);
       counted = λ rules depth known stands near.
-          let here = c.counts.ensures rules c.args.sent depth known c.numbers-test.true (omega (arith, near, l.invariant.low)) stands in
+          let here = c.counts.ensures rules c.args.sent depth known c.numbers-test.true
+              (omega (arith, near, l.invariant.low)) stands in
           c.counted-count.ensures
           ∙ counts_one c.args.first c.args.floor n l.count known c.counts.result l.invariant.low (sym here)
           (l.invariant.counted rules depth known stands near);

@@ -7,14 +7,16 @@ use Rattle.sender_end.proofs.Choosing.{above_is, reference_parts}
 use Rattle.sender_end.proofs.next.next_from.Goals as goal
 
 -- what is known of the reference that was found
-parts : (c : goal.After-depth) → (rules : Rules) (depth : ℕ → ℕ) (known : ℕ → Bool) → SelectorStands rules c.args.pictures.now c.args.number depth known
+parts : (c : goal.After-depth) → (rules : Rules) (depth : ℕ → ℕ) (known : ℕ → Bool)
+    → SelectorStands rules c.args.pictures.now c.args.number depth known
     → (c.in-Some.m < c.args.number) × (c.args.number ≤ c.in-Some.m + window rules) × (depth c.in-Some.m < rules.chain)
 parts c rules depth known stands =
     reference_parts c.searches.ensures.greatest rules depth known c.args.number c.in-Some.m
     (above_is c.args.floor (reference_for rules depth known c.args.number) c.in-Some.m
     (sym c.in-Some.is ∙ c.above.ensures ∙ ap (from_floor c.args.floor) (c.choose.ensures rules depth known stands)))
 
-depth_is : (c : goal.After-depth) → (rules : Rules) (depth : ℕ → ℕ) (known : ℕ → Bool) → SelectorStands rules c.args.pictures.now c.args.number depth known
+depth_is : (c : goal.After-depth) → (rules : Rules) (depth : ℕ → ℕ) (known : ℕ → Bool)
+    → SelectorStands rules c.args.pictures.now c.args.number depth known
     → c.depth.result ≡ depth c.in-Some.m
 depth_is c rules depth known stands =
     let p = parts c rules depth known stands in

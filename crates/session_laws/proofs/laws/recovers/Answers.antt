@@ -11,5 +11,6 @@ returns-clause-counts c = each_counts
 pub returns-clause-due : goal.returns-clause-due
 returns-clause-due c = λ config past run shortest longest later before.
     let h = line_of run (session_run config past).follows.lines in
-    due_between c.recovers.ensures config.wait (next_in config h) shortest longest (arrivals_of (timed_in config h)) later
+    due_between c.recovers.ensures config.wait (next_in config h) shortest longest (arrivals_of (timed_in config h))
+        later
     before

@@ -8,7 +8,8 @@ use Rattle.slice_layer.proofs.reading.read_body.Given as goal
 -- the macroblocks so far, and that reading on from them gives what reading from the start gives
 abbrev pub invariant-mbs : goal.invariant-mbs
 invariant-mbs l =
-    IsSoFar l.header l.first l.initial.out (mbs_at (around l.header l.first) (mbs_of l.header.format - l.first) l.initial.quant [] l.initial.reader) l.at l.quant l.vectors l.out l.reader
+    IsSoFar l.header l.first l.initial.out (mbs_at (around l.header l.first) (mbs_of l.header.format - l.first)
+        l.initial.quant [] l.initial.reader) l.at l.quant l.vectors l.out l.reader
 
 abbrev pub decreases-mbs : goal.decreases-mbs
 decreases-mbs l = mbs_of l.header.format - l.at

@@ -18,7 +18,8 @@ returns-then-pass_skipped-clause-reads c = c.pass_skipped.ensures.skipped c.if-p
 pub returns-then-pass_skipped-clause-range : goal.returns-then-pass_skipped-clause-range
 returns-then-pass_skipped-clause-range c = record {
   in_range = tt;
-  of_kind = of_kind c.args.header.now.kind c.args.reader.now.bits (sym c.pass_skipped.ensures.value ∙ c.if-pass_skipped.true);
+  of_kind = of_kind c.args.header.now.kind c.args.reader.now.bits (sym c.pass_skipped.ensures.value
+      ∙ c.if-pass_skipped.true);
   reach = tt;
 }
 
@@ -26,4 +27,6 @@ pub returns-clause-range : goal.returns-clause-range
 returns-clause-range c =
     let a = c.args in
     let r = c.reach_of-reach in
-    next_within c.read_mb.result c.pass_skipped.new.reader c.read_mb.new.reader a.header.now a.next.at a.next.quant r.result c.predictor-predictor.result c.read_mb.new.out r.ensures.within c.read_mb.ensures.found (c.read_mb.ensures.range c.requires.quant)
+    next_within c.read_mb.result c.pass_skipped.new.reader c.read_mb.new.reader a.header.now a.next.at a.next.quant
+        r.result c.predictor-predictor.result c.read_mb.new.out r.ensures.within c.read_mb.ensures.found
+        (c.read_mb.ensures.range c.requires.quant)

@@ -5,7 +5,8 @@ use Rattle.h263_types.specs.Blocks.{IsDc, IsLevel, IsIntraBlock}
 use Rattle.test_fixtures.proofs.codec.intra_block.Goals as goal
 
 -- zeros with one level and INTRADC put in
-intra_block : (place : ℕ) (dc level : ℤ) → IsDc dc → IsLevel level → IsIntraBlock (record { levels = slice_set (slice_set (replicate 64 (pos 0)) (place + 1) level) 0 dc })
+intra_block : (place : ℕ) (dc level : ℤ) → IsDc dc → IsLevel level
+    → IsIntraBlock (record { levels = slice_set (slice_set (replicate 64 (pos 0)) (place + 1) level) 0 dc })
 intra_block place dc level hd hl =
     let none : IsLevel (pos 0) = record { low = omega (arith, ints); high = omega (arith, ints) } in
     let zeros = replicate 64 (pos 0) in
@@ -16,7 +17,8 @@ intra_block place dc level hd hl =
       dc = subst IsDc (sym (get_or-set_same inner 0 dc (pos 0) (omega arith))) hd;
       levels = λ k some below.
           let other : k ≢ 0 = omega arith in
-          subst IsLevel (sym (get_or-set_other inner 0 k dc (pos 0) other)) (All-get_or IsLevel inner k (pos 0) (omega arith) each);
+          subst IsLevel (sym (get_or-set_other inner 0 k dc (pos 0) other))
+              (All-get_or IsLevel inner k (pos 0) (omega arith) each);
     }
 
 pub returns : goal.returns

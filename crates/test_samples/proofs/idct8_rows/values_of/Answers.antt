@@ -12,5 +12,6 @@ loop-at-init c =
 pub loop-at-preserved : goal.loop-at-preserved
 loop-at-preserved c = (
   length-set c.loop-at.values c.loop-at.at _ ∙ c.loop-at.invariant.0,
-  All-set IsValue c.loop-at.values c.loop-at.at _ (record { low = omega (arith, ints); high = omega (arith, ints) }) c.loop-at.invariant.1,
+  All-set IsValue c.loop-at.values c.loop-at.at _ (record { low = omega (arith, ints); high = omega (arith, ints) })
+      c.loop-at.invariant.1,
 )

@@ -13,7 +13,8 @@ write_intra-requires-clause-room c =
     omega (arith, c.longest_text.ensures.intra c.args.block.now.levels long)
 
 pub write_inter-requires-clause-some : goal.write_inter-requires-clause-some
-write_inter-requires-clause-some c = left _ (sym (c.is_coded_by-coded.ensures c.args.block.now.levels c.marks.ensures.marks) ∙ c.if-coded.true)
+write_inter-requires-clause-some c =
+    left _ (sym (c.is_coded_by-coded.ensures c.args.block.now.levels c.marks.ensures.marks) ∙ c.if-coded.true)
 
 pub write_inter-requires-clause-room : goal.write_inter-requires-clause-room
 write_inter-requires-clause-room c =

@@ -9,7 +9,9 @@ abbrev pub invariant-loop-i : goal.invariant-loop-i
 invariant-loop-i g l =
     let outside = g.D.Desk.outside in
     record {
-      told : (left : List ℕ) → (outside l.fn.desk).left Video ≡ Some left → (take l.i l.line ++ line_within (length l.line - l.i) (drop l.i left) ≡ line_within (length l.line) left) × ((outside l.desk).left Video ≡ Some (drop l.i left));
+      told : (left : List ℕ) → (outside l.fn.desk).left Video ≡ Some left
+          → (take l.i l.line ++ line_within (length l.line - l.i) (drop l.i left) ≡ line_within (length l.line) left)
+          × ((outside l.desk).left Video ≡ Some (drop l.i left));
       free : (left : List ℕ) → (outside l.fn.desk).left Video ≡ Some left → NoNewline (take l.i left);
       others : (r : Role) → r ≢ Video → (outside l.desk).left r ≡ (outside l.fn.desk).left r;
       faults : (outside l.desk).faults ≡ (outside l.fn.desk).faults;

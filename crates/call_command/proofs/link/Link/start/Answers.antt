@@ -7,5 +7,6 @@ returns c = record {
   lines = c.new.ensures.lines;
   ended = c.new.ensures.ended;
   frame = search rules;
-  network_is = subst (λ (n : ℕ). IsNewNetwork c.args.terms.now.params n c.in_ok-start.field-0) c.kept.ensures c.in_ok-start.ensures;
+  network_is = subst (λ (n : ℕ). IsNewNetwork c.args.terms.now.params n c.in_ok-start.field-0) c.kept.ensures
+      c.in_ok-start.ensures;
 }

@@ -20,7 +20,8 @@ returns-in-Err-clause-answer c = λ past s.
     let old = c.args.self.now.rules.settings in let k = config_in old in let bytes = c.args.bytes.now in
     let then = at c.args.now (session_run k past) in
     let e = c.in-Err.ensures.exact
-    ∙ ap (λ (p : Params). seen_in p bytes) (c.params.ensures ∙ ap (λ (z : Settings). z.params) c.tick.ensures.settings) in
+    ∙ ap (λ (p : Params). seen_in p bytes) (c.params.ensures
+        ∙ ap (λ (z : Settings). z.params) c.tick.ensures.settings) in
     subst (λ (x : Result Seen Cause). IsVerdict old.params.clock c.drop_for.result.verdict
     (outcome_of_reading k x (renamed bytes) then)) e (ap (λ (a : Arrived). a.verdict) c.drop_for.ensures.answer)
 
@@ -29,7 +30,8 @@ returns-in-Err-clause-told c = λ past s.
     let old = c.args.self.now.rules.settings in let k = config_in old in let bytes = c.args.bytes.now in
     let then = at c.args.now (session_run k past) in
     let e = c.in-Err.ensures.exact
-    ∙ ap (λ (p : Params). seen_in p bytes) (c.params.ensures ∙ ap (λ (z : Settings). z.params) c.tick.ensures.settings) in
+    ∙ ap (λ (p : Params). seen_in p bytes) (c.params.ensures
+        ∙ ap (λ (z : Settings). z.params) c.tick.ensures.settings) in
     ap (λ (a : Arrived). a.is_rival) c.drop_for.ensures.answer
     ∙ ap (λ (x : Result Seen Cause). told_of_reading x then) e
 
@@ -38,7 +40,8 @@ returns-in-Err-clause-stands c = λ past s.
     let old = c.args.self.now.rules.settings in let k = config_in old in let bytes = c.args.bytes.now in
     let then = at c.args.now (session_run k past) in
     let e = c.in-Err.ensures.exact
-    ∙ ap (λ (p : Params). seen_in p bytes) (c.params.ensures ∙ ap (λ (z : Settings). z.params) c.tick.ensures.settings) in
+    ∙ ap (λ (p : Params). seen_in p bytes) (c.params.ensures
+        ∙ ap (λ (z : Settings). z.params) c.tick.ensures.settings) in
     settled c.drop_for.new.self old (Datagram bytes c.args.now) past
     (c.drop_for.ensures.settings ∙ c.tick.ensures.settings)
     (subst (λ (x : Result Seen Cause). StateStands c.drop_for.new.self (after_reading k x (renamed bytes) then)) e
@@ -49,13 +52,15 @@ returns-in-Ok-clause-answer c = λ past s.
     let old = c.args.self.now.rules.settings in let k = config_in old in let bytes = c.args.bytes.now in
     let then = at c.args.now (session_run k past) in
     let e = c.in-Ok.ensures.exact
-    ∙ ap (λ (p : Params). seen_in p bytes) (c.params.ensures ∙ ap (λ (z : Settings). z.params) c.tick.ensures.settings) in
+    ∙ ap (λ (p : Params). seen_in p bytes) (c.params.ensures
+        ∙ ap (λ (z : Settings). z.params) c.tick.ensures.settings) in
     let own = in_room (length bytes) c.args.self.now.room.items.len c.read.new.room
     (drop (length c.read.new.room) c.args.self.now.room.items.items) c.deref.result.now (renamed bytes)
     c.requires.room c.in-Ok.ensures.len c.deref.ensures.value c.in-Ok.ensures.own in
     let seen = c.in-Ok.seen in let t = taker_in seen then in let room = take (length bytes) c.deref.result.now in
     let verdict = c.follow.result.verdict in
-    subst (λ (x : Result Seen Cause). IsVerdict old.params.clock verdict (outcome_of_reading k x (renamed bytes) then)) e
+    subst (λ (x : Result Seen Cause). IsVerdict old.params.clock verdict (outcome_of_reading k x (renamed bytes) then))
+        e
     (subst (λ (o : List ℕ). IsVerdict old.params.clock verdict (outcome_of_seen k seen t o then)) own
     (subst (λ (z : Settings). IsVerdict z.params.clock verdict (outcome_of_seen (config_in z) seen t room then))
     c.tick.ensures.settings
@@ -66,7 +71,8 @@ returns-in-Ok-clause-told c = λ past s.
     let old = c.args.self.now.rules.settings in let k = config_in old in let bytes = c.args.bytes.now in
     let then = at c.args.now (session_run k past) in
     let e = c.in-Ok.ensures.exact
-    ∙ ap (λ (p : Params). seen_in p bytes) (c.params.ensures ∙ ap (λ (z : Settings). z.params) c.tick.ensures.settings) in
+    ∙ ap (λ (p : Params). seen_in p bytes) (c.params.ensures
+        ∙ ap (λ (z : Settings). z.params) c.tick.ensures.settings) in
     c.follow.ensures.told then (c.tick.ensures.stands (session_run k past) s)
     ∙ ap (λ (x : Result Seen Cause). told_of_reading x then) e
 
@@ -75,7 +81,8 @@ returns-in-Ok-clause-stands c = λ past s.
     let old = c.args.self.now.rules.settings in let k = config_in old in let bytes = c.args.bytes.now in
     let then = at c.args.now (session_run k past) in
     let e = c.in-Ok.ensures.exact
-    ∙ ap (λ (p : Params). seen_in p bytes) (c.params.ensures ∙ ap (λ (z : Settings). z.params) c.tick.ensures.settings) in
+    ∙ ap (λ (p : Params). seen_in p bytes) (c.params.ensures
+        ∙ ap (λ (z : Settings). z.params) c.tick.ensures.settings) in
     let own = in_room (length bytes) c.args.self.now.room.items.len c.read.new.room
     (drop (length c.read.new.room) c.args.self.now.room.items.items) c.deref.result.now (renamed bytes)
     c.requires.room c.in-Ok.ensures.len c.deref.ensures.value c.in-Ok.ensures.own in

@@ -1,3 +1,4 @@
+-- The made frame is the formula's, and the sender and the receiver hold the run so far.
 use Rattle.std.proofs.Common.{◌≡◌, ℕ, ◌<◌, List, [], length, Some, sym, ap, ◌∙◌, arith, Global}
 use Rattle.std.specs.Prelude.{slice_get}
 use Rattle.std.specs.declared.vec.Vec.{Vec}
@@ -29,7 +30,8 @@ returns-clause-ready c =
     let size = size_of_picture m.terms.params.format in
     record {
       params = r.params;
-      frame = ap (λ (l : List ℕ). length l) (with_items_is m.frame c.make_frame.new.bytes (omega (arith, c.make_frame.ensures.size, r.frame, m.frame.ok.0))) ∙ c.make_frame.ensures.size;
+      frame = ap (λ (l : List ℕ). length l) (with_items_is m.frame c.make_frame.new.bytes
+          (omega (arith, c.make_frame.ensures.size, r.frame, m.frame.ok.0))) ∙ c.make_frame.ensures.size;
       sender_params = sent.same.params ∙ r.sender_params;
       can = sent.ready;
       period = sent.kept ∙ r.period;
@@ -44,9 +46,11 @@ returns-clause-done c = λ past h near.
     let p = t.params in
     let s = m.both.sender in
     let bytes = c.make_frame.new.bytes in
-    let may = may_now t (c.near_event_laws.ensures p c.requires.ready.params) (steady_is p c.requires.ready.params) past Send near in
+    let may = may_now t (c.near_event_laws.ensures p c.requires.ready.params) (steady_is p c.requires.ready.params) past
+        Send near in
     let held : c.deref.result.now ≡ bytes =
-    lent m.frame bytes c.deref.result.now (size_of_picture p.format) c.deref.ensures.value c.make_frame.ensures.size (omega (arith, c.requires.ready.frame, m.frame.ok.0))
+    lent m.frame bytes c.deref.result.now (size_of_picture p.format) c.deref.ensures.value c.make_frame.ensures.size
+        (omega (arith, c.requires.ready.frame, m.frame.ok.0))
     in
     let shows : picture c.new-frame.result ≡ picture_with p.format (made_sample t.seed c.sent.result) =
     c.new-frame.ensures.picture ∙ ap (picture_of p.format) held ∙ c.make_frame.ensures.made
@@ -54,6 +58,7 @@ returns-clause-done c = λ past h near.
     let sent = (c.way_laws.ensures p).sent s m.both.receiver [] (made_video t) past h.way_holds.joined in
     let some : s.sent < length (made_video t) = omega (arith, sent, may.0) in
     let there : slice_get (made_video t) s.sent ≡ Some (bare (picture c.new-frame.result)) =
-    frame_is t s.sent some ∙ ap (λ (n : ℕ). Some (made_frame t n)) (sym c.sent.ensures.value) ∙ ap (λ (x : Picture). Some (bare x)) (sym shows)
+    frame_is t s.sent some ∙ ap (λ (n : ℕ). Some (made_frame t n)) (sym c.sent.ensures.value)
+        ∙ ap (λ (x : Picture). Some (bare x)) (sym shows)
     in
     c.send.ensures.holds p m.both.receiver [] (made_video t) past h there may

@@ -16,7 +16,8 @@ returns-clause-goes g c = λ inputs told.
     let t = c.args.setup.now in
     let both = c.in_ok-both.both in
     let ends = c.in_ok-both.ensures in
-    let m : Demo = record { terms = t; lines = c.new.result; both = both; network = c.in_ok-network.network; frame = c.in_ok-frame.frame } in
+    let m : Demo = record { terms = t; lines = c.new.result; both = both; network = c.in_ok-network.network;
+        frame = c.in_ok-frame.frame } in
     c.run_laws.ensures.begins m (demo_begin t inputs) demo_step (λ _. true) (most_turns t) inputs now now
     (ap (λ (l : List Line). length l) c.new.ensures)
     (record {
@@ -28,7 +29,8 @@ returns-clause-goes g c = λ inputs told.
         terms = refl;
         lines = sym c.new.ensures;
         ahead = refl;
-        done = (c.way_laws.ensures t.params).first c.period.result m.network both.sender both.receiver [] (made_video t) c.in_ok-network.ensures ends.sender_params ends.sends ends.receiver_params ends.receives;
+        done = (c.way_laws.ensures t.params).first c.period.result m.network both.sender both.receiver []
+            (made_video t) c.in_ok-network.ensures ends.sender_params ends.sends ends.receiver_params ends.receives;
       };
       whole = refl;
       left = c.turn_laws.ensures.no_byte now now inputs refl told;
@@ -40,12 +42,14 @@ returns-clause-ready g c =
     let t = c.args.setup.now in
     let both = c.in_ok-both.both in
     let ends = c.in_ok-both.ensures in
-    let m : Demo = record { terms = t; lines = c.new.result; both = both; network = c.in_ok-network.network; frame = c.in_ok-frame.frame } in
+    let m : Demo = record { terms = t; lines = c.new.result; both = both; network = c.in_ok-network.network;
+        frame = c.in_ok-frame.frame } in
     let new = subst (λ (n : ℕ). IsNewNetwork t.params n m.network) c.period.ensures c.in_ok-network.ensures in
     let long : length m.frame.items ≡ size_of_picture t.params.format = search rules in
     record {
       opens = c.requires;
-      ends = ready_first m (c.way_laws.ensures t.params) c.requires.params new long ends.sender_params ends.sends ends.quant ends.sent ends.played;
+      ends = ready_first m (c.way_laws.ensures t.params) c.requires.params new long ends.sender_params ends.sends
+          ends.quant ends.sent ends.played;
       in_place = first_in_place t both.sender.sent _ c.requires.frames ends.sent c.new.ensures;
       said = first_said t _ _ c.requires.frames new.said c.new.ensures;
       plays = first_plays t _ _ c.requires.frames ends.played c.new.ensures;
@@ -56,5 +60,6 @@ returns-in_err-both-clause-ends g c = λ inputs told.
     let now = g.D.Desk.outside c.args.arg3.now in
     let t = c.args.setup.now in
     let run = run_from (demo_begin t inputs) demo_step (most_turns t) inputs in
-    ends_starved c.from_residual-in_err-both.result OutOfMemory run inputs now.written now c.from_residual-in_err-both.ensures.1
+    ends_starved c.from_residual-in_err-both.result OutOfMemory run inputs now.written now
+        c.from_residual-in_err-both.ensures.1
     (c.run_laws.ensures.gives_up (demo_begin t inputs) demo_step (most_turns t) inputs now now OutOfMemory refl)

@@ -10,7 +10,8 @@ returns-clause-holds c = λ p run h. record {
   in_range = h.in_range;
   params = c.feedback-answer.ensures.params ∙ h.params;
   quant = ap (λ (s : SenderState FixedPace). s.pace.quant) c.feedback-answer.ensures.sender ∙ h.quant;
-  holds = subst (λ (q : Params). HoldsGroup c.feedback-answer.new.self (group_after_saying q c.args.place c.args.bytes.now run)) h.params
+  holds = subst (λ (q : Params). HoldsGroup c.feedback-answer.new.self
+      (group_after_saying q c.args.place c.args.bytes.now run)) h.params
       (c.feedback-answer.ensures.holds run h.holds);
   packets = h.packets;
   references = h.references;
@@ -20,4 +21,6 @@ returns-clause-holds c = λ p run h. record {
 }
 
 pub returns-clause-ready : goal.returns-clause-ready
-returns-clause-ready c = λ r. record { params = r.params; run = group_after_saying r.params c.args.place c.args.bytes.now r.run; holds = returns-clause-holds c r.params r.run r.holds }
+returns-clause-ready c = λ r. record { params = r.params;
+    run = group_after_saying r.params c.args.place c.args.bytes.now r.run;
+    holds = returns-clause-holds c r.params r.run r.holds }

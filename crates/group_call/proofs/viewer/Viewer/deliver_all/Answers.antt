@@ -15,7 +15,8 @@ packets-preserved c = record {
       let packets = packets_in p run.coded n in
       let next : suc i ≡ i + 1 = omega arith in
       subst (λ (k : ℕ). HoldsViewer p c.deliver.new.self (view_places p packets n k view)) next
-      (c.deliver.ensures.holds p run (view_places p packets n i view) cast among (c.packets.invariant.holds p run view cast among h));
+      (c.deliver.ensures.holds p run (view_places p packets n i view) cast among
+          (c.packets.invariant.holds p run view cast among h));
 }
 
 pub returns-clause-holds : goal.returns-clause-holds
@@ -25,4 +26,5 @@ returns-clause-holds c = λ p run view cast among h.
     let all : c.packets.place ≡ length packets =
     omega (arith, c.packets-test.false, c.packets.auto.place-end, c.count-count.ensures.packets p run cast among)
     in
-    subst (λ (k : ℕ). HoldsViewer p c.packets.self (view_places p packets n k view)) all (c.packets.invariant.holds p run view cast among h)
+    subst (λ (k : ℕ). HoldsViewer p c.packets.self (view_places p packets n k view)) all
+        (c.packets.invariant.holds p run view cast among h)

@@ -18,7 +18,8 @@ use Rattle.group_call.proofs.viewer.Viewer.play.Goals as goal
 pub returns-clause-mark : goal.returns-clause-mark
 returns-clause-mark c = λ p view h.
     let told =
-    subst (λ (q : Params). IsPlayed q.clock c.play-played.result (mark_after q view.entries) (message_after q view.entries)) h.params
+    subst (λ (q : Params). IsPlayed q.clock c.play-played.result (mark_after q view.entries)
+        (message_after q view.entries)) h.params
     (c.play-played.ensures.told view.entries h.receives)
     in
     told.mark_is
@@ -26,7 +27,8 @@ returns-clause-mark c = λ p view h.
 pub returns-clause-holds : goal.returns-clause-holds
 returns-clause-holds c = λ p view h.
     let told =
-    subst (λ (q : Params). IsPlayed q.clock c.play-played.result (mark_after q view.entries) (message_after q view.entries)) h.params
+    subst (λ (q : Params). IsPlayed q.clock c.play-played.result (mark_after q view.entries)
+        (message_after q view.entries)) h.params
     (c.play-played.ensures.told view.entries h.receives)
     in
     let run = run_of p view.entries in
@@ -36,7 +38,8 @@ returns-clause-holds c = λ p view h.
     c.play-played.ensures.run view.entries h.receives ∙ ap (λ (q : Params). (run_of q view.entries).played) h.params
     in
     let says : IsMessage p.clock c.as_bytes.result (message_after p view.entries) =
-    subst (λ (o : Option Said). IsMessage p.clock o (message_after p view.entries)) (sym c.as_bytes.ensures.same) told.message_is
+    subst (λ (o : Option Said). IsMessage p.clock o (message_after p view.entries)) (sym c.as_bytes.ensures.same)
+        told.message_is
     in
     let is : told_by c.play-played.result.number c.as_bytes.result ≡ said_at_play (coding p) (rules_of p) run =
     ap (λ (n : ℕ). told_by n c.as_bytes.result) number

@@ -9,7 +9,8 @@ returns c rules party stands =
       present = stands.present;
       since = stands.since;
       said = stands.said;
-      selects = c.coded.ensures rules (λ m. 0) stands.said refl (is_false (stands.said n) (λ t. let below : n < n = stands.were_sent n t in omega (arith, below))) stands.selects;
+      selects = c.coded.ensures rules (λ m. 0) stands.said refl (is_false (stands.said n) (λ t. let below : n < n =
+          stands.were_sent n t in omega (arith, below))) stands.selects;
       were_sent = λ m t. omega (arith, stands.were_sent m t);
       same = stands.same;
     }

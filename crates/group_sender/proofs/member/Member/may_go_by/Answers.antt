@@ -10,4 +10,5 @@ returns c rules sent party stands below last =
     c.knows.ensures rules sent (λ m. 0) stands.said below last stands.selects
     ∙ stands.same n low
     ∙ sym (ap (λ (b : Bool). b && is_among party.told n) (le-leb party.since n low))
-    ∙ sym (ap (λ (b : Bool). not b || (leb party.since n && is_among party.told n)) (sym stands.present ∙ c.if-not-self.false))
+    ∙ sym (ap (λ (b : Bool). not b || (leb party.since n && is_among party.told n)) (sym stands.present
+        ∙ c.if-not-self.false))

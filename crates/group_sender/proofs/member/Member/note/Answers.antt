@@ -24,7 +24,8 @@ pub returns-clause-said : goal.returns-clause-said
 returns-clause-said c rules party stands =
     let sent = c.args.sent in
     let numbers = known_by_feedback rules sent (Some (message_of c.args.message.now)) in
-    let some : 0 < rules.half = subst (λ (h : ℕ). 0 < h) (sym stands.selects.half) (some_half c.args.self.now.selector.clock) in
+    let some : 0 < rules.half = subst (λ (h : ℕ). 0 < h) (sym stands.selects.half)
+        (some_half c.args.self.now.selector.clock) in
     let here : party.present ≡ true = sym stands.present ∙ c.requires.present in
     let heard : Party = record party { told = numbers ++ party.told } in
     let stands_so : MemberStands rules (record (c.args.self.now) { selector = c.note.new.self }) sent heard = record {
@@ -32,7 +33,10 @@ returns-clause-said c rules party stands =
       since = stands.since;
       said = λ m. is_among numbers m || stands.said m;
       selects = c.note.ensures.known rules (λ m. 0) stands.said stands.selects;
-      were_sent = λ m is. either_below sent m (is_among numbers m) (stands.said m) is (said_below rules sent (message_of c.args.message.now) some m) (stands.were_sent m);
-      same = λ m late. ap (λ (b : Bool). is_among numbers m || b) (stands.same m late) ∙ sym (list_any-append (λ q. eqb q m) numbers party.told);
+      were_sent = λ m is. either_below sent m (is_among numbers m) (stands.said m) is
+          (said_below rules sent (message_of c.args.message.now) some m) (stands.were_sent m);
+      same = λ m late. ap (λ (b : Bool). is_among numbers m || b) (stands.same m late)
+          ∙ sym (list_any-append (λ q. eqb q m) numbers party.told);
     } in
-    subst (λ (b : Bool). MemberStands rules (record (c.args.self.now) { selector = c.note.new.self }) sent (if b then heard else party)) (sym here) stands_so
+    subst (λ (b : Bool). MemberStands rules (record (c.args.self.now) { selector = c.note.new.self }) sent
+        (if b then heard else party)) (sym here) stands_so

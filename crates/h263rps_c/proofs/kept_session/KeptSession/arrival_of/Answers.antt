@@ -12,8 +12,12 @@ returns-clause-answer c = λ s past held.
     let x = c.self.inside.session in let h = same x c.args.self.now s past c.self.view_is held in
     record {
       told = c.arrival_of.result;
-      is_verdict = by_settings (λ (s : Settings) (past : List Entry). IsVerdict s.params.clock c.arrival_of.result.verdict (outcome_of_one (config_in s) c.args.source c.args.bytes.now c.args.now (state_after s past))) x s past c.arrival_of.ensures.answer h;
-      is_rival = by_settings (λ (s : Settings) (past : List Entry). c.arrival_of.result.is_rival ≡ told_of_one (config_in s) c.args.source c.args.bytes.now c.args.now (state_after s past)) x s past c.arrival_of.ensures.told h;
+      is_verdict = by_settings (λ (s : Settings) (past : List Entry). IsVerdict s.params.clock
+          c.arrival_of.result.verdict (outcome_of_one (config_in s) c.args.source c.args.bytes.now c.args.now
+          (state_after s past))) x s past c.arrival_of.ensures.answer h;
+      is_rival = by_settings (λ (s : Settings) (past : List Entry). c.arrival_of.result.is_rival
+          ≡ told_of_one (config_in s) c.args.source c.args.bytes.now c.args.now (state_after s past)) x s past
+          c.arrival_of.ensures.told h;
       is_told = c.of.ensures;
     }
 

@@ -9,4 +9,5 @@ use Rattle.h263rps_c.proofs.kept_session.KeptSession.counts.Goals as goal
 pub returns : goal.returns
 returns c = λ s past held.
     let h = same c.self.inside.session c.args.self.now s past c.self.view_is held in
-    c.of.ensures ∙ ap counts_numbers (by_settings (λ (s : Settings) (past : List Entry). c.statistics.result ≡ (state_after s past).counts) c.self.inside.session s past c.statistics.ensures h)
+    c.of.ensures ∙ ap counts_numbers (by_settings (λ (s : Settings) (past : List Entry). c.statistics.result
+        ≡ (state_after s past).counts) c.self.inside.session s past c.statistics.ensures h)

@@ -25,7 +25,8 @@ returns-in-Some-clause-holds c = λ p receiver before frames past in_range paced
     ap (λ (l : List SaidMessage). slice_get l k) (sym said.same) ∙ told_at said.pairs k x at
     in
     record {
-      way_holds = c.bring_back.ensures.holds p c.args.self.now.way receiver before frames past k told paced h.way_holds now (sym c.text.ensures) near;
+      way_holds = c.bring_back.ensures.holds p c.args.self.now.way receiver before frames past k told paced h.way_holds
+          now (sym c.text.ensures) near;
       messages_are = said;
     }
 
@@ -40,8 +41,11 @@ returns-in_default-clause-holds c = λ p receiver before frames past in_range pa
     let k = c.args.k in
     let said = h.messages_are in
     let all = (both_after p (steady p) frames before past).said in
-    let long : length said.pairs ≡ length all = sym (as_many told_in said.pairs) ∙ ap (λ (l : List SaidMessage). length l) said.same in
-    let kept = message_kept p in_range (c.near_event_laws.ensures p in_range) c.args.self.now c.args.sender.now receiver before frames past begun h k near in
+    let long : length said.pairs ≡ length all = sym (as_many told_in said.pairs)
+        ∙ ap (λ (l : List SaidMessage). length l) said.same in
+    let kept = message_kept p in_range (c.near_event_laws.ensures p in_range) c.args.self.now c.args.sender.now receiver
+        before frames past begun h k near in
     let x = some_at said.pairs k (omega (arith, below all k near.0 near.1, long)) in
-    let here : message_at said.pairs k ≡ Some x.0 = ap (λ (b : Bool). if b then slice_get said.pairs k else None) (le-leb (length said.pairs) (k + 1024) kept) ∙ x.1 in
+    let here : message_at said.pairs k ≡ Some x.0 = ap (λ (b : Bool). if b then slice_get said.pairs k else None)
+        (le-leb (length said.pairs) (k + 1024) kept) ∙ x.1 in
     absurd (cc (c.in_default.is, here, c.get.ensures said.pairs said.holds))

@@ -9,6 +9,7 @@ returns-clause-holds c = λ p sender before frames past h among near.
     let told = c.deliver-told.ensures in
     record {
       way_holds = told.holds p sender before frames past h.way_holds among near;
-      messages_are = subst (λ (said : List SaidMessage). HasMessages c.keep_message.new.messages said) (sym (told.says p sender before frames past h.way_holds among))
+      messages_are = subst (λ (said : List SaidMessage). HasMessages c.keep_message.new.messages said)
+          (sym (told.says p sender before frames past h.way_holds among))
           (c.keep_message.ensures.kept (both_after p (steady p) frames before past).said h.messages_are);
     }

@@ -19,5 +19,6 @@ returns c = λ places longest sent held.
     record {
       most = held.most;
       count = length-set r.places.items place c.put.new.place ∙ held.count;
-      each = put_each r.places.items places longest place packet sent c.put.new.place held.count lower same kept c.put.ensures.items held.each;
+      each = put_each r.places.items places longest place packet sent c.put.new.place held.count lower same kept
+          c.put.ensures.items held.each;
     }

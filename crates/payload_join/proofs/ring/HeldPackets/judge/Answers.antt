@@ -10,8 +10,10 @@ returns-then-is_some-clause-answer c =
     sym (
     ap (λ (t : Packets). judged t.top t.packets sequence) (sym c.self.view_is)
     ∙ ap (λ (o : Option ℕ). judged o (packets_of s.region s.slots.items s.parts.items) sequence) c.in-Some.is
-    ∙ judged_again (packets_of s.region s.slots.items s.parts.items) c.in-Some.top sequence c.reach-reach.result c.reach-reach.ensures.exact c.if-reach-le32768.false c.if-reach-gt32768.false
-    (some_seen s.region s.slots.items s.parts.items sequence c.index.result.now c.self.invariant c.index.ensures ∙ sym c.is_some.ensures ∙ c.if-is_some.true)
+    ∙ judged_again (packets_of s.region s.slots.items s.parts.items) c.in-Some.top sequence c.reach-reach.result
+        c.reach-reach.ensures.exact c.if-reach-le32768.false c.if-reach-gt32768.false
+    (some_seen s.region s.slots.items s.parts.items sequence c.index.result.now c.self.invariant c.index.ensures
+        ∙ sym c.is_some.ensures ∙ c.if-is_some.true)
     )
 
 pub returns-clause-answer : goal.returns-clause-answer
@@ -20,21 +22,28 @@ returns-clause-answer c =
     sym (
     ap (λ (t : Packets). judged t.top t.packets sequence) (sym c.self.view_is)
     ∙ ap (λ (o : Option ℕ). judged o (packets_of s.region s.slots.items s.parts.items) sequence) c.in-Some.is
-    ∙ judged_fresh (packets_of s.region s.slots.items s.parts.items) c.in-Some.top sequence c.reach-reach.result c.reach-reach.ensures.exact c.if-reach-le32768.false c.if-reach-gt32768.false
-    (some_seen s.region s.slots.items s.parts.items sequence c.index.result.now c.self.invariant c.index.ensures ∙ sym c.is_some.ensures ∙ c.if-is_some.false)
+    ∙ judged_fresh (packets_of s.region s.slots.items s.parts.items) c.in-Some.top sequence c.reach-reach.result
+        c.reach-reach.ensures.exact c.if-reach-le32768.false c.if-reach-gt32768.false
+    (some_seen s.region s.slots.items s.parts.items sequence c.index.result.now c.self.invariant c.index.ensures
+        ∙ sym c.is_some.ensures ∙ c.if-is_some.false)
     )
 
 pub returns-in_default-clause-many : goal.returns-in_default-clause-many
-returns-in_default-clause-many c = let s = c.self.inside in many_places s.region s.slots.items s.parts.items s.top c.args.self.now c.self.invariant c.self.view_is
+returns-in_default-clause-many c = let s = c.self.inside in
+    many_places s.region s.slots.items s.parts.items s.top c.args.self.now c.self.invariant c.self.view_is
 
 pub returns-then-reach-le32768-clause-many : goal.returns-then-reach-le32768-clause-many
-returns-then-reach-le32768-clause-many c = let s = c.self.inside in many_places s.region s.slots.items s.parts.items s.top c.args.self.now c.self.invariant c.self.view_is
+returns-then-reach-le32768-clause-many c = let s = c.self.inside in
+    many_places s.region s.slots.items s.parts.items s.top c.args.self.now c.self.invariant c.self.view_is
 
 pub returns-then-reach-gt32768-clause-many : goal.returns-then-reach-gt32768-clause-many
-returns-then-reach-gt32768-clause-many c = let s = c.self.inside in many_places s.region s.slots.items s.parts.items s.top c.args.self.now c.self.invariant c.self.view_is
+returns-then-reach-gt32768-clause-many c = let s = c.self.inside in
+    many_places s.region s.slots.items s.parts.items s.top c.args.self.now c.self.invariant c.self.view_is
 
 pub returns-then-is_some-clause-many : goal.returns-then-is_some-clause-many
-returns-then-is_some-clause-many c = let s = c.self.inside in many_places s.region s.slots.items s.parts.items s.top c.args.self.now c.self.invariant c.self.view_is
+returns-then-is_some-clause-many c = let s = c.self.inside in
+    many_places s.region s.slots.items s.parts.items s.top c.args.self.now c.self.invariant c.self.view_is
 
 pub returns-clause-many : goal.returns-clause-many
-returns-clause-many c = let s = c.self.inside in many_places s.region s.slots.items s.parts.items s.top c.args.self.now c.self.invariant c.self.view_is
+returns-clause-many c = let s = c.self.inside in
+    many_places s.region s.slots.items s.parts.items s.top c.args.self.now c.self.invariant c.self.view_is

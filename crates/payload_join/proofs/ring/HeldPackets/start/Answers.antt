@@ -11,7 +11,8 @@ invariant_of-result c =
     let z : c.in-Ok.region ≡ zeros 65 65535 = c.in-Ok.ensures in
     let none : c.in_ok-parts.parts.items ≡ replicate 64 None = c.in_ok-parts.ensures.items in
     let e = c.claim_all.ensures in
-    ring_claimed c.in-Ok.region c.claim_all.new.region c.claim_all.new.slots.items z e.held e.all e.size e.bytes e.count c.in_ok-parts.parts.items none
+    ring_claimed c.in-Ok.region c.claim_all.new.region c.claim_all.new.slots.items z e.held e.all e.size e.bytes e.count
+        c.in_ok-parts.parts.items none
 
 pub returns-in-Ok : goal.returns-in-Ok
 returns-in-Ok c =
@@ -21,5 +22,6 @@ returns-in-Ok c =
     let many : length c.claim_all.new.slots.items ≡ 65 = e.all ∙ ap count_of z ∙ length-replicate 65 false in
     record {
       top = refl;
-      packets = ap (packets_of c.claim_all.new.region c.claim_all.new.slots.items) none ∙ none_are c.claim_all.new.region c.claim_all.new.slots.items 64 (omega arith);
+      packets = ap (packets_of c.claim_all.new.region c.claim_all.new.slots.items) none
+          ∙ none_are c.claim_all.new.region c.claim_all.new.slots.items 64 (omega arith);
     }

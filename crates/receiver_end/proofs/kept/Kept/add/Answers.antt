@@ -1,3 +1,4 @@
+-- The slice's samples are drawn and its macroblocks are taken; all others stay.
 use Rattle.std.proofs.Common.{◌≡◌, ℕ, ◌-◌, ◌%◌, List, ◌∷◌, length, get_or, Option, Some, None, refl, ap, sym, ◌∙◌, subst}
 use Rattle.packet_collector.specs.Taken.{Taken}
 use Rattle.receiver_end.proofs.Adding.{header_now, has_now, header_still, has_still}
@@ -15,7 +16,9 @@ returns-clause-fits c =
       collected = c.add.ensures.same.format ∙ q.collected;
       row = c.add.ensures.same.many ∙ q.row;
       few = q.few;
-      exact = λ e. ((q.exact e).0, subst (λ (l : List (Option ℕ)). get_or l ((c.args.self.now.played - 1) % length l) None ≡ Some (c.args.self.now.played - 1)) (sym c.draw.ensures.rest.numbers) (q.exact e).1);
+      exact = λ e. ((q.exact e).0,
+          subst (λ (l : List (Option ℕ)). get_or l ((c.args.self.now.played - 1) % length l) None
+          ≡ Some (c.args.self.now.played - 1)) (sym c.draw.ensures.rest.numbers) (q.exact e).1);
       taken = t ∷ q.taken;
       collects = c.add.ensures.taken c.args.self.now.played q.taken q.collects;
     }
@@ -32,11 +35,15 @@ returns-clause-added c =
         store = c.draw.ensures.rest;
         whole = c.draw.ensures.whole;
         sets = c.draw.ensures.sets;
-        header = header_now r.params.format r.collector c.add.new.self r.played q.taken t q.collects after c.add.ensures.same q.collected n refl c.requires.fresh.1.row;
-        has = λ k lt. has_now r.params.format r.collector c.add.new.self r.played q.taken t q.collects after c.add.ensures.same q.collected n k refl c.requires.fresh.1.row lt;
+        header = header_now r.params.format r.collector c.add.new.self r.played q.taken t q.collects after
+            c.add.ensures.same q.collected n refl c.requires.fresh.1.row;
+        has = λ k lt. has_now r.params.format r.collector c.add.new.self r.played q.taken t q.collects after
+            c.add.ensures.same q.collected n k refl c.requires.fresh.1.row lt;
         rows = λ m is ne. (
-          header_still r.params.format r.collector c.add.new.self r.played q.taken t q.collects after c.add.ensures.same q.collected m (λ e. ne (sym e)) is,
-          λ k lt. has_still r.params.format r.collector c.add.new.self r.played q.taken t q.collects after c.add.ensures.same q.collected m k (λ e. ne (sym e)) is lt,
+          header_still r.params.format r.collector c.add.new.self r.played q.taken t q.collects after c.add.ensures.same
+              q.collected m (λ e. ne (sym e)) is,
+          λ k lt. has_still r.params.format r.collector c.add.new.self r.played q.taken t q.collects after
+              c.add.ensures.same q.collected m k (λ e. ne (sym e)) is lt,
         );
       },
     )

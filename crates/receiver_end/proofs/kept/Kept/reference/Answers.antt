@@ -11,10 +11,12 @@ use Rattle.receiver_end.proofs.kept.Kept.reference.Goals as goal
 
 -- the reference that a header names, if there is one
 abbrev named_in : Kept → Option Header → Option ℕ
-named_in r o = option_and_then (reference_in (decoding r.params.format) (rules_of r.params) r.played) (option_map header_of o)
+named_in r o = option_and_then (reference_in (decoding r.params.format) (rules_of r.params) r.played)
+    (option_map header_of o)
 
 pub returns-in-None : goal.returns-in-None
 returns-in-None c = ap (named_in c.args.self.now) (sym c.in-None.is ∙ c.header.ensures)
 
 pub returns-in-Some : goal.returns-in-Some
-returns-in-Some c = c.named.ensures c.args.self.now.params refl ∙ ap (named_in c.args.self.now) (sym c.in-Some.is ∙ c.header.ensures)
+returns-in-Some c = c.named.ensures c.args.self.now.params refl ∙ ap (named_in c.args.self.now) (sym c.in-Some.is
+    ∙ c.header.ensures)

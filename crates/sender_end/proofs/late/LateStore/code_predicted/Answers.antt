@@ -28,7 +28,8 @@ module _ (c : goal.After-self-1) where
   numbers_are = ap (λ (x : LatePictures). x.store.numbers) c.self.view_is ∙ c.draw.ensures.same.numbers
 
   format_is : c.self.inside.store.format ≡ c.args.params.now.format
-  format_is = ap (λ (x : LatePictures). x.store.format) c.self.view_is ∙ c.draw.ensures.same.format ∙ c.requires.store_format
+  format_is = ap (λ (x : LatePictures). x.store.format) c.self.view_is ∙ c.draw.ensures.same.format
+      ∙ c.requires.store_format
 
   abbrev slot : ℕ
   slot = slot_of c.self.inside.store c.args.reference
@@ -46,16 +47,19 @@ module _ (c : goal.After-self-1) where
   none = (λ i. quant_at ((c.self.view_is i).quants) (length (numbers_are i))) ∙ c.draw.ensures.work
 
   -- the reference that is lent is the kept picture
-  reference_is : picture c.new-kept.result ≡ picture_in c.args.self.now.store (slot_of c.args.self.now.store c.args.reference)
+  reference_is : picture c.new-kept.result
+      ≡ picture_in c.args.self.now.store (slot_of c.args.self.now.store c.args.reference)
   reference_is =
       c.new-kept.ensures.picture
       ∙ ap (λ (f : Format). picture_of f c.pair-work.result.0.now) (sym format_is) ∙ c.pair-work.ensures.reference
-      ∙ sym (seen_drawn quants c.self.inside.store slot (omega (arith, slot_low, c.self.invariant.late.works)) slot_drawn)
+      ∙ sym (seen_drawn quants c.self.inside.store slot (omega (arith, slot_low, c.self.invariant.late.works))
+          slot_drawn)
       ∙ (λ i. picture_in ((c.self.view_is i).store) (slot_is i))
       ∙ c.draw.ensures.same.others (slot_of c.args.self.now.store c.args.reference)
       (omega (arith, slot_low, slot_is, ap (λ (l : List (Option ℕ)). length l) numbers_are))
 
-  lent : IsCodedInto c.self.inside.store (with_work c.self.inside.store 0 bytes) (picture_of c.self.inside.store.format bytes)
+  lent : IsCodedInto c.self.inside.store (with_work c.self.inside.store 0 bytes)
+      (picture_of c.self.inside.store.format bytes)
   lent =
       let long : length bytes ≡ size_of_picture c.self.inside.store.format = search rules in
       coded_into c.self.inside.store bytes _ long (omega (arith, c.self.invariant.late.works)) refl
@@ -68,7 +72,8 @@ invariant_of-self c =
     record {
       late =
           subst (λ (l : List ℕ). AreLate l new) (set_same (quants c) (slots_of s.store) 0 (none c))
-          (late_with (quants c) 0 s.store new c.self.invariant.late coded.numbers coded.pictures coded.others (λ some. absurd (omega (arith, some))));
+          (late_with (quants c) 0 s.store new c.self.invariant.late coded.numbers coded.pictures coded.others
+              (λ some. absurd (omega (arith, some))));
       drawn = c.self.invariant.drawn;
     }
 
@@ -76,7 +81,8 @@ pub returns-clause-packets : goal.returns-clause-packets
 returns-clause-packets c =
     let p = c.args.params.now in
     let h = c.args.header.now in
-    subst (λ (q : Picture). ArePacketsOf c.args.number (sequence_of c.args.cutter.now) h p.limit (choices_of (picture c.args.frame) (Some q) h p) (packets_of c.code_into.new.cutter))
+    subst (λ (q : Picture). ArePacketsOf c.args.number (sequence_of c.args.cutter.now) h p.limit
+        (choices_of (picture c.args.frame) (Some q) h p) (packets_of c.code_into.new.cutter))
     (reference_is c) c.code_into.ensures.packets
 
 pub returns-clause-store : goal.returns-clause-store
@@ -87,11 +93,15 @@ returns-clause-store c =
     let start = c.args.self.now.store in
     let raw = picture_of s.store.format (bytes c) in
     let new = with_work s.store 0 (bytes c) in
-    let shown : Picture → Picture = λ q. reconstruction p.format h.rounding (Some q) (choices_of (picture c.args.frame) (Some q) h p) in
+    let shown : Picture → Picture = λ q. reconstruction p.format h.rounding (Some q)
+        (choices_of (picture c.args.frame) (Some q) h p) in
     let is = shown (picture_in start (slot_of start c.args.reference)) in
-    let kept : AreKeptAs start (store_once_drawn (quants c) s.store) = subst (λ (x : LatePictures). AreKeptAs start x.store) (sym c.self.view_is) c.draw.ensures.same in
+    let kept : AreKeptAs start (store_once_drawn (quants c) s.store) =
+        subst (λ (x : LatePictures). AreKeptAs start x.store) (sym c.self.view_is) c.draw.ensures.same in
     let drawn : once_drawn 0 raw ≡ is =
-    drawn_already 0 raw refl ∙ ap (λ (f : Format). picture_of f (bytes c)) (format_is c) ∙ c.code_into.ensures.reconstruction ∙ ap shown (reference_is c)
+    drawn_already 0 raw refl ∙ ap (λ (f : Format). picture_of f (bytes c)) (format_is c)
+        ∙ c.code_into.ensures.reconstruction ∙ ap shown (reference_is c)
     in
-    subst (λ (l : List ℕ). IsCodedInto start (store_once_drawn l new) is) (set_same (quants c) (slots_of s.store) 0 (none c))
+    subst (λ (l : List ℕ). IsCodedInto start (store_once_drawn l new) is) (set_same (quants c) (slots_of s.store) 0
+        (none c))
     (coded_as start (quants c) 0 s.store new raw is c.self.invariant.late kept (lent c) drawn)

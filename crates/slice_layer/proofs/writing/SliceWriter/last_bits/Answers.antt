@@ -7,4 +7,5 @@ use Rattle.slice_layer.proofs.writing.SliceWriter.last_bits.Goals as goal
 pub returns-clause-bits : goal.returns-clause-bits
 returns-clause-bits c =
     let w = c.args.self.now in
-    last_again w.bytes.now w.len c.peek-number.result w.inside (c.peek-number.ensures.value ∙ ap (λ (b : Bits). number (take (w.len % 8) b.bits)) c.new.ensures.bits)
+    last_again w.bytes.now w.len c.peek-number.result w.inside (c.peek-number.ensures.value
+        ∙ ap (λ (b : Bits). number (take (w.len % 8) b.bits)) c.new.ensures.bits)

@@ -9,5 +9,6 @@ returns-in-Ok c = record {
   params = λ y. c.args.params.now;
   party = A;
   ways = no_runs;
-  holds = (c.pair_laws.ensures (λ y. c.args.params.now)).first A c.in_ok-a.a c.in-Ok.b (λ y. c.requires) refl c.in_ok-a.ensures c.in-Ok.ensures;
+  holds = (c.pair_laws.ensures (λ y. c.args.params.now)).first A c.in_ok-a.a c.in-Ok.b (λ y. c.requires)
+      refl c.in_ok-a.ensures c.in-Ok.ensures;
 }
