@@ -71,7 +71,7 @@ module _ (p : Params) where
   minds_are [] past = refl
   minds_are (x ∷ more) past =
       ap (λ (s : AuditState). mind_after audit_rules s more) (mind_is past x.entry x.bytes)
-          ∙ minds_are more (judged_as x.entry x.bytes ∷ past)
+      ∙ minds_are more (judged_as x.entry x.bytes ∷ past)
 
   quiet : (s : AuditState) (e : Entry) (bytes : List ℕ) → text_with audit_rules s e bytes Report ≡ []
   quiet s (Packet len) bytes = refl
@@ -83,7 +83,7 @@ module _ (p : Params) where
   all_quiet [] s = refl
   all_quiet (x ∷ more) s =
       ap (λ (l : List ℕ). l ++ text_after audit_rules (mind_with audit_rules s x.entry x.bytes) more Report)
-          (quiet s x.entry x.bytes)
+      (quiet s x.entry x.bytes)
       ∙ all_quiet more (mind_with audit_rules s x.entry x.bytes)
 
   turn_count : (found : List Found) (s : AuditState) → length (turns_over audit_rules s found) ≡ length found
@@ -117,8 +117,8 @@ module _ (p : Params) where
     report_is =
         f.texts Report
         ∙ ap (λ (l : List ℕ). l ++ told run.last.status
-            (audit_rules.end_text (mind_after audit_rules (nothing_sent p) f.accepted) Report))
-            (all_quiet f.accepted (nothing_sent p))
+        (audit_rules.end_text (mind_after audit_rules (nothing_sent p) f.accepted) Report))
+        (all_quiet f.accepted (nothing_sent p))
         ∙ ap (λ (s : AuditState). told run.last.status (audit_rules.end_text s Report)) minds
 
     few : length past ≤ 16777216
@@ -140,6 +140,6 @@ module _ (p : Params) where
       report = report_is;
       verdict = λ v small same.
           let told_as = by_fault fault v small (ap (λ (s : Status). told s (verdict_line (verdict_on p past)))
-              (sym whole.1) ∙ sym report_is ∙ same) in
+          (sym whole.1) ∙ sym report_is ∙ same) in
           (whole.1 ∙ told_as.0, told_as.1);
     }

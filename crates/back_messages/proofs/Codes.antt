@@ -26,7 +26,7 @@ first_number type urf tr marker rtr = type * 2 ^ 22 + urf * 2 ^ 21 + tr * 2 ^ 11
 -- and its bits
 pub first_number_text : (type urf tr marker rtr : ℕ) → type < 4 → urf < 2 → tr < 2 ^ 10 → marker < 2 → rtr < 2 ^ 10
     → spelled 24 (first_number type urf tr marker rtr)
-        ≡ fields ((2, type) ∷ (1, urf) ∷ (10, tr) ∷ (1, marker) ∷ (10, rtr) ∷ [])
+    ≡ fields ((2, type) ∷ (1, urf) ∷ (10, tr) ∷ (1, marker) ∷ (10, rtr) ∷ [])
 first_number_text type urf tr marker rtr k u t m r =
     let low : ℕ = tr * 2 ^ 11 + (marker * 2 ^ 10 + rtr) in
     let whole : first_number type urf tr marker rtr ≡ type * 2 ^ 22 + (urf * 2 ^ 21 + low) = omega arith in
@@ -139,7 +139,7 @@ pub record IsValue (clock : Clock) (n : ℕ) (m : Message) : Type 0 where
 value_is : (clock : Clock) (long : Bool) (type urf tr marker rtr n : ℕ) (marks : Option ℕ)
     → IsFaultless clock long type urf tr marker rtr → urf ≡ urf_of marks → AreMarks marks → type < 4 → marker < 2
     → type * 2 ^ 22 + urf * 2 ^ 21 + tr * 2 ^ 11 + marker * 2 ^ 10 + rtr ≡ n
-        → IsValue clock n (value_of type tr rtr marks)
+    → IsValue clock n (value_of type tr rtr marks)
 value_is clock long type urf tr marker rtr n marks f u are t k e = at_type (type == 2) refl
   where
     one : marker ≡ 1
@@ -173,7 +173,7 @@ faultless_value clock long n marks h e a are =
     let f = faultless clock long (n / 2 ^ 22) (n / 2 ^ 21 % 2) (n / 2 ^ 11 % 2 ^ 10) (n / 2 ^ 10 % 2) (n % 2 ^ 10) e in
     let u = urf_agrees long (n / 2 ^ 21 % 2) marks (omega arith) f.length a in
     value_is clock long (n / 2 ^ 22) (n / 2 ^ 21 % 2) (n / 2 ^ 11 % 2 ^ 10) (n / 2 ^ 10 % 2) (n % 2 ^ 10) n marks f u
-        are (omega arith) (omega arith) (omega arith)
+    are (omega arith) (omega arith) (omega arith)
 
 pub fault_length : (clock : Clock) (long : Bool) (n : ℕ) → message_fault clock long n ≡ None → long ≡ is_long n
 unfolding message_fault
@@ -221,8 +221,13 @@ pub record HasParts (n type urf tr rtr : ℕ) : Type 0 where
 
 parts : (type urf tr rtr : ℕ) → type < 4 → urf < 2 → tr < 2 ^ 10 → rtr < 2 ^ 10
     → HasParts (code_from type urf tr rtr) type urf tr rtr
-parts type urf tr rtr k u t r = record { type_is = omega arith; urf_is = omega arith; tr_is = omega arith;
-    marker_is = omega arith; rtr_is = omega arith }
+parts type urf tr rtr k u t r = record {
+  type_is = omega arith;
+  urf_is = omega arith;
+  tr_is = omega arith;
+  marker_is = omega arith;
+  rtr_is = omega arith;
+}
 
 fault_parts : (clock : Clock) (long : Bool) (n type urf tr rtr : ℕ) → HasParts n type urf tr rtr
     → message_fault clock long n ≡ fault_of clock long type urf tr 1 rtr
@@ -243,13 +248,17 @@ pub code_is : (clock : Clock) (m : Message) → IsMessage clock m → IsCode clo
 code_is clock (Ack tr marks) h =
     let t = period_low clock tr h.0 in
     let p = parts 3 (urf_of marks) tr tr (omega arith) (urf_low marks) t t in
-    record { free = fault_parts clock _ _ 3 (urf_of marks) tr tr p ∙ ack_free clock tr marks h.0;
-        value = value_parts _ 3 (urf_of marks) tr tr marks p }
+    record {
+      free = fault_parts clock _ _ 3 (urf_of marks) tr tr p ∙ ack_free clock tr marks h.0;
+      value = value_parts _ 3 (urf_of marks) tr tr marks p;
+    }
 code_is clock (Nack tr rtr marks) h =
     let p = parts 2 (urf_of marks) tr rtr (omega arith) (urf_low marks) (period_low clock tr h.0)
-        (period_low clock rtr h.1) in
-    record { free = fault_parts clock _ _ 2 (urf_of marks) tr rtr p ∙ nack_free clock tr rtr marks h.0 h.1;
-        value = value_parts _ 2 (urf_of marks) tr rtr marks p }
+    (period_low clock rtr h.1) in
+    record {
+      free = fault_parts clock _ _ 2 (urf_of marks) tr rtr p ∙ nack_free clock tr rtr marks h.0 h.1;
+      value = value_parts _ 2 (urf_of marks) tr rtr marks p;
+    }
 
 pub range_marks : (clock : Clock) (m : Message) → IsMessage clock m → AreMarks (marks_of m)
 range_marks clock (Ack tr marks) h = h.1

@@ -29,10 +29,10 @@ number_holds : (f : First) (bits : List Bool) → Holds bits f
 number_holds f bits h =
     let n = first_number f.type f.urf f.tr f.marker f.rtr in
     let text : bits ≡ spelled 24 n = h.text
-        ∙ sym (first_number_text f.type f.urf f.tr f.marker f.rtr h.type_small h.urf_small h.tr_small h.marker_small
-        h.rtr_small) in
+    ∙ sym (first_number_text f.type f.urf f.tr f.marker f.rtr h.type_small h.urf_small h.tr_small h.marker_small
+    h.rtr_small) in
     let small : n < 2 ^ 24 = below f.type f.urf f.tr f.marker f.rtr h.type_small h.urf_small h.tr_small h.marker_small
-        h.rtr_small in
+    h.rtr_small in
     ap number text ∙ number-spelled 24 n ∙ mod-eq_of_lt small
   where
     below : (type urf tr marker rtr : ℕ) → type < 4 → urf < 2 → tr < 1024 → marker < 2 → rtr < 1024
@@ -45,21 +45,63 @@ fault_holds : (clock : Clock) (is_long : Bool) (f : First) (bits : List Bool) �
 unfolding message_fault
 fault_holds clock is_long f bits h =
     let e = number_holds f bits h in
-    let type : number bits / 2 ^ 22 ≡ f.type = omega (arith, e, h.type_small, h.urf_small, h.tr_small, h.marker_small,
-        h.rtr_small) in
-    let urf : number bits / 2 ^ 21 % 2 ≡ f.urf = omega (arith, e, h.type_small, h.urf_small, h.tr_small, h.marker_small,
-        h.rtr_small) in
-    let tr : number bits / 2 ^ 11 % 2 ^ 10 ≡ f.tr = omega (arith, e, h.type_small, h.urf_small, h.tr_small,
-        h.marker_small, h.rtr_small) in
-    let marker : number bits / 2 ^ 10 % 2 ≡ f.marker = omega (arith, e, h.type_small, h.urf_small, h.tr_small,
-        h.marker_small, h.rtr_small) in
-    let rtr : number bits % 2 ^ 10 ≡ f.rtr = omega (arith, e, h.type_small, h.urf_small, h.tr_small, h.marker_small,
-        h.rtr_small) in
+    let type : number bits / 2 ^ 22 ≡ f.type = omega (
+      arith,
+      e,
+      h.type_small,
+      h.urf_small,
+      h.tr_small,
+      h.marker_small,
+      h.rtr_small,
+    ) in
+    let urf : number bits / 2 ^ 21 % 2 ≡ f.urf = omega (
+      arith,
+      e,
+      h.type_small,
+      h.urf_small,
+      h.tr_small,
+      h.marker_small,
+      h.rtr_small,
+    ) in
+    let tr : number bits / 2 ^ 11 % 2 ^ 10 ≡ f.tr = omega (
+      arith,
+      e,
+      h.type_small,
+      h.urf_small,
+      h.tr_small,
+      h.marker_small,
+      h.rtr_small,
+    ) in
+    let marker : number bits / 2 ^ 10 % 2 ≡ f.marker = omega (
+      arith,
+      e,
+      h.type_small,
+      h.urf_small,
+      h.tr_small,
+      h.marker_small,
+      h.rtr_small,
+    ) in
+    let rtr : number bits % 2 ^ 10 ≡ f.rtr = omega (
+      arith,
+      e,
+      h.type_small,
+      h.urf_small,
+      h.tr_small,
+      h.marker_small,
+      h.rtr_small,
+    ) in
     rw (type, urf, tr, marker, rtr) refl
 
 urf_holds : (f : First) (bits : List Bool) → Holds bits f → number bits / 2 ^ 21 % 2 ≡ f.urf
-urf_holds f bits h = omega (arith, number_holds f bits h, h.type_small, h.urf_small, h.tr_small, h.marker_small,
-    h.rtr_small)
+urf_holds f bits h = omega (
+  arith,
+  number_holds f bits h,
+  h.type_small,
+  h.urf_small,
+  h.tr_small,
+  h.marker_small,
+  h.rtr_small,
+)
 
 -- the fields of 24 bits
 record AreFirst (bits : List Bool) : Type 0 where
@@ -71,10 +113,15 @@ first_of bits len =
     let n = number bits in
     let small = number_small 24 bits len in
     let whole : n ≡ first_number (n / 2 ^ 22) (n / 2 ^ 21 % 2) (n / 2 ^ 11 % 2 ^ 10) (n / 2 ^ 10 % 2) (n % 2 ^ 10) =
-        omega arith in
+    omega arith in
     record {
-      fields = record { type = n / 2 ^ 22; urf = n / 2 ^ 21 % 2; tr = n / 2 ^ 11 % 2 ^ 10; marker = n / 2 ^ 10 % 2;
-          rtr = n % 2 ^ 10 };
+      fields = record {
+        type = n / 2 ^ 22;
+        urf = n / 2 ^ 21 % 2;
+        tr = n / 2 ^ 11 % 2 ^ 10;
+        marker = n / 2 ^ 10 % 2;
+        rtr = n % 2 ^ 10;
+      };
       holds = record {
         type_small = omega arith;
         urf_small = omega arith;
@@ -101,26 +148,51 @@ unlike false u small other = rw (eq-eqb u 1 (omega (arith, small, other))) refl
 from_first : (clock : Clock) (is_long : Bool) (f : First) (fault : MessageFault) → f.urf < 2
     → HasFirst clock is_long f fault → fault_of clock is_long f.type f.urf f.tr f.marker f.rtr ≡ Some fault
 from_first clock is_long f fault small (wrong_kind lt) = rw (lt-ltb f.type 2 lt) refl
-from_first clock is_long f fault small (other_urf high other) = rw (le-ltb f.type 2 high,
-    unlike is_long f.urf small other) refl
-from_first clock is_long f fault small (high_tr high is past) = rw (le-ltb f.type 2 high, alike is_long f.urf is,
-    le-leb (period_of clock) f.tr past) refl
-from_first clock is_long f fault small (zero_marker high is low none) = rw (le-ltb f.type 2 high,
-    alike is_long f.urf is, lt-leb (period_of clock) f.tr low, eq-eqb f.marker 0 none) refl
+from_first clock is_long f fault small (other_urf high other) = rw (
+  le-ltb f.type 2 high,
+  unlike is_long f.urf small other,
+) refl
+from_first clock is_long f fault small (high_tr high is past) = rw (
+  le-ltb f.type 2 high,
+  alike is_long f.urf is,
+  le-leb (period_of clock) f.tr past,
+) refl
+from_first clock is_long f fault small (zero_marker high is low none) = rw (
+  le-ltb f.type 2 high,
+  alike is_long f.urf is,
+  lt-leb (period_of clock) f.tr low,
+  eq-eqb f.marker 0 none,
+) refl
 from_first clock is_long f fault small (high_rtr high is low one past) =
-    rw (le-ltb f.type 2 high, alike is_long f.urf is, lt-leb (period_of clock) f.tr low,
-        ne_eqb f.marker 0 (λ z. omega (arith, one, z)), le-leb (period_of clock) f.rtr past) refl
+    rw (
+      le-ltb f.type 2 high,
+      alike is_long f.urf is,
+      lt-leb (period_of clock) f.tr low,
+      ne_eqb f.marker 0 (λ z. omega (arith, one, z)),
+      le-leb (period_of clock) f.rtr past,
+    ) refl
 from_first clock is_long f fault small (other_pair is low one low2 three other) =
-    rw (le-ltb f.type 2 (omega (arith, three)), alike is_long f.urf is, lt-leb (period_of clock) f.tr low,
-        ne_eqb f.marker 0 (λ z. omega (arith, one, z)), lt-leb (period_of clock) f.rtr low2, eq-eqb f.type 3 three,
-        ne_eqb f.tr f.rtr other) refl
+    rw (
+      le-ltb f.type 2 (omega (arith, three)),
+      alike is_long f.urf is,
+      lt-leb (period_of clock) f.tr low,
+      ne_eqb f.marker 0 (λ z. omega (arith, one, z)),
+      lt-leb (period_of clock) f.rtr low2,
+      eq-eqb f.type 3 three,
+      ne_eqb f.tr f.rtr other,
+    ) refl
 
 right_first : (clock : Clock) (is_long : Bool) (f : First) → IsRight clock is_long f
     → fault_of clock is_long f.type f.urf f.tr f.marker f.rtr ≡ None
 right_first clock is_long f r =
-    rw (le-ltb f.type 2 r.type_high, alike is_long f.urf r.urf_is, lt-leb (period_of clock) f.tr r.tr_low,
-        ne_eqb f.marker 0 (λ z. omega (arith, r.marker_is, z)), lt-leb (period_of clock) f.rtr r.rtr_low,
-        by (f.type == 3) refl) refl
+    rw (
+      le-ltb f.type 2 r.type_high,
+      alike is_long f.urf r.urf_is,
+      lt-leb (period_of clock) f.tr r.tr_low,
+      ne_eqb f.marker 0 (λ z. omega (arith, r.marker_is, z)),
+      lt-leb (period_of clock) f.rtr r.rtr_low,
+      by (f.type == 3) refl,
+    ) refl
   where
     by : (t : Bool) → (f.type == 3) ≡ t → (t && not (f.tr == f.rtr)) ≡ false
     by true e = rw (eq-eqb f.tr f.rtr (r.pair_is (eqb-true f.type 3 e))) refl
@@ -131,18 +203,35 @@ abbrev EachFirst : Clock → Bool → First → Type 0
 EachFirst clock is_long f = ((fault : MessageFault) × HasFirst clock is_long f fault) ⊎ IsRight clock is_long f
 
 each_first : (clock : Clock) (is_long : Bool) (f : First) → f.marker < 2 → EachFirst clock is_long f
-each_first clock is_long f small = elim (cases_lt f.type 2) [ inl lt ↦ inl (Kind, wrong_kind lt)
-    | inr high ↦ at_urf high (f.urf == urf_in is_long) refl ]
+each_first clock is_long f small = elim (cases_lt f.type 2) [
+  | inl lt ↦ inl (Kind, wrong_kind lt)
+  | inr high ↦ at_urf high (f.urf == urf_in is_long) refl
+]
   where
     at_pair : 2 ≤ f.type → f.urf ≡ urf_in is_long → f.tr < period_of clock → f.marker ≡ 1 → f.rtr < period_of clock
         → (a b : Bool) → (f.type == 3) ≡ a → (f.tr == f.rtr) ≡ b → EachFirst clock is_long f
-    at_pair high is low one low2 true false e g = inl (Pair, other_pair is low one low2 (eqb-true f.type 3 e)
-        (eqb-false f.tr f.rtr g))
-    at_pair high is low one low2 true true e g = inr (record { type_high = high; urf_is = is; tr_low = low;
-        marker_is = one; rtr_low = low2; pair_is = λ three. eqb-true f.tr f.rtr g })
+    at_pair high is low one low2 true false e g = inl (
+      Pair,
+      other_pair is low one low2 (eqb-true f.type 3 e)
+          (eqb-false f.tr f.rtr g),
+    )
+    at_pair high is low one low2 true true e g = inr (record {
+      type_high = high;
+      urf_is = is;
+      tr_low = low;
+      marker_is = one;
+      rtr_low = low2;
+      pair_is = λ three. eqb-true f.tr f.rtr g;
+    })
     at_pair high is low one low2 false b e g =
-        inr (record { type_high = high; urf_is = is; tr_low = low; marker_is = one; rtr_low = low2;
-            pair_is = λ three. absurd (eqb-false f.type 3 e three) })
+        inr (record {
+          type_high = high;
+          urf_is = is;
+          tr_low = low;
+          marker_is = one;
+          rtr_low = low2;
+          pair_is = λ three. absurd (eqb-false f.type 3 e three);
+        })
 
     at_marker : 2 ≤ f.type → f.urf ≡ urf_in is_long → f.tr < period_of clock → (t : Bool) → (f.marker == 0) ≡ t
         → EachFirst clock is_long f
@@ -150,15 +239,20 @@ each_first clock is_long f small = elim (cases_lt f.type 2) [ inl lt ↦ inl (Ki
     at_marker high is low false e =
         let some = eqb-false f.marker 0 e in
         let one : f.marker ≡ 1 = omega (arith, some, small) in
-        elim (cases_lt f.rtr (period_of clock)) [ inl low2 ↦ at_pair high is low one low2 (f.type == 3) (f.tr == f.rtr)
-            refl refl | inr past ↦ inl (High, high_rtr high is low one past) ]
+        elim (cases_lt f.rtr (period_of clock)) [
+          | inl low2 ↦ at_pair high is low one low2 (f.type == 3) (f.tr == f.rtr)
+              refl refl
+          | inr past ↦ inl (High, high_rtr high is low one past)
+        ]
 
     at_urf : 2 ≤ f.type → (t : Bool) → (f.urf == urf_in is_long) ≡ t → EachFirst clock is_long f
     at_urf high false e = inl (Length, other_urf high (eqb-false f.urf (urf_in is_long) e))
     at_urf high true e =
         let is = eqb-true f.urf (urf_in is_long) e in
-        elim (cases_lt f.tr (period_of clock)) [ inl low ↦ at_marker high is low (f.marker == 0) refl
-            | inr past ↦ inl (High, high_tr high is past) ]
+        elim (cases_lt f.tr (period_of clock)) [
+          | inl low ↦ at_marker high is low (f.marker == 0) refl
+          | inr past ↦ inl (High, high_tr high is past)
+        ]
 
 -- ---- two bytes of flags
 
@@ -188,12 +282,14 @@ flags_hold : (bits : List Bool) (first second : ℕ) → HoldsFlags bits first s
 flags_hold bits first second h =
     let n = flags_from first h.marks second h.more in
     let text : bits ≡ spelled 16 n = h.text
-        ∙ sym (flags_from_text first h.marks second h.more h.first_small h.marks_small h.second_small h.more_small) in
+    ∙ sym (flags_from_text first h.marks second h.more h.first_small h.marks_small h.second_small h.more_small) in
     let small : n < 2 ^ 16 = below first h.marks second h.more h.first_small h.marks_small h.second_small h.more_small
-        in
+    in
     let e : number bits ≡ n = ap number text ∙ number-spelled 16 n ∙ mod-eq_of_lt small in
-    record { first_is = omega (arith, e, h.first_small, h.marks_small, h.second_small, h.more_small);
-        second_is = omega (arith, e, h.first_small, h.marks_small, h.second_small, h.more_small) }
+    record {
+      first_is = omega (arith, e, h.first_small, h.marks_small, h.second_small, h.more_small);
+      second_is = omega (arith, e, h.first_small, h.marks_small, h.second_small, h.more_small);
+    }
   where
     below : (first marks second more : ℕ) → first < 2 → marks < 128 → second < 2 → more < 128
         → flags_from first marks second more < 2 ^ 16
@@ -233,7 +329,7 @@ unmarked bits first second h (inl none) =
 unmarked bits first second h (inr none) =
     let m = flags_hold bits first second h in
     rw (ne_eqb (number bits / 2 ^ 7 % 2) 1 (λ one. omega (arith, m.second_is, none, one)))
-        (both_false (number bits / 2 ^ 15 % 2 == 1))
+    (both_false (number bits / 2 ^ 15 % 2 == 1))
   where
     both_false : (t : Bool) → (t && false) ≡ false
     both_false true = refl
@@ -259,19 +355,21 @@ each_flags bits first second h = by (first == 0) (second == 0) refl refl
 from_bytes : (clock : Clock) (bytes : List ℕ) (fault : MessageFault) → IsMessageFault clock bytes fault
     → message_in clock bytes ≡ Err fault
 unfolding message_in
-from_bytes clock bytes fault (other_length three five) = rw (ne_eqb (length bytes) 3 three,
-    ne_eqb (length bytes) 5 five) refl
+from_bytes clock bytes fault (other_length three five) = rw (
+  ne_eqb (length bytes) 3 three,
+  ne_eqb (length bytes) 5 five,
+) refl
 from_bytes clock bytes fault (in_short f d len h first) =
     let found : message_fault clock false (number (bits_of bytes))
-        ≡ Some d = fault_holds clock false f (bits_of bytes) h ∙ from_first clock false f d h.urf_small first in
+    ≡ Some d = fault_holds clock false f (bits_of bytes) h ∙ from_first clock false f d h.urf_small first in
     rw (len, found) refl
 from_bytes clock bytes fault (in_long f d len h first) =
     let found : message_fault clock true (number (bits_of (take 3 bytes)))
-        ≡ Some d = fault_holds clock true f (bits_of (take 3 bytes)) h ∙ from_first clock true f d h.urf_small first in
+    ≡ Some d = fault_holds clock true f (bits_of (take 3 bytes)) h ∙ from_first clock true f d h.urf_small first in
     rw (len, found) refl
 from_bytes clock bytes fault (in_flags f first second len h right two none) =
     let found : message_fault clock true (number (bits_of (take 3 bytes)))
-        ≡ None = fault_holds clock true f (bits_of (take 3 bytes)) h ∙ right_first clock true f right in
+    ≡ None = fault_holds clock true f (bits_of (take 3 bytes)) h ∙ right_first clock true f right in
     rw (len, found, unmarked (bits_of (drop 3 bytes)) first second two none) refl
 
 -- bytes are in a row of the table, or are a message
@@ -287,8 +385,8 @@ at_three clock bytes len =
       | inl r ↦ inl (r.0, in_short f.fields r.0 len f.holds r.1)
       | inr right ↦
           let free : message_fault clock false (number (bits_of bytes))
-              ≡ None = fault_holds clock false f.fields (bits_of bytes) f.holds
-              ∙ right_first clock false f.fields right in
+          ≡ None = fault_holds clock false f.fields (bits_of bytes) f.holds
+          ∙ right_first clock false f.fields right in
           inr (message_value (number (bits_of bytes)) None, rw (len, free) refl)
     ]
 
@@ -306,7 +404,7 @@ at_five clock bytes len =
             | inl none ↦ inl (Marker, in_flags f.fields g.first g.second len f.holds right g.holds none)
             | inr marked ↦
                 let free : message_fault clock true (number front)
-                    ≡ None = fault_holds clock true f.fields front f.holds ∙ right_first clock true f.fields right in
+                ≡ None = fault_holds clock true f.fields front f.holds ∙ right_first clock true f.fields right in
                 inr (message_value (number front) (Some (marks_in (number behind))), rw (len, free, marked) refl)
           ]
     ]
@@ -340,8 +438,10 @@ to_bytes clock bytes fault (inr r) e = absurd (no_both r.0 fault (message_in clo
 
 pub bytes_faults : (clock : Clock) (bytes : List ℕ) (fault : MessageFault) → (message_in clock bytes ≡ Err fault)
     ↔ IsMessageFault clock bytes fault
-bytes_faults clock bytes fault = (λ e. to_bytes clock bytes fault (each_stands clock bytes) e,
-    λ r. from_bytes clock bytes fault r)
+bytes_faults clock bytes fault = (
+  λ e. to_bytes clock bytes fault (each_stands clock bytes) e,
+  λ r. from_bytes clock bytes fault r,
+)
 
 -- ---- a message in a picture header
 
@@ -373,7 +473,7 @@ allowed_holds : (clock : Clock) (f : First) (bits : List Bool) → Holds bits f 
     ≡ is_fault (fault_of clock (f.urf == 1) f.type f.urf f.tr f.marker f.rtr)
 allowed_holds clock f bits h =
     ap (λ (t : Bool). is_fault (message_fault clock t (number bits))) (is_urf f bits h)
-        ∙ ap is_fault (fault_holds clock (f.urf == 1) f bits h)
+    ∙ ap is_fault (fault_holds clock (f.urf == 1) f bits h)
 
 -- what a row has is found: the bits before the fault, and what is left with it
 abbrev Within : Clock → List Bool → FaultKind → ℕ → Type 0
@@ -395,14 +495,20 @@ after_first clock f bits left kind h right g =
     let is : is_long (number bits) ≡ true = is_urf f bits h ∙ long in
     let free : allowed_message clock (number bits) ≡ None =
     allowed_holds clock f bits h ∙ ap (λ (t : Bool). is_fault (fault_of clock t f.type f.urf f.tr f.marker f.rtr)) long
-        ∙ ap is_fault (right_first clock true f right) in
+    ∙ ap is_fault (right_first clock true f right) in
     let more : Faults (either (is_long (number bits))
-        (part flags any (λ marks. done (message_value (number bits) (Some marks))))
-        (done (message_value (number bits) None))) [] left kind =
+    (part flags any (λ marks. done (message_value (number bits) (Some marks))))
+    (done (message_value (number bits) None))) [] left kind =
     subst (λ (t : Bool). Faults (either t (part flags any (λ marks. done (message_value (number bits) (Some marks))))
-        (done (message_value (number bits) None))) [] left kind) (sym is) (inl g) in
-    inr (number bits, [], field_small f bits h, free, field_text f bits h ∙ sym (append-nil (spelled 24 (number bits))),
-        more)
+    (done (message_value (number bits) None))) [] left kind) (sym is) (inl g) in
+    inr (
+      number bits,
+      [],
+      field_small f bits h,
+      free,
+      field_text f bits h ∙ sym (append-nil (spelled 24 (number bits))),
+      more,
+    )
 
 flags_cut : (left : List Bool) → length left < 16 → Faults flags [] left faults.Ended
 unfolding flags Faults
@@ -414,9 +520,17 @@ unfolding flags Faults
 flags_refused middle rest first second h none =
     let len = flags_length middle first second h in
     let refused : allowed_markers (number middle) ≡ Some faults.Messages = rw (unmarked middle first second h none)
-        refl in
-    inl (refl, inr (number middle, rest, number_small 16 middle len,
-        ap (λ (t : List Bool). t ++ rest) (number_text 16 middle len), refused))
+    refl in
+    inl (
+      refl,
+      inr (
+        number middle,
+        rest,
+        number_small 16 middle len,
+        ap (λ (t : List Bool). t ++ rest) (number_text 16 middle len),
+        refused,
+      ),
+    )
 
 from_field : (clock : Clock) (bits : List Bool) (kind : FaultKind) (place : ℕ) → IsFieldFault clock bits kind place
     → Within clock bits kind place
@@ -424,17 +538,26 @@ unfolding message Faults
 from_field clock bits kind place (cut lt) = ([], bits, refl, refl, inl (refl, inl (lt, refl)))
 from_field clock bits kind place (refused f front rest d parts h first) =
     let fault : allowed_message clock (number front) ≡ Some faults.Messages = allowed_holds clock f front h
-        ∙ ap is_fault (from_first clock (f.urf == 1) f d h.urf_small first) in
+    ∙ ap is_fault (from_first clock (f.urf == 1) f d h.urf_small first) in
     let text : bits ≡ spelled 24 (number front) ++ rest = parts
-        ∙ ap (λ (t : List Bool). t ++ rest) (field_text f front h) in
+    ∙ ap (λ (t : List Bool). t ++ rest) (field_text f front h) in
     ([], bits, refl, refl, inl (refl, inr (number front, rest, field_small f front h, text, fault)))
-from_field clock bits kind place (cut_flags f front rest parts h right lt) =
-    (front, rest, parts, holds_length f front h, after_first clock f front rest faults.Ended h right
-        (flags_cut rest lt))
-from_field clock bits kind place (refused_flags f first second front middle rest parts h right two none) =
-    (front, middle ++ rest, parts, holds_length f front h,
-        after_first clock f front (middle ++ rest) faults.Messages h right
-        (flags_refused middle rest first second two none))
+from_field clock bits kind place (cut_flags f front rest parts h right lt) = (
+  front,
+  rest,
+  parts,
+  holds_length f front h,
+  after_first clock f front rest faults.Ended h right
+      (flags_cut rest lt),
+)
+from_field clock bits kind place (refused_flags f first second front middle rest parts h right two none) = (
+  front,
+  middle ++ rest,
+  parts,
+  holds_length f front h,
+  after_first clock f front (middle ++ rest) faults.Messages h right
+      (flags_refused middle rest first second two none),
+)
 
 -- the fields of a number of 24 bits
 first_at : (n : ℕ) → AreFirst (spelled 24 n)
@@ -449,14 +572,18 @@ refused_row : (clock : Clock) (n : ℕ) (rest : List Bool) (kind : FaultKind) �
 refused_row clock n rest kind small e =
     let f = first_at n in
     let same : allowed_message clock n
-        ≡ is_fault (fault_of clock (f.fields.urf == 1) f.fields.type f.fields.urf f.fields.tr f.fields.marker
-        f.fields.rtr) =
+    ≡ is_fault (fault_of clock (f.fields.urf == 1) f.fields.type f.fields.urf f.fields.tr f.fields.marker
+    f.fields.rtr) =
     ap (allowed_message clock) (sym (number_back 24 n small)) ∙ allowed_holds clock f.fields (spelled 24 n) f.holds in
     let m = messages_is (fault_of clock (f.fields.urf == 1) f.fields.type f.fields.urf f.fields.tr f.fields.marker
-        f.fields.rtr) kind (sym same ∙ e) in
+    f.fields.rtr) kind (sym same ∙ e) in
     elim (each_first clock (f.fields.urf == 1) f.fields f.holds.marker_small) [
-      | inl r ↦ (0, refl, subst (λ (k : FaultKind). IsFieldFault clock (spelled 24 n ++ rest) k 0) (sym m.0)
-          (refused f.fields (spelled 24 n) rest r.0 refl f.holds r.1))
+      | inl r ↦ (
+        0,
+        refl,
+        subst (λ (k : FaultKind). IsFieldFault clock (spelled 24 n ++ rest) k 0) (sym m.0)
+            (refused f.fields (spelled 24 n) rest r.0 refl f.holds r.1),
+      )
       | inr right ↦ absurd (m.1 (right_first clock (f.fields.urf == 1) f.fields right))
     ]
 
@@ -466,14 +593,17 @@ allowed_right : (clock : Clock) (n : ℕ) (f : AreFirst (spelled 24 n)) → n < 
 allowed_right clock n f small e is =
     let h = f.holds in
     let long : (f.fields.urf == 1) ≡ true = sym (is_urf f.fields (spelled 24 n) h) ∙ ap is_long (number_back 24 n small)
-        ∙ is in
+    ∙ is in
     let same : is_fault (fault_of clock true f.fields.type f.fields.urf f.fields.tr f.fields.marker f.fields.rtr)
-        ≡ None =
+    ≡ None =
     ap (λ (t : Bool). is_fault (fault_of clock t f.fields.type f.fields.urf f.fields.tr f.fields.marker f.fields.rtr))
-        (sym long)
+    (sym long)
     ∙ sym (allowed_holds clock f.fields (spelled 24 n) h) ∙ ap (allowed_message clock) (number_back 24 n small) ∙ e in
-    elim (each_first clock true f.fields h.marker_small) [ inl r ↦
-        absurd (free_is _ r.0 (from_first clock true f.fields r.0 h.urf_small r.1) same) | inr right ↦ right ]
+    elim (each_first clock true f.fields h.marker_small) [
+      | inl r ↦
+          absurd (free_is _ r.0 (from_first clock true f.fields r.0 h.urf_small r.1) same)
+      | inr right ↦ right
+    ]
 
 -- flags that are refused have no marker in one of their bytes
 markers_is : (n : ℕ) (kind : FaultKind) → allowed_markers n ≡ Some kind → (kind ≡ faults.Messages)
@@ -488,9 +618,12 @@ markers_is n kind e = by (has_markers n) refl e
 flags_row : (clock : Clock) (f : First) (front left : List Bool) (kind : FaultKind) → Holds front f
     → IsRight clock true f → Faults flags [] left kind → InField clock (front ++ left) kind front
 unfolding flags Faults
-flags_row clock f front left kind h right (inl (none, inl lt)) =
-    (24, holds_length f front h, subst (λ (k : FaultKind). IsFieldFault clock (front ++ left) k 24) (sym lt.1)
-        (cut_flags f front left refl h right lt.0))
+flags_row clock f front left kind h right (inl (none, inl lt)) = (
+  24,
+  holds_length f front h,
+  subst (λ (k : FaultKind). IsFieldFault clock (front ++ left) k 24) (sym lt.1)
+      (cut_flags f front left refl h right lt.0),
+)
 flags_row clock f front left kind h right (inl (none, inr (n, rest, small, parts, e))) =
     let m = markers_is n kind e in
     let g = flags_of_bits (spelled 16 n) (length-spelled 16 n) in
@@ -501,7 +634,7 @@ flags_row clock f front left kind h right (inl (none, inr (n, rest, small, parts
         holds_length f front h,
         subst (λ (k : FaultKind). IsFieldFault clock (front ++ left) k 24) (sym m.0)
             (refused_flags f g.first g.second front (spelled 16 n) rest (ap (λ (t : List Bool). front ++ t) parts) h
-                right g.holds none2),
+            right g.holds none2),
       )
       | inr marked ↦ absurd (no_both_bits (has_markers (number (spelled 16 n))) marked back)
     ]
@@ -542,21 +675,30 @@ to_field clock front left kind (inr (n, rest, small, free, parts, g)) = by (is_l
         let right = allowed_right clock n f small free is in
         let none = nothing_before rest left kind k in
         let text : front ≡ spelled 24 n = parts ∙ ap (λ (t : List Bool). spelled 24 n ++ t) none
-            ∙ append-nil (spelled 24 n) in
+        ∙ append-nil (spelled 24 n) in
         let inner : Faults flags [] left kind = subst (λ (t : List Bool). Faults flags t left kind) none k in
         subst (λ (t : List Bool). InField clock (t ++ left) kind t) (sym text)
-            (flags_row clock f.fields (spelled 24 n) left kind f.holds right inner)
+        (flags_row clock f.fields (spelled 24 n) left kind f.holds right inner)
 
 pub field_faults : (clock : Clock) (b : Bits) (fault : Fault) → (reading (message clock) b ≡ Err fault)
     ↔ ((place : ℕ) × (fault.at ≡ b.at + place) × IsFieldFault clock b.bits fault.kind place)
 field_faults clock b fault = (
   λ e.
       let f = (first_fault_is (message clock) b fault (message_productive clock)).0 e in
-      let r = to_field clock f.0 f.1 fault.kind f.4 in
-      (r.0, f.3 ∙ ap (λ (n : ℕ). b.at + n) r.1, subst (λ (t : List Bool). IsFieldFault clock t fault.kind r.0)
-          (sym f.2) r.2),
+      let r = to_field clock f.0 f.1 fault.kind f.4 in (
+        r.0,
+        f.3 ∙ ap (λ (n : ℕ). b.at + n) r.1,
+        subst (λ (t : List Bool). IsFieldFault clock t fault.kind r.0)
+            (sym f.2) r.2,
+      ),
   λ r.
       let w = from_field clock b.bits fault.kind r.0 r.2 in
-      (first_fault_is (message clock) b fault (message_productive clock)).1 (w.0, w.1, w.2, r.1
-          ∙ ap (λ (n : ℕ). b.at + n) (sym w.3), w.4),
+      (first_fault_is (message clock) b fault (message_productive clock)).1 (
+        w.0,
+        w.1,
+        w.2,
+        r.1
+            ∙ ap (λ (n : ℕ). b.at + n) (sym w.3),
+        w.4,
+      ),
 )

@@ -32,7 +32,7 @@ split n =
     let whole : n ≡ n / 2 ^ 7 * 2 ^ 7 + n % 2 ^ 7 = omega arith in
     ap (spelled 14) whole ∙ spelled-append 7 7 (n / 2 ^ 7) (n % 2 ^ 7) (omega arith)
     ∙ ap (λ (t : List Bool). spelled 7 (n / 2 ^ 7) ++ t) (sym (spelled-low 7 7 (n / 2 ^ 7) (n % 2 ^ 7) (omega arith))
-        ∙ ap (spelled 7) (sym whole))
+    ∙ ap (spelled 7) (sym whole))
 
 pub flags_split : (marks : ℕ) → flags_of marks ≡ reverse (spelled 7 marks) ++ reverse (spelled 7 (marks / 2 ^ 7))
 flags_split marks = ap reverse (split marks) ∙ reverse-append (spelled 7 (marks / 2 ^ 7)) (spelled 7 marks)
@@ -54,7 +54,7 @@ code_spelled first second f s =
     ∙ ap (λ (t : List Bool). true ∷ t) (
     spelled-append 7 8 first low (omega arith)
     ∙ ap (λ (t : List Bool). spelled 7 first ++ t) (spelled-append 1 7 1 second s
-        ∙ ap (λ (t : List Bool). t ++ spelled 7 second) one)
+    ∙ ap (λ (t : List Bool). t ++ spelled 7 second) one)
     )
 
 -- the code of two bytes of flags is the text of their marks
@@ -76,7 +76,7 @@ marks_parts n =
     let a = spelled 7 (n / 2 ^ 8) in
     let b = spelled 7 n in
     ap number (reverse-append a b) ∙ number-append (reverse b) (reverse a)
-        ∙ ap (λ (k : ℕ). number (reverse b) * 2 ^ k + number (reverse a)) (seven (n / 2 ^ 8))
+    ∙ ap (λ (k : ℕ). number (reverse b) * 2 ^ k + number (reverse a)) (seven (n / 2 ^ 8))
 
 pub marks_low : (n : ℕ) → marks_in n < 2 ^ 14
 marks_low n = omega (arith, marks_parts n, turned_low n, turned_low (n / 2 ^ 8))
@@ -97,12 +97,12 @@ marked_text n h e =
     let second_is : spelled 7 second ≡ b = low_bits n in
     let flags : flags_of (number (reverse (a ++ b))) ≡ a ++ b =
     ap reverse (ap (λ (k : ℕ). spelled k (number (reverse (a ++ b)))) (sym (length-reverse (a ++ b)
-        ∙ fourteen a b (length-spelled 7 (n / 2 ^ 8)) (length-spelled 7 n))) ∙ spelled-number (reverse (a ++ b)))
-        ∙ reverse-reverse (a ++ b) in
+    ∙ fourteen a b (length-spelled 7 (n / 2 ^ 8)) (length-spelled 7 n))) ∙ spelled-number (reverse (a ++ b)))
+    ∙ reverse-reverse (a ++ b) in
     let one : take 7 (flags_of (number (reverse (a ++ b)))) ≡ a = ap (take 7) flags
-        ∙ take_at a b 7 (length-spelled 7 (n / 2 ^ 8)) in
+    ∙ take_at a b 7 (length-spelled 7 (n / 2 ^ 8)) in
     let two : drop 7 (flags_of (number (reverse (a ++ b)))) ≡ b = ap (drop 7) flags
-        ∙ drop_at a b 7 (length-spelled 7 (n / 2 ^ 8)) in
+    ∙ drop_at a b 7 (length-spelled 7 (n / 2 ^ 8)) in
     ap (spelled 16) whole ∙ code_spelled first second (omega arith) (omega arith)
     ∙ ap (λ (t : List Bool). (true ∷ t) ++ (true ∷ spelled 7 second)) (first_is ∙ sym one)
     ∙ ap (λ (t : List Bool). (true ∷ take 7 (flags_of (number (reverse (a ++ b))))) ++ (true ∷ t)) (second_is ∙ sym two)
@@ -132,12 +132,12 @@ flags_read marks h =
     let top : n / 2 ^ 8 ≡ 1 * 2 ^ 7 + f = omega arith in
     let bottom : n ≡ (2 ^ 8 + f * 2 + 1) * 2 ^ 7 + s = omega arith in
     let first : spelled 7 (n / 2 ^ 8) ≡ reverse (spelled 7 marks) = ap (spelled 7) top
-        ∙ spelled-low 7 7 1 f (omega arith) ∙ turned_text marks in
+    ∙ spelled-low 7 7 1 f (omega arith) ∙ turned_text marks in
     let second : spelled 7 n ≡ reverse (spelled 7 (marks / 2 ^ 7)) = ap (spelled 7) bottom
-        ∙ spelled-low 7 7 (2 ^ 8 + f * 2 + 1) s (omega arith) ∙ turned_text (marks / 2 ^ 7) in
+    ∙ spelled-low 7 7 (2 ^ 8 + f * 2 + 1) s (omega arith) ∙ turned_text (marks / 2 ^ 7) in
     let both : spelled 7 (n / 2 ^ 8) ++ spelled 7 n ≡ flags_of marks =
     ap (λ (t : List Bool). t ++ spelled 7 n) first ∙ ap (λ (t : List Bool). reverse (spelled 7 marks) ++ t) second
-        ∙ sym (flags_split marks) in
+    ∙ sym (flags_split marks) in
     record {
       markers = rw (eq-eqb (n / 2 ^ 15 % 2) 1 high, eq-eqb (n / 2 ^ 7 % 2) 1 low) refl;
       marks_are = ap (λ (t : List Bool). number (reverse t)) both ∙ ap number (reverse-reverse (spelled 14 marks))
@@ -174,5 +174,5 @@ turned-more k n =
     let last : number (b ∷ []) ≡ n / 2 ^ k % 2 = number-one b ∙ bit_back (n / 2 ^ k % 2) (omega arith) in
     let whole : number (reverse (spelled (k + 1) n)) ≡ number (reverse (spelled k n)) * 2 ^ 1 + number (b ∷ []) =
     ap (λ (t : List Bool). number (reverse t)) (spelled-more k n) ∙ ap number (reverse-append (b ∷ []) (spelled k n))
-        ∙ number-append (reverse (spelled k n)) (b ∷ []) in
+    ∙ number-append (reverse (spelled k n)) (b ∷ []) in
     omega (arith, whole, last)

@@ -43,11 +43,11 @@ five_bytes n m h k =
     ap (spelled 24) whole ∙ spelled-append 8 16 (n / 65536) (n / 256 % 256 * 2 ^ 8 + n % 256) (omega arith)
     ∙ ap (λ (x : List Bool). spelled 8 (n / 65536) ++ x) (spelled-append 8 8 (n / 256 % 256) (n % 256) (omega arith)) in
     let second : spelled 16 m ≡ spelled 8 (m / 256) ++ spelled 8 (m % 256) = ap (spelled 16) two
-        ∙ spelled-append 8 8 (m / 256) (m % 256) (omega arith) in
+    ∙ spelled-append 8 8 (m / 256) (m % 256) (omega arith) in
     regroup (spelled 8 (n / 65536)) (spelled 8 (n / 256 % 256)) (spelled 8 (n % 256)) (spelled 8 (m / 256))
-        (spelled 8 (m % 256))
+    (spelled 8 (m % 256))
     ∙ ap (λ (t : List Bool). t ++ (spelled 8 (m / 256) ++ spelled 8 (m % 256))) (sym first)
-        ∙ ap (λ (t : List Bool). spelled 24 n ++ t) (sym second)
+    ∙ ap (λ (t : List Bool). spelled 24 n ++ t) (sym second)
   where
     regroup : (a b c d e : List Bool) → a ++ (b ++ (c ++ (d ++ (e ++ [])))) ≡ (a ++ (b ++ c)) ++ (d ++ e)
     regroup a b c d e = simp (append_assoc, append-nil)
@@ -75,9 +75,9 @@ short_read clock m bytes h none e =
     let bits : bits_of bytes ≡ spelled 24 (code_of m) = e ∙ sym (first_is clock m h) in
     let len : length bytes ≡ 3 = omega (arith, length-bits_of bytes, ap length bits, length-spelled 24 (code_of m)) in
     let value : number (bits_of bytes) ≡ code_of m = number_is 24 (code_of m) (bits_of bytes)
-        (first_below clock m h) bits in
+    (first_below clock m h) bits in
     let free : message_fault clock false (code_of m)
-        ≡ None = ap (λ (o : Option ℕ). message_fault clock (is_marked_by o) (code_of m)) (sym none) ∙ c.free in
+    ≡ None = ap (λ (o : Option ℕ). message_fault clock (is_marked_by o) (code_of m)) (sym none) ∙ c.free in
     let is : message_value (code_of m) None ≡ m = ap (message_value (code_of m)) (sym none) ∙ c.value in
     rw (len, value, free, is) refl
 
@@ -91,19 +91,25 @@ long_read clock m marks bytes h some e =
     let a = spelled 24 (code_of m) in
     let b = spelled 16 k in
     let bits : bits_of bytes ≡ a ++ b = e
-        ∙ ap (λ (t : List Bool). t ++ flags_text (Some marks)) (sym (first_is clock m h))
-        ∙ ap (λ (t : List Bool). a ++ t) (sym (marks_text marks)) in
+    ∙ ap (λ (t : List Bool). t ++ flags_text (Some marks)) (sym (first_is clock m h))
+    ∙ ap (λ (t : List Bool). a ++ t) (sym (marks_text marks)) in
     let len_a : length a ≡ 24 = length-spelled 24 (code_of m) in
-    let len : length bytes ≡ 5 = omega (arith, length-bits_of bytes, ap length bits, length-append a b, len_a,
-        length-spelled 16 k) in
+    let len : length bytes ≡ 5 = omega (
+      arith,
+      length-bits_of bytes,
+      ap length bits,
+      length-append a b,
+      len_a,
+      length-spelled 16 k,
+    ) in
     let first : bits_of (take 3 bytes) ≡ a = bits_of-take 3 bytes (omega (arith, len)) ∙ ap (take 24) bits
-        ∙ take_at a b 24 len_a in
+    ∙ take_at a b 24 len_a in
     let second : bits_of (drop 3 bytes) ≡ b = bits_of-drop 3 bytes ∙ ap (drop 24) bits ∙ drop_at a b 24 len_a in
     let code : number (bits_of (take 3 bytes)) ≡ code_of m = number_is 24 (code_of m) _ (first_below clock m h) first in
     let flagged : number (bits_of (drop 3 bytes))
-        ≡ k = number_is 16 k _ (omega (arith, turned_low marks, turned_low (marks / 2 ^ 7))) second in
+    ≡ k = number_is 16 k _ (omega (arith, turned_low marks, turned_low (marks / 2 ^ 7))) second in
     let free : message_fault clock true (code_of m)
-        ≡ None = ap (λ (o : Option ℕ). message_fault clock (is_marked_by o) (code_of m)) (sym some) ∙ c.free in
+    ≡ None = ap (λ (o : Option ℕ). message_fault clock (is_marked_by o) (code_of m)) (sym some) ∙ c.free in
     let is : message_value (code_of m) (Some marks) ≡ m = ap (message_value (code_of m)) (sym some) ∙ c.value in
     let mark : marked k ≡ Some marks = rw (r.markers, r.marks_are) refl in
     rw (len, code, flagged, free, mark, is) refl
@@ -187,10 +193,12 @@ read_long clock m bytes len e =
     let s = long_is clock n k m (number_small 24 a len_a) (number_small 16 b len_b) u.0 f.0 f.1 in
     let whole : bits_of bytes ≡ a ++ b =
     sym (take-append-drop 24 (bits_of bytes))
-        ∙ ap (λ (t : List Bool). t ++ drop 24 (bits_of bytes)) (sym (bits_of-take 3 bytes (omega (arith, len))))
-        ∙ ap (λ (t : List Bool). a ++ t) (sym (bits_of-drop 3 bytes)) in
-    (s.0, whole ∙ ap (λ (t : List Bool). t ++ b) (number_text 24 a len_a)
-        ∙ ap (λ (t : List Bool). spelled 24 n ++ t) (number_text 16 b len_b) ∙ s.1)
+    ∙ ap (λ (t : List Bool). t ++ drop 24 (bits_of bytes)) (sym (bits_of-take 3 bytes (omega (arith, len))))
+    ∙ ap (λ (t : List Bool). a ++ t) (sym (bits_of-drop 3 bytes)) in (
+      s.0,
+      whole ∙ ap (λ (t : List Bool). t ++ b) (number_text 24 a len_a)
+          ∙ ap (λ (t : List Bool). spelled 24 n ++ t) (number_text 16 b len_b) ∙ s.1,
+    )
 
 pub read_text : (clock : Clock) (m : Message) (bytes : List ℕ) → message_in clock bytes ≡ Ok m
     → IsRead clock m (bits_of bytes)
@@ -219,8 +227,8 @@ flags_spelt marks h =
     let r = flags_read marks h in
     let low : k < 2 ^ 16 = omega (arith, turned_low marks, turned_low (marks / 2 ^ 7)) in
     spells_whole _ marks _ _ (append-nil (spelled 16 k)
-        ∙ marks_text marks) (spells_field 16 allowed_markers _ marks k [] low (rw r.markers refl)
-        (subst (λ (v : ℕ). Spells (done v) marks []) (sym r.marks_are) (spells_done marks)))
+    ∙ marks_text marks) (spells_field 16 allowed_markers _ marks k [] low (rw r.markers refl)
+    (subst (λ (v : ℕ). Spells (done v) marks []) (sym r.marks_are) (spells_done marks)))
 
 done_is : (v m : Message) → v ≡ m → Spells (done v) m []
 done_is v m is = subst (λ (x : Message). Spells (done x) m []) (sym is) (spells_done m)
@@ -233,15 +241,15 @@ field_spells clock m h =
     let n : ℕ = code_of m in
     let long : is_marked_by (marks_of m) ≡ is_long n = fault_length clock (is_marked_by (marks_of m)) n c.free in
     let free : allowed_message clock n ≡ None = ap (λ (b : Bool). is_fault (message_fault clock b n)) (sym long)
-        ∙ ap is_fault c.free in
+    ∙ ap is_fault c.free in
     let more : Spells (either (is_long n) (part flags any (λ marks. done (message_value n (Some marks))))
-        (done (message_value n None))) m (flags_text (marks_of m)) =
+    (done (message_value n None))) m (flags_text (marks_of m)) =
     subst (λ (b : Bool). Spells (either b (part flags any (λ marks. done (message_value n (Some marks))))
-        (done (message_value n None))) m (flags_text (marks_of m))) long (at_marks (marks_of m) refl c.value) in
+    (done (message_value n None))) m (flags_text (marks_of m))) long (at_marks (marks_of m) refl c.value) in
     let text : spelled 24 n ++ flags_text (marks_of m) ≡ message_text m = ap (λ (t : List Bool). t
-        ++ flags_text (marks_of m)) (first_is clock m h) in
+    ++ flags_text (marks_of m)) (first_is clock m h) in
     spells_whole _ m _ _ text (spells_field 24 (allowed_message clock) _ m n (flags_text (marks_of m))
-        (first_below clock m h) free more)
+    (first_below clock m h) free more)
   where
     at_marks : (o : Option ℕ) → marks_of m ≡ o → message_value (code_of m) (marks_of m) ≡ m
         → Spells (either (is_marked_by o) (part flags any (λ marks. done (message_value (code_of m) (Some marks))))
@@ -249,9 +257,9 @@ field_spells clock m h =
     at_marks None is value = done_is _ m (ap (message_value (code_of m)) (sym is) ∙ value)
     at_marks (Some marks) is value =
         spells_whole _ m _ _ (append-nil (flags_text (Some marks)))
-            (spells_part flags any _ m marks (flags_text (Some marks)) []
-            (flags_spelt marks (marks_below clock m marks h is)) refl
-            (done_is _ m (ap (message_value (code_of m)) (sym is) ∙ value)))
+        (spells_part flags any _ m marks (flags_text (Some marks)) []
+        (flags_spelt marks (marks_below clock m marks h is)) refl
+        (done_is _ m (ap (message_value (code_of m)) (sym is) ∙ value)))
 
 free_is : (o : Option MessageFault) → is_fault o ≡ None → o ≡ None
 free_is None e = refl
@@ -300,10 +308,10 @@ spelled_field clock m bits h =
     at_length true rest free s e =
         let f = flags_are s.0 s.1 s.4 in
         let value : message_value h.0 (Some (marks_in f.number)) ≡ m = ap (λ (k : ℕ). message_value h.0 (Some k))
-            (sym f.value) ∙ sym s.6.0 in
+        (sym f.value) ∙ sym s.6.0 in
         let r = long_is clock h.0 f.number m h.2 f.low free f.markers value in
         let text : rest ≡ spelled 16 f.number = s.3 ∙ ap (λ (t : List Bool). s.1 ++ t) s.6.1 ∙ append-nil s.1
-            ∙ f.text in
+        ∙ f.text in
         (r.0, e ∙ ap (λ (t : List Bool). spelled 24 h.0 ++ t) text ∙ r.1)
 
 flags_productive : IsProductive flags
@@ -314,8 +322,10 @@ flags_productive = λ n. tt
 pub message_productive : (clock : Clock) → IsProductive (message clock)
 unfolding message IsProductive
 message_productive clock n = either_productive (is_long n)
-    (part flags any (λ marks. done (message_value n (Some marks)))) (done (message_value n None)) (flags_productive,
-    λ marks. tt) one
+    (part flags any (λ marks. done (message_value n (Some marks)))) (done (message_value n None)) (
+      flags_productive,
+      λ marks. tt,
+    ) one
   where
     one : IsProductive (done (message_value n None))
     one = tt
@@ -334,8 +344,12 @@ length-flags_text (Some marks) =
 
 pub length-message_text : (m : Message) → length (message_text m) ≡ message_bits m
 unfolding message_text
-length-message_text m = omega (arith, length-append (first_text m) (flags_text (marks_of m)), length-first_text m,
-    length-flags_text (marks_of m))
+length-message_text m = omega (
+  arith,
+  length-append (first_text m) (flags_text (marks_of m)),
+  length-first_text m,
+  length-flags_text (marks_of m),
+)
 
 -- what is read of bytes has numbers of the clock
 pub read_range : (clock : Clock) (bytes : List ℕ) (r : Result Message MessageFault) → r ≡ message_in clock bytes

@@ -35,11 +35,11 @@ dc_spelt code lt good = spells_field 8 allowed_dc _ (slice_set no_levels 0 (dc_o
 
 after_dc : (code : ℕ) (text : List Bool) (kind : FaultKind) (place : ℕ) → code < 256 → (code ≡ 0 → ⊥) → (code ≡ 128 → ⊥)
     → HasFault (events 1 (slice_set no_levels 0 (dc_of code))) text kind place
-        → HasFault (intra_block true) (fields ((8, code) ∷ []) ++ text) kind (8 + place)
+    → HasFault (intra_block true) (fields ((8, code) ∷ []) ++ text) kind (8 + place)
 unfolding intra_block spelled
 after_dc code text kind place lt zero middle h =
     fault_after_part intra_dc any _ (slice_set no_levels 0 (dc_of code)) (fields ((8, code) ∷ [])) text kind place
-        dc_productive (dc_spelt code lt (good_dc code zero middle)) refl h
+    dc_productive (dc_spelt code lt (good_dc code zero middle)) refl h
 
 inter_row : (text : List Bool) (kind : FaultKind) (place : ℕ) → HasFault (events 0 no_levels) text kind place
     → HasFault inter_block text kind place
@@ -77,29 +77,43 @@ past_row tables from levels e text spelt le =
     fault_in_turn (at_place from levels) event_turn text faults.PastEnd 0
     (fault_in_part (placed from) any _ text faults.PastEnd 0
     (fault_of_whole_part event (allowed_place from) _ e text faults.PastEnd tables.productive.event spelt
-        (outside from e le)))
+    (outside from e le)))
 
 -- a turn with an event that isn't the last
 turn_spelt : (from : ℕ) (levels : List ℤ) (e : Coefficient) (front : List Bool) → Spells event e front
     → from + e.run < 64 → e.last ≡ false
     → Spells (event_turn (at_place from levels))
-        (again (at_place (from + e.run + 1) (slice_set levels (from + e.run) e.level))) front
+    (again (at_place (from + e.run + 1) (slice_set levels (from + e.run) e.level))) front
 unfolding event_turn placed Spells
 turn_spelt from levels e front spelt lt last =
     let on : again (at_place (from + e.run + 1) (slice_set levels (from + e.run) e.level))
-        ≡ after_event levels (next (from + e.run) e.level e.last) = rw last refl in
-    (next (from + e.run) e.level e.last, front, [], sym (append-nil front), (e, front, [], sym (append-nil front),
-        spelt, inside from e lt, (refl, refl)), refl, (on, refl))
+    ≡ after_event levels (next (from + e.run) e.level e.last) = rw last refl in (
+      next (from + e.run) e.level e.last,
+      front,
+      [],
+      sym (append-nil front),
+      (
+        e,
+        front,
+        [],
+        sym (append-nil front),
+        spelt,
+        inside from e lt,
+        (refl, refl),
+      ),
+      refl,
+      (on, refl),
+    )
 
 after_row : TableLaws → (from : ℕ) (levels : List ℤ) (e : Coefficient) (front text : List Bool) (kind : FaultKind)
     (place : ℕ) → Spells event e front → from + e.run < 64 → e.last ≡ false
     → HasFault (events (from + e.run + 1) (slice_set levels (from + e.run) e.level)) text kind place
-        → HasFault (events from levels) (front ++ text) kind (length front + place)
+    → HasFault (events from levels) (front ++ text) kind (length front + place)
 unfolding events
 after_row tables from levels e front text kind place spelt lt last h =
     fault_after_turn (at_place from levels) (at_place (from + e.run + 1) (slice_set levels (from + e.run) e.level))
-        event_turn front text kind place (turn_productive tables (at_place from levels)) turn_some
-        (turn_spelt from levels e front spelt lt last) h
+    event_turn front text kind place (turn_productive tables (at_place from levels)) turn_some
+    (turn_spelt from levels e front spelt lt last) h
 
 pub block_faults : TableLaws → BlockFaults
 block_faults tables = record {

@@ -9,7 +9,7 @@ use Rattle.h263_bits.proofs.SyntaxLaws.{spelled-append}
 pub both_fit : (a b i j : ℕ) → a < 2 ^ i → b < 2 ^ j → a * 2 ^ j + b < 2 ^ (i + j)
 both_fit a b i j first second =
     let more : (a + 1) * 2 ^ j ≤ 2 ^ i * 2 ^ j = mul-le-mul (let next : a + 1 ≤ 2 ^ i = omega (arith, first) in
-        next) (let same : 2 ^ j ≤ 2 ^ j = omega arith in same) in
+    next) (let same : 2 ^ j ≤ 2 ^ j = omega arith in same) in
     omega (arith, more, second, pow-add 2 i j)
 
 -- fewer bits than 54 are few enough for 64

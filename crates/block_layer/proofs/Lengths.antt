@@ -58,8 +58,12 @@ event_short e = at (triple_text e.last e.run (size_of e.level)) refl
   where
     at : (o : Option (List Bool)) → triple_text e.last e.run (size_of e.level) ≡ o → length (word_or_escape e o) ≤ 22
     at None is = omega (arith, length-fields (escape_fields e))
-    at (Some w) is = omega (arith, word_short e.last e.run (size_of e.level) w is, sign_short e.level,
-        length-append w (sign_text e.level))
+    at (Some w) is = omega (
+      arith,
+      word_short e.last e.run (size_of e.level) w is,
+      sign_short e.level,
+      length-append w (sign_text e.level),
+    )
 
 -- ---- a block
 
@@ -71,10 +75,13 @@ events_short run (z ∷ zs) = at (is_zero z) (events_short (run + 1) zs) (events
     at : (t : Bool) → length (events_text (events_of (run + 1) zs)) ≤ 22 * length zs
         → length (events_text (events_of 0 zs)) ≤ 22 * length zs
         → length (events_text (cond t (events_of (run + 1) zs) (one_event (none_left zs) run z ∷ events_of 0 zs))) ≤ 22
-            * length (z ∷ zs)
+        * length (z ∷ zs)
     at true more again = omega arith
-    at false more again = omega (arith, event_short (one_event (none_left zs) run z),
-        length-append (event_text (one_event (none_left zs) run z)) (events_text (events_of 0 zs)))
+    at false more again = omega (
+      arith,
+      event_short (one_event (none_left zs) run z),
+      length-append (event_text (one_event (none_left zs) run z)) (events_text (events_of 0 zs)),
+    )
 
 inter_short : (levels : List ℤ) → length levels ≡ 64 → length (inter_text levels) ≤ 64 * 22
 unfolding inter_text levels_text

@@ -74,16 +74,21 @@ first_event run k (z ∷ levels) some e =
         ≡ false
         → ((k : ℕ) → none_left levels ≡ false → prefix_len is_passed levels ≡ k → First (run + 1) k levels)
         → (k < suc (length levels))
-            × (cond t (events_of (run + 1) levels) (one_event (none_left levels) run z ∷ events_of 0 levels)
-            ≡ one_event (none_left (drop k levels)) (run + k) (level_at (z ∷ levels) k) ∷ events_of 0 (drop k levels))
+        × (cond t (events_of (run + 1) levels) (one_event (none_left levels) run z ∷ events_of 0 levels)
+        ≡ one_event (none_left (drop k levels)) (run + k) (level_at (z ∷ levels) k) ∷ events_of 0 (drop k levels))
     at true zero e some more = absurd (omega (arith, e))
     at true (suc k) e some more =
-        let first = more k some (omega (arith, e)) in
-        (omega (arith, first.inside), first.events
-            ∙ ap (λ (r : ℕ). one_event (none_left (drop (suc k) levels)) r (level_at levels k) ∷ events_of 0
-            (drop (suc k) levels)) (omega arith))
-    at false zero e some more = (omega arith, ap (λ (r : ℕ). one_event (none_left levels) r z ∷ events_of 0 levels)
-        (omega arith))
+        let first = more k some (omega (arith, e)) in (
+          omega (arith, first.inside),
+          first.events
+              ∙ ap (λ (r : ℕ). one_event (none_left (drop (suc k) levels)) r (level_at levels k) ∷ events_of 0
+              (drop (suc k) levels)) (omega arith),
+        )
+    at false zero e some more = (
+      omega arith,
+      ap (λ (r : ℕ). one_event (none_left levels) r z ∷ events_of 0 levels)
+          (omega arith),
+    )
     at false (suc k) e some more = absurd (omega (arith, e))
 
 -- ---- the next level
@@ -116,7 +121,7 @@ module _ (place run left : ℕ) (levels : List ℤ) (long : length levels ≡ 64
   unfolding marks_of
   prefix =
       sym (trailing_mask_l (λ z. not (is_zero z)) 64 (drop place levels) (omega (arith, length-drop place levels))
-          (subst (λ (n : ℕ). 0 < n) marks (omega (arith, some))))
+      (subst (λ (n : ℕ). 0 < n) marks (omega (arith, some))))
       ∙ ap (count_trailing_zeros 64) (sym marks)
       ∙ sym zeros
 
@@ -128,8 +133,11 @@ module _ (place run left : ℕ) (levels : List ℤ) (long : length levels ≡ 64
 
   there : is_zero (level_at levels (place + run)) ≡ false
   there =
-      let inside : prefix_len is_passed (drop place levels) < length (drop place levels) = omega (arith, first.inside,
-          prefix) in
+      let inside : prefix_len is_passed (drop place levels) < length (drop place levels) = omega (
+        arith,
+        first.inside,
+        prefix,
+      ) in
       not_passed (is_zero (level_at levels (place + run)))
       (ap (λ (z : ℤ). is_passed z) (sym (get_or-drop place levels run (pos 0)))
       ∙ ap (λ (n : ℕ). is_passed (level_at (drop place levels) n)) (sym prefix)
@@ -141,7 +149,7 @@ module _ (place run left : ℕ) (levels : List ℤ) (long : length levels ≡ 64
       ∙ ap (λ (n : ℕ). n / 2) (marks_after run (drop place levels))
       ∙ marks_after 1 (drop run (drop place levels))
       ∙ ap (λ (l : List ℤ). marks_of l) (drop-drop 1 run (drop place levels)
-          ∙ ap (λ (n : ℕ). drop n (drop place levels)) (add-one run) ∙ rest_is)
+      ∙ ap (λ (n : ℕ). drop n (drop place levels)) (add-one run) ∙ rest_is)
 
   last : eqb (left / 2 ^ run / 2) 0 ≡ none_left (drop (place + run + 1) levels)
   last = ap (λ (n : ℕ). eqb n 0) marked ∙ none_marked (drop (place + run + 1) levels)
@@ -153,32 +161,38 @@ module _ (place run left : ℕ) (levels : List ℤ) (long : length levels ≡ 64
   text =
       ap events_text first.events
       ∙ ap (λ (l : List ℤ). event_text (one_event (none_left l) (0 + run) (level_at (drop place levels) run))
-          ++ events_text (events_of 0 l)) rest_is
+      ++ events_text (events_of 0 l)) rest_is
       ∙ ap (λ (b : Bool). event_text (one_event b (0 + run) (level_at (drop place levels) run))
-          ++ left_text 0 (place + run + 1) levels) (sym last)
+      ++ left_text 0 (place + run + 1) levels) (sym last)
       ∙ ap (λ (n : ℕ). event_text (one_event (eqb (left / 2 ^ run / 2) 0) n (level_at (drop place levels) run))
-          ++ left_text 0 (place + run + 1) levels) (omega arith)
+      ++ left_text 0 (place + run + 1) levels) (omega arith)
       ∙ ap (λ (z : ℤ). event_text (one_event (eqb (left / 2 ^ run / 2) 0) run z)
-          ++ left_text 0 (place + run + 1) levels) (get_or-drop place levels run (pos 0))
+      ++ left_text 0 (place + run + 1) levels) (get_or-drop place levels run (pos 0))
 
   one : Coefficient
   one = one_event (eqb (left / 2 ^ run / 2) 0) run (level_at levels (place + run))
 
   pub next : Next place run left levels
   unfolding one
-  next = record { inside = omega (arith, first.inside, length-drop place levels); some = there; marked = marked;
-      last = last; text = text; length = ap length text
-      ∙ length-append (event_text one) (left_text 0 (place + run + 1) levels) }
+  next = record {
+    inside = omega (arith, first.inside, length-drop place levels);
+    some = there;
+    marked = marked;
+    last = last;
+    text = text;
+    length = ap length text
+        ∙ length-append (event_text one) (left_text 0 (place + run + 1) levels);
+  }
 
 -- with the text of the others, all is written
 pub goes : (place run left : ℕ) (levels : List ℤ) (old new all : List Bool) → Next place run left levels
     → new ≡ old ++ event_text (one_event (eqb (left / 2 ^ run / 2) 0) run (level_at levels (place + run)))
-        → old ++ left_text 0 place levels ≡ all
+    → old ++ left_text 0 place levels ≡ all
     → new ++ left_text 0 (place + run + 1) levels ≡ all
 goes place run left levels old new all is wrote before =
     ap (λ (l : List Bool). l ++ left_text 0 (place + run + 1) levels) wrote
     ∙ append_assoc old (event_text (one_event (eqb (left / 2 ^ run / 2) 0) run (level_at levels (place + run))))
-        (left_text 0 (place + run + 1) levels)
+    (left_text 0 (place + run + 1) levels)
     ∙ ap (λ (l : List Bool). old ++ l) (sym is.text)
     ∙ before
 

@@ -34,8 +34,11 @@ nothing_productive levels = tt
 -- each event of an intra block takes a bit at least
 pub intra_productive : TableLaws → (coded : Bool) → IsProductive (intra_block coded)
 unfolding intra_block nothing IsProductive
-intra_productive tables coded = (dc_productive, λ levels. either_productive coded (events 1 levels) (nothing levels)
-    (events_productive tables 1 levels) (nothing_productive levels))
+intra_productive tables coded = (
+  dc_productive,
+  λ levels. either_productive coded (events 1 levels) (nothing levels)
+      (events_productive tables 1 levels) (nothing_productive levels),
+)
 
 -- and each of an inter block
 pub inter_productive : TableLaws → IsProductive inter_block

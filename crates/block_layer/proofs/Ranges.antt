@@ -62,7 +62,7 @@ unfolding Spells event event_parts event_table
 event_size x text h =
     let inner = h.4 in
     let small = after_size inner.1 h.0 inner.2 (stands_within is_small tcoef_words (inner.0, inner.1) all_small inner.3)
-        inner.5 in
+    inner.5 in
     subst (λ (c : Coefficient). size_of c.level < 128) (sym h.6.0) small
 
 is_level_of : (z : ℤ) → size_of z < 128 → IsLevel z
@@ -162,7 +162,7 @@ pub inter_within : (levels : List ℤ) (text : List Bool) → Spells inter_block
 unfolding inter_block
 inter_within levels text h =
     let all = events_within (λ k z. IsLevel z) 0 (λ k z after level. level) no_levels levels text
-        (λ k. zeros_within 64 k) h in
+    (λ k. zeros_within 64 k) h in
     record { levels = λ k lt. all k }
 
 -- what stands at each place of a block of an intra macroblock

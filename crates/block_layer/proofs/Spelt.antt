@@ -69,11 +69,11 @@ unfolding intra_dc alone
 dc_spelt z is =
     let back = dc_back z is in
     let done_at : Spells (done (slice_set no_levels 0 (dc_of (dc_code z)))) (alone z) [] =
-        subst (λ (y : ℤ). Spells (done (y ∷ replicate 63 (pos 0))) (alone z) []) (sym back.2) (spells_done (alone z)) in
+    subst (λ (y : ℤ). Spells (done (y ∷ replicate 63 (pos 0))) (alone z) []) (sym back.2) (spells_done (alone z)) in
     spells_whole intra_dc (alone z) (spelled 8 (dc_code z) ++ []) (spelled 8 (dc_code z))
-        (append-nil (spelled 8 (dc_code z)))
+    (append-nil (spelled 8 (dc_code z)))
     (spells_field 8 allowed_dc (λ n. done (slice_set no_levels 0 (dc_of n))) (alone z) (dc_code z) [] back.0 back.1
-        done_at)
+    done_at)
 
 -- ---- whole blocks
 
@@ -82,7 +82,7 @@ events_after : TableLaws → (z : ℤ) (rest : List ℤ) → length rest ≡ 63 
 unfolding events levels_text alone
 events_after tables z rest long some range =
     subst (λ (n : ℕ). Spells (repeat (at_place 1 (z ∷ replicate n (pos 0))) event_turn) (z ∷ rest)
-        (levels_text 1 (z ∷ rest))) long
+    (levels_text 1 (z ∷ rest))) long
     (events_spelt tables (z ∷ []) rest 1 0 refl (omega arith) some range)
 
 nothing_after : (z : ℤ) (rest : List ℤ) → length rest ≡ 63 → none_left rest ≡ true → z ∷ rest ≡ alone z
@@ -106,8 +106,8 @@ intra_at : TableLaws → (z : ℤ) (rest : List ℤ) → length rest ≡ 63 → 
 unfolding intra_block intra_text
 intra_at tables z rest long dc range =
     spells_part intra_dc any (λ levels. either (is_coded (z ∷ rest)) (events 1 levels) (done levels)) (z ∷ rest)
-        (alone z) (spelled 8 (dc_code z)) (coded_text (z ∷ rest)) (dc_spelt z dc) refl
-        (after_spelt tables z rest long range)
+    (alone z) (spelled 8 (dc_code z)) (coded_text (z ∷ rest)) (dc_spelt z dc) refl
+    (after_spelt tables z rest long range)
 
 pub intra_written : TableLaws → (b : Block) → length b.levels ≡ 64 → IsIntraBlock b
     → Spells (intra_block (is_coded b.levels)) b.levels (intra_text b.levels)
@@ -125,9 +125,9 @@ pub inter_written : TableLaws → (b : Block) → length b.levels ≡ 64 → IsI
 unfolding inter_block inter_text events levels_text
 inter_written tables b long is some =
     subst (λ (n : ℕ). Spells (repeat (at_place 0 (replicate n (pos 0))) event_turn) b.levels (levels_text 0 b.levels))
-        long
+    long
     (events_spelt tables [] b.levels 0 0 refl (omega arith) some
-        (all_written b.levels (λ k lt. is.levels k (omega arith))))
+    (all_written b.levels (λ k lt. is.levels k (omega arith))))
 
 -- the text that is written of a block is one of its texts
 pub are_spelt : TableLaws → AreSpelt

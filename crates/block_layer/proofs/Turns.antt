@@ -63,8 +63,12 @@ pub placed_there : (place : ℕ) (b c : Bits) (found : SeenEvent) (last : Bool) 
     → place + found.event.run < 64 → found.event.last ≡ last → c ≡ skip found.len b
     → reading (placed place) b ≡ Ok (next (place + found.event.run) found.event.level last, c)
 unfolding reading placed
-placed_there place b c found last e inside same after = rw (sym same, after, e.read,
-    lt-ltb (place + found.event.run) 64 inside) refl
+placed_there place b c found last e inside same after = rw (
+  sym same,
+  after,
+  e.read,
+  lt-ltb (place + found.event.run) 64 inside,
+) refl
 
 -- and where it is past it
 pub placed_past : (place : ℕ) (b : Bits) (found : SeenEvent) → IsNextEvent b found → 64 ≤ place + found.event.run

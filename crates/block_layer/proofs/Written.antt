@@ -37,20 +37,20 @@ event_spelt tables last run z few some range = tables.spelt.event (record { last
 event_at : TableLaws → (p r k : ℕ) (z : ℤ) (last : Bool) (levels : List ℤ) → p + r ≡ k → k < 64 → is_zero z ≡ false
     → IsWritten z
     → Spells (event_turn (at_place p levels)) (after_event levels (next k z last))
-        (event_text (record { last = last; run = r; level = z }))
+    (event_text (record { last = last; run = r; level = z }))
 unfolding event_turn placed
 event_at tables p r k z last levels e lt some range =
     let one : Coefficient = record { last = last; run = r; level = z } in
     let inside : allowed_place p one ≡ None = rw (lt-ltb (p + r) 64 (omega arith)) refl in
     let at : Spells (placed p) (next (p + r) z last) (event_text one ++ []) = spells_part event (allowed_place p) _
-        _ one (event_text one) [] (event_spelt tables last r z (omega arith) some range) inside (spells_done _) in
+    _ one (event_text one) [] (event_spelt tables last r z (omega arith) some range) inside (spells_done _) in
     let turn : Spells (event_turn (at_place p levels)) (after_event levels (next (p + r) z last))
-        ((event_text one ++ []) ++ []) = spells_part (placed p) any _ _ (next (p + r) z last) (event_text one
-        ++ []) [] at refl (spells_done _) in
+    ((event_text one ++ []) ++ []) = spells_part (placed p) any _ _ (next (p + r) z last) (event_text one
+    ++ []) [] at refl (spells_done _) in
     let whole : (event_text one ++ []) ++ [] ≡ event_text one = append-nil (event_text one ++ [])
-        ∙ append-nil (event_text one) in
+    ∙ append-nil (event_text one) in
     subst (λ (n : ℕ). Spells (event_turn (at_place p levels)) (after_event levels (next n z last)) (event_text one)) e
-        (spells_whole _ _ _ _ whole turn)
+    (spells_whole _ _ _ _ whole turn)
 
 -- ---- all of them
 
@@ -98,20 +98,20 @@ ends p k z levels after text is h = spells_last (at_place p levels) event_turn a
 goes : (p k : ℕ) (z : ℤ) (levels after whole : List ℤ) (text rest : List Bool) → slice_set levels k z ≡ after
     → Spells (event_turn (at_place p levels)) (after_event levels (next k z false)) text
     → Spells (repeat (at_place (k + 1) after) event_turn) whole rest
-        → Spells (repeat (at_place p levels) event_turn) whole (text ++ rest)
+    → Spells (repeat (at_place p levels) event_turn) whole (text ++ rest)
 goes p k z levels after whole text rest is h more =
     spells_turn (at_place p levels) (at_place (k + 1) after) event_turn whole text rest
-        (subst (λ (l : List ℤ). Spells (event_turn (at_place p levels)) (again (at_place (k + 1) l)) text) is h) more
+    (subst (λ (l : List ℤ). Spells (event_turn (at_place p levels)) (again (at_place (k + 1) l)) text) is h) more
 
 pub events_spelt : TableLaws → (front rest : List ℤ) (p r : ℕ) → p + r ≡ length front → length front + length rest ≡ 64
     → none_left rest ≡ false → ((k : ℕ) → IsWritten (get_or rest k (pos 0)))
     → Spells (repeat (at_place p (front ++ zeros (length rest))) event_turn) (front
-        ++ rest) (events_text (events_of r rest))
+    ++ rest) (events_text (events_of r rest))
 unfolding events_of events_text
 events_spelt tables front [] p r e long some range = absurd cc
 events_spelt tables front (z ∷ zs) p r e long some range =
     step (λ p' r' e' some'. events_spelt tables (front ++ z ∷ []) zs p' r' e' (length_moves front zs z long) some'
-        (λ k. range (suc k))) (is_zero z) refl
+    (λ k. range (suc k))) (is_zero z) refl
   where
     Spelt : List Bool → Type 0
     Spelt text = Spells (repeat (at_place p (front ++ zeros (length (z ∷ zs)))) event_turn) (front ++ (z ∷ zs)) text
@@ -120,17 +120,20 @@ events_spelt tables front (z ∷ zs) p r e long some range =
         → Spells (repeat (at_place p ((front ++ z ∷ []) ++ zeros (length zs))) event_turn) ((front ++ z ∷ [])
         ++ zs) (events_text (events_of r zs)))
         → (t : Bool) → is_zero z ≡ t
-            → Spelt (events_text (cond t (events_of (r + 1) zs) (record { last = none_left zs; run = r;
-            level = z } ∷ events_of 0 zs)))
+        → Spelt (events_text (cond t (events_of (r + 1) zs) (record {
+          last = none_left zs;
+          run = r;
+          level = z;
+        } ∷ events_of 0 zs)))
     step more true t =
         let some' : none_left zs ≡ false = rw t at some in
         let h0 = more p (r + 1) (one_longer front z p r e) some' in
         let h1 = subst (λ (l : List ℤ). Spells (repeat (at_place p l) event_turn) ((front ++ z ∷ [])
-            ++ zs) (events_text (events_of (r + 1) zs))) (append_assoc front (z ∷ []) (zeros (length zs))) h0 in
+        ++ zs) (events_text (events_of (r + 1) zs))) (append_assoc front (z ∷ []) (zeros (length zs))) h0 in
         let h2 = subst (λ (l : List ℤ). Spells (repeat (at_place p (front ++ (z ∷ zeros (length zs)))) event_turn) l
-            (events_text (events_of (r + 1) zs))) (append_assoc front (z ∷ []) zs) h1 in
+        (events_text (events_of (r + 1) zs))) (append_assoc front (z ∷ []) zs) h1 in
         subst (λ (x : ℤ). Spells (repeat (at_place p (front ++ (x ∷ zeros (length zs)))) event_turn) (front ++ (z ∷ zs))
-            (events_text (events_of (r + 1) zs))) (zero_is z t) h2
+        (events_text (events_of (r + 1) zs))) (zero_is z t) h2
     step more false t = at (none_left zs) refl (event_at tables p r (length front) z (none_left zs) (front
         ++ (pos 0 ∷ zeros (length zs))) e (omega arith) t (range 0))
       where
@@ -146,19 +149,19 @@ events_spelt tables front (z ∷ zs) p r e long some range =
         at true is h =
             let zero : zs ≡ zeros (length zs) = all_zeros zs is in
             let set : slice_set levels (length front) z ≡ front ++ (z ∷ zs) = set_here front (zeros (length zs)) z
-                (pos 0) ∙ ap (λ (l : List ℤ). front ++ (z ∷ l)) (sym zero) in
+            (pos 0) ∙ ap (λ (l : List ℤ). front ++ (z ∷ l)) (sym zero) in
             spells_whole (repeat (at_place p levels) event_turn) (front ++ (z ∷ zs)) (event_text (one true)) _
-                (sym (append-nil (event_text (one true)))
-                ∙ ap (λ (l : List Bool). event_text (one true) ++ l) (sym (no_text zs is)))
+            (sym (append-nil (event_text (one true)))
+            ∙ ap (λ (l : List Bool). event_text (one true) ++ l) (sym (no_text zs is)))
             (ends p (length front) z levels (front ++ (z ∷ zs)) (event_text (one true)) set h)
         at false is h =
             let h0 = more (length front + 1) 0 (omega (arith, length-append front (z ∷ []))) is in
             let h1 = subst (λ (l : List ℤ). Spells (repeat (at_place (length front + 1) l) event_turn)
-                ((front ++ z ∷ []) ++ zs) (events_text (events_of 0 zs)))
-                (append_assoc front (z ∷ []) (zeros (length zs))) h0 in
+            ((front ++ z ∷ []) ++ zs) (events_text (events_of 0 zs)))
+            (append_assoc front (z ∷ []) (zeros (length zs))) h0 in
             let h2 = subst (λ (l : List ℤ). Spells
-                (repeat (at_place (length front + 1) (front ++ (z ∷ zeros (length zs)))) event_turn) l
-                (events_text (events_of 0 zs))) (append_assoc front (z ∷ []) zs) h1 in
+            (repeat (at_place (length front + 1) (front ++ (z ∷ zeros (length zs)))) event_turn) l
+            (events_text (events_of 0 zs))) (append_assoc front (z ∷ []) zs) h1 in
             goes p (length front) z levels (front ++ (z ∷ zeros (length zs))) (front ++ (z ∷ zs))
-                (event_text (one false)) (events_text (events_of 0 zs)) (set_here front (zeros (length zs)) z (pos 0)) h
-                h2
+            (event_text (one false)) (events_text (events_of 0 zs)) (set_here front (zeros (length zs)) z (pos 0)) h
+            h2

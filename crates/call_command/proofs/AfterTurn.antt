@@ -52,7 +52,7 @@ use Rattle.call_command.proofs.Lines.{nothing_after}
 -- the parts stood at the state before it
 pub stood_after : (x : Parts) (s : CallState) (inputs : Role → List ℕ) → PartsStand x s inputs → x.terms.plain ≡ false
     → (trace : TracePlace) (left : Option (List ℕ)) → trace.lines ≡ x.link.trace.lines + 1
-        → Passes (inputs Events) trace left
+    → Passes (inputs Events) trace left
     → StoodBefore (record x { link = record x.link { trace = trace } }) (state_of x s.before s.frames s.past) inputs
 stood_after x s inputs k recorded trace left lines passes = record {
   is = λ i. record (state_of x s.before s.frames s.past) { lines = sym lines i; ended = sym passes.ends i };
@@ -97,7 +97,7 @@ module _ (x : Parts) (s : CallState) (inputs : Role → List ℕ) (k : StoodBefo
       → refusal_after p s.before (s.frames ++ later) s.past e ≡ refusal_after p s.before s.frames s.past e
   refusal_later frames_law e later =
       ap (λ (both : Joined Style Mb Picture). refusal_of both e) (frames_law (receiver_end.run_of p s.before)
-          (steady p) s.frames later s.past done_here.way_holds.near).0
+      (steady p) s.frames later s.past done_here.way_holds.near).0
 
   -- ---- a refused event
 
@@ -134,17 +134,17 @@ module _ (x : Parts) (s : CallState) (inputs : Role → List ℕ) (k : StoodBefo
 
   pub packet_is : (n j : ℕ) → refusal_after p s.before s.frames s.past (Deliver n j) ≡ None
       → event_step by_ends s inputs trace (says.Packet n j)
-          ≡ Goes (after_line (with_packet s n j) trace) (line_turn trace no_texts)
+      ≡ Goes (after_line (with_packet s n j) trace) (line_turn trace no_texts)
   packet_is n j none = step_is (Deliver n j) _ none
 
   pub packets_is : (n : ℕ) → refusal_after p s.before s.frames s.past (Deliver n 0) ≡ None
       → event_step by_ends s inputs trace (says.All n) ≡ Goes (after_line (with_packets by_ends s n) trace)
-          (line_turn trace no_texts)
+      (line_turn trace no_texts)
   packets_is n none = step_is (Deliver n 0) _ none
 
   pub message_is : (m : ℕ) → refusal_after p s.before s.frames s.past (Back m) ≡ None
       → event_step by_ends s inputs trace (says.Back m)
-          ≡ Goes (after_line (with_message s m) trace) (line_turn trace no_texts)
+      ≡ Goes (after_line (with_message s m) trace) (line_turn trace no_texts)
   message_is m none = step_is (Back m) _ none
 
   -- the reader of the video is where the state says
@@ -181,18 +181,20 @@ module _ (x : Parts) (s : CallState) (inputs : Role → List ℕ) (k : StoodBefo
         with_events st events = record st { past = events }
 
         read_to : TracePlace → List Event → CallState
-        read_to reader events = record (state_of x s.before s.frames events) { lines = reader.lines;
-            ended = reader.ended }
+        read_to reader events = record (state_of x s.before s.frames events) {
+          lines = reader.lines;
+          ended = reader.ended;
+        }
 
     pub event_goes : TurnLaws → (before mid : Outside) → HasTaken inputs before mid
         → (event : Line) (events : List Event)
         → event_step by_ends s inputs trace event ≡ Goes (after_line (record s { past = events }) trace)
-            (line_turn trace no_texts)
+        (line_turn trace no_texts)
         → ((later : List Frame) → HasDone y s.before (s.frames ++ later) events)
         → Went (event_step by_ends s inputs trace event) (PartsStand y) may_read true inputs before mid
     event_goes laws before mid taken event events is holds =
         line_goes s inputs before mid taken (record s { past = events }) no_texts _ (PartsStand y) is
-            (stands_event events holds) mid refl (laws.no_text mid.written mid.written refl)
+        (stands_event events holds) mid refl (laws.no_text mid.written mid.written refl)
 
   -- ---- all packets of a picture
 
@@ -220,7 +222,7 @@ module _ (x : Parts) (s : CallState) (inputs : Role → List ℕ) (k : StoodBefo
     pub stands_sent : (size : ℕ) → video.at ≡ s.at + size → video.more + 1 ≡ s.more → sender.sent ≡ x.sender.sent + 1
         → ((later : List Frame) → HasDone sent_parts s.before (s.frames ++ f ∷ later) (Send ∷ s.past))
         → PartsStand sent_parts (record (after_line (with_frame s f) trace) { at = s.at + size; more = s.more - 1 })
-            (left_after inputs (and_of taken_line (of Video size)))
+        (left_after inputs (and_of taken_line (of Video size)))
     stands_sent size place fewer sent holds = record {
       is = let less : s.more - 1 ≡ video.more = omega (arith, fewer) in
           ap (λ (st : CallState). sent_from st (s.at + size) (s.more - 1)) k.is
@@ -240,8 +242,12 @@ module _ (x : Parts) (s : CallState) (inputs : Role → List ℕ) (k : StoodBefo
         sent_from st at more = record st { frames = s.frames ++ f ∷ []; past = Send ∷ s.past; at = at; more = more }
 
         read_to : TracePlace → ℕ → ℕ → CallState
-        read_to reader at more = record (state_of x s.before (s.frames ++ f ∷ []) (Send ∷ s.past)) { at = at;
-            more = more; lines = reader.lines; ended = reader.ended }
+        read_to reader at more = record (state_of x s.before (s.frames ++ f ∷ []) (Send ∷ s.past)) {
+          at = at;
+          more = more;
+          lines = reader.lines;
+          ended = reader.ended;
+        }
 
   -- ---- the next picture was played
 
@@ -252,7 +258,7 @@ module _ (x : Parts) (s : CallState) (inputs : Role → List ℕ) (k : StoodBefo
   texts_are laws =
       ap (texts_at p) (laws.played x.sender x.receiver s.before s.frames s.past done_here.way_holds.joined)
       ∙ sym (ap (λ (q : Params). texts_at q (both_after q (steady q) s.frames s.before s.past).receiver.played)
-          params_is)
+      params_is)
 
   module _ (laws : WayLaws p) (before old new : Outside) (taken : HasTaken inputs before old) (still : new.left
       ≡ old.left) (none : refusal_after p s.before s.frames s.past Play ≡ None) where
@@ -266,17 +272,17 @@ module _ (x : Parts) (s : CallState) (inputs : Role → List ℕ) (k : StoodBefo
     pub play_goes : (stands : CallState → (Role → List ℕ) → Type 0)
         → stands (after_line (with_play s) trace) (left_after inputs taken_line)
         → Gains (texts_at p x.receiver.played) old.written new.written
-            → Went (event_step by_ends s inputs trace says.Play) stands may_read true inputs before new
+        → Went (event_step by_ends s inputs trace says.Play) stands may_read true inputs before new
     play_goes stands kept gains =
         line_goes s inputs before old taken (with_play s) shown _ stands play_is kept new still
-            (subst (λ (t : Role → List ℕ). Gains t old.written new.written) (texts_are laws) gains)
+        (subst (λ (t : Role → List ℕ). Gains t old.written new.written) (texts_are laws) gains)
 
     pub play_cut : GainsFronts (texts_at p x.receiver.played) old.written new.written
         → GainsFronts (step_texts (event_step by_ends s inputs trace says.Play)) before.written new.written
     play_cut gains =
         subst (λ (step : Step CallState). GainsFronts (step_texts step) before.written new.written) (sym play_is)
         (subst (λ (w : Role → Option (List ℕ)). GainsFronts shown w new.written) taken.written
-            (subst (λ (t : Role → List ℕ). GainsFronts t old.written new.written) (texts_are laws) gains))
+        (subst (λ (t : Role → List ℕ). GainsFronts t old.written new.written) (texts_are laws) gains))
 
 -- ---- what a line's turn is, by what the line says
 
@@ -291,17 +297,17 @@ pub line_stops : (x : World) (line : ℕ) (event said : Line) (r : Result Bool S
     (checked : Result Unit Told) (now : Outside) → event ≡ said
     → IsErrAnd r (λ z. z ≡ status) → IsRefusedWith line checked status → x.terms.plain ≡ false → TurnLaws → StepLaws
     → ((old : Outside) (s : CallState) (inputs : Role → List ℕ) → IsRead (parts_of x) line now old s inputs
-        → IsChecked checked said (refusal_after x.terms.params s.before s.frames s.past))
+    → IsChecked checked said (refusal_after x.terms.params s.before s.frames s.past))
     → TakesLine x x line event r now now
 line_stops x line event said r status (Ok u) now is answer refused recorded laws steps checks = absurd refused
 line_stops x line event said r status (Err told) now is answer refused recorded laws steps checks =
     subst (λ (e : Line). TakesLine x x line e r now now) (sym is)
     (gave_up x x now now (IsRead (parts_of x) line now) (λ s inputs. event_step by_ends s inputs (inputs Events) said)
-        (λ _. true) (more_of (parts_of x) + 1)
+    (λ _. true) (more_of (parts_of x) + 1)
     r (TraceRefused (fault_at line told)) (subst (λ (w : Status). IsErrAnd r (λ z. z ≡ w)) refused answer)
-        refl recorded tt tt (steps.none now)
+    refl recorded tt tt (steps.none now)
     (λ o s inputs b. line_is_refused (parts_of x) s inputs b.stood laws o now b.taken told line b.number
-        (fault_at line told) refl said (checks o s inputs b))
+    (fault_at line told) refl said (checks o s inputs b))
     (λ s stand. stand))
 
 -- a line whose event is done
@@ -314,7 +320,7 @@ pub line_goes_on : (x y : World) (line : ℕ) (event said : Line) (mid new : Out
 line_goes_on x y line event said mid new is names more ready rest gives =
     subst (λ (e : Line). TakesLine x y line e (Ok true) mid new) (sym is)
     (goes_on x y mid new (IsRead (parts_of x) line mid) (λ s inputs. event_step by_ends s inputs (inputs Events) said)
-        (λ _. true) (more_of (parts_of x) + 1)
+    (λ _. true) (more_of (parts_of x) + 1)
     names (ap (λ (n : ℕ). n + 1) more) ready rest gives)
 
 -- one that can't write
@@ -327,19 +333,19 @@ pub line_was_cut : (x y : World) (line : ℕ) (event said : Line) (r : Result Bo
 line_was_cut x y line event said r status mid new is answer names kind rose rest gives =
     subst (λ (e : Line). TakesLine x y line e r mid new) (sym is)
     (was_cut x y mid new (IsRead (parts_of x) line mid) (λ s inputs. event_step by_ends s inputs (inputs Events) said)
-        (λ _. true) (more_of (parts_of x) + 1)
+    (λ _. true) (more_of (parts_of x) + 1)
     r status answer names kind rose rest gives)
 
 -- a line that asks for a frame
 pub asks_frame : (x y : World) (line : ℕ) (event : Line) (r : Result Bool Status) (mid new : Outside)
     → event ≡ says.Send → TakesFrame x y line r mid new
     → ((old : Outside) (s : CallState) (inputs : Role → List ℕ) → IsRead (parts_of x) line mid old s inputs
-        → refusal_at by_ends s Send ≡ None)
+    → refusal_at by_ends s Send ≡ None)
     → TakesLine x y line event r mid new
 asks_frame x y line event r mid new is t none = subst (λ (e : Line). TakesLine x y line e r mid new) (sym is) (record {
   gives = λ old s inputs b.
       subst (λ (step : Step CallState). TurnGives r step (PartsStand (parts_of y)) may_read true inputs old new)
-          (sym (capture_is (parts_of x) s inputs b.stood (none old s inputs b)))
+      (sym (capture_is (parts_of x) s inputs b.stood (none old s inputs b)))
       (t.gives old s inputs (is_asked old s inputs b));
   whole = λ old s inputs b. t.whole old s inputs (is_asked old s inputs b);
   keeps = t.keeps;

@@ -50,20 +50,20 @@ event_agrees s inputs trace says.Send same played =
     ap (λ (seen : Seen). unless s trace Send (refused_by s Send seen) (capture_step s trace (inputs Video))) same
 event_agrees s inputs trace (says.Packet n j) same played =
     ap (λ (seen : Seen). unless s trace (Deliver n j) (refused_by s (Deliver n j) seen)
-        (goes (after_line (with_packet s n j) trace) (line_turn trace no_texts))) same
+    (goes (after_line (with_packet s n j) trace) (line_turn trace no_texts))) same
 event_agrees s inputs trace (says.All n) same played =
     ap (λ (seen : Seen). unless s trace (Deliver n 0) (refused_by s (Deliver n 0) seen)
     (goes (after_line (record s { past = delivered n (length (slices_at seen.coded n)) ++ s.past }) trace)
-        (line_turn trace no_texts))) same
+    (line_turn trace no_texts))) same
 event_agrees s inputs trace (says.Back k) same played =
     ap (λ (seen : Seen). unless s trace (Back k) (refused_by s (Back k) seen)
-        (goes (after_line (with_message s k) trace) (line_turn trace no_texts))) same
+    (goes (after_line (with_message s k) trace) (line_turn trace no_texts))) same
 event_agrees s inputs trace says.Play same played =
     unless_same s trace Play (refusal_at by_ends s Play) _ _
     (λ none. λ i. goes (after_line (with_play s) trace) (line_turn trace (play_texts (played none i) (same i).played)))
     ∙ ap (λ (seen : Seen). unless s trace Play (refused_by s Play seen)
     (goes (after_line (with_play s) trace) (line_turn trace (play_texts (by_call (with_play s)) (by_call s).played))))
-        same
+    same
 
 line_agrees : (s : CallState) (inputs : Role → List ℕ) (trace : List ℕ) (o : Option Line) → Same s
     → (refusal_at by_ends s Play ≡ None → Same (with_play s))
@@ -81,17 +81,20 @@ trace_agrees s inputs (b ∷ trace) same played =
 
 frame_agrees : (s : CallState) (video : List ℕ) (r : Result (List ℕ) Y4mFault)
     → ((planes : List ℕ) → Same (with_frame s (bare (picture_of s.params.format planes)))
-        × Same (with_picture by_ends s planes))
+    × Same (with_picture by_ends s planes))
     → frame_step by_ends s video r ≡ frame_step by_call s video r
 frame_agrees s video (Ok planes) same =
     let sent = with_frame s (bare (picture_of s.params.format planes)) in
     let size = frame_size s.params.format video in
     let n = length s.frames in
     let passed : Seen → CallState =
-        λ seen. with_play (record sent { past = delivered n (length (slices_at seen.coded n)) ++ sent.past }) in
+    λ seen. with_play (record sent { past = delivered n (length (slices_at seen.coded n)) ++ sent.past }) in
     let step : CallState → Seen → Step CallState = λ next seen.
-    goes (record next { at = s.at + size; more = s.more - 1 }) (record { taken = of Video size; whole = true;
-        texts = play_texts seen n })
+    goes (record next { at = s.at + size; more = s.more - 1 }) (record {
+      taken = of Video size;
+      whole = true;
+      texts = play_texts seen n;
+    })
     in
     ap (step (with_picture by_ends s planes)) (same planes).1
     ∙ ap (λ (seen : Seen). step (passed seen) (by_call (passed seen))) (same planes).0
@@ -99,7 +102,7 @@ frame_agrees s video (Err fault) same = refl
 
 pub video_agrees : (s : CallState) (video : List ℕ) → Same s
     → ((planes : List ℕ) → Same (with_frame s (bare (picture_of s.params.format planes)))
-        × Same (with_picture by_ends s planes))
+    × Same (with_picture by_ends s planes))
     → video_step by_ends s video ≡ video_step by_call s video
 video_agrees s [] same passed = ap (λ (seen : Seen). ends (all_played seen)) same
 video_agrees s (b ∷ rest) same passed = frame_agrees s (b ∷ rest) (next_frame s.more s.params.format s.at (b ∷ rest))

@@ -29,11 +29,11 @@ use Rattle.call_command.proofs.Lines.{double_not, frame_held, refused_by, with_f
 frame_part : VideoLaws → (s : CallState) (trace video : List ℕ) (n : ℕ) (r : Result (List ℕ) Y4mFault)
     → next_frame s.more s.params.format s.at video ≡ r
     → IsErr (frame_of s.params.format s.at (take n video))
-        → IsPart (step_turns (captured_step s trace (frame_size s.params.format video) r)) (with_frame_bytes trace n)
+    → IsPart (step_turns (captured_step s trace (frame_size s.params.format video) r)) (with_frame_bytes trace n)
 frame_part laws s trace video n (Ok frame) is lost =
     frame_held trace (frame_size s.params.format video) n
     (λ whole. not_an_err _ frame (laws.frame s.params.format s.at n video frame
-        (next_is s.more s.params.format s.at video frame is) whole).0 lost)
+    (next_is s.more s.params.format s.at video frame is) whole).0 lost)
 frame_part laws s trace video n (Err fault) is lost = tt
 
 video_part : VideoLaws → (s : CallState) (trace video : List ℕ) (n : ℕ)
@@ -106,8 +106,10 @@ module _ (turns : TurnLaws) (laws : VideoLaws) (s : CallState) (inputs : Role �
     size = frame_size s.params.format (inputs Video)
 
     abbrev sent : CallState
-    sent = record (after_line (with_frame s (bare (picture_of s.params.format out))) trace) { at = s.at + size;
-        more = s.more - 1 }
+    sent = record (after_line (with_frame s (bare (picture_of s.params.format out))) trace) {
+      at = s.at + size;
+      more = s.more - 1;
+    }
 
     pub frame_sent : (stands : CallState → (Role → List ℕ) → Type 0)
         → stands sent (left_after inputs (with_frame_bytes trace size))

@@ -45,7 +45,7 @@ pub lent_first : (x : Parts) (before : List ReceiverEntry) (inputs : Role → Li
     → IsFresh x.terms x.link
     → x.sender.params ≡ x.terms.params → sender_end.Stands (steady x.terms.params) x.sender [] → x.sender.sent ≡ 0
     → x.video.more ≡ 1048576 → x.receiver.params ≡ x.terms.params → x.receiver.played ≡ 0
-        → receiver_end.Stands x.receiver before
+    → receiver_end.Stands x.receiver before
     → PartsStand x (first_state x.terms before x.video.at) inputs
 lent_first x before inputs laws fresh sender_params sends sent more receiver_params played receives =
     stands_first x fresh laws sender_params sends sent more before x.video.at inputs refl receiver_params receives
@@ -70,7 +70,7 @@ alone_under_way x lines more kept talk run inputs start now u =
     let same : run_of talk_step (more_of x) u.state u.rest ≡ run_of call_step most u.state u.rest =
     ap (λ (n : ℕ). run_of talk_step n u.state u.rest) (most_is x lines more)
     ∙ subst (λ (s : CallState). run_of talk_step most s u.rest ≡ run_of call_step most s u.rest) (sym u.kept)
-        (talk x.video.at most u.rest)
+    (talk x.video.at most u.rest)
     in
     record {
       done = u.done;
@@ -96,7 +96,7 @@ module _ (x : Parts) (before : List ReceiverEntry) (inputs : Role → List ℕ) 
 
   pub under_way : TurnLaws
       → IsUnderWay talk_step may_read (talk_of x.terms before x.video.at inputs) inputs now.written (PartsStand x)
-          (more_of x) now
+      (more_of x) now
   under_way laws = record {
     done = [];
     state = first;

@@ -31,12 +31,12 @@ pub plainly : (x : Parts) (s : CallState) (inputs : Role → List ℕ) → s ≡
     → x.terms.plain ≡ true
     → (P : Step CallState → Bool → Type 0)
     → P (video_step by_ends (state_of x s.before s.frames s.past) (inputs Video))
-        (may_read (state_of x s.before s.frames s.past)) → P (talk_step s inputs) (may_read s)
+    (may_read (state_of x s.before s.frames s.past)) → P (talk_step s inputs) (may_read s)
 plainly x s inputs is plain P holds =
     let here = state_of x s.before s.frames s.past in
     let same : talk_step here inputs ≡ video_step by_ends here (inputs Video) =
     ap (λ (b : Bool). if b then video_step by_ends here (inputs Video) else trace_step by_ends here inputs
-        (inputs Events)) plain
+    (inputs Events)) plain
     in
     subst (λ (y : CallState). P (talk_step y inputs) (may_read y)) (sym is)
     (subst (λ (step : Step CallState). P step (may_read here)) (sym same) holds)
@@ -46,12 +46,12 @@ pub line_by_line : (x : Parts) (s : CallState) (inputs : Role → List ℕ) → 
     → x.terms.plain ≡ false
     → (P : Step CallState → Bool → Type 0)
     → P (trace_step by_ends (state_of x s.before s.frames s.past) inputs (inputs Events))
-        (may_read (state_of x s.before s.frames s.past)) → P (talk_step s inputs) (may_read s)
+    (may_read (state_of x s.before s.frames s.past)) → P (talk_step s inputs) (may_read s)
 line_by_line x s inputs is recorded P holds =
     let here = state_of x s.before s.frames s.past in
     let same : talk_step here inputs ≡ trace_step by_ends here inputs (inputs Events) =
     ap (λ (b : Bool). if b then video_step by_ends here (inputs Video) else trace_step by_ends here inputs
-        (inputs Events)) recorded
+    (inputs Events)) recorded
     in
     subst (λ (y : CallState). P (talk_step y inputs) (may_read y)) (sym is)
     (subst (λ (step : Step CallState). P step (may_read here)) (sym same) holds)
@@ -65,7 +65,7 @@ done_now x s holds = subst (λ (l : List Frame). HasDone x s.before l s.past) (a
 -- the line of the counts is that of the state
 pub counts_are : (x : Parts) → WayLaws x.terms.params → (s : CallState) (inputs : Role → List ℕ) → PartsStand x s inputs
     → counts_of (tally_of (way_of x.link.network)) x.receiver.played x.sender.sent
-        ≡ call_text (by_ends (state_of x s.before s.frames s.past))
+    ≡ call_text (by_ends (state_of x s.before s.frames s.past))
 counts_are x laws s inputs k =
     let h = (done_now x s k.holds).way_holds in
     let played = laws.played x.sender x.receiver s.before s.frames s.past h.joined in
@@ -120,29 +120,29 @@ module _ (x y : World) (mid new : Outside) (Begins : Outside → CallState → (
   pub gave_up : (r : Result Bool Status) (status : Status) → IsErrAnd r (λ z. z ≡ status) → names_of y ≡ names_of x
       → IsAnswer x.terms.plain status → IsStop status → HasCause status mid.faults new.faults → KeepsRoles mid new
       → ((old : Outside) (s : CallState) (inputs : Role → List ℕ) → Begins old s inputs
-          → GivesUp (phase status) status (step s inputs) (reads s) inputs old new)
+      → GivesUp (phase status) status (step s inputs) (reads s) inputs old new)
       → LeavesEnds x y
       → IsTurn x y r mid new Begins step reads more
   gave_up (Ok b) status is names answers stop cause rest gives keeps = absurd is
   gave_up (Err z) status is names answers stop cause rest gives keeps =
       subst (λ (w : Status). IsTurn x y (Err w) mid new Begins step reads more) (sym is) (record {
-    gives = gives;
-    whole = λ old s inputs k. tt;
-    keeps = once (phase status) (LeavesEnds x y) keeps;
-    lasts = names;
-    falls = tt;
-    ready = tt;
-    answers = answers;
-    stop = stop;
-    cause = cause;
-    rest = rest;
-  })
+        gives = gives;
+        whole = λ old s inputs k. tt;
+        keeps = once (phase status) (LeavesEnds x y) keeps;
+        lasts = names;
+        falls = tt;
+        ready = tt;
+        answers = answers;
+        stop = stop;
+        cause = cause;
+        rest = rest;
+      })
 
   -- one that can't write: what was kept is not asked
   pub was_cut : (r : Result Bool Status) (status : Status) → IsErrAnd r (λ z. z ≡ status) → names_of y ≡ names_of x
       → status ≡ WriteFault → Rose mid.faults.write new.faults.write → KeepsRoles mid new
       → ((old : Outside) (s : CallState) (inputs : Role → List ℕ) → Begins old s inputs
-          → GainsFronts (step_texts (step s inputs)) old.written new.written)
+      → GainsFronts (step_texts (step s inputs)) old.written new.written)
       → IsTurn x y r mid new Begins step reads more
   was_cut (Ok b) status is names kind rose rest gives = absurd is
   was_cut (Err z) status is names kind rose rest gives =
@@ -163,7 +163,7 @@ module _ (x y : World) (mid new : Outside) (Begins : Outside → CallState → (
   pub goes_on : names_of y ≡ names_of x → more_of (parts_of y) + 1 ≡ more → PartsReady (parts_of y) new.attached
       → KeepsRoles mid new
       → ((old : Outside) (s : CallState) (inputs : Role → List ℕ) → Begins old s inputs
-          → Went (step s inputs) (PartsStand (parts_of y)) may_read (reads s) inputs old new)
+      → Went (step s inputs) (PartsStand (parts_of y)) may_read (reads s) inputs old new)
       → IsTurn x y (Ok true) mid new Begins step reads more
   goes_on names falls ready rest gives = record {
     gives = gives;
@@ -181,9 +181,9 @@ module _ (x y : World) (mid new : Outside) (Begins : Outside → CallState → (
   -- one that ends the call
   pub is_over : names_of y ≡ names_of x → KeepsRoles mid new
       → ((old : Outside) (s : CallState) (inputs : Role → List ℕ) → Begins old s inputs
-          → Ended (step s inputs) Fine inputs old new)
+      → Ended (step s inputs) Fine inputs old new)
       → ((old : Outside) (s : CallState) (inputs : Role → List ℕ) → Begins old s inputs → new.left (source_of x.terms)
-          ≡ Some [])
+      ≡ Some [])
       → LeavesEnds x y
       → IsTurn x y (Ok false) mid new Begins step reads more
   is_over names rest gives whole keeps = record {
@@ -210,19 +210,19 @@ module _ (x y : World) (old new : Outside) where
   pub turn_gave_up : (r : Result Bool Status) (status : Status) → IsErrAnd r (λ z. z ≡ status) → names_of y ≡ names_of x
       → IsAnswer x.terms.plain status → IsStop status → HasCause status old.faults new.faults → KeepsRoles old new
       → ((s : CallState) (inputs : Role → List ℕ) → PartsStand (parts_of x) s inputs → Tells old inputs
-          → GivesUp (phase status) status (talk_step s inputs) (may_read s) inputs old new)
+      → GivesUp (phase status) status (talk_step s inputs) (may_read s) inputs old new)
       → LeavesEnds x y
       → TakesTurn x y r old new
   turn_gave_up r status is names answers stop cause rest gives keeps =
       gave_up x y old new _ _ _ _ r status is names answers stop cause rest
       (begun (parts_of x) old (λ o s inputs. GivesUp (phase status) status (talk_step s inputs)
-          (may_read s) inputs o new) gives)
+      (may_read s) inputs o new) gives)
       keeps
 
   pub turn_was_cut : (r : Result Bool Status) (status : Status) → IsErrAnd r (λ z. z ≡ status) → names_of y ≡ names_of x
       → status ≡ WriteFault → Rose old.faults.write new.faults.write → KeepsRoles old new
       → ((s : CallState) (inputs : Role → List ℕ) → PartsStand (parts_of x) s inputs → Tells old inputs
-          → GainsFronts (step_texts (talk_step s inputs)) old.written new.written)
+      → GainsFronts (step_texts (talk_step s inputs)) old.written new.written)
       → TakesTurn x y r old new
   turn_was_cut r status is names kind rose rest gives =
       was_cut x y old new _ _ _ _ r status is names kind rose rest
@@ -230,9 +230,9 @@ module _ (x y : World) (old new : Outside) where
 
   pub turn_is_over : names_of y ≡ names_of x → KeepsRoles old new
       → ((s : CallState) (inputs : Role → List ℕ) → PartsStand (parts_of x) s inputs → Tells old inputs
-          → Ended (talk_step s inputs) Fine inputs old new)
+      → Ended (talk_step s inputs) Fine inputs old new)
       → ((s : CallState) (inputs : Role → List ℕ) → PartsStand (parts_of x) s inputs → Tells old inputs
-          → new.left (source_of x.terms) ≡ Some [])
+      → new.left (source_of x.terms) ≡ Some [])
       → LeavesEnds x y
       → TakesTurn x y (Ok false) old new
   turn_is_over names rest gives whole keeps =

@@ -46,10 +46,14 @@ module _ (s : CallState) (inputs : Role → List ℕ) (trace : List ℕ) where
   turn_event : (line : Line) → IsLineTurn trace (event_step by_ends s inputs trace line)
   turn_event says.Nothing = (refl, same_size (line_size trace))
   turn_event says.Send = turn_unless Send (refusal_at by_ends s Send) _ (turn_capture (inputs Video))
-  turn_event (says.Packet n j) = turn_unless (Deliver n j) (refusal_at by_ends s (Deliver n j)) _ (refl,
-      same_size (line_size trace))
-  turn_event (says.All n) = turn_unless (Deliver n 0) (refusal_at by_ends s (Deliver n 0)) _ (refl,
-      same_size (line_size trace))
+  turn_event (says.Packet n j) = turn_unless (Deliver n j) (refusal_at by_ends s (Deliver n j)) _ (
+    refl,
+    same_size (line_size trace),
+  )
+  turn_event (says.All n) = turn_unless (Deliver n 0) (refusal_at by_ends s (Deliver n 0)) _ (
+    refl,
+    same_size (line_size trace),
+  )
   turn_event (says.Back k) = turn_unless (Back k) (refusal_at by_ends s (Back k)) _ (refl, same_size (line_size trace))
   turn_event says.Play = turn_unless Play (refusal_at by_ends s Play) _ (refl, same_size (line_size trace))
 

@@ -40,7 +40,7 @@ module _ (x : Parts) (attached : Role → Bool) (r : PartsReady x attached) (rec
       ready_so x attached attached r refl x.video x.sender receiver (record x.link { network = network }) refl refl
       (subst (λ (w : Way). CanSend w x.sender) (sym way) r.can) (ap kept_in way)
       r.sent (omega (arith, r.played, played)) (λ plain. absurd (cc (plain, recorded))) r.frame
-          (λ plain. absurd (cc (plain, recorded)))
+      (λ plain. absurd (cc (plain, recorded)))
       r.few (ap (λ (w : Way). total_of (tally_of w)) way ∙ r.counted ∙ sym played) said
 
   -- a packet that is not refused is among those that are kept, and near
@@ -48,13 +48,15 @@ module _ (x : Parts) (attached : Role → Bool) (r : PartsReady x attached) (rec
       → (later : List Frame) (n j : ℕ)
       → refusal_after x.terms.params s.before (s.frames ++ later) s.past (Deliver n j) ≡ None
       → IsAmongLast (way_of x.link.network) (length (both_after x.terms.params (steady x.terms.params) (s.frames
-          ++ later) s.before s.past).sender.coded) n
+      ++ later) s.before s.past).sender.coded) n
       × MayHappenNow x.terms.params s.before (s.frames ++ later) s.past (Deliver n j)
   may_deliver near s inputs k later n j none =
       let p = x.terms.params in
       let may = near.deliver s.before (s.frames ++ later) s.past n j none in
-      let among = near.packets (receiver_end.run_of p s.before) (steady p) (s.frames ++ later) s.past n j k.begun (may,
-          (k.holds later).way_holds.near) in
+      let among = near.packets (receiver_end.run_of p s.before) (steady p) (s.frames ++ later) s.past n j k.begun (
+        may,
+        (k.holds later).way_holds.near,
+      ) in
       ((may.0, omega (arith, among, recorded_keeps x.terms _ r.period recorded)), may)
 
 -- the packets of a line are delivered, of which one tells whether they may be
@@ -62,18 +64,18 @@ pub delivered_goes_on : (m y : World) (line : ℕ) (event said : Line) (n j : �
     (receiver : Kept) (events : CallState → List Event)
     → event ≡ said → names_of y ≡ names_of m → parts_of y ≡ with_network (parts_of m) network receiver
     → PartsReady (parts_of m) mid.attached → m.terms.plain ≡ false → way_of network ≡ way_of m.network
-        → receiver.played ≡ m.receiver.now.played
+    → receiver.played ≡ m.receiver.now.played
     → said_in network ≤ 400 * (m.trace.lines + m.sender.now.sent) → NearLaws m.terms.params → TurnLaws → StepLaws
     → ((s : CallState) (inputs : Role → List ℕ) → StoodBefore (parts_of m) s inputs
-        → refusal_after m.terms.params s.before s.frames s.past (Deliver n j) ≡ None
+    → refusal_after m.terms.params s.before s.frames s.past (Deliver n j) ≡ None
     → event_step by_ends s inputs (inputs Events) said
-        ≡ Goes (after_line (record s { past = events s }) (inputs Events)) (line_turn (inputs Events) no_texts))
+    ≡ Goes (after_line (record s { past = events s }) (inputs Events)) (line_turn (inputs Events) no_texts))
     → ((s : CallState) (frames : List Frame) → (receiver_end.run_of m.terms.params s.before).played ≡ 0
-        → HasDone (parts_of m) s.before frames s.past
+    → HasDone (parts_of m) s.before frames s.past
     → refusal_after m.terms.params s.before frames s.past (Deliver n j) ≡ None)
     → ((s : CallState) (inputs : Role → List ℕ) (k : StoodBefore (parts_of m) s inputs) (later : List Frame)
     → IsAmongLast (way_of m.network) (length (both_after m.terms.params (steady m.terms.params) (s.frames
-        ++ later) s.before s.past).sender.coded) n
+    ++ later) s.before s.past).sender.coded) n
     × MayHappenNow m.terms.params s.before (s.frames ++ later) s.past (Deliver n j)
     → HasDone (with_network (parts_of m) network receiver) s.before (s.frames ++ later) (events s))
     → TakesLine m y line event (Ok true) mid mid
@@ -82,13 +84,13 @@ delivered_goes_on m y line event said n j mid network receiver events is names s
     let x = parts_of m in
     line_goes_on m y line event said mid mid is names (ap more_of same)
     (subst (λ (q : Parts). PartsReady q mid.attached) (sym same)
-        (ready_delivered x mid.attached r recorded network receiver way played few)) (steps.none mid)
+    (ready_delivered x mid.attached r recorded network receiver way played few)) (steps.none mid)
     (λ o s inputs b.
     let k = b.stood in
     subst (λ (q : Parts). Went (event_step by_ends s inputs (inputs Events) said) (PartsStand q) may_read true inputs o
-        mid) (sym same)
+    mid) (sym same)
     (event_goes x s inputs k x.sender receiver (record x.link { network = network }) refl refl turns o mid b.taken said
-        (events s)
+    (events s)
     (step s inputs k (none s s.frames k.begun (done_here x s inputs k)))
     (λ later. holds s inputs k later (may_deliver x mid.attached r recorded near s inputs k later n j
-        (none s (s.frames ++ later) k.begun (k.holds later))))))
+    (none s (s.frames ++ later) k.begun (k.holds later))))))

@@ -44,7 +44,7 @@ module _ (frame_laws : FrameLaws) (fault : Y4mFault) where
         let f = s.params.format in
         let size = frame_size f (b ∷ v) in
         let e = frame_laws.next f s.more (s.more - 1) s.at (b ∷ v) planes (some_left s.more s.at f (b ∷ v) planes is)
-            (omega arith) is in
+        (omega arith) is in
         e.fault ∙ sym (λ i. fault_of f (s.more - 1) (s.at + size) (drop size (video i))) ∙ later
 
     at_fault : (b : ℕ) (v : List ℕ) (broken : Y4mFault) → next_frame s.more s.params.format s.at (b ∷ v) ≡ Err broken
@@ -52,7 +52,7 @@ module _ (frame_laws : FrameLaws) (fault : Y4mFault) where
         → fault_of s.params.format s.more s.at (b ∷ v) ≡ Some fault
     at_fault b v broken is ends =
         (frame_laws.stops s.params.format s.more s.at (b ∷ v) broken (omega arith) is).1
-            ∙ ap (λ (x : Y4mFault). Some x) (refused_is broken fault ends)
+        ∙ ap (λ (x : Y4mFault). Some x) (refused_is broken fault ends)
 
     -- ---- over the plain trace
 
@@ -74,7 +74,7 @@ module _ (frame_laws : FrameLaws) (fault : Y4mFault) where
       at_captured : (b : ℕ) (v : List ℕ) → inputs Video ≡ b ∷ v → (r : Result (List ℕ) Y4mFault)
           → next_frame s.more s.params.format s.at (b ∷ v) ≡ r
           → Refuses (captured_step s trace (frame_size s.params.format (b ∷ v)) r)
-              → fault_of s.params.format s.more s.at (b ∷ v) ≡ Some fault
+          → fault_of s.params.format s.more s.at (b ∷ v) ≡ Some fault
       at_captured b v video (Ok planes) is ends =
           let f = s.params.format in
           let size = frame_size f (b ∷ v) in
@@ -134,7 +134,7 @@ module _ (frame_laws : FrameLaws) (fault : Y4mFault) where
       ends
   run_refused (suc n) s inputs ends =
       at_turn s inputs (λ next taken. run_of call_step n next (left_after inputs taken))
-          (λ next taken is. run_refused n next (left_after inputs taken) is) s.plain ends
+      (λ next taken is. run_refused n next (left_after inputs taken) is) s.plain ends
 
   pub video_refused : (t : Terms) (inputs : Role → List ℕ)
       → (run_from (call_begin t inputs) call_step (most_turns t.plain) inputs).last.status ≡ VideoRefused fault
@@ -144,9 +144,9 @@ module _ (frame_laws : FrameLaws) (fault : Y4mFault) where
     where
       by_head : (r : Result Format Y4mFault) → head_of (inputs Video) ≡ r
           → (follow (head_step t (inputs Video) r) (λ next taken. run_of call_step (most_turns t.plain) next
-              (left_after inputs taken))).last.status ≡ VideoRefused fault
+          (left_after inputs taken))).last.status ≡ VideoRefused fault
           → fault_after_head r (head_size (inputs Video)) (drop (head_size (inputs Video)) (inputs Video)) ≡ Some fault
       by_head (Ok f) is ends =
           run_refused (most_turns t.plain) (first_state (with_format t f) [] (head_size (inputs Video)))
-              (left_after inputs (of Video (head_size (inputs Video)))) ends
+          (left_after inputs (of Video (head_size (inputs Video)))) ends
       by_head (Err broken) is ends = ap (λ (x : Y4mFault). Some x) (refused_is broken fault ends)

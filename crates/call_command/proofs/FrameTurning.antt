@@ -58,8 +58,8 @@ module _ (laws : VideoLaws) where
       → IsPart (step_turns (frame_step by_ends s video r)) (of Video k)
   frame_part s video k (Ok frame) is lost =
       part_of (frame_size s.params.format video) k
-          (λ le. not_an_err _ frame (laws.frame s.params.format s.at k video frame
-          (next_is s.more s.params.format s.at video frame is) le).0 lost)
+      (λ le. not_an_err _ frame (laws.frame s.params.format s.at k video frame
+      (next_is s.more s.params.format s.at video frame is) le).0 lost)
   frame_part s video k (Err fault) is lost = tt
 
   video_part : (s : CallState) (video : List ℕ) (k : ℕ) → IsErr (frame_of s.params.format s.at (take k video))
@@ -82,8 +82,8 @@ lent v l got n is long whole = is ∙ with_items_is v l (omega (arith, long, who
 abbrev pub Gives : Result Bool VideoStop → CallState → List ℕ → List ℕ → Y4mPlace → Option (List ℕ) → Type 0
 Gives (Ok true) s rest out new left =
     (0 < length rest) × (next_frame s.more s.params.format s.at rest ≡ Ok out)
-        × (new.at ≡ s.at + frame_size s.params.format rest)
-        × (left ≡ Some (drop (frame_size s.params.format rest) rest))
+    × (new.at ≡ s.at + frame_size s.params.format rest)
+    × (left ≡ Some (drop (frame_size s.params.format rest) rest))
 Gives (Ok false) s rest out new left = (rest ≡ []) × (left ≡ Some [])
 Gives (Err (Refused fault)) s rest out new left = (0 < length rest) × (next_frame s.more s.params.format s.at rest
     ≡ Err fault)
@@ -93,7 +93,7 @@ Gives (Err Read) s rest out new left = (k : ℕ) × (left ≡ Some (drop k rest)
 pub gives_so : (r : Result Bool VideoStop) (s : CallState) (reader new : Y4mPlace) (rest out : List ℕ)
     (left : Option (List ℕ))
     → s.more ≡ reader.more → s.at ≡ reader.at → reader.format ≡ s.params.format → FrameGives r reader rest out new left
-        → Gives r s rest out new left
+    → Gives r s rest out new left
 gives_so (Ok true) s reader new rest out left more at format (some, is, place, gone) = (
   some,
   (λ i. next_frame (more i) (sym format i) (at i) rest) ∙ is,
@@ -103,18 +103,21 @@ gives_so (Ok true) s reader new rest out left more at format (some, is, place, g
 gives_so (Ok false) s reader new rest out left more at format gives = gives
 gives_so (Err (Refused fault)) s reader new rest out left more at format (some, is) =
     (some, (λ i. next_frame (more i) (sym format i) (at i) rest) ∙ is)
-gives_so (Err Read) s reader new rest out left more at format (k, gone, lost) =
-    (k, gone, subst (λ (f : Format). IsErr (frame_of f s.at (take k rest))) format
-    (subst (λ (a : ℕ). IsErr (frame_of reader.format a (take k rest))) (sym at) lost))
+gives_so (Err Read) s reader new rest out left more at format (k, gone, lost) = (
+  k,
+  gone,
+  subst (λ (f : Format). IsErr (frame_of f s.at (take k rest))) format
+      (subst (λ (a : ℕ). IsErr (frame_of reader.format a (take k rest))) (sym at) lost),
+)
 
 -- the same where its answer is known
 pub given_so : (r known : Result Bool VideoStop) (s : CallState) (reader new : Y4mPlace) (rest out : List ℕ)
     (left : Option (List ℕ)) → r ≡ known
     → s.more ≡ reader.more → s.at ≡ reader.at → reader.format ≡ s.params.format → FrameGives r reader rest out new left
-        → Gives known s rest out new left
+    → Gives known s rest out new left
 given_so r known s reader new rest out left is more at format gives =
     gives_so known s reader new rest out left more at format
-        (subst (λ (x : Result Bool VideoStop). FrameGives x reader rest out new left) is gives)
+    (subst (λ (x : Result Bool VideoStop). FrameGives x reader rest out new left) is gives)
 
 -- ---- what gives up
 
@@ -122,7 +125,7 @@ pub start_gives : {Machine : Type 0} (r : Result Machine Status) (status : Statu
     (after : Machine → CallState → (Role → List ℕ) → Type 0) (reads : CallState → Bool) (inputs : Role
     → List ℕ) (old new : Outside)
     → IsErrAnd r (λ x. x ≡ status) → GivesUp (phase status) status step true inputs old new
-        → StartGives r step after reads inputs old new
+    → StartGives r step after reads inputs old new
 start_gives (Ok m) status step after reads inputs old new is gives = absurd is
 start_gives (Err x) status step after reads inputs old new is gives =
     subst (λ (y : Status). GivesUp (phase y) y step true inputs old new) (sym is) gives
@@ -136,7 +139,7 @@ starved_cause (Err x) old new is quiet = subst (λ (y : Status). HasCause y old 
 -- a write that failed
 pub cut_gives : (status : Status) (step : Step CallState) (now : Bool) (inputs : Role → List ℕ) (old new : Outside)
     → status ≡ WriteFault → GainsFronts (step_texts step) old.written new.written
-        → GivesUp (phase status) status step now inputs old new
+    → GivesUp (phase status) status step now inputs old new
 cut_gives status step now inputs old new is fronts = subst (λ (y : Status). GivesUp (phase y) y step now inputs old new)
     (sym is) fronts
 
@@ -164,7 +167,7 @@ module _ (turns : TurnLaws) (laws : VideoLaws) (inputs : Role → List ℕ) (old
   pub frame_stops : (s : CallState) → s.ended ≡ false → (stop : VideoStop) (out : List ℕ) (reader : Y4mPlace)
       → Gives (Err stop) s (inputs Video) out reader (mid.left Video)
       → GivesUp (phase (video_stop stop)) (video_stop stop) (video_step by_ends s (inputs Video))
-          (may_read s) inputs old mid
+      (may_read s) inputs old mid
   frame_stops s going Read out reader e = record {
     part = of Video e.0;
     partly = video_part laws s (inputs Video) e.0 e.2;
@@ -198,7 +201,7 @@ module _ (turns : TurnLaws) (laws : VideoLaws) (inputs : Role → List ℕ) (old
             by = turns.ends Fine no_bytes (on Report (call_text (by_ends s))) inputs old new
                 (λ r input. ap (λ (l : Role → Option (List ℕ)). l r) still ∙ read r input)
                 (subst (λ (w : Role → Option (List ℕ)). Gains (on Report (call_text (by_ends s))) w new.written) same
-                    (subst (λ (l : List ℕ). Gains (on Report l) mid.written new.written) is gains));
+                (subst (λ (l : List ℕ). Gains (on Report l) mid.written new.written) is gains));
           }
 
       pub end_cut : (text : List ℕ) → text ≡ call_text (by_ends s)
@@ -225,18 +228,21 @@ module _ (turns : TurnLaws) (laws : VideoLaws) (inputs : Role → List ℕ) (old
       frame_cut gains =
           subst (λ (x : Step CallState). GainsFronts (step_texts x) old.written new.written) (sym frame_is)
           (subst (λ (w : Role → Option (List ℕ)). GainsFronts (play_texts (by_ends (with_picture by_ends s out))
-              (length s.frames)) w new.written) same
+          (length s.frames)) w new.written) same
           (subst (λ (t : Role → List ℕ). GainsFronts t mid.written new.written) texts_are gains))
 
       pub frame_goes : (stands : CallState → (Role → List ℕ) → Type 0)
           → stands (record (with_picture by_ends s out) { at = s.at + size; more = s.more - 1 })
-              (left_after inputs (of Video size))
+          (left_after inputs (of Video size))
           → Gains texts mid.written new.written
-              → Went (video_step by_ends s (inputs Video)) stands may_read (may_read s) inputs old new
+          → Went (video_step by_ends s (inputs Video)) stands may_read (may_read s) inputs old new
       frame_goes stands kept gains = record {
         next = record (with_picture by_ends s out) { at = s.at + size; more = s.more - 1 };
-        turn = record { taken = of Video size; whole = true;
-            texts = play_texts (by_ends (with_picture by_ends s out)) (length s.frames) };
+        turn = record {
+          taken = of Video size;
+          whole = true;
+          texts = play_texts (by_ends (with_picture by_ends s out)) (length s.frames);
+        };
         could = ap not going;
         is = frame_is;
         kept = kept;
@@ -267,7 +273,7 @@ module _ (turns : TurnLaws) (laws : VideoLaws) (inputs : Role → List ℕ) (old
       pub head_goes : (stands : CallState → (Role → List ℕ) → Type 0)
           → stands first (left_after inputs (of Video (head_size (inputs Video))))
           → Gains (on Pictures (head_text f)) mid.written new.written
-              → Went (call_begin t inputs) stands may_read true inputs old new
+          → Went (call_begin t inputs) stands may_read true inputs old new
       head_goes stands kept gains = record {
         next = first;
         turn = record { taken = of Video (head_size (inputs Video)); whole = true; texts = on Pictures (head_text f) };

@@ -32,7 +32,7 @@ send_distance rules sent played abouts r = go (nat_le (played + rules.half) sent
   where
     go : (far : Bool) → nat_le (sent + 1) sent ≡ false
         → (if far then Some (Far sent played) else if nat_le (sent + 1) sent then Some NoPicture else None) ≡ Some r
-            → r ≢ NoPicture
+        → r ≢ NoPicture
     go true never is out = absurd (cc (is, out))
     go false never is out = absurd
         (none_is r (sym (ap (λ (b : Bool). let o : Option Refusal = if b then Some NoPicture else None in o) never)

@@ -36,7 +36,7 @@ use Rattle.call_command.proofs.Half.{half_some}
 module _ (x : Parts) (laws : WayLaws x.terms.params) (events : EventLaws x.terms.params)
     (frames_law : LaterFramesBoth (coding x.terms.params) (rules_of x.terms.params))
     (s : CallState) (inputs : Role → List ℕ) (k : PartsStand x s inputs) (level : x.receiver.played ≡ x.sender.sent)
-        (out : List ℕ) where
+    (out : List ℕ) where
   abbrev p : Params
   p = x.terms.params
 
@@ -59,21 +59,30 @@ module _ (x : Parts) (laws : WayLaws x.terms.params) (events : EventLaws x.terms
   played_was later = laws.played x.sender x.receiver s.before (all later) s.past (k.holds (f ∷ later)).way_holds.joined
 
   pub may_send : (later : List Frame) → MayHappenNow p s.before (all later) s.past Send
-  may_send later =
-      (omega (arith, coded_was later, k.sent, below_end s.frames later f),
-          omega (arith, coded_was later, played_was later, level, half_some p.clock))
+  may_send later = (
+    omega (arith, coded_was later, k.sent, below_end s.frames later f),
+    omega (arith, coded_was later, played_was later, level, half_some p.clock),
+  )
 
   coded_now : (later : List Frame) → length (both later (Send ∷ s.past)).sender.coded ≡ x.sender.sent + 1
   coded_now later =
       ap (λ (l : List (Coded Style Mb Picture)). length l) (events.captured s.before (all later) s.past f
-          (ap (λ (i : ℕ). slice_get (all later) i) (sym (coded_was later)) ∙ at later))
+      (ap (λ (i : ℕ). slice_get (all later) i) (sym (coded_was later)) ∙ at later))
       ∙ longer (both later s.past).sender.coded (next_of p (steady p) f (both later s.past))
       ∙ ap (λ (i : ℕ). i + 1) (sym (coded_was later))
 
   pub may_deliver : (later : List Frame) (n : ℕ) → n ≡ x.sender.sent
       → MayHappenNow p s.before (all later) (Send ∷ s.past) (Deliver n 0)
-  may_deliver later n is = (omega (arith, is, coded_now later), omega (arith, is, played_was later, level,
-      half_some p.clock))
+  may_deliver later n is = (
+    omega (arith, is, coded_now later),
+    omega (
+      arith,
+      is,
+      played_was later,
+      level,
+      half_some p.clock,
+    ),
+  )
 
   pub among_last : (later : List Frame) (way : Way) (n : ℕ) → n ≡ x.sender.sent → kept_in way ≡ 1
       → IsAmongLast way (length (both later (Send ∷ s.past)).sender.coded) n
@@ -87,17 +96,25 @@ module _ (x : Parts) (laws : WayLaws x.terms.params) (events : EventLaws x.terms
   count_same later n =
       let slices : Joined Style Mb Picture → ℕ = λ both. length (slices_at both.sender.coded n) in
       ap (λ (l : List Frame). slices (both_after p (steady p) l s.before (Send ∷ s.past)))
-          (sym (push_then s.frames later f))
-      ∙ ap slices (frames_law (receiver_end.run_of p s.before) (steady p) (all []) later (Send ∷ s.past) (may_send [],
-          (k.holds (f ∷ [])).way_holds.near)).0
+      (sym (push_then s.frames later f))
+      ∙ ap slices (frames_law (receiver_end.run_of p s.before) (steady p) (all []) later (Send ∷ s.past) (
+        may_send [],
+        (k.holds (f ∷ [])).way_holds.near,
+      )).0
 
   pub may_play : (later : List Frame) (n count : ℕ)
       → MayHappenNow p s.before (all later) (delivered n count ++ Send ∷ s.past) Play
   may_play later n count =
       let coded = ap (λ (run : SenderRun Style Mb Picture). length run.coded)
-          (events.sender s.before (all later) n count (Send ∷ s.past)) in
-      omega (arith, events.played s.before (all later) n count (Send ∷ s.past), played_was later, level, coded,
-          coded_now later)
+      (events.sender s.before (all later) n count (Send ∷ s.past)) in
+      omega (
+        arith,
+        events.played s.before (all later) n count (Send ∷ s.past),
+        played_was later,
+        level,
+        coded,
+        coded_now later,
+      )
 
   -- ---- what is shown, and where the parts stand then
 
@@ -106,7 +123,7 @@ module _ (x : Parts) (laws : WayLaws x.terms.params) (events : EventLaws x.terms
 
   pub texts_are : (n played : ℕ) → n ≡ x.sender.sent → played ≡ x.receiver.played
       → play_texts (in_both (both [] (passed_on n (count_of [] n) s.past))) played
-          ≡ play_texts (by_ends then) (length s.frames)
+      ≡ play_texts (by_ends then) (length s.frames)
   texts_are n played is same =
       let number : n ≡ length s.frames = is ∙ k.sent in
       let shown : played ≡ length s.frames = same ∙ level ∙ k.sent in
@@ -115,11 +132,11 @@ module _ (x : Parts) (laws : WayLaws x.terms.params) (events : EventLaws x.terms
   pub stands_after : (video : Y4mPlace) (sender : State) (receiver : Kept) (link : Link) (n size : ℕ) (rest : Role
       → List ℕ) → n ≡ x.sender.sent
       → ((later : List Frame) → HoldsNetwork p link.network sender receiver s.before (all later)
-          (passed_on n (count_of later n) s.past))
+      (passed_on n (count_of later n) s.past))
       → link.trace ≡ x.link.trace → sender.sent ≡ x.sender.sent + 1 → video.at ≡ x.video.at + size
-          → video.more + 1 ≡ x.video.more → rest Events ≡ inputs Events
+      → video.more + 1 ≡ x.video.more → rest Events ≡ inputs Events
       → PartsStand (record { terms = x.terms; video = video; sender = sender; receiver = receiver; link = link })
-          (record then { at = x.video.at + size; more = x.video.more - 1 }) rest
+      (record then { at = x.video.at + size; more = x.video.more - 1 }) rest
   stands_after video sender receiver link n size rest number holds same sent place fewer still = record {
     is = let less : x.video.more - 1 ≡ video.more = omega (arith, fewer) in
         λ i. record {
@@ -138,9 +155,9 @@ module _ (x : Parts) (laws : WayLaws x.terms.params) (events : EventLaws x.terms
     over = λ ended. still ∙ k.over (ap (λ (r : TracePlace). r.ended) (sym same) ∙ ended);
     holds = λ later.
         subst (λ (l : List Frame). HoldsNetwork p link.network sender receiver s.before l then.past)
-            (sym (push_then s.frames later f))
+        (sym (push_then s.frames later f))
         (subst (λ (i : ℕ). HoldsNetwork p link.network sender receiver s.before (all later)
-            (passed_on (length s.frames) i s.past)) (count_same later (length s.frames))
+        (passed_on (length s.frames) i s.past)) (count_same later (length s.frames))
         (subst (λ (i : ℕ). HoldsNetwork p link.network sender receiver s.before (all later)
-            (passed_on i (count_of later i) s.past)) (number ∙ k.sent) (holds later)));
+        (passed_on i (count_of later i) s.past)) (number ∙ k.sent) (holds later)));
   }

@@ -41,7 +41,7 @@ pub line_read : (m : World) (after : TracePlace) (line : ℕ) (event : Line) (ol
     (answer : Result (Option (ℕ × Line)) TraceStop) → answer ≡ Ok (Some (line, event))
     → TurnLaws → StepLaws → m.terms.plain ≡ false
     → ((text : List ℕ) → old.left Events ≡ Some text → EventGives answer m.trace text after (mid.left Events))
-        → Moves answer m.trace after
+    → Moves answer m.trace after
     → ((r : Role) → r ≢ Events → mid.left r ≡ old.left r) → OnlyReads old mid → IsLineRead m after line event old mid
 line_read m after line event old mid answer is laws steps recorded gives moves others rest = record {
   laws = laws;
@@ -65,10 +65,10 @@ module _ {m : World} {after : TracePlace} {line : ℕ} {event : Line} {old mid :
   pub ready_read : PartsReady x old.attached → PartsReady (parts_of (read_on m after)) mid.attached
   ready_read ready =
       ready_so x old.attached mid.attached ready w.rest.attached x.video x.sender x.receiver
-          (record x.link { trace = after })
+      (record x.link { trace = after })
       refl refl ready.can refl ready.sent ready.played ready.level ready.frame
-          (λ plain. absurd (cc (plain, w.recorded))) (omega (arith, w.moves.1, w.moves.3)) ready.counted
-          (omega (arith, ready.said, w.moves.3))
+      (λ plain. absurd (cc (plain, w.recorded))) (omega (arith, w.moves.1, w.moves.3)) ready.counted
+      (omega (arith, ready.said, w.moves.3))
 
   only : {inputs : Role → List ℕ} → Tells old inputs → ReadsTrace inputs old mid
   only told = record { told = told; others = w.others; written = w.rest.written }
@@ -80,10 +80,14 @@ module _ {m : World} {after : TracePlace} {line : ℕ} {event : Line} {old mid :
       let e = w.gives (inputs Events) (told Events refl) in
       record {
         stood = stood_after x s inputs k w.recorded after _ w.moves.3 e.0;
-        number = found_number w.laws here inputs old mid (only told) m.trace after (record { lines_are = refl;
-            ended_is = refl }) (line, event) e w.moves;
-        taken = found_taken w.laws here inputs old mid (only told) m.trace after (record { lines_are = refl;
-            ended_is = refl }) (line, event) e w.moves;
+        number = found_number w.laws here inputs old mid (only told) m.trace after (record {
+          lines_are = refl;
+          ended_is = refl;
+        }) (line, event) e w.moves;
+        taken = found_taken w.laws here inputs old mid (only told) m.trace after (record {
+          lines_are = refl;
+          ended_is = refl;
+        }) (line, event) e w.moves;
       }
 
   -- what the line makes of the world and the desk, the turn makes of them
@@ -94,18 +98,22 @@ module _ {m : World} {after : TracePlace} {line : ℕ} {event : Line} {old mid :
         let here = state_of x s.before s.frames s.past in
         let stands = PartsStand (parts_of y) in
         let e = w.gives (inputs Events) (b.told Events refl) in
-        let step_is = found_is w.laws here inputs old mid (only b.told) m.trace after (record { lines_are = refl;
-            ended_is = refl }) (line, event) e w.moves in
-        let could = found_could w.laws here inputs old mid (only b.told) m.trace after (record { lines_are = refl;
-            ended_is = refl }) (line, event) e w.moves in
+        let step_is = found_is w.laws here inputs old mid (only b.told) m.trace after (record {
+          lines_are = refl;
+          ended_is = refl;
+        }) (line, event) e w.moves in
+        let could = found_could w.laws here inputs old mid (only b.told) m.trace after (record {
+          lines_are = refl;
+          ended_is = refl;
+        }) (line, event) e w.moves in
         subst (λ (q : Outside). TurnGives result (talk_step s inputs) stands may_read (may_read s) inputs q new)
-            (sym b.same)
+        (sym b.same)
         (line_by_line x s inputs b.stands.is w.recorded (λ (step : Step CallState) (now : Bool). TurnGives result step
-            stands may_read now inputs old new)
+        stands may_read now inputs old new)
         (subst (λ (step : Step CallState). TurnGives result step stands may_read (may_read here) inputs old new)
-            (sym step_is)
+        (sym step_is)
         (subst (λ (b : Bool). TurnGives result (event_step by_ends here inputs (inputs Events) event) stands may_read b
-            inputs old new) (sym could)
+        inputs old new) (sym could)
         (t.gives old here inputs (was_read s inputs b.stands b.told)))));
     whole = λ o s inputs b. t.whole old _ inputs (was_read s inputs b.stands b.told);
     keeps = t.keeps;
@@ -113,7 +121,7 @@ module _ {m : World} {after : TracePlace} {line : ℕ} {event : Line} {old mid :
     falls =
         subst (λ (n : ℕ). Falls result n (more_of (parts_of y)))
         (subst (λ (b : Bool). (if b then x.video.more else 16777216 - after.lines) + 1
-            ≡ (if b then x.video.more else 16777216 - m.trace.lines)) (sym w.recorded)
+        ≡ (if b then x.video.more else 16777216 - m.trace.lines)) (sym w.recorded)
         (omega (arith, w.moves.1, w.moves.3))) t.falls;
     ready = t.ready;
     answers = t.answers;

@@ -48,7 +48,7 @@ pub many_is : (s : CallState) (inputs : Role → List ℕ) (trace : List ℕ) �
 many_is s inputs [] some many = absurd (omega arith)
 many_is s inputs (b ∷ trace) some many =
     ap (λ (t : Bool). chosen t s inputs (b ∷ trace) (event_in (first_line (b ∷ trace))))
-        (le-ltb s.lines 16777216 (omega (arith, many)))
+    (le-ltb s.lines 16777216 (omega (arith, many)))
 
 -- ---- a line that is done, or refused
 
@@ -74,9 +74,9 @@ module _ (s : CallState) (inputs : Role → List ℕ) (before mid : Outside) (ta
   pub line_goes : (next : CallState) (texts : Role → List ℕ) (step : Step CallState) (stands : CallState
       → (Role → List ℕ) → Type 0)
       → step ≡ Goes (after_line next trace) (line_turn trace texts)
-          → stands (after_line next trace) (left_after inputs (of Events (line_size trace)))
+      → stands (after_line next trace) (left_after inputs (of Events (line_size trace)))
       → (new : Outside) → new.left ≡ mid.left → Gains texts mid.written new.written
-          → Went step stands may_read true inputs before new
+      → Went step stands may_read true inputs before new
   line_goes next texts step stands is kept new still gains = record {
     next = after_line next trace;
     turn = line_turn trace texts;
@@ -108,7 +108,7 @@ module _ (laws : TurnLaws) (s : CallState) (inputs : Role
   pub trace_stops : (stop : TraceStop) → EventGives (Err stop) reader (inputs Events) after (mid.left Events)
       → Moves {A = Line} (Err stop) reader after
       → GivesUp (phase (trace_stop stop)) (trace_stop stop) (trace_step by_ends s inputs (inputs Events))
-          (may_read s) inputs old mid
+      (may_read s) inputs old mid
   trace_stops stops.Read e moves = record {
     part = of Events e.taken;
     partly = trace_part s inputs (inputs Events) e.taken e.free;
@@ -172,5 +172,5 @@ module _ (laws : TurnLaws) (s : CallState) (inputs : Role
     trace_cut text is gains =
         subst (λ (x : Step CallState). GainsFronts (step_texts x) old.written new.written) (sym end_is)
         (subst (λ (w : Role → Option (List ℕ)). GainsFronts (on Report (call_text (by_ends s))) w new.written)
-            read.written
+        read.written
         (subst (λ (l : List ℕ). GainsFronts (on Report l) mid.written new.written) is gains))

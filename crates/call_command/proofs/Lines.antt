@@ -46,7 +46,7 @@ line_gone trace = drop_min (length (first_line trace) + 1) trace
 pub nothing_after : (trace : List ℕ) → is_closed trace ≡ false → drop (line_size trace) trace ≡ []
 nothing_after trace open_end =
     line_gone trace ∙ drop_all (length (first_line trace) + 1) trace
-        (omega (arith, ltb-false (length (first_line trace)) (length trace) open_end))
+    (omega (arith, ltb-false (length (first_line trace)) (length trace) open_end))
 
 pub double_not : (b : Bool) → not (not b) ≡ b
 double_not true = refl
@@ -88,16 +88,16 @@ open_held t k is = ap (λ (b : Bool). b && nat_le (t.taken Video) (k Video) && n
 short_held : (t : Turn) (k : Role → ℕ) → (t.taken Events ≤ k Events → ⊥) → holds t k ≡ false
 short_held t k few =
     ap (λ (b : Bool). t.whole && nat_le (t.taken Video) (k Video) && b && nat_le (t.taken Video2) (k Video2))
-        (not_held (t.taken Events) (k Events) few)
+    (not_held (t.taken Events) (k Events) few)
     ∙ ap (λ (b : Bool). b && nat_le (t.taken Video2) (k Video2))
-        (and-false (t.whole && nat_le (t.taken Video) (k Video)))
+    (and-false (t.whole && nat_le (t.taken Video) (k Video)))
 
 no_frame_held : (t : Turn) (k : Role → ℕ) → (t.taken Video ≤ k Video → ⊥) → holds t k ≡ false
 no_frame_held t k few =
     ap (λ (b : Bool). t.whole && b && nat_le (t.taken Events) (k Events) && nat_le (t.taken Video2) (k Video2))
-        (not_held (t.taken Video) (k Video) few)
+    (not_held (t.taken Video) (k Video) few)
     ∙ ap (λ (b : Bool). b && nat_le (t.taken Events) (k Events) && nat_le (t.taken Video2) (k Video2))
-        (and-false t.whole)
+    (and-false t.whole)
 
 -- bytes of the trace without a newline hold none
 pub line_part : (trace : List ℕ) (k : ℕ) (turns : List Turn) → NoNewline (take k trace) → CoversLine trace turns
@@ -108,10 +108,12 @@ line_part trace k (turn ∷ turns) free takes = by_end (is_closed trace) refl
     by_end : (b : Bool) → is_closed trace ≡ b → holds turn (of Events k) ≡ false
     by_end false open_end = open_held turn (of Events k) (takes.0 ∙ open_end)
     by_end true closed =
-        let whole : length (first_line trace) + 1 ≤ length trace = omega (arith,
-            ltb-true (length (first_line trace)) (length trace) closed) in
+        let whole : length (first_line trace) + 1 ≤ length trace = omega (
+          arith,
+          ltb-true (length (first_line trace)) (length trace) closed,
+        ) in
         short_held turn (of Events k) (λ all. line_cut trace k free whole
-            (omega (arith, min_is (length (first_line trace) + 1) (length trace) whole, takes.1, all)))
+        (omega (arith, min_is (length (first_line trace) + 1) (length trace) whole, takes.1, all)))
       where
         min_is : (a b : ℕ) → a ≤ b → min a b ≡ a
         min_is a b le = omega (arith, le)
@@ -124,7 +126,7 @@ pub frame_held : (trace : List ℕ) (size k : ℕ) → (size ≤ k → ⊥)
     → holds (capture_turn trace size) (with_frame_bytes trace k) ≡ false
 frame_held trace size k few =
     no_frame_held (capture_turn trace size) (with_frame_bytes trace k)
-        (λ (whole : 0 + size ≤ 0 + k). few (omega (arith, whole)))
+    (λ (whole : 0 + size ≤ 0 + k). few (omega (arith, whole)))
 
 -- ---- a line that is refused: it is taken, and nothing of the video
 
@@ -132,7 +134,7 @@ pub refused_by : TurnLaws → (fault : TraceFault) (inputs : Role → List ℕ) 
     → EndsBy (refused_line (inputs Events) fault) (TraceRefused fault) inputs old mid
 refused_by laws fault inputs old mid taken =
     laws.ends (TraceRefused fault) (of Events (line_size (inputs Events))) no_texts inputs old mid taken.left
-        (laws.no_text old.written mid.written taken.written)
+    (laws.no_text old.written mid.written taken.written)
 
 -- ---- where the trace alone was read
 

@@ -81,7 +81,7 @@ module _ (fault : Y4mFault) where
       s.plain ends
   run_refuses_none (suc n) s inputs ends =
       at_turn s inputs (λ next taken. run_of call_step n next (left_after inputs taken))
-          (λ next taken is. run_refuses_none n next (left_after inputs taken) is) s.plain ends
+      (λ next taken is. run_refuses_none n next (left_after inputs taken) is) s.plain ends
 
   pub none_refused : (t : Terms) (inputs : Role → List ℕ)
       → (run_from (call_begin t inputs) call_step (most_turns t.plain) inputs).last.status ≡ Video2Refused fault → ⊥
@@ -89,6 +89,6 @@ module _ (fault : Y4mFault) where
     where
       by_head : (r : Result Format Y4mFault)
           → (follow (head_step t (inputs Video) r) (λ next taken. run_of call_step (most_turns t.plain) next
-              (left_after inputs taken))).last.status ≡ Video2Refused fault → ⊥
+          (left_after inputs taken))).last.status ≡ Video2Refused fault → ⊥
       by_head (Ok f) ends = run_refuses_none (most_turns t.plain) _ _ ends
       by_head (Err broken) ends = absurd (cc ends)

@@ -75,7 +75,7 @@ module _ (p : Params) (laws : CallLaws p) (below : AllBelowIs) (frames : List Fr
   next_is f coded known none =
       ap (λ (l : List ℕ). next_coded (pictures p.format) (encoding p) (rules_of p) (steady p) f coded l) none
       ∙ ap (λ (o : Option ℕ). capture (pictures p.format) (encoding p) p.quant f coded o)
-          (no_reference (rules_of p) (depth_at coded) (length coded))
+      (no_reference (rules_of p) (depth_at coded) (length coded))
       ∙ alone (pictures p.format) (encoding p) p.quant f coded
 
   -- nothing becomes known
@@ -100,11 +100,11 @@ module _ (p : Params) (laws : CallLaws p) (below : AllBelowIs) (frames : List Fr
     coded_after =
         coded_delivered (coding p) (rules_of p) (steady p) frames n count (Send ∷ past)
         ∙ ap (λ (o : Option Frame). (call past).coded ++ option_map_or (λ (x : Coded Style Mb Picture). x ∷ [])
-            (option_map (λ frame. next_coded (pictures p.format) (encoding p) (rules_of p) (steady p) frame
-            (call past).coded (call past).known) o) [])
+        (option_map (λ frame. next_coded (pictures p.format) (encoding p) (rules_of p) (steady p) frame
+        (call past).coded (call past).known) o) [])
         (ap (λ (k : ℕ). slice_get frames k) coded ∙ at)
         ∙ ap (λ (x : Coded Style Mb Picture). (call past).coded
-            ++ x ∷ []) (next_is f (call past).coded (call past).known known)
+        ++ x ∷ []) (next_is f (call past).coded (call past).known known)
 
     at_n : slice_get (call behind).coded n ≡ Some (intra f)
     at_n =
@@ -116,7 +116,7 @@ module _ (p : Params) (laws : CallLaws p) (below : AllBelowIs) (frames : List Fr
         ≡ count
     slices_same i =
         ap (λ (l : List (Coded Style Mb Picture)). length (slices_at l n)) (coded_delivered (coding p) (rules_of p)
-            (steady p) frames n i (Send ∷ past))
+        (steady p) frames n i (Send ∷ past))
 
     -- it has as many slices as it was cut into
     pub count_is : count ≡ length (intra f).slices
@@ -124,7 +124,7 @@ module _ (p : Params) (laws : CallLaws p) (below : AllBelowIs) (frames : List Fr
     count_is =
         sym (slices_same count)
         ∙ ap (λ (o : Option (Coded Style Mb Picture)). length
-            (option_map_or (λ (x : Coded Style Mb Picture). x.slices) o [])) at_n
+        (option_map_or (λ (x : Coded Style Mb Picture). x.slices) o [])) at_n
 
     -- it is full
     was_delivered : (k j : ℕ) → j < k → WasDelivered (pictures p.format) (rules_of p) source (delivered n k
@@ -136,21 +136,27 @@ module _ (p : Params) (laws : CallLaws p) (below : AllBelowIs) (frames : List Fr
             ⊎ (count ≤ j))
             → (j < i) ⊎ (i ≤ j) → (j < count) ⊎ (count ≤ j)
             → WasDelivered (pictures p.format) (rules_of p) source (Deliver n i ∷ (delivered n i ++ Send ∷ past)) n j
-                ⊎ (count ≤ j)
+            ⊎ (count ≤ j)
         go before (inl lower) some = later (before lower)
           where
             later : WasDelivered (pictures p.format) (rules_of p) source (delivered n i ++ Send ∷ past) n j
                 ⊎ (count ≤ j)
                 → WasDelivered (pictures p.format) (rules_of p) source (Deliver n i ∷ (delivered n i ++ Send ∷ past)) n
-                    j ⊎ (count ≤ j)
+                j ⊎ (count ≤ j)
             later (inl was) = inl (inr was)
             later (inr past_end) = inr past_end
         go before (inr same) (inr past_end) = inr past_end
         go before (inr same) (inl some) = inl (inl (
           refl,
           omega (arith, less, same),
-          (omega (arith, played_delivered n i (Send ∷ past), played), omega (arith, played_delivered n i (Send ∷ past),
-              played)),
+          (
+            omega (arith, played_delivered n i (Send ∷ past), played),
+            omega (
+              arith,
+              played_delivered n i (Send ∷ past),
+              played,
+            ),
+          ),
           omega (arith, slices_same i, some),
         ))
 
@@ -166,10 +172,10 @@ module _ (p : Params) (laws : CallLaws p) (below : AllBelowIs) (frames : List Fr
     unfolding is_full
     full =
         and_from (nat_lt n (length (call behind).coded)) (all_below (length (slices_at (call behind).coded n))
-            (has_arrived (call behind).arrivals n))
+        (has_arrived (call behind).arrivals n))
         (lt-ltb n (length (call behind).coded) (slice_get_within (call behind).coded n (intra f) at_n))
         ((below (length (slices_at (call behind).coded n)) (has_arrived (call behind).arrivals n)).1
-            (λ j less. each_arrived j (omega (arith, less, slices_same count))))
+        (λ j less. each_arrived j (omega (arith, less, slices_same count))))
 
     -- so its play shows it as it was coded
     abbrev shown : Shown Picture
@@ -178,19 +184,21 @@ module _ (p : Params) (laws : CallLaws p) (below : AllBelowIs) (frames : List Fr
     pub plays_after : (call (passed_on n count past)).plays ≡ shown ∷ (call past).plays
     plays_after =
         let here : (call behind).played ≡ n = (laws.counts (steady p) frames behind).1
-            ∙ played_delivered n count (Send ∷ past) ∙ played in
+        ∙ played_delivered n count (Send ∷ past) ∙ played in
         ap (λ (k : ℕ). shown_at (pictures p.format) (call behind).coded (call behind).arrivals (call behind).plays k ∷
-            (call behind).plays) here
+        (call behind).plays) here
         ∙ ap (λ (x : Shown Picture). x ∷ (call behind).plays) (where_full (pictures p.format) (call behind).coded
-            (call behind).arrivals (call behind).plays n full)
-        ∙ ap (λ (o : Option (Coded Style Mb Picture)). let x : Shown Picture = record { mark = Exact;
-            picture = option_map_or (λ (x : Coded Style Mb Picture). x.picture) o (grey (pictures p.format)) } in
-            x ∷ (call behind).plays) at_n
+        (call behind).arrivals (call behind).plays n full)
+        ∙ ap (λ (o : Option (Coded Style Mb Picture)). let x : Shown Picture = record {
+          mark = Exact;
+          picture = option_map_or (λ (x : Coded Style Mb Picture). x.picture) o (grey (pictures p.format));
+        } in
+        x ∷ (call behind).plays) at_n
         ∙ ap (λ (l : List (Shown Picture)). shown ∷ l) (plays_delivered (coding p) (rules_of p)
-            (steady p) frames n count (Send ∷ past))
+        (steady p) frames n count (Send ∷ past))
 
     pub reference_after : reference_of (pictures p.format) (rules_of p) source (passed_on n count past) n ≡ None
     reference_after =
         ap (λ (o : Option (Coded Style Mb Picture)). option_and_then (λ (x : Coded Style Mb Picture). x.reference) o)
-            at_n
+        at_n
         ∙ none_named (pictures p.format) (encoding p) p.quant f

@@ -32,26 +32,26 @@ module _ (x : Parts) (old new : Role → Bool) (r : PartsReady x old) (attached 
       → video.format ≡ x.video.format → sender.params ≡ x.sender.params → CanSend (way_of link.network) sender
       → kept_in (way_of link.network) ≡ kept_in (way_of x.link.network)
       → sender.sent + video.more ≡ 1048576 → receiver.played ≤ sender.sent
-          → (x.terms.plain ≡ true → receiver.played ≡ sender.sent)
+      → (x.terms.plain ≡ true → receiver.played ≡ sender.sent)
       → length link.frame.items ≡ size_of_picture x.terms.params.format
-          → (x.terms.plain ≡ true → link.trace.ended ≡ false)
+      → (x.terms.plain ≡ true → link.trace.ended ≡ false)
       → link.trace.lines ≤ 16777216
       → total_of (tally_of (way_of link.network)) ≡ receiver.played
       → said_in link.network ≤ 400 * (link.trace.lines + sender.sent)
       → PartsReady (record { terms = x.terms; video = video; sender = sender; receiver = receiver; link = link }) new
   ready_so video sender receiver link format params can period sent played level frame unread few counted said =
       record {
-    opens = subst (CallOpens x.terms) (sym attached) r.opens;
-    format = format ∙ r.format;
-    frame = frame;
-    sender_params = params ∙ r.sender_params;
-    can = can;
-    period = period ∙ r.period;
-    sent = sent;
-    played = played;
-    level = level;
-    unread = unread;
-    few = few;
-    counted = counted;
-    said = said;
-  }
+        opens = subst (CallOpens x.terms) (sym attached) r.opens;
+        format = format ∙ r.format;
+        frame = frame;
+        sender_params = params ∙ r.sender_params;
+        can = can;
+        period = period ∙ r.period;
+        sent = sent;
+        played = played;
+        level = level;
+        unread = unread;
+        few = few;
+        counted = counted;
+        said = said;
+      }

@@ -65,11 +65,11 @@ lines_stay coded extra (x ∷ plays) few =
     let before : length plays ≤ length coded = omega (arith, few) in
     let below : length plays < length coded = omega (arith, few) in
     ap (λ (l : Text). l ++ picture_text (length plays) (Some (mark_of x.mark))
-        (Some (reference_in (coded ++ extra) (length plays))) None) (lines_stay coded extra plays before)
+    (Some (reference_in (coded ++ extra) (length plays))) None) (lines_stay coded extra plays before)
     ∙ ap (λ (o : Option (Coded Style Mb Picture)). played_lines coded plays
-        ++ picture_text (length plays) (Some (mark_of x.mark))
-        (Some (option_and_then (λ (y : Coded Style Mb Picture). y.reference) o)) None)
-        (slice_left coded extra (length plays) below)
+    ++ picture_text (length plays) (Some (mark_of x.mark))
+    (Some (option_and_then (λ (y : Coded Style Mb Picture). y.reference) o)) None)
+    (slice_left coded extra (length plays) below)
 
 abbrev status_with : TraceFault → Status
 status_with fault = TraceRefused fault
@@ -153,7 +153,7 @@ module _ (p : Params) (all : List Frame) (broken : Option Y4mFault) (later : Lat
   comes_stopped : (frames : List Frame) (past : List Event) (ahead : List Frame) (k : IsOn frames past ahead)
       (E : List Line) (F : Option TraceFault) (m : ℕ) (text : List ℕ) (rest : CallState → (Role → ℕ) → Run)
       (status : Status) (taken : Role → Option ℕ) → ((counts : Text) → told status counts ≡ [])
-          → ((fault : Y4mFault) → status ≡ VideoRefused fault → taken Events ≡ Some (line_size text))
+      → ((fault : Y4mFault) → status ≡ VideoRefused fault → taken Events ≡ Some (line_size text))
       → IsEnd p all broken F (m + 0) past E status → Comes past E F m text (follow (stopped status taken) rest)
   comes_stopped frames past ahead k E F m text rest status taken silent spares end = record {
     end = end;
@@ -197,14 +197,14 @@ module _ (p : Params) (all : List Frame) (broken : Option Y4mFault) (later : Lat
       → shown_text (call all past2).plays ≡ shown_text (call all past).plays ++ turn.texts Pictures
       → rows (call all past2) ≡ rows (call all past) ++ turn.texts Report
       → Comes past2 E F (m + 1) text2 run
-          → Comes past (line ∷ E) F m text (record { turns = turn ∷ run.turns; last = run.last })
+      → Comes past (line ∷ E) F m text (record { turns = turn ∷ run.turns; last = run.last })
   comes_more line E F m past past2 text text2 turn run is may gone pictures2 report2 comes2 =
       let now = with_line p all past line in
       let comes : Comes now E F (m + 1) text2 run = subst (λ (q : List Event). Comes q E F (m + 1) text2 run) is comes2
-          in
+      in
       let pictures : shown_text (call all now).plays ≡ shown_text (call all past).plays ++ turn.texts Pictures =
       subst (λ (q : List Event). shown_text (call all q).plays ≡ shown_text (call all past).plays
-          ++ turn.texts Pictures) is pictures2
+      ++ turn.texts Pictures) is pictures2
       in
       let report : rows (call all now) ≡ rows (call all past) ++ turn.texts Report =
       subst (λ (q : List Event). rows (call all q) ≡ rows (call all past) ++ turn.texts Report) is report2
@@ -213,7 +213,7 @@ module _ (p : Params) (all : List Frame) (broken : Option Y4mFault) (later : Lat
         others = λ fault refused.
             comes.others fault refused
             ∙ ap (λ (l : List ℕ). Some (line_size l)) (ap (λ (l : List ℕ). drop (taken_of run.turns Events) l)
-                (sym gone) ∙ drop-drop (taken_of run.turns Events) (turn.taken Events) text);
+            (sym gone) ∙ drop-drop (taken_of run.turns Events) (turn.taken Events) text);
         may = (may, comes.may);
         end = subst (λ (j : ℕ). IsEnd p all broken F j (with_lines p all now comes.lines) comes.refused run.last.status)
             (one_further m (length comes.lines)) comes.end;
@@ -228,22 +228,31 @@ module _ (p : Params) (all : List Frame) (broken : Option Y4mFault) (later : Lat
             ∙ ap (λ (l : Text). l ++ text_of run Pictures) pictures
             ∙ append_assoc (shown_text (call all past).plays) (turn.texts Pictures) (text_of run Pictures)
             ∙ ap (λ (l : Text). shown_text (call all past).plays
-                ++ l) (sym (append_assoc (turn.texts Pictures) (texts_of run.turns Pictures)
-                (run.last.texts Pictures)));
+            ++ l) (sym (append_assoc (turn.texts Pictures) (texts_of run.turns Pictures)
+            (run.last.texts Pictures)));
         report =
             comes.report
             ∙ ap (λ (l : Text). l ++ text_of run Report) report
             ∙ append_assoc (rows (call all past)) (turn.texts Report) (text_of run Report)
             ∙ ap (λ (l : Text). rows (call all past)
-                ++ l) (sym (append_assoc (turn.texts Report) (texts_of run.turns Report) (run.last.texts Report)));
+            ++ l) (sym (append_assoc (turn.texts Report) (texts_of run.turns Report) (run.last.texts Report)));
       }
 
   -- ---- a turn
 
   abbrev state : List Frame → List Event → ℕ → ℕ → ℕ → Bool → CallState
   state frames past at more lines ended =
-      record { params = p; plain = false; before = []; frames = frames; past = past; at = at; more = more;
-          lines = lines; ended = ended }
+      record {
+        params = p;
+        plain = false;
+        before = [];
+        frames = frames;
+        past = past;
+        at = at;
+        more = more;
+        lines = lines;
+        ended = ended;
+      }
 
   abbrev ahead_of : ℕ → ℕ → List ℕ → List Frame
   ahead_of more at video = film p (frames_of p.format more at video)
@@ -274,11 +283,11 @@ module _ (p : Params) (all : List Frame) (broken : Option Y4mFault) (later : Lat
 
     module _ (trace : List ℕ) (is : inputs Events ≡ trace)
         (go : (frames2 : List Frame) (past2 : List Event) (at2 more2 : ℕ) (ended2 : Bool) (taken : Role
-            → ℕ) (left : List ℕ)
+        → ℕ) (left : List ℕ)
         → left_after inputs taken Events ≡ later_lines trace → left_after inputs taken Video ≡ left
-            → IsOn frames2 past2 (ahead_of more2 at2 left) → fault_at more2 at2 left ≡ broken
+        → IsOn frames2 past2 (ahead_of more2 at2 left) → fault_at more2 at2 left ≡ broken
         → Comes past2 E F (lines + 1 + 1) (left_after inputs taken Events)
-            (rest (state frames2 past2 at2 more2 (lines + 1) ended2) taken)) where
+        (rest (state frames2 past2 at2 more2 (lines + 1) ended2) taken)) where
       abbrev size : ℕ
       size = line_size trace
 
@@ -323,11 +332,11 @@ module _ (p : Params) (all : List Frame) (broken : Option Y4mFault) (later : Lat
           → refusal_in (rules_of p) (length all) (call all past) Send ≡ Some NoPicture
       none_left nothing is =
           let frames_all : frames ≡ all = sym (append-nil frames) ∙ ap (λ (l : List Frame). frames ++ l) (sym nothing)
-              ∙ k.whole in
+          ∙ k.whole in
           let count : length frames ≡ length all = ap (λ (l : List Frame). length l) frames_all in
           ap (λ (x : Call Style Mb Picture). refusal_in (rules_of p) (length all) x Send) (same_call frames past _ k)
           ∙ send_out (rules_of p) (length all) (length c.coded) c.played (map about c.said)
-              (omega (arith, count, (counts frames past).0 k.near, k.sent)) is
+          (omega (arith, count, (counts frames past).0 k.near, k.sent)) is
 
       -- a capture that is too far is told so, whatever fault the video has
       far_told : (r : Refusal) → refusal_at by_call now Send ≡ Some r
@@ -337,13 +346,13 @@ module _ (p : Params) (all : List Frame) (broken : Option Y4mFault) (later : Lat
         captures_so (length all) r is,
         ap (λ (j : ℕ). status_with (fault_of j Send r)) (sym (no_more (lines + 1)))
             ∙ distance_told broken (lines + 1 + 0) r (send_distance (rules_of p) (length c.coded) c.played
-                (map about c.said) r is),
+            (map about c.said) r is),
       )
 
       -- events that leave what was sent, and show nothing
       quiet : (line : Line) (past2 : List Event) → past2 ≡ with_line p all past line
           → LineMayHappen p all past line → (call all past2).plays ≡ (call all past).plays → (call all past2).coded
-              ≡ (call all past).coded → IsOn frames past2 (ahead_of more at (inputs Video))
+          ≡ (call all past).coded → IsOn frames past2 (ahead_of more at (inputs Video))
           → Takes line (Goes (after_line (state frames past2 at more lines ended) trace) (line_turn trace no_texts))
       quiet line past2 same may plays coded on =
           comes_more line E F (lines + 1) past past2 (inputs Events) _ (line_turn trace no_texts) _ same may refl
@@ -353,27 +362,35 @@ module _ (p : Params) (all : List Frame) (broken : Option Y4mFault) (later : Lat
 
       packet_comes : (n j : ℕ) → refusal_at by_call now (Deliver n j) ≡ None
           → Takes (says.Packet n j) (Goes (after_line (state frames (Deliver n j ∷ past) at more lines ended) trace)
-              (line_turn trace no_texts))
+          (line_turn trace no_texts))
       packet_comes n j o =
           let on : IsOn frames (Deliver n j ∷ past) (ahead_of more at (inputs Video)) =
-          record { whole = k.whole; near = ((none (length c.coded + 1) c (Deliver n j)).0 o, k.near); sent = k.sent;
-              behind = k.behind }
+          record {
+            whole = k.whole;
+            near = ((none (length c.coded + 1) c (Deliver n j)).0 o, k.near);
+            sent = k.sent;
+            behind = k.behind;
+          }
           in
           quiet (says.Packet n j) (Deliver n j ∷ past) refl (near_all frames (Deliver n j ∷ past) _ on).0 refl refl on
 
       back_comes : (m : ℕ) → refusal_at by_call now (Back m) ≡ None
           → Takes (says.Back m) (Goes (after_line (state frames (Back m ∷ past) at more lines ended) trace)
-              (line_turn trace no_texts))
+          (line_turn trace no_texts))
       back_comes m o =
           let on : IsOn frames (Back m ∷ past) (ahead_of more at (inputs Video)) =
-          record { whole = k.whole; near = ((none (length c.coded + 1) c (Back m)).0 o, k.near); sent = k.sent;
-              behind = k.behind }
+          record {
+            whole = k.whole;
+            near = ((none (length c.coded + 1) c (Back m)).0 o, k.near);
+            sent = k.sent;
+            behind = k.behind;
+          }
           in
           quiet (says.Back m) (Back m ∷ past) refl (near_all frames (Back m ∷ past) _ on).0 refl refl on
 
       all_comes : (n : ℕ) → refusal_at by_call now (Deliver n 0) ≡ None
           → Takes (says.All n) (Goes (after_line (state frames (delivered n (length (slices_at c.coded n))
-              ++ past) at more lines ended) trace) (line_turn trace no_texts))
+          ++ past) at more lines ended) trace) (line_turn trace no_texts))
       all_comes n o =
           let count = length (slices_at c.coded n) in
           let may = (none (length c.coded + 1) c (Deliver n 0)).0 o in
@@ -382,9 +399,9 @@ module _ (p : Params) (all : List Frame) (broken : Option Y4mFault) (later : Lat
           let close : played_before past < n + (rules_of p).half = omega (arith, may.1, by.1) in
           quiet (says.All n) (delivered n count ++ past)
           (ap (λ (x : Call Style Mb Picture). delivered n (length (slices_at x.coded n))
-              ++ past) (sym (same_call frames past _ k)))
+          ++ past) (sym (same_call frames past _ k)))
           (subst (λ (x : Call Style Mb Picture). MayHappen (rules_of p) (length all) x (Deliver n 0))
-              (sym (same_call frames past _ k)) may)
+          (sym (same_call frames past _ k)) may)
           (plays_delivered (coding p) (rules_of p) (steady p) all n count past)
           (coded_delivered (coding p) (rules_of p) (steady p) all n count past)
           (record {
@@ -399,8 +416,12 @@ module _ (p : Params) (all : List Frame) (broken : Option Y4mFault) (later : Lat
       on_played o =
           let may = (none (length c.coded + 1) c Play).0 o in
           let by = counts frames past in
-          record { whole = k.whole; near = (may, k.near); sent = k.sent;
-              behind = omega (arith, may, by.0 k.near, by.1) }
+          record {
+            whole = k.whole;
+            near = (may, k.near);
+            sent = k.sent;
+            behind = omega (arith, may, by.0 k.near, by.1);
+          }
 
       -- what the play shows
       abbrev newest : Shown Picture
@@ -409,7 +430,7 @@ module _ (p : Params) (all : List Frame) (broken : Option Y4mFault) (later : Lat
 
       play_comes : refusal_at by_call now Play ≡ None
           → Takes says.Play (Goes (after_line (state frames (Play ∷ past) at more lines ended) trace)
-              (line_turn trace (play_texts (in_call (call frames (Play ∷ past))) c.played)))
+          (line_turn trace (play_texts (in_call (call frames (Play ∷ past))) c.played)))
       play_comes o =
           let on = on_played o in
           let texts_in : Role → Text = λ r. play_texts (in_call (call all (Play ∷ past))) (call all past).played r in
@@ -420,10 +441,10 @@ module _ (p : Params) (all : List Frame) (broken : Option Y4mFault) (later : Lat
           let n : length a.plays ≡ a.played = plays_count all past ∙ sym (counts all past).1 in
           let row : ℕ → Text = λ m. picture_text m (Some (mark_of newest.mark)) (Some (reference_in a.coded m)) None in
           comes_more says.Play E F (lines + 1) past (Play ∷ past) (inputs Events) _
-              (line_turn trace (play_texts (in_call (call frames (Play ∷ past))) c.played)) _ refl
-              (near_all frames (Play ∷ past) _ on).0 refl
+          (line_turn trace (play_texts (in_call (call frames (Play ∷ past))) c.played)) _ refl
+          (near_all frames (Play ∷ past) _ on).0 refl
           (ap (λ (l : Text). shown_text a.plays
-              ++ l) (sym (append-nil (frame_text (mark_of newest.mark) newest.picture)) ∙ texts_are Pictures))
+          ++ l) (sym (append-nil (frame_text (mark_of newest.mark) newest.picture)) ∙ texts_are Pictures))
           (ap (λ (l : Text). rows a ++ l) (ap row n ∙ texts_are Report))
           (go frames (Play ∷ past) at more (not (is_closed trace)) (of Events size) (inputs Video) gone refl on still)
 
@@ -438,16 +459,18 @@ module _ (p : Params) (all : List Frame) (broken : Option Y4mFault) (later : Lat
           in
           let fault_is : Some fault ≡ broken = sym (ap (λ (l : List ℕ). fault_at more at l) video ∙ stops.1) ∙ still in
           comes_stopped frames past _ k (says.Send ∷ E) F (lines + 1) (inputs Events) rest _ _ (λ text. refl)
-              (λ other same. ap (λ (l : List ℕ). Some (line_size l)) (sym is))
-          (NoPicture, none_left nothing o,
-              ap (λ (x : Option Y4mFault). capture_told x (lines + 1 + 0) NoPicture) fault_is)
+          (λ other same. ap (λ (l : List ℕ). Some (line_size l)) (sym is)) (
+            NoPicture,
+            none_left nothing o,
+            ap (λ (x : Option Y4mFault). capture_told x (lines + 1 + 0) NoPicture) fault_is,
+          )
       captured_comes b v video o (Ok planes) found =
           let x = bare (picture_of p.format planes) in
           let frame = frame_size p.format (b ∷ v) in
           let left = after_frame p.format (b ∷ v) in
           let some : 0 < length (b ∷ v) = omega arith in
           let e = frame_laws.next p.format more (more - 1) at (b ∷ v) planes (some_left more at (b ∷ v) planes found)
-              some found in
+          some found in
           let frames2 = frames ++ x ∷ [] in
           let ahead2 = ahead_of (more - 1) (at + frame) left in
           let laters = later (steady p) frames (x ∷ []) past k.near in
@@ -456,16 +479,24 @@ module _ (p : Params) (all : List Frame) (broken : Option Y4mFault) (later : Lat
           let by2 = counts frames2 past in
           let by_all = counts all past in
           let near_now : Near all past = near_all frames past _ k in
-          let few : length (call all past).plays ≤ length (call all past).coded = omega (arith, plays_count all past,
-              by_all.0 near_now, k.behind) in
+          let few : length (call all past).plays ≤ length (call all past).coded = omega (
+            arith,
+            plays_count all past,
+            by_all.0 near_now,
+            k.behind,
+          ) in
           let whole2 : frames2 ++ ahead2 ≡ all =
           push_then frames ahead2 x
           ∙ ap (λ (l : List (List ℕ)). frames ++ film p l) (sym e.frames)
           ∙ ap (λ (l : List ℕ). frames ++ ahead_of more at l) (sym video)
           ∙ k.whole
           in
-          let below : length (call frames2 past).coded < length frames2 = omega (arith, by2.0 laters.1, k.sent,
-              longer frames x) in
+          let below : length (call frames2 past).coded < length frames2 = omega (
+            arith,
+            by2.0 laters.1,
+            k.sent,
+            longer frames x,
+          ) in
           let close : length (call frames2 past).coded < (call frames2 past).played + (rules_of p).half =
           omega (arith, by2.0 laters.1, by2.1, by.0 k.near, by.1, may.1)
           in
@@ -478,11 +509,11 @@ module _ (p : Params) (all : List Frame) (broken : Option Y4mFault) (later : Lat
           }
           in
           comes_more says.Send E F (lines + 1) past (Send ∷ past) (inputs Events) _ _ _ refl
-              (near_all frames2 (Send ∷ past) _ on).0 refl
+          (near_all frames2 (Send ∷ past) _ on).0 refl
           quiet_pictures
           (lines_stay (call all past).coded _ (call all past).plays few ∙ quiet_rows)
           (go frames2 (Send ∷ past) (at + frame) (more - 1) (not (is_closed trace))
-              (and_of (of Events size) (of Video frame)) left
+          (and_of (of Events size) (of Video frame)) left
           (ap (λ (m : ℕ). drop m (inputs Events)) (no_more size) ∙ gone)
           (ap (λ (m : ℕ). drop m (inputs Video)) (more_bytes frame) ∙ ap (λ (l : List ℕ). drop frame l) video)
           on (sym e.fault ∙ sym (ap (λ (l : List ℕ). fault_at more at l) video) ∙ still))
@@ -496,7 +527,7 @@ module _ (p : Params) (all : List Frame) (broken : Option Y4mFault) (later : Lat
           in
           let none_is : None ≡ broken = sym (ap (λ (l : List ℕ). fault_at more at l) there ∙ ends.1) ∙ still in
           comes_stopped frames past _ k (says.Send ∷ E) F (lines + 1) (inputs Events) rest _ _ (λ text. refl)
-              (λ fault is. absurd (cc is)) (
+          (λ fault is. absurd (cc is)) (
             NoPicture,
             none_left nothing o,
             ap (λ (j : ℕ). status_with (fault_of j Send NoPicture)) (sym (no_more (lines + 1)))
@@ -510,18 +541,18 @@ module _ (p : Params) (all : List Frame) (broken : Option Y4mFault) (later : Lat
           unless_comes says.Send Send (refusal_at by_call now Send) _ refl far_told (send_comes (inputs Video) refl)
       event_comes (says.Packet n j) =
           unless_comes (says.Packet n j) (Deliver n j) (refusal_at by_call now (Deliver n j)) _ refl
-              (λ r is. told_at (Deliver n j) r (refused_so (Deliver n j) r (any_packet (rules_of p) n j) is))
-              (packet_comes n j)
+          (λ r is. told_at (Deliver n j) r (refused_so (Deliver n j) r (any_packet (rules_of p) n j) is))
+          (packet_comes n j)
       event_comes (says.All n) =
           unless_comes (says.All n) (Deliver n 0) (refusal_at by_call now (Deliver n 0)) _ refl
-              (λ r is. told_at (Deliver n 0) r (refused_so (Deliver n 0) r (any_packet (rules_of p) n 0) is))
-              (all_comes n)
+          (λ r is. told_at (Deliver n 0) r (refused_so (Deliver n 0) r (any_packet (rules_of p) n 0) is))
+          (all_comes n)
       event_comes (says.Back m) =
           unless_comes (says.Back m) (Back m) (refusal_at by_call now (Back m)) _ refl
-              (λ r is. told_at (Back m) r (refused_so (Back m) r (any_message (rules_of p) m) is)) (back_comes m)
+          (λ r is. told_at (Back m) r (refused_so (Back m) r (any_message (rules_of p) m) is)) (back_comes m)
       event_comes says.Play =
           unless_comes says.Play Play (refusal_at by_call now Play) _ refl
-              (λ r is. told_at Play r (refused_so Play r (any_play (rules_of p)) is)) play_comes
+          (λ r is. told_at Play r (refused_so Play r (any_play (rules_of p)) is)) play_comes
 
       line_comes : (o : Option Line)
           → Comes past (events_from o E) (fault_from o (lines + 1) F) (lines + 1) (inputs Events)
@@ -541,10 +572,10 @@ module _ (p : Params) (all : List Frame) (broken : Option Y4mFault) (later : Lat
     GoesOn n lines trace inputs =
         (frames2 : List Frame) (past2 : List Event) (at2 more2 : ℕ) (ended2 : Bool) (taken : Role → ℕ) (left : List ℕ)
         → left_after inputs taken Events ≡ later_lines trace → left_after inputs taken Video ≡ left
-            → IsOn frames2 past2 (ahead_of more2 at2 left) → fault_at more2 at2 left ≡ broken
+        → IsOn frames2 past2 (ahead_of more2 at2 left) → fault_at more2 at2 left ≡ broken
         → Comes past2 (events_of n (later_lines trace)) (trace_fault_of n (lines + 1 + 1) (later_lines trace))
-            (lines + 1 + 1) (left_after inputs taken Events)
-            (run_of call_step n (state frames2 past2 at2 more2 (lines + 1) ended2) (left_after inputs taken))
+        (lines + 1 + 1) (left_after inputs taken Events)
+        (run_of call_step n (state frames2 past2 at2 more2 (lines + 1) ended2) (left_after inputs taken))
 
     module _ (frames : List Frame) (past : List Event) (at more lines : ℕ) (ended : Bool) (inputs : Role
         → List ℕ) (k : IsOn frames past (ahead_of more at (inputs Video))) (still : fault_at more at (inputs Video)
@@ -573,21 +604,21 @@ module _ (p : Params) (all : List Frame) (broken : Option Y4mFault) (later : Lat
         choice_comes : (b : Bool) (bytes : ℕ) (trace : List ℕ) → inputs Events ≡ bytes ∷ trace
             → GoesOn n lines (bytes ∷ trace) inputs → lines + suc n ≡ 16777216 → nat_lt lines 16777216 ≡ b
             → Comes past (events_from (event_in (first_line (bytes ∷ trace)))
-                (events_of n (later_lines (bytes ∷ trace))))
+            (events_of n (later_lines (bytes ∷ trace))))
             (fault_from (event_in (first_line (bytes ∷ trace))) (lines + 1)
-                (trace_fault_of n (lines + 1 + 1) (later_lines (bytes ∷ trace)))) (lines + 1) (inputs Events)
+            (trace_fault_of n (lines + 1 + 1) (later_lines (bytes ∷ trace)))) (lines + 1) (inputs Events)
             (follow (or_many b lines (line_step by_call here inputs (bytes ∷ trace)
-                (event_in (first_line (bytes ∷ trace))))) on_with)
+            (event_in (first_line (bytes ∷ trace))))) on_with)
         choice_comes false bytes trace is go room many = absurd (omega (arith, ltb-false lines 16777216 many, room))
         choice_comes true bytes trace is go room few =
             line_comes frame_laws frames past at more lines ended inputs k still
-                (events_of n (later_lines (bytes ∷ trace)))
-                (trace_fault_of n (lines + 1 + 1) (later_lines (bytes ∷ trace))) on_with (bytes ∷ trace) is go
-                (event_in (first_line (bytes ∷ trace)))
+            (events_of n (later_lines (bytes ∷ trace)))
+            (trace_fault_of n (lines + 1 + 1) (later_lines (bytes ∷ trace))) on_with (bytes ∷ trace) is go
+            (event_in (first_line (bytes ∷ trace)))
 
         step_comes : (trace : List ℕ) → inputs Events ≡ trace → GoesOn n lines trace inputs → lines + suc n ≡ 16777216
             → Comes past (events_of (suc n) trace) (trace_fault_of (suc n) (lines + 1) trace) (lines + 1)
-                (inputs Events) (follow (trace_step by_call here inputs trace) on_with)
+            (inputs Events) (follow (trace_step by_call here inputs trace) on_with)
         unfolding events_of trace_fault_of
         step_comes [] is go room = comes_end frames past _ k (lines + 1) (inputs Events) on_with
         step_comes (bytes ∷ trace) is go room = choice_comes (nat_lt lines 16777216) bytes trace is go room refl
@@ -598,7 +629,7 @@ module _ (p : Params) (all : List Frame) (broken : Option Y4mFault) (later : Lat
     pub run_comes : (n : ℕ) (frames : List Frame) (past : List Event) (at more lines : ℕ) (ended : Bool) (inputs : Role
         → List ℕ) → IsOn frames past (ahead_of more at (inputs Video)) → fault_at more at (inputs Video) ≡ broken
         → lines + n ≡ 16777216 → Comes past (events_of n (inputs Events)) (trace_fault_of n (lines + 1) (inputs Events))
-            (lines + 1) (inputs Events) (run_of call_step n (state frames past at more lines ended) inputs)
+        (lines + 1) (inputs Events) (run_of call_step n (state frames past at more lines ended) inputs)
     unfolding run_of events_of trace_fault_of
     run_comes zero frames past at more lines ended inputs k still room =
         last_comes frames past at more lines ended inputs k still (inputs Events) room
@@ -606,8 +637,8 @@ module _ (p : Params) (all : List Frame) (broken : Option Y4mFault) (later : Lat
         step_comes frames past at more lines ended inputs k still n (inputs Events) refl
         (λ frames2 past2 at2 more2 ended2 taken left gone seen on still2.
         subst (λ (l : List ℕ). Comes past2 (events_of n l) (trace_fault_of n (lines + 1 + 1) l) (lines + 1 + 1)
-            (left_after inputs taken Events) (run_of call_step n (state frames2 past2 at2 more2 (lines + 1) ended2)
-            (left_after inputs taken))) gone
+        (left_after inputs taken Events) (run_of call_step n (state frames2 past2 at2 more2 (lines + 1) ended2)
+        (left_after inputs taken))) gone
         (run_comes n frames2 past2 at2 more2 (lines + 1) ended2 (left_after inputs taken)
         (subst (λ (l : List ℕ). IsOn frames2 past2 (ahead_of more2 at2 l)) (sym seen) on)
         (ap (λ (l : List ℕ). fault_at more2 at2 l) seen ∙ still2)

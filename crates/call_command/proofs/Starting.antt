@@ -35,7 +35,7 @@ module _ (x : Parts) (fresh : IsFresh x.terms x.link) (laws : WayLaws x.terms.pa
   pub stands_first : (before : List ReceiverEntry) (at : ℕ) (inputs : Role → List ℕ) → x.video.at ≡ at
       → x.receiver.params ≡ x.terms.params
       → receiver_end.Stands x.receiver before → (receiver_end.run_of x.terms.params before).played ≡ 0
-          → PartsStand x (first_state x.terms before at) inputs
+      → PartsStand x (first_state x.terms before at) inputs
   stands_first before at inputs place receiver_params receives begun = record {
     is = λ i. record {
       params = x.terms.params;

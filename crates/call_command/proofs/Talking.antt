@@ -54,8 +54,17 @@ module _ (p : Params) (frames_law : LaterFramesBoth (coding p) (rules_of p)) (ev
 
   abbrev state : Bool → List Frame → List Event → ℕ → ℕ → ℕ → Bool → CallState
   state plain frames past at more lines ended =
-      record { params = p; plain = plain; before = []; frames = frames; past = past; at = at; more = more;
-          lines = lines; ended = ended }
+      record {
+        params = p;
+        plain = plain;
+        before = [];
+        frames = frames;
+        past = past;
+        at = at;
+        more = more;
+        lines = lines;
+        ended = ended;
+      }
 
   -- its events are near, and each of its frames was sent; over the plain trace each was played, too
   record IsOn (plain : Bool) (frames : List Frame) (past : List Event) : Type 0 where
@@ -130,7 +139,7 @@ module _ (p : Params) (frames_law : LaterFramesBoth (coding p) (rules_of p)) (ev
         coded_after : length (both all after_it).sender.coded ≡ n + 1
         coded_after =
             ap (λ (run : SenderRun Style Mb Picture). length run.coded) (events_law.sender [] all n count (Send ∷ past))
-                ∙ coded_now
+            ∙ coded_now
 
         played_after : (both all after_it).receiver.played ≡ n
         played_after = events_law.played [] all n count (Send ∷ past) ∙ played_all ∙ level
@@ -246,10 +255,13 @@ module _ (p : Params) (frames_law : LaterFramesBoth (coding p) (rules_of p)) (ev
           let f = bare (picture_of p.format planes) in
           let all = frames ++ f ∷ [] in
           let same = same_all frames past on.near on.sent f in
-          let there : length (both all past).sender.coded < length all = omega (arith,
-              coded_all frames past on.near on.sent f, longer frames f) in
+          let there : length (both all past).sender.coded < length all = omega (
+            arith,
+            coded_all frames past on.near on.sent f,
+            longer frames f,
+          ) in
           let first = near_laws.capture [] all past (ap (λ (x : Joined Style Mb Picture). refusal_of (in_both x)) same
-              ∙ none) there in
+          ∙ none) there in
           record {
             frames = frames ++ f ∷ [];
             past = Send ∷ past;
@@ -280,7 +292,7 @@ module _ (p : Params) (frames_law : LaterFramesBoth (coding p) (rules_of p)) (ev
           (λ none.
           leads trace (Deliver n j ∷ past) (on_event (Deliver n j ∷ past) (near_packet n j none)
           (ap (λ (run : SenderRun Style Mb Picture). length run.coded) (events_law.packet [] frames n j past)
-              ∙ on.sent)))
+          ∙ on.sent)))
       keeps_event trace (says.All n) =
           let count = length (slices_at seen.coded n) in
           keeps_unless trace (Deliver n 0) (refusal_at by_ends now (Deliver n 0)) _
@@ -289,14 +301,14 @@ module _ (p : Params) (frames_law : LaterFramesBoth (coding p) (rules_of p)) (ev
           leads trace (delivered n count ++ past) (on_event (delivered n count ++ past)
           (events_law.near [] frames n count 0 past first on.near)
           (ap (λ (run : SenderRun Style Mb Picture). length run.coded) (events_law.sender [] frames n count past)
-              ∙ on.sent)))
+          ∙ on.sent)))
       keeps_event trace (says.Back k) =
           keeps_unless trace (Back k) (refusal_at by_ends now (Back k)) _
           (λ none. leads trace (Back k ∷ past) (on_event (Back k ∷ past) (near_back k none)
           (ap (λ (l : List (Coded Style Mb Picture)). length l) (events_law.message [] frames k past) ∙ on.sent)))
       keeps_event trace says.Play =
           keeps_unless trace Play (refusal_at by_ends now Play) _
-              (λ none. leads trace (Play ∷ past) (on_event (Play ∷ past) (near_play none) on.sent))
+          (λ none. leads trace (Play ∷ past) (on_event (Play ∷ past) (near_play none) on.sent))
 
       keeps_line : (trace : List ℕ) (o : Option Line) → Keeps false (line_step by_ends now inputs trace o)
       keeps_line trace None = tt
@@ -316,7 +328,7 @@ module _ (p : Params) (frames_law : LaterFramesBoth (coding p) (rules_of p)) (ev
     same_here : (plain : Bool) (frames : List Frame) (past : List Event) (place more lines : ℕ) (ended : Bool)
         (inputs : Role → List ℕ) → IsOn plain frames past
         → talk_step (state plain frames past place more lines ended) inputs
-            ≡ call_step (state plain frames past place more lines ended) inputs
+        ≡ call_step (state plain frames past place more lines ended) inputs
     same_here true frames past place more lines ended inputs on = plain_same frames past place more lines ended inputs
         on
     same_here false frames past place more lines ended inputs on = recorded_same frames past place more lines ended
@@ -334,22 +346,22 @@ module _ (p : Params) (frames_law : LaterFramesBoth (coding p) (rules_of p)) (ev
         → talk_step s inputs ≡ call_step s inputs
     same_turn plain s inputs k =
         subst (λ (y : CallState). talk_step y inputs ≡ call_step y inputs) (sym k.is)
-            (same_here plain k.frames k.past k.place k.more k.lines k.ended inputs k.on)
+        (same_here plain k.frames k.past k.place k.more k.lines k.ended inputs k.on)
 
     keeps_turn : (plain : Bool) (s : CallState) (inputs : Role → List ℕ) → IsOnWay plain s
         → Keeps plain (talk_step s inputs)
     keeps_turn plain s inputs k =
         subst (λ (y : CallState). Keeps plain (talk_step y inputs)) (sym k.is)
-            (keeps_here plain k.frames k.past k.place k.more k.lines k.ended inputs k.on)
+        (keeps_here plain k.frames k.past k.place k.more k.lines k.ended inputs k.on)
 
     -- ---- a run
 
     follow_same : (plain : Bool) (step : Step CallState) (a b : CallState → (Role → ℕ) → Run) → Keeps plain step
         → ((next : CallState) → IsOnWay plain next → (taken : Role → ℕ) → a next taken ≡ b next taken)
-            → follow step a ≡ follow step b
+        → follow step a ≡ follow step b
     follow_same plain (Goes next turn) a b keeps same =
         ap (λ (run : Run). let longer_run : Run = record { turns = turn ∷ run.turns; last = run.last } in
-            longer_run) (same next keeps turn.taken)
+        longer_run) (same next keeps turn.taken)
     follow_same plain (Ends last) a b keeps same = refl
 
     same_run : (turns : ℕ) (plain : Bool) (s : CallState) (inputs : Role → List ℕ) → IsOnWay plain s
@@ -359,17 +371,17 @@ module _ (p : Params) (frames_law : LaterFramesBoth (coding p) (rules_of p)) (ev
         (same_turn plain s inputs k)
     same_run (suc turns) plain s inputs k =
         follow_same plain (talk_step s inputs) (λ next taken. run_of talk_step turns next (left_after inputs taken))
-            (λ next taken. run_of call_step turns next (left_after inputs taken)) (keeps_turn plain s inputs k)
+        (λ next taken. run_of call_step turns next (left_after inputs taken)) (keeps_turn plain s inputs k)
         (λ next on taken. same_run turns plain next (left_after inputs taken) on)
         ∙ ap (λ (step : Step CallState). follow step (λ next taken. run_of call_step turns next
-            (left_after inputs taken))) (same_turn plain s inputs k)
+        (left_after inputs taken))) (same_turn plain s inputs k)
 
 -- from the first state on
 pub talk_is_the_call : (t : Terms) → LaterFramesBoth (coding t.params) (rules_of t.params) → EventLaws t.params
     → NearLaws t.params
     → ((frames : List Frame) (past : List Event)
-        → AllMayHappenBoth (coding t.params) (rules_of t.params) (receiver_end.run_of t.params [])
-        (steady t.params) frames past → ShowTheSame t.params frames past)
+    → AllMayHappenBoth (coding t.params) (rules_of t.params) (receiver_end.run_of t.params [])
+    (steady t.params) frames past → ShowTheSame t.params frames past)
     → TalkIsTheCall t
 talk_is_the_call t frames_law events_law near_laws agree at turns inputs =
     same_run t.params frames_law events_law near_laws agree turns t.plain (first_state t [] at) inputs

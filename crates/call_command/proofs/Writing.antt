@@ -52,12 +52,12 @@ pub row_is : (p : Params) (before : List ReceiverEntry) (frames : List Frame) (p
     (mark : Mark) (reference : Option ℕ) (picture : Picture) {played : ℕ}
     → number ≡ played → played ≡ (both_after p (steady p) frames before past).receiver.played
     → mark ≡ mark_of (played_mark (decoding p.format) (rules_of p)
-        (both_after p (steady p) frames before past).receiver)
+    (both_after p (steady p) frames before past).receiver)
     → reference ≡ reference_in (both_after p (steady p) frames before past).sender.coded number
     → picture ≡ (both_after p (steady p) frames before (Play ∷ past)).receiver.screen
     → row_texts number mark reference picture
-        ≡ play_texts (in_both (both_after p (steady p) frames before (Play ∷ past))) played
+    ≡ play_texts (in_both (both_after p (steady p) frames before (Play ∷ past))) played
 row_is p before frames past number mark reference picture {played} number_is played_is mark_is reference_is shown =
     (λ i. then_also (on Pictures (frame_text (mark_is i) (shown i)))
-        (on Report (picture_text number (Some (mark_is i)) (Some (reference_is i)) None)))
+    (on Report (picture_text number (Some (mark_is i)) (Some (reference_is i)) None)))
     ∙ ap (play_texts (in_both (both_after p (steady p) frames before (Play ∷ past)))) number_is

@@ -21,8 +21,11 @@ pub pictured : ArePicturesBySamples → (p : Params) → IsPictures (pictures p.
 pictured by p = record { picture_same = by.same p.format; sample_is = by.sample p.format }
 
 pub is_made : ArePicturesBySamples → (f : Format) (p : Picture) → p.format ≡ f → IsWhole p → IsMade (pictures f) p
-is_made by f p same whole = (λ s. sample_of p (spot f s), by.only f p (λ s. sample_of p (spot f s)) same whole
-    (λ s inside. refl))
+is_made by f p same whole = (
+  λ s. sample_of p (spot f s),
+  by.only f p (λ s. sample_of p (spot f s)) same whole
+      (λ s inside. refl),
+)
 
 -- a sample of macroblocks, by its number
 abbrev value : Format → Style → Option Picture → List Mb → ℕ → ℕ
@@ -32,14 +35,14 @@ value f style reference mbs s = sample_in style.rounding reference (mb_in mbs (o
 pub reconstructed : ArePicturesBySamples → ((f : Format) (rounding : ℕ) (reference : Option Picture) (mbs : List Mb)
     → IsWhole (recon.reconstruction f rounding reference mbs))
     → ((f : Format) (rounding : ℕ) (reference : Option Picture) (mbs : List Mb)
-        → (recon.reconstruction f rounding reference mbs).format ≡ f)
+    → (recon.reconstruction f rounding reference mbs).format ≡ f)
     → ((f : Format) (rounding : ℕ) (reference : Option Picture) (mbs : List Mb) (plane : Plane) (x y : ℕ)
-        → Inside f plane x y 1 → sample_at (recon.reconstruction f rounding reference mbs) plane x y
-        ≡ sample_in rounding reference (mb_in mbs (mb_of f plane x y)) plane x y)
+    → Inside f plane x y 1 → sample_at (recon.reconstruction f rounding reference mbs) plane x y
+    ≡ sample_in rounding reference (mb_in mbs (mb_of f plane x y)) plane x y)
     → AreSpots → (f : Format) (style : Style) (reference : Option Picture) (mbs : List Mb)
-        → reconstruction (pictures f) style reference mbs ≡ recon.reconstruction f style.rounding reference mbs
+    → reconstruction (pictures f) style reference mbs ≡ recon.reconstruction f style.rounding reference mbs
 reconstructed by whole format samples spots f style reference mbs =
     sym (by.only f (recon.reconstruction f style.rounding reference mbs) (value f style reference mbs)
-        (format f style.rounding reference mbs) (whole f style.rounding reference mbs)
+    (format f style.rounding reference mbs) (whole f style.rounding reference mbs)
     (λ s inside. samples f style.rounding reference mbs (spot f s).plane (spot f s).x (spot f s).y
-        (spots.inside f s inside)))
+    (spots.inside f s inside)))

@@ -23,8 +23,11 @@ half_long Standard = omega arith
 half_long Custom = omega arith
 
 pub ruled : (p : Params) → IsParams p → IsRules (rules_of p)
-ruled p is = record { some_mbs = some_mbs p.format; lead_small = is.lead;
-    slots_small = omega (arith, is.slots_high, half_long p.clock) }
+ruled p is = record {
+  some_mbs = some_mbs p.format;
+  lead_small = is.lead;
+  slots_small = omega (arith, is.slots_high, half_long p.clock);
+}
 
 clock_is : (c : Clock) → clock_with (half_of c) ≡ c
 clock_is Standard = refl

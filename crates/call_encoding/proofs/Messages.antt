@@ -39,10 +39,10 @@ bytes_back zero (b ∷ bits) long = absurd (omega (arith, long))
 bytes_back (suc n) bits long =
     let eight : length (take 8 bits) ≡ 8 = omega (arith, long, length-take 8 bits) in
     let first : spelled 8 (number (take 8 bits)) ≡ take 8 bits = ap (λ (k : ℕ). spelled k (number (take 8 bits)))
-        (sym eight) ∙ spelled-number (take 8 bits) in
+    (sym eight) ∙ spelled-number (take 8 bits) in
     let others = bytes_back n (drop 8 bits) (length-drop 8 bits ∙ omega (arith, long)) in
     ap (λ (l : List Bool). l ++ bits_of (bytes_from n (drop 8 bits))) first
-        ∙ ap (λ (l : List Bool). take 8 bits ++ l) others ∙ take-append-drop 8 bits
+    ∙ ap (λ (l : List Bool). take 8 bits ++ l) others ∙ take-append-drop 8 bits
 
 whole_bytes : (marks : Option ℕ) → bits_with marks ≡ 8 * (bits_with marks / 8)
 whole_bytes None = refl
@@ -74,7 +74,7 @@ few_marks [] count = tt
 few_marks (flag ∷ flags) (inl none) = absurd (omega (arith, none))
 few_marks (flag ∷ flags) (inr all) =
     subst (λ (n : ℕ). number (reverse (flag ∷ flags)) < 2 ^ n) (length-reverse (flag ∷ flags)
-        ∙ all) (number-lt (reverse (flag ∷ flags)))
+    ∙ all) (number-lt (reverse (flag ∷ flags)))
 
 -- ---- the message
 
@@ -99,5 +99,5 @@ pub message_again : MessageLaws → ReadsTexts → (p : Params) (m : call.Messag
 message_again laws reads p m fits count =
     let some : IsCount (length (message_flags m)) = count_of_flags p.messages (length (message_flags m)) count in
     let read = reads p.clock (marked m) (written (marked m)) (marked_fits p m fits some)
-        (text_of_written laws (marked m)) in
+    (text_of_written laws (marked m)) in
     ap as_read read ∙ ap Ok (marked_back m some)

@@ -33,8 +33,12 @@ clock_back Custom = refl
 -- ---- frames of the call
 
 pub in_its_format : (f : Format) (picture : Picture) → picture.format ≡ f → in_format f picture ≡ picture
-in_its_format f picture same = ap (λ (g : Format). let p : Picture = record { format = g; y = picture.y;
-    cb = picture.cb; cr = picture.cr } in p) (sym same)
+in_its_format f picture same = ap (λ (g : Format). let p : Picture = record {
+  format = g;
+  y = picture.y;
+  cb = picture.cb;
+  cr = picture.cr;
+} in p) (sym same)
 
 marks_test : (marks : Option ℕ) → are_marks marks ≡ true → AreMarks marks
 marks_test None is = tt
@@ -57,7 +61,7 @@ passes : (clock : Clock) (m : Message) → IsMessage clock m → is_of_clock clo
 passes clock (Ack tr marks) is = and_from _ _ (lt-ltb tr (period_of clock) is.0) (marks_pass marks is.1)
 passes clock (Nack tr rtr marks) is =
     and_from _ _ (lt-ltb tr (period_of clock) is.0) (and_from _ _ (lt-ltb rtr (period_of clock) is.1)
-        (marks_pass marks is.2))
+    (marks_pass marks is.2))
 
 one_more_filtered : (clock : Clock) (m : Message) (rest : List Message) → AreMessages clock rest → (t : Bool)
     → is_of_clock clock m ≡ t → AreMessages clock (if t then m ∷ rest else rest)
@@ -68,7 +72,7 @@ are_filtered : (clock : Clock) (messages : List Message) → AreMessages clock (
 are_filtered clock [] = tt
 are_filtered clock (m ∷ messages) =
     one_more_filtered clock m (filter (is_of_clock clock) messages) (are_filtered clock messages) (is_of_clock clock m)
-        refl
+    refl
 
 are_taken : (clock : Clock) (n : ℕ) (messages : List Message) → AreMessages clock messages
     → AreMessages clock (take n messages)
@@ -126,9 +130,18 @@ is_reference clock (Some m) below = below m refl
 in_range : (clock : Clock) (p : Params) (messages : List Message) (depth quant number : ℕ) (reference : Option ℕ)
     → length messages ≤ 4 → AreMessages clock messages → IsQuant quant
     → number < period_of clock → ((m : ℕ) → reference ≡ Some m → m < period_of clock)
-    → (let h : Header = record { tr = number; format = p.format; kind = kind_of (is_some reference);
-        rounding = depth % 2; channel = 3; trp = reference; quant = quant; back = in_places messages; clock = clock } in
-        IsHeader h)
+    → (let h : Header = record {
+      tr = number;
+      format = p.format;
+      kind = kind_of (is_some reference);
+      rounding = depth % 2;
+      channel = 3;
+      trp = reference;
+      quant = quant;
+      back = in_places messages;
+      clock = clock;
+    } in
+    IsHeader h)
 in_range clock p messages depth quant number reference few each q low below = record {
   tr = low;
   rounding = omega arith;
@@ -142,23 +155,35 @@ in_range clock p messages depth quant number reference few each q low below = re
 pub header_in_range : (p : Params) (messages : List Message) (predicted : Bool) (depth quant : ℕ)
     (h : call.Header Style)
     → IsQuant quant → h.style ≡ style_with p messages predicted depth quant → FitsHeader (rules_of p) predicted h
-        → IsHeader (header_from h)
+    → IsHeader (header_from h)
 header_in_range p all predicted depth quant h q style fits =
     let messages = carried p.clock all in
-    let made : Style → ℕ → Header = λ s half. header_from (record { number = h.number; reference = h.reference;
-        half = half; style = s }) in
+    let made : Style → ℕ → Header = λ s half. header_from (record {
+      number = h.number;
+      reference = h.reference;
+      half = half;
+      style = s;
+    }) in
     let mine : Bool → Style = λ b. style_with p all b depth quant in
     let plain : IsHeader (made (mine (is_some h.reference)) (half_of p.clock)) =
-    subst (λ (c : Clock). let x : Header = record { tr = h.number; format = p.format;
-        kind = kind_of (is_some h.reference); rounding = depth % 2; channel = 3; trp = h.reference; quant = quant;
-        back = in_places messages; clock = c } in IsHeader x)
+    subst (λ (c : Clock). let x : Header = record {
+      tr = h.number;
+      format = p.format;
+      kind = kind_of (is_some h.reference);
+      rounding = depth % 2;
+      channel = 3;
+      trp = h.reference;
+      quant = quant;
+      back = in_places messages;
+      clock = c;
+    } in IsHeader x)
     (sym (clock_back p.clock)) (in_range p.clock p messages depth quant h.number h.reference (carried_few p.clock all)
-        (carried_each p.clock all) q fits.number fits.reference)
+    (carried_each p.clock all) q fits.number fits.reference)
     in
     let kinded : IsHeader (made (mine predicted) (half_of p.clock)) =
-        subst (λ (b : Bool). IsHeader (made (mine b) (half_of p.clock))) fits.kind plain in
+    subst (λ (b : Bool). IsHeader (made (mine b) (half_of p.clock))) fits.kind plain in
     let styled : IsHeader (made h.style (half_of p.clock)) = subst (λ (s : Style). IsHeader (made s (half_of p.clock)))
-        (sym style) kinded in
+    (sym style) kinded in
     subst (λ (n : ℕ). IsHeader (made h.style n)) (sym fits.half) styled
 
 -- ---- choice and cut by the style
@@ -172,10 +197,10 @@ same_choice p picture (Some reference) h = refl
 pub choice_is : (p : Params) (picture : Picture) (reference : Option Picture) (h : call.Header Style)
     → picture.format ≡ p.format
     → choices_of picture reference (header_from h) p ≡ choices_of (in_format p.format picture) reference
-        (header_in p.clock h.style) p
+    (header_in p.clock h.style) p
 choice_is p picture reference h format =
     same_choice p picture reference h ∙ ap (λ (q : Picture). choices_of q reference (header_in p.clock h.style) p)
-        (sym (in_its_format p.format picture format))
+    (sym (in_its_format p.format picture format))
 
 some_where_predicted : (predicted : Bool) → is_some (some_reference (kind_of predicted)) ≡ predicted
 some_where_predicted true = refl
@@ -192,7 +217,7 @@ pub one_style : (p : Params) (predicted : Bool) (h : call.Header Style) → Fits
     → HaveOneForm (header_from h) (header_in p.clock h.style)
 one_style p predicted h fits kind =
     let named : is_some h.reference ≡ is_some (some_reference h.style.kind) = fits.kind
-        ∙ sym (some_where_predicted predicted) ∙ sym (ap (λ (k : Kind). is_some (some_reference k)) kind) in
+    ∙ sym (some_where_predicted predicted) ∙ sym (ap (λ (k : Kind). is_some (some_reference k)) kind) in
     record {
       format = refl;
       kind = refl;
@@ -200,7 +225,7 @@ one_style p predicted h fits kind =
       quant = refl;
       bits =
           ap (λ (n : ℕ). 67 + clock_bits (clock_with n) + reference_bits h.reference + back_bits
-              (messages_in h.style.back)) fits.half
+          (messages_in h.style.back)) fits.half
           ∙ ap (λ (n : ℕ). 67 + clock_bits (clock_with (half_of p.clock)) + n + back_bits (messages_in h.style.back))
-              (reference_bits_same h.reference (some_reference h.style.kind) named);
+          (reference_bits_same h.reference (some_reference h.style.kind) named);
     }

@@ -48,11 +48,17 @@ module _ {Style Mb Picture Fault : Type 0} (decoding : Decoding Style Mb Picture
         go : (o : Option (Coded Style Mb Picture)) → ((x : Coded Style Mb Picture) → o ≡ Some x
             → IsSoundPicture decoding.pictures rules c x)
             → IsAt (record c { coded = c.coded ++ option_map_or (λ x. x ∷ []) o [] }) run
-        go None sound = record { taken = at.taken; is = at.is;
-            good = subst (λ (xs : List (Coded Style Mb Picture)). Good decoding rules (record c { coded = xs })
-            at.taken) (sym (append-nil c.coded)) at.good }
-        go (Some x) sound = record { taken = at.taken; is = at.is;
-            good = step_send decoding rules lawful ruled c at.taken x at.good near.1 (sound x refl) }
+        go None sound = record {
+          taken = at.taken;
+          is = at.is;
+          good = subst (λ (xs : List (Coded Style Mb Picture)). Good decoding rules (record c { coded = xs })
+              at.taken) (sym (append-nil c.coded)) at.good;
+        }
+        go (Some x) sound = record {
+          taken = at.taken;
+          is = at.is;
+          good = step_send decoding rules lawful ruled c at.taken x at.good near.1 (sound x refl);
+        }
 
     delivers : (c : Call Style Mb Picture) (run : ReceiverRun Style Mb Picture) (n j : ℕ)
         → IsSoundEvent decoding rules source packets c (Deliver n j) → MayHappen rules count c (Deliver n j)
@@ -70,7 +76,7 @@ module _ {Style Mb Picture Fault : Type 0} (decoding : Decoding Style Mb Picture
               | inl h ↦
                   let got = packet.read_as h.0 h.2 in
                   let d = step_deliver decoding rules lawful ruled c at.taken n j x h.0 at.good near.0 near.1 at_n h.2
-                      in
+                  in
                   rw got.1 (record {
                     taken = d.taken;
                     is = ap (after_packet decoding rules got.0) at.is ∙ rw (got.2, d.takes) refl;
@@ -79,8 +85,11 @@ module _ {Style Mb Picture Fault : Type 0} (decoding : Decoding Style Mb Picture
               | inr h ↦
                   let slices = slices_at_is rules c.coded n x at_n in
                   let past : length (slices_at c.coded n) ≤ j = omega (arith, h.0, ap length slices) in
-                  rw (packet.no_other h.1) (record { taken = at.taken; is = at.is;
-                      good = step_no_slice decoding rules lawful ruled c at.taken n j at.good past })
+                  rw (packet.no_other h.1) (record {
+                    taken = at.taken;
+                    is = at.is;
+                    good = step_no_slice decoding rules lawful ruled c at.taken n j at.good past;
+                  })
             ]
 
     plays : (c : Call Style Mb Picture) (run : ReceiverRun Style Mb Picture) → MayHappen rules count c Play → IsAt c run
@@ -95,8 +104,11 @@ module _ {Style Mb Picture Fault : Type 0} (decoding : Decoding Style Mb Picture
 
     backs : (c : Call Style Mb Picture) (run : ReceiverRun Style Mb Picture) (k : ℕ) → MayHappen rules count c (Back k)
         → IsAt c run → IsAt (after decoding.pictures rules source c (Back k)) run
-    backs c run k near at = rw near.1 (record { taken = at.taken; is = at.is;
-        good = step_back decoding rules lawful ruled c at.taken k near.0 at.good near.1 })
+    backs c run k near at = rw near.1 (record {
+      taken = at.taken;
+      is = at.is;
+      good = step_back decoding rules lawful ruled c at.taken k near.0 at.good near.1;
+    })
 
     stays_at : (past : List Event) → AllMayHappenFrom decoding.pictures rules source count past
         → AllSound decoding rules source packets past
@@ -123,11 +135,11 @@ module _ {Style Mb Picture Fault : Type 0} (decoding : Decoding Style Mb Picture
                   let got = is_packet.read_as h.0 h.2 in
                   let same : got.0 ≡ bytes = let e : Some got.0 ≡ Some bytes = sym got.1 ∙ packet in cc in
                   let d = step_deliver decoding rules lawful ruled c at.taken n j x h.0 at.good near.0 near.1 at_n h.2
-                      in
+                  in
                   ap (λ (b : List ℕ). heard decoding rules run (decoding.read b)) (sym same)
-                      ∙ ap (heard decoding rules run) got.2
-                      ∙ ap (λ (r : ReceiverRun Style Mb Picture). heard decoding rules r
-                      (Ok (record { header = header_of rules n x; slice = h.0 }))) at.is ∙ d.heard_so
+                  ∙ ap (heard decoding rules run) got.2
+                  ∙ ap (λ (r : ReceiverRun Style Mb Picture). heard decoding rules r
+                  (Ok (record { header = header_of rules n x; slice = h.0 }))) at.is ∙ d.heard_so
               | inr h ↦ let none = is_packet.no_other h.1 in absurd (differ (sym none ∙ packet))
             ]
           where

@@ -40,7 +40,7 @@ module _ {Style Mb Picture : Type 0} (pictures : Pictures Style Mb Picture) (rul
   unfolding is_open
   open_is past n opened =
       let parts = and_parts (leb (call_from pictures rules source past).played n)
-          (leb n ((call_from pictures rules source past).played + rules.lead)) opened in
+      (leb n ((call_from pictures rules source past).played + rules.lead)) opened in
       let played = played_is past in
       (omega (arith, leb-true _ _ parts.0, played), omega (arith, leb-true _ _ parts.1, played))
 
@@ -50,7 +50,7 @@ module _ {Style Mb Picture : Type 0} (pictures : Pictures Style Mb Picture) (rul
   is_opened past n opened =
       let played = played_is past in
       and_from _ _ (le-leb (call_from pictures rules source past).played n (omega (arith, opened.0, played)))
-          (le-leb n ((call_from pictures rules source past).played + rules.lead) (omega (arith, opened.1, played)))
+      (le-leb n ((call_from pictures rules source past).played + rules.lead) (omega (arith, opened.1, played)))
 
   -- a delivery that counts
   fresh_parts : (c : Call Style Mb Picture) (n j : ℕ) → delivery_counts rules c n j ≡ true
@@ -58,9 +58,11 @@ module _ {Style Mb Picture : Type 0} (pictures : Pictures Style Mb Picture) (rul
   unfolding delivery_counts
   fresh_parts c n j fresh =
       let parts = and_parts (is_open rules c.played n) (ltb j (length (slices_at c.coded n)) && not
-          (has_arrived c.arrivals n j)) fresh in
-      (parts.0, ltb-true _ _ (and_parts (ltb j (length (slices_at c.coded n))) (not (has_arrived c.arrivals n j))
-          parts.1).0)
+      (has_arrived c.arrivals n j)) fresh in (
+        parts.0,
+        ltb-true _ _ (and_parts (ltb j (length (slices_at c.coded n))) (not (has_arrived c.arrivals n j))
+            parts.1).0,
+      )
 
   -- a delivery in time counts, or came before
   counts_or_came : (c : Call Style Mb Picture) (n j : ℕ) → is_open rules c.played n ≡ true
@@ -100,7 +102,7 @@ module _ {Style Mb Picture : Type 0} (pictures : Pictures Style Mb Picture) (rul
                 let f = fresh_parts (call_from pictures rules source past) m i fresh in
                 let opened : IsOpen rules past n = subst (IsOpen rules past) same (open_is past m f.0) in
                 let below : i < slices_before pictures rules source past n =
-                    subst (λ (k : ℕ). i < slices_before pictures rules source past k) same f.1 in
+                subst (λ (k : ℕ). i < slices_before pictures rules source past k) same f.1 in
                 inl (same, place, opened, subst (λ (k : ℕ). k < slices_before pictures rules source past n) place below)
             | inr before ↦ inr (old before)
           ]
@@ -124,11 +126,11 @@ module _ {Style Mb Picture : Type 0} (pictures : Pictures Style Mb Picture) (rul
       go false fresh (inr before) old = old before
       go false fresh (inl now) old =
           let opened : is_open rules (call_from pictures rules source past).played m
-              ≡ true = subst (λ (k : ℕ). is_open rules (call_from pictures rules source past).played k
-              ≡ true) (sym now.0) (is_opened past n now.2) in
+          ≡ true = subst (λ (k : ℕ). is_open rules (call_from pictures rules source past).played k
+          ≡ true) (sym now.0) (is_opened past n now.2) in
           let below : i < slices_before pictures rules source past m =
-              subst (λ (k : ℕ). i < slices_before pictures rules source past k) (sym now.0)
-              (subst (λ (k : ℕ). k < slices_before pictures rules source past n) (sym now.1) now.3) in
+          subst (λ (k : ℕ). i < slices_before pictures rules source past k) (sym now.0)
+          (subst (λ (k : ℕ). k < slices_before pictures rules source past n) (sym now.1) now.3) in
           elim (counts_or_came (call_from pictures rules source past) m i opened below) [
             | inl counts ↦ absurd (both_ways _ fresh counts)
             | inr came ↦ subst (λ (k : ℕ). has_arrived (call_from pictures rules source past).arrivals k j ≡ true) now.0
@@ -153,9 +155,9 @@ module _ {Style Mb Picture : Type 0} (pictures : Pictures Style Mb Picture) (rul
   newest past =
       rw (eq-eqb (length (call_from pictures rules source past).plays) (played_before past) (shown_length past))
       (ap (λ (k : ℕ). let o : Option (Shown Picture) =
-          Some (shown_at pictures (call_from pictures rules source past).coded
-          (call_from pictures rules source past).arrivals (call_from pictures rules source past).plays k) in
-          o) (played_is past))
+      Some (shown_at pictures (call_from pictures rules source past).coded
+      (call_from pictures rules source past).arrivals (call_from pictures rules source past).plays k) in
+      o) (played_is past))
 
   not_exact : (b : Bool) → (if b then Patched else Held) ≡ Exact → ⊥
   not_exact true e = cc
@@ -172,12 +174,14 @@ module _ {Style Mb Picture : Type 0} (pictures : Pictures Style Mb Picture) (rul
   unfolding shown_at
   exact_is coded bs before n is =
       the_full_one (is_full coded bs n) (reconstruction_at pictures coded n) (mixed pictures (mb_arrived coded bs n)
-          (reconstruction_at pictures coded n) (shown_last pictures before))
-          (if any_arrived bs n then Patched else Held) (not_exact (any_arrived bs n)) is
+      (reconstruction_at pictures coded n) (shown_last pictures before))
+      (if any_arrived bs n then Patched else Held) (not_exact (any_arrived bs n)) is
 
   full_shows : (coded : List (Coded Style Mb Picture)) (bs : List Arrival) (before : List (Shown Picture)) (n : ℕ)
-      → is_full coded bs n ≡ true → shown_at pictures coded bs before n ≡ record { mark = Exact;
-      picture = reconstruction_at pictures coded n }
+      → is_full coded bs n ≡ true → shown_at pictures coded bs before n ≡ record {
+        mark = Exact;
+        picture = reconstruction_at pictures coded n;
+      }
   unfolding shown_at
   full_shows coded bs before n full = rw full refl
 
@@ -219,8 +223,8 @@ module _ {Style Mb Picture : Type 0} (pictures : Pictures Style Mb Picture) (rul
   shown_by_events past Play n lt =
       let c = call_from pictures rules source past in
       let same : play_at (call_from pictures rules source (Play ∷ past)).plays n
-          ≡ play_at c.plays n = earlier (shown_at pictures c.coded c.arrivals c.plays c.played) c.plays n
-          (omega (arith, shown_length past)) in
+      ≡ play_at c.plays n = earlier (shown_at pictures c.coded c.arrivals c.plays c.played) c.plays n
+      (omega (arith, shown_length past)) in
       (ap (option_map (λ (x : Shown Picture). x.mark)) same, ap (option_map (λ (x : Shown Picture). x.picture)) same)
 
 -- ---- the call of an encoder

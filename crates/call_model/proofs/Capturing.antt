@@ -31,8 +31,11 @@ reference_chosen rules depth known n m e = go (greatest (λ i. known i && leb n 
         let passes = greatest_passes (λ i. known i && leb n (i + window rules)) n i best in
         let parts = and_parts (known i) (leb n (i + window rules)) passes.0 in
         let same : i ≡ m = depth_split (ltb (depth i) rules.chain) some in
-        subst (λ (k : ℕ). (k < n) × (n ≤ k + window rules) × (known k ≡ true)) same (passes.1, leb-true _ _ parts.1,
-            parts.0)
+        subst (λ (k : ℕ). (k < n) × (n ≤ k + window rules) × (known k ≡ true)) same (
+          passes.1,
+          leb-true _ _ parts.1,
+          parts.0,
+        )
       where
         depth_split : (b : Bool) → (if b then Some i else None) ≡ Some m → i ≡ m
         depth_split true e = cc
@@ -134,8 +137,8 @@ module _ {Frame Style Mb Picture MessageFault : Type 0} (pictures : Pictures Sty
   sizes_few : (coded : List (Coded Style Mb Picture)) → length (last_sizes encoding rules coded) ≤ 16
   sizes_few coded =
       let count : length (last_sizes encoding rules coded) ≡ length coded - (length coded - 16) =
-          length-map-range_with_len (λ n. bytes_in (packets_of encoding rules coded n)) (length coded - 16)
-          (length coded - (length coded - 16)) in
+      length-map-range_with_len (λ n. bytes_in (packets_of encoding rules coded n)) (length coded - 16)
+      (length coded - (length coded - 16)) in
       omega (arith, count)
 
   pub next_encoded : (pace : List ℕ → ℕ) (frame : Frame) (coded : List (Coded Style Mb Picture)) (known : List ℕ)
@@ -151,16 +154,16 @@ module _ {Frame Style Mb Picture MessageFault : Type 0} (pictures : Pictures Sty
       ≡ reconstruction_of_slices pictures style reference slices
   by_slices lawful style reference slices mbs divides =
       lawful.picture_same _ _ (λ s inside. ap (λ (mb : Mb). pictures.reconstructed_sample style reference mb s)
-          (sym (mb_is (pictures.owner s) inside)))
+      (sym (mb_is (pictures.owner s) inside)))
     where
       mb_is : (k : ℕ) → k < rules.mbs → mb_among pictures.skip slices k ≡ slice_index_or mbs k pictures.skip
       mb_is k lt =
           elim (slice_get_cases slices (divides.covers.place_of k)).1 [
             | inl h ↦
                 let has = divides.covers.has (divides.covers.place_of k) k h.0 lt h.2
-                    ∙ eq-eqb (divides.covers.place_of k) (divides.covers.place_of k) refl in
+                ∙ eq-eqb (divides.covers.place_of k) (divides.covers.place_of k) refl in
                 mb_among_is pictures.skip rules.mbs slices divides.covers (divides.covers.place_of k) k h.0 lt h.2 has
-                    ∙ divides.same (divides.covers.place_of k) k h.0 h.2 has
+                ∙ divides.same (divides.covers.place_of k) k h.0 h.2 has
             | inr h ↦ absurd (omega (arith, h.0, divides.covers.below k lt))
           ]
 
@@ -173,9 +176,9 @@ module _ {Frame Style Mb Picture MessageFault : Type 0} (pictures : Pictures Sty
   unfolding capture
   capture_sound lawful encodes quant frame c range all =
       let divides = encodes.divides
-          (is_some (reference_for rules (depth_at c.coded) (is_among c.known) (length c.coded)))
-          (style_of quant frame c.coded c.known) (mbs_of quant frame c.coded c.known)
-          (mbs_chosen quant frame c.coded c.known range all) in
+      (is_some (reference_for rules (depth_at c.coded) (is_among c.known) (length c.coded)))
+      (style_of quant frame c.coded c.known) (mbs_of quant frame c.coded c.known)
+      (mbs_chosen quant frame c.coded c.known range all) in
       record {
         covers = divides.covers;
         picture = by_slices lawful (style_of quant frame c.coded c.known) (before_of c.coded c.known)
@@ -196,8 +199,12 @@ module _ {Frame Style Mb Picture Fault MessageFault : Type 0}
 
   header_fits : (n : ℕ) (x : Coded Style Mb Picture) → FitsHeader rules (is_some x.reference) (header_of rules n x)
   unfolding header_of
-  header_fits n x = record { number = mod-lt n positive; reference = λ m e. below x.reference m e; half = refl;
-      kind = kind x.reference }
+  header_fits n x = record {
+    number = mod-lt n positive;
+    reference = λ m e. below x.reference m e;
+    half = refl;
+    kind = kind x.reference;
+  }
     where
       positive : 0 < period rules
       positive = omega (arith, ruled.lead_small, ruled.slots_small)
@@ -223,14 +230,17 @@ module _ {Frame Style Mb Picture Fault MessageFault : Type 0}
   written_again n sequence j x slice one at_j =
       let style = style_is n x in
       let cut : x.slices ≡ coding.encoding.cut (header_of rules n x).style one.mbs = one.slices
-          ∙ ap (λ (s : Style). coding.encoding.cut s one.mbs) (sym style) in
+      ∙ ap (λ (s : Style). coding.encoding.cut s one.mbs) (sym style) in
       let chosen : IsChosen (pictures_of coding) coding.encoding (is_some x.reference) (header_of rules n x).style
-          one.mbs = subst (λ (s : Style). IsChosen (pictures_of coding) coding.encoding (is_some x.reference) s one.mbs)
-          (sym style) one.chosen in
+      one.mbs = subst (λ (s : Style). IsChosen (pictures_of coding) coding.encoding (is_some x.reference) s one.mbs)
+      (sym style) one.chosen in
       let got = lawful.read_again n sequence (is_some x.reference) (header_of rules n x) one.mbs j slice chosen
-          (header_fits n x) (ap (λ (ss : List (Slice Mb)). slice_get ss j) (sym cut) ∙ at_j) in
-      (got.0, ap (λ (ss : List (Slice Mb)). slice_get (coding.encoding.packets n sequence (header_of rules n x) ss) j)
-          cut ∙ got.1, got.2)
+      (header_fits n x) (ap (λ (ss : List (Slice Mb)). slice_get ss j) (sym cut) ∙ at_j) in (
+        got.0,
+        ap (λ (ss : List (Slice Mb)). slice_get (coding.encoding.packets n sequence (header_of rules n x) ss) j)
+            cut ∙ got.1,
+        got.2,
+      )
 
   pub is_packet : (coded : List (Coded Style Mb Picture)) (n j : ℕ) (x : Coded Style Mb Picture)
       → slice_get coded n ≡ Some x → IsEncoded (pictures_of coding) coding.encoding x
@@ -279,12 +289,12 @@ module _ {Frame Style Mb Picture Fault MessageFault : Type 0}
         go x None is = cc
         go x (Some frame) is =
             let same : next_coded (pictures_of coding) coding.encoding rules pace frame (call past).coded
-                (call past).known ≡ x = cc in
+            (call past).known ≡ x = cc in
             subst (λ (y : Coded Style Mb Picture). IsSoundPicture (pictures_of coding) rules (call past) y) same
             (capture_sound (pictures_of coding) coding.encoding rules lawful.decodes.pictures lawful.encodes
-                (pace (last_sizes coding.encoding rules (call past).coded)) frame (call past)
-                (range (last_sizes coding.encoding rules (call past).coded)
-                (sizes_few (pictures_of coding) coding.encoding rules (call past).coded)) (all_encoded past))
+            (pace (last_sizes coding.encoding rules (call past).coded)) frame (call past)
+            (range (last_sizes coding.encoding rules (call past).coded)
+            (sizes_few (pictures_of coding) coding.encoding rules (call past).coded)) (all_encoded past))
     sound_event past (Deliver n j) = λ x at_n. is_packet (call past).coded n j x at_n (all_encoded past n x at_n)
     sound_event past Play = tt
     sound_event past (Back k) = tt
@@ -293,5 +303,7 @@ module _ {Frame Style Mb Picture Fault MessageFault : Type 0}
   pub all_sound : (pace : List ℕ → ℕ) (frames : List Frame) → IsPace pace → (past : List Event)
       → AllSound coding.decoding rules (encoded coding rules pace frames) (packets_of coding.encoding rules) past
   all_sound pace frames range [] = tt
-  all_sound pace frames range (e ∷ past) = (sound_event rules pace frames range past e,
-      all_sound pace frames range past)
+  all_sound pace frames range (e ∷ past) = (
+    sound_event rules pace frames range past e,
+    all_sound pace frames range past,
+  )

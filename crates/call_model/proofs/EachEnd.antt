@@ -55,8 +55,8 @@ module _ {Frame Style Mb Picture Fault MessageFault : Type 0}
       (sender_is receiver pace frames past)
   sender_is receiver pace frames (Deliver n j ∷ past) =
       after_bytes_keeps (joined coding rules receiver pace frames past) n
-          (slice_get (packets_of coding.encoding rules (joined coding rules receiver pace frames past).sender.coded n)
-          j) ∙ sender_is receiver pace frames past
+      (slice_get (packets_of coding.encoding rules (joined coding rules receiver pace frames past).sender.coded n)
+      j) ∙ sender_is receiver pace frames past
   sender_is receiver pace frames (Play ∷ past) = sender_is receiver pace frames past
   sender_is receiver pace frames (Back k ∷ past) = sender_back receiver pace frames past k
       (sender_is receiver pace frames past)
@@ -86,5 +86,7 @@ module _ {Frame Style Mb Picture Fault MessageFault : Type 0}
   receiver_is entries pace frames (Back k ∷ past) = receiver_is entries pace frames past
 
   pub each_end_runs : EachEndRuns coding rules
-  each_end_runs entries pace frames past = (sender_is (receiver_run coding.decoding rules entries) pace frames past,
-      receiver_is entries pace frames past)
+  each_end_runs entries pace frames past = (
+    sender_is (receiver_run coding.decoding rules entries) pace frames past,
+    receiver_is entries pace frames past,
+  )

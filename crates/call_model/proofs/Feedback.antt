@@ -15,8 +15,13 @@ module _ (rules : Rules) (ruled : IsRules rules) where
   called_below : (sent t m : ℕ) (message : Message) → t < sent → is_among (called_complete rules sent t message) m
       ≡ true → m < sent
   unfolding called_complete
-  called_below sent t m (Ack number flags) below is = elim (or_cases (eqb t m) false is) [ inl e ↦ omega (arith,
-      eqb-true t m e) | inr f ↦ absurd (false≢true f) ]
+  called_below sent t m (Ack number flags) below is = elim (or_cases (eqb t m) false is) [
+    | inl e ↦ omega (
+      arith,
+      eqb-true t m e,
+    )
+    | inr f ↦ absurd (false≢true f)
+  ]
   called_below sent t m (Nack number offered flags) below is = go (eqb number offered) is
     where
       inner : (o : Option ℕ) → is_among (option_map_or (λ q. if ltb q sent then q ∷ [] else []) o []) m ≡ true
@@ -25,8 +30,14 @@ module _ (rules : Rules) (ruled : IsRules rules) where
       inner (Some q) is = by_test (ltb q sent) refl is
         where
           by_test : (b : Bool) → ltb q sent ≡ b → is_among (if b then q ∷ [] else []) m ≡ true → m < sent
-          by_test true e is = elim (or_cases (eqb q m) false is) [ inl same ↦ omega (arith, ltb-true _ _ e,
-              eqb-true q m same) | inr f ↦ absurd (false≢true f) ]
+          by_test true e is = elim (or_cases (eqb q m) false is) [
+            | inl same ↦ omega (
+              arith,
+              ltb-true _ _ e,
+              eqb-true q m same,
+            )
+            | inr f ↦ absurd (false≢true f)
+          ]
           by_test false e is = absurd (false≢true is)
 
       go : (b : Bool) → is_among (if b then [] else option_map_or (λ q. if ltb q sent then q ∷ [] else [])
@@ -43,8 +54,11 @@ module _ (rules : Rules) (ruled : IsRules rules) where
           → is_among (if b then x ∷ filter (λ q. ltb q sent) xs else filter (λ q. ltb q sent) xs) m ≡ true
           → (is_among (filter (λ q. ltb q sent) xs) m ≡ true → m < sent) → m < sent
       go false e is rest = rest is
-      go true e is rest = elim (or_cases (eqb x m) (is_among (filter (λ q. ltb q sent) xs) m) is) [ inl same ↦
-          omega (arith, ltb-true _ _ e, eqb-true x m same) | inr later ↦ rest later ]
+      go true e is rest = elim (or_cases (eqb x m) (is_among (filter (λ q. ltb q sent) xs) m) is) [
+        | inl same ↦
+            omega (arith, ltb-true _ _ e, eqb-true x m same)
+        | inr later ↦ rest later
+      ]
 
   -- what feedback makes known was sent
   pub feedback_below : (sent m : ℕ) (reading : Option Message) → is_among (known_by_feedback rules sent reading) m
@@ -65,7 +79,7 @@ module _ (rules : Rules) (ruled : IsRules rules) where
               ++ filter (λ q. ltb q sent) (flagged_after t (message_flags message))) else None) []) m ≡ true → m < sent
           by_test true is =
               elim (or_cases _ _ (sym (list_any-append (λ x. eqb x m) (called_complete rules sent t message)
-                  (filter (λ q. ltb q sent) (flagged_after t (message_flags message)))) ∙ is)) [
+              (filter (λ q. ltb q sent) (flagged_after t (message_flags message)))) ∙ is)) [
                 | inl one ↦ called_below sent t m message (nearest_below_less rules ruled sent (number_of message) t e)
                     one
                 | inr other ↦ filtered_below sent m (flagged_after t (message_flags message)) other

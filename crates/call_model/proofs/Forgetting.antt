@@ -86,7 +86,7 @@ floor_is_known rules depth known floor n = go (greatest all n) refl
     at m is true e =
         let passes = greatest_passes all n m is in
         greatest_found some n m (here m passes.0 e) passes.1
-            (λ k above lt. none_of k (greatest_above all n m is k above lt))
+        (λ k above lt. none_of k (greatest_above all n m is k above lt))
     at m is false e =
         greatest_none some n (λ k lt. elim (cases_lt m k) [
           | inl above ↦ none_of k (greatest_above all n m is k above lt)
@@ -103,7 +103,7 @@ floor_is_known rules depth known floor n = go (greatest all n) refl
         rw (none, is) refl
     go (Some m) is =
         ap (option_and_then kept) (at m is (leb floor m) refl) ∙ chain_floor m (leb floor m) refl
-            ∙ sym (ap (λ (o : Option ℕ). from_floor floor (option_and_then kept o)) is)
+        ∙ sym (ap (λ (o : Option ℕ). from_floor floor (option_and_then kept o)) is)
 
 module _ {Frame Style Mb Picture MessageFault : Type 0} (pictures : Pictures Style Mb Picture)
     (encoding : Encoding Frame Style Mb Picture MessageFault) (rules : Rules) where
@@ -111,7 +111,7 @@ module _ {Frame Style Mb Picture MessageFault : Type 0} (pictures : Pictures Sty
   unfolding capture
   never_below pace frame r m e =
       let h = reference_chosen rules (depth_at r.run.coded) (is_among (known_from r.since r.run.known))
-          (length r.run.coded) m e in
+      (length r.run.coded) m e in
       let both = and_parts (is_among r.run.known m) (leb r.since m) (sym (among_from r.since r.run.known m) ∙ h.2) in
       leb-true r.since m both.1
 
@@ -124,12 +124,12 @@ module _ {Frame Style Mb Picture MessageFault : Type 0} (pictures : Pictures Sty
       go : (o : Option ℕ) → reference_for rules (depth_at r.run.coded)
           (is_among (known_from (length r.run.coded) r.run.known)) (length r.run.coded) ≡ o
           → reference_for rules (depth_at r.run.coded) (is_among (known_from (length r.run.coded) r.run.known))
-              (length r.run.coded) ≡ None
+          (length r.run.coded) ≡ None
       go None is = is
       go (Some m) is =
           let h = reference_chosen rules (depth_at r.run.coded) (is_among (known_from (length r.run.coded) r.run.known))
-              (length r.run.coded) m is in
+          (length r.run.coded) m is in
           let both = and_parts (is_among r.run.known m) (leb (length r.run.coded) m)
-              (sym (among_from (length r.run.coded) r.run.known m) ∙ h.2) in
+          (sym (among_from (length r.run.coded) r.run.known m) ∙ h.2) in
           let low : length r.run.coded ≤ m = leb-true (length r.run.coded) m both.1 in
           absurd (omega (arith, low, h.0))

@@ -33,10 +33,10 @@ module _ {Frame Style Mb Picture Fault MessageFault : Type 0}
   same_call frames others (Send ∷ past) same =
       let before = same_call frames others past (λ i lt. same i (omega arith)) in
       let here : slice_get frames (length (ideal coding rules pace frames past).coded)
-          ≡ slice_get others (length (ideal coding rules pace frames past).coded) =
-          same (length (ideal coding rules pace frames past).coded) (omega (arith, sent_at_most frames past)) in
+      ≡ slice_get others (length (ideal coding rules pace frames past).coded) =
+      same (length (ideal coding rules pace frames past).coded) (omega (arith, sent_at_most frames past)) in
       rw here (ap (λ (c : Call Style Mb Picture). after (pictures_of coding) rules (encoded coding rules pace others) c
-          Send) before)
+      Send) before)
   same_call frames others (Deliver n j ∷ past) same =
       ap (λ (c : Call Style Mb Picture). after (pictures_of coding) rules (encoded coding rules pace others) c
       (Deliver n j)) (same_call frames others past same)
@@ -51,12 +51,14 @@ module _ {Frame Style Mb Picture Fault MessageFault : Type 0}
         elim (slice_get_cases (ideal coding rules pace frames past).coded n).1 [
           | inl h ↦
               let more = slice_get_left (ideal coding rules pace frames past).coded
-                  (option_map_or (λ (x : Coded Style Mb Picture). x ∷ [])
-                  (encoded coding rules pace frames (ideal coding rules pace frames past)) []) n h.0 h.2 in
-              let same = more ∙ sym h.2 in
-              (ap (option_and_then (λ (x : Coded Style Mb Picture). x.reference)) same,
-                  ap (λ (o : Option (Coded Style Mb Picture)). option_map_or (λ (x : Coded Style Mb Picture). x.depth) o
-                  0) same, ap (option_map (λ (x : Coded Style Mb Picture). x.picture)) same)
+              (option_map_or (λ (x : Coded Style Mb Picture). x ∷ [])
+              (encoded coding rules pace frames (ideal coding rules pace frames past)) []) n h.0 h.2 in
+              let same = more ∙ sym h.2 in (
+                ap (option_and_then (λ (x : Coded Style Mb Picture). x.reference)) same,
+                ap (λ (o : Option (Coded Style Mb Picture)). option_map_or (λ (x : Coded Style Mb Picture). x.depth) o
+                    0) same,
+                ap (option_map (λ (x : Coded Style Mb Picture). x.picture)) same,
+              )
           | inr h ↦ absurd (omega (arith, h.0, lt))
         ]
     coded_stays past (Deliver m j) n lt = (refl, refl, refl)

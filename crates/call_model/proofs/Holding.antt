@@ -68,7 +68,7 @@ map_same f g a zero each = refl
 map_same f g a (suc n) each =
     let here : f a ≡ g a = each a (omega arith) (omega arith) in
     let rest : map f (range_with_len (a + 1) n) ≡ map g (range_with_len (a + 1) n) =
-        map_same f g (a + 1) n (λ i low high. each i (omega arith) (omega arith)) in
+    map_same f g (a + 1) n (λ i low high. each i (omega arith) (omega arith)) in
     cc
 
 -- the last 16 values of a function, with one more
@@ -88,8 +88,8 @@ last_more f n = elim (cases_lt n 16) [ inl few ↦ short few | inr many ↦ long
         let from' : (n + 1) - 16 ≡ 0 = omega arith in
         let many : (n - (n - 16)) + 1 ≡ (n + 1) - ((n + 1) - 16) = omega arith in
         ap (λ (a : ℕ). map f (range_with_len a ((n + 1) - ((n + 1) - 16)))) (from' ∙ sym from)
-            ∙ ap (λ (k : ℕ). map f (range_with_len (n - 16) k)) (sym many) ∙ sym long_list
-            ∙ ap (λ (k : ℕ). drop k (map f (last_numbers n) ++ f n ∷ [])) (sym none)
+        ∙ ap (λ (k : ℕ). map f (range_with_len (n - 16) k)) (sym many) ∙ sym long_list
+        ∙ ap (λ (k : ℕ). drop k (map f (last_numbers n) ++ f n ∷ [])) (sym none)
 
     long : 16 ≤ n → map f (last_numbers (n + 1)) ≡ with_size (map f (last_numbers n)) (f n)
     long many =
@@ -97,8 +97,8 @@ last_more f n = elim (cases_lt n 16) [ inl few ↦ short few | inr many ↦ long
         let size : (n - (n - 16)) + 1 ≡ suc ((n + 1) - ((n + 1) - 16)) = omega arith in
         let from : (n - 16) + 1 ≡ (n + 1) - 16 = omega arith in
         sym (ap (λ (k : ℕ). drop k (map f (last_numbers n) ++ f n ∷ [])) one
-            ∙ ap (drop 1) (long_list ∙ ap (λ (k : ℕ). map f (range_with_len (n - 16) k)) size)
-            ∙ ap (λ (a : ℕ). map f (range_with_len a ((n + 1) - ((n + 1) - 16)))) from)
+        ∙ ap (drop 1) (long_list ∙ ap (λ (k : ℕ). map f (range_with_len (n - 16) k)) size)
+        ∙ ap (λ (a : ℕ). map f (range_with_len a ((n + 1) - ((n + 1) - 16)))) from)
 
 module _ {Frame Style Mb Picture MessageFault : Type 0} (pictures : Pictures Style Mb Picture)
     (encoding : Encoding Frame Style Mb Picture MessageFault) (rules : Rules) where
@@ -138,8 +138,13 @@ module _ {Frame Style Mb Picture MessageFault : Type 0} (pictures : Pictures Sty
   coded_from frame quant reference depth before =
       let style = encoding.style frame (is_some reference) depth quant in
       let mbs = encoding.choice frame before style in
-      record { reference = reference; depth = depth; style = style; slices = encoding.cut style mbs;
-          picture = reconstruction pictures style before mbs }
+      record {
+        reference = reference;
+        depth = depth;
+        style = style;
+        slices = encoding.cut style mbs;
+        picture = reconstruction pictures style before mbs;
+      }
 
   same_coded : (frame : Frame) (q q' : ℕ) (r r' : Option ℕ) (d d' : ℕ) (b b' : Option Picture) → q ≡ q' → r ≡ r'
       → d ≡ d' → b ≡ b' → coded_from frame q r d b ≡ coded_from frame q' r' d' b'
@@ -174,25 +179,25 @@ module _ {Frame Style Mb Picture MessageFault : Type 0} (pictures : Pictures Sty
   -- the rule of references with a floor, by what is kept
   reference_above : (s : Sender Picture) (r : SteeredRun Style Mb Picture) → SenderKeeps pictures encoding rules s r.run
       → from_floor r.since (reference_by_kept rules s)
-          ≡ reference_for rules (depth_at r.run.coded) (is_among (known_from r.since r.run.known)) (length r.run.coded)
+      ≡ reference_for rules (depth_at r.run.coded) (is_among (known_from r.since r.run.known)) (length r.run.coded)
   reference_above s r keeps =
       ap (from_floor r.since) (reference_held s r.run keeps)
       ∙ sym (floor_is_known rules (depth_at r.run.coded) (is_among r.run.known) r.since (length r.run.coded))
       ∙ sym (reference_same rules (depth_at r.run.coded) (depth_at r.run.coded)
-          (is_among (known_from r.since r.run.known)) (λ m. is_among r.run.known m && leb r.since m)
-          (length r.run.coded)
+      (is_among (known_from r.since r.run.known)) (λ m. is_among r.run.known m && leb r.since m)
+      (length r.run.coded)
       (λ m lt close. refl) (λ m lt close. among_from r.since r.run.known m))
 
   pub next_is_steered : NextIsSteered pictures encoding rules
   next_is_steered pace frame s r holds =
       ap (λ (q : ℕ). made_by_kept pictures encoding rules q frame s (from_floor r.since (reference_by_kept rules s)))
-          (ap pace holds.keeps.sizes)
+      (ap pace holds.keeps.sizes)
       ∙ ap (made_by_kept pictures encoding rules (pace (last_sizes encoding rules r.run.coded)) frame s)
-          (reference_above s r holds.keeps)
+      (reference_above s r holds.keeps)
       ∙ made_is (pace (last_sizes encoding rules r.run.coded)) frame s r.run (reference_for rules (depth_at r.run.coded)
-          (is_among (known_from r.since r.run.known)) (length r.run.coded)) holds.keeps
+      (is_among (known_from r.since r.run.known)) (length r.run.coded)) holds.keeps
       (λ m e. let h = reference_chosen rules (depth_at r.run.coded) (is_among (known_from r.since r.run.known))
-          (length r.run.coded) m e in (h.0, h.1))
+      (length r.run.coded) m e in (h.0, h.1))
 
   pub new_holds : NewHolds pictures encoding rules
   unfolding packets_of
@@ -229,7 +234,7 @@ module _ {Frame Style Mb Picture MessageFault : Type 0} (pictures : Pictures Sty
   unfolding packets_of
   packets_newest coded x =
       let front : take (length coded) (coded ++ x ∷ []) ≡ coded = take-append-le (length coded) coded (x ∷ [])
-          (omega arith) ∙ take_all (length coded) coded (omega arith) in
+      (omega arith) ∙ take_all (length coded) coded (omega arith) in
       rw (slice_get_last coded x, front) refl
 
   pub capture_holds : IsEncoding pictures encoding rules → CaptureHolds pictures encoding rules
@@ -259,7 +264,7 @@ module _ {Frame Style Mb Picture MessageFault : Type 0} (pictures : Pictures Sty
         | inr new ↦
             let at : m ≡ length run.coded = omega (arith, new, last.0, longer) in
             ap (λ (i : ℕ). t.known (i % rules.slots)) (at ∙ sym keeps.sent) ∙ after.known
-                ∙ sym (false_from_ne_true _ (λ known. omega (arith, holds.known m known, at)))
+            ∙ sym (false_from_ne_true _ (λ known. omega (arith, holds.known m known, at)))
       ];
     };
     known = λ m is. let below = holds.known m is in omega (arith, below, longer);
@@ -288,9 +293,9 @@ module _ {Frame Style Mb Picture MessageFault : Type 0} (pictures : Pictures Sty
           after.packets
           ∙ ap (λ (n : ℕ). encoding.packets n s.sequence (header_of rules n x) x.slices) keeps.sent
           ∙ ap (λ (k : ℕ). encoding.packets (length run.coded) k (header_of rules (length run.coded) x) x.slices)
-              keeps.sequence
+          keeps.sequence
           ∙ encodes.sequence_wraps (length run.coded) (packets_before run.coded) (header_of rules (length run.coded) x)
-              x.slices
+          x.slices
           ∙ sym (packets_newest run.coded x)
 
       packets : t.packets ≡ packets_of encoding rules (run.coded ++ x ∷ []) (length (run.coded ++ x ∷ []) - 1)
@@ -325,7 +330,7 @@ module _ {Frame Style Mb Picture MessageFault : Type 0} (pictures : Pictures Sty
           let sent = keeps.sent in
           after.known m (omega (arith, last.0)) (omega (arith, last.1))
           ∙ ap (λ (n : ℕ). is_among (known_by_feedback rules n (result_ok (encoding.read_message bytes))) m || s.known
-              (m % rules.slots)) sent
+          (m % rules.slots)) sent
           ∙ ap (λ (b : Bool). is_among (new run) m || b) (keeps.known m last)
           ∙ sym (list_any-append (λ i. eqb i m) (new run) run.known);
     };

@@ -23,14 +23,17 @@ module _ {Frame Style Mb Picture Fault MessageFault : Type 0}
       let f = follows coding rules lawful ruled pace frames range past near in
       let c = ideal coding rules pace frames past in
       let at : IsAt coding.decoding rules lawful.decodes ruled c
-          (joined coding rules (new_receiver coding rules) pace frames past).receiver = record { taken = f.taken;
-          is = ap (λ (w : Joined Style Mb Picture). w.receiver) f.ends; good = f.good } in
+      (joined coding rules (new_receiver coding rules) pace frames past).receiver = record {
+        taken = f.taken;
+        is = ap (λ (w : Joined Style Mb Picture). w.receiver) f.ends;
+        good = f.good;
+      } in
       let same : slice_get (packets_of coding.encoding rules c.coded n) j
-          ≡ Some bytes = subst (λ (w : Joined Style Mb Picture). slice_get
-          (packets_of coding.encoding rules w.sender.coded n) j ≡ Some bytes) f.ends packet in
+      ≡ Some bytes = subst (λ (w : Joined Style Mb Picture). slice_get
+      (packets_of coding.encoding rules w.sender.coded n) j ≡ Some bytes) f.ends packet in
       answers_at coding.decoding rules lawful.decodes ruled (encoded coding rules pace frames)
-          (packets_of coding.encoding rules) (length frames) c _ n j bytes at now
-          (all_sound coding rules lawful ruled pace frames range (Deliver n j ∷ past)).0 same
+      (packets_of coding.encoding rules) (length frames) c _ n j bytes at now
+      (all_sound coding rules lawful ruled pace frames range (Deliver n j ∷ past)).0 same
 
   both_near : (frames : List Frame) (c : Call Style Mb Picture) (ts : List (TakenSlice Style Mb)) (e : Event)
       → MayHappenBoth coding rules frames (ends_of coding rules c ts) e → MayHappen rules (length frames) c e
@@ -62,8 +65,10 @@ module _ {Frame Style Mb Picture Fault MessageFault : Type 0}
       → AllMayHappen coding rules pace frames past
       → AllMayHappenBoth coding rules (new_receiver coding rules) pace frames past
   forth pace frames [] range near = near
-  forth pace frames (e ∷ past) range near = ((near_is_near_both pace frames past e range near.1).0 near.0,
-      forth pace frames past range near.1)
+  forth pace frames (e ∷ past) range near = (
+    (near_is_near_both pace frames past e range near.1).0 near.0,
+    forth pace frames past range near.1,
+  )
 
   back : (pace : List ℕ → ℕ) (frames : List Frame) (past : List Event) → IsPace pace
       → AllMayHappenBoth coding rules (new_receiver coding rules) pace frames past

@@ -54,10 +54,11 @@ module _ {Frame Style Mb Picture Fault MessageFault : Type 0}
     near_both : (past : List Event) → AllMayHappenBoth coding rules begun pace frames past
         → AllMayHappenBoth coding rules begun pace (frames ++ later) past
     near_both [] near = near
-    near_both (e ∷ past) near =
-        (subst (λ (w : Joined Style Mb Picture). MayHappenBoth coding rules (frames ++ later) w e)
-            (sym (both past near.1)) (wider (joined coding rules begun pace frames past) e near.0),
-            near_both past near.1)
+    near_both (e ∷ past) near = (
+      subst (λ (w : Joined Style Mb Picture). MayHappenBoth coding rules (frames ++ later) w e)
+          (sym (both past near.1)) (wider (joined coding rules begun pace frames past) e near.0),
+      near_both past near.1,
+    )
 
   alone : (past : List Event) → AllMayHappen coding rules pace frames past
       → ideal coding rules pace (frames ++ later) past ≡ ideal coding rules pace frames past
@@ -65,14 +66,14 @@ module _ {Frame Style Mb Picture Fault MessageFault : Type 0}
   alone (Send ∷ past) near =
       let c = ideal coding rules pace frames past in
       ap (λ (c : Call Style Mb Picture). after (pictures_of coding) rules (encoded coding rules pace (frames ++ later))
-          c Send) (alone past near.1)
+      c Send) (alone past near.1)
       ∙ ap (λ (o : Option Frame). after_frame c o) (sent_frame (length c.coded) near.0.0)
     where
       after_frame : Call Style Mb Picture → Option Frame → Call Style Mb Picture
       after_frame c o = record c {
         coded = c.coded ++ option_map_or (λ (x : Coded Style Mb Picture). x ∷ [])
             (option_map (λ (frame : Frame). next_coded (pictures_of coding) coding.encoding rules pace frame c.coded
-                c.known) o) [];
+            c.known) o) [];
       }
   alone (Deliver n j ∷ past) near = ap (λ (c : Call Style Mb Picture). after (pictures_of coding) rules
       (encoded coding rules pace frames) c (Deliver n j)) (alone past near.1)
@@ -91,17 +92,22 @@ module _ {Frame Style Mb Picture Fault MessageFault : Type 0}
   near_alone : (past : List Event) → AllMayHappen coding rules pace frames past
       → AllMayHappen coding rules pace (frames ++ later) past
   near_alone [] near = near
-  near_alone (e ∷ past) near =
-      (subst (λ (c : Call Style Mb Picture). MayHappen rules (length (frames ++ later)) c e) (sym (alone past near.1))
-          (wider_alone (ideal coding rules pace frames past) e near.0), near_alone past near.1)
+  near_alone (e ∷ past) near = (
+    subst (λ (c : Call Style Mb Picture). MayHappen rules (length (frames ++ later)) c e) (sym (alone past near.1))
+        (wider_alone (ideal coding rules pace frames past) e near.0),
+    near_alone past near.1,
+  )
 
 pub later_frames_both : {Frame Style Mb Picture Fault MessageFault : Type 0}
     (coding : Coding Frame Style Mb Picture Fault MessageFault) (rules : Rules) → LaterFramesBoth coding rules
-later_frames_both coding rules receiver pace frames later past near =
-    (both coding rules pace frames later receiver past near,
-    near_both coding rules pace frames later receiver past near)
+later_frames_both coding rules receiver pace frames later past near = (
+  both coding rules pace frames later receiver past near,
+  near_both coding rules pace frames later receiver past near,
+)
 
 pub later_frames : {Frame Style Mb Picture Fault MessageFault : Type 0}
     (coding : Coding Frame Style Mb Picture Fault MessageFault) (rules : Rules) → LaterFrames coding rules
-later_frames coding rules pace frames later past near = (alone coding rules pace frames later past near,
-    near_alone coding rules pace frames later past near)
+later_frames coding rules pace frames later past near = (
+  alone coding rules pace frames later past near,
+  near_alone coding rules pace frames later past near,
+)

@@ -106,5 +106,5 @@ nearest_is_greatest rules n rest small = go (nearest_below rules n rest) refl
           f.0,
           λ k above below.
               not_rest k (λ is. let far : m + period rules ≤ k = one_rest_is_far (period rules) m k
-                  (omega (arith, small)) (f.2 ∙ sym is) above in omega (arith, far, below, f.1)),
+              (omega (arith, small)) (f.2 ∙ sym is) above in omega (arith, far, below, f.1)),
         ))

@@ -92,9 +92,12 @@ module _ (rules : Rules) (slots lead : ℕ) where
         → IsPacket decoding rules packets n j x → IsPacket decoding own packets n j x
     own_packet packets n j x is = record {
       read_as = λ slice at_j.
-          let got = is.read_as slice at_j in
-          (got.0, got.1, got.2 ∙ ap (λ (h : Header Style). Ok (record { header = h; slice = slice }))
-              (header_same n x));
+          let got = is.read_as slice at_j in (
+            got.0,
+            got.1,
+            got.2 ∙ ap (λ (h : Header Style). Ok (record { header = h; slice = slice }))
+                (header_same n x),
+          );
       no_other = is.no_other;
     }
 
@@ -118,13 +121,15 @@ module _ (rules : Rules) (slots lead : ℕ) where
       pub own_sound : (source : Source Style Mb Picture) (packets : Packets Style Mb Picture)
           → SoundToSenderIsSound decoding rules slots lead source packets
       own_sound source packets [] sound = tt
-      own_sound source packets (e ∷ past) sound = (own_event source packets _ e sound.0,
-          own_sound source packets past sound.1)
+      own_sound source packets (e ∷ past) sound = (
+        own_event source packets _ e sound.0,
+        own_sound source packets past sound.1,
+      )
 
       pub any_is_followed : IsDecoding decoding rules → IsRules rules → AnySenderIsFollowed decoding rules slots lead
       any_is_followed lawful ruled source packets count past near sound =
           let follows = any_sound_sender decoding own (own_decoding lawful) (own_rules ruled wide) source packets count
-              past near (own_sound source packets past sound) in
+          past near (own_sound source packets past sound) in
           record {
             follows = follows;
             understood = λ k note there. understood (own_call decoding rules slots lead source packets past) note
@@ -140,31 +145,33 @@ module _ {Frame Style Mb Picture Fault MessageFault : Type 0}
       → AllSoundToSender coding.decoding rules slots lead (steered coding rules quant may frames)
       (packets_of coding.encoding rules) past
   steered_sound quant may frames [] range = tt
-  steered_sound quant may frames (e ∷ past) range =
-      (steering.sound_event coding rules lawful ruled (with_own rules slots lead) quant may frames range past e,
-      steered_sound quant may frames past range)
+  steered_sound quant may frames (e ∷ past) range = (
+    steering.sound_event coding rules lawful ruled (with_own rules slots lead) quant may frames range past e,
+    steered_sound quant may frames past range,
+  )
 
   encoder_sound : (pace : List ℕ → ℕ) (frames : List Frame) (past : List Event) → IsPace pace
       → AllSoundToSender coding.decoding rules slots lead (encoded coding rules pace frames)
       (packets_of coding.encoding rules) past
   encoder_sound pace frames [] range = tt
-  encoder_sound pace frames (e ∷ past) range =
-      (capturing.sound_event coding rules lawful ruled (with_own rules slots lead) pace frames range past e,
-      encoder_sound pace frames past range)
+  encoder_sound pace frames (e ∷ past) range = (
+    capturing.sound_event coding rules lawful ruled (with_own rules slots lead) pace frames range past e,
+    encoder_sound pace frames past range,
+  )
 
   pub steered_is_sound_to_own : SteeredIsSoundToOwn coding rules slots lead
   steered_is_sound_to_own quant may frames past range =
       own_sound rules slots lead coding.decoding wide (steered coding rules quant may frames)
-          (packets_of coding.encoding rules) past (steered_sound quant may frames past range)
+      (packets_of coding.encoding rules) past (steered_sound quant may frames past range)
 
   pub steered_is_followed_by_own : SteeredIsFollowedByOwn coding rules slots lead
   steered_is_followed_by_own quant may frames past range near =
       any_is_followed rules slots lead coding.decoding wide lawful.decodes ruled (steered coding rules quant may frames)
-          (packets_of coding.encoding rules) (length frames) past near
+      (packets_of coding.encoding rules) (length frames) past near
       (steered_sound quant may frames past range)
 
   pub encoder_is_followed_by_own : EncoderIsFollowedByOwn coding rules slots lead
   encoder_is_followed_by_own pace frames past range near =
       any_is_followed rules slots lead coding.decoding wide lawful.decodes ruled (encoded coding rules pace frames)
-          (packets_of coding.encoding rules) (length frames) past near
+      (packets_of coding.encoding rules) (length frames) past near
       (encoder_sound pace frames past range)

@@ -42,8 +42,10 @@ module _ {Style Mb Picture Fault : Type 0} (decoding : Decoding Style Mb Picture
         | inl late ↦ rw (lt-ltb n run.played late) old
         | inr low ↦ elim (cases_lt (run.played + rules.lead) n) [
           | inl early ↦ rw (le-ltb n run.played low, lt-ltb (run.played + rules.lead) n early) old
-          | inr high ↦ elim (keep_cases decoding rules (answer decoding rules run n piece) (record { number = n;
-              piece = piece } ∷ run.taken) run.taken) [
+          | inr high ↦ elim (keep_cases decoding rules (answer decoding rules run n piece) (record {
+            number = n;
+            piece = piece;
+          } ∷ run.taken) run.taken) [
             | inl more ↦ subst (AnyInTime (run.played + rules.lead)) (sym more)
                 (any_more (run.played + rules.lead) n piece run.taken high old)
             | inr same ↦ subst (AnyInTime (run.played + rules.lead)) (sym same) old
@@ -59,8 +61,10 @@ module _ {Style Mb Picture Fault : Type 0} (decoding : Decoding Style Mb Picture
   any_packet run (Ok piece) old = go (piece_number rules run.played piece)
     where
       go : (o : Option ℕ) → AnyInTime (run.played + rules.lead)
-          (option_map_or (λ n. keep_taken decoding rules (answer decoding rules run n piece) (record { number = n;
-          piece = piece } ∷ run.taken) run.taken) o run.taken)
+          (option_map_or (λ n. keep_taken decoding rules (answer decoding rules run n piece) (record {
+            number = n;
+            piece = piece;
+          } ∷ run.taken) run.taken) o run.taken)
       go None = old
       go (Some n) = any_answer run n piece old
 
@@ -135,7 +139,7 @@ module _ {Style Mb Picture Fault : Type 0} (decoding : Decoding Style Mb Picture
   complete_test r entries stands =
       let played = stands.played in
       slot_test decoding rules ruled r entries r.played stands (omega (arith, played))
-          ∙ ap (is_complete rules.mbs (receiver_run decoding rules entries).taken) stands.played
+      ∙ ap (is_complete rules.mbs (receiver_run decoding rules entries).taken) stands.played
 
   now_open : (run : ReceiverRun Style Mb Picture) → IsOpenIn decoding rules run run.played
   now_open run = (omega arith, omega arith)
@@ -146,9 +150,9 @@ module _ {Style Mb Picture Fault : Type 0} (decoding : Decoding Style Mb Picture
   mark_is r entries stands =
       let run = receiver_run decoding rules entries in
       let any : is_some (r.header r.played) ≡ has_any run.taken run.played =
-          ap (λ (p : ℕ). is_some (r.header p)) stands.played
-          ∙ sym (header_tells decoding rules run.taken run.played (r.header run.played)
-          (stands.headers run.played (now_open run))) in
+      ap (λ (p : ℕ). is_some (r.header p)) stands.played
+      ∙ sym (header_tells decoding rules run.taken run.played (r.header run.played)
+      (stands.headers run.played (now_open run))) in
       rw (complete_test r entries stands, any) refl
 
   patched_is : (r : Receiver Style Picture) (entries : List ReceiverEntry) → ReceiverStands decoding rules r entries
@@ -159,7 +163,7 @@ module _ {Style Mb Picture Fault : Type 0} (decoding : Decoding Style Mb Picture
   patched_is r entries stands =
       ap (mixed decoding.pictures (r.has run.played) (r.work run.played)) stands.screen
       ∙ lawful.pictures.picture_same _ _ (λ s lt. each s lt (has_taken run.taken run.played (decoding.pictures.owner s))
-          refl)
+      refl)
     where
       run : ReceiverRun Style Mb Picture
       run = receiver_run decoding rules entries
@@ -172,11 +176,11 @@ module _ {Style Mb Picture Fault : Type 0} (decoding : Decoding Style Mb Picture
           (decoded decoding rules run.taken run.played) s else decoding.pictures.sample run.screen s)
       each s lt true e =
           let mine : r.has run.played (decoding.pictures.owner s)
-              ≡ true = stands.taken run.played (decoding.pictures.owner s) (now_open run) lt ∙ e in
+          ≡ true = stands.taken run.played (decoding.pictures.owner s) (now_open run) lt ∙ e in
           rw (e, mine) (stands.work run.played s (now_open run) lt e ∙ sym (lawful.pictures.sample_is _ s lt))
       each s lt false e =
           let mine : r.has run.played (decoding.pictures.owner s)
-              ≡ false = stands.taken run.played (decoding.pictures.owner s) (now_open run) lt ∙ e in
+          ≡ false = stands.taken run.played (decoding.pictures.owner s) (now_open run) lt ∙ e in
           rw (e, mine) refl
 
   picture_is : (r : Receiver Style Picture) (entries : List ReceiverEntry) → ReceiverStands decoding rules r entries
@@ -197,10 +201,10 @@ module _ {Style Mb Picture Fault : Type 0} (decoding : Decoding Style Mb Picture
           decoding.pictures (has_taken run.taken run.played) (decoded decoding rules run.taken run.played) run.screen)
       go true e =
           let slot = references_are_kept decoding rules ruled entries run.played run.played (omega arith)
-              (omega arith) e in
+          (omega arith) e in
           rw (test, e) (ap (λ (p : ℕ). r.picture (p % rules.slots)) stands.played
-              ∙ stands.pictures (run.played % rules.slots) run.played
-              (mod-lt run.played (omega (arith, ruled.lead_small))) slot)
+          ∙ stands.pictures (run.played % rules.slots) run.played
+          (mod-lt run.played (omega (arith, ruled.lead_small))) slot)
       go false e = rw (test, e) (ap (λ (p : ℕ). mixed decoding.pictures (r.has p) (r.work p) r.screen) stands.played
           ∙ patched_is r entries stands)
 
@@ -209,7 +213,7 @@ module _ {Style Mb Picture Fault : Type 0} (decoding : Decoding Style Mb Picture
       ≡ is_kept decoding rules (receiver_run decoding rules entries) m
   slot_same r entries m stands =
       ap (λ (o : Option ℕ). option_map_or (λ k. eqb k m) o false)
-          (stands.slots (m % rules.slots) (mod-lt m (omega (arith, ruled.lead_small))))
+      (stands.slots (m % rules.slots) (mod-lt m (omega (arith, ruled.lead_small))))
 
   offer_is : (r : Receiver Style Picture) (entries : List ReceiverEntry) → ReceiverStands decoding rules r entries
       → offer_by_kept decoding rules r ≡ offer rules (receiver_run decoding rules entries).taken
@@ -217,9 +221,9 @@ module _ {Style Mb Picture Fault : Type 0} (decoding : Decoding Style Mb Picture
   offer_is r entries stands =
       let run = receiver_run decoding rules entries in
       ap (λ (p : ℕ). greatest (λ m. is_in_slot decoding rules r m && ltb p (m + rules.slots)) (p + rules.lead + 1))
-          stands.played
+      stands.played
       ∙ greatest_same _ _ (run.played + rules.lead + 1)
-          (λ m lt. ap (λ (b : Bool). b && ltb run.played (m + rules.slots)) (slot_same r entries m stands))
+      (λ m lt. ap (λ (b : Bool). b && ltb run.played (m + rules.slots)) (slot_same r entries m stands))
       ∙ slots_tell_offer decoding rules ruled entries
 
   flags_are : (r : Receiver Style Picture) (entries : List ReceiverEntry) → ReceiverStands decoding rules r entries
@@ -242,8 +246,11 @@ module _ {Style Mb Picture Fault : Type 0} (decoding : Decoding Style Mb Picture
 
   -- the slots after a play are those before it
   slot_play : (entries : List ReceiverEntry) (screen : Picture) (rest : ℕ)
-      → slot_of decoding rules (record (receiver_run decoding rules entries) { played =
-      (receiver_run decoding rules entries).played + 1; screen = screen }) rest
+      → slot_of decoding rules (record (receiver_run decoding rules entries) {
+        played =
+            (receiver_run decoding rules entries).played + 1;
+        screen = screen;
+      }) rest
       ≡ slot_of decoding rules (receiver_run decoding rules entries) rest
   unfolding slot_of
   slot_play entries screen rest =
@@ -251,9 +258,9 @@ module _ {Style Mb Picture Fault : Type 0} (decoding : Decoding Style Mb Picture
       let e : run.played + 1 + rules.lead + 1 ≡ 1 + (run.played + rules.lead + 1) = omega arith in
       ap (greatest (λ m. is_complete rules.mbs run.taken m && eqb (m % rules.slots) rest)) e
       ∙ greatest_more (λ m. is_complete rules.mbs run.taken m && eqb (m % rules.slots) rest)
-          (run.played + rules.lead + 1) 1
-          (λ k le. and_left _ _ (false_from_ne_true _
-          (λ whole. omega (arith, none_ahead decoding rules ruled entries k whole))))
+      (run.played + rules.lead + 1) 1
+      (λ k le. and_left _ _ (false_from_ne_true _
+      (λ whole. omega (arith, none_ahead decoding rules ruled entries k whole))))
 
   pub play_stands : PlayStands decoding rules
   play_stands r t entries stands after = record {
@@ -265,10 +272,10 @@ module _ {Style Mb Picture Fault : Type 0} (decoding : Decoding Style Mb Picture
           (after.rows n (mine n row)).0)
       | inr new ↦
           let none : has_any run.taken n
-              ≡ false = false_from_ne_true _ (λ any. omega (arith, any_in_time decoding rules entries n any, new)) in
+          ≡ false = false_from_ne_true _ (λ any. omega (arith, any_in_time decoding rules entries n any, new)) in
           none_fits decoding rules run.taken n h none
-              ∙ sym (ap (λ (o : Option (Header Style)). fits_kept decoding o h) (ap t.header (new
-              ∙ ap (λ (p : ℕ). p + rules.lead + 1) (sym stands.played)) ∙ after.new_header))
+          ∙ sym (ap (λ (o : Option (Header Style)). fits_kept decoding o h) (ap t.header (new
+          ∙ ap (λ (p : ℕ). p + rules.lead + 1) (sym stands.played)) ∙ after.new_header))
     ];
     taken = λ n k opened lt. elim (old_or_new n opened.1) [
       | inl old ↦ let row : (run.played ≤ n) × (n ≤ run.played + rules.lead) = (omega (arith, opened.0), old) in
@@ -338,22 +345,34 @@ module _ {Style Mb Picture Fault : Type 0} (decoding : Decoding Style Mb Picture
 
   complete_answer : (run : ReceiverRun Style Mb Picture) (n m : ℕ) (piece : Piece Style Mb)
       → piece.slice.first + length piece.slice.mbs ≤ rules.mbs → is_complete rules.mbs run.taken m ≡ true
-      → let ts = keep_taken decoding rules (answer decoding rules run n piece) (record { number = n;
-      piece = piece } ∷ run.taken) run.taken in (is_complete rules.mbs ts m ≡ true)
+      → let ts = keep_taken decoding rules (answer decoding rules run n piece) (record {
+        number = n;
+        piece = piece;
+      } ∷ run.taken) run.taken in (is_complete rules.mbs ts m ≡ true)
       × (decoded decoding rules ts m ≡ decoded decoding rules run.taken m)
   complete_answer run n m piece inside whole =
       elim (cases_eq n m) [
         | inl same ↦
-            let none = none_of_complete decoding rules lawful ruled run n piece (record { number = n;
-                piece = piece } ∷ run.taken) inside (subst (λ (i : ℕ). is_complete rules.mbs run.taken i
-                ≡ true) (sym same) whole) in
+            let none = none_of_complete decoding rules lawful ruled run n piece (record {
+              number = n;
+              piece = piece;
+            } ∷ run.taken) inside (subst (λ (i : ℕ). is_complete rules.mbs run.taken i
+            ≡ true) (sym same) whole) in
             subst Stays (sym none) (whole, refl)
-        | inr differ ↦ elim (keep_cases decoding rules (answer decoding rules run n piece) (record { number = n;
-            piece = piece } ∷ run.taken) run.taken) [
-          | inl more ↦ subst Stays (sym more) (complete_more decoding rules lawful ruled (record { number = n;
-              piece = piece }) run.taken m whole,
-              lawful.pictures.picture_same _ _ (λ s lt. img_other decoding rules lawful ruled (record { number = n;
-              piece = piece }) run.taken m s differ))
+        | inr differ ↦ elim (keep_cases decoding rules (answer decoding rules run n piece) (record {
+          number = n;
+          piece = piece;
+        } ∷ run.taken) run.taken) [
+          | inl more ↦ subst Stays (sym more) (
+            complete_more decoding rules lawful ruled (record {
+              number = n;
+              piece = piece;
+            }) run.taken m whole,
+            lawful.pictures.picture_same _ _ (λ s lt. img_other decoding rules lawful ruled (record {
+              number = n;
+              piece = piece;
+            }) run.taken m s differ),
+          )
           | inr same ↦ subst Stays (sym same) (whole, refl)
         ]
       ]

@@ -50,14 +50,30 @@ module _ {Style Mb Picture Fault : Type 0} (decoding : Decoding Style Mb Picture
       let reference : a.reference ≡ b.reference = same_reference_is a.reference b.reference two.0 in
       let half : a.half ≡ b.half = eqb-true a.half b.half three.0 in
       let style : a.style ≡ b.style = (lawful.same_style_is a.style b.style).0 three.1 in
-      ap (λ (x : ℕ). let h : Header Style = record { number = x; reference = a.reference; half = a.half;
-          style = a.style } in h) number
-      ∙ ap (λ (x : Option ℕ). let h : Header Style = record { number = b.number; reference = x; half = a.half;
-          style = a.style } in h) reference
-      ∙ ap (λ (x : ℕ). let h : Header Style = record { number = b.number; reference = b.reference; half = x;
-          style = a.style } in h) half
-      ∙ ap (λ (x : Style). let h : Header Style = record { number = b.number; reference = b.reference; half = b.half;
-          style = x } in h) style
+      ap (λ (x : ℕ). let h : Header Style = record {
+        number = x;
+        reference = a.reference;
+        half = a.half;
+        style = a.style;
+      } in h) number
+      ∙ ap (λ (x : Option ℕ). let h : Header Style = record {
+        number = b.number;
+        reference = x;
+        half = a.half;
+        style = a.style;
+      } in h) reference
+      ∙ ap (λ (x : ℕ). let h : Header Style = record {
+        number = b.number;
+        reference = b.reference;
+        half = x;
+        style = a.style;
+      } in h) half
+      ∙ ap (λ (x : Style). let h : Header Style = record {
+        number = b.number;
+        reference = b.reference;
+        half = b.half;
+        style = x;
+      } in h) style
 
   -- ---- the answer
 
@@ -87,11 +103,11 @@ module _ {Style Mb Picture Fault : Type 0} (decoding : Decoding Style Mb Picture
   unfolding heard heard_by_kept
   heard_piece r entries piece stands inside =
       let same : nearest rules r.played piece.header.number
-          ≡ nearest rules (receiver_run decoding rules entries).played piece.header.number =
-          ap (λ (p : ℕ). nearest rules p piece.header.number) stands.played in
+      ≡ nearest rules (receiver_run decoding rules entries).played piece.header.number =
+      ap (λ (p : ℕ). nearest rules p piece.header.number) stands.played in
       go (eqb piece.header.half rules.half) (by_number (nearest rules r.played piece.header.number)
-          ∙ ap (λ (o : Option ℕ). option_map_or (λ n. answer decoding rules (receiver_run decoding rules entries) n
-          piece) o Late) same)
+      ∙ ap (λ (o : Option ℕ). option_map_or (λ n. answer decoding rules (receiver_run decoding rules entries) n
+      piece) o Late) same)
     where
       by_number : (o : Option ℕ)
           → option_map_or (λ n. if ltb n r.played then Late else if ltb (r.played + rules.lead) n then Early else judged
@@ -133,16 +149,22 @@ module _ {Style Mb Picture Fault : Type 0} (decoding : Decoding Style Mb Picture
   not_taken run (Ok piece) is = by_half (eqb piece.header.half rules.half) is
     where
       by_number : (o : Option ℕ) → is_taking (option_map_or (λ n. answer decoding rules run n piece) o Late) ≡ false
-          → option_map_or (λ n. keep_taken decoding rules (answer decoding rules run n piece) (record { number = n;
-          piece = piece } ∷ run.taken) run.taken) o run.taken ≡ run.taken
+          → option_map_or (λ n. keep_taken decoding rules (answer decoding rules run n piece) (record {
+            number = n;
+            piece = piece;
+          } ∷ run.taken) run.taken) o run.taken ≡ run.taken
       by_number None is = refl
-      by_number (Some n) is = kept_where (answer decoding rules run n piece) (record { number = n;
-          piece = piece } ∷ run.taken) run.taken ∙ rw is refl
+      by_number (Some n) is = kept_where (answer decoding rules run n piece) (record {
+        number = n;
+        piece = piece;
+      } ∷ run.taken) run.taken ∙ rw is refl
 
       by_half : (b : Bool) → is_taking (if b then option_map_or (λ n. answer decoding rules run n piece)
           (nearest rules run.played piece.header.number) Late else OtherClock) ≡ false
-          → option_map_or (λ n. keep_taken decoding rules (answer decoding rules run n piece) (record { number = n;
-          piece = piece } ∷ run.taken) run.taken) (if b then nearest rules run.played piece.header.number else None)
+          → option_map_or (λ n. keep_taken decoding rules (answer decoding rules run n piece) (record {
+            number = n;
+            piece = piece;
+          } ∷ run.taken) run.taken) (if b then nearest rules run.played piece.header.number else None)
           run.taken ≡ run.taken
       by_half true is = by_number (nearest rules run.played piece.header.number) is
       by_half false is = refl
@@ -151,10 +173,10 @@ module _ {Style Mb Picture Fault : Type 0} (decoding : Decoding Style Mb Picture
   other_packet_stands r entries bytes stands is =
       let same = heard_by_kept_is r entries bytes stands in
       let none : taken_after decoding rules (receiver_run decoding rules entries) (decoding.read bytes)
-          ≡ (receiver_run decoding rules entries).taken = not_taken (receiver_run decoding rules entries)
-          (decoding.read bytes) (sym (ap is_taking same) ∙ is) in
+      ≡ (receiver_run decoding rules entries).taken = not_taken (receiver_run decoding rules entries)
+      (decoding.read bytes) (sym (ap is_taking same) ∙ is) in
       subst (λ (ts : List (TakenSlice Style Mb)). ReceiverKeeps decoding rules r
-          (record (receiver_run decoding rules entries) { taken = ts })) (sym none) stands
+      (record (receiver_run decoding rules entries) { taken = ts })) (sym none) stands
 
   -- a packet that is heard as one of n and is taken
   pub record IsTakenAs (run : ReceiverRun Style Mb Picture) (n : ℕ) (piece : Piece Style Mb) : Type 0 where
@@ -173,9 +195,9 @@ module _ {Style Mb Picture Fault : Type 0} (decoding : Decoding Style Mb Picture
   unfolding answer
   answer_facts run n piece is =
       taking_chain Fault (ltb n run.played) (ltb (run.played + rules.lead) n)
-          (header_fits decoding rules run.taken n piece.header) (has_reference decoding rules run.taken n piece.header)
-          (all_in piece.slice (has_taken run.taken n)) (none_in piece.slice (has_taken run.taken n))
-          (is_complete rules.mbs (record { number = n; piece = piece } ∷ run.taken) n) _ is
+      (header_fits decoding rules run.taken n piece.header) (has_reference decoding rules run.taken n piece.header)
+      (all_in piece.slice (has_taken run.taken n)) (none_in piece.slice (has_taken run.taken n))
+      (is_complete rules.mbs (record { number = n; piece = piece } ∷ run.taken) n) _ is
 
   pub taken_as : (run : ReceiverRun Style Mb Picture) (n : ℕ) (piece : Piece Style Mb)
       → nearest rules run.played piece.header.number ≡ Some n → is_taking (heard decoding rules run (Ok piece)) ≡ true
@@ -189,8 +211,8 @@ module _ {Style Mb Picture Fault : Type 0} (decoding : Decoding Style Mb Picture
       by_half false e is = absurd (false≢true is)
       by_half true e is =
           let takes : is_taking (answer decoding rules run n piece)
-              ≡ true = sym (ap (λ (o : Option ℕ). is_taking
-              (option_map_or (λ n. answer decoding rules run n piece) o Late)) near) ∙ is in
+          ≡ true = sym (ap (λ (o : Option ℕ). is_taking
+          (option_map_or (λ n. answer decoding rules run n piece) o Late)) near) ∙ is in
           let facts = answer_facts run n piece takes in
           record {
             low = ltb-false _ _ facts.0;
@@ -198,8 +220,10 @@ module _ {Style Mb Picture Fault : Type 0} (decoding : Decoding Style Mb Picture
             fits = facts.2;
             there = facts.3;
             not_all = facts.4;
-            after = rw (e, near) (kept_where (answer decoding rules run n piece) (record { number = n;
-                piece = piece } ∷ run.taken) run.taken ∙ rw takes refl);
+            after = rw (e, near) (kept_where (answer decoding rules run n piece) (record {
+              number = n;
+              piece = piece;
+            } ∷ run.taken) run.taken ∙ rw takes refl);
           }
 
   -- ---- a slice more
@@ -223,7 +247,7 @@ module _ {Style Mb Picture Fault : Type 0} (decoding : Decoding Style Mb Picture
       go true e =
           let same : piece.header ≡ h = same_header_is piece.header h e in
           rw e (subst (λ (g : Header Style). list_all (λ t. not (eqb t.number n) || same_header decoding t.piece.header
-              g) ts ≡ true) same fits)
+          g) ts ≡ true) same fits)
 
   -- the reference that a taken slice names is in its slot
   reference_there : (r : Receiver Style Picture) (entries : List ReceiverEntry) (n : ℕ) (h : Header Style)
@@ -239,7 +263,7 @@ module _ {Style Mb Picture Fault : Type 0} (decoding : Decoding Style Mb Picture
           ≡ true → r.picture (m % rules.slots) ≡ decoded decoding rules (receiver_run decoding rules entries).taken m
       one m is =
           let parts = and_parts (is_complete rules.mbs (receiver_run decoding rules entries).taken m)
-              (leb n (m + window rules)) is in
+          (leb n (m + window rules)) is in
           let slot = references_are_kept decoding rules ruled entries n m low (leb-true _ _ parts.1) parts.0 in
           stands.pictures (m % rules.slots) m (mod-lt m (omega (arith, ruled.lead_small))) slot
 
@@ -272,7 +296,7 @@ module _ {Style Mb Picture Fault : Type 0} (decoding : Decoding Style Mb Picture
   unfolding slot_of
   in_slot run rest m e =
       let passes = greatest_passes (λ i. is_complete rules.mbs run.taken i && eqb (i % rules.slots) rest)
-          (run.played + rules.lead + 1) m e in
+      (run.played + rules.lead + 1) m e in
       let parts = and_parts (is_complete rules.mbs run.taken m) (eqb (m % rules.slots) rest) passes.0 in
       (parts.0, eqb-true _ _ parts.1)
 
@@ -284,8 +308,8 @@ module _ {Style Mb Picture Fault : Type 0} (decoding : Decoding Style Mb Picture
   pub slice_stands : SliceStands decoding rules
   slice_stands r t entries bytes piece n stands read near takes after =
       subst (λ (ts : List (TakenSlice Style Mb)). ReceiverKeeps decoding rules t
-          (record (receiver_run decoding rules entries) { taken = ts }))
-          (sym (ap (taken_after decoding rules (receiver_run decoding rules entries)) read ∙ as_taken.after)) keeps
+      (record (receiver_run decoding rules entries) { taken = ts }))
+      (sym (ap (taken_after decoding rules (receiver_run decoding rules entries)) read ∙ as_taken.after)) keeps
     where
       run : ReceiverRun Style Mb Picture
       run = receiver_run decoding rules entries
@@ -345,15 +369,15 @@ module _ {Style Mb Picture Fault : Type 0} (decoding : Decoding Style Mb Picture
           ≡ decoded_sample decoding rules (record { number = n; piece = piece } ∷ run.taken) n s
       drawn s lt got true has =
           let reference : reference_picture decoding rules r n piece.header
-              ≡ option_map (λ m. decoded decoding rules run.taken m) (reference_in decoding rules n piece.header) =
-              reference_there r entries n piece.header stands as_taken.low as_taken.there in
+          ≡ option_map (λ m. decoded decoding rules run.taken m) (reference_in decoding rules n piece.header) =
+          reference_there r entries n piece.header stands as_taken.low as_taken.there in
           after.drawn s lt has ∙ ap (λ (o : Option Picture). decoding.pictures.reconstructed_sample piece.header.style o
-              (mb_at decoding.pictures.skip piece.slice (decoding.pictures.owner s)) s) reference
-              ∙ rw (eq-eqb n n refl, has) refl
+          (mb_at decoding.pictures.skip piece.slice (decoding.pictures.owner s)) s) reference
+          ∙ rw (eq-eqb n n refl, has) refl
       drawn s lt got false has =
           let before : has_taken run.taken n (decoding.pictures.owner s)
-              ≡ true = sym (has_taken_first decoding rules lawful ruled one run.taken n (decoding.pictures.owner s) refl
-              ∙ ap (λ (b : Bool). b || has_taken run.taken n (decoding.pictures.owner s)) has) ∙ got in
+          ≡ true = sym (has_taken_first decoding rules lawful ruled one run.taken n (decoding.pictures.owner s) refl
+          ∙ ap (λ (b : Bool). b || has_taken run.taken n (decoding.pictures.owner s)) has) ∙ got in
           after.left s lt has ∙ stands.work n s opened_n lt before ∙ rw (has, and_right (eqb n n) false refl) refl
 
       work_is : (m s : ℕ) → IsOpenIn decoding rules run m → decoding.pictures.owner s < rules.mbs
@@ -363,18 +387,18 @@ module _ {Style Mb Picture Fault : Type 0} (decoding : Decoding Style Mb Picture
           elim (cases_eq m n) [
             | inl same ↦
                 let got_n : has_taken (one ∷ run.taken) n (decoding.pictures.owner s)
-                    ≡ true = subst (λ (i : ℕ). has_taken (one ∷ run.taken) i (decoding.pictures.owner s)
-                    ≡ true) same got in
+                ≡ true = subst (λ (i : ℕ). has_taken (one ∷ run.taken) i (decoding.pictures.owner s)
+                ≡ true) same got in
                 subst (λ (i : ℕ). decoding.pictures.sample (t.work i) s
-                    ≡ decoded_sample decoding rules (one ∷ run.taken) i s) (sym same)
-                    (drawn s lt got_n (has_mb piece.slice (decoding.pictures.owner s)) refl)
+                ≡ decoded_sample decoding rules (one ∷ run.taken) i s) (sym same)
+                (drawn s lt got_n (has_mb piece.slice (decoding.pictures.owner s)) refl)
             | inr differ ↦
                 let before : has_taken run.taken m (decoding.pictures.owner s)
-                    ≡ true = sym (has_taken_other decoding rules lawful ruled one run.taken m
-                    (decoding.pictures.owner s) (differs m differ)) ∙ got in
+                ≡ true = sym (has_taken_other decoding rules lawful ruled one run.taken m
+                (decoding.pictures.owner s) (differs m differ)) ∙ got in
                 ap (λ (p : Picture). decoding.pictures.sample p s) (after.rows m (row m opened) differ).2
-                    ∙ stands.work m s opened lt before
-                    ∙ sym (img_other decoding rules lawful ruled one run.taken m s (differs m differ))
+                ∙ stands.work m s opened lt before
+                ∙ sym (img_other decoding rules lawful ruled one run.taken m s (differs m differ))
           ]
 
       next_run : ReceiverRun Style Mb Picture
@@ -428,15 +452,15 @@ module _ {Style Mb Picture Fault : Type 0} (decoding : Decoding Style Mb Picture
           → t.picture rest ≡ r.picture rest → t.picture rest ≡ decoded decoding rules (one ∷ run.taken) m
       old_picture rest m lt at same =
           let differ : m ≡ n → ⊥ = λ (e : m ≡ n). both_ways _ not_before
-              (subst (λ (i : ℕ). is_complete rules.mbs run.taken i ≡ true) e (in_slot run rest m at).0) in
+          (subst (λ (i : ℕ). is_complete rules.mbs run.taken i ≡ true) e (in_slot run rest m at).0) in
           same ∙ stands.pictures rest m lt at ∙ decoded_other m differ
 
       new_picture : is_complete rules.mbs (one ∷ run.taken) n ≡ true → t.picture (n % rules.slots)
           ≡ decoded decoding rules (one ∷ run.taken) n
       new_picture whole =
           (after.whole (whole_is ∙ whole)).1
-              ∙ lawful.pictures.picture_same _ _
-              (λ s lt. work_is n s opened_n lt (taken_of (one ∷ run.taken) n (decoding.pictures.owner s) whole lt))
+          ∙ lawful.pictures.picture_same _ _
+          (λ s lt. work_is n s opened_n lt (taken_of (one ∷ run.taken) n (decoding.pictures.owner s) whole lt))
 
       picture_is : (rest m : ℕ) → rest < rules.slots → slot_of decoding rules next_run rest ≡ Some m
           → t.picture rest ≡ decoded decoding rules (one ∷ run.taken) m
@@ -444,7 +468,7 @@ module _ {Style Mb Picture Fault : Type 0} (decoding : Decoding Style Mb Picture
         | inl whole ↦ elim (cases_eq rest (n % rules.slots)) [
           | inl same ↦
               let is : n ≡ m = let e : Some n ≡ Some m = sym (when_whole whole).0
-                  ∙ subst (λ (i : ℕ). slot_of decoding rules next_run i ≡ Some m) same at in cc in
+              ∙ subst (λ (i : ℕ). slot_of decoding rules next_run i ≡ Some m) same at in cc in
               ap t.picture same ∙ new_picture whole ∙ ap (decoded decoding rules (one ∷ run.taken)) is
           | inr differ ↦ old_picture rest m lt (sym ((when_whole whole).1 rest differ)
               ∙ at) (after.slots rest lt differ).1
@@ -456,8 +480,10 @@ module _ {Style Mb Picture Fault : Type 0} (decoding : Decoding Style Mb Picture
         ]
       ]
 
-      keeps : ReceiverKeeps decoding rules t (record (receiver_run decoding rules entries) { taken =
-          record { number = n; piece = piece } ∷ (receiver_run decoding rules entries).taken })
+      keeps : ReceiverKeeps decoding rules t (record (receiver_run decoding rules entries) {
+        taken =
+            record { number = n; piece = piece } ∷ (receiver_run decoding rules entries).taken;
+      })
       keeps = record {
         played = after.played ∙ stands.played;
         screen = after.screen ∙ stands.screen;

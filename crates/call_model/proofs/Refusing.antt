@@ -55,7 +55,7 @@ module _ (Style Mb Picture : Type 0) (rules : Rules) where
   unfolding first_refusal
   none_where_near pictures c Send =
       let t = two_tests (c.played + rules.half) (length c.coded) pictures (length c.coded)
-          (Far (length c.coded) c.played) NoFrame in
+      (Far (length c.coded) c.played) NoFrame in
       (λ e. let h = t.0 e in (h.1, h.0), λ near. t.1 (near.1, near.0))
   none_where_near pictures c (Deliver n j) = two_tests (length c.coded) n (n + rules.half) c.played NotSent
       (Far n c.played)
@@ -89,7 +89,7 @@ module _ {Frame Style Mb Picture Fault MessageFault : Type 0}
   unfolding first_refusal
   none_where_near_both frames both Send =
       let t = two_tests (both.receiver.played + rules.half) (length both.sender.coded) (length frames)
-          (length both.sender.coded) (Far (length both.sender.coded) both.receiver.played) NoFrame in
+      (length both.sender.coded) (Far (length both.sender.coded) both.receiver.played) NoFrame in
       (λ e. let h = t.0 e in (h.1, h.0), λ near. t.1 (near.1, near.0))
   none_where_near_both frames both (Deliver n j) = two_tests (length both.sender.coded) n
       (n + rules.half) both.receiver.played NotSent (Far n both.receiver.played)
@@ -105,7 +105,7 @@ module _ {Frame Style Mb Picture Fault MessageFault : Type 0}
           → MayHappenBoth coding rules frames both (Back k)
       forth e =
           let h = about_far rules (length both.sender.coded)
-              (slice_get (map (λ (told : SaidMessage). told.about) both.said) k) e in
+          (slice_get (map (λ (told : SaidMessage). told.about) both.said) k) e in
           by_told (slice_get both.said k) refl h.0 (sym found ∙ h.1) h.2
         where
           by_told : (o : Option SaidMessage) → slice_get both.said k ≡ o → (t : ℕ) → option_map about_told o ≡ Some t
@@ -137,8 +137,8 @@ module _ {Style Mb Picture : Type 0} (pictures : Pictures Style Mb Picture) (rul
       let test = none_test (refusal_in rules count (checked_call pictures rules source count past).call e) in
       let near = none_where_near Style Mb Picture rules count (call_from pictures rules source past) e in
       let same : refusal_in rules count (checked_call pictures rules source count past).call e
-          ≡ refusal_in rules count (call_from pictures rules source past) e =
-          ap (λ (c : Call Style Mb Picture). refusal_in rules count c e) (call_is past) in
+      ≡ refusal_in rules count (call_from pictures rules source past) e =
+      ap (λ (c : Call Style Mb Picture). refusal_in rules count c e) (call_is past) in
       (λ passed. near.0 (sym same ∙ test.0 passed), λ now. test.1 (same ∙ near.1 now))
 
   forth : (past : List Event) → (checked_call pictures rules source count past).passed ≡ true

@@ -40,13 +40,25 @@ module _ {Style Mb Picture Fault : Type 0} (decoding : Decoding Style Mb Picture
       ≡ map (travelling rules) (new_ack c n j)
   unfolding delivery_answer delivery_counts is_open
   by_full true c n j full high low fresh lt =
-      rw (le-ltb n c.played low, le-ltb (c.played + rules.lead) n (omega (arith, high)), le-leb c.played n low,
-          le-leb n (c.played + rules.lead) (omega (arith, high)), lt-ltb j (length (slices_at c.coded n)) lt, fresh,
-          full) refl
+      rw (
+        le-ltb n c.played low,
+        le-ltb (c.played + rules.lead) n (omega (arith, high)),
+        le-leb c.played n low,
+        le-leb n (c.played + rules.lead) (omega (arith, high)),
+        lt-ltb j (length (slices_at c.coded n)) lt,
+        fresh,
+        full,
+      ) refl
   by_full false c n j full high low fresh lt =
-      rw (le-ltb n c.played low, le-ltb (c.played + rules.lead) n (omega (arith, high)), le-leb c.played n low,
-          le-leb n (c.played + rules.lead) (omega (arith, high)), lt-ltb j (length (slices_at c.coded n)) lt, fresh,
-          full) refl
+      rw (
+        le-ltb n c.played low,
+        le-ltb (c.played + rules.lead) n (omega (arith, high)),
+        le-leb c.played n low,
+        le-leb n (c.played + rules.lead) (omega (arith, high)),
+        lt-ltb j (length (slices_at c.coded n)) lt,
+        fresh,
+        full,
+      ) refl
 
   closed_before : (c : Call Style Mb Picture) (n : ℕ) → n < c.played → is_open rules c.played n ≡ false
   unfolding is_open
@@ -96,7 +108,7 @@ module _ {Style Mb Picture Fault : Type 0} (decoding : Decoding Style Mb Picture
   by_play : (b : Bool) (c : Call Style Mb Picture) → is_full c.coded c.arrivals c.played ≡ b
       → option_map_or (λ (m : Message). m ∷ []) (play_message rules c) []
       ≡ map (travelling rules) (if is_full c.coded c.arrivals c.played then [] else Lost c.played
-          (newest_full rules c.coded c.arrivals c.played) (full_flags rules c.coded c.arrivals c.played) ∷ [])
+      (newest_full rules c.coded c.arrivals c.played) (full_flags rules c.coded c.arrivals c.played) ∷ [])
   unfolding play_message
   by_play true c full = rw full refl
   by_play false c full = rw full refl
@@ -113,12 +125,12 @@ module _ {Style Mb Picture Fault : Type 0} (decoding : Decoding Style Mb Picture
         let c = call_from decoding.pictures rules source past in
         let follow = follows source packets count past near.1 sound.1 in
         let new = ap (λ (o : Option Message). option_map_or (λ (m : Message). m ∷ []) o []) (follow.plays near.0).1
-            ∙ by_play (is_full c.coded c.arrivals c.played) c refl in
+        ∙ by_play (is_full c.coded c.arrivals c.played) c refl in
         ap (λ (ms : List Message). receiver_said decoding rules source packets past ++ ms) new
         ∙ ap (λ (ms : List Message). ms
-            ++ map (travelling rules) (if is_full c.coded c.arrivals c.played then [] else Lost c.played
-            (newest_full rules c.coded c.arrivals c.played) (full_flags rules c.coded c.arrivals c.played) ∷ []))
-            (says past near.1 sound.1)
+        ++ map (travelling rules) (if is_full c.coded c.arrivals c.played then [] else Lost c.played
+        (newest_full rules c.coded c.arrivals c.played) (full_flags rules c.coded c.arrivals c.played) ∷ []))
+        (says past near.1 sound.1)
         ∙ sym (map-append (travelling rules) c.said _)
     says (Deliver n j ∷ past) near sound = from_new (of_bytes (slice_get (packets c.coded n) j) refl)
         (says past near.1 sound.1)
@@ -149,7 +161,7 @@ module _ {Style Mb Picture Fault : Type 0} (decoding : Decoding Style Mb Picture
                 ]
         of_bytes (Some bytes) some =
             ap answer_says ((follows source packets count past near.1 sound.1).answers n j bytes near.0 sound.0 some)
-                ∙ said_is c n j inside
+            ∙ said_is c n j inside
           where
             differ : (let o : Option (List ℕ) = None in o) ≡ Some bytes → ⊥
             differ e = cc

@@ -21,13 +21,13 @@ module _ {Frame Style Mb Picture MessageFault : Type 0} (pictures : Pictures Sty
   known_were_sent pace (Capture frame ∷ past) m is =
       let before = known_were_sent pace past m is in
       let longer = length-append (sender_run pictures encoding rules pace past).coded
-          (next_coded pictures encoding rules pace frame (sender_run pictures encoding rules pace past).coded
-          (sender_run pictures encoding rules pace past).known ∷ []) in
+      (next_coded pictures encoding rules pace frame (sender_run pictures encoding rules pace past).coded
+      (sender_run pictures encoding rules pace past).known ∷ []) in
       omega (arith, before, longer)
   known_were_sent pace (Feedback bytes ∷ past) m is =
       let run = sender_run pictures encoding rules pace past in
       elim (or_cases _ _ (sym (list_any-append (λ x. eqb x m) (known_by_feedback rules (length run.coded)
-          (result_ok (encoding.read_message bytes))) run.known) ∙ is)) [
+      (result_ok (encoding.read_message bytes))) run.known) ∙ is)) [
         | inl new ↦ feedback_below rules ruled (length run.coded) m (result_ok (encoding.read_message bytes)) new
         | inr old ↦ known_were_sent pace past m old
       ]
@@ -49,7 +49,7 @@ module _ {Frame Style Mb Picture MessageFault : Type 0} (pictures : Pictures Sty
       let run = sender_run pictures encoding rules pace entries in
       sym (next_above_nothing pictures encoding rules pace frame s)
       ∙ next_is_steered pictures encoding rules ruled pace frame s (record { run = run; since = 0 })
-          (held pace s entries stands)
+      (held pace s entries stands)
       ∙ ap (λ (known : List ℕ). next_coded pictures encoding rules pace frame run.coded known) (no_floor run.known)
 
   pub new_sender_stands : NewSenderStands pictures encoding rules
@@ -62,14 +62,14 @@ module _ {Frame Style Mb Picture MessageFault : Type 0} (pictures : Pictures Sty
       let x = next_coded pictures encoding rules pace frame run.coded run.known in
       (capture_holds pictures encoding rules ruled encodes s t run x (held pace s entries stands)
       (subst (λ (y : Coded Style Mb Picture). IsAfterCapture pictures encoding rules s t y)
-          (next_by_kept_is pace frame s entries stands) after)).keeps
+      (next_by_kept_is pace frame s entries stands) after)).keeps
 
   pub feedback_stands : FeedbackStands pictures encoding rules
   feedback_stands pace bytes s t entries stands after =
       (feedback_holds pictures encoding rules ruled bytes s t (sender_run pictures encoding rules pace entries)
-          (held pace s entries stands) after).keeps
+      (held pace s entries stands) after).keeps
 
   pub other_feedback_stands : OtherFeedbackStands pictures encoding rules
   other_feedback_stands pace bytes s entries stands is =
       (other_feedback_holds pictures encoding rules ruled bytes s (sender_run pictures encoding rules pace entries)
-          (held pace s entries stands) is).keeps
+      (held pace s entries stands) is).keeps

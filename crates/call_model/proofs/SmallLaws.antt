@@ -109,7 +109,7 @@ same_style_test a b = (forth, back)
         let depth : a.depth ≡ b.depth = eqb-true a.depth b.depth parts.0 in
         let quant : a.quant ≡ b.quant = eqb-true a.quant b.quant parts.1 in
         ap (λ (d : ℕ). let s : SmallStyle = record { depth = d; quant = a.quant } in s) depth
-            ∙ ap (λ (q : ℕ). let s : SmallStyle = record { depth = b.depth; quant = q } in s) quant
+        ∙ ap (λ (q : ℕ). let s : SmallStyle = record { depth = b.depth; quant = q } in s) quant
 
     back : a ≡ b → (eqb a.depth b.depth && eqb a.quant b.quant) ≡ true
     back e = and_from _ _ (eq-eqb a.depth b.depth (ap (λ (s : SmallStyle). s.depth) e))
@@ -125,17 +125,19 @@ small_divides count two mbs = record {
         subst (λ (s : Slice SmallMb). has_mb s k ≡ eqb j k) at.1 (has_one j (slice_index_or mbs j Same) k);
     inside = λ j slice e.
         let at = cut_at mbs j slice e in
-        subst (λ (s : Slice SmallMb). (0 < length s.mbs) × (s.first + length s.mbs ≤ count)) at.1 (omega arith,
-            omega (arith, at.0));
+        subst (λ (s : Slice SmallMb). (0 < length s.mbs) × (s.first + length s.mbs ≤ count)) at.1 (
+          omega arith,
+          omega (arith, at.0),
+        );
   };
   same = λ j k slice e has.
       let at = cut_at mbs j slice e in
       let has_k : has_mb (one j (slice_index_or mbs j Same)) k ≡ true = subst (λ (s : Slice SmallMb). has_mb s k
-          ≡ true) (sym at.1) has in
+      ≡ true) (sym at.1) has in
       let is : j ≡ k = same_place j k (slice_index_or mbs j Same) mbs has_k in
       let none : k - j ≡ 0 = omega arith in
       subst (λ (s : Slice SmallMb). slice_index_or s.mbs (k - s.first) Same ≡ slice_index_or mbs k Same) at.1
-          (rw none (ap (λ (i : ℕ). slice_index_or mbs i Same) is));
+      (rw none (ap (λ (i : ℕ). slice_index_or mbs i Same) is));
 }
 
 pub small_decodes : (rules : Rules) → rules.mbs ≡ 2 → IsDecoding small_decoding rules
@@ -175,9 +177,9 @@ pub scenes_agree : ScenesAgree
 unfolding small
 scenes_agree scene fits passed =
     let near = (passed_where_near small_pictures scene.rules (encoded small scene.rules scene.pace scene.frames)
-        (length scene.frames) (reverse scene.events)).0 passed in
+    (length scene.frames) (reverse scene.events)).0 passed in
     (two_stores small scene.rules (small_lawful scene.rules fits.two) fits.rules scene.pace scene.frames fits.pace
-        (reverse scene.events) near).agree
+    (reverse scene.events) near).agree
 
 steady_pace : IsPace steady
 steady_pace sizes few = (omega arith, omega arith)

@@ -63,7 +63,7 @@ module _ {Frame Style Mb Picture Fault MessageFault : Type 0}
     sound_next c frame all =
         by_some c (next c frame)
         (capture_sound (pictures_of coding) coding.encoding rules lawful.decodes.pictures lawful.encodes (quant c) frame
-            (record c { known = filter (may c) c.known }) (range c) all)
+        (record c { known = filter (may c) c.known }) (range c) all)
 
     pub sound_event : (past : List Event) (e : Event)
         → IsSoundEvent coding.decoding rules (steered coding rules quant may frames) (packets_of coding.encoding rules)
@@ -76,7 +76,7 @@ module _ {Frame Style Mb Picture Fault MessageFault : Type 0}
         go x (Some frame) is =
             let same : next (call past) frame ≡ x = cc in
             subst (λ (y : Coded Style Mb Picture). IsSoundPicture (pictures_of coding) rules (call past) y) same
-                (sound_next (call past) frame (all_encoded past))
+            (sound_next (call past) frame (all_encoded past))
     sound_event past (Deliver n j) = λ x at_n. is_packet coding rules lawful ruled (call past).coded n j x at_n
         (all_encoded past n x at_n)
     sound_event past Play = tt
@@ -84,11 +84,13 @@ module _ {Frame Style Mb Picture Fault MessageFault : Type 0}
 
   pub steered_is_sound : SteeredIsSound coding rules
   steered_is_sound quant may frames [] range = tt
-  steered_is_sound quant may frames (e ∷ past) range = (sound_event rules quant may frames range past e,
-      steered_is_sound quant may frames past range)
+  steered_is_sound quant may frames (e ∷ past) range = (
+    sound_event rules quant may frames range past e,
+    steered_is_sound quant may frames past range,
+  )
 
   pub steered_is_followed : SteeredIsFollowed coding rules
   steered_is_followed quant may frames past range near =
       any_sound_sender coding.decoding rules lawful.decodes ruled (steered coding rules quant may frames)
-          (packets_of coding.encoding rules) (length frames) past near
+      (packets_of coding.encoding rules) (length frames) past near
       (steered_is_sound quant may frames past range)

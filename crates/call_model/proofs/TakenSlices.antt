@@ -67,18 +67,18 @@ module _ {Style Mb Picture Fault : Type 0} (decoding : Decoding Style Mb Picture
   fits_at (x ∷ ts) zero n t h fits at is =
       let same : x ≡ t = cc in
       let parts = and_parts (not (eqb x.number n) || same_header decoding x.piece.header h)
-          (list_all (λ y. not (eqb y.number n) || same_header decoding y.piece.header h) ts) fits in
+      (list_all (λ y. not (eqb y.number n) || same_header decoding y.piece.header h) ts) fits in
       let mine : eqb x.number n ≡ true = eq-eqb x.number n (ap (λ (y : TakenSlice Style Mb). y.number) same ∙ is) in
       let here : same_header decoding x.piece.header h
-          ≡ true = elim (or_cases (not (eqb x.number n)) (same_header decoding x.piece.header h) parts.0) [
+      ≡ true = elim (or_cases (not (eqb x.number n)) (same_header decoding x.piece.header h) parts.0) [
         | inl other ↦ absurd (false≢true (sym (ap not mine) ∙ other))
         | inr found ↦ found
       ] in
       ap (λ (y : TakenSlice Style Mb). y.piece.header) (sym same)
-          ∙ same_header_is decoding rules lawful ruled x.piece.header h here
+      ∙ same_header_is decoding rules lawful ruled x.piece.header h here
   fits_at (x ∷ ts) (suc i) n t h fits at is =
       fits_at ts i n t h (and_parts (not (eqb x.number n) || same_header decoding x.piece.header h)
-          (list_all (λ y. not (eqb y.number n) || same_header decoding y.piece.header h) ts) fits).1 at is
+      (list_all (λ y. not (eqb y.number n) || same_header decoding y.piece.header h) ts) fits).1 at is
 
   -- the reference that is there is complete, and lies below
   reference_complete : (ts : List (TakenSlice Style Mb)) (n m : ℕ) (h : Header Style)
@@ -94,8 +94,10 @@ module _ {Style Mb Picture Fault : Type 0} (decoding : Decoding Style Mb Picture
       by_number rest (Some k) near is named =
           let same : k ≡ m = cc in
           let parts = and_parts (is_complete rules.mbs ts k) (leb n (k + window rules)) is in
-          subst (λ (i : ℕ). (is_complete rules.mbs ts i ≡ true) × (i < n)) same (parts.0,
-              nearest_below_less rules ruled n rest k near)
+          subst (λ (i : ℕ). (is_complete rules.mbs ts i ≡ true) × (i < n)) same (
+            parts.0,
+            nearest_below_less rules ruled n rest k near,
+          )
 
       by_header : (o : Option ℕ)
           → option_map_or (λ rest. option_map_or (λ m. is_complete rules.mbs ts m && leb n (m + window rules))
@@ -125,12 +127,12 @@ module _ {Style Mb Picture Fault : Type 0} (decoding : Decoding Style Mb Picture
           let e : one ≡ t = cc in
           let number : u.number ≡ n = sym same ∙ sym (ap (λ (x : TakenSlice Style Mb). x.number) e) in
           sym (ap (λ (x : TakenSlice Style Mb). x.piece.header) e)
-              ∙ sym (fits_at run.taken j n u piece.header taken.fits at_j number)
+          ∙ sym (fits_at run.taken j n u piece.header taken.fits at_j number)
       headers (suc i) zero t u at_i at_j same =
           let e : one ≡ u = cc in
           let number : t.number ≡ n = same ∙ sym (ap (λ (x : TakenSlice Style Mb). x.number) e) in
           fits_at run.taken i n t piece.header taken.fits at_i number
-              ∙ ap (λ (x : TakenSlice Style Mb). x.piece.header) e
+          ∙ ap (λ (x : TakenSlice Style Mb). x.piece.header) e
       headers (suc i) (suc j) t u at_i at_j same = tidy.headers i j t u at_i at_j same
 
       references : (i m : ℕ) (t : TakenSlice Style Mb) → slice_get (one ∷ run.taken) i ≡ Some t
@@ -139,10 +141,10 @@ module _ {Style Mb Picture Fault : Type 0} (decoding : Decoding Style Mb Picture
       references zero m t at named =
           let e : one ≡ t = cc in
           let mine : reference_in decoding rules n piece.header
-              ≡ Some m = ap (λ (x : TakenSlice Style Mb). reference_in decoding rules x.number x.piece.header) e
-              ∙ named in
+          ≡ Some m = ap (λ (x : TakenSlice Style Mb). reference_in decoding rules x.number x.piece.header) e
+          ∙ named in
           complete_more decoding rules lawful ruled one run.taken m
-              (reference_complete run.taken n m piece.header taken.there mine).0
+          (reference_complete run.taken n m piece.header taken.there mine).0
       references (suc i) m t at named = complete_more decoding rules lawful ruled one run.taken m
           (tidy.references i m t at named)
 
@@ -153,10 +155,10 @@ module _ {Style Mb Picture Fault : Type 0} (decoding : Decoding Style Mb Picture
       same_reference None each = refl
       same_reference (Some m) each =
           let differ : one.number ≡ m
-              → ⊥ = λ (e : one.number ≡ m). both_ways _ not_before (subst (λ (i : ℕ). is_complete rules.mbs run.taken i
-              ≡ true) (sym e) (each m refl)) in
+          → ⊥ = λ (e : one.number ≡ m). both_ways _ not_before (subst (λ (i : ℕ). is_complete rules.mbs run.taken i
+          ≡ true) (sym e) (each m refl)) in
           ap Some (lawful.pictures.picture_same _ _
-              (λ s lt. sym (img_other decoding rules lawful ruled one run.taken m s differ)))
+          (λ s lt. sym (img_other decoding rules lawful ruled one run.taken m s differ)))
 
       older : (m s : ℕ) → decoded_sample decoding rules (one ∷ run.taken) m s
           ≡ decoded_sample decoding rules run.taken m s → IsDecodedBy decoding rules run.taken m s
@@ -214,8 +216,8 @@ module _ {Style Mb Picture Fault : Type 0} (decoding : Decoding Style Mb Picture
           own s lt got true has = newest s has
           own s lt got false has =
               let before : has_taken run.taken n (decoding.pictures.owner s)
-                  ≡ true = sym (has_taken_first decoding rules lawful ruled one run.taken n (decoding.pictures.owner s)
-                  refl ∙ ap (λ (b : Bool). b || has_taken run.taken n (decoding.pictures.owner s)) has) ∙ got in
+              ≡ true = sym (has_taken_first decoding rules lawful ruled one run.taken n (decoding.pictures.owner s)
+              refl ∙ ap (λ (b : Bool). b || has_taken run.taken n (decoding.pictures.owner s)) has) ∙ got in
               older n s (rw (has, and_right (eqb n n) false refl) refl) (tidy.samples n s lt before)
 
   tidy_start : IsTidy []

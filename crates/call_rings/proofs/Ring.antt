@@ -43,7 +43,7 @@ module _ {X : Type 0} where
   pub refilled : (items : List X) (capacity : ℕ) (mid new : Buffer X) (x : X) → length items + 1 ≤ capacity
       → mid ≡ buffer items capacity
       → new ≡ buffer (keep_last mid.capacity (mid.items ++ x ∷ [])) mid.capacity
-          → new ≡ buffer (items ++ x ∷ []) capacity
+      → new ≡ buffer (items ++ x ∷ []) capacity
   refilled items capacity mid new x e mid_is new_is =
       new_is ∙ ap (λ (b : Buffer X). buffer (keep_last b.capacity (b.items ++ x ∷ [])) b.capacity) mid_is
       ∙ ap (λ (l : List X). buffer l capacity) (keep_all items x capacity e)
@@ -64,41 +64,63 @@ turned r x = drop 1 (r.pictures.items) ++ x ∷ []
 pub begun_holds : (r new : SentPackets) (x : KeptPackets) (pictures : Pictures) → HoldsPackets r pictures
     → HasPackets x []
     → new.pictures ≡ buffer (turned r x) (r.pictures.capacity) → new.begun ≡ r.begun + 1
-        → HoldsPackets new (pictures ++ [] ∷ [])
+    → HoldsPackets new (pictures ++ [] ∷ [])
 begun_holds r new x pictures kept none is begun =
     let count = length pictures in
     let many : length (pictures ++ [] ∷ []) ≡ count + 1 = length-append pictures ([] ∷ []) in
     let capacity : new.pictures.capacity ≡ r.pictures.capacity = ap (λ (b : Buffer KeptPackets). b.capacity) is in
     let long : length (drop 1 (r.pictures.items)) ≡ r.pictures.capacity - 1 = length-drop 1 (r.pictures.items)
-        ∙ ap (λ (k : ℕ). k - 1) r.full in
+    ∙ ap (λ (k : ℕ). k - 1) r.full in
     record {
       begun = omega (arith, begun, kept.begun, many);
       each = λ n low near.
           let place = n + new.pictures.capacity - new.begun in
           let Is = λ (o : Option KeptPackets) (packets : List (List ℕ)). IfSome o
-              (λ (k : KeptPackets). HasPackets k packets) in
+          (λ (k : KeptPackets). HasPackets k packets) in
           let items : slice_get (new.pictures.items) place ≡ slice_get (turned r x) place =
-              ap (λ (b : Buffer KeptPackets). slice_get (b.items) place) is in
+          ap (λ (b : Buffer KeptPackets). slice_get (b.items) place) is in
           elim (cases_lt n count) as (λ _. Is (slice_get (new.pictures.items) place)
-              (get_or (pictures ++ [] ∷ []) n [])) [
+          (get_or (pictures ++ [] ∷ []) n [])) [
             | inl old ↦
-                let inside : place < length (drop 1 (r.pictures.items)) = omega (arith, old, long, capacity, begun,
-                    kept.begun, near, many) in
-                let was : suc place ≡ n + r.pictures.capacity - r.begun = omega (arith, old, capacity, begun,
-                    kept.begun, near, many) in
+                let inside : place < length (drop 1 (r.pictures.items)) = omega (
+                  arith,
+                  old,
+                  long,
+                  capacity,
+                  begun,
+                  kept.begun,
+                  near,
+                  many,
+                ) in
+                let was : suc place ≡ n + r.pictures.capacity - r.begun = omega (
+                  arith,
+                  old,
+                  capacity,
+                  begun,
+                  kept.begun,
+                  near,
+                  many,
+                ) in
                 let at = items ∙ get_before (drop 1 (r.pictures.items)) x place inside
-                    ∙ get_dropped (r.pictures.items) place ∙ ap (λ (k : ℕ). slice_get (r.pictures.items) k) was in
+                ∙ get_dropped (r.pictures.items) place ∙ ap (λ (k : ℕ). slice_get (r.pictures.items) k) was in
                 let packets = get_or_append_left pictures ([] ∷ []) [] n old in
                 subst (λ (o : Option KeptPackets). Is o (get_or (pictures ++ [] ∷ []) n [])) (sym at)
                 (subst (Is (slice_get (r.pictures.items) (n + r.pictures.capacity - r.begun))) (sym packets)
-                    (kept.each n old (omega (arith, near, many, capacity))))
+                (kept.each n old (omega (arith, near, many, capacity))))
             | inr last ↦
                 let newest : n ≡ count = omega (arith, last, low, many) in
-                let at = items ∙ get_pushed (drop 1 (r.pictures.items)) x place (omega (arith, newest, long, capacity,
-                    begun, kept.begun, r.some)) in
+                let at = items ∙ get_pushed (drop 1 (r.pictures.items)) x place (omega (
+                  arith,
+                  newest,
+                  long,
+                  capacity,
+                  begun,
+                  kept.begun,
+                  r.some,
+                )) in
                 let packets = get_or_push pictures [] [] n (sym newest) in
                 subst (λ (o : Option KeptPackets). Is o (get_or (pictures ++ [] ∷ []) n [])) (sym at)
-                    (subst (Is (Some x)) (sym packets) none)
+                (subst (Is (Some x)) (sym packets) none)
           ];
     }
 
@@ -111,7 +133,7 @@ pub pushed_holds : (r new : SentPackets) (old x : KeptPackets) (before : Picture
     (packet : List ℕ) → HoldsPackets r (before ++ packets ∷ [])
     → last_item (r.pictures.items) ≡ Some old → (HasPackets old packets → HasPackets x (packets ++ packet ∷ []))
     → new.pictures ≡ buffer (changed r x) (r.pictures.capacity) → new.begun ≡ r.begun
-        → HoldsPackets new (before ++ (packets ++ packet ∷ []) ∷ [])
+    → HoldsPackets new (before ++ (packets ++ packet ∷ []) ∷ [])
 pushed_holds r new old x before packets packet kept last more is begun =
     let count = length before in
     let more_packets = packets ++ packet ∷ [] in
@@ -121,44 +143,71 @@ pushed_holds r new old x before packets packet kept last more is begun =
     let capacity : new.pictures.capacity ≡ r.pictures.capacity = ap (λ (b : Buffer KeptPackets). b.capacity) is in
     let front = take (length (r.pictures.items) - 1) (r.pictures.items) in
     let long : length front ≡ r.pictures.capacity - 1 = length-take-le (length (r.pictures.items) - 1)
-        (r.pictures.items) (omega arith) ∙ ap (λ (k : ℕ). k - 1) r.full in
+    (r.pictures.items) (omega arith) ∙ ap (λ (k : ℕ). k - 1) r.full in
     let Is = λ (o : Option KeptPackets) (packets : List (List ℕ)). IfSome o (λ (k : KeptPackets). HasPackets k packets)
-        in
+    in
     record {
       begun = omega (arith, begun, kept.begun, many, many_before);
       each = λ n low near.
           let place = n + new.pictures.capacity - new.begun in
           let items : slice_get (new.pictures.items) place ≡ slice_get (changed r x) place =
-              ap (λ (b : Buffer KeptPackets). slice_get (b.items) place) is in
+          ap (λ (b : Buffer KeptPackets). slice_get (b.items) place) is in
           elim (cases_lt n count) as (λ _. Is (slice_get (new.pictures.items) place) (get_or all n [])) [
             | inl older ↦
-                let inside : place < length front = omega (arith, older, long, capacity, begun, kept.begun, near, many,
-                    many_before) in
+                let inside : place < length front = omega (
+                  arith,
+                  older,
+                  long,
+                  capacity,
+                  begun,
+                  kept.begun,
+                  near,
+                  many,
+                  many_before,
+                ) in
                 let was : place ≡ n + r.pictures.capacity - r.begun = omega (arith, capacity, begun) in
                 let within : place < length (r.pictures.items) - 1 = omega (arith, inside, long, r.full) in
                 let at = items ∙ get_before front x place inside
-                    ∙ get_taken (length (r.pictures.items) - 1) (r.pictures.items) place within
-                    ∙ ap (λ (k : ℕ). slice_get (r.pictures.items) k) was in
+                ∙ get_taken (length (r.pictures.items) - 1) (r.pictures.items) place within
+                ∙ ap (λ (k : ℕ). slice_get (r.pictures.items) k) was in
                 let same = get_or_append_left before (packets ∷ []) [] n older
-                    ∙ sym (get_or_append_left before (more_packets ∷ []) [] n older) in
+                ∙ sym (get_or_append_left before (more_packets ∷ []) [] n older) in
                 subst (λ (o : Option KeptPackets). Is o (get_or all n [])) (sym at)
                 (subst (Is (slice_get (r.pictures.items) (n + r.pictures.capacity - r.begun))) same
-                    (kept.each n (omega (arith, older, many_before)) (omega (arith, near, many, many_before,
-                    capacity))))
+                (kept.each n (omega (arith, older, many_before)) (omega (
+                  arith,
+                  near,
+                  many,
+                  many_before,
+                  capacity,
+                ))))
             | inr not ↦
                 let newest : n ≡ count = omega (arith, not, low, many) in
-                let at = items ∙ get_pushed front x place (omega (arith, newest, long, capacity, begun, kept.begun,
-                    many_before, r.some)) in
-                let old_place : n + r.pictures.capacity - r.begun ≡ length (r.pictures.items) - 1 = omega (arith,
-                    newest, kept.begun, many_before, r.full) in
+                let at = items ∙ get_pushed front x place (omega (
+                  arith,
+                  newest,
+                  long,
+                  capacity,
+                  begun,
+                  kept.begun,
+                  many_before,
+                  r.some,
+                )) in
+                let old_place : n + r.pictures.capacity - r.begun ≡ length (r.pictures.items) - 1 = omega (
+                  arith,
+                  newest,
+                  kept.begun,
+                  many_before,
+                  r.full,
+                ) in
                 let was = kept.each n (omega (arith, newest, many_before)) (omega (arith, newest, many_before, r.some))
-                    in
+                in
                 let there : slice_get (r.pictures.items) (n + r.pictures.capacity - r.begun)
-                    ≡ Some old = ap (λ (k : ℕ). slice_get (r.pictures.items) k) old_place ∙ last in
+                ≡ Some old = ap (λ (k : ℕ). slice_get (r.pictures.items) k) old_place ∙ last in
                 let had : HasPackets old packets = subst (λ (o : Option KeptPackets). Is o packets) there
                 (subst (Is (slice_get (r.pictures.items) (n + r.pictures.capacity - r.begun)))
-                    (get_or_push before packets [] n (sym newest)) was) in
+                (get_or_push before packets [] n (sym newest)) was) in
                 subst (λ (o : Option KeptPackets). Is o (get_or all n [])) (sym at)
-                    (subst (Is (Some x)) (sym (get_or_push before more_packets [] n (sym newest))) (more had))
+                (subst (Is (Some x)) (sym (get_or_push before more_packets [] n (sym newest))) (more had))
           ];
     }

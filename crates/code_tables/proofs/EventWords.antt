@@ -49,7 +49,7 @@ none_is : (w : List Bool) → IsIn (w, None) tcoef_words → w ≡ word "0000011
 unfolding tcoef_words
 none_is w h =
     elim (in_cases (w, None) (from_runs false 0 last_0_texts ++ from_runs true 0 last_1_texts)
-        ((word "0000011", None) ∷ []) h) [
+    ((word "0000011", None) ∷ []) h) [
       | inl g ↦
           elim (in_cases (w, None) (from_runs false 0 last_0_texts) (from_runs true 0 last_1_texts) g) [
             | inl k ↦ absurd (none_rows false 0 last_0_texts w k)
@@ -62,10 +62,20 @@ none_is w h =
 grown : (w : List Bool) (o : Option Event) → IsIn (w, o) tcoef_words → (s : List Bool) × IsEventWord (w ++ s)
 grown w (Some e) h = (true ∷ [], inl (record { front = w; event = e; sign = true; listed = h; parts = refl }))
 grown w None h =
-    let tail = fields ((1, 0) ∷ (6, 0) ∷ (8, 1) ∷ []) in
-    (tail, inr (record { last = 0; run = 0; level = 1; one = omega arith; six = omega arith; eight = omega arith;
-        some = λ e. absurd (omega (arith, e)); great = λ e. absurd (omega (arith, e));
-        parts = ap (λ (t : List Bool). t ++ tail) (none_is w h) }))
+    let tail = fields ((1, 0) ∷ (6, 0) ∷ (8, 1) ∷ []) in (
+      tail,
+      inr (record {
+        last = 0;
+        run = 0;
+        level = 1;
+        one = omega arith;
+        six = omega arith;
+        eight = omega arith;
+        some = λ e. absurd (omega (arith, e));
+        great = λ e. absurd (omega (arith, e));
+        parts = ap (λ (t : List Bool). t ++ tail) (none_is w h);
+      }),
+    )
 
 -- and each such word begins with one
 pub record HasFront (w : List Bool) : Type 0 where
@@ -76,10 +86,20 @@ pub record HasFront (w : List Bool) : Type 0 where
   pub parts : w ≡ front ++ tail
 
 shrunk : (w : List Bool) → IsEventWord w → HasFront w
-shrunk w (inl r) = record { front = r.front; stands = Some r.event; tail = r.sign ∷ []; listed = r.listed;
-    parts = r.parts }
-shrunk w (inr r) = record { front = word "0000011"; stands = None;
-    tail = fields ((1, r.last) ∷ (6, r.run) ∷ (8, r.level) ∷ []); listed = escape_listed; parts = r.parts }
+shrunk w (inl r) = record {
+  front = r.front;
+  stands = Some r.event;
+  tail = r.sign ∷ [];
+  listed = r.listed;
+  parts = r.parts;
+}
+shrunk w (inr r) = record {
+  front = word "0000011";
+  stands = None;
+  tail = fields ((1, r.last) ∷ (6, r.run) ∷ (8, r.level) ∷ []);
+  listed = escape_listed;
+  parts = r.parts;
+}
 
 -- ---- a word of the table that is cut, or isn't there
 
@@ -88,8 +108,17 @@ of_table : (left : List Bool) (kind : FaultKind) → IsWordFault (λ w. IsWordOf
 of_table left kind (inl f) =
     let cut = f.0 in
     let g = grown cut.0 cut.3.0 cut.3.1 in
-    inl ((cut.0 ++ g.0, cut.1, cut.2 ++ g.0, g.1, ap (λ (t : List Bool). t ++ g.0) cut.4
-        ∙ append_assoc left (cut.1 ∷ cut.2) g.0), f.1)
+    inl (
+      (
+        cut.0 ++ g.0,
+        cut.1,
+        cut.2 ++ g.0,
+        g.1,
+        ap (λ (t : List Bool). t ++ g.0) cut.4
+            ∙ append_assoc left (cut.1 ∷ cut.2) g.0,
+      ),
+      f.1,
+    )
 of_table left kind (inr f) = inr (inr (λ w is. none w (shrunk w is), not_bad, f.1))
   where
     none : (w : List Bool) → HasFront w → ((rest : List Bool) → left ≡ w ++ rest → ⊥) × ((more : List Bool)
@@ -100,7 +129,7 @@ of_table left kind (inr f) = inr (inr (λ w is. none w (shrunk w is), not_bad, f
               ∙ append_assoc m.front m.tail rest),
           λ more whole.
               elim (both_begin m.front left more (ap (begins m.front) (sym whole ∙ m.parts)
-                  ∙ begins_itself m.front m.tail)) [
+              ∙ begins_itself m.front m.tail)) [
                 | inl h ↦ two.0 (drop (length m.front) left) (begins_parts m.front left h)
                 | inr h ↦ two.1 (drop (length left) m.front) (begins_parts left m.front h)
               ],
@@ -135,8 +164,13 @@ fills_with : (n : ℕ) (bits more : List Bool) → length bits + length more ≡
 fills_with n bits more size some =
     let xs = bits ++ more in
     let len : length xs ≡ n = length-append bits more ∙ size in
-    record { value = number xs; more = more; below = subst (λ (k : ℕ). number xs < 2 ^ k) len (number-lt xs);
-        some = some; text = ap (λ (k : ℕ). spelled k (number xs)) (sym len) ∙ spelled-number xs }
+    record {
+      value = number xs;
+      more = more;
+      below = subst (λ (k : ℕ). number xs < 2 ^ k) len (number-lt xs);
+      some = some;
+      text = ap (λ (k : ℕ). spelled k (number xs)) (sym len) ∙ spelled-number xs;
+    }
 
 fill : (n : ℕ) (bits : List Bool) → length bits < n → Fills n bits
 fill n bits lt =
@@ -159,17 +193,29 @@ fill_odd bits lt =
     let zeros = replicate (7 - length bits) false in
     let more = zeros ++ true ∷ [] in
     let long : length more ≡ (7 - length bits) + 1 = length-append zeros (true ∷ [])
-        ∙ ap (λ (k : ℕ). k + 1) (length-replicate (7 - length bits) false) in
+    ∙ ap (λ (k : ℕ). k + 1) (length-replicate (7 - length bits) false) in
     let parts : bits ++ more ≡ (bits ++ zeros) ++ true ∷ [] = sym (append_assoc bits zeros (true ∷ [])) in
     let value : number (bits ++ more) ≡ number (bits ++ zeros) * 2 + 1 = ap number parts
-        ∙ number-append (bits ++ zeros) (true ∷ []) ∙ last_one (number (bits ++ zeros)) in
-    record { fills = fills_with 8 bits more (omega (arith, long, lt)) (omega (arith, long));
-        half = number (bits ++ zeros); odd = value }
+    ∙ number-append (bits ++ zeros) (true ∷ []) ∙ last_one (number (bits ++ zeros)) in
+    record {
+      fills = fills_with 8 bits more (omega (arith, long, lt)) (omega (arith, long));
+      half = number (bits ++ zeros);
+      odd = value;
+    }
 
 escape : (last run level : ℕ) → last < 2 → run < 64 → level < 256 → (level ≡ 0 → ⊥) → (level ≡ 128 → ⊥)
     → IsEventWord (escape_text last run level)
-escape last run level a b c d e = inr (record { last = last; run = run; level = level; one = a; six = b; eight = c;
-    some = d; great = e; parts = refl })
+escape last run level a b c d e = inr (record {
+  last = last;
+  run = run;
+  level = level;
+  one = a;
+  six = b;
+  eight = c;
+  some = d;
+  great = e;
+  parts = refl;
+})
 
 last_cut : (left : List Bool) → length left < 1 → IsCutWord (λ w. IsEventWord w) ((word "0000011" ++ []) ++ left)
 last_cut left lt =
@@ -178,8 +224,8 @@ last_cut left lt =
     let whole : escape_text f.value 0 1 ≡ ((word "0000011" ++ []) ++ left) ++ (f.more ++ tail) =
     ap (λ (t : List Bool). word "0000011" ++ (t ++ tail)) f.text ∙ regroup (word "0000011") left f.more tail in
     cut_at (escape_text f.value 0 1) ((word "0000011" ++ []) ++ left) (f.more
-        ++ tail) (escape f.value 0 1 f.below (omega arith) (omega arith) (λ e. absurd (omega (arith, e)))
-        (λ e. absurd (omega (arith, e)))) whole (omega (arith, f.some, length-append f.more tail))
+    ++ tail) (escape f.value 0 1 f.below (omega arith) (omega arith) (λ e. absurd (omega (arith, e)))
+    (λ e. absurd (omega (arith, e)))) whole (omega (arith, f.some, length-append f.more tail))
   where
     regroup : (w l m t : List Bool) → w ++ ((l ++ m) ++ t) ≡ ((w ++ []) ++ l) ++ (m ++ t)
     regroup w l m t = ap (λ (x : List Bool). w ++ x) (append_assoc l m t) ∙ sym (append_assoc w l (m ++ t))
@@ -192,15 +238,15 @@ run_cut last left lt few =
     let f = fill 6 left few in
     let whole : escape_text last f.value 1 ≡ ((word "0000011" ++ (spelled 1 last ++ [])) ++ left) ++ (f.more ++ tail) =
     ap (λ (t : List Bool). word "0000011" ++ (spelled 1 last ++ (t ++ tail))) f.text
-        ∙ regroup (word "0000011") (spelled 1 last) left f.more tail in
+    ∙ regroup (word "0000011") (spelled 1 last) left f.more tail in
     cut_at (escape_text last f.value 1) ((word "0000011" ++ (spelled 1 last ++ [])) ++ left) (f.more
-        ++ tail) (escape last f.value 1 lt f.below (omega arith) (λ e. absurd (omega (arith, e)))
-        (λ e. absurd (omega (arith, e)))) whole (omega (arith, f.some, length-append f.more tail))
+    ++ tail) (escape last f.value 1 lt f.below (omega arith) (λ e. absurd (omega (arith, e)))
+    (λ e. absurd (omega (arith, e)))) whole (omega (arith, f.some, length-append f.more tail))
   where
     regroup : (w a l m t : List Bool) → w ++ (a ++ ((l ++ m) ++ t)) ≡ ((w ++ (a ++ [])) ++ l) ++ (m ++ t)
     regroup w a l m t =
         ap (λ (x : List Bool). w ++ (a ++ x)) (append_assoc l m t) ∙ sym (append_assoc w a (l ++ (m ++ t)))
-            ∙ sym (append_assoc (w ++ a) l (m ++ t))
+        ∙ sym (append_assoc (w ++ a) l (m ++ t))
         ∙ ap (λ (x : List Bool). ((w ++ x) ++ l) ++ (m ++ t)) (sym (append-nil a))
 
 level_cut : (last run : ℕ) (left : List Bool) → last < 2 → run < 64 → length left < 8
@@ -209,21 +255,21 @@ level_cut last run left lt small few =
     let o = fill_odd left few in
     let f = o.fills in
     let whole : escape_text last run f.value ≡ ((word "0000011" ++ (spelled 1 last ++ (spelled 6 run ++ []))) ++ left)
-        ++ (f.more ++ []) =
+    ++ (f.more ++ []) =
     ap (λ (t : List Bool). word "0000011" ++ (spelled 1 last ++ (spelled 6 run ++ (t ++ [])))) f.text
-        ∙ regroup (word "0000011") (spelled 1 last) (spelled 6 run) left f.more in
+    ∙ regroup (word "0000011") (spelled 1 last) (spelled 6 run) left f.more in
     cut_at (escape_text last run f.value) ((word "0000011" ++ (spelled 1 last ++ (spelled 6 run ++ [])))
-        ++ left) (f.more ++ []) (escape last run f.value lt small f.below (λ e. absurd (omega (arith, e, o.odd)))
-        (λ e. absurd (omega (arith, e, o.odd)))) whole (omega (arith, f.some, length-append f.more []))
+    ++ left) (f.more ++ []) (escape last run f.value lt small f.below (λ e. absurd (omega (arith, e, o.odd)))
+    (λ e. absurd (omega (arith, e, o.odd)))) whole (omega (arith, f.some, length-append f.more []))
   where
     regroup : (w a r l m : List Bool) → w ++ (a ++ (r ++ ((l ++ m) ++ []))) ≡ ((w ++ (a ++ (r ++ []))) ++ l)
         ++ (m ++ [])
     regroup w a r l m =
         ap (λ (x : List Bool). w ++ (a ++ (r ++ x))) (append_assoc l m [])
-            ∙ ap (λ (x : List Bool). w ++ x) (sym (append_assoc a r (l ++ (m ++ []))))
-            ∙ sym (append_assoc w (a ++ r) (l ++ (m ++ [])))
+        ∙ ap (λ (x : List Bool). w ++ x) (sym (append_assoc a r (l ++ (m ++ []))))
+        ∙ sym (append_assoc w (a ++ r) (l ++ (m ++ [])))
         ∙ sym (append_assoc (w ++ (a ++ r)) l (m ++ []))
-            ∙ ap (λ (x : List Bool). ((w ++ (a ++ x)) ++ l) ++ (m ++ [])) (sym (append-nil r))
+        ∙ ap (λ (x : List Bool). ((w ++ (a ++ x)) ++ l) ++ (m ++ [])) (sym (append-nil r))
 
 -- LEVEL that is refused
 bad_level : (v : ℕ) (kind : FaultKind) → allowed_level v ≡ Some kind → ((v ≡ 0) ⊎ (v ≡ 128)) × (kind ≡ BadLevel)
@@ -271,9 +317,9 @@ fields_fault rest left kind (inr a) = subst (λ (t : List Bool). IsEventFault ((
         regroup : (w a r v x : List Bool) → (w ++ (a ++ (r ++ []))) ++ (v ++ x) ≡ (w ++ (a ++ (r ++ (v ++ [])))) ++ x
         regroup w a r v x =
             ap (λ (t : List Bool). (w ++ (a ++ t)) ++ (v ++ x)) (append-nil r) ∙ sym (append_assoc (w ++ (a ++ r)) v x)
-                ∙ ap (λ (t : List Bool). t ++ x) (append_assoc w (a ++ r) v)
+            ∙ ap (λ (t : List Bool). t ++ x) (append_assoc w (a ++ r) v)
             ∙ ap (λ (t : List Bool). (w ++ t) ++ x) (append_assoc a r v)
-                ∙ ap (λ (t : List Bool). (w ++ (a ++ (r ++ t))) ++ x) (sym (append-nil v))
+            ∙ ap (λ (t : List Bool). (w ++ (a ++ (r ++ t))) ++ x) (sym (append-nil v))
 
         at : IsFieldFault 8 allowed_level left kind
             → IsEventFault ((word "0000011" ++ (spelled 1 last ++ (spelled 6 run ++ []))) ++ left) kind
@@ -281,11 +327,22 @@ fields_fault rest left kind (inr a) = subst (λ (t : List Bool). IsEventFault ((
         at (inr g) =
             let b = bad_level g.0 kind g.4 in
             let whole : (word "0000011" ++ (spelled 1 last ++ (spelled 6 run ++ []))) ++ left ≡ escape_text last run g.0
-                ++ g.1 =
+            ++ g.1 =
             ap (λ (t : List Bool). (word "0000011" ++ (spelled 1 last ++ (spelled 6 run ++ []))) ++ t) g.3
-                ∙ regroup (word "0000011") (spelled 1 last) (spelled 6 run) (spelled 8 g.0) g.1 in
-            inr (inl (record { last = last; run = run; level = g.0; rest = g.1; one = lt; six = small; bad = b.0;
-                parts = whole }, b.1))
+            ∙ regroup (word "0000011") (spelled 1 last) (spelled 6 run) (spelled 8 g.0) g.1 in
+            inr (inl (
+              record {
+                last = last;
+                run = run;
+                level = g.0;
+                rest = g.1;
+                one = lt;
+                six = small;
+                bad = b.0;
+                parts = whole;
+              },
+              b.1,
+            ))
     after_run last run more lt small (inr g) = absurd g.5
 
     after_last : (last : ℕ) (more : List Bool) → last < 2
@@ -309,10 +366,15 @@ sign_fault w e rest left kind h (inl f) = at f.1
     at : IsFieldFault 1 any left kind → IsEventFault ((w ++ rest) ++ left) kind
     at (inl g) =
         let whole : (w ++ rest) ++ left ≡ w = ap (λ (t : List Bool). (w ++ t) ++ left) f.0
-            ∙ ap (λ (t : List Bool). t ++ left) (append-nil w) ∙ ap (λ (t : List Bool). w ++ t) (nothing left g.0)
-            ∙ append-nil w in
-        let is : IsEventWord (w ++ true ∷ []) = inl (record { front = w; event = e; sign = true; listed = h;
-            parts = refl }) in
+        ∙ ap (λ (t : List Bool). t ++ left) (append-nil w) ∙ ap (λ (t : List Bool). w ++ t) (nothing left g.0)
+        ∙ append-nil w in
+        let is : IsEventWord (w ++ true ∷ []) = inl (record {
+          front = w;
+          event = e;
+          sign = true;
+          listed = h;
+          parts = refl;
+        }) in
         inl ((w ++ true ∷ [], true, [], is, ap (λ (t : List Bool). t ++ true ∷ []) (sym whole)), g.1)
     at (inr g) = absurd (none_refused kind g.4)
 sign_fault w e rest left kind h (inr f) = absurd f.5
@@ -334,8 +396,11 @@ parts_fault inner left kind (inr f) = subst (λ (t : List Bool). IsEventFault (t
 event_faults : (front left : List Bool) (kind : FaultKind) → Faults event front left kind
     → (front ≡ []) × IsEventFault left kind
 unfolding Faults event
-event_faults front left kind (inl f) = (f.0, subst (λ (t : List Bool). IsEventFault t kind) (sym f.3)
-    (parts_fault f.1 f.2 kind f.4))
+event_faults front left kind (inl f) = (
+  f.0,
+  subst (λ (t : List Bool). IsEventFault t kind) (sym f.3)
+      (parts_fault f.1 f.2 kind f.4),
+)
 event_faults front left kind (inr (inl f)) = absurd (none_refused kind f.1.5)
 event_faults front left kind (inr (inr f)) = absurd f.6
 
@@ -343,9 +408,11 @@ pub event_fault : (b : Bits) (d : Fault) → reading event b ≡ Err d → (d.at
 event_fault b d e =
     let f = fault_found event b d event_productive e in
     let m = event_faults f.0 f.1 d.kind f.4 in
-    let whole : b.bits ≡ f.1 = f.2 ∙ ap (λ (t : List Bool). t ++ f.1) m.0 in
-    (f.3 ∙ ap (λ (t : List Bool). b.at + length t) m.0
-        ∙ add-zero b.at, subst (λ (t : List Bool). IsEventFault t d.kind) (sym whole) m.1)
+    let whole : b.bits ≡ f.1 = f.2 ∙ ap (λ (t : List Bool). t ++ f.1) m.0 in (
+      f.3 ∙ ap (λ (t : List Bool). b.at + length t) m.0
+          ∙ add-zero b.at,
+      subst (λ (t : List Bool). IsEventFault t d.kind) (sym whole) m.1,
+    )
 
 -- ---- the way back: what is a fault is found
 
@@ -387,8 +454,11 @@ pub record IsSpelt (text : List Bool) : Type 0 where
 
 as_event : (a : Coefficient) (front text : List Bool) → Spells event_parts a front → front ≡ text → IsSpelt text
 unfolding event
-as_event a front text h e = record { value = a; spelt = spells_whole event a (front ++ []) text (append-nil front
-    ∙ e) (spells_element event_parts any done a a front [] h refl (spells_done a)) }
+as_event a front text h e = record {
+  value = a;
+  spelt = spells_whole event a (front ++ []) text (append-nil front
+      ∙ e) (spells_element event_parts any done a a front [] h refl (spells_done a));
+}
 
 word_spelt : (w : List Bool) → IsEventWord w → IsSpelt w
 unfolding event_parts
@@ -397,8 +467,8 @@ word_spelt w (inl r) =
     let a : Coefficient = record { last = r.event.last; run = r.event.run; level = signed v r.event.size } in
     as_event a (r.front ++ (spelled 1 v ++ [])) w
     (spells_code event_table after_word a r.front (Some r.event) (spelled 1 v
-        ++ []) (in_table r.front (Some r.event) r.listed) (spells_field 1 any _ a v [] (bit_below r.sign) refl
-        (spells_done a)))
+    ++ []) (in_table r.front (Some r.event) r.listed) (spells_field 1 any _ a v [] (bit_below r.sign) refl
+    (spells_done a)))
     (ap (λ (t : List Bool). r.front ++ t) (append-nil (spelled 1 v) ∙ bit_spelled r.sign) ∙ sym r.parts)
 word_spelt w (inr r) =
     let a : Coefficient = escaped r.last r.run r.level in
@@ -416,18 +486,32 @@ of_word : (w : List Bool) (o : Option Event) (rest : List Bool) (x : Coefficient
 unfolding Spells
 of_word w (Some e) rest x i s =
     let rest-is : rest ≡ is_set s.0 0 ∷ [] = s.4 ∙ ap (λ (t : List Bool). spelled 1 s.0 ++ t) s.5.1
-        ∙ append-nil (spelled 1 s.0) ∙ one_bit s.0 in
-    inl (record { front = w; event = e; sign = is_set s.0 0; listed = i;
-        parts = ap (λ (t : List Bool). w ++ t) rest-is })
+    ∙ append-nil (spelled 1 s.0) ∙ one_bit s.0 in
+    inl (record {
+      front = w;
+      event = e;
+      sign = is_set s.0 0;
+      listed = i;
+      parts = ap (λ (t : List Bool). w ++ t) rest-is;
+    })
 of_word w None rest x i s =
     let a = s.5 in
     let b = a.5 in
     let free = level_is_allowed b.0 b.3 in
     let tail : rest ≡ fields ((1, s.0) ∷ (6, a.0) ∷ (8, b.0) ∷ []) =
     s.4 ∙ ap (λ (t : List Bool). spelled 1 s.0 ++ t) (a.4 ∙ ap (λ (t : List Bool). spelled 6 a.0 ++ t) (b.4
-        ∙ ap (λ (t : List Bool). spelled 8 b.0 ++ t) b.5.1)) in
-    inr (record { last = s.0; run = a.0; level = b.0; one = s.2; six = a.2; eight = b.2; some = free.0; great = free.1;
-        parts = ap (λ (t : List Bool). t ++ rest) (none_is w i) ∙ ap (λ (t : List Bool). word "0000011" ++ t) tail })
+    ∙ ap (λ (t : List Bool). spelled 8 b.0 ++ t) b.5.1)) in
+    inr (record {
+      last = s.0;
+      run = a.0;
+      level = b.0;
+      one = s.2;
+      six = a.2;
+      eight = b.2;
+      some = free.0;
+      great = free.1;
+      parts = ap (λ (t : List Bool). t ++ rest) (none_is w i) ∙ ap (λ (t : List Bool). word "0000011" ++ t) tail;
+    })
 
 parts_word : (x : Coefficient) (text : List Bool) → Spells event_parts x text → IsEventWord text
 unfolding Spells event_parts
@@ -450,21 +534,28 @@ no_bad w more bits is e r =
     let s = word_spelt w is in
     let v = refused_level r.level r.bad in
     let good : reading event (record { at = 0; bits = w ++ more })
-        ≡ Ok (s.value, record { at = 0 + length w; bits = more }) = complete event s.value w more 0 event_productive
-        s.spelt in
+    ≡ Ok (s.value, record { at = 0 + length w; bits = more }) = complete event s.value w more 0 event_productive
+    s.spelt in
     let bad : reading event (record { at = 0; bits = escape_text r.last r.run r.level ++ r.rest })
-        ≡ Err (record { kind = BadLevel; at = 0 + 0 }) = level_row r.last r.run r.level r.one r.six v.0 v.1 0 r.rest in
+    ≡ Err (record { kind = BadLevel; at = 0 + 0 }) = level_row r.last r.run r.level r.one r.six v.0 v.1 0 r.rest in
     err_not_ok _ _ (sym bad ∙ ap (λ (t : List Bool). reading event (record { at = 0; bits = t })) (sym r.parts ∙ e)
-        ∙ good)
+    ∙ good)
 
 -- no word goes on from a bad escape
 cut_bad : (left : List Bool) → IsCutWord (λ w. IsEventWord w) left → IsBadEscape left → ⊥
 cut_bad left cut r =
     let tail : List Bool = cut.1 ∷ cut.2 in
-    no_bad cut.0 [] (left ++ tail) cut.3 (sym cut.4 ∙ sym (append-nil cut.0)) (record { last = r.last; run = r.run;
-        level = r.level; rest = r.rest ++ tail; one = r.one; six = r.six; bad = r.bad;
-        parts = ap (λ (t : List Bool). t ++ tail) r.parts
-        ∙ append_assoc (escape_text r.last r.run r.level) r.rest tail })
+    no_bad cut.0 [] (left ++ tail) cut.3 (sym cut.4 ∙ sym (append-nil cut.0)) (record {
+      last = r.last;
+      run = r.run;
+      level = r.level;
+      rest = r.rest ++ tail;
+      one = r.one;
+      six = r.six;
+      bad = r.bad;
+      parts = ap (λ (t : List Bool). t ++ tail) r.parts
+          ∙ append_assoc (escape_text r.last r.run r.level) r.rest tail;
+    })
 
 no_cut : (left : List Bool) → IsNoWord (λ w. IsEventWord w) left → IsCutWord (λ w. IsEventWord w) left → ⊥
 no_cut left none cut = let two = none cut.0 cut.3 in two.1 (cut.1 ∷ cut.2) cut.4
@@ -488,7 +579,7 @@ not_read w more bits kind is e (inl f) =
     let s = word_spelt w is in
     let t = word_spelt cut.0 cut.3 in
     let whole : w ++ (more ++ tail) ≡ cut.0 = sym (append_assoc w more tail) ∙ ap (λ (x : List Bool). x ++ tail) (sym e)
-        ∙ sym cut.4 in
+    ∙ sym cut.4 in
     let same = one_reading event s.value t.value w cut.0 (more ++ tail) event_productive s.spelt t.spelt whole in
     omega (arith, ap length whole, ap length same.0, length-append w (more ++ tail), length-append more tail)
 not_read w more bits kind is e (inr (inl f)) = no_bad w more bits is e f.0
@@ -507,4 +598,4 @@ event_faults_are b d = (λ e. event_fault b d e, λ h. at_reading (reading event
         let g = event_fault b c e in
         let kind : c.kind ≡ d.kind = one_kind b.bits c.kind d.kind g.1 h.1 in
         e ∙ ap (λ (k : FaultKind). err {A = Coefficient × Bits} (stands k c.at)) kind
-            ∙ ap (λ (p : ℕ). err {A = Coefficient × Bits} (stands d.kind p)) (g.0 ∙ sym h.0)
+        ∙ ap (λ (p : ℕ). err {A = Coefficient × Bits} (stands d.kind p)) (g.0 ∙ sym h.0)

@@ -83,7 +83,7 @@ unfolding event event_parts event_table
 sign_cut w e h =
     λ at. ap (λ (t : List Bool). reading event (record { at = at; bits = t })) (sym (append-nil w))
     ∙ ends_in_element event_parts any done (w ++ []) Ended (length w + 0) (ends_after_word event_table after_word w
-        (Some e) [] Ended 0 h (fault_of_cut 1 any _ [] (omega arith))) at
+    (Some e) [] Ended 0 h (fault_of_cut 1 any _ [] (omega arith))) at
 
 pub in_after : {X : Type 0} (x : X) (xs ys : List X) → IsIn x ys → IsIn x (xs ++ ys)
 in_after x [] ys h = h
@@ -101,9 +101,9 @@ pub level_row : (last run level : ℕ) → last < 2 → run < 64 → level < 256
 unfolding event event_parts
 level_row last run level l r v refused =
     fault_in_element event_parts any done (word "0000011" ++ fields ((1, last) ∷ (6, run) ∷ (8, level) ∷ [])) BadLevel
-        14
+    14
     (fault_after_word event_table after_word (word "0000011") None (fields ((1, last) ∷ (6, run) ∷ (8, level) ∷ []))
-        BadLevel 7 escape_in
+    BadLevel 7 escape_in
     (fault_after_field 1 any _ last (fields ((6, run) ∷ (8, level) ∷ [])) BadLevel 6 l refl
     (fault_after_field 6 any _ run (fields ((8, level) ∷ [])) BadLevel 0 r refl
     (fault_here 8 allowed_level _ level [] BadLevel v refused))))

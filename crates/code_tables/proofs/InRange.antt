@@ -58,8 +58,10 @@ all_small = refl
 
 pub cbpy_within : (intra : Bool) (pattern : ℕ) (text : List Bool) → Spells (cbpy intra) pattern text → pattern < 16
 unfolding Spells cbpy cbpy_table
-cbpy_within true pattern text h = let lt = ltb-true h.1 16 (stands_within (λ n. nat_lt n 16) cbpy_words (h.0,
-    h.1) all_small h.3) in subst (λ (n : ℕ). n < 16) (sym h.5.0) lt
+cbpy_within true pattern text h = let lt = ltb-true h.1 16 (stands_within (λ n. nat_lt n 16) cbpy_words (
+  h.0,
+  h.1,
+) all_small h.3) in subst (λ (n : ℕ). n < 16) (sym h.5.0) lt
 cbpy_within false pattern text h = let lt : 15 - h.1 < 16 = omega arith in subst (λ (n : ℕ). n < 16) (sym h.5.0) lt
 
 -- ---- DQUANT
@@ -71,8 +73,10 @@ is_step (negsuc n) = (n == 0) || (n == 1)
 step_is : (z : ℤ) → is_step z ≡ true → IsStep z
 unfolding is_step
 step_is (pos n) e = elim (or_cases (n == 1) (n == 2) e) [ inl h ↦ inl (eqb-true n 1 h) | inr h ↦ inr (eqb-true n 2 h) ]
-step_is (negsuc n) e = elim (or_cases (n == 0) (n == 1) e) [ inl h ↦ inl (eqb-true n 0 h)
-    | inr h ↦ inr (eqb-true n 1 h) ]
+step_is (negsuc n) e = elim (or_cases (n == 0) (n == 1) e) [
+  | inl h ↦ inl (eqb-true n 0 h)
+  | inr h ↦ inr (eqb-true n 1 h)
+]
 
 all_steps : list_all (λ w. is_step w.1) dquant_words ≡ true
 unfolding dquant_words is_step

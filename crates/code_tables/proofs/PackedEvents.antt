@@ -37,7 +37,7 @@ packed_from width k (suc i) (p ∷ ps) all lt some =
     let both = and_both (eqb p 0 || is_packed width k p) (are_packed width (k + 1) ps) all in
     let next : k + 1 + i ≡ k + suc i = omega arith in
     subst (λ (j : ℕ). is_packed width j (get_or ps i 0) ≡ true) next (packed_from width (k + 1) i ps both.1
-        (omega arith) some)
+    (omega arith) some)
 
 -- what stands at a prefix
 pub packed_there : (width i : ℕ) (ps : List ℕ) → are_packed width 0 ps ≡ true → i < length ps → (get_or ps i 0 ≡ 0 → ⊥)
@@ -53,7 +53,7 @@ packed_more seen p = at_place (place_in (starts_of (packed_last p)) (packed_run 
     at_place None e = absurd cc
     at_place (Some place) e =
         let both = and_both (starts (seen / 2 ^ 4) 8 (code_at EVENTS place))
-            (eqb (code_at EVENTS place).len (packed_len p) && is_meant p (slice_get LEVELS place)) e in
+        (eqb (code_at EVENTS place).len (packed_len p) && is_meant p (slice_get LEVELS place)) e in
         both_and _ _ (starts_more (code_at EVENTS place) seen 8 4 both.0) both.1
 
 -- ---- the word of a row
@@ -72,7 +72,7 @@ meant : (p : ℕ) (o : Option Level) → is_meant p o ≡ true → event_of_code
 meant p None e = absurd cc
 meant p (Some l) e =
     let both = and_both (cond l.last (packed_last p) (not (packed_last p))) (eqb l.run (packed_run p) && eqb l.size
-        (packed_size p)) e in
+    (packed_size p)) e in
     let numbers = and_both (eqb l.run (packed_run p)) (eqb l.size (packed_size p)) both.1 in
     let last : l.last ≡ packed_last p = same_bool l.last (packed_last p) both.0 in
     let run : l.run ≡ packed_run p = eqb-true l.run (packed_run p) numbers.0 in
@@ -92,14 +92,14 @@ row_word seen p = at_place (place_in (starts_of (packed_last p)) (packed_run p) 
     at_place None is e = absurd cc
     at_place (Some place) is e =
         let both = and_both (starts (seen / 2) 12 (code_at EVENTS place))
-            (eqb (code_at EVENTS place).len (packed_len p) && is_meant p (slice_get LEVELS place)) e in
+        (eqb (code_at EVENTS place).len (packed_len p) && is_meant p (slice_get LEVELS place)) e in
         let more = and_both (eqb (code_at EVENTS place).len (packed_len p)) (is_meant p (slice_get LEVELS place)) both.1
-            in
+        in
         let len : (code_at EVENTS place).len ≡ packed_len p = eqb-true (code_at EVENTS place).len
-            (packed_len p) more.0 in
+        (packed_len p) more.0 in
         let below : place < 103 = triple_below (packed_last p) (packed_run p) (packed_size p) place is in
         let named : IsWordIn 13 seen (event_at place) (code_at EVENTS place).len = named_word 13 seen place
-            (omega arith) below both.0 in
+        (omega arith) below both.0 in
         let means : event_at place ≡ Some (packed_event p) = meant p (slice_get LEVELS place) more.1 in
         let short : (code_at EVENTS place).len ≤ 12 = word_short (seen / 2) (code_at EVENTS place) both.0 in
         record {

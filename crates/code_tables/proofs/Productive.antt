@@ -36,8 +36,11 @@ nothing_productive = tt
 
 pub mvd_productive : IsProductive mvd
 unfolding mvd mvd_parts signs nothing IsProductive
-mvd_productive = (λ size. either_productive (eqb size 0) nothing (signs size) nothing_productive
-    (signs_productive size), λ z. tt)
+mvd_productive = (
+  λ size. either_productive (eqb size 0) nothing (signs size) nothing_productive
+      (signs_productive size),
+  λ z. tt,
+)
 
 after_productive : (o : Option Event) → IsProductive (after_word o)
 unfolding IsProductive
@@ -49,5 +52,10 @@ unfolding event event_parts IsProductive
 event_productive = (λ o. after_productive o, λ e. tt)
 
 pub are_productive : AreProductive
-are_productive = record { mcbpc = mcbpc_productive; cbpy = cbpy_productive; dquant = dquant_productive;
-    mvd = mvd_productive; event = event_productive }
+are_productive = record {
+  mcbpc = mcbpc_productive;
+  cbpy = cbpy_productive;
+  dquant = dquant_productive;
+  mvd = mvd_productive;
+  event = event_productive;
+}

@@ -13,7 +13,7 @@ use Rattle.code_tables.specs.Rows.{row_at, place_in_row}
 abbrev is_row : List ℕ → ℕ → Row → Bool
 is_row starts run row =
     cond (ltb (run + 1) (length starts)) (eqb row.first (get_or starts run 0) && eqb (row.first + row.count)
-        (get_or starts (run + 1) 0)) (eqb row.count 0)
+    (get_or starts (run + 1) 0)) (eqb row.count 0)
 
 -- the rows of the runs below n
 are_rows : List ℕ → List Row → ℕ → Bool
@@ -48,17 +48,23 @@ place_of starts run size row is some =
     elim (cases_lt (run + 1) (length starts)) [
       | inl inside ↦
           let inner : (eqb row.first (get_or starts run 0) && eqb (row.first + row.count) (get_or starts (run + 1) 0))
-              ≡ true = rw (lt-ltb (run + 1) (length starts) inside) at is in
+          ≡ true = rw (lt-ltb (run + 1) (length starts) inside) at is in
           let both = and_both (eqb row.first (get_or starts run 0))
-              (eqb (row.first + row.count) (get_or starts (run + 1) 0)) inner in
+          (eqb (row.first + row.count) (get_or starts (run + 1) 0)) inner in
           let first : row.first ≡ get_or starts run 0 = eqb-true row.first (get_or starts run 0) both.0 in
           let end : row.first + row.count ≡ get_or starts (run + 1) 0 = eqb-true (row.first + row.count)
-              (get_or starts (run + 1) 0) both.1 in
+          (get_or starts (run + 1) 0) both.1 in
           elim (cases_lt row.count size) [
-            | inl past ↦ rw (lt-leb size row.count past, lt-ltb (run + 1) (length starts) inside,
-                le-ltb (get_or starts run 0 + size - 1) (get_or starts (run + 1) 0) (omega (arith, first, end))) refl
-            | inr there ↦ rw (le-leb size row.count there, lt-ltb (run + 1) (length starts) inside,
-                lt-ltb (get_or starts run 0 + size - 1) (get_or starts (run + 1) 0) (omega (arith, first, end)))
+            | inl past ↦ rw (
+              lt-leb size row.count past,
+              lt-ltb (run + 1) (length starts) inside,
+              le-ltb (get_or starts run 0 + size - 1) (get_or starts (run + 1) 0) (omega (arith, first, end)),
+            ) refl
+            | inr there ↦ rw (
+              le-leb size row.count there,
+              lt-ltb (run + 1) (length starts) inside,
+              lt-ltb (get_or starts run 0 + size - 1) (get_or starts (run + 1) 0) (omega (arith, first, end)),
+            )
                 (ap (λ (n : ℕ). let o : Option ℕ = Some (n + size - 1) in o) first)
           ]
       | inr outside ↦

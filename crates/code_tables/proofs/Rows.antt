@@ -53,11 +53,11 @@ in_row codes a b i lt le =
     let texts : List (List Bool) = map word_of codes in
     let long : length (drop a texts) ≡ length texts - a = length-drop a texts in
     let whole : length (take (b - a) (drop a texts)) ≡ min (b - a) (length (drop a texts)) =
-        length-take (b - a) (drop a texts) in
+    length-take (b - a) (drop a texts) in
     let all : length texts ≡ length codes = length-map codes word_of in
     slice_get-get_or (take (b - a) (drop a texts)) i [] (omega (arith, long, whole, all))
     ∙ ap Some (get_or-take (b - a) (drop a texts) i [] (omega arith) ∙ get_or-drop a texts i []
-        ∙ get_or-map word_of codes (a + i) none [] (omega arith))
+    ∙ get_or-map word_of codes (a + i) none [] (omega arith))
 
 past_row : (texts : List (List Bool)) (a b i : ℕ) → b ≤ a + i → slice_get (take (b - a) (drop a texts)) i ≡ None
 past_row texts a b i le = slice_get_past (take (b - a) (drop a texts)) i
@@ -77,16 +77,22 @@ placed codes starts run size within some =
           elim (cases_lt (get_or starts run 0 + size - 1) (get_or starts (run + 1) 0)) [
             | inl lt ↦
                 let same : get_or starts run 0 + (size - 1) ≡ get_or starts run 0 + size - 1 = omega arith in
-                rw (lt-ltb (run + 1) (length starts) inside, row_is starts (map word_of codes) run inside,
-                    lt-ltb (get_or starts run 0 + size - 1) (get_or starts (run + 1) 0) lt)
+                rw (
+                  lt-ltb (run + 1) (length starts) inside,
+                  row_is starts (map word_of codes) run inside,
+                  lt-ltb (get_or starts run 0 + size - 1) (get_or starts (run + 1) 0) lt,
+                )
                 (sym (in_row codes (get_or starts run 0) (get_or starts (run + 1) 0) (size - 1) (omega arith)
-                    (omega arith) ∙ ap (λ (p : ℕ). let o : Option (List Bool) = Some (word_of (code_at codes p)) in
-                    o) same))
+                (omega arith) ∙ ap (λ (p : ℕ). let o : Option (List Bool) = Some (word_of (code_at codes p)) in
+                o) same))
             | inr le ↦
-                rw (lt-ltb (run + 1) (length starts) inside, row_is starts (map word_of codes) run inside,
-                    le-ltb (get_or starts run 0 + size - 1) (get_or starts (run + 1) 0) le)
+                rw (
+                  lt-ltb (run + 1) (length starts) inside,
+                  row_is starts (map word_of codes) run inside,
+                  le-ltb (get_or starts run 0 + size - 1) (get_or starts (run + 1) 0) le,
+                )
                 (sym (past_row (map word_of codes) (get_or starts run 0) (get_or starts (run + 1) 0) (size - 1)
-                    (omega arith)))
+                (omega arith)))
           ]
     ]
 
@@ -106,7 +112,7 @@ unfolding triple_text
 triple_placed last run size some =
     placed EVENTS (starts_of last) run size (in_bounds last) some
     ∙ ap (λ (rows : List (List (List Bool))). option_and_then (λ row. slice_get row (size - 1)) (slice_get rows run))
-        (sym (same_rows last))
+    (sym (same_rows last))
 
 -- a place is one of the table
 pub triple_below : (last : Bool) (run size p : ℕ) → place_in (starts_of last) run size ≡ Some p → p < 103
@@ -117,16 +123,20 @@ triple_below last run size p e =
           elim (cases_lt (get_or (starts_of last) run 0 + size - 1) (get_or (starts_of last) (run + 1) 0)) [
             | inl lt ↦
                 let is : place_in (starts_of last) run size ≡ Some (get_or (starts_of last) run 0 + size - 1) =
-                    rw (lt-ltb (run + 1) (length (starts_of last)) inside,
-                    lt-ltb (get_or (starts_of last) run 0 + size - 1) (get_or (starts_of last) (run + 1) 0) lt) refl in
+                rw (
+                  lt-ltb (run + 1) (length (starts_of last)) inside,
+                  lt-ltb (get_or (starts_of last) run 0 + size - 1) (get_or (starts_of last) (run + 1) 0) lt,
+                ) refl in
                 let same : get_or (starts_of last) run 0 + size - 1 ≡ p = some_is _ _ (sym is ∙ e) in
                 let bound : get_or (starts_of last) (run + 1) 0 < 103 = ends 103 (starts_of last) (run + 1)
-                    (in_bounds last) inside in
+                (in_bounds last) inside in
                 omega arith
             | inr le ↦
                 let is : place_in (starts_of last) run size
-                    ≡ None = rw (lt-ltb (run + 1) (length (starts_of last)) inside,
-                    le-ltb (get_or (starts_of last) run 0 + size - 1) (get_or (starts_of last) (run + 1) 0) le) refl in
+                ≡ None = rw (
+                  lt-ltb (run + 1) (length (starts_of last)) inside,
+                  le-ltb (get_or (starts_of last) run 0 + size - 1) (get_or (starts_of last) (run + 1) 0) le,
+                ) refl in
                 absurd (not_some p (sym is ∙ e))
           ]
     ]
@@ -143,10 +153,10 @@ pub event_word : (e : Coefficient) (n p : ℕ) → n ≡ size_of e.level → 0 <
 unfolding event_text
 event_word e n p same some at =
     let placed_at : place_in (starts_of e.last) e.run (size_of e.level)
-        ≡ Some p = sym (ap (place_in (starts_of e.last) e.run) same) ∙ at in
+    ≡ Some p = sym (ap (place_in (starts_of e.last) e.run) same) ∙ at in
     let text : triple_text e.last e.run (size_of e.level) ≡ Some (word_of (code_at EVENTS p)) =
     sym (triple_placed e.last e.run (size_of e.level) some)
-        ∙ ap (option_map (λ k. word_of (code_at EVENTS k))) placed_at in
+    ∙ ap (option_map (λ k. word_of (code_at EVENTS k))) placed_at in
     rw text refl
 
 -- and any other as an escape
@@ -155,10 +165,10 @@ pub event_escape : (e : Coefficient) (n : ℕ) → n ≡ size_of e.level → 0 <
 unfolding event_text
 event_escape e n same some at =
     let placed_at : place_in (starts_of e.last) e.run (size_of e.level)
-        ≡ None = sym (ap (place_in (starts_of e.last) e.run) same) ∙ at in
+    ≡ None = sym (ap (place_in (starts_of e.last) e.run) same) ∙ at in
     let text : triple_text e.last e.run (size_of e.level) ≡ None =
     sym (triple_placed e.last e.run (size_of e.level) some)
-        ∙ ap (option_map (λ k. word_of (code_at EVENTS k))) placed_at in
+    ∙ ap (option_map (λ k. word_of (code_at EVENTS k))) placed_at in
     rw text refl
 
 pub level_fits : (z : ℤ) → size_of z < 128 → SFits w8 z

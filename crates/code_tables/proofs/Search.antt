@@ -33,19 +33,20 @@ both_and false b p q = p
 begins_by_number : (word bits : List Bool) → begins word bits ≡ true → (length word ≤ length bits)
     × (number (take (length word) bits) ≡ number word)
 begins_by_number word bits e =
-    let parts = begins_parts word bits e in
-    (omega (arith, ap length parts, length-append word (drop (length word) bits)),
-        ap number (ap (take (length word)) parts ∙ take_at word (drop (length word) bits) (length word) refl))
+    let parts = begins_parts word bits e in (
+      omega (arith, ap length parts, length-append word (drop (length word) bits)),
+      ap number (ap (take (length word)) parts ∙ take_at word (drop (length word) bits) (length word) refl),
+    )
 
 begins_from_number : (word bits : List Bool) → length word ≤ length bits → number (take (length word) bits)
     ≡ number word → begins word bits ≡ true
 begins_from_number word bits le e =
     let len : length (take (length word) bits) ≡ length word = omega (arith, length-take (length word) bits) in
     let front : take (length word) bits ≡ word = sym (spelled-number (take (length word) bits))
-        ∙ ap (λ (k : ℕ). spelled k (number (take (length word) bits))) len ∙ ap (spelled (length word)) e
-        ∙ spelled-number word in
+    ∙ ap (λ (k : ℕ). spelled k (number (take (length word) bits))) len ∙ ap (spelled (length word)) e
+    ∙ spelled-number word in
     let whole : bits ≡ word ++ drop (length word) bits = sym (take-append-drop (length word) bits)
-        ∙ ap (λ (t : List Bool). t ++ drop (length word) bits) front in
+    ∙ ap (λ (t : List Bool). t ++ drop (length word) bits) front in
     ap (begins word) whole ∙ begins_itself word (drop (length word) bits)
 
 -- what the reader sees of the bits that are left
@@ -59,9 +60,9 @@ pub front_number : (bits : List Bool) (k n : ℕ) → k ≤ n → n ≤ length b
 front_number bits k n h l =
     let len : length (take n bits) ≡ n = omega (arith, length-take n bits) in
     let small : number (take n bits) < 2 ^ (k + (n - k)) = subst (λ (j : ℕ). number (take n bits) < 2 ^ j)
-        (omega (arith, len)) (number-lt (take n bits)) in
+    (omega (arith, len)) (number-lt (take n bits)) in
     ap number (sym (take-take k n bits h l)) ∙ number-middle (take n bits) 0 k (n - k) (omega (arith, len))
-        ∙ mod-eq_of_lt (shr_below (number (take n bits)) k (n - k) small)
+    ∙ mod-eq_of_lt (shr_below (number (take n bits)) k (n - k) small)
 
 number_of_code : (c : Code) → is_code c ≡ true → (c.len < 16) × (c.bits < 2 ^ c.len) × (number (word_of c) ≡ c.bits)
 number_of_code c e =
@@ -79,12 +80,12 @@ starts-begins c bits n seen ok s =
     let le = leb-true c.len n p.0 in
     begins_from_number (word_of c) bits (omega (arith, s.few, len))
     (ap (λ (k : ℕ). number (take k bits)) len ∙ front_number bits c.len n le (omega (arith, s.few))
-        ∙ ap (λ (v : ℕ). v / 2 ^ (n - c.len)) (sym s.value) ∙ eqb-true _ _ p.1 ∙ sym code.2))
+    ∙ ap (λ (v : ℕ). v / 2 ^ (n - c.len)) (sym s.value) ∙ eqb-true _ _ p.1 ∙ sym code.2))
     (λ e. let p = begins_by_number (word_of c) bits e in
     let le : c.len ≤ n = omega (arith, s.few, len, p.0, code.0) in
     both_and _ _ (le-leb c.len n le) (eq-eqb (seen / 2 ^ (n - c.len)) c.bits
-        (ap (λ (v : ℕ). v / 2 ^ (n - c.len)) s.value ∙ sym (front_number bits c.len n le (omega (arith, s.few)))
-        ∙ ap (λ (k : ℕ). number (take k bits)) (sym len) ∙ p.1 ∙ code.2)))
+    (ap (λ (v : ℕ). v / 2 ^ (n - c.len)) s.value ∙ sym (front_number bits c.len n le (omega (arith, s.few)))
+    ∙ ap (λ (k : ℕ). number (take k bits)) (sym len) ∙ p.1 ∙ code.2)))
 
 pub goes_on-begins : (c : Code) (bits : List Bool) (n seen : ℕ) → is_code c ≡ true → IsSeen bits n seen
     → goes_on_from seen n c ≡ begins bits (word_of c)
@@ -97,19 +98,19 @@ goes_on-begins c bits n seen ok s =
     let all : n ≡ length bits = omega (arith, s.few, code.0) in
     let front = front_number (word_of c) n c.len le (omega (arith, len)) in
     let whole : number (take c.len (word_of c)) ≡ c.bits = ap (λ (k : ℕ). number (take k (word_of c))) (sym len)
-        ∙ ap number (take-length (word_of c)) ∙ code.2 in
+    ∙ ap number (take-length (word_of c)) ∙ code.2 in
     begins_from_number bits (word_of c) (omega (arith, len))
     (ap (λ (k : ℕ). number (take k (word_of c))) (sym all) ∙ front ∙ ap (λ (v : ℕ). v / 2 ^ (c.len - n)) whole
-        ∙ eqb-true _ _ p.1 ∙ s.value ∙ ap (λ (k : ℕ). number (take k bits)) all ∙ ap number (take-length bits)))
+    ∙ eqb-true _ _ p.1 ∙ s.value ∙ ap (λ (k : ℕ). number (take k bits)) all ∙ ap number (take-length bits)))
     (λ e. let p = begins_by_number bits (word_of c) e in
     let all : n ≡ length bits = omega (arith, s.few, len, p.0, code.0) in
     let le : n ≤ c.len = omega (arith, p.0, len) in
     let front = front_number (word_of c) n c.len le (omega (arith, len)) in
     let whole : number (take c.len (word_of c)) ≡ c.bits = ap (λ (k : ℕ). number (take k (word_of c))) (sym len)
-        ∙ ap number (take-length (word_of c)) ∙ code.2 in
+    ∙ ap number (take-length (word_of c)) ∙ code.2 in
     both_and _ _ (le-leb n c.len le) (eq-eqb (c.bits / 2 ^ (c.len - n)) seen
     (ap (λ (v : ℕ). v / 2 ^ (c.len - n)) (sym whole) ∙ sym front ∙ ap (λ (k : ℕ). number (take k (word_of c))) all ∙ p.1
-        ∙ sym (s.value ∙ ap (λ (k : ℕ). number (take k bits)) all ∙ ap number (take-length bits)))))
+    ∙ sym (s.value ∙ ap (λ (k : ℕ). number (take k bits)) all ∙ ap number (take-length bits)))))
 
 -- ---- whole tables
 
@@ -147,13 +148,21 @@ place_some (c ∷ cs) k i bits n seen d ok s e =
     at_code true h e more =
         let same : k ≡ i = cc in
         let here : i - k ≡ 0 = omega (arith, same) in
-        record { from = omega (arith, same); within = omega (arith, same); word = rw (here, ← h, same) refl;
-            there = rw (here, ← h) refl }
+        record {
+          from = omega (arith, same);
+          within = omega (arith, same);
+          word = rw (here, ← h, same) refl;
+          there = rw (here, ← h) refl;
+        }
     at_code false h e more =
         let m = more e in
         let next : i - k ≡ suc (i - (k + 1)) = omega (arith, m.from) in
-        record { from = omega (arith, m.from); within = omega (arith, m.within); word = rw (next, ← h) (m.word);
-            there = rw next (m.there) }
+        record {
+          from = omega (arith, m.from);
+          within = omega (arith, m.within);
+          word = rw (next, ← h) (m.word);
+          there = rw next (m.there);
+        }
 
 pub any_begun : (cs : List Code) (k : ℕ) (bits : List Bool) (n seen : ℕ) → list_all is_code cs ≡ true
     → IsSeen bits n seen → list_any (goes_on_from seen n) cs ≡ is_cut (listed k cs) bits
@@ -169,7 +178,7 @@ unfolding first_place
 place_step cs seen n i d h =
     let e : suc i ≡ i + 1 = omega arith in
     ap (first_place seen n i) (drop-cons cs i d h)
-        ∙ ap (λ (j : ℕ). cond (starts seen n (get_or cs i d)) (Some i) (first_place seen n (i + 1) (drop j cs))) e
+    ∙ ap (λ (j : ℕ). cond (starts seen n (get_or cs i d)) (Some i) (first_place seen n (i + 1) (drop j cs))) e
 
 -- the code that stands at a place of the list is the word that is read
 pub word_found : (cs : List Code) (i : ℕ) (b : Bits) (d : Code) → StandsAt cs 0 i b.bits d → word_at (listed 0 cs) b
@@ -178,13 +187,13 @@ unfolding word_at
 word_found cs i b d s =
     let e : i - 0 ≡ i = omega arith in
     let len : length (word_of (get_or cs (i - 0) d)) ≡ (get_or cs i d).len =
-        ap (λ (j : ℕ). length (word_of (get_or cs j d))) e ∙ length-spelled (get_or cs i d).len (get_or cs i d).bits in
+    ap (λ (j : ℕ). length (word_of (get_or cs j d))) e ∙ length-spelled (get_or cs i d).len (get_or cs i d).bits in
     rw (s.word, len) refl
 
 pub word_cut : (cs : List Code) (b : Bits) (n seen : ℕ) → list_all is_code cs ≡ true → IsSeen b.bits n seen
     → first_place seen n 0 cs ≡ None
     → word_at (listed 0 cs) b ≡ cond (list_any (goes_on_from seen n) cs) (Err (record { kind = Ended; at = b.at }))
-        (Err (record { kind = BadCode; at = b.at }))
+    (Err (record { kind = BadCode; at = b.at }))
 unfolding word_at
 word_cut cs b n seen ok s e = rw (place_none cs 0 b.bits n seen ok s e, any_begun cs 0 b.bits n seen ok s) refl
 
@@ -193,8 +202,8 @@ pub fits_in : (cs : List Code) (i : ℕ) (bits : List Bool) (d : Code) → Stand
     → (get_or cs i d).len ≤ length bits
 fits_in cs i bits d s =
     let le : length (word_of (get_or cs i d)) ≤ length bits =
-        subst (λ (j : ℕ). length (word_of (get_or cs j d)) ≤ length bits) (omega arith)
-        (begins_by_number _ bits s.there).0 in
+    subst (λ (j : ℕ). length (word_of (get_or cs j d)) ≤ length bits) (omega arith)
+    (begins_by_number _ bits s.there).0 in
     omega (arith, le, length-spelled (get_or cs i d).len (get_or cs i d).bits)
 
 -- ---- the tables for the first bits of words
@@ -206,8 +215,8 @@ named_at codes width front zero (k ∷ ks) e h =
     rw (add-zero front) (and_both (names codes width front k) (are_named codes width (front + 1) ks) e).0
 named_at codes width front (suc i) (k ∷ ks) e h =
     let m : names codes width (front + 1 + i) (get_or ks i 0)
-        ≡ true = named_at codes width (front + 1) i ks (and_both (names codes width front k)
-        (are_named codes width (front + 1) ks) e).1 (omega arith) in
+    ≡ true = named_at codes width (front + 1) i ks (and_both (names codes width front k)
+    (are_named codes width (front + 1) ks) e).1 (omega arith) in
     subst (λ (f : ℕ). names codes width f (get_or ks i 0) ≡ true) (omega arith) m
 
 named : (b : Bool) (a : Bool) → (a || b) ≡ true → a ≡ false → b ≡ true
@@ -221,7 +230,7 @@ listed_in (c ∷ cs) k zero d h = inl (ap (λ (j : ℕ). (word_of c, j)) (sym (a
 listed_in (c ∷ cs) k (suc i) d h =
     let e : k + 1 + i ≡ k + suc i = omega arith in
     inr (subst (λ (j : ℕ). IsIn (word_of (get_or cs i d), j) (listed (k + 1) cs)) e
-        (listed_in cs (k + 1) i d (omega arith)))
+    (listed_in cs (k + 1) i d (omega arith)))
 
 code_ok : (cs : List Code) (i : ℕ) → list_all is_code cs ≡ true → i < length cs
     → is_code (get_or cs i (record { bits = 0; len = 0 })) ≡ true
@@ -237,8 +246,8 @@ pub starts_there : (codes : List Code) (width seen : ℕ) (ks : List ℕ) → ar
     → seen < length ks → get_or ks seen 0 < length codes → starts seen width (code_at codes (get_or ks seen 0)) ≡ true
 starts_there codes width seen ks all h lt =
     let yes : names codes width seen (get_or ks seen 0)
-        ≡ true = subst (λ (j : ℕ). names codes width j (get_or ks seen 0) ≡ true) (zero-add seen)
-        (named_at codes width 0 seen ks all h) in
+    ≡ true = subst (λ (j : ℕ). names codes width j (get_or ks seen 0) ≡ true) (zero-add seen)
+    (named_at codes width 0 seen ks all h) in
     named _ _ yes (lt-leb-false (length codes) (get_or ks seen 0) lt)
 
 -- a code that begins the first bits of some bits begins them all
@@ -248,7 +257,7 @@ starts_more c seen k more e =
     let le = leb-true c.len k p.0 in
     let far : more + (k - c.len) ≡ k + more - c.len = omega arith in
     both_and _ _ (le-leb c.len (k + more) (omega arith)) (eq-eqb (seen / 2 ^ (k + more - c.len)) c.bits
-        (ap (λ (j : ℕ). seen / 2 ^ j) (sym far) ∙ sym (shr-shr seen more (k - c.len)) ∙ eqb-true _ _ p.1))
+    (ap (λ (j : ℕ). seen / 2 ^ j) (sym far) ∙ sym (shr-shr seen more (k - c.len)) ∙ eqb-true _ _ p.1))
 
 -- No word begins another, so the code that the next bits begin with is the word that is read.
 pub named_stands : (codes : List Code) (bits : List Bool) (n seen k : ℕ) → list_all is_code codes ≡ true
@@ -262,18 +271,21 @@ named_stands codes bits n seen k ok apart enough e lt there =
     let len : length (word_of code) ≡ code.len = length-spelled code.len code.bits in
     let begin : begins (word_of code) bits ≡ true = begins_from_number (word_of code) bits (omega (arith, len))
     (ap (λ (j : ℕ). number (take j bits)) len ∙ front_number bits code.len n le enough
-        ∙ ap (λ (v : ℕ). v / 2 ^ (n - code.len)) (sym e) ∙ eqb-true _ _ p.1 ∙ sym c.2) in
+    ∙ ap (λ (v : ℕ). v / 2 ^ (n - code.len)) (sym e) ∙ eqb-true _ _ p.1 ∙ sym c.2) in
     let word : found (listed 0 codes) bits ≡ Some (word_of code, k) = ap (found (listed 0 codes))
-        (begins_parts (word_of code) bits begin)
-        ∙ found_again (listed 0 codes) (word_of code, k) (drop (length (word_of code)) bits) apart
-        (subst (λ (j : ℕ). IsIn (word_of code, j) (listed 0 codes)) (zero-add k)
-        (listed_in codes 0 k (record { bits = 0; len = 0 }) lt)) in
+    (begins_parts (word_of code) bits begin)
+    ∙ found_again (listed 0 codes) (word_of code, k) (drop (length (word_of code)) bits) apart
+    (subst (λ (j : ℕ). IsIn (word_of code, j) (listed 0 codes)) (zero-add k)
+    (listed_in codes 0 k (record { bits = 0; len = 0 }) lt)) in
     let z : k ≡ k - 0 = omega arith in
-    record { from = omega arith; within = omega (arith, lt);
-        word = subst (λ (j : ℕ). found (listed 0 codes) bits
-        ≡ Some (word_of (get_or codes j (record { bits = 0; len = 0 })), k)) z word;
-        there = subst (λ (j : ℕ). begins (word_of (get_or codes j (record { bits = 0; len = 0 }))) bits
-        ≡ true) z begin }
+    record {
+      from = omega arith;
+      within = omega (arith, lt);
+      word = subst (λ (j : ℕ). found (listed 0 codes) bits
+          ≡ Some (word_of (get_or codes j (record { bits = 0; len = 0 })), k)) z word;
+      there = subst (λ (j : ℕ). begins (word_of (get_or codes j (record { bits = 0; len = 0 }))) bits
+          ≡ true) z begin;
+    }
 
 -- a table that stands for something else
 pub found-map : {S T : Type 0} (f : S → T) (words : List (List Bool × S)) (bits : List Bool)
@@ -285,7 +297,7 @@ found-map {S} {T} f (w ∷ words) bits = at_word (begins w.0 bits) (found-map f 
     at_word : (b : Bool) → found (map (λ w. (w.0, f w.1)) words) bits ≡ option_map (λ (w : List Bool × S). (w.0, f w.1))
         (found words bits)
         → cond b (Some (w.0, f w.1)) (found (map (λ w. (w.0, f w.1)) words) bits)
-            ≡ option_map (λ (w : List Bool × S). (w.0, f w.1)) (cond b (Some w) (found words bits))
+        ≡ option_map (λ (w : List Bool × S). (w.0, f w.1)) (cond b (Some w) (found words bits))
     at_word true h = refl
     at_word false h = h
 

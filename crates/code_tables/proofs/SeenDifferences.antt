@@ -35,7 +35,7 @@ pub magnitude_in : (seen place len : ℕ) → place < 33 → starts (seen / 2 ^ 
     → len ≡ (code_at MAGNITUDES place).len → IsMagnitudeIn seen place len
 magnitude_in seen place len lt there many b enough is =
     let twelve : seen / 2 ^ 1 ≡ number (take 12 b.bits) = sym (front_number b.bits 12 13 (omega arith) enough
-        ∙ ap (λ (v : ℕ). v / 2 ^ 1) is) in
+    ∙ ap (λ (v : ℕ). v / 2 ^ 1) is) in
     let stands = named_stands MAGNITUDES b.bits 12 (seen / 2 ^ 1) place all_codes apart (omega arith) twelve lt there in
     rw (many, same_words) (word_found MAGNITUDES place b none stands)
 
@@ -46,7 +46,7 @@ unfolding number_at
 sign_there b len seen le enough is =
     let long = le-ltb (length (drop len b.bits)) 1 (omega (arith, length-drop len b.bits)) in
     let value : number (take 1 (drop len b.bits)) ≡ seen / 2 ^ (12 - len) % 2 = field_in b.bits len 1 (12 - len) 13
-        (omega arith) enough ∙ ap (λ (v : ℕ). v / 2 ^ (12 - len) % 2) is in
+    (omega arith) enough ∙ ap (λ (v : ℕ). v / 2 ^ (12 - len) % 2) is in
     rw (long, value) (ap (λ (c : Bits). Ok (seen / 2 ^ (12 - len) % 2, c)) (skip-skip len 1 b))
 
 -- 0 has no sign
@@ -77,7 +77,7 @@ signed_parts : (b : Bits) (seen size len : ℕ) → len ≤ 12 → (size ≡ 0 �
 unfolding reading mvd_parts magnitude_table
 signed_parts b seen size len short some word enough is =
     rw (word b enough is) (after_size (size == 0) size (seen / 2 ^ (12 - len) % 2) (skip len b) (skip (len + 1) b)
-        (ne_eqb size 0 some) (sign_there b len seen short enough is))
+    (ne_eqb size 0 some) (sign_there b len seen short enough is))
 
 -- a difference is read where its parts are, and it isn't refused
 difference_read : (b c : Bits) (v : ℤ) → reading mvd_parts b ≡ Ok (v, c) → allowed_difference v ≡ None
@@ -92,4 +92,4 @@ pub signed_read : (b : Bits) (seen size len : ℕ) (z : ℤ) → len ≤ 12 → 
 signed_read b seen size len z short small some word enough is value =
     let sign = seen / 2 ^ (12 - len) % 2 in
     rw value (difference_read b (skip (len + 1) b) (signed sign size)
-        (signed_parts b seen size len short some word enough is) (allowed_below sign size small))
+    (signed_parts b seen size len short some word enough is) (allowed_below sign size small))

@@ -65,7 +65,7 @@ field_in bits o n s m e le =
     let parts : m ≡ o + (n + s) = omega arith in
     let inside : take n (drop o (take m bits)) ≡ take n (drop o bits) =
     ap (λ (j : ℕ). take n (drop o (take j bits))) parts ∙ ap (take n) (drop-take o (n + s) bits)
-        ∙ take-take n (n + s) (drop o bits) (omega arith) (omega (arith, length-drop o bits)) in
+    ∙ take-take n (n + s) (drop o bits) (omega arith) (omega (arith, length-drop o bits)) in
     ap number (sym inside) ∙ number-middle (take m bits) o n s (omega (arith, len))
 
 pub skip-skip : (j k : ℕ) (b : Bits) → skip k (skip j b) ≡ skip (j + k) b
@@ -80,7 +80,7 @@ unfolding number_at
 field_there b n o k s seen e le is =
     let enough = le-ltb (length (drop o b.bits)) k (omega (arith, length-drop o b.bits)) in
     let value : number (take k (drop o b.bits)) ≡ seen / 2 ^ s % 2 ^ k = field_in b.bits o k s n e le
-        ∙ ap (λ (v : ℕ). v / 2 ^ s % 2 ^ k) is in
+    ∙ ap (λ (v : ℕ). v / 2 ^ s % 2 ^ k) is in
     rw (enough, value) (ap (λ (c : Bits). Ok (seen / 2 ^ s % 2 ^ k, c)) (skip-skip o k b))
 
 all_codes : list_all is_code EVENTS ≡ true
@@ -98,9 +98,9 @@ pub named_word : (n seen place : ℕ) → 12 ≤ n → place < 103 → starts (s
     ≡ true → IsWordIn n seen (event_at place) (code_at EVENTS place).len
 named_word n seen place le lt there b enough is =
     let twelve : seen / 2 ^ (n - 12) ≡ number (take 12 b.bits) = sym (front_number b.bits 12 n le enough
-        ∙ ap (λ (v : ℕ). v / 2 ^ (n - 12)) is) in
+    ∙ ap (λ (v : ℕ). v / 2 ^ (n - 12)) is) in
     let stands = named_stands EVENTS b.bits 12 (seen / 2 ^ (n - 12)) place all_codes apart (omega arith) twelve lt there
-        in
+    in
     found b (skip (code_at EVENTS place).len b) place (event_at place) (word_found EVENTS place b none stands) refl
 
 pub word_short : (seen : ℕ) (c : Code) → starts seen 12 c ≡ true → c.len ≤ 12
@@ -137,22 +137,24 @@ pub word_read : (b : Bits) (e : Event) (len seen : ℕ) (z : ℤ) → len ≤ 12
 unfolding reading event_parts event_table
 word_read b e len seen z short word enough is value =
     let sign : number_at 1 (skip len b) ≡ Ok (seen / 2 ^ (12 - len) % 2, skip (len + 1) b) =
-        field_there b 13 len 1 (12 - len) seen (omega arith) enough is in
+    field_there b 13 len 1 (12 - len) seen (omega arith) enough is in
     rw (word b enough is, sign, value) refl
 
 -- the escape and its fields
 pub escape_read : (b : Bits) (seen : ℕ) (z : ℤ) → IsWordIn 22 seen None 7 → (seen % 256 ≡ 0 → ⊥)
     → (seen % 256 ≡ 128 → ⊥) → 22 ≤ length b.bits → number (take 22 b.bits) ≡ seen → z ≡ level_of (seen % 256)
-    → reading event_parts b ≡ Ok (record { last = eqb (seen / 2 ^ 14 % 2) 1; run = seen / 2 ^ 8 % 64; level = z },
-        skip 22 b)
+    → reading event_parts b ≡ Ok (
+      record { last = eqb (seen / 2 ^ 14 % 2) 1; run = seen / 2 ^ 8 % 64; level = z },
+      skip 22 b,
+    )
 unfolding reading event_parts event_table
 escape_read b seen z word some great enough is value =
     let last : number_at 1 (skip 7 b) ≡ Ok (seen / 2 ^ 14 % 2, skip 8 b) = field_there b 22 7 1 14 seen
-        refl enough is in
+    refl enough is in
     let run : number_at 6 (skip 8 b) ≡ Ok (seen / 2 ^ 8 % 64, skip 14 b) = field_there b 22 8 6 8 seen refl enough is in
     let whole : seen / 2 ^ 0 ≡ seen = omega arith in
     let level : number_at 8 (skip 14 b) ≡ Ok (seen % 256, skip 22 b) = field_there b 22 14 8 0 seen refl enough is
-        ∙ ap (λ (v : ℕ). Ok (v % 256, skip 22 b)) whole in
+    ∙ ap (λ (v : ℕ). Ok (v % 256, skip 22 b)) whole in
     rw (word b enough is, last, run, level, ne_eqb (seen % 256) 0 some, ne_eqb (seen % 256) 128 great, value) refl
 
 -- an event is read where its parts are

@@ -75,7 +75,7 @@ unfolding mvd_text
 no_difference v n same none =
     magnitude_text n (omega (arith, none)) ∙ ap (text_at magnitude_texts) same
     ∙ sym (append-nil (text_at magnitude_texts (size_of v)))
-        ∙ ap (λ (t : List Bool). text_at magnitude_texts (size_of v) ++ t) (sym (no_sign v (sym same ∙ none)))
+    ∙ ap (λ (t : List Bool). text_at magnitude_texts (size_of v) ++ t) (sym (no_sign v (sym same ∙ none)))
 
 pub signed_difference : (v : ℤ) (n : ℕ) → n ≡ size_of v → 0 < n → n < 33 → word_of (code_at MAGNITUDES n)
     ++ int_lt v (pos 0) ∷ [] ≡ mvd_text v
@@ -93,17 +93,17 @@ size_below (negsuc n) low high = omega (arith, ints)
 
 escape_text : (last run byte : ℕ) → last < 2 → run < 64 → byte < 256
     → spelled 22 (((6 + last) * 64 + run) * 256 + byte) ≡ spelled 7 3
-        ++ (spelled 1 last ++ (spelled 6 run ++ (spelled 8 byte ++ [])))
+    ++ (spelled 1 last ++ (spelled 6 run ++ (spelled 8 byte ++ [])))
 escape_text last run byte l r b =
     let same : ((6 + last) * 64 + run) * 256 + byte ≡ ((3 * 2 ^ 1 + last) * 2 ^ 6 + run) * 2 ^ 8 + byte = omega arith in
     ap (spelled 22) same
     ∙ spelled-append 14 8 ((3 * 2 ^ 1 + last) * 2 ^ 6 + run) byte (omega arith)
     ∙ ap (λ (t : List Bool). t ++ spelled 8 byte) (spelled-append 8 6 (3 * 2 ^ 1 + last) run (omega arith)
-        ∙ ap (λ (t : List Bool). t ++ spelled 6 run) (spelled-append 7 1 3 last (omega arith)))
+    ∙ ap (λ (t : List Bool). t ++ spelled 6 run) (spelled-append 7 1 3 last (omega arith)))
     ∙ append_assoc (spelled 7 3 ++ spelled 1 last) (spelled 6 run) (spelled 8 byte)
     ∙ append_assoc (spelled 7 3) (spelled 1 last) (spelled 6 run ++ spelled 8 byte)
     ∙ ap (λ (t : List Bool). spelled 7 3 ++ (spelled 1 last ++ (spelled 6 run ++ t)))
-        (sym (append-nil (spelled 8 byte)))
+    (sym (append-nil (spelled 8 byte)))
 
 -- the four fields of an escape are the bits of one number
 pub escape_is : (last : Bool) (run byte : ℕ) → run < 64 → byte < 256

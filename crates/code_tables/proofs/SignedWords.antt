@@ -46,14 +46,20 @@ unfolding spelled
 signed_in [] n size w sign h lt last = absurd h
 signed_in (t ∷ []) n size w zero (inl same) lt last = let e : n ≡ size = ap (λ (p : List Bool × ℕ). p.1) same in
     absurd (omega (arith, e, last refl))
-signed_in (t ∷ []) n size w (suc zero) (inl same) lt last = subst (λ (u : List Bool × ℕ). IsIn (u.0 ++ true ∷ [],
-    neg_ℤ (pos u.1)) (with_signs n (t ∷ []))) same (inl refl)
+signed_in (t ∷ []) n size w (suc zero) (inl same) lt last = subst (λ (u : List Bool × ℕ). IsIn (
+  u.0 ++ true ∷ [],
+  neg_ℤ (pos u.1),
+) (with_signs n (t ∷ []))) same (inl refl)
 signed_in (t ∷ []) n size w (suc (suc k)) (inl same) lt last = absurd (omega arith)
 signed_in (t ∷ []) n size w sign (inr h) lt last = absurd h
-signed_in (t ∷ v ∷ ts) n size w zero (inl same) lt last = subst (λ (u : List Bool × ℕ). IsIn (u.0 ++ false ∷ [],
-    pos u.1) (with_signs n (t ∷ v ∷ ts))) same (inl refl)
-signed_in (t ∷ v ∷ ts) n size w (suc zero) (inl same) lt last = subst (λ (u : List Bool × ℕ). IsIn (u.0 ++ true ∷ [],
-    neg_ℤ (pos u.1)) (with_signs n (t ∷ v ∷ ts))) same (inr (inl refl))
+signed_in (t ∷ v ∷ ts) n size w zero (inl same) lt last = subst (λ (u : List Bool × ℕ). IsIn (
+  u.0 ++ false ∷ [],
+  pos u.1,
+) (with_signs n (t ∷ v ∷ ts))) same (inl refl)
+signed_in (t ∷ v ∷ ts) n size w (suc zero) (inl same) lt last = subst (λ (u : List Bool × ℕ). IsIn (
+  u.0 ++ true ∷ [],
+  neg_ℤ (pos u.1),
+) (with_signs n (t ∷ v ∷ ts))) same (inr (inl refl))
 signed_in (t ∷ v ∷ ts) n size w (suc (suc k)) (inl same) lt last = absurd (omega arith)
 signed_in (t ∷ v ∷ ts) n size w sign (inr h) lt last =
     inr (inr (signed_in (v ∷ ts) (suc n) size w sign h lt (λ z. omega (arith, last z))))
@@ -69,13 +75,28 @@ pub record HasMagnitude (texts : List (List Bool)) (n : ℕ) (w : List Bool) : T
 magnitude_in : (texts : List (List Bool)) (n : ℕ) (w : List Bool) (x : ℤ) → IsIn (w, x) (with_signs n texts)
     → HasMagnitude texts n w
 magnitude_in [] n w x h = absurd h
-magnitude_in (t ∷ []) n w x (inl same) = record { word = t; size = n; sign = true ∷ []; listed = inl refl;
-    parts = sym (ap (λ (p : List Bool × ℤ). p.0) same) }
+magnitude_in (t ∷ []) n w x (inl same) = record {
+  word = t;
+  size = n;
+  sign = true ∷ [];
+  listed = inl refl;
+  parts = sym (ap (λ (p : List Bool × ℤ). p.0) same);
+}
 magnitude_in (t ∷ []) n w x (inr h) = absurd h
-magnitude_in (t ∷ v ∷ ts) n w x (inl same) = record { word = t; size = n; sign = false ∷ []; listed = inl refl;
-    parts = sym (ap (λ (p : List Bool × ℤ). p.0) same) }
-magnitude_in (t ∷ v ∷ ts) n w x (inr (inl same)) = record { word = t; size = n; sign = true ∷ []; listed = inl refl;
-    parts = sym (ap (λ (p : List Bool × ℤ). p.0) same) }
+magnitude_in (t ∷ v ∷ ts) n w x (inl same) = record {
+  word = t;
+  size = n;
+  sign = false ∷ [];
+  listed = inl refl;
+  parts = sym (ap (λ (p : List Bool × ℤ). p.0) same);
+}
+magnitude_in (t ∷ v ∷ ts) n w x (inr (inl same)) = record {
+  word = t;
+  size = n;
+  sign = true ∷ [];
+  listed = inl refl;
+  parts = sym (ap (λ (p : List Bool × ℤ). p.0) same);
+}
 magnitude_in (t ∷ v ∷ ts) n w x (inr (inr h)) =
     let m = magnitude_in (v ∷ ts) (suc n) w x h in
     record { word = m.word; size = m.size; sign = m.sign; listed = inr m.listed; parts = m.parts }
@@ -86,8 +107,10 @@ magnitude_in (t ∷ v ∷ ts) n w x (inr (inr h)) =
 first_or : (w : List Bool) (size : ℕ) → IsIn (w, size) magnitude_words → ((w ≡ word "1") × (size ≡ 0))
     ⊎ IsIn (w, size) (from_number 1 (drop 1 magnitude_texts))
 unfolding magnitude_words magnitude_texts
-first_or w size (inl same) = inl (sym (ap (λ (p : List Bool × ℕ). p.0) same),
-    sym (ap (λ (p : List Bool × ℕ). p.1) same))
+first_or w size (inl same) = inl (
+  sym (ap (λ (p : List Bool × ℕ). p.0) same),
+  sym (ap (λ (p : List Bool × ℕ). p.1) same),
+)
 first_or w size (inr h) = inr h
 
 many : length (drop 1 magnitude_texts) ≡ 32
@@ -116,16 +139,29 @@ grown w size h = at (first_or w size h)
   where
     at : ((w ≡ word "1") × (size ≡ 0)) ⊎ IsIn (w, size) (from_number 1 (drop 1 magnitude_texts))
         → (sign : List Bool) × Signed (w ++ sign)
-    at (inl z) = ([], (pos 0, subst (λ (u : List Bool). IsIn (u, pos 0) mvd_words) (sym z.0
-        ∙ sym (append-nil w)) zero_in))
-    at (inr i) = (spelled 1 1,
-        (signed 1 size, with_sign_in w size 1 i (omega arith) (λ z e. absurd (omega (arith, z)))))
+    at (inl z) = (
+      [],
+      (
+        pos 0,
+        subst (λ (u : List Bool). IsIn (u, pos 0) mvd_words) (sym z.0
+            ∙ sym (append-nil w)) zero_in,
+      ),
+    )
+    at (inr i) = (
+      spelled 1 1,
+      (signed 1 size, with_sign_in w size 1 i (omega arith) (λ z e. absurd (omega (arith, z)))),
+    )
 
 -- and each word begins with a magnitude
 shrunk : (w : List Bool) (x : ℤ) → IsIn (w, x) mvd_words → HasMagnitude magnitude_texts 0 w
 unfolding mvd_words magnitude_words magnitude_texts
-shrunk w x (inl same) = record { word = word "1"; size = 0; sign = []; listed = inl refl;
-    parts = sym (ap (λ (p : List Bool × ℤ). p.0) same) }
+shrunk w x (inl same) = record {
+  word = word "1";
+  size = 0;
+  sign = [];
+  listed = inl refl;
+  parts = sym (ap (λ (p : List Bool × ℤ). p.0) same);
+}
 shrunk w x (inr h) =
     let m = magnitude_in (drop 1 magnitude_texts) 1 w x h in
     record { word = m.word; size = m.size; sign = m.sign; listed = inr m.listed; parts = m.parts }
@@ -152,13 +188,13 @@ sign_in w size x rest i h free =
     let sign = h.0 in
     let x-is : x ≡ signed sign size = h.5.0 in
     let rest-is : rest ≡ spelled 1 sign = h.4 ∙ ap (λ (t : List Bool). spelled 1 sign ++ t) h.5.1
-        ∙ append-nil (spelled 1 sign) in
+    ∙ append-nil (spelled 1 sign) in
     let free-is : allowed_difference (signed sign size) ≡ None = ap allowed_difference (sym x-is) ∙ free in
     let below : sign ≡ 0 → size ≡ 32 → ⊥ = λ z. not_32 size (ap (λ (k : ℕ). allowed_difference (signed k size)) (sym z)
-        ∙ free-is) in
+    ∙ free-is) in
     let got : IsIn (w ++ spelled 1 sign, signed sign size) mvd_words = with_sign_in w size sign i h.2 below in
     subst (λ (t : List Bool). IsIn (w ++ t, x) mvd_words) (sym rest-is)
-        (subst (λ (z : ℤ). IsIn (w ++ spelled 1 sign, z) mvd_words) (sym x-is) got)
+    (subst (λ (z : ℤ). IsIn (w ++ spelled 1 sign, z) mvd_words) (sym x-is) got)
 
 parts_in : (x : ℤ) (text : List Bool) → Spells mvd_parts x text → allowed_difference x ≡ None → IsIn (text, x) mvd_words
 unfolding Spells mvd_parts magnitude_table signs
@@ -168,11 +204,11 @@ parts_in x text h free = subst (λ (t : List Bool). IsIn (t, x) mvd_words) (sym 
         → IsIn (h.0 ++ h.2, x) mvd_words
     at (inl z) =
         let end : Spells (either true (done (pos 0)) (signs h.1)) x h.2 =
-            subst (λ (k : ℕ). Spells (either (eqb k 0) (done (pos 0)) (signs h.1)) x h.2) z.1 h.5 in
+        subst (λ (k : ℕ). Spells (either (eqb k 0) (done (pos 0)) (signs h.1)) x h.2) z.1 h.5 in
         let whole : word "1" ≡ h.0 ++ h.2 = sym z.0 ∙ sym (append-nil h.0)
-            ∙ ap (λ (t : List Bool). h.0 ++ t) (sym end.1) in
+        ∙ ap (λ (t : List Bool). h.0 ++ t) (sym end.1) in
         subst (λ (t : List Bool). IsIn (t, x) mvd_words) whole (subst (λ (v : ℤ). IsIn (word "1", v) mvd_words)
-            (sym end.0) zero_in)
+        (sym end.0) zero_in)
     at (inr i) =
         let m = from_on (drop 1 magnitude_texts) 1 h.1 h.0 i in
         let some : eqb h.1 0 ≡ false = ne_eqb h.1 0 (λ e. omega (arith, e, m.0)) in
@@ -184,7 +220,7 @@ mvd_in value text h =
     let whole : text ≡ h.1 = h.3 ∙ ap (λ (t : List Bool). h.1 ++ t) h.6.1 ∙ append-nil h.1 in
     let got : IsIn (h.1, h.0) mvd_words = parts_in h.0 h.1 h.4 h.5 in
     subst (λ (t : List Bool). IsIn (t, value) mvd_words) (sym whole) (subst (λ (z : ℤ). IsIn (h.1, z) mvd_words)
-        (sym h.6.0) got)
+    (sym h.6.0) got)
 
 -- ---- what is no word, or is cut
 
@@ -193,8 +229,17 @@ of_magnitude : (left : List Bool) (kind : FaultKind) → IsWordFault (λ w. IsWo
 of_magnitude left kind (inl f) =
     let cut = f.0 in
     let g = grown cut.0 cut.3.0 cut.3.1 in
-    inl ((cut.0 ++ g.0, cut.1, cut.2 ++ g.0, g.1, ap (λ (t : List Bool). t ++ g.0) cut.4
-        ∙ append_assoc left (cut.1 ∷ cut.2) g.0), f.1)
+    inl (
+      (
+        cut.0 ++ g.0,
+        cut.1,
+        cut.2 ++ g.0,
+        g.1,
+        ap (λ (t : List Bool). t ++ g.0) cut.4
+            ∙ append_assoc left (cut.1 ∷ cut.2) g.0,
+      ),
+      f.1,
+    )
 of_magnitude left kind (inr f) = inr (λ w is. none w (shrunk w is.0 is.1), f.1)
   where
     none : (w : List Bool) → HasMagnitude magnitude_texts 0 w → ((rest : List Bool) → left ≡ w ++ rest → ⊥)
@@ -205,7 +250,7 @@ of_magnitude left kind (inr f) = inr (λ w is. none w (shrunk w is.0 is.1), f.1)
               ∙ append_assoc m.word m.sign rest),
           λ more whole.
               elim (both_begin m.word left more (ap (begins m.word) (sym whole ∙ m.parts)
-                  ∙ begins_itself m.word m.sign)) [
+              ∙ begins_itself m.word m.sign)) [
                 | inl h ↦ two.0 (drop (length m.word) left) (begins_parts m.word left h)
                 | inr h ↦ two.1 (drop (length left) m.word) (begins_parts left m.word h)
               ],
@@ -226,11 +271,13 @@ sign_cut w size rest left kind i (inl f) = at f.1
     at (inl g) =
         let rest-is : w ++ rest ≡ w = ap (λ (t : List Bool). w ++ t) f.0 ∙ append-nil w in
         let whole : (w ++ rest) ++ left ≡ w = ap (λ (t : List Bool). t ++ left) rest-is
-            ∙ ap (λ (t : List Bool). w ++ t) (nothing left g.0) ∙ append-nil w in
-        let is : Signed (w ++ spelled 1 1) = (signed 1 size,
-            with_sign_in w size 1 i (omega arith) (λ z e. absurd (omega (arith, z)))) in
+        ∙ ap (λ (t : List Bool). w ++ t) (nothing left g.0) ∙ append-nil w in
+        let is : Signed (w ++ spelled 1 1) = (
+          signed 1 size,
+          with_sign_in w size 1 i (omega arith) (λ z e. absurd (omega (arith, z))),
+        ) in
         let cut : w ++ spelled 1 1 ≡ ((w ++ rest) ++ left) ++ true ∷ [] = ap (λ (t : List Bool). w ++ t) minus
-            ∙ ap (λ (t : List Bool). t ++ true ∷ []) (sym whole) in
+        ∙ ap (λ (t : List Bool). t ++ true ∷ []) (sym whole) in
         inl ((w ++ spelled 1 1, true, [], is, cut), g.1)
     at (inr g) = absurd cc
 sign_cut w size rest left kind i (inr f) = absurd f.5
@@ -250,7 +297,7 @@ parts_fault inner left kind (inr f) = subst (λ (t : List Bool). IsWordFault (λ
         let m = from_on (drop 1 magnitude_texts) 1 f.1 f.0 i in
         let some : eqb f.1 0 ≡ false = ne_eqb f.1 0 (λ e. omega (arith, e, m.0)) in
         sign_cut f.0 f.1 f.2 left kind i
-            (subst (λ (t : Bool). Faults (either t (done (pos 0)) (signs f.1)) f.2 left kind) some f.5)
+        (subst (λ (t : Bool). Faults (either t (done (pos 0)) (signs f.1)) f.2 left kind) some f.5)
 
 -- 32 with plus, whatever follows
 plus_32 : List Bool
@@ -289,41 +336,48 @@ text_32 text h = at (first_or h.0 h.1 h.3)
     at : ((h.0 ≡ word "1") × (h.1 ≡ 0)) ⊎ IsIn (h.0, h.1) (from_number 1 (drop 1 magnitude_texts)) → text ≡ plus_32
     at (inl z) =
         let end : Spells (either true (done (pos 0)) (signs h.1)) (pos 32) h.2 =
-            subst (λ (k : ℕ). Spells (either (eqb k 0) (done (pos 0)) (signs h.1)) (pos 32) h.2) z.1 h.5 in
+        subst (λ (k : ℕ). Spells (either (eqb k 0) (done (pos 0)) (signs h.1)) (pos 32) h.2) z.1 h.5 in
         absurd (let zero_is : pos 32 ≡ pos 0 = end.0 in cc)
     at (inr i) =
         let m = from_on (drop 1 magnitude_texts) 1 h.1 h.0 i in
         let some : eqb h.1 0 ≡ false = ne_eqb h.1 0 (λ e. omega (arith, e, m.0)) in
         let end : Spells (signs h.1) (pos 32) h.2 = subst (λ (t : Bool). Spells (either t (done (pos 0)) (signs h.1))
-            (pos 32) h.2) some h.5 in
+        (pos 32) h.2) some h.5 in
         let both = signed_32 end.0 h.1 end.2 end.5.0 (omega (arith, m.0)) in
         let front : h.0 ≡ word "000000000010" = text_of (drop 1 magnitude_texts) 1 31 h.1 h.0 i (omega (arith, both.1))
-            ∙ word_32 in
+        ∙ word_32 in
         let back : h.2 ≡ spelled 1 0 = end.4 ∙ ap (λ (t : List Bool). spelled 1 end.0 ++ t) end.5.1
-            ∙ append-nil (spelled 1 end.0) ∙ ap (λ (k : ℕ). spelled 1 k) both.0 in
+        ∙ append-nil (spelled 1 end.0) ∙ ap (λ (k : ℕ). spelled 1 k) both.0 in
         h.4 ∙ ap (λ (t : List Bool). t ++ h.2) front ∙ ap (λ (t : List Bool). word "000000000010" ++ t) (back ∙ plus)
 
 mvd_faults : (front left : List Bool) (kind : FaultKind) → Faults mvd front left kind
     → (front ≡ []) × IsWordFault (λ w. Signed w) left kind
 unfolding Faults mvd
-mvd_faults front left kind (inl f) = (f.0, subst (λ (t : List Bool). IsWordFault (λ w. Signed w) t kind) (sym f.3)
-    (parts_fault f.1 f.2 kind f.4))
+mvd_faults front left kind (inl f) = (
+  f.0,
+  subst (λ (t : List Bool). IsWordFault (λ w. Signed w) t kind) (sym f.3)
+      (parts_fault f.1 f.2 kind f.4),
+)
 mvd_faults front left kind (inr (inl f)) =
     let r = f.1 in
     let both = only_32 r.0 kind r.5 in
     let text-is : r.1 ≡ plus_32 = text_32 r.1 (subst (λ (x : ℤ). Spells mvd_parts x r.1) both.0 r.3) in
-    let whole : left ≡ plus_32 ++ r.2 = r.4 ∙ ap (λ (t : List Bool). t ++ r.2) text-is in
-    (f.0, subst (λ (t : List Bool). IsWordFault (λ w. Signed w) t kind) (sym whole)
-        (inr (no_word_of_front mvd_words plus_32 r.2 apart_32, both.1)))
+    let whole : left ≡ plus_32 ++ r.2 = r.4 ∙ ap (λ (t : List Bool). t ++ r.2) text-is in (
+      f.0,
+      subst (λ (t : List Bool). IsWordFault (λ w. Signed w) t kind) (sym whole)
+          (inr (no_word_of_front mvd_words plus_32 r.2 apart_32, both.1)),
+    )
 mvd_faults front left kind (inr (inr f)) = absurd f.6
 
 mvd_fault : (b : Bits) (d : Fault) → reading mvd b ≡ Err d → (d.at ≡ b.at) × IsWordFault (λ w. Signed w) b.bits d.kind
 mvd_fault b d e =
     let f = fault_found mvd b d mvd_productive e in
     let m = mvd_faults f.0 f.1 d.kind f.4 in
-    let whole : b.bits ≡ f.1 = f.2 ∙ ap (λ (t : List Bool). t ++ f.1) m.0 in
-    (f.3 ∙ ap (λ (t : List Bool). b.at + length t) m.0
-        ∙ add-zero b.at, subst (λ (t : List Bool). IsWordFault (λ w. Signed w) t d.kind) (sym whole) m.1)
+    let whole : b.bits ≡ f.1 = f.2 ∙ ap (λ (t : List Bool). t ++ f.1) m.0 in (
+      f.3 ∙ ap (λ (t : List Bool). b.at + length t) m.0
+          ∙ add-zero b.at,
+      subst (λ (t : List Bool). IsWordFault (λ w. Signed w) t d.kind) (sym whole) m.1,
+    )
 
 mvd_apart : is_prefix_free mvd_words ≡ true
 unfolding mvd_words magnitude_texts begins is_prefix_free

@@ -91,7 +91,7 @@ place_text : (codes : List Code) (texts : List (List Bool)) (n : ℕ) → texts 
     → word_of (code_at codes n) ≡ text_at texts n
 place_text codes texts n same lt =
     sym (get_or-map word_of codes n (record { bits = 0; len = 0 }) [] lt)
-        ∙ sym (ap (λ (ts : List (List Bool)). get_or ts n []) same)
+    ∙ sym (ap (λ (ts : List (List Bool)). get_or ts n []) same)
 
 cbpy_same : cbpy_texts ≡ map word_of CBPY
 unfolding cbpy_texts spelled

@@ -93,14 +93,14 @@ pub cbpy_written : (intra : Bool) (pattern : ℕ) → pattern < 16 → Spells (c
 unfolding cbpy cbpy_table cbpy_words cbpy_texts cbpy_text
 cbpy_written true pattern lt =
     spells_whole (cbpy true) pattern (text_at cbpy_texts pattern ++ []) _ (append-nil _)
-        (spells_code cbpy_table (λ p. done p) pattern (text_at cbpy_texts pattern) pattern []
-        (in_table cbpy_texts pattern lt) (spells_done pattern))
+    (spells_code cbpy_table (λ p. done p) pattern (text_at cbpy_texts pattern) pattern []
+    (in_table cbpy_texts pattern lt) (spells_done pattern))
 cbpy_written false pattern lt =
     let e : pattern ≡ 15 - (15 - pattern) = omega arith in
     spells_whole (cbpy false) pattern (text_at cbpy_texts (15 - pattern) ++ []) _ (append-nil _)
-        (spells_code cbpy_table (λ p. done (15 - p)) pattern (text_at cbpy_texts (15 - pattern)) (15 - pattern) []
-        (in_table cbpy_texts (15 - pattern) (omega arith)) (subst (λ (k : ℕ). Spells (done k) pattern []) e
-        (spells_done pattern)))
+    (spells_code cbpy_table (λ p. done (15 - p)) pattern (text_at cbpy_texts (15 - pattern)) (15 - pattern) []
+    (in_table cbpy_texts (15 - pattern) (omega arith)) (subst (λ (k : ℕ). Spells (done k) pattern []) e
+    (spells_done pattern)))
 
 -- ---- differences of vectors
 
@@ -125,8 +125,8 @@ one_sign : (sign size : ℕ) (a : ℤ) (text : List Bool) → sign < 2 → spell
     → Spells (signs size) a text
 one_sign sign size a text lt same is =
     spells_whole (signs size) a (spelled 1 sign ++ []) text (append-nil _
-        ∙ same) (spells_field 1 any (λ s. done (signed s size)) a sign [] lt refl
-        (subst (λ (z : ℤ). Spells (done z) a []) is (spells_done a)))
+    ∙ same) (spells_field 1 any (λ s. done (signed s size)) a sign [] lt refl
+    (subst (λ (z : ℤ). Spells (done z) a []) is (spells_done a)))
 
 parts_written : (v : ℤ) → size_of v < 33 → Spells mvd_parts v (text_at magnitude_texts (size_of v) ++ sign_text v)
 unfolding mvd_parts magnitude_table magnitude_words magnitude_texts spelled
@@ -135,14 +135,14 @@ parts_written (pos zero) lt = spells_code magnitude_table behind (pos 0) (text_a
 parts_written (pos (suc n)) lt =
     subst (λ (t : List Bool). Spells mvd_parts (pos (suc n)) (text_at magnitude_texts (suc n) ++ t)) (sym (plus_sign n))
     (spells_code magnitude_table behind (pos (suc n)) (text_at magnitude_texts (suc n)) (suc n) (false ∷ [])
-        (in_table magnitude_texts (suc n) lt)
+    (in_table magnitude_texts (suc n) lt)
     (with_sign (eqb (suc n) 0) (suc n) (pos (suc n)) (false ∷ []) (some n)
-        (one_sign 0 (suc n) (pos (suc n)) (false ∷ []) (omega arith) refl refl)))
+    (one_sign 0 (suc n) (pos (suc n)) (false ∷ []) (omega arith) refl refl)))
 parts_written (negsuc n) lt =
     spells_code magnitude_table behind (negsuc n) (text_at magnitude_texts (suc n)) (suc n) (true ∷ [])
-        (in_table magnitude_texts (suc n) lt)
+    (in_table magnitude_texts (suc n) lt)
     (with_sign (eqb (suc n) 0) (suc n) (negsuc n) (true ∷ []) (some n) (one_sign 1 (suc n) (negsuc n) (true ∷ [])
-        (omega arith) refl refl))
+    (omega arith) refl refl))
 
 in_size : (v : ℤ) → negsuc 31 ≤ℤ v → v ≤ℤ pos 31 → size_of v < 33
 in_size (pos n) low high = omega (arith, ints)
@@ -157,4 +157,4 @@ unfolding mvd mvd_text
 mvd_written v low high =
     spells_whole mvd v ((text_at magnitude_texts (size_of v) ++ sign_text v) ++ []) _ (append-nil _)
     (spells_element mvd_parts allowed_difference (λ z. done z) v v (text_at magnitude_texts (size_of v)
-        ++ sign_text v) [] (parts_written v (in_size v low high)) (allowed v high) (spells_done v))
+    ++ sign_text v) [] (parts_written v (in_size v low high)) (allowed v high) (spells_done v))

@@ -34,7 +34,7 @@ in_row_words last run k zero (t ∷ row) w e =
 in_row_words last run k (suc i) (t ∷ row) w e =
     let size : k + 1 + i ≡ k + suc i = omega arith in
     inr (subst (λ (n : ℕ). IsIn (w, stands last run n) (sized last run (k + 1) row)) size
-        (in_row_words last run (k + 1) i row w e))
+    (in_row_words last run (k + 1) i row w e))
 
 in_runs : (last : Bool) (k run i : ℕ) (rows : List (List (List Bool))) (row : List (List Bool)) (w : List Bool)
     → slice_get rows run ≡ Some row → slice_get row i ≡ Some w
@@ -45,13 +45,13 @@ in_runs last k zero i (r ∷ rows) row w at e =
     let first : slice_get r i ≡ Some w = ap (λ (s : List (List Bool)). slice_get s i) same ∙ e in
     let number : k ≡ k + 0 = omega arith in
     in_left _ (sized last k 1 r) (from_runs last (k + 1) rows)
-        (subst (λ (n : ℕ). IsIn (w, stands last n (1 + i)) (sized last k 1 r)) number
-        (in_row_words last k 1 i r w first))
+    (subst (λ (n : ℕ). IsIn (w, stands last n (1 + i)) (sized last k 1 r)) number
+    (in_row_words last k 1 i r w first))
 in_runs last k (suc run) i (r ∷ rows) row w at e =
     let number : k + 1 + run ≡ k + suc run = omega arith in
     in_right _ (sized last k 1 r) (from_runs last (k + 1) rows)
-        (subst (λ (n : ℕ). IsIn (w, stands last n (1 + i)) (from_runs last (k + 1) rows)) number
-        (in_runs last (k + 1) run i rows row w at e))
+    (subst (λ (n : ℕ). IsIn (w, stands last n (1 + i)) (from_runs last (k + 1) rows)) number
+    (in_runs last (k + 1) run i rows row w at e))
 
 -- the words of a LAST are among all
 in_all : (last : Bool) (x : List Bool × Option Event) → IsIn x (from_runs last 0 (rows_of last)) → IsIn x tcoef_words
@@ -81,7 +81,7 @@ triple_in last run size w some e = go (slice_get (rows_of last) run) refl e
         in_all last (w, stands last run size)
         (subst (λ (n : ℕ). IsIn (w, stands last n size) (from_runs last 0 (rows_of last))) number
         (subst (λ (n : ℕ). IsIn (w, stands last (0 + run) n) (from_runs last 0 (rows_of last))) whole
-            (in_runs last 0 run (size - 1) (rows_of last) row w at got)))
+        (in_runs last 0 run (size - 1) (rows_of last) row w at got)))
 
 -- ---- a word with its sign
 
@@ -92,10 +92,10 @@ one_sign : (last : Bool) (run size sign : ℕ) (level : ℤ) (text : List Bool) 
     → level ≡ signed sign size → Spells (after_word (stands last run size)) (with_level last run level) text
 one_sign last run size sign level text lt same is =
     spells_whole (after_word (stands last run size)) (with_level last run level) (spelled 1 sign
-        ++ []) text (append-nil _ ∙ same)
+    ++ []) text (append-nil _ ∙ same)
     (spells_field 1 any (λ s. done (with_level last run (signed s size))) (with_level last run level) sign [] lt refl
     (subst (λ (z : ℤ). Spells (done (with_level last run z)) (with_level last run level) []) is
-        (spells_done (with_level last run level))))
+    (spells_done (with_level last run level))))
 
 signed_level : (last : Bool) (run : ℕ) (level : ℤ) → 0 < size_of level
     → Spells (after_word (stands last run (size_of level))) (with_level last run level) (sign_text level)
@@ -105,7 +105,7 @@ signed_level last run (pos (suc n)) some =
     let not_zero : eqb (suc n) 0 ≡ false = ne_eqb (suc n) 0 (λ (e : suc n ≡ 0). omega (arith, e)) in
     let text : sign_text (pos (suc n)) ≡ false ∷ [] = rw not_zero refl in
     subst (λ (t : List Bool). Spells (after_word (stands last run (suc n))) (with_level last run (pos (suc n))) t)
-        (sym text) (one_sign last run (suc n) 0 (pos (suc n)) (false ∷ []) (omega arith) refl refl)
+    (sym text) (one_sign last run (suc n) 0 (pos (suc n)) (false ∷ []) (omega arith) refl refl)
 signed_level last run (negsuc n) some = one_sign last run (suc n) 1 (negsuc n) (true ∷ []) (omega arith) refl refl
 
 -- ---- an escape
@@ -135,8 +135,8 @@ unfolding event_parts event_table spelled
 escape_spelled e is =
     let back = level_back e.level is.some is.level in
     let same : e ≡ record { last = eqb (bit_of e.last) 1; run = e.run; level = level_of (byte_of e.level) } =
-        ap (λ (b : Bool). with_level b e.run e.level) (last_back e.last)
-        ∙ ap (λ (z : ℤ). with_level (eqb (bit_of e.last) 1) e.run z) back.0 in
+    ap (λ (b : Bool). with_level b e.run e.level) (last_back e.last)
+    ∙ ap (λ (z : ℤ). with_level (eqb (bit_of e.last) 1) e.run z) back.0 in
     spells_code event_table after_word e (word "0000011") None _ escape_in
     (spells_field 1 any _ e (bit_of e.last) _ (bit_small e.last) refl
     (spells_field 6 any _ e e.run _ is.run refl
@@ -148,7 +148,7 @@ word_spelled : (e : Coefficient) → IsEvent e → (w : List Bool) → triple_te
 unfolding event_parts event_table
 word_spelled e is w at =
     spells_code event_table after_word e w (stands e.last e.run (size_of e.level)) (sign_text e.level)
-        (triple_in e.last e.run (size_of e.level) w is.some at) (signed_level e.last e.run e.level is.some)
+    (triple_in e.last e.run (size_of e.level) w is.some at) (signed_level e.last e.run e.level is.some)
 
 -- ---- both
 
@@ -165,9 +165,14 @@ pub event_written : (e : Coefficient) → IsEvent e → Spells event e (event_te
 unfolding event
 event_written e is =
     spells_whole event e (event_text e ++ []) _ (append-nil _) (spells_element event_parts any (λ f. done f) e e
-        (event_text e) [] (parts_written e is) refl (spells_done e))
+    (event_text e) [] (parts_written e is) refl (spells_done e))
 
 -- the texts that are written of the events spell them
 pub are_spelt : AreSpelt
-are_spelt = record { mcbpc = mcbpc_written; cbpy = cbpy_written; dquant = dquant_written; mvd = mvd_written;
-    event = event_written }
+are_spelt = record {
+  mcbpc = mcbpc_written;
+  cbpy = cbpy_written;
+  dquant = dquant_written;
+  mvd = mvd_written;
+  event = event_written;
+}

@@ -30,7 +30,7 @@ abbrev pub is_packed_at : ℕ → ℕ → ℕ → Option ℕ → Bool
 is_packed_at width front packed None = false
 is_packed_at width front packed (Some place) =
     starts front width (code_at EVENTS place) && (((code_at EVENTS place).len == packed_len packed) && is_meant packed
-        (slice_get LEVELS place))
+    (slice_get LEVELS place))
 
 -- whether `width` bits begin with the word of what is packed
 abbrev pub is_packed : ℕ → ℕ → ℕ → Bool

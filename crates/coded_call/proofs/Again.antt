@@ -57,12 +57,12 @@ pub packet_again : PacketLaws → (number sequence : ℕ) (marker : Bool) (h : H
     → 0 < length run → first + length run ≤ mbs_of h.format → AreWritable (around h first) h.quant [] run
     → packet_bytes h first run ≤ 65535
     → packet_at h.format (packet_of number sequence marker h first run)
-        ≡ Ok (record { header = h; first = first; mbs = run })
+    ≡ Ok (record { header = h; first = first; mbs = run })
 packet_again laws number sequence marker h first run is some within each short =
     let bytes = packet_of number sequence marker h first run in
     let few : length bytes ≤ 65535 = omega (arith, laws.bytes number sequence marker h first run) in
     let r = laws.written number sequence marker h first run bytes is some within each
-        (laws.bits number sequence marker h first run) few in
+    (laws.bits number sequence marker h first run) few in
     laws.spelled h.format (record { header = h; first = first; mbs = run }) bytes (record {
       rtp = rtp_of number sequence marker (length bytes);
       payload = payload_of h first;
@@ -113,8 +113,13 @@ writable reach h first before (m ∷ run) within s =
     let next : first + length before + suc j ≡ first + length (before ++ m ∷ []) + j = omega (arith, longer) in
     subst (λ (k : ℕ). IsSentAt h k (get_or run j Skip)) next (s (suc j) (omega (arith, below)))
     in (
-      record { in_range = one.in_range; of_kind = one.of_kind; step = stepped h.quant m one.plain; whole = one.whole;
-          reached = reached reach h (first + length before) m (omega (arith, within)) one.reach },
+      record {
+        in_range = one.in_range;
+        of_kind = one.of_kind;
+        step = stepped h.quant m one.plain;
+        whole = one.whole;
+        reached = reached reach h (first + length before) m (omega (arith, within)) one.reach;
+      },
       subst (λ (q : ℕ). AreWritable (around h first) q (before ++ m ∷ []) run) (sym (quant_stays h.quant m one.plain))
           (writable reach h first (before ++ m ∷ []) run (omega (arith, within, longer)) more),
     )
@@ -127,7 +132,7 @@ pub record CutLaws : Type 0 where
       → 0 < length run → first + length run ≤ mbs_of h.format → AreWritable (around h first) h.quant [] run
       → packet_bytes h first run ≤ 65535
       → packet_at h.format (packet_of number sequence marker h first run)
-          ≡ Ok (record { header = h; first = first; mbs = run })
+      ≡ Ok (record { header = h; first = first; mbs = run })
   pub divides : (h : Header) (limit : ℕ) (mbs : List Mb) → Divides Skip (length mbs) (cut_of h limit mbs) mbs
   pub fits : (h : Header) (limit : ℕ) (mbs : List Mb) (j : ℕ) (slice : Slice Mb) → IsHeader h → 1200 ≤ limit
       → All HasWholeBlocks mbs
@@ -135,7 +140,7 @@ pub record CutLaws : Type 0 where
   pub each : (number sequence : ℕ) (h : Header) (slices : List (Slice Mb)) (j : ℕ) (slice : Slice Mb)
       → slice_get slices j ≡ Some slice
       → slice_get (packets_of number sequence h slices) j
-          ≡ Some (packet_of number (sequence + j) (j + 1 == length slices) h slice.first slice.mbs)
+      ≡ Some (packet_of number (sequence + j) (j + 1 == length slices) h slice.first slice.mbs)
   pub reach : AreReached
 
 all_whole : (h : Header) (mbs : List Mb) → AreSent h mbs → All HasWholeBlocks mbs
@@ -160,10 +165,10 @@ sent_in h mbs slices j slice d s e = λ i below.
     let inside = d.covers.inside j slice e in
     let place : k - slice.first ≡ i = omega arith in
     let same : get_or slice.mbs i Skip ≡ get_or mbs k Skip = ap (λ (n : ℕ). get_or slice.mbs n Skip) (sym place)
-        ∙ d.same j k slice e (has_it slice i below) in
+    ∙ d.same j k slice e (has_it slice i below) in
     let at : k ≡ slice.first + 0 + i = omega arith in
     subst (λ (n : ℕ). IsSentAt h n (get_or slice.mbs i Skip)) at
-        (subst (IsSentAt h k) (sym same) (s.each k (omega (arith, below, inside.1, s.count))))
+    (subst (IsSentAt h k) (sym same) (s.each k (omega (arith, below, inside.1, s.count))))
 
 pub slice_again : CutLaws → (number sequence : ℕ) (h : Header) (limit : ℕ) (mbs : List Mb) (j : ℕ) (slice : Slice Mb)
     → IsHeader h

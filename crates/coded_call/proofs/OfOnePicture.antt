@@ -76,7 +76,7 @@ module _ {Style Mb Picture Fault : Type 0} (decoding : Decoding Style Mb Picture
       go : (slice_get (call_from decoding.pictures rules source past).coded n ≡ Some x → Covers rules.mbs x.slices)
           → (o : Option (Coded Style Mb Picture)) → source (call_from decoding.pictures rules source past) ≡ o
           → slice_get ((call_from decoding.pictures rules source past).coded
-              ++ option_map_or (λ (y : Coded Style Mb Picture). y ∷ []) o []) n ≡ Some x → Covers rules.mbs x.slices
+          ++ option_map_or (λ (y : Coded Style Mb Picture). y ∷ []) o []) n ≡ Some x → Covers rules.mbs x.slices
       go before None is e = before (ap (λ (l : List (Coded Style Mb Picture)). slice_get l n)
           (sym (append-nil (call_from decoding.pictures rules source past).coded)) ∙ e)
       go before (Some y) is e =
@@ -129,7 +129,7 @@ module _ {Style Mb Picture Fault : Type 0} (decoding : Decoding Style Mb Picture
   of_one : (packets : List (List ℕ)) (n : ℕ) (x : Coded Style Mb Picture) (entries : List ReceiverEntry)
       → Covers rules.mbs x.slices → ((j : ℕ) → IsPacket decoding rules packets n j x)
       → ((m : ℕ) → x.reference ≡ Some m → n ≤ m + window rules) → AreAmong decoding rules n packets entries
-          → ComeInTime decoding rules n x.reference entries
+      → ComeInTime decoding rules n x.reference entries
       → AreOfOne decoding rules n (header_of rules n x) x.reference entries
   of_one packets n x entries covers each near among in_time = record {
     in_place = in_place n x.reference near entries in_time;
@@ -168,7 +168,7 @@ module _ {Style Mb Picture Fault : Type 0} (decoding : Decoding Style Mb Picture
 
       go : (r : Option ℕ) → ((m : ℕ) → r ≡ Some m → (m < n) × (n ≤ m + window rules))
           → (r ≡ option_and_then (nearest_below rules n) (option_map (λ m. m % period rules) r))
-              × (is_some r ≡ is_some (option_map (λ m. m % period rules) r))
+          × (is_some r ≡ is_some (option_map (λ m. m % period rules) r))
       go None near = (refl, refl)
       go (Some m) near =
           let h = near m refl in
@@ -210,7 +210,7 @@ module _ {Style Mb Picture Fault : Type 0} (decoding : Decoding Style Mb Picture
   in_time_later : CompleteStays decoding rules → (n : ℕ) (reference : Option ℕ) (before : List ReceiverEntry)
       → ComeInTime decoding rules n reference before → n ≤ played_after before + rules.lead
       → ((m : ℕ) → reference ≡ Some m → is_complete rules.mbs (receiver_run decoding rules before).taken m ≡ true)
-          → (a : List ReceiverEntry) → played_after (a ++ before) ≤ n
+      → (a : List ReceiverEntry) → played_after (a ++ before) ≤ n
       → ComeInTime decoding rules n reference (a ++ before)
   in_time_later stays n reference before in_time early done [] until = in_time
   in_time_later stays n reference before in_time early done (Packet bytes ∷ a) until = (
@@ -230,7 +230,7 @@ module _ {Frame Style Mb Picture Fault MessageFault : Type 0}
     pub follow : (pace : List ℕ → ℕ) (frames : List Frame) (past : List Event) → IsPace pace
         → AllMayHappen coding rules pace frames past
         → EndsFollow coding rules (ideal coding rules pace frames past)
-            (joined coding rules (new_receiver coding rules) pace frames past)
+        (joined coding rules (new_receiver coding rules) pace frames past)
 
   pub sent_are_of_one : CallLaws → SentAreOfOne coding rules
   sent_are_of_one laws pace frames past n x entries paced near =
@@ -238,7 +238,7 @@ module _ {Frame Style Mb Picture Fault MessageFault : Type 0}
         named coding.decoding rules laws.nearest laws.rules_fit n x (reference_of at),
         of_one coding.decoding rules (packets_of coding.encoding rules c.coded n) n x entries
             (covered coding.decoding rules (encoded coding rules pace frames) (packets_of coding.encoding rules) past
-                (laws.sound pace frames past paced) n x at)
+            (laws.sound pace frames past paced) n x at)
             (λ j. (laws.sound pace frames (Deliver n j ∷ past) paced).0 x at)
             (λ m e. (reference_of at m e).1) among in_time,
       ))
@@ -258,7 +258,7 @@ module _ {Frame Style Mb Picture Fault MessageFault : Type 0}
           → AreAmong coding.decoding rules n (packets_of coding.encoding rules coded n) entries
           → ComeInTime coding.decoding rules n x.reference entries
           → IsNamed coding.decoding rules n (header_of rules n x) x.reference
-              × AreOfOne coding.decoding rules n (header_of rules n x) x.reference entries
+          × AreOfOne coding.decoding rules n (header_of rules n x) x.reference entries
 
   module _ (laws : CallLaws) (pace : List ℕ → ℕ) (frames : List Frame) (paced : IsPace pace)
       (each_end : EachEndRuns coding rules) where
@@ -289,7 +289,7 @@ module _ {Frame Style Mb Picture Fault MessageFault : Type 0}
     done past near n x at m e =
         let ends = laws.follow pace frames past paced near in
         ap (λ (r : ReceiverRun Style Mb Picture). is_complete rules.mbs r.taken m) (sym (receiver_is past))
-            ∙ ends.complete m ∙ (ends.references n m x at e).2
+        ∙ ends.complete m ∙ (ends.references n m x at e).2
 
     -- a packet that is delivered is of its own picture, which was sent
     own_was_sent : (past : List Event) → AllMayHappen coding rules pace frames past → (m j : ℕ)
@@ -303,9 +303,9 @@ module _ {Frame Style Mb Picture Fault MessageFault : Type 0}
               (slice_at coding.decoding rules (packets_of coding.encoding rules (ideal_of past).coded m) m there.0 j
               ((laws.sound pace frames (Deliver m j ∷ past) paced).0 there.0 there.2) bytes
               (ap (λ (coded : List (Coded Style Mb Picture)). slice_get (packets_of coding.encoding rules coded m) j)
-                  (sym ends.agree.pictures) ∙ at))
+              (sym ends.agree.pictures) ∙ at))
               (omega (arith, sent, ends.counts.1, played_there past near))
-                  (omega (arith, behind, played_there past near)) own
+              (omega (arith, behind, played_there past near)) own
           | inr none ↦ absurd (omega (arith, none.0, sent))
         ]
       where
@@ -319,9 +319,9 @@ module _ {Frame Style Mb Picture Fault MessageFault : Type 0}
     none_yet n reference [] near unsent = tt
     none_yet n reference (Send ∷ past) near unsent =
         let more : List (Coded Style Mb Picture) = option_map_or (λ (y : Coded Style Mb Picture). y ∷ [])
-            (encoded coding rules pace frames (ideal_of past)) [] in
+        (encoded coding rules pace frames (ideal_of past)) [] in
         let long : length ((ideal_of past).coded ++ more) ≡ length (ideal_of past).coded + length more =
-            length-append (ideal_of past).coded more in
+        length-append (ideal_of past).coded more in
         none_yet n reference past near.1 (omega (arith, long, unsent))
     none_yet n reference (Play ∷ past) near unsent = none_yet n reference past near.1 unsent
     none_yet n reference (Back k ∷ past) near unsent = none_yet n reference past near.1 unsent
@@ -331,11 +331,15 @@ module _ {Frame Style Mb Picture Fault MessageFault : Type 0}
         go : ComeInTime coding.decoding rules n reference (come past) → (o : Option (List ℕ))
             → slice_get (packets_of coding.encoding rules (both_of past).sender.coded m) j ≡ o
             → ComeInTime coding.decoding rules n reference (option_map_or (λ (bytes : List ℕ). Packet bytes ∷ []) o []
-                ++ come past)
+            ++ come past)
         go before None at = before
         go before (Some bytes) at = (
-          λ own. absurd (omega (arith, own_was_sent past near.1 m j near.0.0 near.0.1 bytes at n own, near.0.0,
-              unsent)),
+          λ own. absurd (omega (
+            arith,
+            own_was_sent past near.1 m j near.0.0 near.0.1 bytes at n own,
+            near.0.0,
+            unsent,
+          )),
           before,
         )
 
@@ -350,7 +354,7 @@ module _ {Frame Style Mb Picture Fault MessageFault : Type 0}
         go : (slice_get (ideal_of past).coded n ≡ Some x → ComeInTime coding.decoding rules n x.reference (come past))
             → (o : Option (Coded Style Mb Picture))
             → slice_get ((ideal_of past).coded ++ option_map_or (λ (y : Coded Style Mb Picture). y ∷ []) o []) n
-                ≡ Some x → ComeInTime coding.decoding rules n x.reference (come past)
+            ≡ Some x → ComeInTime coding.decoding rules n x.reference (come past)
         go before None at = before (ap (λ (l : List (Coded Style Mb Picture)). slice_get l n)
             (sym (append-nil (ideal_of past).coded)) ∙ at)
         go before (Some y) at =
@@ -366,10 +370,10 @@ module _ {Frame Style Mb Picture Fault MessageFault : Type 0}
         go : (played_after (come past) ≤ n → NoneIsEarly coding.decoding rules n (come past)
             → ComeInTime coding.decoding rules n x.reference (come past)) → (o : Option (List ℕ))
             → played_after (option_map_or (λ (bytes : List ℕ). Packet bytes ∷ []) o [] ++ come past) ≤ n
-                → NoneIsEarly coding.decoding rules n (option_map_or (λ (bytes : List ℕ). Packet bytes ∷ []) o []
-                ++ come past)
+            → NoneIsEarly coding.decoding rules n (option_map_or (λ (bytes : List ℕ). Packet bytes ∷ []) o []
+            ++ come past)
             → ComeInTime coding.decoding rules n x.reference (option_map_or (λ (bytes : List ℕ). Packet bytes ∷ []) o []
-                ++ come past)
+            ++ come past)
         go before None until early = before until early
         go before (Some bytes) until early = (
           λ own. (until, early.0 own, done past near.1 n x at),
@@ -393,14 +397,14 @@ module _ {Frame Style Mb Picture Fault MessageFault : Type 0}
     where
       go : played_after (others coding.decoding rules n past) ≡ played_after past → (b : Bool)
           → played_after (if b then others coding.decoding rules n past else Packet bytes ∷ others coding.decoding rules
-              n past) ≡ played_after past
+          n past) ≡ played_after past
       go ih true = ih
       go ih false = ih
 
   pub sent_in_any_order : ReceiverLaws → SentInAnyOrder coding rules
   sent_in_any_order laws pace frames past n x a b paced near at early none_early among differ at_n =
       laws.any_order n (header_of rules n x) x.reference (a ++ before) (b ++ before) first.0 differ first.1 second.1
-          at_n
+      at_n
     where
       before : List ReceiverEntry
       before = come_in coding rules pace frames past

@@ -22,13 +22,13 @@ bytes_again [] fit = refl
 bytes_again (byte ∷ bytes) fit =
     let long : length (spelled 8 byte) ≡ 8 = length-spelled 8 byte in
     let front : take 8 (spelled 8 byte ++ bits_of bytes)
-        ≡ spelled 8 byte = take_at (spelled 8 byte) (bits_of bytes) 8 long in
+    ≡ spelled 8 byte = take_at (spelled 8 byte) (bits_of bytes) 8 long in
     let behind : drop 8 (spelled 8 byte ++ bits_of bytes)
-        ≡ bits_of bytes = drop_at (spelled 8 byte) (bits_of bytes) 8 long in
+    ≡ bits_of bytes = drop_at (spelled 8 byte) (bits_of bytes) 8 long in
     let small : byte < 2 ^ 8 = omega (arith, fit 0) in
     ap (λ (t : List Bool). number t ∷ bytes_from (length bytes) (drop 8 (spelled 8 byte ++ bits_of bytes))) front
     ∙ ap (λ (n : ℕ). n ∷ bytes_from (length bytes) (drop 8 (spelled 8 byte ++ bits_of bytes))) (number-spelled 8 byte
-        ∙ mod-eq_of_lt small)
+    ∙ mod-eq_of_lt small)
     ∙ ap (λ (t : List Bool). byte ∷ bytes_from (length bytes) t) behind
     ∙ ap (λ (l : List ℕ). byte ∷ l) (bytes_again bytes (λ k. fit (suc k)))
 
@@ -42,7 +42,7 @@ unfolding written
 bytes_of_text laws m bytes fit is =
     let many : length bytes ≡ message_bits m / 8 =
     eighth (length bytes) (message_bits m) (sym (length-bits_of bytes) ∙ ap (λ (l : List Bool). length l) is
-        ∙ laws.length m)
+    ∙ laws.length m)
     in
     sym (bytes_again bytes fit)
     ∙ ap (λ (n : ℕ). bytes_from n (bits_of bytes)) many

@@ -20,8 +20,12 @@ header_back clock h half =
     let same : half_of (clock_with h.half) ≡ h.half =
     subst (λ (n : ℕ). half_of (clock_with n) ≡ n) (sym half) (clock_back clock)
     in
-    ap (λ (n : ℕ). let g : call.Header Style = record { number = h.number; reference = h.reference; half = n;
-        style = h.style } in g) same
+    ap (λ (n : ℕ). let g : call.Header Style = record {
+      number = h.number;
+      reference = h.reference;
+      half = n;
+      style = h.style;
+    } in g) same
 
 -- a predicted picture, and no other, has a reference of its format
 pub has_reference : (f : Format) (predicted : Bool) (reference : Option Picture) → is_some reference ≡ predicted

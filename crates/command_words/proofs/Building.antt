@@ -15,5 +15,5 @@ pub step_rules : (f : Text → Rule) (a : App) (r : Rule) (names : List (Bor Tex
     → with_rules (with_rule a r) (map f (texts (drop (i + 1) names))) ≡ with_rules a (map f (texts (drop i names)))
 step_rules f a r names i d name lt at is =
     rw (add-one, drop-cons names i d) (more_rules a r (map f (texts (drop (suc i) names)))
-        ∙ ap (λ (x : Rule). with_rules a (x ∷ map f (texts (drop (suc i) names)))) (is
-        ∙ ap (λ (n : Bor Text). f n.now) at))
+    ∙ ap (λ (x : Rule). with_rules a (x ∷ map f (texts (drop (suc i) names)))) (is
+    ∙ ap (λ (n : Bor Text). f n.now) at))

@@ -50,9 +50,9 @@ added name v (g ∷ given) h = go (bytes_eq g.0 name) refl h (added name v given
   where
     go : (t : Bool) → bytes_eq g.0 name ≡ t → gives name (g ∷ given) ≡ false
         → (gives name given ≡ false → with_values name AsWritten CommandLine (v ∷ []) (rows_for given)
-            ≡ rows_for (given ++ (name, v) ∷ []))
+        ≡ rows_for (given ++ (name, v) ∷ []))
         → with_values name AsWritten CommandLine (v ∷ []) (rows_for (g ∷ given))
-            ≡ rows_for (g ∷ (given ++ (name, v) ∷ []))
+        ≡ rows_for (g ∷ (given ++ (name, v) ∷ []))
     go true e k rest =
         let bad : true ≡ false = rw e at k in
         cc
@@ -60,7 +60,7 @@ added name v (g ∷ given) h = go (bytes_eq g.0 name) refl h (added name v given
 
 pub row_added : (name v : Text) (given : List Given) → gives name given ≡ false
     → with_values name AsWritten CommandLine (v ∷ []) (without name (rows_for given))
-        ≡ rows_for (given ++ (name, v) ∷ [])
+    ≡ rows_for (given ++ (name, v) ∷ [])
 row_added name v given h = rw (stays name given h) (added name v given h)
 
 -- ---- no name twice
@@ -97,7 +97,7 @@ last_new (x ∷ xs) g h k = go (again x xs) refl h (bytes_eq x.0 g.0) refl k (la
     go : (t : Bool) → again x xs ≡ t → is_once (x ∷ xs) ≡ true → (b : Bool) → bytes_eq x.0 g.0 ≡ b
         → gives g.0 (x ∷ xs) ≡ false
         → (is_once xs ≡ true → gives g.0 xs ≡ false → is_once (xs ++ g ∷ []) ≡ true) → is_once (x ∷ (xs ++ g ∷ []))
-            ≡ true
+        ≡ true
     go true e once b d new rest =
         let bad : false ≡ true = rw e at once in
         cc
@@ -114,8 +114,10 @@ last_again (x ∷ xs) g k = go (bytes_eq x.0 g.0) refl k (last_again xs g)
   where
     go : (b : Bool) → bytes_eq x.0 g.0 ≡ b → gives g.0 (x ∷ xs) ≡ true
         → (gives g.0 xs ≡ true → is_once (xs ++ g ∷ []) ≡ false) → is_once (x ∷ (xs ++ g ∷ [])) ≡ false
-    go true d twice rest = rw (list_any-append (λ (o : Given). bytes_eq x.0 o.0) xs (g ∷ []),
-        d) (not_or_true (again x xs) (is_once (xs ++ g ∷ [])))
+    go true d twice rest = rw (
+      list_any-append (λ (o : Given). bytes_eq x.0 o.0) xs (g ∷ []),
+      d,
+    ) (not_or_true (again x xs) (is_once (xs ++ g ∷ [])))
     go false d twice rest = rw (rest (rw d at twice)) (not_and (again x (xs ++ g ∷ [])))
 
 -- a row of the words says that its name is given

@@ -105,16 +105,16 @@ module _ (given : List Given) where
 
       with_target : (o : Option (Option ℕ)) →
           option_and_then (λ target. option_and_then (λ fit. option_map (send_with target fit)
-              (params_of (value given)))
+          (params_of (value given)))
           (target_or_none (value given (codes "fit")))) o ≡ Some c → named c
       with_target None h = absurd (cc h)
       with_target (Some target) h = with_fit target (target_or_none (value given (codes "fit"))) h
 
       go : (both : Bool) → (if both then None else
           option_and_then (λ target. option_and_then (λ fit. option_map (send_with target fit)
-              (params_of (value given)))
+          (params_of (value given)))
           (target_or_none (value given (codes "fit")))) (target_or_none (value given (codes "target")))) ≡ Some c
-              → named c
+          → named c
       go true h = absurd (cc h)
       go false h = with_target (target_or_none (value given (codes "target"))) h
 
@@ -147,7 +147,7 @@ module _ (given : List Given) where
 
       with_seed : (p : Params) (o : Option ℕ) →
           option_and_then (λ seed. option_map (λ frames. Demo p seed frames) (frames_in (value given (codes "frames"))))
-              o ≡ Some c → named c
+          o ≡ Some c → named c
       with_seed p None h = absurd (cc h)
       with_seed p (Some seed) h = with_frames p seed (frames_in (value given (codes "frames"))) h
 
@@ -202,13 +202,15 @@ module _ (given : List Given) where
           → option_and_then (λ (trace : Text). option_map (λ params. Duplex params) p) t ≡ Some c → named c
       go p None e h = absurd (cc h)
       go None (Some x) e h = absurd (cc h)
-      go (Some p) (Some x) e h = subst named (some_is h) (video,
-          (video2, (subst IsGiven (sym e) tt, (pictures, (pictures2, tt)))))
+      go (Some p) (Some x) e h = subst named (some_is h) (
+        video,
+        (video2, (subst IsGiven (sym e) tt, (pictures, (pictures2, tt)))),
+      )
 
 -- the row's words
 by_row : (row : Row) (words : List Text) (a : Asked)
     → ((given : List Given) (c : Command) → list_all (λ name. gives name given) row.places ≡ true
-        → row.asks (value given) ≡ Some c → HasNames (asking (value given) c))
+    → row.asks (value given) ≡ Some c → HasNames (asking (value given) c))
     → asked_by row words ≡ Some a → HasNames a
 by_row row words a names is = go (taken row.places row.options words) refl is
   where
@@ -228,13 +230,13 @@ pub named_where_asked : (words : List Text) (a : Asked) → asked words ≡ Some
 named_where_asked [] a is = absurd (cc is)
 named_where_asked (first ∷ words) a is =
     at_call (bytes_eq call.word first) (bytes_eq send.word first) (bytes_eq recv.word first) (bytes_eq demo.word first)
-        (bytes_eq rate.word first) (bytes_eq audit.word first)
+    (bytes_eq rate.word first) (bytes_eq audit.word first)
     (bytes_eq duplex.word first) is
   where
     at_call : (c s r d m u x : Bool) →
         option_and_then (λ row. asked_by row words)
         (if c then Some call else if s then Some send else if r then Some recv else if d then Some demo
-            else if m then Some rate else if u then Some audit
+        else if m then Some rate else if u then Some audit
         else if x then Some duplex else None) ≡ Some a → HasNames a
     at_call true s r d m u x h = by_row call words a (λ given k all e. call_named given k all e) h
     at_call false true r d m u x h = by_row send words a (λ given k all e. send_named given k all e) h

@@ -28,7 +28,7 @@ start name = let a : App = new_app name in record a { top = record a.top { disab
 abbrev pub simple_app : Text → List Text → Options → App
 simple_app name places options =
     with_rules (with_rules (with_rules (start name) (map place_rule places)) (map option_rule options.valued))
-        (map switch_rule options.switches)
+    (map switch_rule options.switches)
 
 -- ---- it is one of which `clap` says all
 
@@ -80,24 +80,24 @@ simple_too a h = left (is_simple a) (is_free_app (built a)) h
 
 faults_are : (name : Text) (places : List Text) (options : Options) (words : List Text) → length places ≤ 16
     → fault_of (simple_app name places options) words
-        ≡ total name (rules_of places options) (walk_at [] (ready None) 1 false) (drop 1 words)
+    ≡ total name (rules_of places options) (walk_at [] (ready None) 1 false) (drop 1 words)
 faults_are name places options words small =
     leaf_fault (built (simple_app name places options)) nothing_held (drop 1 words) refl
     ∙ rw (filled_rules places options small) (in_one name (rules_of places options) (walk_at [] (ready None) 1 false)
-        (drop 1 words))
+    (drop 1 words))
 
 rows_are : (name : Text) (places : List Text) (options : Options) (words : List Text) → length places ≤ 16
     → matches_of (simple_app name places options) words
-        ≡ ending (rules_of places options) (walk_at [] (ready None) 1 false) (drop 1 words)
+    ≡ ending (rules_of places options) (walk_at [] (ready None) 1 false) (drop 1 words)
 rows_are name places options words small = rw (filled_rules places options small) refl
 
 pub says : (name : Text) (places : List Text) (options : Options) (words : List Text) → length places ≤ 16
     → Says (fault_of (simple_app name places options) words) (matches_of (simple_app name places options) words)
-        (taken places options (drop 1 words))
+    (taken places options (drop 1 words))
 says name places options words small =
     rw (faults_are name places options words small, rows_are name places options words small)
     (all_words name places options (rules_of places options) (setting_of places options) (all_left places options small)
-        (drop 1 words))
+    (drop 1 words))
 
 -- ---- what the caller learns
 
@@ -110,14 +110,14 @@ found m (Some given) kinds rows says none same =
 pub finds : (name : Text) (places : List Text) (options : Options) (words : List Text) (a : App) (m : ArgMatches)
     → length places ≤ 16 → a ≡ simple_app name places options
     → (is_simple_and_free a ≡ true → fault_of a words ≡ []) → HasMatchesOf a words m
-        → Finds m (taken places options (drop 1 words))
+    → Finds m (taken places options (drop 1 words))
 finds name places options words a m small is kinds matches =
     let known : is_simple_and_free a ≡ true = rw is (is_known name places options small) in
     let same : Says (fault_of a words) (matches_of a words) (taken places options (drop 1 words)) =
     subst (λ (x : App). Says (fault_of x words) (matches_of x words) (taken places options (drop 1 words))) (sym is)
-        (says name places options words small) in
+    (says name places options words small) in
     found m (taken places options (drop 1 words)) (fault_of a words) (matches_of a words) same (kinds known)
-        (matches (simple_too a known)).0
+    (matches (simple_too a known)).0
 
 not_among : (k : ErrorKind) (kinds : Kinds) → IsAmong k kinds → kinds ≡ [] → ⊥
 not_among k [] h e = h
@@ -131,12 +131,12 @@ none_taken (Some given) kinds rows k says among = absurd (not_among k kinds amon
 pub refuses_words : (name : Text) (places : List Text) (options : Options) (words : List Text) (a : App) (e : Error)
     → length places ≤ 16 → a ≡ simple_app name places options
     → (is_simple_and_free a ≡ true → HasKind (fault_of a words) e) → stop_by (kind_of e) ≡ Usage
-        → taken places options (drop 1 words) ≡ None
+    → taken places options (drop 1 words) ≡ None
 refuses_words name places options words a e small is kinds stop =
     let known : is_simple_and_free a ≡ true = rw is (is_known name places options small) in
     let same : Says (fault_of a words) (matches_of a words) (taken places options (drop 1 words)) =
     subst (λ (x : App). Says (fault_of x words) (matches_of x words) (taken places options (drop 1 words))) (sym is)
-        (says name places options words small) in
+    (says name places options words small) in
     elim (kinds known) [
       | inl memory ↦
           let bad : OutOfMemory ≡ Usage = rw memory at stop in

@@ -77,7 +77,7 @@ filled_places i (p ∷ places) names switches h =
 
 pub filled_rules : (places : List Text) (options : Options) → length places ≤ 16
     → filled_from 1 ((map place_rule places ++ map option_rule options.valued) ++ map switch_rule options.switches)
-        ≡ rules_of places options
+    ≡ rules_of places options
 filled_rules places options h = filled_places 1 places options.valued options.switches (omega arith)
 
 -- ---- what is found
@@ -112,7 +112,7 @@ known_by_id (a ∷ c) name all h = go (bytes_eq a.id name) refl h (λ k. known_b
     go true e k rest =
         let same : a.id ≡ name = (bytes_eq-Decides a.id name).0 e in
         let is : a ≡ valued all.0.0 all.0.1 all.0.2 name = all.0.3
-            ∙ ap (λ (n : Text). valued all.0.0 all.0.1 all.0.2 n) same in
+        ∙ ap (λ (n : Text). valued all.0.0 all.0.1 all.0.2 n) same in
         (all.0.0, all.0.1, all.0.2, rw e (ap (λ (x : Rule). Some x) is))
     go false e k rest =
         let found = rest (rw e at k) in
@@ -194,26 +194,26 @@ switches_by_long (s ∷ switches) name = go (bytes_eq s name) refl (switches_by_
     go : (t : Bool) → bytes_eq s name ≡ t → arg_by_long (map switch_at switches) name
         ≡ (if is_among switches name then Some (switch_at name) else None)
         → arg_by_long (map switch_at (s ∷ switches)) name
-            ≡ (if is_among (s ∷ switches) name then Some (switch_at name) else None)
+        ≡ (if is_among (s ∷ switches) name then Some (switch_at name) else None)
     go true e rest = rw e (ap (λ (n : Text). Some (switch_at n)) ((bytes_eq-Decides s name).0 e))
     go false e rest = rw e rest
 
 options_by_long : (names switches : List Text) (name : Text)
     → arg_by_long (map option_at names ++ map switch_at switches) name
-        ≡ named_in (record { valued = names; switches = switches }) name
+    ≡ named_in (record { valued = names; switches = switches }) name
 options_by_long [] switches name = switches_by_long switches name
 options_by_long (o ∷ names) switches name = go (bytes_eq o name) refl (options_by_long names switches name)
   where
     go : (t : Bool) → bytes_eq o name ≡ t → arg_by_long (map option_at names ++ map switch_at switches) name
         ≡ named_in (record { valued = names; switches = switches }) name
         → arg_by_long (map option_at (o ∷ names) ++ map switch_at switches) name
-            ≡ named_in (record { valued = o ∷ names; switches = switches }) name
+        ≡ named_in (record { valued = o ∷ names; switches = switches }) name
     go true e rest = rw e (ap (λ (n : Text). Some (option_at n)) ((bytes_eq-Decides o name).0 e))
     go false e rest = rw e rest
 
 all_by_long : (i : ℕ) (places names switches : List Text) (name : Text)
     → arg_by_long ((places_from i places ++ map option_at names) ++ map switch_at switches) name
-        ≡ named_in (record { valued = names; switches = switches }) name
+    ≡ named_in (record { valued = names; switches = switches }) name
 all_by_long i [] names switches name = options_by_long names switches name
 all_by_long i (p ∷ places) names switches name = all_by_long (suc i) places names switches name
 
@@ -248,11 +248,11 @@ options_missing (o ∷ names) switches given = options_missing names switches gi
 
 missing : (i : ℕ) (places names switches : List Text) (given : List Given)
     → list_any (is_missing given) ((places_from i places ++ map option_at names) ++ map switch_at switches)
-        ≡ not (list_all (λ name. gives name given) places)
+    ≡ not (list_all (λ name. gives name given) places)
 missing i [] names switches given = options_missing names switches given
 missing i (p ∷ places) names switches given =
     rw (is_there p given, missing (suc i) places names switches given)
-        (join (gives p given) (list_all (λ name. gives name given) places))
+    (join (gives p given) (list_all (λ name. gives name given) places))
   where
     join : (a b : Bool) → (not a || not b) ≡ not (a && b)
     join true true = refl
@@ -363,4 +363,4 @@ pub all_left : (places : List Text) (options : Options) → length places ≤ 16
 all_left places options h =
     left_first (valued_rules places options.valued) options.switches 1 places
     (left_of [] 1 places options.valued (valued_rules places options.valued) (all_valued 1 places options.valued)
-        (λ j le rest. refl) (omega arith) refl)
+    (λ j le rest. refl) (omega arith) refl)

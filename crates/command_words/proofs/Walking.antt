@@ -21,8 +21,12 @@ use Rattle.command_words.proofs.Rules.{HaveNoDefault, Known, Left, Setting, plac
 
 -- the command once it is built
 abbrev pub shape : Text → List Rule → Shape
-shape name c = record (new_shape name) { rules = c; disable_help_flag = true; disable_help_subcommand = true;
-    is_built = true }
+shape name c = record (new_shape name) {
+  rules = c;
+  disable_help_flag = true;
+  disable_help_subcommand = true;
+  is_built = true;
+}
 
 -- what is found fault with once the words are over
 abbrev pub after : Text → List Rule → Held → Kinds
@@ -44,12 +48,12 @@ or_else_assoc (k ∷ ks) b d = refl
 
 pub in_one : (name : Text) (c : List Rule) (w : Walk) (words : List Text)
     → or_else (walk_fault (shape name c) [] w words) (after name c (fold (walked c []) w words).held)
-        ≡ total name c w words
+    ≡ total name c w words
 unfolding total walk_fault
 in_one name c w [] = refl
 in_one name c w (x ∷ xs) =
     or_else_assoc (turn_fault (shape name c) [] w x) (walk_fault (shape name c) [] (walked c [] w x) xs)
-        (after name c (fold (walked c []) (walked c [] w x) xs).held)
+    (after name c (fold (walked c []) (walked c [] w x) xs).held)
     ∙ ap (or_else (turn_fault (shape name c) [] w x)) (in_one name c (walked c [] w x) xs)
 
 -- ---- where the walk stands
@@ -67,10 +71,20 @@ pending_in None = None
 pending_in (Some g) = Some (g.0, g.1 ∷ [])
 
 abbrev pub walk_at : List Given → Standing → ℕ → Bool → Walk
-walk_at done (ready last) i trailing = record { held = held done (pending_in last); waiting = idle; position = i;
-    is_trailing = trailing; stopped = None }
-walk_at done (waits name) i trailing = record { held = held done (Some (name, [])); waiting = option name; position = i;
-    is_trailing = trailing; stopped = None }
+walk_at done (ready last) i trailing = record {
+  held = held done (pending_in last);
+  waiting = idle;
+  position = i;
+  is_trailing = trailing;
+  stopped = None;
+}
+walk_at done (waits name) i trailing = record {
+  held = held done (Some (name, []));
+  waiting = option name;
+  position = i;
+  is_trailing = trailing;
+  stopped = None;
+}
 
 abbrev pub all_in : List Given → Option Given → List Given
 all_in done None = done
@@ -93,7 +107,7 @@ goes : (name : Text) (c : List Rule) (w next : Walk) (x : Text) (xs : List Text)
 unfolding total
 goes name c w next x xs o free to says =
     subst (λ (k : Kinds). Says k (ending c w (x ∷ xs)) o)
-        (sym (ap (λ (k : Kinds). or_else k (total name c (walked c [] w x) xs)) free))
+    (sym (ap (λ (k : Kinds). or_else k (total name c (walked c [] w x) xs)) free))
     (subst (λ (v : Walk). Says (total name c v xs) (ending c v xs) o) (sym to) says)
 
 -- a word with a fault
@@ -104,7 +118,7 @@ unfolding total
 refuses name c w x xs o k ks fault none =
     subst (λ (p : Option (List Given)). Says (total name c w (x ∷ xs)) (ending c w (x ∷ xs)) p) (sym none)
     (λ e. let bad : k ∷ ks ≡ [] = sym (ap (λ (f : Kinds). or_else f (total name c (walked c [] w x) xs)) fault) ∙ e in
-        cc)
+    cc)
 
 -- ---- settling
 
@@ -220,7 +234,7 @@ abbrev TrailClaim : Text → List Text → List Rule → List Text → Type 0
 TrailClaim name places c xs = (done : List Given) (last : Option Given) (i : ℕ) (left : List Text) → is_once done ≡ true
     → KnownIn c (ready last) → Left c i left
     → Says (total name c (walk_at done (ready last) i true) xs) (ending c (walk_at done (ready last) i true) xs)
-        (accepts places (all_in done last) (placed left xs))
+    (accepts places (all_in done last) (placed left xs))
 
 abbrev before : List Given → Standing → List Given
 before done (ready last) = all_in done last
@@ -234,7 +248,7 @@ abbrev Claim : Text → List Text → Options → List Rule → List Text → Ty
 Claim name places options c xs = (done : List Given) (s : Standing) (i : ℕ) (left : List Text) → is_once done ≡ true
     → KnownIn c s → Left c i left
     → Says (total name c (walk_at done s i false) xs) (ending c (walk_at done s i false) xs)
-        (accepts places (before done s) (named options left (waiting_in s) xs))
+    (accepts places (before done s) (named options left (waiting_in s) xs))
 
 says_all : (kinds : Kinds) (rows : List Row) (o : Option (List Given)) (given : List Given) → kinds ≡ []
     → rows ≡ rows_for given → o ≡ Some given → Says kinds rows o
@@ -250,7 +264,7 @@ says_none kinds rows o k ks fault is = subst (λ (p : Option (List Given)). Says
 after_is : (name : Text) (c : List Rule) (kinds : Kinds) (rows : List Row) (given : List Given) → kinds ≡ []
     → rows ≡ rows_for given → HaveNoDefault c
     → (or_else kinds (or_else (defaults_fault rows c) (check_fault (shape name c) (fold with_default rows c) false))
-        ≡ check_fault (shape name c) (rows_for given) false)
+    ≡ check_fault (shape name c) (rows_for given) false)
     × (fold with_default rows c ≡ rows_for given)
 after_is name c kinds rows given none same all =
     let d = no_defaults c (rows_for given) all in
@@ -259,21 +273,21 @@ after_is name c kinds rows given none same all =
 end_of : (name : Text) (places : List Text) (c : List Rule) (given : List Given) → is_once given ≡ true
     → list_any (is_missing given) c ≡ not (list_all (λ n. gives n given) places)
     → (t : Bool) → list_all (λ n. gives n given) places ≡ t → (kinds : Kinds) (rows : List Row)
-        → kinds ≡ check_fault (shape name c) (rows_for given) false → rows ≡ rows_for given
+    → kinds ≡ check_fault (shape name c) (rows_for given) false → rows ≡ rows_for given
     → Says kinds rows (accepts places given (Some []))
 end_of name places c given once missing true all kinds rows is same =
     let no : list_any (is_missing given) c ≡ false = missing ∙ ap not all in
     says_all kinds rows (accepts places given (Some [])) given (is
-        ∙ rw no refl) same (rw (append-nil given, once, all) refl)
+    ∙ rw no refl) same (rw (append-nil given, once, all) refl)
 end_of name places c given once missing false all kinds rows is same =
     let yes : list_any (is_missing given) c ≡ true = missing ∙ ap not all in
     says_none kinds rows (accepts places given (Some [])) MissingRequiredArgument [] (is
-        ∙ rw yes refl) (rw (append-nil given, once, all) refl)
+    ∙ rw yes refl) (rw (append-nil given, once, all) refl)
 
 at_end : (name : Text) (places : List Text) (options : Options) (c : List Rule) → Setting places options c
     → (done : List Given) (last : Option Given) → is_once done ≡ true → KnownIn c (ready last)
     → Says (after name c (held done (pending_in last))) (finished c (held done (pending_in last)))
-        (accepts places (all_in done last) (Some []))
+    (accepts places (all_in done last) (Some []))
 at_end name places options c s done last once known = go (settles c done last once known)
   where
     go : Settling c done last
@@ -283,10 +297,10 @@ at_end name places options c s done last once known = go (settles c done last on
         (accepts_twice places (all_in done last) (Some []) again)
     go (free none to all_once) =
         let a = after_is name c (settle_fault c false (held done (pending_in last)))
-            (settled c (held done (pending_in last))).rows (all_in done last) none (ap (λ (h : Held). h.rows) to)
-            s.plain in
+        (settled c (held done (pending_in last))).rows (all_in done last) none (ap (λ (h : Held). h.rows) to)
+        s.plain in
         end_of name places c (all_in done last) all_once (s.missing (all_in done last))
-            (list_all (λ n. gives n (all_in done last)) places) refl _ _ a.0 a.1
+        (list_all (λ n. gives n (all_in done last)) places) refl _ _ a.0 a.1
 
 -- ---- positional words
 
@@ -300,12 +314,12 @@ to_place : (c : List Rule) (i : ℕ) (n x : Text) (done : List Given) (last : Op
     → Settling c done last → arg_by_index c i ≡ Some (place_at i n) → i < 1000
     → settled c (held done (pending_in last)) ≡ held (all_in done last) None
     → to_positional c (arg_by_index c i) x (walk_at done (ready last) i trailing) (held done (pending_in last))
-        ≡ walk_at (all_in done last) (ready (Some (n, x))) (suc i) (trailing || false)
+    ≡ walk_at (all_in done last) (ready (Some (n, x))) (suc i) (trailing || false)
 to_place c i n x done last trailing st at small to =
     ap (λ (a : Option Rule). to_positional c a x (walk_at done (ready last) i trailing) (held done (pending_in last)))
-        at
+    at
     ∙ ap (λ (h : Held). between h (min (i + 1) usize_max) (trailing || false))
-        (place_held c i n x done (pending_in last) ∙ ap (pushed n x) to)
+    (place_held c i n x done (pending_in last) ∙ ap (pushed n x) to)
     ∙ ap (λ (j : ℕ). between (held (all_in done last) (Some (n, x ∷ []))) j (trailing || false)) (cap i small)
 
 place_turn : (name : Text) (c : List Rule) (i : ℕ) (n : Text) (done : List Given) (pending : Option (Text × List Text))
@@ -322,19 +336,19 @@ trails name places options c s (x ∷ xs) done last i left once known l = go lef
   where
     go : (left : List Text) → Left c i left → Settling c done last → TrailClaim name places c xs
         → Says (total name c (walk_at done (ready last) i true) (x ∷ xs)) (ending c (walk_at done (ready last) i true)
-            (x ∷ xs)) (accepts places (all_in done last) (placed left (x ∷ xs)))
+        (x ∷ xs)) (accepts places (all_in done last) (placed left (x ∷ xs)))
     go [] l st rest = refuses name c (walk_at done (ready last) i true) x xs None UnknownArgument [] (rw l refl) refl
     go (n ∷ ns) l (twice fault again) rest =
         refuses name c (walk_at done (ready last) i true) x xs _ ArgumentConflict []
-            (place_turn name c i n done (pending_in last) l.0
-            ∙ fault) (accepts_twice places (all_in done last) (placed (n ∷ ns) (x ∷ xs)) again)
+        (place_turn name c i n done (pending_in last) l.0
+        ∙ fault) (accepts_twice places (all_in done last) (placed (n ∷ ns) (x ∷ xs)) again)
     go (n ∷ ns) l (free none to all_once) rest =
         goes name c (walk_at done (ready last) i true) (walk_at (all_in done last) (ready (Some (n, x))) (suc i) true) x
-            xs _ (place_turn name c i n done (pending_in last) l.0 ∙ none)
+        xs _ (place_turn name c i n done (pending_in last) l.0 ∙ none)
         (to_place c i n x done last true (free none to all_once) l.0 l.2 to)
         (subst (λ (o : Option (List Given)). Says
-            (total name c (walk_at (all_in done last) (ready (Some (n, x))) (suc i) true) xs)
-            (ending c (walk_at (all_in done last) (ready (Some (n, x))) (suc i) true) xs) o)
+        (total name c (walk_at (all_in done last) (ready (Some (n, x))) (suc i) true) xs)
+        (ending c (walk_at (all_in done last) (ready (Some (n, x))) (suc i) true) xs) o)
         (sym (accepts_more places (all_in done last) n x (placed ns xs)))
         (rest (all_in done last) (Some (n, x)) (suc i) ns all_once l.1 l.3))
 
@@ -349,7 +363,7 @@ still_waits name c n done i [] (x ∷ xs) k l = refuses name c (walk_at done (wa
     [] (rw l refl) refl
 still_waits name c n done i (m ∷ ms) (x ∷ xs) k l =
     refuses name c (walk_at done (waits n) i true) x xs None InvalidValue []
-        (place_turn name c i m done (Some (n, [])) l.0 ∙ waiting_fault c done n k) refl
+    (place_turn name c i m done (Some (n, [])) l.0 ∙ waiting_fault c done n k) refl
 
 -- ---- a word after none that waits
 
@@ -357,7 +371,7 @@ still_waits name c n done i (m ∷ ms) (x ∷ xs) k l =
 one_word : (options : Options) (left : List Text) (next : Option Text) (x : Text) (xs : List Text) (k : Kind)
     → kind_of x ≡ k
     → named options left next (x ∷ xs)
-        ≡ after_word options left next k x xs (λ others waits. named options others waits xs)
+    ≡ after_word options left next k x xs (λ others waits. named options others waits xs)
 unfolding named
 one_word options left None x xs k e = ap (λ (kind : Kind). after_word options left None kind x xs
     (λ others waits. named options others waits xs)) e
@@ -377,54 +391,58 @@ other_of name places options c s n t e f = s.by_long n ∙ rw (e, f) refl
 dashes_idle : (name : Text) (c : List Rule) (done : List Given) (last : Option Given) (i : ℕ) (x : Text)
     → bytes_eq x two_hyphens ≡ true
     → (turn_fault (shape name c) [] (walk_at done (ready last) i false) x ≡ [])
-        × (walked c [] (walk_at done (ready last) i false) x ≡ walk_at done (ready last) i true)
+    × (walked c [] (walk_at done (ready last) i false) x ≡ walk_at done (ready last) i true)
 unfolding walked
 dashes_idle name c done last i x d = (rw d refl, rw d refl)
 
 plain_idle_turn : (name : Text) (c : List Rule) (done : List Given) (last : Option Given) (i : ℕ) (x : Text)
     → bytes_eq x two_hyphens ≡ false → long_of x ≡ None → IsBare x
     → turn_fault (shape name c) [] (walk_at done (ready last) i false) x
-        ≡ step_fault (shape name c) i (held done (pending_in last)) value
-plain_idle_turn name c done last i x d l bare = rw (d, l, bare_met c idle x done (pending_in last) bare,
-    bare_fault c x done (pending_in last) bare) refl
+    ≡ step_fault (shape name c) i (held done (pending_in last)) value
+plain_idle_turn name c done last i x d l bare = rw (
+  d,
+  l,
+  bare_met c idle x done (pending_in last) bare,
+  bare_fault c x done (pending_in last) bare,
+) refl
 
 plain_idle_walk : (c : List Rule) (done : List Given) (last : Option Given) (i : ℕ) (x : Text) → bytes_eq x two_hyphens
     ≡ false → long_of x ≡ None → IsBare x
     → walked c [] (walk_at done (ready last) i false) x
-        ≡ to_positional c (arg_by_index c i) x (walk_at done (ready last) i false) (held done (pending_in last))
+    ≡ to_positional c (arg_by_index c i) x (walk_at done (ready last) i false) (held done (pending_in last))
 unfolding walked
 plain_idle_walk c done last i x d l bare = rw (d, l, bare_met c idle x done (pending_in last) bare) refl
 
 long_turn_value : (name : Text) (c : List Rule) (done : List Given) (last : Option Given) (i : ℕ) (x n v : Text)
     → bytes_eq x two_hyphens ≡ false → long_of x ≡ Some (n, Some v)
     → arg_by_long c n ≡ Some (option_at n) → turn_fault (shape name c) [] (walk_at done (ready last) i false) x
-        ≡ or_else (react_fault c false (option_at n) (v ∷ []) (held done (pending_in last))) []
+    ≡ or_else (react_fault c false (option_at n) (v ∷ []) (held done (pending_in last))) []
 long_turn_value name c done last i x n v d l at = rw (d, l, at) refl
 
 long_walk_value : (c : List Rule) (done : List Given) (last : Option Given) (i : ℕ) (x n v : Text)
     → bytes_eq x two_hyphens ≡ false → long_of x ≡ Some (n, Some v)
     → arg_by_long c n ≡ Some (option_at n) → walked c [] (walk_at done (ready last) i false) x
-        ≡ between (reacted c (option_at n) (v ∷ []) (held done (pending_in last))) i false
+    ≡ between (reacted c (option_at n) (v ∷ []) (held done (pending_in last))) i false
 unfolding walked
 long_walk_value c done last i x n v d l at = rw (d, l, at) refl
 
 long_turn_none : (name : Text) (c : List Rule) (done : List Given) (last : Option Given) (i : ℕ) (x n : Text)
     → bytes_eq x two_hyphens ≡ false → long_of x ≡ Some (n, None)
     → arg_by_long c n ≡ Some (option_at n) → turn_fault (shape name c) [] (walk_at done (ready last) i false) x
-        ≡ or_else (settle_fault c false (held done (pending_in last))) []
+    ≡ or_else (settle_fault c false (held done (pending_in last))) []
 long_turn_none name c done last i x n d l at = rw (d, l, at) refl
 
 -- a switch is used as an option is with the empty value
 long_turn_switch : (name : Text) (c : List Rule) (done : List Given) (last : Option Given) (i : ℕ) (x n : Text)
     → bytes_eq x two_hyphens ≡ false → long_of x ≡ Some (n, None)
     → arg_by_long c n ≡ Some (switch_at n) → turn_fault (shape name c) [] (walk_at done (ready last) i false) x
-        ≡ or_else (react_fault c false (option_at n) ([] ∷ []) (held done (pending_in last))) []
+    ≡ or_else (react_fault c false (option_at n) ([] ∷ []) (held done (pending_in last))) []
 long_turn_switch name c done last i x n d l at = rw (d, l, at) refl
 
 long_walk_switch : (c : List Rule) (done : List Given) (last : Option Given) (i : ℕ) (x n : Text)
     → bytes_eq x two_hyphens ≡ false → long_of x ≡ Some (n, None)
     → arg_by_long c n ≡ Some (switch_at n) → walked c [] (walk_at done (ready last) i false) x
-        ≡ between (reacted c (option_at n) ([] ∷ []) (held done (pending_in last))) i false
+    ≡ between (reacted c (option_at n) ([] ∷ []) (held done (pending_in last))) i false
 unfolding walked
 long_walk_switch c done last i x n d l at = rw (d, l, at) refl
 
@@ -432,18 +450,23 @@ long_walk_switch c done last i x n d l at = rw (d, l, at) refl
 switch_turn : (name : Text) (c : List Rule) (done : List Given) (s : Standing) (i : ℕ) (x n v : Text)
     → bytes_eq x two_hyphens ≡ false → long_of x ≡ Some (n, Some v)
     → arg_by_long c n ≡ Some (switch_at n) → turn_fault (shape name c) [] (walk_at done s i false) x
-        ≡ TooManyValues ∷ []
+    ≡ TooManyValues ∷ []
 switch_turn name c done (ready last) i x n v d l at = rw (d, l, at) refl
 switch_turn name c done (waits m) i x n v d l at = rw (d, l, at) refl
 
 abbrev waiting_with : Held → Text → ℕ → Walk
-waiting_with h n i = record { held = record h { pending = Some (n, []) }; waiting = option n; position = i;
-    is_trailing = false; stopped = None }
+waiting_with h n i = record {
+  held = record h { pending = Some (n, []) };
+  waiting = option n;
+  position = i;
+  is_trailing = false;
+  stopped = None;
+}
 
 long_walk_none : (c : List Rule) (done : List Given) (last : Option Given) (i : ℕ) (x n : Text) → bytes_eq x two_hyphens
     ≡ false → long_of x ≡ Some (n, None)
     → arg_by_long c n ≡ Some (option_at n) → walked c [] (walk_at done (ready last) i false) x
-        ≡ waiting_with (settled c (held done (pending_in last))) n i
+    ≡ waiting_with (settled c (held done (pending_in last))) n i
 unfolding walked
 long_walk_none c done last i x n d l at = rw (d, l, at) refl
 
@@ -456,22 +479,30 @@ unknown_turn name c done (waits m) i x n v d l at = rw (d, l, at) refl
 short_turn : (name : Text) (c : List Rule) (done : List Given) (s : Standing) (i : ℕ) (x flags : Text) (first : ℕ)
     → bytes_eq x two_hyphens ≡ false → long_of x ≡ None
     → short_of x ≡ Some flags → slice_get (chars flags) 0 ≡ Some first → arg_by_short c first ≡ None
-        → turn_fault (shape name c) [] (walk_at done s i false) x ≡ UnknownArgument ∷ []
-short_turn name c done (ready last) i x flags first d l e k none = rw (d, l, e,
-    short_fault_is c flags first done (pending_in last) k none) refl
-short_turn name c done (waits m) i x flags first d l e k none = rw (d, l, e,
-    short_fault_is c flags first done (Some (m, [])) k none) refl
+    → turn_fault (shape name c) [] (walk_at done s i false) x ≡ UnknownArgument ∷ []
+short_turn name c done (ready last) i x flags first d l e k none = rw (
+  d,
+  l,
+  e,
+  short_fault_is c flags first done (pending_in last) k none,
+) refl
+short_turn name c done (waits m) i x flags first d l e k none = rw (
+  d,
+  l,
+  e,
+  short_fault_is c flags first done (Some (m, [])) k none,
+) refl
 
 -- an option's value: its name is new, or stands twice
 react_is : (c : List Rule) (done : List Given) (last : Option Given) (n v : Text) (t : Bool)
     → gives n (all_in done last) ≡ t
     → settle_fault c false (held done (pending_in last)) ≡ [] → settled c (held done (pending_in last))
-        ≡ held (all_in done last) None
+    ≡ held (all_in done last) None
     → or_else (react_fault c false (option_at n) (v ∷ []) (held done (pending_in last))) []
-        ≡ (if t then ArgumentConflict ∷ [] else [])
+    ≡ (if t then ArgumentConflict ∷ [] else [])
 react_is c done last n v t e none to =
     ap (λ (k : Kinds). or_else (or_else k (or_else (repeat_fault false n (settled c (held done (pending_in last))).rows)
-        [])) []) none
+    [])) []) none
     ∙ ap (λ (h : Held). or_else (or_else (repeat_fault false n h.rows) []) []) to
     ∙ go t e
   where
@@ -485,10 +516,13 @@ reacted_is : (c : List Rule) (done : List Given) (last : Option Given) (n v : Te
     → settled c (held done (pending_in last)) ≡ held (all_in done last) None
     → reacted c (option_at n) (v ∷ []) (held done (pending_in last)) ≡ held (all_in done last ++ (n, v) ∷ []) None
 reacted_is c done last n v e to =
-    ap (λ (h : Held). let after : Held = record (held done (pending_in last)) { rows =
-        used (option_at n) (v ∷ []) h.rows; pending = None } in after) to
+    ap (λ (h : Held). let after : Held = record (held done (pending_in last)) {
+      rows =
+          used (option_at n) (v ∷ []) h.rows;
+      pending = None;
+    } in after) to
     ∙ ap (λ (rows : List Row). let after : Held = record { rows = rows; pending = None; skip = 0 } in
-        after) (row_added n v (all_in done last) e)
+    after) (row_added n v (all_in done last) e)
 
 -- what is said of a word and those after it, and the reading of them
 abbrev SaysAt : Text → List Text → List Rule → Walk → List Text → List Given → Option (List Given) → Type 0
@@ -501,7 +535,7 @@ refused_at : (name : Text) (places : List Text) (options : Options) (c : List Ru
     (ks : Kinds)
     → kind_of x ≡ kind → turn_fault (shape name c) [] w x ≡ k ∷ ks
     → accepts places given (after_word options left next kind x xs (λ others waits. named options others waits xs))
-        ≡ None
+    ≡ None
     → SaysAt name places c w (x ∷ xs) given (named options left next (x ∷ xs))
 refused_at name places options c w x xs given left next kind k ks seen fault none =
     refuses name c w x xs _ k ks fault (ap (accepts places given) (one_word options left next x xs kind seen) ∙ none)
@@ -512,7 +546,7 @@ goes_at : (name : Text) (places : List Text) (options : Options) (c : List Rule)
     (reading : Option (List Given))
     → kind_of x ≡ kind → turn_fault (shape name c) [] w x ≡ [] → walked c [] w x ≡ w2
     → accepts places given (after_word options left next kind x xs (λ others waits. named options others waits xs))
-        ≡ accepts places more reading
+    ≡ accepts places more reading
     → SaysAt name places c w2 xs more reading → SaysAt name places c w (x ∷ xs) given (named options left next (x ∷ xs))
 goes_at name places options c w w2 x xs given more left next kind reading seen clean to same says =
     goes name c w w2 x xs _ clean to
@@ -525,18 +559,18 @@ idle_value : (name : Text) (places : List Text) (options : Options) (c : List Ru
     → (done : List Given) (last : Option Given) (i : ℕ) (left : List Text) → Left c i left → Settling c done last
     → (n v : Text) (o : Option Text) → kind_of x ≡ long n o
     → turn_fault (shape name c) [] (walk_at done (ready last) i false) x
-        ≡ or_else (react_fault c false (option_at n) (v ∷ []) (held done (pending_in last))) []
+    ≡ or_else (react_fault c false (option_at n) (v ∷ []) (held done (pending_in last))) []
     → walked c [] (walk_at done (ready last) i false) x
-        ≡ between (reacted c (option_at n) (v ∷ []) (held done (pending_in last))) i false
+    ≡ between (reacted c (option_at n) (v ∷ []) (held done (pending_in last))) i false
     → after_word options left None (long n o) x xs (λ others waits. named options others waits xs)
-        ≡ with_given n v (named options left None xs)
+    ≡ with_given n v (named options left None xs)
     → SaysAt name places c (walk_at done (ready last) i false) (x ∷ xs) (all_in done last)
-        (named options left None (x ∷ xs))
+    (named options left None (x ∷ xs))
 idle_value name places options c x xs rest done last i left l (twice fault again) n v o seen turns goes_to gives_it =
     refused_at name places options c (walk_at done (ready last) i false) x xs (all_in done last) left None
-        (long n o) ArgumentConflict [] seen
+    (long n o) ArgumentConflict [] seen
     (turns ∙ ap (λ (k : Kinds). or_else (or_else k
-        (or_else (repeat_fault false n (settled c (held done (pending_in last))).rows) [])) []) fault)
+    (or_else (repeat_fault false n (settled c (held done (pending_in last))).rows) [])) []) fault)
     (accepts_twice places (all_in done last) _ again)
 idle_value name places options c x xs rest done last i left l (free none to once) n v o seen turns goes_to gives_it =
     go (gives n (all_in done last)) refl
@@ -553,15 +587,15 @@ idle_value name places options c x xs rest done last i left l (free none to once
 
     go : (t : Bool) → gives n (all_in done last) ≡ t
         → SaysAt name places c (walk_at done (ready last) i false) (x ∷ xs) (all_in done last)
-            (named options left None (x ∷ xs))
+        (named options left None (x ∷ xs))
     go true g = refused_at name places options c (walk_at done (ready last) i false) x xs (all_in done last) left None
         (long n o) ArgumentConflict [] seen (turn true g)
         (reading ∙ accepts_twice places (all_in done last ++ (n, v) ∷ []) (named options left None xs)
-            (last_again (all_in done last) (n, v) g))
+        (last_again (all_in done last) (n, v) g))
     go false g = goes_at name places options c (walk_at done (ready last) i false) (walk_at (all_in done last
         ++ (n, v) ∷ []) (ready None) i false) x xs
         (all_in done last) (all_in done last ++ (n, v) ∷ []) left None (long n o) (named options left None xs) seen
-            (turn false g)
+        (turn false g)
         (goes_to ∙ ap (λ (h : Held). between h i false) (reacted_is c done last n v g to))
         reading
         (rest (all_in done last ++ (n, v) ∷ []) (ready None) i left (last_new (all_in done last) (n, v) once g) tt l)
@@ -573,44 +607,44 @@ idle_other : (name : Text) (places : List Text) (options : Options) (c : List Ru
     → (n : Text) (v : Option Text) → bytes_eq x two_hyphens ≡ false → long_of x ≡ Some (n, v) → kind_of x ≡ long n v
     → is_among options.valued n ≡ false → (t : Bool) → is_among options.switches n ≡ t
     → SaysAt name places c (walk_at done (ready last) i false) (x ∷ xs) (all_in done last)
-        (named options left None (x ∷ xs))
+    (named options left None (x ∷ xs))
 idle_other name places options c s x xs rest done last i left l st n v d e seen none false among =
     refused_at name places options c (walk_at done (ready last) i false) x xs (all_in done last) left None
-        (long n v) UnknownArgument [] seen
+    (long n v) UnknownArgument [] seen
     (unknown_turn name c done (ready last) i x n v d e (other_of name places options c s n false none among))
-        (rw (none, among) refl)
+    (rw (none, among) refl)
 idle_other name places options c s x xs rest done last i left l st n None d e seen none true among =
     let at = other_of name places options c s n true none among in
     idle_value name places options c x xs rest done last i left l st n [] None seen
     (long_turn_switch name c done last i x n d e at) (long_walk_switch c done last i x n d e at) (rw (none, among) refl)
 idle_other name places options c s x xs rest done last i left l st n (Some v) d e seen none true among =
     refused_at name places options c (walk_at done (ready last) i false) x xs (all_in done last) left None
-        (long n (Some v)) TooManyValues [] seen
+    (long n (Some v)) TooManyValues [] seen
     (switch_turn name c done (ready last) i x n v d e (other_of name places options c s n true none among))
-        (rw (none, among) refl)
+    (rw (none, among) refl)
 
 idle_long : (name : Text) (places : List Text) (options : Options) (c : List Rule) → Setting places options c
     → (x : Text) (xs : List Text) → Claim name places options c xs
     → (done : List Given) (last : Option Given) (i : ℕ) (left : List Text) → Left c i left → Settling c done last
     → (n : Text) (v : Option Text) → bytes_eq x two_hyphens ≡ false → long_of x ≡ Some (n, v) → kind_of x ≡ long n v
-        → (t : Bool) → is_among options.valued n ≡ t
+    → (t : Bool) → is_among options.valued n ≡ t
     → SaysAt name places c (walk_at done (ready last) i false) (x ∷ xs) (all_in done last)
-        (named options left None (x ∷ xs))
+    (named options left None (x ∷ xs))
 idle_long name places options c s x xs rest done last i left l st n v d e seen false among =
     idle_other name places options c s x xs rest done last i left l st n v d e seen among (is_among options.switches n)
-        refl
+    refl
 idle_long name places options c s x xs rest done last i left l (twice fault again) n None d e seen true among =
     refused_at name places options c (walk_at done (ready last) i false) x xs (all_in done last) left None
-        (long n None) ArgumentConflict [] seen
+    (long n None) ArgumentConflict [] seen
     (long_turn_none name c done last i x n d e (option_of name places options c s n among)
-        ∙ ap (λ (k : Kinds). or_else k []) fault) (accepts_twice places (all_in done last) _ again)
+    ∙ ap (λ (k : Kinds). or_else k []) fault) (accepts_twice places (all_in done last) _ again)
 idle_long name places options c s x xs rest done last i left l (free none to once) n None d e seen true among =
     goes_at name places options c (walk_at done (ready last) i false) (walk_at (all_in done last) (waits n) i false) x
-        xs (all_in done last) (all_in done last) left None (long n None) (named options left (Some n) xs) seen
+    xs (all_in done last) (all_in done last) left None (long n None) (named options left (Some n) xs) seen
     (long_turn_none name c done last i x n d e (option_of name places options c s n among)
-        ∙ ap (λ (k : Kinds). or_else k []) none)
+    ∙ ap (λ (k : Kinds). or_else k []) none)
     (long_walk_none c done last i x n d e (option_of name places options c s n among)
-        ∙ ap (λ (h : Held). waiting_with h n i) to)
+    ∙ ap (λ (h : Held). waiting_with h n i) to)
     (rw among refl)
     (rest (all_in done last) (waits n) i left once (s.known n among) l)
 idle_long name places options c s x xs rest done last i left l st n (Some v) d e seen true among =
@@ -623,20 +657,20 @@ idle_plain : (name : Text) (places : List Text) (options : Options) (c : List Ru
     → (done : List Given) (last : Option Given) (i : ℕ) (left : List Text) → Left c i left → Settling c done last
     → bytes_eq x two_hyphens ≡ false → long_of x ≡ None → IsBare x → kind_of x ≡ plain
     → SaysAt name places c (walk_at done (ready last) i false) (x ∷ xs) (all_in done last)
-        (named options left None (x ∷ xs))
+    (named options left None (x ∷ xs))
 idle_plain name places options c s x xs rest done last i [] l st d e bare seen =
     refused_at name places options c (walk_at done (ready last) i false) x xs (all_in done last) [] None plain
-        UnknownArgument [] seen
+    UnknownArgument [] seen
     (plain_idle_turn name c done last i x d e bare ∙ rw l refl) refl
 idle_plain name places options c s x xs rest done last i (n ∷ ns) l (twice fault again) d e bare seen =
     refused_at name places options c (walk_at done (ready last) i false) x xs (all_in done last)
-        (n ∷ ns) None plain ArgumentConflict [] seen
+    (n ∷ ns) None plain ArgumentConflict [] seen
     (plain_idle_turn name c done last i x d e bare ∙ place_turn name c i n done (pending_in last) l.0
-        ∙ fault) (accepts_twice places (all_in done last) _ again)
+    ∙ fault) (accepts_twice places (all_in done last) _ again)
 idle_plain name places options c s x xs rest done last i (n ∷ ns) l (free none to once) d e bare seen =
     goes_at name places options c (walk_at done (ready last) i false) (walk_at (all_in done last) (ready (Some (n, x)))
-        (suc i) false) x xs (all_in done last) (all_in done last ++ (n, x) ∷ []) (n ∷ ns) None plain
-        (named options ns None xs) seen
+    (suc i) false) x xs (all_in done last) (all_in done last ++ (n, x) ∷ []) (n ∷ ns) None plain
+    (named options ns None xs) seen
     (plain_idle_turn name c done last i x d e bare ∙ place_turn name c i n done (pending_in last) l.0 ∙ none)
     (plain_idle_walk c done last i x d e bare ∙ to_place c i n x done last false (free none to once) l.0 l.2 to)
     (accepts_more places (all_in done last) n x (named options ns None xs))
@@ -645,20 +679,20 @@ idle_plain name places options c s x xs rest done last i (n ∷ ns) l (free none
 idle_word : (name : Text) (places : List Text) (options : Options) (c : List Rule) → Setting places options c
     → (x : Text) (xs : List Text) → Claim name places options c xs
     → (done : List Given) (last : Option Given) (i : ℕ) (left : List Text) → is_once done ≡ true
-        → KnownIn c (ready last) → Left c i left → Looks x
+    → KnownIn c (ready last) → Left c i left → Looks x
     → SaysAt name places c (walk_at done (ready last) i false) (x ∷ xs) (all_in done last)
-        (named options left None (x ∷ xs))
+    (named options left None (x ∷ xs))
 idle_word name places options c s x xs rest done last i left once known l (as_dashes d seen) =
     let step = dashes_idle name c done last i x d in
     goes_at name places options c (walk_at done (ready last) i false) (walk_at done (ready last) i true) x xs
-        (all_in done last) (all_in done last) left None dashes (placed left xs) seen step.0 step.1 refl
+    (all_in done last) (all_in done last) left None dashes (placed left xs) seen step.0 step.1 refl
     (trails name places options c s xs done last i left once known l)
 idle_word name places options c s x xs rest done last i left once known l (as_long n v d e seen) =
     idle_long name places options c s x xs rest done last i left l (settles c done last once known) n v d e seen
-        (is_among options.valued n) refl
+    (is_among options.valued n) refl
 idle_word name places options c s x xs rest done last i left once known l (as_short flags first d e f k seen) =
     refused_at name places options c (walk_at done (ready last) i false) x xs (all_in done last) left None short
-        UnknownArgument [] seen
+    UnknownArgument [] seen
     (short_turn name c done (ready last) i x flags first d e f k (s.by_short first)) refl
 idle_word name places options c s x xs rest done last i left once known l (as_plain d e bare seen) =
     idle_plain name places options c s x xs rest done last i left l (settles c done last once known) d e bare seen
@@ -668,27 +702,27 @@ idle_word name places options c s x xs rest done last i left once known l (as_pl
 dashes_waiting : (name : Text) (c : List Rule) (done : List Given) (n : Text) (i : ℕ) (x : Text)
     → bytes_eq x two_hyphens ≡ true
     → (turn_fault (shape name c) [] (walk_at done (waits n) i false) x ≡ [])
-        × (walked c [] (walk_at done (waits n) i false) x ≡ walk_at done (waits n) i true)
+    × (walked c [] (walk_at done (waits n) i false) x ≡ walk_at done (waits n) i true)
 unfolding walked
 dashes_waiting name c done n i x d = (rw d refl, rw d refl)
 
 long_waiting : (name : Text) (c : List Rule) (done : List Given) (n : Text) (i : ℕ) (x m : Text) (v : Option Text)
     → Known c n → bytes_eq x two_hyphens ≡ false → long_of x ≡ Some (m, v)
     → arg_by_long c m ≡ Some (option_at m) → turn_fault (shape name c) [] (walk_at done (waits n) i false) x
-        ≡ InvalidValue ∷ []
+    ≡ InvalidValue ∷ []
 long_waiting name c done n i x m None k d l at = rw (d, l, at, waiting_fault c done n k) refl
 long_waiting name c done n i x m (Some v) k d l at = rw (d, l, at, waiting_fault c done n k) refl
 
 switch_waiting : (name : Text) (c : List Rule) (done : List Given) (n : Text) (i : ℕ) (x m : Text) → Known c n
     → bytes_eq x two_hyphens ≡ false → long_of x ≡ Some (m, None)
     → arg_by_long c m ≡ Some (switch_at m) → turn_fault (shape name c) [] (walk_at done (waits n) i false) x
-        ≡ InvalidValue ∷ []
+    ≡ InvalidValue ∷ []
 switch_waiting name c done n i x m k d l at = rw (d, l, at, waiting_fault c done n k) refl
 
 plain_waiting : (name : Text) (c : List Rule) (done : List Given) (n : Text) (i : ℕ) (x : Text) → Known c n
     → bytes_eq x two_hyphens ≡ false → long_of x ≡ None → IsBare x
     → (turn_fault (shape name c) [] (walk_at done (waits n) i false) x ≡ [])
-        × (walked c [] (walk_at done (waits n) i false) x ≡ walk_at done (ready (Some (n, x))) i false)
+    × (walked c [] (walk_at done (waits n) i false) x ≡ walk_at done (ready (Some (n, x))) i false)
 unfolding walked
 plain_waiting name c done n i x k d l bare = (
   rw (d, l, bare_met c (option n) x done (Some (n, [])) bare, bare_fault c x done (Some (n, [])) bare) refl,
@@ -698,12 +732,12 @@ plain_waiting name c done n i x k d l bare = (
 waiting_word : (name : Text) (places : List Text) (options : Options) (c : List Rule) → Setting places options c
     → (x : Text) (xs : List Text) → Claim name places options c xs
     → (done : List Given) (n : Text) (i : ℕ) (left : List Text) → is_once done ≡ true → Known c n → Left c i left
-        → Looks x
+    → Looks x
     → SaysAt name places c (walk_at done (waits n) i false) (x ∷ xs) done (named options left (Some n) (x ∷ xs))
 waiting_word name places options c s x xs rest done n i left once known l (as_dashes d seen) =
     let step = dashes_waiting name c done n i x d in
     goes_at name places options c (walk_at done (waits n) i false) (walk_at done (waits n) i true) x xs done done left
-        (Some n) dashes None seen step.0 step.1 refl
+    (Some n) dashes None seen step.0 step.1 refl
     (still_waits name c n done i left xs known l)
 waiting_word name places options c s x xs rest done n i left once known l (as_long m v d e seen) =
     go (is_among options.valued m) refl
@@ -731,12 +765,12 @@ waiting_word name places options c s x xs rest done n i left once known l (as_lo
     go false among = other (is_among options.switches m) among refl
 waiting_word name places options c s x xs rest done n i left once known l (as_short flags first d e f k seen) =
     refused_at name places options c (walk_at done (waits n) i false) x xs done left (Some n) short UnknownArgument []
-        seen
+    seen
     (short_turn name c done (waits n) i x flags first d e f k (s.by_short first)) refl
 waiting_word name places options c s x xs rest done n i left once known l (as_plain d e bare seen) =
     let step = plain_waiting name c done n i x known d e bare in
     goes_at name places options c (walk_at done (waits n) i false) (walk_at done (ready (Some (n, x))) i false) x xs
-        done (done ++ (n, x) ∷ []) left (Some n) plain (named options left None xs) seen step.0 step.1
+    done (done ++ (n, x) ∷ []) left (Some n) plain (named options left None xs) seen step.0 step.1
     (accepts_more places done n x (named options left None xs))
     (rest done (ready (Some (n, x))) i left once known l)
 
@@ -749,7 +783,7 @@ walks name places options c s [] done (ready last) i left once known l =
     at_end name places options c s done last once known
 walks name places options c s [] done (waits n) i left once known l =
     says_none (after name c (held done (Some (n, [])))) (ending c (walk_at done (waits n) i false) []) None InvalidValue
-        [] (rw (waiting_fault c done n known) refl) refl
+    [] (rw (waiting_fault c done n known) refl) refl
 walks name places options c s (x ∷ xs) done (ready last) i left once known l =
     idle_word name places options c s x xs (walks name places options c s xs) done last i left once known l (looks x)
 walks name places options c s (x ∷ xs) done (waits n) i left once known l =
@@ -759,10 +793,10 @@ walks name places options c s (x ∷ xs) done (waits n) i left once known l =
 pub all_words : (name : Text) (places : List Text) (options : Options) (c : List Rule) → Setting places options c
     → Left c 1 places → (words : List Text)
     → Says (total name c (walk_at [] (ready None) 1 false) words) (ending c (walk_at [] (ready None) 1 false) words)
-        (taken places options words)
+    (taken places options words)
 unfolding is_once
 all_words name places options c s l words =
     subst (λ (o : Option (List Given)). Says (total name c (walk_at [] (ready None) 1 false) words)
-        (ending c (walk_at [] (ready None) 1 false) words) o)
+    (ending c (walk_at [] (ready None) 1 false) words) o)
     (accepts_start places (named options places None words))
     (walks name places options c s words [] (ready None) 1 places refl tt l)

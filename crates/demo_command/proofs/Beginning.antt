@@ -42,7 +42,7 @@ pub first_in_place : (t : DemoTerms) (sent : ℕ) (lines : List Line) → t.fram
     → lines ≡ made_trace t.seed t.frames → AreInPlace 10000 sent lines
 first_in_place t sent lines few none is =
     subst (λ (n : ℕ). AreInPlace 10000 n lines) (sym none) (subst (λ (l : List Line). AreInPlace 10000 0 l) (sym is)
-        (made_in_place t.seed t.frames few))
+    (made_in_place t.seed t.frames few))
 
 pub first_said : (t : DemoTerms) (said : ℕ) (lines : List Line) → t.frames ≤ 10000 → said ≡ 0
     → lines ≡ made_trace t.seed t.frames → said + 400 * length lines < 2 ^ 64
@@ -60,7 +60,7 @@ first_plays t played lines few none is =
 pub ends_starved : {Machine : Type 0} (r : Result Machine Status) (status : Status) (run : Run) (inputs : Role
     → List ℕ) (start : Role → Option (List ℕ)) (now : Outside)
     → IsErrAnd r (λ x. x ≡ status) → HasEnded run silent status inputs start now
-        → IfErr r (λ x. HasEnded run silent x inputs start now)
+    → IfErr r (λ x. HasEnded run silent x inputs start now)
 ends_starved (Ok m) status run inputs start now is ended = absurd is
 ends_starved (Err x) status run inputs start now is ended =
     subst (λ (y : Status). HasEnded run silent y inputs start now) (sym is) ended

@@ -34,7 +34,7 @@ use Rattle.demo_command.proofs.Made.{near_onto, steady_is}
 -- what is so after a line, by what the line says
 pub as_line : (t : DemoTerms) (past : List Event) (line event : Line) (P : List Event → Type 0) → event ≡ line
     → (IsNearNow t (with_line t past line) → P (with_line t past line)) → IsNearNow t (with_line t past event)
-        → P (with_line t past event)
+    → P (with_line t past event)
 as_line t past line event P is so =
     subst (λ (l : Line). IsNearNow t (with_line t past l) → P (with_line t past l)) (sym is) so
 
@@ -74,26 +74,28 @@ ready_delivered m r network receiver way played = record {
 pub may_deliver : (m : Demo) → LineReady m → NearLaws m.terms.params → (past : List Event) → HasDone m past → (n j : ℕ)
     → IsNearNow m.terms (Deliver n j ∷ past)
     → IsAmongLast (way_of m.network)
-        (length (both_after m.terms.params (steady m.terms.params) (made_video m.terms) [] past).sender.coded) n
-        × MayHappenNow m.terms.params [] (made_video m.terms) past (Deliver n j)
+    (length (both_after m.terms.params (steady m.terms.params) (made_video m.terms) [] past).sender.coded) n
+    × MayHappenNow m.terms.params [] (made_video m.terms) past (Deliver n j)
 may_deliver m r laws past h n j near =
     let p = m.terms.params in
     let may = may_now m.terms laws (steady_is p r.params) past (Deliver n j) near in
-    let kept = laws.packets (receiver_end.run_of p []) (steady p) (made_video m.terms) past n j refl (may,
-        h.way_holds.near) in
+    let kept = laws.packets (receiver_end.run_of p []) (steady p) (made_video m.terms) past n j refl (
+      may,
+      h.way_holds.near,
+    ) in
     ((may.0, omega (arith, kept, r.period)), may)
 
 -- the line of the counts
 pub counts_are : (m : Demo) → WayLaws m.terms.params → (past : List Event) → HasDone m past
     → ShowTheSame m.terms.params (made_video m.terms) past
     → counts_of (tally_of (way_of m.network)) m.both.receiver.played m.both.sender.sent
-        ≡ call_text (in_call (made_call m.terms past))
+    ≡ call_text (in_call (made_call m.terms past))
 counts_are m laws past h same =
     let way = h.way_holds in
     let played = laws.played m.both.sender m.both.receiver [] (made_video m.terms) past way.joined in
     let sent = laws.sent m.both.sender m.both.receiver [] (made_video m.terms) past way.joined in
     (λ i. counts_text (played i) (sent i) (way.tally.exact i) (way.tally.patched i) (way.tally.held i))
-        ∙ ap call_text same
+    ∙ ap call_text same
 
 -- ---- all packets of a picture
 
@@ -117,7 +119,7 @@ module _ (t : DemoTerms) (made : MadeLaws t) (past : List Event) (same : ShowThe
   first_near zero none near = absurd (omega (arith, none))
   first_near (suc k) more near =
       near_onto (pictures_of (coding p)) (rules_of p) (encoded (coding p) (rules_of p) (steady p) (made_video t))
-          (length (made_video t)) (map (Deliver n) (range_with_len 1 k)) (Deliver n 0 ∷ past) near
+      (length (made_video t)) (map (Deliver n) (range_with_len 1 k)) (Deliver n 0 ∷ past) near
 
   pub near_first : n < length both.sender.coded → IsNearNow t (onto (map (Deliver n) (range_with_len 0 count)) past)
       → IsNearNow t (Deliver n 0 ∷ past)

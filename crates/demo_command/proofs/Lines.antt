@@ -11,7 +11,7 @@ use Rattle.demo_command.specs.Machine.{AreInPlace}
 delivering : (n : ℕ) (none twice turned one : Bool) (rest : List Line) → AreInPlace 10000 (n + 1) rest
     → AreInPlace 10000 (n + 1)
     ((if none then [] else (if twice then says.All n ∷ says.All n ∷ [] else (if turned then says.Packet n 1 ∷
-        says.Packet n 0 ∷ [] else (if one then says.Packet n 0 ∷ [] else says.All n ∷ []))))
+    says.Packet n 0 ∷ [] else (if one then says.Packet n 0 ∷ [] else says.All n ∷ []))))
     ++ rest)
 delivering n true twice turned one rest ok = ok
 delivering n false true turned one rest ok = (omega arith, (omega arith, ok))
@@ -43,13 +43,15 @@ of_frames (suc k) n state rest few ok =
     let ahead = frames_from k (n + 1) (after_plays n (next_state state)) in
     let same : n + suc k ≡ (n + 1) + k = omega arith in
     let behind : AreInPlace 10000 (n + 1) (ahead ++ rest) = of_frames k (n + 1) (after_plays n (next_state state)) rest
-        (omega (arith, few)) (subst (λ (m : ℕ). AreInPlace 10000 m rest) same ok) in
+    (omega (arith, few)) (subst (λ (m : ℕ). AreInPlace 10000 m rest) same ok) in
     let here : AreInPlace 10000 (n + 1) (deliveries n u ++ (plays n (next_state state) ++ (ahead ++ rest))) =
     delivering n (u == 0) (u == 1) (u == 2) (u == 3) (plays n (next_state state) ++ (ahead ++ rest))
-        (playing n (next_state state) (n + 1) (ahead ++ rest) behind)
-    in
-    (omega (arith, few), subst (λ (l : List Line). AreInPlace 10000 (n + 1) l)
-        (sym (four_lists (deliveries n u) (plays n (next_state state)) ahead rest)) here)
+    (playing n (next_state state) (n + 1) (ahead ++ rest) behind)
+    in (
+      omega (arith, few),
+      subst (λ (l : List Line). AreInPlace 10000 (n + 1) l)
+          (sym (four_lists (deliveries n u) (plays n (next_state state)) ahead rest)) here,
+    )
 
 last_in_place : (some : Bool) (sent : ℕ) → AreInPlace 10000 sent (if some then says.Play ∷ [] else [])
 last_in_place true sent = tt
@@ -63,7 +65,7 @@ made_in_place seed frames few = of_frames frames 0 seed (last_line frames) (omeg
 
 few_delivering : (n : ℕ) (none twice turned one : Bool)
     → length (if none then [] else (if twice then says.All n ∷ says.All n ∷ [] else (if turned then says.Packet n 1 ∷
-        says.Packet n 0 ∷ [] else (if one then says.Packet n 0 ∷ [] else says.All n ∷ []))))
+    says.Packet n 0 ∷ [] else (if one then says.Packet n 0 ∷ [] else says.All n ∷ []))))
     ≤ 2
 few_delivering n true twice turned one = omega arith
 few_delivering n false true turned one = omega arith
@@ -88,9 +90,13 @@ few_frames zero n state = omega arith
 few_frames (suc k) n state =
     let u = draw (next_state state) 16 in
     let ahead = frames_from k (n + 1) (after_plays n (next_state state)) in
-    omega (arith, three_lengths (deliveries n u) (plays n (next_state state)) ahead,
-        few_delivering n (u == 0) (u == 1) (u == 2) (u == 3), few_plays n (next_state state),
-        few_frames k (n + 1) (after_plays n (next_state state)))
+    omega (
+      arith,
+      three_lengths (deliveries n u) (plays n (next_state state)) ahead,
+      few_delivering n (u == 0) (u == 1) (u == 2) (u == 3),
+      few_plays n (next_state state),
+      few_frames k (n + 1) (after_plays n (next_state state)),
+    )
 
 few_last : (some : Bool) → length (if some then says.Play ∷ [] else []) ≤ 1
 few_last true = omega arith
@@ -101,5 +107,9 @@ two_lengths a b = simp length-append refl
 
 pub made_lines_few : (seed frames : ℕ) → length (made_trace seed frames) ≤ 5 * frames + 1
 made_lines_few seed frames =
-    omega (arith, two_lengths (frames_from frames 0 seed) (last_line frames), few_frames frames 0 seed,
-        few_last (nat_lt 0 frames))
+    omega (
+      arith,
+      two_lengths (frames_from frames 0 seed) (last_line frames),
+      few_frames frames 0 seed,
+      few_last (nat_lt 0 frames),
+    )

@@ -90,9 +90,9 @@ module _ (t : DemoTerms) where
       → AllMayHappen (coding p) (rules_of p) (steady p) (made_video t) (with_line t past line)
   near_line past line lines near =
       near_before (pictures_of (coding p)) (rules_of p) (encoded (coding p) (rules_of p) (steady p) (made_video t))
-          (length (made_video t)) lines (with_line t past line)
+      (length (made_video t)) lines (with_line t past line)
       (subst (λ (l : List Event). AllMayHappen (coding p) (rules_of p) (steady p) (made_video t) l)
-          (after_line past line lines) near)
+      (after_line past line lines) near)
 
 -- ---- slices
 
@@ -122,7 +122,7 @@ module _ (t : DemoTerms) (sound : EncoderIsSound (coding t.params) (rules_of t.p
   some_slices (Send ∷ past) =
       let c = made_call t past in
       if_more c.coded (encoded (coding t.params) (rules_of t.params) (steady t.params) (made_video t) c)
-          (some_slices past)
+      (some_slices past)
       (λ x is.
       let covers = ((sound (steady t.params) (made_video t) (Send ∷ past) paced).0 x is).covers in
       omega (arith, covers.below 0 rules.some_mbs))

@@ -34,7 +34,7 @@ use Rattle.demo_command.proofs.Made.{after_line, near_line}
 pub turn_gives : (r : Result Bool Status) (status : Status) (step : Step DemoState) (after : DemoState → (Role → List ℕ)
     → Type 0) (reads : DemoState → Bool) (now : Bool) (inputs : Role → List ℕ) (old new : Outside)
     → IsErrAnd r (λ x. x ≡ status) → GivesUp (phase status) status step now inputs old new
-        → TurnGives r step after reads now inputs old new
+    → TurnGives r step after reads now inputs old new
 turn_gives (Ok b) status step after reads now inputs old new is gives = absurd is
 turn_gives (Err x) status step after reads now inputs old new is gives =
     subst (λ (y : Status). GivesUp (phase y) y step now inputs old new) (sym is) gives
@@ -42,7 +42,7 @@ turn_gives (Err x) status step after reads now inputs old new is gives =
 -- a write that failed
 pub cut_gives : (status : Status) (step : Step DemoState) (now : Bool) (inputs : Role → List ℕ) (old new : Outside)
     → status ≡ WriteFault → GainsFronts (step_texts step) old.written new.written
-        → GivesUp (phase status) status step now inputs old new
+    → GivesUp (phase status) status step now inputs old new
 cut_gives status step now inputs old new is fronts = subst (λ (y : Status). GivesUp (phase y) y step now inputs old new)
     (sym is) fronts
 
@@ -71,7 +71,7 @@ pub next_in_place : (sent now : ℕ) (event : Line) (all lines : List Line) → 
     → now ≡ sent_after event sent → AreInPlace 10000 sent all → AreInPlace 10000 now lines
 next_in_place sent now event all lines is after placed =
     subst (λ (n : ℕ). AreInPlace 10000 n lines) (sym after)
-        (after_in_place sent event lines (subst (λ (l : List Line). AreInPlace 10000 sent l) is placed))
+    (after_in_place sent event lines (subst (λ (l : List Line). AreInPlace 10000 sent l) is placed))
 
 -- ---- a turn
 
@@ -119,9 +119,9 @@ module _ (m : Demo) (s : DemoState) (inputs : Role → List ℕ) (k : DemoStands
     near_now made =
         near_line t s.past event lines
         (subst (λ (l : List Line). AllMayHappen (coding t.params) (rules_of t.params) (steady t.params) (made_video t)
-            (made_events t s.past l)) (k.lines ∙ is)
+        (made_events t s.past l)) (k.lines ∙ is)
         (subst (λ (l : List Event). AllMayHappen (coding t.params) (rules_of t.params) (steady t.params)
-            (made_video t) l) (sym k.ahead) made.near))
+        (made_video t) l) (sym k.ahead) made.near))
 
     module _ (after : Demo) (terms : after.terms ≡ t) (left : lines_left after.lines
         ≡ lines) (done : HasDone after (with_line t s.past event)) where

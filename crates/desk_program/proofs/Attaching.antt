@@ -73,7 +73,7 @@ other_role r role attached there free same = absurd (cc (ap attached same))
 pub one_more : (order : List (Role × List ℕ)) (role : Role) (name : List ℕ) (old new : Outside) → AreAttached order old
     → old.attached role ≡ false → new.attached ≡ with_role old.attached role true
     → IfSome (new.name role) (λ told. told ≡ name) → ((r : Role) → r ≢ role → new.name r ≡ old.name r)
-        → AreAttached (order ++ (role, name) ∷ []) new
+    → AreAttached (order ++ (role, name) ∷ []) new
 one_more order role name old new a free now told others = record {
   roles = λ r.
       ap (λ (f : Role → Bool). f r) now
@@ -82,7 +82,7 @@ one_more order role name old new a free now told others = record {
   names =
       named_more order role name new.name
       (named_still order old.name new.name (λ r there. others r (other_role r role old.attached (a.roles r
-          ∙ there) free)) a.names) told;
+      ∙ there) free)) a.names) told;
 }
 
 -- the next role of an order
@@ -132,15 +132,15 @@ module _ (attached : Role → Bool) (order : List Pair) (i : ℕ) (d : Pair) (be
 pub next_attached : (first : List (Role × List ℕ)) (order : List Pair) (i : ℕ) (d : Pair) (old new : Outside)
     → i < length order → AreAttached (first ++ names (take i order)) old → old.attached (get_or order i d).0 ≡ false
     → new.attached ≡ with_role old.attached (get_or order i d).0 true
-        → IfSome (new.name (get_or order i d).0) (λ told. told ≡ (get_or order i d).1.now)
-        → ((r : Role) → r ≢ (get_or order i d).0 → new.name r ≡ old.name r)
+    → IfSome (new.name (get_or order i d).0) (λ told. told ≡ (get_or order i d).1.now)
+    → ((r : Role) → r ≢ (get_or order i d).0 → new.name r ≡ old.name r)
     → AreAttached (first ++ names (take (i + 1) order)) new
 next_attached first order i d old new below a free now told others =
     let e : first ++ names (take (i + 1) order) ≡ (first ++ names (take i order)) ++ named (get_or order i d) ∷ [] =
     ap (λ (l : List (Role × List ℕ)). first ++ l) (names_more order i d below)
-        ∙ sym (append_assoc first (names (take i order)) (named (get_or order i d) ∷ [])) in
+    ∙ sym (append_assoc first (names (take i order)) (named (get_or order i d) ∷ [])) in
     subst (λ (l : List (Role × List ℕ)). AreAttached l new) (sym e) (one_more (first ++ names (take i order))
-        (get_or order i d).0 (get_or order i d).1.now old new a free now told others)
+    (get_or order i d).0 (get_or order i d).1.now old new a free now told others)
 
 -- a call that changes neither which roles are attached nor their names
 pub still_attached : (order : List (Role × List ℕ)) (old new : Outside) → new.attached ≡ old.attached
@@ -154,7 +154,7 @@ still_attached order old new roles names a = record {
 pub not_attached : (r : Result (Unit {0}) Status) (s : Status) (first : List (Role × List ℕ)) (order : List Pair)
     (i : ℕ) (d : Pair) (old new : Outside) → i < length order → AreAttached (first ++ names (take i order)) old
     → new.attached ≡ old.attached → new.name ≡ old.name → IsErrAnd r (λ x. x ≡ s) → (s ≡ OpenFault (get_or order i d).0)
-        ⊎ (s ≡ OutOfMemory) → AttachedAt (first ++ names order) (start_status r) new
+    ⊎ (s ≡ OutOfMemory) → AttachedAt (first ++ names order) (start_status r) new
 not_attached (Ok x) s first order i d old new below a roles same gave kind = absurd gave
 not_attached (Err x) s first order i d old new below a roles same gave kind =
     subst (λ (s : Status). AttachedAt (first ++ names order) s new) (sym gave) (by_kind s kind)
@@ -177,8 +177,12 @@ not_attached (Err x) s first order i d old new below a roles same gave kind =
       attached = before;
     })
     by_kind s (inr is) = subst (λ (s : Status). AttachedAt (first ++ names order) s new) (sym is)
-        (record { first = first ++ names (take i order); rest = names (drop i order); whole = after_these;
-        attached = before })
+        (record {
+          first = first ++ names (take i order);
+          rest = names (drop i order);
+          whole = after_these;
+          attached = before;
+        })
 
 true_if : (b a : Bool) → a ≡ true → (if b then true else a) ≡ true
 true_if true a is = refl
@@ -212,14 +216,22 @@ some_attached unread order new a = all_attached order new a
 some_attached unwritten order new a = a
 some_attached starved order new a = a
 some_attached unasked order new a = all_attached order new a
-some_attached (unopened role) order new a = record { first = a.first; rest = (role, a.name) ∷ a.rest; whole = a.whole;
-    attached = a.attached }
+some_attached (unopened role) order new a = record {
+  first = a.first;
+  rest = (role, a.name) ∷ a.rest;
+  whole = a.whole;
+  attached = a.attached;
+}
 
 -- the same at a desk with the same roles and names
 still_some : (order : List (Role × List ℕ)) (old new : Outside) → new.attached ≡ old.attached → new.name ≡ old.name
     → SomeAttached order old → SomeAttached order new
-still_some order old new roles names a = record { first = a.first; rest = a.rest; whole = a.whole;
-    attached = still_attached a.first old new roles names a.attached }
+still_some order old new roles names a = record {
+  first = a.first;
+  rest = a.rest;
+  whole = a.whole;
+  attached = still_attached a.first old new roles names a.attached;
+}
 
 pub attached_still : (phase : Phase) (order : List (Role × List ℕ)) (old new : Outside) → new.attached ≡ old.attached
     → new.name ≡ old.name → AttachedIn phase order old → AttachedIn phase order new
@@ -229,8 +241,13 @@ attached_still unread order old new roles names a = still_attached order old new
 attached_still unwritten order old new roles names a = still_some order old new roles names a
 attached_still starved order old new roles names a = still_some order old new roles names a
 attached_still unasked order old new roles names a = still_attached order old new roles names a
-attached_still (unopened role) order old new roles names a = record { first = a.first; name = a.name; rest = a.rest;
-    whole = a.whole; attached = still_attached a.first old new roles names a.attached }
+attached_still (unopened role) order old new roles names a = record {
+  first = a.first;
+  name = a.name;
+  rest = a.rest;
+  whole = a.whole;
+  attached = still_attached a.first old new roles names a.attached;
+}
 
 -- at a desk with nothing attached
 pub none_attached : (new : Outside) → NoneAttached new.attached → AreAttached [] new

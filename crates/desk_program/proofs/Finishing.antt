@@ -103,7 +103,7 @@ module _ (run : Run) (inputs : Role → List ℕ) (old : Role → Option (List �
       → (r : Role) → new.written r ≡ mid.written r
   still_written status is g r =
       g r ∙ ap (λ (l : List ℕ). gained (mid.written r) l) (ap (λ (l : List ℕ). if is_role Report r then l else [])
-          (no_line status is) ∙ no_text (is_role Report r)) ∙ gained-nil (mid.written r)
+      (no_line status is) ∙ no_text (is_role Report r)) ∙ gained-nil (mid.written r)
 
   told : (p : Phase) (status : Status) → phase status ≡ p → EndedIn p run silent status inputs old mid
       → Gains (end_text status) mid.written new.written → new.left ≡ mid.left
@@ -200,10 +200,10 @@ module _ (run : Run) (inputs : Role → List ℕ) (old : Role → Option (List �
       refl e end)
   not_told unwritten status is e end same =
       let quiet : (r : Role) → end_text status r ≡ [] = λ r. ap (λ (l : List ℕ). if is_role Report r then l else [])
-          (no_line status is) ∙ no_text (is_role Report r) in
+      (no_line status is) ∙ no_text (is_role Report r) in
       told unwritten WriteFault refl e
       (λ r. end.written r ∙ ap (λ (l : List ℕ). gained (mid.written r) l) (front_nil (end.piece r) (end.cut r)
-          (end.whole r ∙ quiet r) ∙ sym (no_text (is_role Report r))))
+      (end.whole r ∙ quiet r) ∙ sym (no_text (is_role Report r))))
       same
 
   -- the run with its last line
@@ -211,10 +211,10 @@ module _ (run : Run) (inputs : Role → List ℕ) (old : Role → Option (List �
       → Finishes status result mid new → new.left ≡ mid.left → HasEnded run end_text result inputs old new
   finished_with status result e (inl t) same =
       subst (λ (s : Status). HasEnded run end_text s inputs old new) (sym t.same)
-          (told (phase status) status refl e (told_gains status mid.written new.written t.written) same)
+      (told (phase status) status refl e (told_gains status mid.written new.written t.written) same)
   finished_with status result e (inr t) same =
       subst (λ (s : Status). HasEnded run end_text s inputs old new) (sym t.fault)
-          (not_told (phase status) status refl e (untold status mid.written new.written t.written) same)
+      (not_told (phase status) status refl e (untold status mid.written new.written t.written) same)
 
 -- where a role could not be attached, nothing was written
 pub opening_ends : (p : Phase) (status : Status) (run : Run) (inputs : Role → List ℕ) (old : Role
@@ -240,10 +240,10 @@ pub finished_attached : (order : List (Role × List ℕ)) (status result : Statu
     → AttachedAt order status mid → Finishes status result mid new → AttachedAt order result new
 finished_attached order status result mid new rest a (inl t) =
     subst (λ (s : Status). AttachedAt order s new) (sym t.same)
-        (attached_still (phase status) order mid new rest.attached rest.name a)
+    (attached_still (phase status) order mid new rest.attached rest.name a)
 finished_attached order status result mid new rest a (inr t) =
     subst (λ (s : Status). AttachedAt order s new) (sym t.fault) (some_attached (phase status) order new
-        (attached_still (phase status) order mid new rest.attached rest.name a))
+    (attached_still (phase status) order mid new rest.attached rest.name a))
 
 still_read : (p : Phase) (source : Option Role) (mid new : Outside) → new.left ≡ mid.left → ReadOutIn p source mid
     → ReadOutIn p source new
@@ -310,7 +310,7 @@ unopened_alone status result old mid new left written same (inl t) is = record {
   left = same ∙ left;
   written = subst (λ (w : Role → Option (List ℕ)). Gains (end_text result) w new.written) written
       (subst (λ (s : Status). Gains (end_text s) mid.written new.written) (sym t.same)
-          (told_gains status mid.written new.written t.written));
+      (told_gains status mid.written new.written t.written));
 }
 unopened_alone status result old mid new left written same (inr t) is = absurd (subst IsUnopened t.fault is)
 

@@ -33,8 +33,11 @@ pub fronts_on : (role : Role) (bytes : List ℕ) (old new : Role → Option (Lis
     → GainsFronts (on role bytes) old new
 fronts_on role bytes old new f = λ r. record {
   rest = on role f.rest r;
-  so_far = record { front = on role f.front r; whole = joined (is_role role r) f.front f.rest bytes f.whole;
-      gains = gains_on role f.front old new f.gained r };
+  so_far = record {
+    front = on role f.front r;
+    whole = joined (is_role role r) f.front f.rest bytes f.whole;
+    gains = gains_on role f.front old new f.gained r;
+  };
 }
 
 -- nothing was written
@@ -207,6 +210,6 @@ refuses_video video before status inputs old new left same = record {
     at_role : (b : Bool) (r : Role) → (is_role video r ≡ false → new.left r ≡ Some (left_after inputs before r))
         → is_role video r ≡ b
         → (k : ℕ) → (if b then None else Some (before r)) ≡ Some k
-            → new.left r ≡ Some (left_after inputs (λ _. 0 + k) r)
+        → new.left r ≡ Some (left_after inputs (λ _. 0 + k) r)
     at_role true r left is k said = absurd (cc said)
     at_role false r left is k said = left is ∙ ap (λ (n : ℕ). Some (drop n (inputs r))) (so_many (before r) k (cc said))

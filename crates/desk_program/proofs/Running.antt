@@ -45,8 +45,10 @@ run_is step (suc n) s inputs = refl
 
 run_goes : {State : Type 0} (step : State → (Role → List ℕ) → Step State) (n : ℕ) (s : State) (inputs : Role
     → List ℕ) (next : State) (t : Turn) → step s inputs ≡ Goes next t
-    → run_of step (suc n) s inputs ≡ record { turns = t ∷ (run_of step n next (left_after inputs t.taken)).turns;
-        last = (run_of step n next (left_after inputs t.taken)).last }
+    → run_of step (suc n) s inputs ≡ record {
+      turns = t ∷ (run_of step n next (left_after inputs t.taken)).turns;
+      last = (run_of step n next (left_after inputs t.taken)).last;
+    }
 unfolding run_of
 run_goes {State} step n s inputs next t is =
     ap (λ (x : Step State). follow x (λ next taken. run_of step n next (left_after inputs taken))) is
@@ -101,8 +103,8 @@ module _ {State : Type 0} (x : Step State) (cont : State → (Role → ℕ) → 
       → Gains (texts_of (p.done ++ t ∷ [])) start new.written
   more_written t w = λ r.
       gains_more (t.texts r) r (w r)
-          ∙ ap (λ (l : List ℕ). gained (start r) l) (ap (λ (l : List ℕ). texts_of p.done r
-          ++ l) (sym (append-nil (t.texts r))) ∙ sym (texts-append p.done (t ∷ []) r))
+      ∙ ap (λ (l : List ℕ). gained (start r) l) (ap (λ (l : List ℕ). texts_of p.done r
+      ++ l) (sym (append-nil (t.texts r))) ∙ sym (texts-append p.done (t ∷ []) r))
 
   pub more_turns : (t : Turn) (next : Run) → follow x cont ≡ record { turns = t ∷ next.turns; last = next.last }
       → (p.done ++ t ∷ []) ++ next.turns ≡ run.turns
@@ -113,7 +115,7 @@ module _ {State : Type 0} (x : Step State) (cont : State → (Role → ℕ) → 
   ended status e =
       let is : follow x cont ≡ record { turns = []; last = e.last } = ap (λ (y : Step State). follow y cont) e.is in
       let turns : p.done ≡ run.turns = sym (append-nil p.done) ∙ ap (λ (y : Run). p.done ++ y.turns) (sym is)
-          ∙ p.turns in
+      ∙ p.turns in
       let last : e.last ≡ run.last = ap (λ (y : Run). y.last) (sym is) ∙ p.last in
       record {
         known = e.by.known ∙ ap (λ (y : End). y.status) last;
@@ -123,7 +125,7 @@ module _ {State : Type 0} (x : Step State) (cont : State → (Role → ℕ) → 
         left = λ r input k said.
             e.by.left r input k (ap (λ (y : End). y.taken r) last ∙ said)
             ∙ ap (λ (l : List ℕ). Some l) (ap (λ (n : ℕ). drop n (p.rest r)) (zero-add k) ∙ place_at k r
-                ∙ ap (λ (l : List Turn). drop (taken_of l r + k) (inputs r)) turns);
+            ∙ ap (λ (l : List Turn). drop (taken_of l r + k) (inputs r)) turns);
       }
 
   lost : Lost x reads p.rest old new → IsWholeOnly run (λ _. []) inputs start new
@@ -177,7 +179,7 @@ module _ {State : Type 0} (x : Step State) (cont : State → (Role → ℕ) → 
 abbrev pub at_start : {State : Type 0} (first : Step State) (step : State → (Role → List ℕ)
     → Step State) (most : ℕ) (inputs : Role → List ℕ) (now : Outside)
     → IsBefore first (λ next taken. run_of step most next (left_after inputs taken)) (run_from first step most inputs)
-        inputs now.written true now
+    inputs now.written true now
 at_start first step most inputs now = record {
   done = [];
   rest = inputs;
@@ -191,7 +193,7 @@ at_start first step most inputs now = record {
 pub started : {State : Type 0} (first : Step State) (step : State → (Role → List ℕ) → Step State) (reads : State
     → Bool) (most : ℕ) (inputs : Role → List ℕ) (old new : Outside) (stands : State → (Role → List ℕ) → Type 0)
     → Went first stands reads true inputs old new
-        → IsUnderWay step reads (run_from first step most inputs) inputs old.written stands most new
+    → IsUnderWay step reads (run_from first step most inputs) inputs old.written stands most new
 started {State} first step reads most inputs old new stands w =
     let p = at_start first step most inputs old in
     let next = run_of step most w.next (left_after inputs w.turn.taken) in
@@ -235,7 +237,7 @@ module _ {State : Type 0} (step : State → (Role → List ℕ) → Step State) 
       let next = run_of step fewer w.next (left_after p.rest w.turn.taken) in
       let is : run_of step more p.state p.rest ≡ record { turns = w.turn ∷ next.turns; last = next.last } =
       ap (λ (n : ℕ). run_of step n p.state p.rest) (sym less ∙ add-one fewer)
-          ∙ run_goes step fewer p.state p.rest w.next w.turn w.is in
+      ∙ run_goes step fewer p.state p.rest w.next w.turn w.is in
       let b = before_step in
       record {
         done = p.done ++ w.turn ∷ [];

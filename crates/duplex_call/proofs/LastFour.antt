@@ -17,7 +17,7 @@ to_end said first (suc count) is =
     let d : Message = Ack 0 [] in
     let below : first < length said = omega (arith, is) in
     ap (λ (o : Option Message). option_map_or (λ message. message ∷ []) o []
-        ++ messages_at said (range_with_len (first + 1) count)) (slice_get-get_or said first d below)
+    ++ messages_at said (range_with_len (first + 1) count)) (slice_get-get_or said first d below)
     ∙ ap (λ (l : List Message). get_or said first d ∷ l) (to_end said (first + 1) count (omega (arith, is)))
     ∙ sym (drop_more said first d below)
 

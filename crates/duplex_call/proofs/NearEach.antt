@@ -13,7 +13,7 @@ use Rattle.duplex_call.specs.Duplex.{Lettered, WayRun, WayRuns, way, WayCoding, 
 
 module _ {Frame Style Mb Picture Fault MessageFault : Type 0}
     (later : (coding : Coding Frame Style Mb Picture Fault MessageFault) (rules : Rules)
-        → LaterFrames coding rules) where
+    → LaterFrames coding rules) where
   module _ (coding : Coding Frame Style Mb Picture Fault MessageFault) (rules : Rules) (pace : List ℕ → ℕ) where
     -- no more pictures are coded than there are frames
     within : (frames : List Frame) (past : List Event) → AllMayHappen coding rules pace frames past
@@ -38,9 +38,11 @@ module _ {Frame Style Mb Picture Fault MessageFault : Type 0}
         → AllMayHappen coding rules pace (frames ++ more) (Send ∷ past)
     near_sent frames more past near some few =
         let both = later coding rules pace frames more past near in
-        let here : MayHappen rules (length (frames ++ more)) (ideal coding rules pace frames past) Send = (some, few) in
-        (subst (λ (c : Call Style Mb Picture). MayHappen rules (length (frames ++ more)) c Send) (sym both.0) here,
-            both.1)
+        let here : MayHappen rules (length (frames ++ more)) (ideal coding rules pace frames past) Send =
+        (some, few) in (
+          subst (λ (c : Call Style Mb Picture). MayHappen rules (length (frames ++ more)) c Send) (sym both.0) here,
+          both.1,
+        )
 
   module _ {Captured : Type 0} (side : Party → WayCoding Captured Frame Style Mb Picture Fault MessageFault) where
     -- each event of the party is near by its own ideal call
@@ -51,8 +53,10 @@ module _ {Frame Style Mb Picture Fault MessageFault : Type 0}
     near_brought : (x : Party) (w : WayRun Frame) (ks : List ℕ) → AreNear x w → MayBeBrought side x w ks
         → AreNear x (record w { past = brought ks w.past })
     near_brought x w [] near heard = near
-    near_brought x w (k ∷ ks) near heard = near_brought x (record w { past = Back k ∷ w.past }) ks (heard.0,
-        near) (still ks heard.1)
+    near_brought x w (k ∷ ks) near heard = near_brought x (record w { past = Back k ∷ w.past }) ks (
+      heard.0,
+      near,
+    ) (still ks heard.1)
       where
         still : (ks : List ℕ) → MayBeBrought side x w ks → MayBeBrought side x (record w { past = Back k ∷ w.past }) ks
         still [] heard = heard
@@ -70,7 +74,7 @@ module _ {Frame Style Mb Picture Fault MessageFault : Type 0}
         let few = within (side x).coding (side x).rules (side x).pace w.frames w.past near in
         let size = length-append w.frames (frame ∷ []) in
         near_sent (side x).coding (side x).rules (side x).pace w.frames (frame ∷ []) w.past near
-            (omega (arith, few, size)) here
+        (omega (arith, few, size)) here
 
     pub step_capture : (x : Party) (captured : Captured) (left : ℕ) (ways : WayRuns Frame)
         → ((y : Party) → AreNear y (way y ways)) → MayHappenOf side left x Send ways → (y : Party)

@@ -40,7 +40,9 @@ module _ {Captured Frame Style Mb Picture Fault MessageFault : Type 0} (none : (
       let here = none (side x).rules left (call_of side x (way x ways)) (Deliver n j) in
       let own_is = own_refusal side left x (way x ways) (Deliver n j) in
       let far_is = heard_refusal side (other x) (way (other x) ways) ks in (
-        λ is. (here.0 (neither own_is far_is is).0,
-            heard (other x) (way (other x) ways) ks (neither own_is far_is is).1),
+        λ is. (
+          here.0 (neither own_is far_is is).0,
+          heard (other x) (way (other x) ways) ks (neither own_is far_is is).1,
+        ),
         λ near. both_none own_is far_is (here.1 near.0) (heard_back (other x) (way (other x) ways) ks near.1),
       )

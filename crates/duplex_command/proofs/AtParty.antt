@@ -57,11 +57,11 @@ module _ (own far own_new far_new : Station) (said : TraceLine) (room : ℕ) (na
   event_taken r t = record {
     gives = λ trace old s inputs b.
         let stands : DuplexState → (Role → List ℕ)
-            → Type 0 = λ next rest. StationsStand x own_new far_new trace next (rest Events) in
+        → Type 0 = λ next rest. StationsStand x own_new far_new trace next (rest Events) in
         subst (λ (step : Step DuplexState). TurnGives (second_result r) step stands may_read true inputs old new)
-            (event_at_second x s (inputs Events) inputs said.event)
+        (event_at_second x s (inputs Events) inputs said.event)
         (turn_at_second stands may_read true inputs na nb old new (event_step Video Pictures VideoRefused x s
-            (inputs Events) (for_second inputs) said.event) r
+        (inputs Events) (for_second inputs) said.event) r
         (t.gives trace (exchanged_outside na old) s (for_second inputs) (read_too trace old s inputs b)));
     goes_on = ending_at_second r ⊥ t.goes_on;
     ready = going_at_second r (StationsReady own_new far_new room) t.ready;
@@ -76,7 +76,7 @@ module _ (own far own_new far_new : Station) (said : TraceLine) (room : ℕ) (na
 stands_so : {State : Type 0} (r : Result Bool Status) (step : Step State) (P Q : State → (Role → List ℕ)
     → Type 0) (reads : State → Bool) (now : Bool) (inputs : Role → List ℕ) (old new : Outside)
     → ((s : State) (rest : Role → List ℕ) → P s rest → Q s rest) → TurnGives r step P reads now inputs old new
-        → TurnGives r step Q reads now inputs old new
+    → TurnGives r step Q reads now inputs old new
 stands_so (Ok true) step P Q reads now inputs old new so w = record {
   next = w.next;
   turn = w.turn;
@@ -96,8 +96,12 @@ ready_so (Ok false) P Q so p = tt
 ready_so (Err status) P Q so p = tt
 
 in_call_too : Laws → (own far : PartyEnds) → AreInCall own far → AreInCall far own
-in_call_too laws own far k = record { params = k.params; party = other k.party; ways = k.ways;
-    holds = (laws k.params).exchanged k.party own far k.ways k.holds }
+in_call_too laws own far k = record {
+  params = k.params;
+  party = other k.party;
+  ways = k.ways;
+  holds = (laws k.params).exchanged k.party own far k.ways k.holds;
+}
 
 module _ (laws : Laws) where
   to_b : (a b : Station) (trace : TracePlace) (s : DuplexState) (rest : List ℕ) → StationsStand A a b trace s rest
@@ -123,8 +127,11 @@ module _ (laws : Laws) where
   }
 
   pub stations_too : (own far : Station) (room : ℕ) → StationsReady own far room → StationsReady far own room
-  stations_too own far room r = record { own_ready = r.far_ready; far_ready = r.own_ready;
-      ends = in_call_too laws own.ends far.ends r.ends }
+  stations_too own far room r = record {
+    own_ready = r.far_ready;
+    far_ready = r.own_ready;
+    ends = in_call_too laws own.ends far.ends r.ends;
+  }
 
   module _ (a b a_new b_new : Station) (said : TraceLine) (r : Result Bool Status) (mid new : Outside) (room : ℕ) where
     abbrev by_party : Party → TraceLine
@@ -135,18 +142,27 @@ module _ (laws : Laws) where
 
     a_line : TakesEvent Video Pictures VideoRefused a b a_new b_new (by_party A) r mid new room
         → TakesLine a b a_new b_new (by_party A) r mid new room
-    a_line t = record { gives = t.gives; goes_on = t.goes_on; ready = t.ready; stop = t.stop; cause = t.cause;
-        rest = t.rest }
+    a_line t = record {
+      gives = t.gives;
+      goes_on = t.goes_on;
+      ready = t.ready;
+      stop = t.stop;
+      cause = t.cause;
+      rest = t.rest;
+    }
 
     b_line : TakesEvent Video2 Pictures2 Video2Refused b a b_new a_new (by_party B) r mid new room
         → TakesLine a b a_new b_new (by_party B) r mid new room
     b_line t = record {
       gives = λ trace old s inputs k.
           stands_so r (party_step B s inputs said.event) (λ next rest. StationsStand B b_new a_new trace next
-              (rest Events)) (λ next rest. StationsStand A a_new b_new trace next (rest Events))
+          (rest Events)) (λ next rest. StationsStand A a_new b_new trace next (rest Events))
           may_read true inputs old new (λ next rest stand. to_a a_new b_new trace next (rest Events) stand)
-          (t.gives trace old s inputs (record { stood = to_b a b trace _ _ k.stood; number = k.number;
-              taken = k.taken }));
+          (t.gives trace old s inputs (record {
+            stood = to_b a b trace _ _ k.stood;
+            number = k.number;
+            taken = k.taken;
+          }));
       goes_on = t.goes_on;
       ready = ready_so r (StationsReady b_new a_new room) (StationsReady a_new b_new room)
           (stations_too b_new a_new room) t.ready;
@@ -161,7 +177,7 @@ module _ (laws : Laws) where
     line_of_a is t =
         subst (λ (q : TraceLine). TakesLine a b a_new b_new q r mid new room) (sym (party_is A is))
         (a_line (subst (λ (q : TraceLine). TakesEvent Video Pictures VideoRefused a b a_new b_new q r mid new room)
-            (party_is A is) t))
+        (party_is A is) t))
 
     -- of the second
     pub line_of_b : said.party ≡ B → TakesEvent Video2 Pictures2 Video2Refused b a b_new a_new said r mid new room
@@ -169,4 +185,4 @@ module _ (laws : Laws) where
     line_of_b is t =
         subst (λ (q : TraceLine). TakesLine a b a_new b_new q r mid new room) (sym (party_is B is))
         (b_line (subst (λ (q : TraceLine). TakesEvent Video2 Pictures2 Video2Refused b a b_new a_new q r mid new room)
-            (party_is B is) t))
+        (party_is B is) t))

@@ -49,23 +49,23 @@ module _ (a b : ℕ) (old new : Outside) where
       → Gains (on Pictures2 text) old.written new.written
   gains text gained_so = λ r. subst (λ (t : List ℕ). new.written r ≡ gained (old.written r) t) (on_second text r)
       (subst (λ (q : Role). new.written q ≡ gained (old.written q) (on Pictures text (exchanged r))) (twice r)
-          (gained_so (exchanged r)))
+      (gained_so (exchanged r)))
 
   fronts : (text : List ℕ)
       → GainsFronts (on Pictures text) (exchanged_outside a old).written (exchanged_outside b new).written
       → GainsFronts (on Pictures2 text) old.written new.written
   fronts text so = λ r. subst (λ (t : List ℕ). Front t (old.written r) (new.written r)) (on_second text r)
       (subst (λ (q : Role). Front (on Pictures text (exchanged r)) (old.written q) (new.written q)) (twice r)
-          (so (exchanged r)))
+      (so (exchanged r)))
 
   pub gains_at_second : {T : Type 0} (r : Result T Status) (text : List ℕ)
       → OnOk r (Gains (on Pictures text) (exchanged_outside a old).written (exchanged_outside b new).written)
-          → OnOk r (Gains (on Pictures2 text) old.written new.written)
+      → OnOk r (Gains (on Pictures2 text) old.written new.written)
   gains_at_second (Ok x) text so = gains text so
   gains_at_second (Err x) text so = so
 
   pub fronts_at_second : {T : Type 0} (r : Result T Status) (text : List ℕ)
       → OnErr r (GainsFronts (on Pictures text) (exchanged_outside a old).written (exchanged_outside b new).written)
-          → OnErr r (GainsFronts (on Pictures2 text) old.written new.written)
+      → OnErr r (GainsFronts (on Pictures2 text) old.written new.written)
   fronts_at_second (Ok x) text so = so
   fronts_at_second (Err x) text so = fronts text so

@@ -165,11 +165,13 @@ module _ (p : Party → Params) where
       let kept = kept_places x n count ways in
       let coded = kept.coded x in
       let played = kept.played x in (
-        (subst (λ (l : List (Coded Style Mb Picture)). n < length l) (sym coded) may.0.0,
-            subst (λ (m : ℕ). m < n + (rules_of (p x)).half) (sym played) may.0.1),
+        (
+          subst (λ (l : List (Coded Style Mb Picture)). n < length l) (sym coded) may.0.0,
+          subst (λ (m : ℕ). m < n + (rules_of (p x)).half) (sym played) may.0.1,
+        ),
         heard_places x n count ways (slice_index_or (way x (with_places p x n count ways)).carried n [])
             (subst (λ (l : List (List ℕ)). MayBeBrought (sides p) (other x) (way (other x) ways)
-                (slice_index_or l n [])) (sym (kept.carried x)) may.1),
+            (slice_index_or l n [])) (sym (kept.carried x)) may.1),
       )
 
   module _ (captures : Party → List Picture) where
@@ -182,7 +184,7 @@ module _ (p : Party → Params) where
     pub near_packets : (x : Party) (n i count : ℕ) (past : List Lettered)
         → MayHappenOf (sides p) (length (captures x)) x (Deliver n i) (ways_of p captures past)
         → AllMayHappenOf (sides p) captures past
-            → AllMayHappenOf (sides p) captures (with_packets p captures x n count past)
+        → AllMayHappenOf (sides p) captures (with_packets p captures x n count past)
     near_packets x n i zero past may near = near
     near_packets x n i (suc j) past may near = (
       subst (MayHappenOf (sides p) (length (captures x)) x (Deliver n j)) (ways_packets x n j past)

@@ -59,11 +59,11 @@ module _ (x : Party) (s : DuplexState) where
   frame_part : LineLaws → VideoLaws → (trace video : List ℕ) (n : ℕ) (r : Result (List ℕ) Y4mFault)
       → next_frame place.more format place.at video ≡ r
       → IsErr (frame_of format place.at (take n video))
-          → IsPart (step_turns (captured trace (frame_size format video) r)) (some_of trace n)
+      → IsPart (step_turns (captured trace (frame_size format video) r)) (some_of trace n)
   frame_part lines laws trace video n (Ok frame) is lost =
       lines.frame_part trace (frame_size format video) n
       (λ whole. not_an_err _ frame (laws.frame format place.at n video frame
-          (next_is place.more format place.at video frame is) whole).0 lost)
+      (next_is place.more format place.at video frame is) whole).0 lost)
   frame_part lines laws trace video n (Err fault) is lost = tt
 
   video_part : LineLaws → VideoLaws → (trace video : List ℕ) (n : ℕ) → IsErr (frame_of format place.at (take n video))
@@ -83,7 +83,7 @@ module _ (x : Party) (s : DuplexState) where
   abbrev pub Gives : Result Bool VideoStop → List ℕ → List ℕ → Y4mPlace → Option (List ℕ) → Type 0
   Gives (Ok true) rest out new left =
       (0 < length rest) × (next_frame place.more format place.at rest ≡ Ok out)
-          × (new.at ≡ place.at + frame_size format rest) × (left ≡ Some (drop (frame_size format rest) rest))
+      × (new.at ≡ place.at + frame_size format rest) × (left ≡ Some (drop (frame_size format rest) rest))
   Gives (Ok false) rest out new left = (rest ≡ []) × (left ≡ Some [])
   Gives (Err (Refused fault)) rest out new left = (0 < length rest) × (next_frame place.more format place.at rest
       ≡ Err fault)
@@ -92,7 +92,7 @@ module _ (x : Party) (s : DuplexState) where
 
   pub gives_so : (r : Result Bool VideoStop) (reader new : Y4mPlace) (rest out : List ℕ) (left : Option (List ℕ))
       → place ≡ place_in reader → reader.format ≡ format → FrameGives r reader rest out new left
-          → Gives r rest out new left
+      → Gives r rest out new left
   gives_so (Ok true) reader new rest out left is form (some, next, at, gone) = (
     some,
     (λ i. next_frame (is i).more (sym form i) (is i).at rest) ∙ next,
@@ -102,9 +102,12 @@ module _ (x : Party) (s : DuplexState) where
   gives_so (Ok false) reader new rest out left is form gives = gives
   gives_so (Err (Refused fault)) reader new rest out left is form (some, next) =
       (some, (λ i. next_frame (is i).more (sym form i) (is i).at rest) ∙ next)
-  gives_so (Err Read) reader new rest out left is form (k, gone, lost) =
-      (k, gone, subst (λ (f : Format). IsErr (frame_of f place.at (take k rest))) form
-      (subst (λ (p : VideoPlace). IsErr (frame_of reader.format p.at (take k rest))) (sym is) lost))
+  gives_so (Err Read) reader new rest out left is form (k, gone, lost) = (
+    k,
+    gone,
+    subst (λ (f : Format). IsErr (frame_of f place.at (take k rest))) form
+        (subst (λ (p : VideoPlace). IsErr (frame_of reader.format p.at (take k rest))) (sym is) lost),
+  )
 
   -- ---- the capture: `old` is the desk after the line, `mid` after the read of the frame
 

@@ -52,10 +52,14 @@ module _ (video pictures : Role) (refuses : Y4mFault → Status) (x : Party) (s 
       → IsLineTurn trace (event_step video pictures refuses x s trace inputs line)
   turn_event inputs says.Nothing = (refl, same_size (line_size trace))
   turn_event inputs says.Send = turn_unless s trace Send (refusal_at x s Send) _ (turn_capture (inputs video))
-  turn_event inputs (says.Packet n j) = turn_unless s trace (Deliver n j) (refusal_at x s (Deliver n j)) _ (refl,
-      same_size (line_size trace))
-  turn_event inputs (says.All n) = turn_unless s trace (Deliver n 0) (refusal_at x s (Deliver n 0)) _ (refl,
-      same_size (line_size trace))
+  turn_event inputs (says.Packet n j) = turn_unless s trace (Deliver n j) (refusal_at x s (Deliver n j)) _ (
+    refl,
+    same_size (line_size trace),
+  )
+  turn_event inputs (says.All n) = turn_unless s trace (Deliver n 0) (refusal_at x s (Deliver n 0)) _ (
+    refl,
+    same_size (line_size trace),
+  )
   turn_event inputs (says.Back k) = tt
   turn_event inputs says.Play = turn_unless s trace Play (refusal_at x s Play) _ (refl, same_size (line_size trace))
 

@@ -135,7 +135,7 @@ module _ (x : Party) (own far : Station) (line : ℕ) (trace_new : TracePlace) (
       → far_new.video ≡ far.video
       → HoldsPair s.params x own_new.ends far_new.ends ways
       → StationsStand x own_new far_new trace_new (after_line (record s { ways = ways }) trace)
-          (left_after inputs taken_line Events)
+      (left_after inputs taken_line Events)
   stands_event own_new far_new ways own_same far_same holds = record {
     own_place = place_same x (after_line (record s { ways = ways }) trace) (after_line s trace) refl refl
         ∙ b.stood.own_place ∙ ap place_in (sym own_same);
@@ -158,10 +158,10 @@ module _ (x : Party) (own far : Station) (line : ℕ) (trace_new : TracePlace) (
       → own_new.video ≡ own.video → far_new.video ≡ far.video
       → step_of event ≡ quiet_step s trace ways → HoldsPair s.params x own_new.ends far_new.ends ways
       → Went (step_of event) (λ next rest. StationsStand x own_new far_new trace_new next (rest Events)) may_read true
-          inputs before mid
+      inputs before mid
   event_goes laws own_new far_new event ways own_same far_same is holds =
       line_goes s inputs before mid b.taken (record s { ways = ways }) no_texts _
-          (λ next rest. StationsStand x own_new far_new trace_new next (rest Events)) is
+      (λ next rest. StationsStand x own_new far_new trace_new next (rest Events)) is
       (stands_event own_new far_new ways own_same far_same holds) mid refl (laws.no_text mid.written mid.written refl)
 
   -- ---- the next picture was played
@@ -190,9 +190,9 @@ module _ (x : Party) (own far : Station) (line : ℕ) (trace_new : TracePlace) (
   pub stands_sent : (own_new : Station) (size : ℕ) (out : List ℕ) → own_new.video.at ≡ (place_of x s).at + size
       → own_new.video.more + 1 ≡ (place_of x s).more
       → HoldsPair s.params x own_new.ends far.ends (with_capture (sides s.params) x (picture_of (s.params x).format out)
-          s.ways)
+      s.ways)
       → StationsStand x own_new far trace_new (after_line (with_frame x s size out) trace)
-          (left_after inputs (and_of taken_line (of Video size)) Events)
+      (left_after inputs (and_of taken_line (of Video size)) Events)
   stands_sent own_new size out place fewer holds = by_party x (place_same (other x) s (after_line s trace) refl refl
       ∙ b.stood.far_place) b.stood.lines b.stood.ended place_is holds
     where
@@ -213,13 +213,25 @@ module _ (x : Party) (own far : Station) (line : ℕ) (trace_new : TracePlace) (
           → (after_line s trace).ended ≡ trace_new.ended
           → record { at = (place_of y s).at + size; more = (place_of y s).more - 1 } ≡ place_in own_new.video
           → HoldsPair s.params y own_new.ends far.ends
-              (with_capture (sides s.params) y (picture_of (s.params y).format out) s.ways)
+          (with_capture (sides s.params) y (picture_of (s.params y).format out) s.ways)
           → StationsStand y own_new far trace_new (after_line (with_frame y s size out) trace)
-              (left_after inputs (and_of taken_line (of Video size)) Events)
-      by_party A far_place lines ended own_place holds = record { own_place = own_place; far_place = far_place;
-          lines = lines; ended = ended; over = over; holds = holds }
-      by_party B far_place lines ended own_place holds = record { own_place = own_place; far_place = far_place;
-          lines = lines; ended = ended; over = over; holds = holds }
+          (left_after inputs (and_of taken_line (of Video size)) Events)
+      by_party A far_place lines ended own_place holds = record {
+        own_place = own_place;
+        far_place = far_place;
+        lines = lines;
+        ended = ended;
+        over = over;
+        holds = holds;
+      }
+      by_party B far_place lines ended own_place holds = record {
+        own_place = own_place;
+        far_place = far_place;
+        lines = lines;
+        ended = ended;
+        over = over;
+        holds = holds;
+      }
 
 -- ---- what a line's turn is, by what the line says
 
@@ -227,14 +239,14 @@ module _ (x : Party) (own far own_new far_new : Station) (line room : ℕ) (even
   abbrev LineTurn : Line → Result Bool Status → Type 0
   LineTurn e r =
       IsPartyTurn x own_new far_new r mid new room (λ trace. IsRead x own far line trace mid)
-          (λ s inputs. event_step Video Pictures VideoRefused x s (inputs Events) inputs e)
+      (λ s inputs. event_step Video Pictures VideoRefused x s (inputs Events) inputs e)
 
   -- one whose event is done
   pub event_done : event ≡ said → StationsReady own_new far_new room → KeepsRoles mid new
       → ((trace : TracePlace) (old : Outside) (s : DuplexState) (inputs : Role → List ℕ)
-          → IsRead x own far line trace mid old s inputs
+      → IsRead x own far line trace mid old s inputs
       → Went (event_step Video Pictures VideoRefused x s (inputs Events) inputs said)
-          (λ next rest. StationsStand x own_new far_new trace next (rest Events)) may_read true inputs old new)
+      (λ next rest. StationsStand x own_new far_new trace next (rest Events)) may_read true inputs old new)
       → LineTurn event (Ok true)
   event_done is ready rest gives = subst (λ (e : Line). LineTurn e (Ok true)) (sym is)
       (went_on x own_new far_new mid new room _ _ ready rest gives)
@@ -243,9 +255,9 @@ module _ (x : Party) (own far own_new far_new : Station) (line room : ℕ) (even
   pub event_cut : event ≡ said → (r : Result Bool Status) (status : Status) → IsErrAnd r (λ z. z ≡ status)
       → status ≡ WriteFault → Rose mid.faults.write new.faults.write → KeepsRoles mid new
       → ((trace : TracePlace) (old : Outside) (s : DuplexState) (inputs : Role → List ℕ)
-          → IsRead x own far line trace mid old s inputs
+      → IsRead x own far line trace mid old s inputs
       → GainsFronts (step_texts (event_step Video Pictures VideoRefused x s (inputs Events) inputs said)) old.written
-          new.written)
+      new.written)
       → LineTurn event r
   event_cut is r status answer kind rose rest gives = subst (λ (e : Line). LineTurn e r) (sym is)
       (was_cut x own_new far_new mid new room _ _ r status answer kind rose rest gives)
@@ -255,64 +267,65 @@ pub line_stops : (x : Party) (own far : Station) (line room : ℕ) (event said :
     (status : Status) (checked : Result Unit Told) (now : Outside) → event ≡ said
     → IsErrAnd r (λ z. z ≡ status) → IsRefusedWith line checked status → LineLaws → StepLaws
     → ((trace : TracePlace) (old : Outside) (s : DuplexState) (inputs : Role → List ℕ)
-        → IsRead x own far line trace now old s inputs → IsChecked checked said (λ e. refusal_at x s e))
+    → IsRead x own far line trace now old s inputs → IsChecked checked said (λ e. refusal_at x s e))
     → LineTurn x own far own far line room event said now now event r
 line_stops x own far line room event said r status (Ok u) now is answer refused lines steps checks = absurd refused
 line_stops x own far line room event said r status (Err told) now is answer refused lines steps checks =
     subst (λ (e : Line). LineTurn x own far own far line room event said now now e r) (sym is)
     (gave_up x own far now now room (λ trace. IsRead x own far line trace now)
-        (λ s inputs. event_step Video Pictures VideoRefused x s (inputs Events) inputs said)
+    (λ s inputs. event_step Video Pictures VideoRefused x s (inputs Events) inputs said)
     r (TraceRefused (fault_at line told)) (subst (λ (w : Status). IsErrAnd r (λ z. z ≡ w)) refused answer) tt tt
-        (steps.none now)
+    (steps.none now)
     (λ trace old s inputs b. line_is_refused x own far line trace old now s inputs b lines told (fault_at line told)
-        refl said (checks trace old s inputs b)))
+    refl said (checks trace old s inputs b)))
 
 -- one that delivers packets of a picture, of which one tells whether it may be done
 pub delivery_done : (x : Party) (own far : Station) (own_ends far_ends : PartyEnds) (line room : ℕ) (event said : Line)
     (n j : ℕ) (mid : Outside)
     → TurnLaws → StepLaws → Refusals → event ≡ said → StationsReady own far room → AreInCall own_ends far_ends
-        → KeepsInDelivery own.ends far.ends own_ends far_ends
+    → KeepsInDelivery own.ends far.ends own_ends far_ends
     → (after : (Party → Params) → WayRuns Frame → WayRuns Frame)
     → ((s : DuplexState) (inputs : Role → List ℕ)
-        → event_step Video Pictures VideoRefused x s (inputs Events) inputs said
+    → event_step Video Pictures VideoRefused x s (inputs Events) inputs said
     ≡ unless s (inputs Events) (Deliver n j) (refusal_at x s (Deliver n j))
-        (quiet_step s (inputs Events) (after s.params s.ways)))
+    (quiet_step s (inputs Events) (after s.params s.ways)))
     → ((s : DuplexState) → HoldsPair s.params x own.ends far.ends s.ways → refusal_at x s (Deliver n j) ≡ None)
     → ((p : Party → Params) (ways : WayRuns Frame) (left : ℕ) → HoldsPair p x own.ends far.ends ways
-        → MayHappenOf (sides p) left x (Deliver n j) ways → HoldsPair p x own_ends far_ends (after p ways))
+    → MayHappenOf (sides p) left x (Deliver n j) ways → HoldsPair p x own_ends far_ends (after p ways))
     → LineTurn x own far (record own { ends = own_ends }) (record far { ends = far_ends }) line room event said mid mid
-        event (Ok true)
+    event (Ok true)
 delivery_done x own far own_ends far_ends line room event said n j mid turns steps refusals is ready ends keeps after
     step none holds =
     let own_new : Station = record own { ends = own_ends } in
     let far_new : Station = record far { ends = far_ends } in
     event_done x own far own_new far_new line room event said mid mid is
-        (stations_delivered own far own_ends far_ends room ready ends keeps) (steps.none mid)
+    (stations_delivered own far own_ends far_ends room ready ends keeps) (steps.none mid)
     (λ trace old s inputs b.
     let free = none s b.stood.holds in
     event_goes x own far line trace old mid s inputs b turns own_new far_new said (after s.params s.ways) refl refl
     (step s inputs ∙ step_is x own far line trace old mid s inputs b (Deliver n j) _ free)
     (holds s.params s.ways (one_left s.params x s.ways) b.stood.holds (may_happen refusals s.params x s.ways
-        (Deliver n j) free)))
+    (Deliver n j) free)))
 
 -- one that asks for a frame
 pub frame_asked : (x : Party) (own far own_new : Station) (line room : ℕ) (event : Line) (r : Result Bool Status)
     (mid new : Outside) → event ≡ says.Send
     → TakesFrame x own far own_new line r mid new room
     → ((trace : TracePlace) (old : Outside) (s : DuplexState) (inputs : Role → List ℕ)
-        → IsRead x own far line trace mid old s inputs → refusal_at x s Send ≡ None)
+    → IsRead x own far line trace mid old s inputs → refusal_at x s Send ≡ None)
     → LineTurn x own far own_new far line room event says.Send mid new event r
 frame_asked x own far own_new line room event r mid new is t none =
     subst (λ (e : Line). LineTurn x own far own_new far line room event says.Send mid new e r) (sym is) (record {
-  gives = λ trace old s inputs b.
-      subst (λ (step : Step DuplexState). TurnGives r step (λ next rest. StationsStand x own_new far trace next
+      gives = λ trace old s inputs b.
+          subst (λ (step : Step DuplexState). TurnGives r step (λ next rest. StationsStand x own_new far trace next
           (rest Events)) may_read true inputs old new)
-      (sym (ap (λ (o : Option Refusal). unless s (inputs Events) Send o (capture_step Video Pictures VideoRefused x s
+          (sym (ap (λ (o : Option Refusal). unless s (inputs Events) Send o
+          (capture_step Video Pictures VideoRefused x s
           (inputs Events) (inputs Video))) (none trace old s inputs b)))
-      (t.gives trace old s inputs (record { read = b; none = none trace old s inputs b }));
-  goes_on = t.goes_on;
-  ready = t.ready;
-  stop = t.stop;
-  cause = t.cause;
-  rest = t.rest;
-})
+          (t.gives trace old s inputs (record { read = b; none = none trace old s inputs b }));
+      goes_on = t.goes_on;
+      ready = t.ready;
+      stop = t.stop;
+      cause = t.cause;
+      rest = t.rest;
+    })

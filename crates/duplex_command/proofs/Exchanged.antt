@@ -77,14 +77,17 @@ step_of last = Ends last
 ends_so : (status : Status) (a b : Role → Option ℕ) → a ≡ b
     → step_of (record { status = status; taken = a; texts = no_texts })
     ≡ step_of (record { status = status; taken = b; texts = no_texts })
-ends_so status a b same = ap (λ (taken : Role → Option ℕ). step_of (record { status = status; taken = taken;
-    texts = no_texts })) same
+ends_so status a b same = ap (λ (taken : Role → Option ℕ). step_of (record {
+  status = status;
+  taken = taken;
+  texts = no_texts;
+})) same
 
 line_refused : (trace : List ℕ) (fault : TraceFault) → second_step (step_of (refused_line trace fault))
     ≡ step_of (refused_line trace fault)
 line_refused trace fault =
     ends_so (TraceRefused fault) (λ r. Some (of Events (line_size trace) (exchanged r)))
-        (λ r. Some (of Events (line_size trace) r))
+    (λ r. Some (of Events (line_size trace) r))
     (ap (λ (taken : Role → ℕ). λ r. Some (taken r)) (line_taken (line_size trace)))
 
 -- what is taken where a video is refused
@@ -116,14 +119,17 @@ module _ (x : Party) (s : DuplexState) (trace : List ℕ) where
 
   frame_captured : (size : ℕ) (r : Result (List ℕ) Y4mFault)
       → second_step (captured_step Video Pictures VideoRefused x s trace size r)
-          ≡ captured_step Video2 Pictures2 Video2Refused x s trace size r
+      ≡ captured_step Video2 Pictures2 Video2Refused x s trace size r
   frame_captured size (Ok planes) =
-      ap (λ (taken : Role → ℕ). Goes (after_line (with_frame x s size planes) trace) (record { taken = taken;
-          whole = is_closed trace; texts = no_texts }))
+      ap (λ (taken : Role → ℕ). Goes (after_line (with_frame x s size planes) trace) (record {
+        taken = taken;
+        whole = is_closed trace;
+        texts = no_texts;
+      }))
       (frame_taken (line_size trace) size)
   frame_captured size (Err fault) =
       ends_so (Video2Refused fault) (λ r. refused_taken trace Video (exchanged r)) (refused_taken trace Video2)
-          (video_refused trace)
+      (video_refused trace)
 
   frame_asked : (video : List ℕ) → second_step (capture_step Video Pictures VideoRefused x s trace video)
       ≡ capture_step Video2 Pictures2 Video2Refused x s trace video
@@ -138,7 +144,7 @@ module _ (x : Party) (s : DuplexState) (trace : List ℕ) where
   -- places
   pub event_at_second : (inputs : Role → List ℕ) (event : Line)
       → second_step (event_step Video Pictures VideoRefused x s trace (for_second inputs) event)
-          ≡ event_step Video2 Pictures2 Video2Refused x s trace inputs event
+      ≡ event_step Video2 Pictures2 Video2Refused x s trace inputs event
   event_at_second inputs says.Nothing = quiet s.ways
   event_at_second inputs says.Send = event_unless Send (refusal_at x s Send) _ _ (frame_asked (inputs Video2))
   event_at_second inputs (says.Packet n j) = event_unless (Deliver n j) (refusal_at x s (Deliver n j)) _ _ (quiet _)
@@ -147,5 +153,5 @@ module _ (x : Party) (s : DuplexState) (trace : List ℕ) where
   event_at_second inputs says.Play =
       event_unless Play (refusal_at x s Play) _ _
       (line_goes trace (after_line (with_next x s) trace) (play_texts Pictures x (seen_of x (with_next x s))
-          (seen_of x s).played) (play_texts Pictures2 x (seen_of x (with_next x s)) (seen_of x s).played)
+      (seen_of x s).played) (play_texts Pictures2 x (seen_of x (with_next x s)) (seen_of x s).played)
       (shown_texts x (seen_of x s).played _ (seen_of x (with_next x s)).plays))

@@ -44,11 +44,11 @@ module _ (frame_laws : FrameLaws) (fault : Y4mFault) where
       → next_frame place.more f place.at (b ∷ v) ≡ Ok planes
       → let size = frame_size f (b ∷ v) in
       HasFault f (record { at = place.at + size; more = place.more - 1 }) (drop (0 + size) video)
-          → HasFault f place (b ∷ v)
+      → HasFault f place (b ∷ v)
   after_it f place b v planes video same is later =
       let size = frame_size f (b ∷ v) in
       let e = frame_laws.next f place.more (place.more - 1) place.at (b ∷ v) planes
-          (some_left place.more place.at f (b ∷ v) planes is) (omega arith) is in
+      (some_left place.more place.at f (b ∷ v) planes is) (omega arith) is in
       let taken : 0 + size ≡ size = omega arith in
       e.fault ∙ sym (λ i. fault_of f (place.more - 1) (place.at + size) (drop (taken i) (same i))) ∙ later
 
@@ -87,32 +87,32 @@ module _ (frame_laws : FrameLaws) (fault : Y4mFault) where
           → (r : Result (List ℕ) Y4mFault)
           → next_frame (place_of y s).more (s.params y).format (place_of y s).at (b ∷ v) ≡ r
           → Refuses x (captured_step (video_of y) (pictures_of y) (refused_video y) y s trace
-              (frame_size (s.params y).format (b ∷ v)) r) → IsFaulty x s inputs
+          (frame_size (s.params y).format (b ∷ v)) r) → IsFaulty x s inputs
       at_captured A A later b v same (Ok planes) is ends =
           subst (λ (l : List ℕ). HasFault (s.params A).format s.video_a l) (sym same)
-              (after_it (s.params A).format s.video_a b v planes (inputs Video) same is (later _ _ ends))
+          (after_it (s.params A).format s.video_a b v planes (inputs Video) same is (later _ _ ends))
       at_captured B B later b v same (Ok planes) is ends =
           subst (λ (l : List ℕ). HasFault (s.params B).format s.video_b l) (sym same)
-              (after_it (s.params B).format s.video_b b v planes (inputs Video2) same is (later _ _ ends))
+          (after_it (s.params B).format s.video_b b v planes (inputs Video2) same is (later _ _ ends))
       at_captured A B later b v same (Ok planes) is ends = later _ _ ends
       at_captured B A later b v same (Ok planes) is ends = later _ _ ends
       at_captured A A later b v same (Err broken) is ends =
           subst (λ (l : List ℕ). HasFault (s.params A).format s.video_a l) (sym same)
-              (at_fault (s.params A).format s.video_a b v broken is (first_is broken fault ends))
+          (at_fault (s.params A).format s.video_a b v broken is (first_is broken fault ends))
       at_captured B B later b v same (Err broken) is ends =
           subst (λ (l : List ℕ). HasFault (s.params B).format s.video_b l) (sym same)
-              (at_fault (s.params B).format s.video_b b v broken is (second_is broken fault ends))
+          (at_fault (s.params B).format s.video_b b v broken is (second_is broken fault ends))
       at_captured A B later b v same (Err broken) is ends = absurd (cc ends)
       at_captured B A later b v same (Err broken) is ends = absurd (cc ends)
 
       at_capture : (x y : Party) → Later x → (video : List ℕ) → inputs (video_of y) ≡ video
           → Refuses x (capture_step (video_of y) (pictures_of y) (refused_video y) y s trace video)
-              → IsFaulty x s inputs
+          → IsFaulty x s inputs
       at_capture A y later [] same ends = absurd (cc ends)
       at_capture B y later [] same ends = absurd (cc ends)
       at_capture x y later (b ∷ v) same ends =
           at_captured x y later b v same (next_frame (place_of y s).more (s.params y).format (place_of y s).at (b ∷ v))
-              refl ends
+          refl ends
 
       at_play : (x y : Party) → Later x → Refuses x (play_step (video_of y) (pictures_of y) (refused_video y) y s trace)
           → IsFaulty x s inputs
@@ -123,16 +123,16 @@ module _ (frame_laws : FrameLaws) (fault : Y4mFault) where
     at_party x y later says.Nothing ends = at_quiet (inputs Events) x later _ ends
     at_party x y later says.Send ends =
         at_end (inputs Events) x Send (refusal_at y s Send) _ (at_capture (inputs Events) x y later
-            (inputs (video_of y)) refl) ends
+        (inputs (video_of y)) refl) ends
     at_party x y later (says.Packet n j) ends =
         at_end (inputs Events) x (Deliver n j) (refusal_at y s (Deliver n j)) _ (at_quiet (inputs Events) x later _)
-            ends
+        ends
     at_party x y later (says.All n) ends =
         at_end (inputs Events) x (Deliver n 0) (refusal_at y s (Deliver n 0)) _ (at_quiet (inputs Events) x later _)
-            ends
+        ends
     at_party x y later (says.Back k) ends =
         at_end (inputs Events) x (Back k) (refusal_at y s (Back k)) (quiet_step s (inputs Events) s.ways)
-            (at_quiet (inputs Events) x later s.ways) ends
+        (at_quiet (inputs Events) x later s.ways) ends
     at_party x y later says.Play ends =
         at_end (inputs Events) x Play (refusal_at y s Play) _ (at_play (inputs Events) x y later) ends
 
@@ -169,13 +169,13 @@ module _ (frame_laws : FrameLaws) (fault : Y4mFault) where
       (λ next taken is. absurd (no_fault x is)) (inputs Events) ends
   run_refused (suc n) x s inputs ends =
       at_trace s inputs (λ next taken. run_of duplex_step n next (left_after inputs taken)) x
-          (λ next taken is. run_refused n x next (left_after inputs taken) is) (inputs Events) ends
+      (λ next taken is. run_refused n x next (left_after inputs taken) is) (inputs Events) ends
 
   module _ (p : Params) (inputs : Role → List ℕ) where
     abbrev Ends : Party → Result Format Y4mFault → Result Format Y4mFault → Type 0
     Ends x a b =
         (follow (heads_step p inputs a b) (λ next taken. run_of duplex_step most_turns next
-            (left_after inputs taken))).last.status ≡ refused_video x fault
+        (left_after inputs taken))).last.status ≡ refused_video x fault
 
     pub first_refused : (duplex_run p inputs).last.status ≡ VideoRefused fault → video_fault (inputs Video) ≡ Some fault
     unfolding video_fault
@@ -190,7 +190,7 @@ module _ (frame_laws : FrameLaws) (fault : Y4mFault) where
             let size = head_size (inputs Video) in
             let taken : size + 0 ≡ size = omega arith in
             subst (λ (n : ℕ). fault_of f most_frames size (drop n (inputs Video)) ≡ Some fault) taken
-                (run_refused most_turns A _ (left_after inputs (heads_taken inputs)) ends)
+            (run_refused most_turns A _ (left_after inputs (heads_taken inputs)) ends)
 
     pub second_refused : (duplex_run p inputs).last.status ≡ Video2Refused fault → video_fault (inputs Video2)
         ≡ Some fault
@@ -206,4 +206,4 @@ module _ (frame_laws : FrameLaws) (fault : Y4mFault) where
             let size = head_size (inputs Video2) in
             let taken : 0 + size ≡ size = omega arith in
             subst (λ (n : ℕ). fault_of g most_frames size (drop n (inputs Video2)) ≡ Some fault) taken
-                (run_refused most_turns B _ (left_after inputs (heads_taken inputs)) ends)
+            (run_refused most_turns B _ (left_after inputs (heads_taken inputs)) ends)

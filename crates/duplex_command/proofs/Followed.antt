@@ -76,11 +76,11 @@ module _ (q : Params) (f g : Format) (inputs : Role → List ℕ) where
     all_ahead A =
         ap (λ (l : List (List ℕ)). map (λ planes. picture_of f planes) l) (video_is (inputs Video) f head_a)
         ∙ ap (λ (m : ℕ). map (λ planes. picture_of f planes) (frames_of f 1048576 (head_size (inputs Video))
-            (drop m (inputs Video)))) (sym (no_more (head_size (inputs Video))))
+        (drop m (inputs Video)))) (sym (no_more (head_size (inputs Video))))
     all_ahead B =
         ap (λ (l : List (List ℕ)). map (λ planes. picture_of g planes) l) (video_is (inputs Video2) g head_b)
         ∙ ap (λ (m : ℕ). map (λ planes. picture_of g planes) (frames_of g 1048576 (head_size (inputs Video2))
-            (drop m (inputs Video2)))) (sym (none_before (head_size (inputs Video2))))
+        (drop m (inputs Video2)))) (sym (none_before (head_size (inputs Video2))))
 
     none_sent : IsOn p captures broken laws no_runs (state p captures broken laws no_runs (first A) (first B) 0 false)
         left
@@ -126,7 +126,7 @@ module _ (q : Params) (f g : Format) (inputs : Role → List ℕ) where
         ≡ head_text (p x).format ++ shown_text (call_after p captures x (with_lines p captures [] comes.lines)).plays
     shown_first A =
         ap (λ (l : List ℕ). (l ++ texts_of run.turns (pictures_of A)) ++ run.last.texts (pictures_of A))
-            (append-nil (head_text f))
+        (append-nil (head_text f))
         ∙ append_assoc (head_text f) (texts_of run.turns (pictures_of A)) (run.last.texts (pictures_of A))
         ∙ ap (λ (l : List ℕ). head_text f ++ l) (sym (comes.pictures A))
     shown_first B = append_assoc (head_text g) (texts_of run.turns (pictures_of B)) (run.last.texts (pictures_of B))
@@ -138,7 +138,7 @@ module _ (q : Params) (f g : Format) (inputs : Role → List ℕ) where
     pub follows : FollowsItsTrace p inputs (duplex_run q inputs)
     follows =
         subst (λ (a : Result Format Y4mFault). FollowsItsTrace p inputs (began a (head_of (inputs Video2))))
-            (sym head_a)
+        (sym head_a)
         (subst (λ (b : Result Format Y4mFault). FollowsItsTrace p inputs (began (Ok f) b)) (sym head_b)
         (record {
           lines = comes.lines;

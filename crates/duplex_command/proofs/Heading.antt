@@ -64,7 +64,7 @@ module _ (law : HeadLaw) (p : Params) (inputs : Role → List ℕ) where
   first_part k (Ok f) (Err fault) is lost = tt
   first_part k (Ok f) (Ok g) is lost =
       second_false _ _ _ (not_held (head_size (inputs Video) + 0) k
-          (λ le. not_an_err _ f (law (inputs Video) f k is (omega (arith, le))).0 lost))
+      (λ le. not_an_err _ f (law (inputs Video) f k is (omega (arith, le))).0 lost))
 
   -- no whole head of the second one, after the first
   second_part : (k : ℕ) (a b : Result Format Y4mFault) → head_of (inputs Video2) ≡ b
@@ -77,7 +77,7 @@ module _ (law : HeadLaw) (p : Params) (inputs : Role → List ℕ) where
       let part = and_of (of Video size) (of Video2 k) in
       fourth_false (nat_le (heads_taken inputs Video) (part Video)) (nat_le (heads_taken inputs Events) (part Events)) _
       (not_held (heads_taken inputs Video2) (part Video2)
-          (λ le. not_an_err _ g (law (inputs Video2) g k is (omega (arith, le))).0 lost))
+      (λ le. not_an_err _ g (law (inputs Video2) g k is (omega (arith, le))).0 lost))
 
 -- ---- a status that is known
 
@@ -124,7 +124,7 @@ module _ (turns : TurnLaws) (law : HeadLaw) (inputs : Role → List ℕ) (old mi
         let size = head_size (inputs Video) in
         turns.both_reads (of Video size) (of Video2 k) new inputs
         (turns.one_read Video2 k mid new (left_after inputs (of Video size))
-            (turns.one_read Video size old mid inputs told first.2 others) gone others2)
+        (turns.one_read Video size old mid inputs told first.2 others) gone others2)
 
     lost_so : (p : Params) → HeadGives (Err Read) (inputs Video2) (new.left Video2)
         → Lost (duplex_begin p inputs) true inputs old new
@@ -148,8 +148,8 @@ module _ (turns : TurnLaws) (law : HeadLaw) (inputs : Role → List ℕ) (old mi
       is = (λ i. heads_step p inputs (first.0 i) (e i));
       by = turns.refuses_video Video2 (of Video (head_size (inputs Video))) (Video2Refused fault) inputs old new
           (λ r input other. others2 r other
-              ∙ turns.one_read Video (head_size (inputs Video)) old mid inputs told first.2 others r input) (same2
-              ∙ same);
+          ∙ turns.one_read Video (head_size (inputs Video)) old mid inputs told first.2 others r input) (same2
+          ∙ same);
     }
 
     pub second_refused : (p : Params) (stop : VideoStop) (fault : Y4mFault) → stop ≡ Refused fault

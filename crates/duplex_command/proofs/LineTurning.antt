@@ -53,8 +53,13 @@ part_len (Number n) bytes is = is.few
 parts_len : (parts : List Part) (bytes : List ℕ) → Spell parts bytes → length bytes ≤ most parts
 parts_len [] bytes none = omega (arith, ap (λ (l : List ℕ). length l) none)
 parts_len (part ∷ parts) bytes (front, rest, whole, is, h) =
-    omega (arith, ap (λ (l : List ℕ). length l) whole, length-append front rest, part_len part front is,
-        parts_len parts rest h)
+    omega (
+      arith,
+      ap (λ (l : List ℕ). length l) whole,
+      length-append front rest,
+      part_len part front is,
+      parts_len parts rest h,
+    )
 
 event_len : (event : Line) → most (parts_of event) ≤ 17
 event_len says.Nothing = lit≤ tt
@@ -70,8 +75,12 @@ ReadLines = (line : List ℕ) (event : Line) → event_in line ≡ Some event �
 module _ (read : ReadLines) where
   none_or : (rest : List ℕ) (o : Option Line) → event_in rest ≡ o → 17 < length rest → o ≡ None
   none_or rest None is long = refl
-  none_or rest (Some event) is long = absurd (omega (arith, parts_len (parts_of event) rest (read rest event is),
-      event_len event, long))
+  none_or rest (Some event) is long = absurd (omega (
+    arith,
+    parts_len (parts_of event) rest (read rest event is),
+    event_len event,
+    long,
+  ))
 
   long_lettered : (x : Party) (line : List ℕ) → 64 < length line → lettered x (drop 2 line) ≡ None
   long_lettered x line long = ap (of_party x) (none_or (drop 2 line) (event_in (drop 2 line)) refl (two_less line long))
@@ -89,9 +98,9 @@ module _ (read : ReadLines) where
   long_is_bad [] long = absurd (omega (arith, long))
   long_is_bad (b ∷ line) long =
       choice (bytes_eq (take 2 (b ∷ line)) (codes "a ")) (lettered A (drop 2 (b ∷ line))) _ None
-          (long_lettered A (b ∷ line) long)
+      (long_lettered A (b ∷ line) long)
       (choice (bytes_eq (take 2 (b ∷ line)) (codes "b ")) (lettered B (drop 2 (b ∷ line))) None None
-          (long_lettered B (b ∷ line) long) refl)
+      (long_lettered B (b ∷ line) long) refl)
 
 -- ---- which step it is
 
@@ -111,7 +120,7 @@ many_is : (s : DuplexState) (inputs : Role → List ℕ) (trace : List ℕ) → 
 many_is s inputs [] some many = absurd (omega arith)
 many_is s inputs (b ∷ trace) some many =
     ap (λ (t : Bool). chosen t s inputs (party_event (first_line (b ∷ trace))))
-        (le-ltb s.lines 16777216 (omega (arith, many)))
+    (le-ltb s.lines 16777216 (omega (arith, many)))
 
 -- ---- a line that is done, or refused
 
@@ -141,9 +150,9 @@ module _ (s : DuplexState) (inputs : Role → List ℕ) (before mid : Outside) (
   pub line_goes : (next : DuplexState) (texts : Role → List ℕ) (step : Step DuplexState) (stands : DuplexState
       → (Role → List ℕ) → Type 0)
       → step ≡ Goes (after_line next trace) (line_turn trace texts)
-          → stands (after_line next trace) (left_after inputs (of Events (line_size trace)))
+      → stands (after_line next trace) (left_after inputs (of Events (line_size trace)))
       → (new : Outside) → new.left ≡ mid.left → Gains texts mid.written new.written
-          → Went step stands may_read true inputs before new
+      → Went step stands may_read true inputs before new
   line_goes next texts step stands is kept new still gains = record {
     next = after_line next trace;
     turn = line_turn trace texts;
@@ -205,7 +214,7 @@ module _ (laws : LineLaws) (s : DuplexState) (inputs : Role
   trace_stops lines buf (stops.Bad line) e moves =
       bad_ends (BadLine line) _
       (line_is s inputs (inputs Events) None (some_bytes (inputs Events) e.0) (omega (arith, moves.1, at.lines_are))
-          (long_is_bad lines (first_line (inputs Events)) e.0)
+      (long_is_bad lines (first_line (inputs Events)) e.0)
       ∙ ap (λ (n : ℕ). step_of (bad_line (BadLine n))) (ap (λ (n : ℕ). n + 1) at.lines_are ∙ sym moves.2))
     where
       some_bytes : (trace : List ℕ) → 64 < length (first_line trace) → 0 < length trace
@@ -243,7 +252,7 @@ module _ (laws : LineLaws) (s : DuplexState) (inputs : Role
     pub found_empty : party_event (take found.1 buf) ≡ Some None → (stands : DuplexState → (Role → List ℕ) → Type 0)
         → stands (after_line s (inputs Events)) (left_after inputs (of Events (line_size (inputs Events))))
         → Gains no_texts mid.written mid.written
-            → Went (duplex_step s inputs) stands may_read (may_read s) inputs old mid
+        → Went (duplex_step s inputs) stands may_read (may_read s) inputs old mid
     found_empty said stands kept silent =
         subst (λ (b : Bool). Went (duplex_step s inputs) stands may_read b inputs old mid) (sym found_could)
         (line_goes s inputs old mid found_taken s no_texts _ stands (found_is (Some None) said) kept mid refl silent)
@@ -269,4 +278,4 @@ module _ (laws : LineLaws) (s : DuplexState) (inputs : Role
     trace_cut gains =
         subst (λ (x : Step DuplexState). GainsFronts (step_texts x) old.written new.written) (sym end_is)
         (subst (λ (w : Role → Option (List ℕ)). GainsFronts (both_counts s.params s.ways) w new.written) read.written
-            gains)
+        gains)

@@ -22,24 +22,24 @@ module _ (x : Party) (own far : Station) (mid new : Outside) (room : ℕ)
   pub gave_up : (r : Result Bool Status) (status : Status) → IsErrAnd r (λ z. z ≡ status)
       → IsStop status → HasCause status mid.faults new.faults → KeepsRoles mid new
       → ((trace : TracePlace) (old : Outside) (s : DuplexState) (inputs : Role → List ℕ) → Begins trace old s inputs
-          → GivesUp (phase status) status (step s inputs) true inputs old new)
+      → GivesUp (phase status) status (step s inputs) true inputs old new)
       → IsPartyTurn x own far r mid new room Begins step
   gave_up (Ok b) status is stop cause rest gives = absurd is
   gave_up (Err z) status is stop cause rest gives =
       subst (λ (w : Status). IsPartyTurn x own far (Err w) mid new room Begins step) (sym is) (record {
-    gives = gives;
-    goes_on = tt;
-    ready = tt;
-    stop = stop;
-    cause = cause;
-    rest = rest;
-  })
+        gives = gives;
+        goes_on = tt;
+        ready = tt;
+        stop = stop;
+        cause = cause;
+        rest = rest;
+      })
 
   -- one that can't write
   pub was_cut : (r : Result Bool Status) (status : Status) → IsErrAnd r (λ z. z ≡ status)
       → status ≡ WriteFault → Rose mid.faults.write new.faults.write → KeepsRoles mid new
       → ((trace : TracePlace) (old : Outside) (s : DuplexState) (inputs : Role → List ℕ) → Begins trace old s inputs
-          → GainsFronts (step_texts (step s inputs)) old.written new.written)
+      → GainsFronts (step_texts (step s inputs)) old.written new.written)
       → IsPartyTurn x own far r mid new room Begins step
   was_cut (Ok b) status is kind rose rest gives = absurd is
   was_cut (Err z) status is kind rose rest gives =
@@ -56,7 +56,7 @@ module _ (x : Party) (own far : Station) (mid new : Outside) (room : ℕ)
   pub went_on : StationsReady own far room → KeepsRoles mid new
       → ((trace : TracePlace) (old : Outside) (s : DuplexState) (inputs : Role → List ℕ) → Begins trace old s inputs
       → Went (step s inputs) (λ next rest. StationsStand x own far trace next (rest Events)) may_read true inputs old
-          new)
+      new)
       → IsPartyTurn x own far (Ok true) mid new room Begins step
   went_on ready rest gives = record {
     gives = gives;

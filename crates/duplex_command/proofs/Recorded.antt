@@ -98,7 +98,7 @@ pub record CallLaws (p : Party → Params) (captures : Party → List Picture) :
   pub counts : (q : Params) (frames : List Frame) → CountsAreThose (coding q) (rules_of q) (steady q) frames
   pub each : (past : List Lettered) → AllMayHappenOf (sides p) captures past → (x : Party)
       → AllMayHappen (coding (p x)) (rules_of (p x)) (steady (p x)) (way x (ways_of p captures past)).frames
-          (way x (ways_of p captures past)).past
+      (way x (ways_of p captures past)).past
   pub left : FramesLeft
   pub gone : (trace : List ℕ) → drop (line_size trace) trace ≡ later_lines trace
 
@@ -194,7 +194,7 @@ module _ (p : Party → Params) (captures : Party → List Picture) (broken : Pa
   comes_stopped : (past : List Lettered) → Near past
       → (E : List LineEvent) (F : Option TraceFault) (m : ℕ) (rest : DuplexState → (Role → ℕ) → Run)
       (status : Status) (taken : Role → Option ℕ) → ((text : Text) → told status text ≡ []) → Spares status taken
-          → IsEnd p captures broken F (m + 0) past E status
+      → IsEnd p captures broken F (m + 0) past E status
       → Comes past E F m (follow (Ends (record { status = status; taken = taken; texts = no_texts })) rest)
   comes_stopped past near E F m rest status taken silent spares end = record {
     end = end;
@@ -222,8 +222,11 @@ module _ (p : Party → Params) (captures : Party → List Picture) (broken : Pa
   no_counts B met = refl
 
   comes_end : (past : List Lettered) → Near past → (m : ℕ) (rest : DuplexState → (Role → ℕ) → Run)
-      → Comes past [] None m (follow (Ends (record { status = Fine; taken = λ _. Some 0;
-          texts = both_counts p (ways past) })) rest)
+      → Comes past [] None m (follow (Ends (record {
+        status = Fine;
+        taken = λ _. Some 0;
+        texts = both_counts p (ways past);
+      })) rest)
   comes_end past near m rest = record {
     end = refl;
     may = tt;
@@ -251,9 +254,9 @@ module _ (p : Party → Params) (captures : Party → List Picture) (broken : Pa
       let now = With past line in
       let comes : Comes now E F (m + 1) run = subst (λ (q : List Lettered). Comes q E F (m + 1) run) is comes2 in
       let pictures : (x : Party) → shown_text (call x now).plays ≡ shown_text (call x past).plays
-          ++ turn.texts (pictures_of x) =
+      ++ turn.texts (pictures_of x) =
       subst (λ (q : List Lettered). (x : Party) → shown_text (call x q).plays ≡ shown_text (call x past).plays
-          ++ turn.texts (pictures_of x)) is pictures2
+      ++ turn.texts (pictures_of x)) is pictures2
       in
       let report : rows now ≡ rows past ++ turn.texts Report =
       subst (λ (q : List Lettered). rows q ≡ rows past ++ turn.texts Report) is report2
@@ -273,14 +276,14 @@ module _ (p : Party → Params) (captures : Party → List Picture) (broken : Pa
             ∙ ap (λ (l : Text). l ++ text_of run (pictures_of x)) (pictures x)
             ∙ append_assoc (shown_text (call x past).plays) (turn.texts (pictures_of x)) (text_of run (pictures_of x))
             ∙ ap (λ (l : Text). shown_text (call x past).plays
-                ++ l) (sym (append_assoc (turn.texts (pictures_of x)) (texts_of run.turns (pictures_of x))
-                (run.last.texts (pictures_of x))));
+            ++ l) (sym (append_assoc (turn.texts (pictures_of x)) (texts_of run.turns (pictures_of x))
+            (run.last.texts (pictures_of x))));
         report =
             comes.report
             ∙ ap (λ (l : Text). l ++ text_of run Report) report
             ∙ append_assoc (rows past) (turn.texts Report) (text_of run Report)
             ∙ ap (λ (l : Text). rows past
-                ++ l) (sym (append_assoc (turn.texts Report) (texts_of run.turns Report) (run.last.texts Report)));
+            ++ l) (sym (append_assoc (turn.texts Report) (texts_of run.turns Report) (run.last.texts Report)));
       }
 
   -- ---- a turn
@@ -309,7 +312,7 @@ module _ (p : Party → Params) (captures : Party → List Picture) (broken : Pa
   module _ (frame_laws : FrameLaws) (past : List Lettered) (near : Near past) (va vb : VideoPlace) (lines : ℕ)
       (ended : Bool) (inputs : Role → List ℕ)
       (on : IsOn (ways past) (state (ways past) va vb lines ended) inputs) (E : List LineEvent) (F : Option TraceFault)
-          (rest : DuplexState → (Role → ℕ) → Run) where
+      (rest : DuplexState → (Role → ℕ) → Run) where
     abbrev s : DuplexState
     s = state (ways past) va vb lines ended
 
@@ -350,9 +353,9 @@ module _ (p : Party → Params) (captures : Party → List Picture) (broken : Pa
       packet_so x n j r is =
           let c = call x past in
           ap (λ (o : Option Refusal). first_of o (heard_refusal (sides p) (other x) (way (other x) met)
-              (slice_index_or (way x met).carried n [])))
+          (slice_index_or (way x met).carried n [])))
           (laws.left.packet (rules_of (p x)) n j (length (captures x)) (length c.coded + 1) (length c.coded) c.played
-              (map about c.said))
+          (map about c.said))
           ∙ is
 
       play_so : (x : Party) (r : Refusal) → refusal_at x s Play ≡ Some r
@@ -360,7 +363,7 @@ module _ (p : Party → Params) (captures : Party → List Picture) (broken : Pa
       play_so x r is =
           let c = call x past in
           laws.left.play (rules_of (p x)) (length (captures x)) (length c.coded + 1) (length c.coded) c.played
-              (map about c.said) ∙ is
+          (map about c.said) ∙ is
 
       capture_so : (x : Party) (r : Refusal) → refusal_at x s Send ≡ Some r
           → refusal_of (sides p) (length (captures x)) x Send met ≡ Some r
@@ -377,7 +380,7 @@ module _ (p : Party → Params) (captures : Party → List Picture) (broken : Pa
             capture_so x r is,
             ap (λ (j : ℕ). status_with (fault_of j Send r)) (sym (no_more (lines + 1)))
                 ∙ distance_told x (broken x) (lines + 1 + 0) r (laws.left.distance (rules_of (p x))
-                    (length c.coded) c.played (map about c.said) r is),
+                (length c.coded) c.played (map about c.said) r is),
           )
 
       -- no frame is left
@@ -386,10 +389,10 @@ module _ (p : Party → Params) (captures : Party → List Picture) (broken : Pa
       none_left x nothing is =
           let c = call x past in
           let few : length (captures x) ≤ length (way x met).frames =
-              none_after (captures x) (length (way x met).frames) (on.ahead x ∙ nothing) in
+          none_after (captures x) (length (way x met).frames) (on.ahead x ∙ nothing) in
           let coded : length c.coded ≡ length (way x met).frames = coded_are past near x (on.sent x) in
           laws.left.out (rules_of (p x)) (length (captures x)) (length c.coded) c.played (map about c.said)
-              (omega (arith, few, coded)) is
+          (omega (arith, few, coded)) is
 
       -- ---- events that capture nothing
 
@@ -397,13 +400,13 @@ module _ (p : Party → Params) (captures : Party → List Picture) (broken : Pa
       same_ahead : (x : Party) (met2 : WayRuns Frame) (ended2 : Bool)
           → captures_at x (place_of x s) (inputs (video_of x))
           ≡ captures_at x (place_of x (state met2 va vb (lines + 1) ended2))
-              (left_after inputs (of Events size) (video_of x))
+          (left_after inputs (of Events size) (video_of x))
       same_ahead A met2 ended2 = refl
       same_ahead B met2 ended2 = refl
 
       same_fault : (x : Party) (met2 : WayRuns Frame) (ended2 : Bool)
           → fault_at x (place_of x (state met2 va vb (lines + 1) ended2))
-              (left_after inputs (of Events size) (video_of x)) ≡ fault_at x (place_of x s) (inputs (video_of x))
+          (left_after inputs (of Events size) (video_of x)) ≡ fault_at x (place_of x s) (inputs (video_of x))
       same_fault A met2 ended2 = refl
       same_fault B met2 ended2 = refl
 
@@ -424,20 +427,20 @@ module _ (p : Party → Params) (captures : Party → List Picture) (broken : Pa
           → Takes line (quiet_step s trace met2)
       quiet line past2 met2 same may is near2 kept told2 =
           let plays : (x : Party) → (call x past2).plays
-              ≡ (call x past).plays = λ x. ap (λ (w : WayRuns Frame). (call_in p x w).plays) (sym is) ∙ kept.plays x in
+          ≡ (call x past).plays = λ x. ap (λ (w : WayRuns Frame). (call_in p x w).plays) (sym is) ∙ kept.plays x in
           comes_more line E F (lines + 1) past past2 (line_turn trace no_texts) _ same may
           (λ x. ap shown_text (plays x) ∙ sym (append-nil (shown_text (call x past).plays)))
           (told2 ∙ sym (append-nil (rows past)))
           (go past2 met2 va vb (not (is_closed trace)) (of Events size) is near2
-              (on_after met2 (not (is_closed trace)) kept.frames kept.sent) refl)
+          (on_after met2 (not (is_closed trace)) kept.frames kept.sent) refl)
 
       packet_comes : (x : Party) (n j : ℕ) → refusal_at x s (Deliver n j) ≡ None
           → Takes (Some (x, says.Packet n j)) (quiet_step s trace (with_delivery (sides p) x n j met))
       packet_comes x n j o =
           let may = (laws.none (length (call x past).coded + 1) x (Deliver n j) met).0 o in
           quiet (Some (x, says.Packet n j)) (with_event p captures x (Deliver n j) past)
-              (with_delivery (sides p) x n j met) refl may refl (may, near) (kept_delivery p x n j met)
-              (append-nil (rows past))
+          (with_delivery (sides p) x n j met) refl may refl (may, near) (kept_delivery p x n j met)
+          (append-nil (rows past))
 
       all_comes : (x : Party) (n : ℕ) → refusal_at x s (Deliver n 0) ≡ None
           → Takes (Some (x, says.All n)) (quiet_step s trace (with_whole p x n met))
@@ -445,7 +448,7 @@ module _ (p : Party → Params) (captures : Party → List Picture) (broken : Pa
           let count = length (slices_at (call x past).coded n) in
           let may = (laws.none (length (call x past).coded + 1) x (Deliver n 0) met).0 o in
           quiet (Some (x, says.All n)) (with_packets p captures x n count past) (with_places p x n count met) refl may
-              (ways_packets p captures x n count past)
+          (ways_packets p captures x n count past)
           (near_packets p captures x n 0 count past may near)
           (kept_places p x n count met) (told_packets p captures x n count past)
 
@@ -491,11 +494,11 @@ module _ (p : Party → Params) (captures : Party → List Picture) (broken : Pa
       play_comes x o =
           let may = (laws.none (length (call x past).coded + 1) x Play met).0 o in
           comes_more (Some (x, says.Play)) E F (lines + 1) past (with_event p captures x Play past) (play_turn x) _
-              refl may
+          refl may
           (played_pictures x)
           (ap (λ (l : Text). rows past ++ l) (row_is x))
           (go (with_event p captures x Play past) (with_play (sides p) x met) va vb (not (is_closed trace))
-              (of Events size) refl
+          (of Events size) refl
           (may, near)
           (on_after (with_play (sides p) x met) (not (is_closed trace)) (played_frames x) (played_sent x)) refl)
 
@@ -533,15 +536,15 @@ module _ (p : Party → Params) (captures : Party → List Picture) (broken : Pa
       -- the run goes on after a capture
       frame_on : (x : Party) (planes : List ℕ) (frame : ℕ)
           → drop (suc (length (way x met).frames)) (captures x)
-              ≡ captures_at x (next_place x frame) (drop frame (inputs (video_of x)))
+          ≡ captures_at x (next_place x frame) (drop frame (inputs (video_of x)))
           → fault_at x (next_place x frame) (drop frame (inputs (video_of x))) ≡ broken x
           → with_capture (sides p) x (picture_of (p x).format planes) met ≡ ways (with_event p captures x Send past)
-              → Near (with_event p captures x Send past)
+          → Near (with_event p captures x Send past)
           → Comes (with_event p captures x Send past) E F (lines + 1 + 1)
-              (rest (after_line (with_frame x s frame planes) trace) (takes_frame x frame))
+          (rest (after_line (with_frame x s frame planes) trace) (takes_frame x frame))
       frame_on A planes frame ahead still is near2 =
           go (with_event p captures A Send past) (with_capture (sides p) A (picture_of (p A).format planes) met)
-              (next_place A frame) vb (not (is_closed trace)) (takes_frame A frame) is near2
+          (next_place A frame) vb (not (is_closed trace)) (takes_frame A frame) is near2
           (record { sent = sent; ahead = aheads; fault = faults }) (line_taken A frame)
         where
           sent : (y : Party) → sent_before (way y (with_capture (sides p) A (picture_of (p A).format planes) met)).past
@@ -553,10 +556,10 @@ module _ (p : Party → Params) (captures : Party → List Picture) (broken : Pa
           aheads : (y : Party) → drop
               (length (way y (with_capture (sides p) A (picture_of (p A).format planes) met)).frames) (captures y)
               ≡ captures_at y (place_of y (after_line (with_frame A s frame planes) trace))
-                  (left_after inputs (takes_frame A frame) (video_of y))
+              (left_after inputs (takes_frame A frame) (video_of y))
           aheads A =
               ap (λ (m : ℕ). drop m (captures A)) (longer (way A met).frames _) ∙ ahead
-                  ∙ ap (λ (l : List ℕ). captures_at A (next_place A frame) l) (sym (frame_gone A frame))
+              ∙ ap (λ (l : List ℕ). captures_at A (next_place A frame) l) (sym (frame_gone A frame))
           aheads B = on.ahead B
 
           faults : (y : Party) → fault_at y (place_of y (after_line (with_frame A s frame planes) trace))
@@ -565,7 +568,7 @@ module _ (p : Party → Params) (captures : Party → List Picture) (broken : Pa
           faults B = on.fault B
       frame_on B planes frame ahead still is near2 =
           go (with_event p captures B Send past) (with_capture (sides p) B (picture_of (p B).format planes) met) va
-              (next_place B frame) (not (is_closed trace)) (takes_frame B frame) is near2
+          (next_place B frame) (not (is_closed trace)) (takes_frame B frame) is near2
           (record { sent = sent; ahead = aheads; fault = faults }) (line_taken B frame)
         where
           sent : (y : Party) → sent_before (way y (with_capture (sides p) B (picture_of (p B).format planes) met)).past
@@ -577,11 +580,11 @@ module _ (p : Party → Params) (captures : Party → List Picture) (broken : Pa
           aheads : (y : Party) → drop
               (length (way y (with_capture (sides p) B (picture_of (p B).format planes) met)).frames) (captures y)
               ≡ captures_at y (place_of y (after_line (with_frame B s frame planes) trace))
-                  (left_after inputs (takes_frame B frame) (video_of y))
+              (left_after inputs (takes_frame B frame) (video_of y))
           aheads A = on.ahead A
           aheads B =
               ap (λ (m : ℕ). drop m (captures B)) (longer (way B met).frames _) ∙ ahead
-                  ∙ ap (λ (l : List ℕ). captures_at B (next_place B frame) l) (sym (frame_gone B frame))
+              ∙ ap (λ (l : List ℕ). captures_at B (next_place B frame) l) (sym (frame_gone B frame))
 
           faults : (y : Party) → fault_at y (place_of y (after_line (with_frame B s frame planes) trace))
               (left_after inputs (takes_frame B frame) (video_of y)) ≡ broken y
@@ -596,20 +599,23 @@ module _ (p : Party → Params) (captures : Party → List Picture) (broken : Pa
       captured_comes : (x : Party) (b : ℕ) (v : List ℕ) → inputs (video_of x) ≡ b ∷ v → refusal_at x s Send ≡ None
           → (r : Result (List ℕ) Y4mFault) → next_frame (place_of x s).more (p x).format (place_of x s).at (b ∷ v) ≡ r
           → Takes (Some (x, says.Send)) (captured_step (video_of x) (pictures_of x) (refused_video x) x s trace
-              (frame_size (p x).format (b ∷ v)) r)
+          (frame_size (p x).format (b ∷ v)) r)
       captured_comes x b v video o (Err fault) found =
           let place = place_of x s in
           let stops = frame_laws.stops (p x).format place.more place.at (b ∷ v) fault (omega arith) found in
           let nothing : captures_at x place (inputs (video_of x)) ≡ [] =
           ap (λ (l : List ℕ). captures_at x place l) video
-              ∙ ap (λ (l : List (List ℕ)). map (λ planes. picture_of (p x).format planes) l) stops.0
+          ∙ ap (λ (l : List (List ℕ)). map (λ planes. picture_of (p x).format planes) l) stops.0
           in
           let fault_is : Some fault ≡ broken x = sym (ap (λ (l : List ℕ). fault_at x place l) video ∙ stops.1)
-              ∙ on.fault x in
+          ∙ on.fault x in
           comes_stopped past near (Some (x, says.Send) ∷ E) F (lines + 1) rest _ _ (untold x fault)
-              (one_refused size x fault)
-          (NoPicture, none_left x nothing o, ap (λ (q : Option Y4mFault). capture_told x q (lines + 1 + 0) NoPicture)
-              fault_is)
+          (one_refused size x fault) (
+            NoPicture,
+            none_left x nothing o,
+            ap (λ (q : Option Y4mFault). capture_told x q (lines + 1 + 0) NoPicture)
+                fault_is,
+          )
       captured_comes x b v video o (Ok planes) found =
           let f = (p x).format in
           let place = place_of x s in
@@ -618,20 +624,20 @@ module _ (p : Party → Params) (captures : Party → List Picture) (broken : Pa
           let count = length (way x met).frames in
           let some : 0 < length (b ∷ v) = omega arith in
           let e = frame_laws.next f place.more (place.more - 1) place.at (b ∷ v) planes
-              (some_left place.more place.at f (b ∷ v) planes found) some found in
+          (some_left place.more place.at f (b ∷ v) planes found) some found in
           let left = captures_at x (next_place x frame) (after_frame f (b ∷ v)) in
           let stands : drop count (captures x) ≡ captured ∷ left =
           on.ahead x ∙ ap (λ (l : List ℕ). captures_at x place l) video
-              ∙ ap (λ (l : List (List ℕ)). map (λ planes. picture_of f planes) l) e.frames
+          ∙ ap (λ (l : List (List ℕ)). map (λ planes. picture_of f planes) l) e.frames
           in
           let ahead : drop (suc count) (captures x)
-              ≡ captures_at x (next_place x frame) (drop frame (inputs (video_of x))) =
+          ≡ captures_at x (next_place x frame) (drop frame (inputs (video_of x))) =
           after_next (captures x) count captured left stands
-              ∙ ap (λ (l : List ℕ). captures_at x (next_place x frame) (drop frame l)) (sym video)
+          ∙ ap (λ (l : List ℕ). captures_at x (next_place x frame) (drop frame l)) (sym video)
           in
           let is : with_capture (sides p) x captured met ≡ ways (with_event p captures x Send past) =
           ap (λ (o : Option Picture). option_map_or (λ (q : Picture). with_capture (sides p) x q met) o met)
-              (sym (next_in (captures x) count captured left stands))
+          (sym (next_in (captures x) count captured left stands))
           in
           let coded : length (call x past).coded ≡ count = coded_are past near x (on.sent x) in
           let many : count < length (captures x) = some_after (captures x) count captured left stands in
@@ -639,12 +645,14 @@ module _ (p : Party → Params) (captures : Party → List Picture) (broken : Pa
           let may = (laws.none (length (call x past).coded + 1) x Send met).0 o in
           let still : fault_at x (next_place x frame) (drop frame (inputs (video_of x))) ≡ broken x =
           ap (λ (l : List ℕ). fault_at x (next_place x frame) (drop frame l)) video ∙ sym e.fault
-              ∙ sym (ap (λ (l : List ℕ). fault_at x place l) video) ∙ on.fault x
+          ∙ sym (ap (λ (l : List ℕ). fault_at x place l) video) ∙ on.fault x
           in
-          comes_more (Some (x, says.Send)) E F (lines + 1) past (with_event p captures x Send past) _ _ refl (below,
-              may.1)
+          comes_more (Some (x, says.Send)) E F (lines + 1) past (with_event p captures x Send past) _ _ refl (
+            below,
+            may.1,
+          )
           (λ y. ap (λ (w : WayRuns Frame). shown_text (call_in p y w).plays) (sym is) ∙ captured_plays x y captured
-              ∙ sym (append-nil (shown_text (call y past).plays)))
+          ∙ sym (append-nil (shown_text (call y past).plays)))
           refl
           (frame_on x planes frame ahead still is ((below, may.1), near))
 
@@ -655,7 +663,7 @@ module _ (p : Party → Params) (captures : Party → List Picture) (broken : Pa
           let ends = frame_laws.ends (p x).format place.more place.at in
           let nothing : captures_at x place (inputs (video_of x)) ≡ [] =
           ap (λ (l : List ℕ). captures_at x place l) there
-              ∙ ap (λ (l : List (List ℕ)). map (λ planes. picture_of (p x).format planes) l) ends.0
+          ∙ ap (λ (l : List (List ℕ)). map (λ planes. picture_of (p x).format planes) l) ends.0
           in
           let none_is : None ≡ broken x = sym (ap (λ (l : List ℕ). fault_at x place l) there ∙ ends.1) ∙ on.fault x in
           comes_faulty past near (Some (x, says.Send) ∷ E) F (lines + 1) rest _ _ (
@@ -675,10 +683,10 @@ module _ (p : Party → Params) (captures : Party → List Picture) (broken : Pa
           (send_comes x (inputs (video_of x)) refl)
       party_comes x (says.Packet n j) =
           unless_comes (Some (x, says.Packet n j)) x (Deliver n j) (refusal_at x s (Deliver n j)) _ refl
-              (λ r is. told_at x (Deliver n j) r (packet_so x n j r is)) (packet_comes x n j)
+          (λ r is. told_at x (Deliver n j) r (packet_so x n j r is)) (packet_comes x n j)
       party_comes x (says.All n) =
           unless_comes (Some (x, says.All n)) x (Deliver n 0) (refusal_at x s (Deliver n 0)) _ refl
-              (λ r is. told_at x (Deliver n 0) r (packet_so x n 0 r is)) (all_comes x n)
+          (λ r is. told_at x (Deliver n 0) r (packet_so x n 0 r is)) (all_comes x n)
       party_comes x (says.Back m) = comes_faulty past near (Some (x, says.Back m) ∷ E) F (lines + 1) rest _ _
           (told_at x (Back m) NotSaid refl)
       party_comes x says.Play = unless_comes (Some (x, says.Play)) x Play (refusal_at x s Play) _ refl
@@ -700,11 +708,11 @@ module _ (p : Party → Params) (captures : Party → List Picture) (broken : Pa
     abbrev GoesOn : ℕ → ℕ → (Role → List ℕ) → Type 0
     GoesOn n lines inputs =
         (past2 : List Lettered) (met2 : WayRuns Frame) (va2 vb2 : VideoPlace) (ended2 : Bool) (taken : Role → ℕ)
-            → met2 ≡ ways past2 → Near past2
+        → met2 ≡ ways past2 → Near past2
         → IsOn met2 (state met2 va2 vb2 (lines + 1) ended2) (left_after inputs taken)
-            → taken Events ≡ line_size (inputs Events)
+        → taken Events ≡ line_size (inputs Events)
         → Comes past2 (line_events n (later_lines (inputs Events)))
-            (fault_in n (lines + 1 + 1) (later_lines (inputs Events))) (lines + 1 + 1)
+        (fault_in n (lines + 1 + 1) (later_lines (inputs Events))) (lines + 1 + 1)
         (run_of duplex_step n (state met2 va2 vb2 (lines + 1) ended2) (left_after inputs taken))
 
     module _ (past : List Lettered) (near : Near past) (va vb : VideoPlace) (lines : ℕ) (ended : Bool) (inputs : Role
@@ -732,22 +740,22 @@ module _ (p : Party → Params) (captures : Party → List Picture) (broken : Pa
         choice_comes : (b : Bool) (bytes : ℕ) (trace : List ℕ) → inputs Events ≡ bytes ∷ trace → GoesOn n lines inputs
             → lines + suc n ≡ 16777216 → nat_lt lines 16777216 ≡ b
             → Comes past (and_event (party_event (first_line (bytes ∷ trace)))
-                (line_events n (later_lines (bytes ∷ trace))))
+            (line_events n (later_lines (bytes ∷ trace))))
             (bad_from (party_event (first_line (bytes ∷ trace))) (lines + 1)
-                (fault_in n (lines + 1 + 1) (later_lines (bytes ∷ trace)))) (lines + 1)
+            (fault_in n (lines + 1 + 1) (later_lines (bytes ∷ trace)))) (lines + 1)
             (follow (or_many b lines (line_step here inputs (party_event (first_line (bytes ∷ trace))))) on_with)
         choice_comes false bytes trace is go room many = absurd (omega (arith, ltb-false lines 16777216 many, room))
         choice_comes true bytes trace is go room few =
             let o = party_event (first_line (bytes ∷ trace)) in
             subst (λ (l : List ℕ). Comes past (and_event o (line_events n (later_lines l)))
-                (bad_from o (lines + 1) (fault_in n (lines + 1 + 1) (later_lines l))) (lines + 1)
-                (follow (line_step here inputs o) on_with)) is
+            (bad_from o (lines + 1) (fault_in n (lines + 1 + 1) (later_lines l))) (lines + 1)
+            (follow (line_step here inputs o) on_with)) is
             (line_comes frame_laws past near va vb lines ended inputs on (line_events n (later_lines (inputs Events)))
-                (fault_in n (lines + 1 + 1) (later_lines (inputs Events))) on_with go o)
+            (fault_in n (lines + 1 + 1) (later_lines (inputs Events))) on_with go o)
 
         step_comes : (trace : List ℕ) → inputs Events ≡ trace → GoesOn n lines inputs → lines + suc n ≡ 16777216
             → Comes past (line_events (suc n) trace) (fault_in (suc n) (lines + 1) trace) (lines + 1)
-                (follow (trace_step here inputs trace) on_with)
+            (follow (trace_step here inputs trace) on_with)
         unfolding line_events fault_in
         step_comes [] is go room = comes_end past near (lines + 1) on_with
         step_comes (bytes ∷ trace) is go room = choice_comes (nat_lt lines 16777216) bytes trace is go room refl
@@ -763,7 +771,7 @@ module _ (p : Party → Params) (captures : Party → List Picture) (broken : Pa
     pub run_comes : (n : ℕ) (past : List Lettered) (va vb : VideoPlace) (lines : ℕ) (ended : Bool) (inputs : Role
         → List ℕ) → Near past → IsOn (ways past) (state (ways past) va vb lines ended) inputs
         → lines + n ≡ 16777216 → Comes past (line_events n (inputs Events)) (fault_in n (lines + 1) (inputs Events))
-            (lines + 1) (run_of duplex_step n (state (ways past) va vb lines ended) inputs)
+        (lines + 1) (run_of duplex_step n (state (ways past) va vb lines ended) inputs)
     unfolding run_of line_events fault_in
     run_comes zero past va vb lines ended inputs near on room = last_comes past near va vb lines ended inputs on
         (inputs Events) room
@@ -772,12 +780,12 @@ module _ (p : Party → Params) (captures : Party → List Picture) (broken : Pa
         (λ past2 met2 va2 vb2 ended2 taken is near2 on2 gone.
         subst (λ (w : WayRuns Frame). IsOn w (state w va2 vb2 (lines + 1) ended2) (left_after inputs taken)
         → Comes past2 (line_events n (later_lines (inputs Events)))
-            (fault_in n (lines + 1 + 1) (later_lines (inputs Events))) (lines + 1 + 1)
-            (run_of duplex_step n (state w va2 vb2 (lines + 1) ended2) (left_after inputs taken))) (sym is)
+        (fault_in n (lines + 1 + 1) (later_lines (inputs Events))) (lines + 1 + 1)
+        (run_of duplex_step n (state w va2 vb2 (lines + 1) ended2) (left_after inputs taken))) (sym is)
         (λ (on3 : IsOn (ways past2) (state (ways past2) va2 vb2 (lines + 1) ended2) (left_after inputs taken)).
         subst (λ (l : List ℕ). Comes past2 (line_events n l) (fault_in n (lines + 1 + 1) l) (lines + 1 + 1)
-            (run_of duplex_step n (state (ways past2) va2 vb2 (lines + 1) ended2) (left_after inputs taken)))
-            (after_taken inputs taken gone)
+        (run_of duplex_step n (state (ways past2) va2 vb2 (lines + 1) ended2) (left_after inputs taken)))
+        (after_taken inputs taken gone)
         (run_comes n past2 va2 vb2 (lines + 1) ended2 (left_after inputs taken) near2 on3 (one_less lines n room)))
         on2)
         room

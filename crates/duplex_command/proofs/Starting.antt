@@ -63,7 +63,7 @@ not_ended ended l none over = absurd (cc (none, over))
 ready_first : (station : Station) (heads_video : Y4mPlace) (q : Params) (room : ℕ) → station.video ≡ heads_video
     → station.ends.params ≡ q → q.format ≡ heads_video.format
     → station.ends.sender.sent ≡ 0 → heads_video.more ≡ most_frames → size_of_picture heads_video.format ≤ room
-        → StationReady station room
+    → StationReady station room
 ready_first station video q room is params format sent more fits =
     let same : station.ends.params.format ≡ video.format = ap (λ (x : Params). x.format) params ∙ format in
     record {
@@ -83,8 +83,12 @@ module _ (p : Params) (heads : Heads) (m : Talk) (new : IsNewTalk p heads m)
   stations_ready = record {
     own_ready = ready_first m.a heads.a _ _ new.video_a new.new_a.params refl new.new_a.sent more_a new.room_a;
     far_ready = ready_first m.b heads.b _ _ new.video_b new.new_b.params refl new.new_b.sent more_b new.room_b;
-    ends = record { params = in_formats p heads.a.format heads.b.format; party = A; ways = no_runs;
-        holds = holds_first };
+    ends = record {
+      params = in_formats p heads.a.format heads.b.format;
+      party = A;
+      ways = no_runs;
+      holds = holds_first;
+    };
   }
 
   pub all_may_come : more_of m ≡ most_turns
@@ -138,13 +142,13 @@ module _ (p : Params) (heads : Heads) (inputs : Role → List ℕ) (old mid : Ou
       subst (λ (y : Status). GivesUp (phase y) y (duplex_begin p inputs) true inputs old last) (sym is)
       (subst (λ (step : Step DuplexState). GainsFronts (step_texts step) old.written last.written) (sym begins)
       (subst (λ (w : Role → Option (List ℕ)). GainsFronts (heads_text heads.a.format heads.b.format) w last.written)
-          same fronts))
+      same fronts))
 
 -- an end that is known
 pub ends_so : {Machine : Type 0} (r : Result Machine Status) (status : Status) (run : Run) (inputs : Role
     → List ℕ) (start : Role → Option (List ℕ)) (now : Outside)
     → IsErrAnd r (λ x. x ≡ status) → HasEnded run silent status inputs start now
-        → IfErr r (λ x. HasEnded run silent x inputs start now)
+    → IfErr r (λ x. HasEnded run silent x inputs start now)
 ends_so (Ok m) status run inputs start now is ended = absurd is
 ends_so (Err x) status run inputs start now is ended = subst (λ (y : Status). HasEnded run silent y inputs start now)
     (sym is) ended

@@ -65,55 +65,69 @@ module _ (x y : Talk) (old new : Outside) where
   pub turn_gave_up : (r : Result Bool Status) (status : Status) → IsErrAnd r (λ z. z ≡ status) → IsStop status
       → HasCause status old.faults new.faults → KeepsRoles old new
       → ((s : DuplexState) (inputs : Role → List ℕ) → TalkStands x s inputs → Tells old inputs
-          → GivesUp (phase status) status (duplex_step s inputs) (may_read s) inputs old new)
+      → GivesUp (phase status) status (duplex_step s inputs) (may_read s) inputs old new)
       → TakesTurn x y r old new
   turn_gave_up (Ok b) status is stop cause rest gives = absurd is
   turn_gave_up (Err z) status is stop cause rest gives = subst (λ (w : Status). TakesTurn x y (Err w) old new) (sym is)
       (record {
-    gives = gives;
-    whole = λ s inputs k told. tt;
-    falls = tt;
-    ready = tt;
-    stop = stop;
-    cause = cause;
-    rest = rest;
-  })
+        gives = gives;
+        whole = λ s inputs k told. tt;
+        falls = tt;
+        ready = tt;
+        stop = stop;
+        cause = cause;
+        rest = rest;
+      })
 
   -- one that can't write
   pub turn_was_cut : (r : Result Bool Status) (status : Status) → IsErrAnd r (λ z. z ≡ status) → status ≡ WriteFault
       → Rose old.faults.write new.faults.write → KeepsRoles old new
       → ((s : DuplexState) (inputs : Role → List ℕ) → TalkStands x s inputs → Tells old inputs
-          → GainsFronts (step_texts (duplex_step s inputs)) old.written new.written)
+      → GainsFronts (step_texts (duplex_step s inputs)) old.written new.written)
       → TakesTurn x y r old new
   turn_was_cut (Ok b) status is kind rose rest gives = absurd is
   turn_was_cut (Err z) status is kind rose rest gives = subst (λ (w : Status). TakesTurn x y (Err w) old new) (sym (is
       ∙ kind)) (record {
-    gives = gives;
-    whole = λ s inputs k told. tt;
-    falls = tt;
-    ready = tt;
-    stop = tt;
-    cause = rose;
-    rest = rest;
-  })
+        gives = gives;
+        whole = λ s inputs k told. tt;
+        falls = tt;
+        ready = tt;
+        stop = tt;
+        cause = rose;
+        rest = rest;
+      })
 
   -- one that ends the call
   pub turn_is_over : KeepsRoles old new
       → ((s : DuplexState) (inputs : Role → List ℕ) → TalkStands x s inputs → Tells old inputs
-          → Ended (duplex_step s inputs) Fine inputs old new)
+      → Ended (duplex_step s inputs) Fine inputs old new)
       → ((s : DuplexState) (inputs : Role → List ℕ) → TalkStands x s inputs → Tells old inputs
-          → new.left Events ≡ Some [])
+      → new.left Events ≡ Some [])
       → TakesTurn x y (Ok false) old new
-  turn_is_over rest gives whole = record { gives = gives; whole = whole; falls = tt; ready = tt; stop = tt; cause = tt;
-      rest = rest }
+  turn_is_over rest gives whole = record {
+    gives = gives;
+    whole = whole;
+    falls = tt;
+    ready = tt;
+    stop = tt;
+    cause = tt;
+    rest = rest;
+  }
 
   -- one that goes on
   pub turn_goes_on : more_of y + 1 ≡ more_of x → TalkReady y new.attached → KeepsRoles old new
       → ((s : DuplexState) (inputs : Role → List ℕ) → TalkStands x s inputs → Tells old inputs
-          → Went (duplex_step s inputs) (TalkStands y) may_read (may_read s) inputs old new)
+      → Went (duplex_step s inputs) (TalkStands y) may_read (may_read s) inputs old new)
       → TakesTurn x y (Ok true) old new
-  turn_goes_on falls ready rest gives = record { gives = gives; whole = λ s inputs k told. tt; falls = falls;
-      ready = ready; stop = tt; cause = tt; rest = rest }
+  turn_goes_on falls ready rest gives = record {
+    gives = gives;
+    whole = λ s inputs k told. tt;
+    falls = falls;
+    ready = ready;
+    stop = tt;
+    cause = tt;
+    rest = rest;
+  }
 
 -- ---- after a line was read
 
@@ -179,7 +193,7 @@ module _ (lines : LineLaws) (steps : StepLaws) (m : Talk) (after : TracePlace) (
       → Ended (duplex_step s inputs) (TraceRefused (BadLine found.0)) inputs old mid
   line_bad said s inputs k told =
       found_bad lines s inputs old mid (only s inputs k told) m.trace after (at s inputs k told) buf found
-          (e s inputs k told) w.moves (said (fits s inputs k told))
+      (e s inputs k told) w.moves (said (fits s inputs k told))
 
   fewer : 16777216 - after.lines + 1 ≡ 16777216 - m.trace.lines
   fewer = omega (arith, w.moves.1, w.moves.3)
@@ -192,11 +206,13 @@ module _ (lines : LineLaws) (steps : StepLaws) (m : Talk) (after : TracePlace) (
       → Gains no_texts mid.written mid.written
       → TakesTurn m (record m { trace = after }) (Ok true) old mid
   line_empty said r silent =
-      turn_goes_on m (record m { trace = after }) old mid fewer (record { opens = opens_still mid r (steps.none mid);
-          stations = r.stations }) (steps.reads old mid w.rest)
+      turn_goes_on m (record m { trace = after }) old mid fewer (record {
+        opens = opens_still mid r (steps.none mid);
+        stations = r.stations;
+      }) (steps.reads old mid w.rest)
       (λ s inputs k told.
       found_empty lines s inputs old mid (only s inputs k told) m.trace after (at s inputs k told) buf found
-          (e s inputs k told) w.moves (said (fits s inputs k told))
+      (e s inputs k told) w.moves (said (fits s inputs k told))
       (TalkStands (record m { trace = after })) (stood s inputs k told) silent)
 
   -- a line that says an event of a party
@@ -208,22 +224,24 @@ module _ (lines : LineLaws) (steps : StepLaws) (m : Talk) (after : TracePlace) (
   line_done said number said_so ready y r new room trace_is frame_is t = record {
     gives = λ s inputs k told.
         let stands : DuplexState → (Role → List ℕ)
-            → Type 0 = λ next rest. StationsStand A y.a y.b after next (rest Events) in
+        → Type 0 = λ next rest. StationsStand A y.a y.b after next (rest Events) in
         subst (λ (reader : TracePlace). TurnGives r (duplex_step s inputs)
-            (λ next rest. StationsStand A y.a y.b reader next (rest Events)) may_read (may_read s) inputs old new)
-            (sym trace_is)
+        (λ next rest. StationsStand A y.a y.b reader next (rest Events)) may_read (may_read s) inputs old new)
+        (sym trace_is)
         (subst (λ (step : Step DuplexState). TurnGives r step stands may_read (may_read s) inputs old new)
-            (sym (step_is s inputs k told (Some (Some (said.party, said.event))) (said_so (fits s inputs k told))))
+        (sym (step_is s inputs k told (Some (Some (said.party, said.event))) (said_so (fits s inputs k told))))
         (subst (λ (b : Bool). TurnGives r (party_step said.party s inputs said.event) stands may_read b inputs old new)
-            (sym (could s inputs k told))
+        (sym (could s inputs k told))
         (t.gives after old s inputs (subst (λ (n : ℕ). IsRead A m.a m.b n after mid old s inputs) (sym number)
-            (line_read s inputs k told)))));
+        (line_read s inputs k told)))));
     whole = λ s inputs k told. never r (new.left Events ≡ Some []) t.goes_on;
     falls = falls_so r (more_of m) (more_of y) (ap (λ (reader : TracePlace). 16777216 - reader.lines + 1) trace_is
         ∙ fewer);
     ready = ready_so r (StationsReady y.a y.b room) (TalkReady y new.attached)
-        (λ stations. record { opens = opens_still new ready t.rest;
-            stations = subst (λ (n : ℕ). StationsReady y.a y.b n) (sym frame_is) stations }) t.ready;
+        (λ stations. record {
+          opens = opens_still new ready t.rest;
+          stations = subst (λ (n : ℕ). StationsReady y.a y.b n) (sym frame_is) stations;
+        }) t.ready;
     stop = t.stop;
     cause = steps.since r old.faults mid.faults new.faults w.rest.faults t.stop t.cause;
     rest = steps.both old mid new (steps.reads old mid w.rest) t.rest;

@@ -61,13 +61,13 @@ row_is p x ways laws number mark reference picture number_is mark_is reference_i
     let after = call_in p x (with_play (sides p) x ways) in
     let n = (call_in p x ways).played in
     let picture_is : picture ≡ (shown_next p x ways).picture = shown
-        ∙ ap (λ (plays : List (Shown Picture)). shown_last (pictures_of (coding (p x))) plays) laws.plays in
+    ∙ ap (λ (plays : List (Shown Picture)). shown_last (pictures_of (coding (p x))) plays) laws.plays in
     let told : reference ≡ reference_in after.coded n = reference_is
-        ∙ ap (λ coded. reference_in coded n) (sym laws.coded) in
+    ∙ ap (λ coded. reference_in coded n) (sym laws.coded) in
     (λ i. then_also (on Pictures (frame_text (mark_is i) (picture_is i)))
-        (on Report (picture_text (number_is i) (Some (mark_is i)) (Some (told i)) (Some (letter_of x)))))
+    (on Report (picture_text (number_is i) (Some (mark_is i)) (Some (told i)) (Some (letter_of x)))))
     ∙ sym (ap (λ (plays : List (Shown Picture)). newest_texts Pictures x n (reference_in after.coded n) plays)
-        laws.plays)
+    laws.plays)
 
 -- ---- two lines of the report
 

@@ -50,7 +50,7 @@ pub waiting_fit : (clock : Clock) (told : List Carried) (loaded : ℕ) → AreOf
     → AreMessages clock (map message_in (last_four (drop loaded told)))
 waiting_fit clock told loaded fit =
     are_messages clock (last_four (drop loaded told)) (drop_fit clock _ (drop loaded told)
-        (drop_fit clock loaded told fit))
+    (drop_fit clock loaded told fit))
 
 -- ---- the way after a capture
 
@@ -72,8 +72,12 @@ module _ (p q : Params) (own : PartyEnds) (w v : WayRun Frame) (h : HoldsParty p
   frame = carrying picture (map marked (messages_at said numbers))
 
   abbrev pub captured : WayRun Frame
-  captured = record { frames = w.frames ++ frame ∷ []; past = Send ∷ w.past; carried = w.carried ++ numbers ∷ [];
-      loaded = length said }
+  captured = record {
+    frames = w.frames ++ frame ∷ [];
+    past = Send ∷ w.past;
+    carried = w.carried ++ numbers ∷ [];
+    loaded = length said;
+  }
 
   long : length said ≡ length (told_by q v)
   long = map_long (travelling (rules_of q)) (call_by q v).said
@@ -94,36 +98,36 @@ module _ (p q : Params) (own : PartyEnds) (w v : WayRun Frame) (h : HoldsParty p
     where
       by_last : (length w.carried < n) ⊎ (n ≤ length w.carried) → length w.carried ≤ n
           → AreNumbered (told_by q v) (slice_index_or (w.carried ++ numbers ∷ []) n [])
-              (slice_index_or (h.carries.headers ++ waiting ∷ []) n [])
+          (slice_index_or (h.carries.headers ++ waiting ∷ []) n [])
       by_last (inl past) high =
           let one = at_past w.carried numbers [] n past in
           let two = at_past h.carries.headers waiting [] n (omega (arith, past, h.carries.count)) in
           subst (λ (ks : List ℕ). AreNumbered (told_by q v) ks (slice_index_or (h.carries.headers
-              ++ waiting ∷ []) n [])) (sym one)
+          ++ waiting ∷ []) n [])) (sym one)
           (subst (λ (ms : List Carried). AreNumbered (told_by q v) [] ms) (sym two) tt)
       by_last (inr low) high =
           let is : length w.carried ≡ n = omega (arith, low, high) in
           let is_header : length h.carries.headers ≡ n = h.carries.count ∙ is in
           let one : slice_index_or (w.carried ++ numbers ∷ []) n []
-              ≡ numbers = ap (λ (k : ℕ). slice_index_or (w.carried ++ numbers ∷ []) k []) (sym is)
-              ∙ at_last w.carried numbers [] in
+          ≡ numbers = ap (λ (k : ℕ). slice_index_or (w.carried ++ numbers ∷ []) k []) (sym is)
+          ∙ at_last w.carried numbers [] in
           let two : slice_index_or (h.carries.headers ++ waiting ∷ []) n []
-              ≡ waiting = ap (λ (k : ℕ). slice_index_or (h.carries.headers ++ waiting ∷ []) k []) (sym is_header)
-              ∙ at_last h.carries.headers waiting [] in
+          ≡ waiting = ap (λ (k : ℕ). slice_index_or (h.carries.headers ++ waiting ∷ []) k []) (sym is_header)
+          ∙ at_last h.carries.headers waiting [] in
           subst (λ (ks : List ℕ). AreNumbered (told_by q v) ks (slice_index_or (h.carries.headers
-              ++ waiting ∷ []) n [])) (sym one)
+          ++ waiting ∷ []) n [])) (sym one)
           (subst (λ (ms : List Carried). AreNumbered (told_by q v) numbers ms) (sym two) numbered)
 
       by_place : (n < length w.carried) ⊎ (length w.carried ≤ n)
           → AreNumbered (told_by q v) (slice_index_or (w.carried ++ numbers ∷ []) n [])
-              (slice_index_or (h.carries.headers ++ waiting ∷ []) n [])
+          (slice_index_or (h.carries.headers ++ waiting ∷ []) n [])
       by_place (inl below) =
           let one = at_left w.carried numbers [] n below in
           let two = at_left h.carries.headers waiting [] n (omega (arith, below, h.carries.count)) in
           subst (λ (ks : List ℕ). AreNumbered (told_by q v) ks (slice_index_or (h.carries.headers
-              ++ waiting ∷ []) n [])) (sym one)
+          ++ waiting ∷ []) n [])) (sym one)
           (subst (λ (ms : List Carried). AreNumbered (told_by q v) (slice_index_or w.carried n []) ms) (sym two)
-              (h.carries.each n))
+          (h.carries.each n))
       by_place (inr high) = by_last (cases_lt (length w.carried) n) high
 
   each_few : (n : ℕ) → length (slice_index_or (h.carries.headers ++ waiting ∷ []) n []) ≤ 4
@@ -139,7 +143,7 @@ module _ (p q : Params) (own : PartyEnds) (w v : WayRun Frame) (h : HoldsParty p
       by_last (inr low) high =
           let is : length h.carries.headers ≡ n = omega (arith, low, high) in
           few waiting (ap (λ (k : ℕ). slice_index_or (h.carries.headers ++ waiting ∷ []) k []) (sym is)
-              ∙ at_last h.carries.headers waiting []) (last_few (drop w.loaded (told_by q v)))
+          ∙ at_last h.carries.headers waiting []) (last_few (drop w.loaded (told_by q v)))
 
       by_place : (n < length h.carries.headers) ⊎ (length h.carries.headers ≤ n)
           → length (slice_index_or (h.carries.headers ++ waiting ∷ []) n []) ≤ 4
@@ -152,9 +156,9 @@ module _ (p q : Params) (own : PartyEnds) (w v : WayRun Frame) (h : HoldsParty p
       → HoldsWay p new.way new.sender new.far_end [] captured.frames captured.past → CanSend new.way new.sender
       → kept_in new.way ≡ kept_in own.way → new.sender.sent ≡ own.sender.sent + 1 → own.sender.sent < 1048576
       → new.far_end.played ≡ own.far_end.played → total_of (tally_of new.way) ≡ total_of (tally_of own.way)
-          → kept_by new.carried ≡ kept_by own.carried
+      → kept_by new.carried ≡ kept_by own.carried
       → HoldsHeaders new.carried (h.carries.headers ++ waiting ∷ []) → Waits new.waiting []
-          → HoldsParty p q new captured v
+      → HoldsParty p q new captured v
   party_sent new params done can period sent left played tally kept holds none = record {
     params = params ∙ h.params;
     done = done;
@@ -182,18 +186,26 @@ module _ (p q : Params) (own : PartyEnds) (w v : WayRun Frame) (h : HoldsParty p
   pub near_send : LaterFramesBoth (coding p) (rules_of p)
       → Agree (coding p) (rules_of p) (call_by p w) (both_after p (steady p) w.frames [] w.past)
       → own.sender.sent ≡ length (both_after p (steady p) w.frames [] w.past).sender.coded → (left : ℕ)
-          → MayHappen (rules_of p) left (call_by p w) Send
+      → MayHappen (rules_of p) left (call_by p w) Send
       → MayHappenNow p [] captured.frames w.past Send
   near_send law agreed sent left may =
       let same = (law (receiver_end.run_of p []) (steady p) w.frames (frame ∷ []) w.past h.done.near).0 in
       let coded : length (both_after p (steady p) captured.frames [] w.past).sender.coded
-          ≡ length (both_after p (steady p) w.frames [] w.past).sender.coded =
+      ≡ length (both_after p (steady p) w.frames [] w.past).sender.coded =
       ap (λ (b : Joined Style Mb Picture). length b.sender.coded) same
       in
       let played : (both_after p (steady p) captured.frames [] w.past).receiver.played
-          ≡ (both_after p (steady p) w.frames [] w.past).receiver.played =
+      ≡ (both_after p (steady p) w.frames [] w.past).receiver.played =
       ap (λ (b : Joined Style Mb Picture). b.receiver.played) same
       in
-      let ideally = ap (λ (l : List (Coded Style Mb Picture)). length l) agreed.pictures in
-      (omega (arith, coded, sent, h.sent, one_longer w.frames frame), omega (arith, coded, played, ideally,
-          agreed.played, may.1))
+      let ideally = ap (λ (l : List (Coded Style Mb Picture)). length l) agreed.pictures in (
+        omega (arith, coded, sent, h.sent, one_longer w.frames frame),
+        omega (
+          arith,
+          coded,
+          played,
+          ideally,
+          agreed.played,
+          may.1,
+        ),
+      )

@@ -39,21 +39,37 @@ use Rattle.duplex_ends.proofs.Runs.{coded_still, said_still}
 pub with_one : (p : Party → Params) (x : Party) (own far : PartyEnds) (ways : WayRuns Frame) (w : WayRun Frame)
     → ((y : Party) → IsParams (p y)) → (p x).clock ≡ (p (other x)).clock
     → HoldsParty (p x) (p (other x)) own w (way (other x) ways)
-        → HoldsParty (p (other x)) (p x) far (way (other x) ways) w
+    → HoldsParty (p (other x)) (p x) far (way (other x) ways) w
     → HoldsPair p x own far (with_way x w ways)
-with_one p A own far ways w in_range clock one two = record { in_range = in_range; clock = clock; own_holds = one;
-    far_holds = two }
-with_one p B own far ways w in_range clock one two = record { in_range = in_range; clock = clock; own_holds = one;
-    far_holds = two }
+with_one p A own far ways w in_range clock one two = record {
+  in_range = in_range;
+  clock = clock;
+  own_holds = one;
+  far_holds = two;
+}
+with_one p B own far ways w in_range clock one two = record {
+  in_range = in_range;
+  clock = clock;
+  own_holds = one;
+  far_holds = two;
+}
 
 pub with_both : (p : Party → Params) (x : Party) (own far : PartyEnds) (ways : WayRuns Frame) (w v : WayRun Frame)
     → ((y : Party) → IsParams (p y)) → (p x).clock ≡ (p (other x)).clock
     → HoldsParty (p x) (p (other x)) own w v → HoldsParty (p (other x)) (p x) far v w
     → HoldsPair p x own far (with_way x w (with_way (other x) v ways))
-with_both p A own far ways w v in_range clock one two = record { in_range = in_range; clock = clock; own_holds = one;
-    far_holds = two }
-with_both p B own far ways w v in_range clock one two = record { in_range = in_range; clock = clock; own_holds = one;
-    far_holds = two }
+with_both p A own far ways w v in_range clock one two = record {
+  in_range = in_range;
+  clock = clock;
+  own_holds = one;
+  far_holds = two;
+}
+with_both p B own far ways w v in_range clock one two = record {
+  in_range = in_range;
+  clock = clock;
+  own_holds = one;
+  far_holds = two;
+}
 
 -- ---- a picture that was sent and is near
 
@@ -61,14 +77,23 @@ with_both p B own far ways w v in_range clock one two = record { in_range = in_r
 pub header_now : (p q : Params) (near_laws : NearLaws p) (own : PartyEnds) (w far : WayRun Frame)
     (h : HoldsParty p q own w far) (n j : ℕ)
     → MayHappenNow p [] w.frames w.past (Deliver n j)
-        → own.sender.sent ≡ length (both_after p (steady p) w.frames [] w.past).sender.coded
+    → own.sender.sent ≡ length (both_after p (steady p) w.frames [] w.past).sender.coded
     → (n < length h.carries.headers) × (length h.carries.headers ≤ n + kept_by own.carried)
 header_now p q near_laws own w far h n j now sent =
     let short : length (both_after p (steady p) w.frames [] w.past).sender.coded < n + clocks.period_of p.clock =
     near_laws.packets (receiver_end.run_of p []) (steady p) w.frames w.past n j refl (now, h.done.near)
-    in
-    (omega (arith, now.0, sent, h.sent, h.headers, h.carries.count), omega (arith, short, sent, h.sent, h.headers,
-        h.carries.count, h.kept))
+    in (
+      omega (arith, now.0, sent, h.sent, h.headers, h.carries.count),
+      omega (
+        arith,
+        short,
+        sent,
+        h.sent,
+        h.headers,
+        h.carries.count,
+        h.kept,
+      ),
+    )
 
 module _ (p q : Params) (in_range : IsParams p) (calls : CallLaws p) (near_laws : NearLaws p) (own : PartyEnds)
     (w far : WayRun Frame) (h : HoldsParty p q own w far) (left n j : ℕ)
@@ -115,7 +140,7 @@ module _ (p : Party → Params) (y : Party) (in_range : IsParams (p y)) (calls :
       let note = may.0.0 in
       let agreed = agree (p y) in_range calls near_laws far.way far.sender far.far_end v done in
       let same : Some (carried_as (rules_of (p y)) note)
-          ≡ Some m = sym (get_map (carried_as (rules_of (p y))) (call_by (p y) v).said k note may.0.1) ∙ are.0 in
+      ≡ Some m = sym (get_map (carried_as (rules_of (p y))) (call_by (p y) v).said k note may.0.1) ∙ are.0 in
       let is : carried_as (rules_of (p y)) note ≡ m = cc same in (
         record {
           told = told_of write_message (rules_of (p y)) note;
@@ -133,14 +158,14 @@ pub brings_none : (p : Party → Params) (x : Party) (w : WayRun Frame) (n j cou
     → count ≡ length (slices_at (call_by (p x) w).coded n) → count ≤ j → brings (sides p) x w n j ≡ []
 brings_none p x w n j count is past =
     ap (λ (b : Bool). if b then slice_index_or w.carried n [] else [])
-        (le-ltb j (length (slices_at (call_by (p x) w).coded n)) (omega (arith, is, past)))
+    (le-ltb j (length (slices_at (call_by (p x) w).coded n)) (omega (arith, is, past)))
 
 pub brings_all : (p : Party → Params) (x : Party) (w : WayRun Frame) (n j count : ℕ)
     → count ≡ length (slices_at (call_by (p x) w).coded n) → j < count → brings (sides p) x w n j
     ≡ slice_index_or w.carried n []
 brings_all p x w n j count is below =
     ap (λ (b : Bool). if b then slice_index_or w.carried n [] else [])
-        (lt-ltb j (length (slices_at (call_by (p x) w).coded n)) (omega (arith, is, below)))
+    (lt-ltb j (length (slices_at (call_by (p x) w).coded n)) (omega (arith, is, below)))
 
 -- ---- all packets of a picture
 
@@ -152,18 +177,25 @@ still_brought p y v ks (k ∷ messages) may =
     let q = p y in
     let said = said_still (coding q) (rules_of q) (steady q) v.frames ks v.past in
     let coded = ap (λ (l : List (Coded Style Mb Picture)). length l) (coded_still (coding q) (rules_of q)
-        (steady q) v.frames ks v.past) in
-    ((may.0.0, ap (λ (l : List NumberedMessage). slice_get l k) said ∙ may.0.1, omega (arith, may.0.2, coded)),
-        still_brought p y v ks messages may.1)
+    (steady q) v.frames ks v.past) in (
+      (may.0.0, ap (λ (l : List NumberedMessage). slice_get l k) said ∙ may.0.1, omega (arith, may.0.2, coded)),
+      still_brought p y v ks messages may.1,
+    )
 
 -- a delivery leaves the next one of the same picture as near as it was
 may_next : (p : Party → Params) (x : Party) (ways : WayRuns Frame) (left n i j k : ℕ)
     → MayHappenOf (sides p) left x (Deliver n j) ways
     → MayHappenOf (sides p) left x (Deliver n k) (with_delivery (sides p) x n i ways)
-may_next p A ways left n i j k may = (may.0, still_brought p B ways.b (brings (sides p) A ways.a n i)
-    (slice_index_or ways.a.carried n []) may.1)
-may_next p B ways left n i j k may = (may.0, still_brought p A ways.a (brings (sides p) B ways.b n i)
-    (slice_index_or ways.b.carried n []) may.1)
+may_next p A ways left n i j k may = (
+  may.0,
+  still_brought p B ways.b (brings (sides p) A ways.a n i)
+      (slice_index_or ways.a.carried n []) may.1,
+)
+may_next p B ways left n i j k may = (
+  may.0,
+  still_brought p A ways.a (brings (sides p) B ways.b n i)
+      (slice_index_or ways.b.carried n []) may.1,
+)
 
 pub may_places : (p : Party → Params) (x : Party) (ways : WayRuns Frame) (left n count j k : ℕ)
     → MayHappenOf (sides p) left x (Deliver n j) ways

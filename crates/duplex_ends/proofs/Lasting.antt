@@ -25,7 +25,7 @@ last_kept {X} xs n k since d e near =
     rw (lt-ltb since (length last) inside)
     (slice_get-get_or last (length last - since - 1) d place
     ∙ ap (λ (x : X). let o : Option X = Some x in o) (get_or-drop (length xs - n) xs (length last - since - 1) d
-        ∙ ap (λ (i : ℕ). get_or xs i d) at))
+    ∙ ap (λ (i : ℕ). get_or xs i d) at))
 
 pub header_kept : (ring : CarriedRing) (headers : List (List Carried)) (number since : ℕ) → HoldsHeaders ring headers
     → number < length headers → length headers ≤ number + kept_by ring
@@ -35,6 +35,6 @@ header_kept ring headers number since held low near is =
     let long : length all ≡ length headers = length-map headers placed in
     ap (λ (l : List (List (Option Carried))). from_back l since) held.last
     ∙ last_kept all (kept_by ring) number since [] (omega (arith, long, low, is, held.newest))
-        (omega (arith, long, near))
+    (omega (arith, long, near))
     ∙ ap (λ (x : List (Option Carried)). let o : Option (List (Option Carried)) = Some x in
-        o) (get_or-map placed headers number [] [] low)
+    o) (get_or-map placed headers number [] [] low)

@@ -94,8 +94,10 @@ carried_placed (a ∷ b ∷ c ∷ d ∷ e ∷ more) few = absurd (omega (arith, 
 pub numbered_still : (said more : List Carried) (ks : List ℕ) (messages : List Carried) → AreNumbered said ks messages
     → AreNumbered (said ++ more) ks messages
 numbered_still said more [] [] are = are
-numbered_still said more (k ∷ ks) (m ∷ messages) are = (get_left said more k m are.0,
-    numbered_still said more ks messages are.1)
+numbered_still said more (k ∷ ks) (m ∷ messages) are = (
+  get_left said more k m are.0,
+  numbered_still said more ks messages are.1,
+)
 numbered_still said more [] (m ∷ messages) are = absurd are
 numbered_still said more (k ∷ ks) [] are = absurd are
 
@@ -158,7 +160,7 @@ messages_are as_call as_back as_carried same notes (k ∷ ks) (m ∷ messages) a
     let here : slice_get (map as_call notes) k ≡ Some (as_call at.0) = get_map as_call notes k at.0 at.1 in
     let is : as_carried at.0 ≡ m = cc at.2 in
     ap (λ (o : Option call.Message). map as_back (option_map_or (λ message. message ∷ []) o []
-        ++ messages_at (map as_call notes) ks)) here
+    ++ messages_at (map as_call notes) ks)) here
     ∙ ap (λ (n : Message). n ∷ map as_back (messages_at (map as_call notes) ks)) (sym (same at.0) ∙ ap message_in is)
     ∙ ap (λ (l : List Message). message_in m ∷ l) (messages_are as_call as_back as_carried same notes ks messages are.1)
 messages_are as_call as_back as_carried same notes [] (m ∷ messages) are = absurd are

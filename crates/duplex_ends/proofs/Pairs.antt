@@ -30,8 +30,12 @@ first_party p q own laws in_range new =
     record {
       params = new.params;
       done = record {
-        joined = record { sender_params = new.sender_params; receiver_params = new.receiver_params; sends = new.sends;
-            receives = new.receives };
+        joined = record {
+          sender_params = new.sender_params;
+          receiver_params = new.receiver_params;
+          sends = new.sends;
+          receives = new.receives;
+        };
         near = tt;
         tally = new.way_is.tally;
         packets = new.way_is.packets;
@@ -71,10 +75,18 @@ first_pair p B own far laws in_range clock one two = record {
 
 pub exchanged : (p : Party → Params) (x : Party) (own far : PartyEnds) (ways : WayRuns Frame)
     → HoldsPair p x own far ways → HoldsPair p (other x) far own ways
-exchanged p A own far ways h = record { in_range = h.in_range; clock = sym h.clock; own_holds = h.far_holds;
-    far_holds = h.own_holds }
-exchanged p B own far ways h = record { in_range = h.in_range; clock = sym h.clock; own_holds = h.far_holds;
-    far_holds = h.own_holds }
+exchanged p A own far ways h = record {
+  in_range = h.in_range;
+  clock = sym h.clock;
+  own_holds = h.far_holds;
+  far_holds = h.own_holds;
+}
+exchanged p B own far ways h = record {
+  in_range = h.in_range;
+  clock = sym h.clock;
+  own_holds = h.far_holds;
+  far_holds = h.own_holds;
+}
 
 -- ---- the counts of the ends
 
@@ -82,7 +94,7 @@ module _ (p : Party → Params) (x : Party) (own far : PartyEnds) (ways : WayRun
     (laws : WayLaws (p x))
     (agree : (frames : List Frame) (past : List Event) → IsParams (p x)
     → AllMayHappenBoth (coding (p x)) (rules_of (p x)) (receiver_end.run_of (p x) []) (steady (p x)) frames past
-        → ShowTheSame (p x) frames past) where
+    → ShowTheSame (p x) frames past) where
   pub same_so : ShowTheSame (p x) (way x ways).frames (way x ways).past
   same_so = agree (way x ways).frames (way x ways).past (h.in_range x) h.own_holds.done.near
 

@@ -41,11 +41,11 @@ any_play rules sent played abouts a b = refl
 -- of a message that was said
 about_far : (rules : Rules) (pictures sent played : ℕ) (abouts : List ℕ) (k t : ℕ) → slice_get abouts k ≡ Some t
     → first_refusal rules pictures sent played abouts (Back k)
-        ≡ (if nat_le (t + rules.half) sent then Some (call.Far t sent) else None)
+    ≡ (if nat_le (t + rules.half) sent then Some (call.Far t sent) else None)
 unfolding first_refusal
 about_far rules pictures sent played abouts k t at =
     ap (λ (o : Option ℕ). option_map_or (λ t. if nat_le (t + rules.half) sent then Some (call.Far t sent) else None) o
-        (Some call.NotSaid)) at
+    (Some call.NotSaid)) at
 
 -- the first that is refused is told first
 pub first_allowed : (result : Result Unit EventRefusal) (e : Event) (one two : Option call.Refusal) → one ≡ None
@@ -61,14 +61,14 @@ first_refused told e one two is = (is.0, ap (λ (o : Option call.Refusal). first
 module _ (p : Party → Params) (y : Party) (v : WayRun Frame) (n j : ℕ) where
   one_heard : (m : Carried) (k : ℕ) → slice_get (told_by (p y) v) k ≡ Some m
       → own_refusal (sides p) 0 y v (Back k)
-          ≡ (if nat_le (m.about + (rules_of (p y)).half) (length (call_by (p y) v).coded) then Some
-          (call.Far m.about (length (call_by (p y) v).coded)) else None)
+      ≡ (if nat_le (m.about + (rules_of (p y)).half) (length (call_by (p y) v).coded) then Some
+      (call.Far m.about (length (call_by (p y) v).coded)) else None)
   one_heard m k at =
       let c = call_by (p y) v in
       let note = map_get (carried_as (rules_of (p y))) c.said k m at in
       let is : carried_as (rules_of (p y)) note.0 ≡ m = cc note.2 in
       let here : slice_get (map about c.said) k ≡ Some m.about = get_map about c.said k note.0 note.1
-          ∙ ap (λ (m : Carried). let a : Option ℕ = Some m.about in a) is in
+      ∙ ap (λ (m : Carried). let a : Option ℕ = Some m.about in a) is in
       about_far (rules_of (p y)) 0 (length c.coded) c.played (map about c.said) k m.about here
 
   abbrev half : ℕ
@@ -82,7 +82,7 @@ module _ (p : Party → Params) (y : Party) (v : WayRun Frame) (n j : ℕ) where
   heard_is [] [] are = refl
   heard_is (k ∷ ks) (m ∷ messages) are =
       subst (λ (o : Option call.Refusal). IsAllowed (first_far half sent (m ∷ messages)) (Deliver n j)
-          (first_of o (heard_refusal (sides p) y v ks))) (sym (one_heard m k are.0))
+      (first_of o (heard_refusal (sides p) y v ks))) (sym (one_heard m k are.0))
       (by_test (nat_le (m.about + half) sent) (heard_is ks messages are.1))
     where
       by_test : (b : Bool) → IsAllowed (first_far half sent messages) (Deliver n j) (heard_refusal (sides p) y v ks)

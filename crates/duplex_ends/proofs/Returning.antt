@@ -39,8 +39,12 @@ module _ (p : Params) (events : EventLaws p) (way : Way) (receiver : Kept) (fram
       told = may.0.told;
       is = may.0.is;
       bytes = may.0.bytes;
-      near = omega (arith, may.0.near, ap (λ (l : List (Coded Style Mb Picture)). length l)
-          (events.message [] frames k past));
+      near = omega (
+        arith,
+        may.0.near,
+        ap (λ (l : List (Coded Style Mb Picture)). length l)
+            (events.message [] frames k past),
+      );
     },
     still past k ks messages may.1,
   )
@@ -52,7 +56,7 @@ module _ (p : Params) (events : EventLaws p) (way : Way) (receiver : Kept) (fram
       → bytes ≡ written m.message
       → BringsBack p way old new bytes
       → IsReturning p way old receiver frames whole (m ∷ messages)
-          → IsReturning p way new receiver frames whole messages
+      → IsReturning p way new receiver frames whole messages
   one_back old new whole m messages bytes is brings r = by_left r.left r.may r.same
     where
       by_left : (left : List ℕ) → MayReturnAll p (both_after p (steady p) frames [] r.past) left (m ∷ messages)

@@ -61,10 +61,10 @@ pub told_sent : (p : Params) (law : LaterFrames (coding p) (rules_of p)) (w : Wa
     (carried : List (List ℕ)) (loaded : ℕ)
     → AllMayHappen (coding p) (rules_of p) (steady p) w.frames w.past
     → told_by p (record { frames = w.frames ++ more; past = Send ∷ w.past; carried = carried; loaded = loaded })
-        ≡ told_by p w
+    ≡ told_by p w
 told_sent p law w more carried loaded near =
     ap (λ (c : Call Style Mb Picture). map (carried_as (rules_of p)) c.said)
-        (law (steady p) w.frames more w.past near).0
+    (law (steady p) w.frames more w.past near).0
 
 -- ---- what is said
 
@@ -79,7 +79,7 @@ module _ (p : Params) (laws : SaidLaws p) where
   read_more : (w : WayRun Frame) (old : List NumberedMessage) (n : ℕ) (result : Option Said)
       (notes : List NumberedMessage)
       → (call_by p w).said ≡ old ++ notes → map tell notes ≡ network.told_by n result → map (carried_as rules) notes
-          ≡ said_as p.clock n result
+      ≡ said_as p.clock n result
   read_more w old n None [] is told = refl
   read_more w old n None (x ∷ notes) is told = absurd (cc told)
   read_more w old n (Some said) [] is told = absurd (cc told)
@@ -96,24 +96,24 @@ module _ (p : Params) (laws : SaidLaws p) where
   pub told_more : (w : WayRun Frame) (e : Event) (n : ℕ) (result : Option Said) (notes : List NumberedMessage)
       → (call_by p (record w { past = e ∷ w.past })).said ≡ (call_by p w).said ++ notes
       → (both_after p (steady p) w.frames [] (e ∷ w.past)).said ≡ (both_after p (steady p) w.frames [] w.past).said
-          ++ network.told_by n result
+      ++ network.told_by n result
       → Agree (coding p) rules (call_by p w) (both_after p (steady p) w.frames [] w.past)
       → Agree (coding p) rules (call_by p (record w { past = e ∷ w.past })) (both_after p (steady p) w.frames []
-          (e ∷ w.past))
+      (e ∷ w.past))
       → told_by p (record w { past = e ∷ w.past }) ≡ told_by p w ++ said_as p.clock n result
   told_more w e n result notes grows says before now =
       let old = (call_by p w).said in
       let next : WayRun Frame = record w { past = e ∷ w.past } in
       let both : map tell old ++ map tell notes ≡ map tell old ++ network.told_by n result =
       sym (map_more tell old notes) ∙ ap (λ (l : List NumberedMessage). map tell l) (sym grows) ∙ sym now.messages
-          ∙ says
+      ∙ says
       ∙ ap (λ (l : List SaidMessage). l ++ network.told_by n result) before.messages
       in
       ap (λ (l : List NumberedMessage). map (carried_as rules) l) grows
       ∙ map_more (carried_as rules) old notes
       ∙ ap (λ (l : List Carried). told_by p w ++ l)
       (read_more next old n result notes grows (after_same (map tell old) (map tell notes) (network.told_by n result)
-          both))
+      both))
 
 -- ---- the ends of a party
 
@@ -138,13 +138,13 @@ module _ (p q : Params) (own : PartyEnds) (w far : WayRun Frame) (h : HoldsParty
   pub party_more : (new : PartyEnds) (past : List Event) (now : WayRun Frame) (more : List Carried)
       → new.params ≡ own.params → new.carried ≡ own.carried → kept_in new.way ≡ kept_in own.way
       → new.sender.sent ≡ own.sender.sent → new.far_end.played ≤ own.sender.sent → total_of (tally_of new.way)
-          ≡ new.far_end.played
+      ≡ new.far_end.played
       → HoldsWay p new.way new.sender new.far_end [] w.frames past → CanSend new.way new.sender
       → told_by q now ≡ told_by q far ++ more → Waits new.waiting (drop w.loaded (told_by q far) ++ more)
       → HoldsParty p q new (record w { past = past }) now
   party_more new past now more params carried period sent behind counted done can grows waits =
       let long : length (told_by q now) ≡ length (told_by q far) + length more =
-          ap (λ (l : List Carried). length l) grows ∙ longer (told_by q far) more in
+      ap (λ (l : List Carried). length l) grows ∙ longer (told_by q far) more in
       record {
         params = params ∙ h.params;
         done = done;
@@ -161,7 +161,7 @@ module _ (p q : Params) (own : PartyEnds) (w far : WayRun Frame) (h : HoldsParty
         loaded = omega (arith, h.loaded, long);
         waits = subst (λ (l : List Carried). Waits new.waiting l)
             (sym (drop_left w.loaded (told_by q far) more h.loaded)
-                ∙ ap (λ (l : List Carried). drop w.loaded l) (sym grows)) waits;
+            ∙ ap (λ (l : List Carried). drop w.loaded l) (sym grows)) waits;
       }
 
   -- nothing more was said of the other way
@@ -201,5 +201,5 @@ module _ (p q : Params) (own : PartyEnds) (w far : WayRun Frame) (h : HoldsParty
     loaded = omega (arith, h.loaded, ap (λ (l : List Carried). length l) grows, longer (told_by q far) more);
     waits = subst (λ (l : List Carried). Waits waiting l)
         (sym (drop_left w.loaded (told_by q far) more h.loaded)
-            ∙ ap (λ (l : List Carried). drop w.loaded l) (sym grows)) waits;
+        ∙ ap (λ (l : List Carried). drop w.loaded l) (sym grows)) waits;
   }

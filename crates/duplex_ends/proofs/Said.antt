@@ -67,7 +67,7 @@ module _ {Frame Style Mb Picture Fault MessageFault : Type 0}
   flagged (Play ∷ past) =
       let c = ideal coding rules pace frames past in
       flagged_more rules.flags c.said _ (flagged past) (unless_said rules.flags (Lost c.played _ _) _
-          (flags_long rules.flags _ c.played))
+      (flags_long rules.flags _ c.played))
   flagged (Back k ∷ past) = flagged past
 
 -- ---- messages
@@ -79,16 +79,20 @@ half_some Custom = omega arith
 module _ (p : Params) (lawful : IsCoding (coding p) (rules_of p))
     (again : (clock : Clock) (m : Message) → IsMessage clock m → marked (message_of m) ≡ m)
     (reads : (clock : Clock) (m : Message) (bytes : List ℕ) → message_in clock bytes ≡ Ok m
-        → IsMessage clock m × (bits_of bytes ≡ message_text m)) where
+    → IsMessage clock m × (bits_of bytes ≡ message_text m)) where
   abbrev rules : Rules
   rules = rules_of p
 
   in_period : (note : NumberedMessage) → IsInPeriod rules (travelling rules note)
   in_period (Got n flags) = mod-lt n (omega (arith, half_some p.clock))
-  in_period (Lost n None flags) = (mod-lt n (omega (arith, half_some p.clock)),
-      mod-lt n (omega (arith, half_some p.clock)))
-  in_period (Lost n (Some q) flags) = (mod-lt n (omega (arith, half_some p.clock)),
-      mod-lt q (omega (arith, half_some p.clock)))
+  in_period (Lost n None flags) = (
+    mod-lt n (omega (arith, half_some p.clock)),
+    mod-lt n (omega (arith, half_some p.clock)),
+  )
+  in_period (Lost n (Some q) flags) = (
+    mod-lt n (omega (arith, half_some p.clock)),
+    mod-lt q (omega (arith, half_some p.clock)),
+  )
 
   flags_same : (note : NumberedMessage) → message_flags (travelling rules note) ≡ note_flags note
   flags_same (Got n flags) = refl
@@ -101,7 +105,7 @@ module _ (p : Params) (lawful : IsCoding (coding p) (rules_of p))
   by_read bytes m (Ok w) at is =
       let same : message_of w ≡ m = cc is in
       at ∙ ap (λ (w : Message). let r : Result Message MessageFault = Ok w in
-          r) (sym (again p.clock w (reads p.clock w bytes at).0) ∙ ap marked same)
+      r) (sym (again p.clock w (reads p.clock w bytes at).0) ∙ ap marked same)
   by_read bytes m (Err fault) at is = absurd (cc is)
 
   reads_note : (note : NumberedMessage) → length (note_flags note) ≡ rules.flags
@@ -110,7 +114,7 @@ module _ (p : Params) (lawful : IsCoding (coding p) (rules_of p))
       let m = travelling rules note in
       by_read (write_message m) m (message_in p.clock (write_message m)) refl
       (lawful.encodes.message_again m (in_period note) (ap (λ (flags : List Bool). length flags) (flags_same note)
-          ∙ long))
+      ∙ long))
 
   fits_note : (note : NumberedMessage) → length (note_flags note) ≡ rules.flags
       → IsMessage p.clock (marked (travelling rules note))
@@ -136,8 +140,8 @@ module _ (p : Params) (lawful : IsCoding (coding p) (rules_of p))
       → message_in p.clock (write_message (travelling rules note)) ≡ Ok (marked (travelling rules note))
   reads_last w notes note is =
       reads_note note (last_flagged rules.flags notes note
-          (subst (λ (l : List NumberedMessage). AreFlagged rules.flags l) is
-          (flagged (coding p) rules (steady p) w.frames w.past)))
+      (subst (λ (l : List NumberedMessage). AreFlagged rules.flags l) is
+      (flagged (coding p) rules (steady p) w.frames w.past)))
 
 -- ---- of one header
 
@@ -151,7 +155,9 @@ get_fits clock (x ∷ said) (suc k) m are at = get_fits clock said k m are.1 at
 pub numbered_fit : (clock : Clock) (said : List Carried) (ks : List ℕ) (messages : List Carried) → AreOfClock clock said
     → AreNumbered said ks messages → AreOfClock clock messages
 numbered_fit clock said [] [] are is = tt
-numbered_fit clock said (k ∷ ks) (m ∷ messages) are is = (get_fits clock said k m are is.0,
-    numbered_fit clock said ks messages are is.1)
+numbered_fit clock said (k ∷ ks) (m ∷ messages) are is = (
+  get_fits clock said k m are is.0,
+  numbered_fit clock said ks messages are is.1,
+)
 numbered_fit clock said [] (m ∷ messages) are is = absurd is
 numbered_fit clock said (k ∷ ks) [] are is = absurd is

@@ -16,7 +16,7 @@ module _ {Frame Style Mb Picture Fault MessageFault : Type 0}
   by_packet : (w : Joined Style Mb Picture) (n : ℕ) (o : Option (List ℕ))
       → w.receiver.screen ≡ shown_last (pictures_of coding) w.plays
       → (option_map_or (after_bytes coding rules w n) o w).receiver.screen
-          ≡ shown_last (pictures_of coding) (option_map_or (after_bytes coding rules w n) o w).plays
+      ≡ shown_last (pictures_of coding) (option_map_or (after_bytes coding rules w n) o w).plays
   by_packet w n None is = is
   by_packet w n (Some bytes) is = is
 

@@ -114,8 +114,12 @@ module _ (side : Side) (entry : Entry) (parts : Parts) (more : List ℕ) (is : I
       ∙ spelled_after side entry parts.letter size_of.0 size_of.1 parts.bytes more told_of is.says
 
   pub text_len : length (text_of parts) ≡ 3 + bytes_of entry
-  text_len = omega (arith, length-append (parts.letter ∷ parts.size) parts.bytes, is.two,
-      bytes_are side entry parts.letter (length parts.bytes) is.says)
+  text_len = omega (
+    arith,
+    length-append (parts.letter ∷ parts.size) parts.bytes,
+    is.two,
+    bytes_are side entry parts.letter (length parts.bytes) is.says,
+  )
 
 -- what is written has such parts
 pub written : (side : Side) (entry : Entry) (letter : ℕ) (bytes : List ℕ) → length bytes ≤ 65535
@@ -150,13 +154,17 @@ module _ (side : Side) (entry : Entry) where
   spells (a ∷ b ∷ []) is all = absurd (omega (arith, begins_long side (a ∷ b ∷ []) entry is))
   spells (a ∷ b ∷ c ∷ text) is all =
       let says : entry_with side a (big_number 2 (b ∷ c ∷ []))
-          ≡ Some entry = sym (long_begins side (a ∷ b ∷ c ∷ text) (omega arith)) ∙ is in
+      ≡ Some entry = sym (long_begins side (a ∷ b ∷ c ∷ text) (omega arith)) ∙ is in
       let told : bytes_of entry ≡ big_number 2 (b ∷ c ∷ []) = bytes_are side entry a (big_number 2 (b ∷ c ∷ [])) says in
       let there : length (take (bytes_of entry) text)
-          ≡ bytes_of entry = omega (arith, length-take (bytes_of entry) text, ap reach_of is, all) in
+      ≡ bytes_of entry = omega (arith, length-take (bytes_of entry) text, ap reach_of is, all) in
       let place : 3 + bytes_of entry ≡ suc (suc (suc (bytes_of entry))) = omega arith in (
-        record { two = refl; told = sym (there ∙ told); says = ap (λ (n : ℕ). entry_with side a n) (there ∙ told)
-            ∙ says },
+        record {
+          two = refl;
+          told = sym (there ∙ told);
+          says = ap (λ (n : ℕ). entry_with side a n) (there ∙ told)
+              ∙ says;
+        },
         ap (λ (l : List ℕ). a ∷ b ∷ c ∷ l) (sym (take-append-drop (bytes_of entry) text))
             ∙ ap (λ (n : ℕ). a ∷ b ∷ c ∷ (take (bytes_of entry) text ++ drop n (a ∷ b ∷ c ∷ text))) (sym place),
       )
@@ -175,6 +183,12 @@ module _ (side : Side) (entry : Entry) where
   stays text k e le =
       let h = read_whole side entry text e in
       let begins : begun side (take k text) ≡ Some entry = begins_front side k text (omega (arith, le)) ∙ h.0 in
-      let all : reach side (take k text) ≤ length (take k text) = omega (arith, ap reach_of begins, ap reach_of h.0,
-          h.1, length-take k text, le) in
+      let all : reach side (take k text) ≤ length (take k text) = omega (
+        arith,
+        ap reach_of begins,
+        ap reach_of h.0,
+        h.1,
+        length-take k text,
+        le,
+      ) in
       whole_entry side (take k text) all ∙ begins

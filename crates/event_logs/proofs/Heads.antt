@@ -17,13 +17,13 @@ past n xs le = drop_of_length-le xs {i = n} le
 pub short_begins : (side : Side) (bytes : List ℕ) → length bytes < 3 → begun side bytes ≡ None
 short_begins side bytes short =
     ap (λ (t : Bool). cond t None (entry_with side (get_or bytes 0 0) (big_number 2 (drop 1 bytes))))
-        (lt-ltb (length bytes) 3 short)
+    (lt-ltb (length bytes) 3 short)
 
 pub long_begins : (side : Side) (bytes : List ℕ) → 3 ≤ length bytes
     → begun side bytes ≡ entry_with side (get_or bytes 0 0) (big_number 2 (drop 1 bytes))
 long_begins side bytes long =
     ap (λ (t : Bool). cond t None (entry_with side (get_or bytes 0 0) (big_number 2 (drop 1 bytes))))
-        (le-ltb (length bytes) 3 long)
+    (le-ltb (length bytes) 3 long)
 
 begins_cases : (side : Side) (bytes : List ℕ) (entry : Entry) → begun side bytes ≡ Some entry → (t : Bool)
     → nat_lt (length bytes) 3 ≡ t → 3 ≤ length bytes

@@ -70,18 +70,22 @@ module _ (side : Side) where
     one_fault =
         fault_step n at parts.letter ((parts.size ++ parts.bytes) ++ more)
         ∙ ap (λ (o : Option Entry). fault_from o at (fault_of side n (at + reach side text)
-            (drop (reach side text) text))) says
+        (drop (reach side text) text))) says
         ∙ (λ i. fault_of side n (next i) (after i))
 
     same : record { at = at; entry = found.entry; bytes = take (bytes_of found.entry) (drop 3 text) } ≡ found
-    same = λ i. record { at = sym place i; entry = found.entry; bytes = (bytes_found side found.entry parts more is
-        ∙ sym bytes) i }
+    same = λ i. record {
+      at = sym place i;
+      entry = found.entry;
+      bytes = (bytes_found side found.entry parts more is
+          ∙ sym bytes) i;
+    }
 
     one_found : found_of side (suc n) at text ≡ found ∷ found_of side n (at + length (text_of parts)) more
     one_found =
         found_step n at parts.letter ((parts.size ++ parts.bytes) ++ more)
         ∙ ap (λ (o : Option Entry). found_from o at text (found_of side n (at + reach side text)
-            (drop (reach side text) text))) says
+        (drop (reach side text) text))) says
         ∙ (λ i. same i ∷ found_of side n (next i) (after i))
 
   passed : (m at n : ℕ) (found : List Found) (all : List Parts) (rest : List ℕ) → n ≡ length all + m
@@ -96,16 +100,16 @@ module _ (side : Side) where
   passed m at (suc n) (found ∷ others) (parts ∷ all) rest size are =
       let more = text_all all ++ rest in
       let whole : text_all (parts ∷ all) ++ rest ≡ text_of parts
-          ++ more = append_assoc (text_of parts) (text_all all) rest in
+      ++ more = append_assoc (text_of parts) (text_all all) rest in
       let h = passed m (at + length (text_of parts)) n others all rest (omega (arith, size)) are.3 in
       let place : at + length (text_of parts) + length (text_all all) ≡ at + length (text_all (parts ∷ all)) =
-          omega (arith, length-append (text_of parts) (text_all all)) in record {
+      omega (arith, length-append (text_of parts) (text_all all)) in record {
         fault = ap (λ (l : List ℕ). fault_of side (suc n) at l) whole
             ∙ one_fault n at found parts more are.0 are.1 are.2 ∙ h.fault
             ∙ ap (λ (k : ℕ). fault_of side m k rest) place;
         read = ap (λ (l : List ℕ). found_of side (suc n) at l) whole
             ∙ one_found n at found parts more are.0 are.1 are.2 ∙ ap (λ (l : List Found). found ∷ l) h.read
-                ∙ ap (λ (k : ℕ). (found ∷ others) ++ found_of side m k rest) place;
+            ∙ ap (λ (k : ℕ). (found ∷ others) ++ found_of side m k rest) place;
       }
 
   module _ (n m at : ℕ) (found : List Found) (all : List Parts) (size : n ≡ length all + m)
@@ -159,7 +163,7 @@ module _ (side : Side) where
       bad more begins =
           let h = passed m at n found all rest size are in
           let stop = stop_bad m (at + length (text_all all)) rest some more (none_in (entry_in side rest) refl begins)
-              in
+          in
           (h.fault ∙ stop.0, h.read ∙ ap (λ (l : List Found). found ++ l) stop.1 ∙ append-nil found)
 
   -- what is read without a fault is made of entries
@@ -177,8 +181,8 @@ module _ (side : Side) where
       → (o : Option Entry) → entry_in side (b ∷ text) ≡ o → Logged (suc n) at (b ∷ text)
   entry_step n at b text more none None is =
       absurd (some_not_none (BadRecord at) (fault_of side (suc n) at (b ∷ text)) (fault_step n at b text
-          ∙ ap (λ (o : Option Entry). fault_from o at (fault_of side n (at + reach side (b ∷ text))
-          (drop (reach side (b ∷ text)) (b ∷ text)))) is) none)
+      ∙ ap (λ (o : Option Entry). fault_from o at (fault_of side n (at + reach side (b ∷ text))
+      (drop (reach side (b ∷ text)) (b ∷ text)))) is) none)
   entry_step n at b text more none (Some entry) is =
       let r = reach side (b ∷ text) in
       let rest = drop r (b ∷ text) in
@@ -186,14 +190,14 @@ module _ (side : Side) where
       let reaches : r ≡ 3 + bytes_of entry = ap reach_of (read_whole side entry (b ∷ text) is).0 in
       let next : at + r ≡ at + length (text_of p.0) = omega (arith, reaches, text_len side entry p.0 [] p.1) in
       let h = more (at + r) (sym (fault_step n at b text
-          ∙ ap (λ (o : Option Entry). fault_from o at (fault_of side n (at + r) rest)) is) ∙ none) in
+      ∙ ap (λ (o : Option Entry). fault_from o at (fault_of side n (at + r) rest)) is) ∙ none) in
       let first : Found = record { at = at; entry = entry; bytes = take (bytes_of entry) (drop 3 (b ∷ text)) } in
       let read : found_of side (suc n) at (b ∷ text) ≡ first ∷ found_of side n (at + r) rest = found_step n at b text
-          ∙ ap (λ (o : Option Entry). found_from o at (b ∷ text) (found_of side n (at + r) rest)) is in
+      ∙ ap (λ (o : Option Entry). found_from o at (b ∷ text) (found_of side n (at + r) rest)) is in
       let others : Are side (at + length (text_of p.0)) (found_of side n (at + r) rest) h.all =
-          subst (λ (k : ℕ). Are side k (found_of side n (at + r) rest) h.all) next h.are in
+      subst (λ (k : ℕ). Are side k (found_of side n (at + r) rest) h.all) next h.are in
       let are : Are side at (first ∷ found_of side n (at + r) rest) (p.0 ∷ h.all) = (refl, sym p.3, p.1, others) in
-          record {
+      record {
         all = p.0 ∷ h.all;
         spelled = p.2 ∙ ap (λ (l : List ℕ). text_of p.0 ++ l) (ap (λ (k : ℕ). drop k (b ∷ text)) (sym reaches)
             ∙ h.spelled);
@@ -202,8 +206,12 @@ module _ (side : Side) where
       }
 
   none_logged : (n at : ℕ) → Logged n at []
-  none_logged n at = record { all = []; spelled = refl;
-      are = subst (λ (l : List Found). Are side at l []) (sym (found_end n at)) tt; few = omega arith }
+  none_logged n at = record {
+    all = [];
+    spelled = refl;
+    are = subst (λ (l : List Found). Are side at l []) (sym (found_end n at)) tt;
+    few = omega arith;
+  }
 
   logged : (n : ℕ) (text : List ℕ) (at : ℕ) → fault_of side n at text ≡ None → Logged n at text
   logged n [] at none = none_logged n at
@@ -234,8 +242,12 @@ log_entries_are side text found h = (log_read side 16777216 text found h.all h.s
 
 pub is_log : (side : Side) (text : List ℕ) → log_fault side text ≡ None → IsLog side text (log_entries side text)
 unfolding log_fault log_entries
-is_log side text none = let h = logged side 16777216 text 0 none in record { all = h.all; spelled = h.spelled;
-    are = h.are; few = h.few }
+is_log side text none = let h = logged side 16777216 text 0 none in record {
+  all = h.all;
+  spelled = h.spelled;
+  are = h.are;
+  few = h.few;
+}
 
 pub bad_log : (side : Side) (text rest : List ℕ) (found : List Found) (all : List Parts) → text ≡ flat_map text_of all
     ++ rest → Are side 0 found all → length all < 16777216 → 0 < length rest → BeginsNone side rest
@@ -243,10 +255,11 @@ pub bad_log : (side : Side) (text rest : List ℕ) (found : List Found) (all : L
 unfolding log_fault log_entries
 bad_log side text rest found all is are few some begins =
     let h = bad side 16777216 (16777216 - length all) 0 found all
-        (most_is side 16777216 (length all) (omega (arith, few))) are rest some (omega (arith, few)) begins in
-    let place : 0 + length (flat_map text_of all) ≡ length (flat_map text_of all) = omega arith in
-    (ap (λ (l : List ℕ). fault_of side 16777216 0 l) is ∙ h.0 ∙ ap (λ (n : ℕ). Some (BadRecord n)) place,
-        ap (λ (l : List ℕ). found_of side 16777216 0 l) is ∙ h.1)
+    (most_is side 16777216 (length all) (omega (arith, few))) are rest some (omega (arith, few)) begins in
+    let place : 0 + length (flat_map text_of all) ≡ length (flat_map text_of all) = omega arith in (
+      ap (λ (l : List ℕ). fault_of side 16777216 0 l) is ∙ h.0 ∙ ap (λ (n : ℕ). Some (BadRecord n)) place,
+      ap (λ (l : List ℕ). found_of side 16777216 0 l) is ∙ h.1,
+    )
 
 pub full_log : (side : Side) (text rest : List ℕ) (found : List Found) (all : List Parts) → text ≡ flat_map text_of all
     ++ rest → Are side 0 found all → length all ≡ 16777216 → 0 < length rest
@@ -254,6 +267,7 @@ pub full_log : (side : Side) (text rest : List ℕ) (found : List Found) (all : 
 unfolding log_fault log_entries
 full_log side text rest found all is are every some =
     let h = full side 16777216 0 0 found all (omega (arith, every)) are rest some refl in
-    let place : 0 + length (flat_map text_of all) ≡ length (flat_map text_of all) = omega arith in
-    (ap (λ (l : List ℕ). fault_of side 16777216 0 l) is ∙ h.0 ∙ ap (λ (n : ℕ). Some (TooMany n)) place,
-        ap (λ (l : List ℕ). found_of side 16777216 0 l) is ∙ h.1)
+    let place : 0 + length (flat_map text_of all) ≡ length (flat_map text_of all) = omega arith in (
+      ap (λ (l : List ℕ). fault_of side 16777216 0 l) is ∙ h.0 ∙ ap (λ (n : ℕ). Some (TooMany n)) place,
+      ap (λ (l : List ℕ). found_of side 16777216 0 l) is ∙ h.1,
+    )

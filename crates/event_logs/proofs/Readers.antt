@@ -34,14 +34,14 @@ pub head_cut : (place : LogPlace) (rest : List ℕ) (n : ℕ) (left : Option (Li
     → IsCut place rest left
 head_cut place rest n left few gone =
     cut_at place rest n left gone (cut_head place.side (take (min n (length rest)) rest)
-        (omega (arith, taken_len n rest, few)))
+    (omega (arith, taken_len n rest, few)))
 
 pub stopped : (r : Result (Option (ℕ × Entry)) LogStop) (stop : LogStop) (place : LogPlace) (rest buf : List ℕ)
     (left : Option (List ℕ)) → IsErrAnd r (λ x. x ≡ stop) → stop ≡ Read → IsCut place rest left
     → EntryGives r place rest buf left
 stopped r stop place rest buf left is read cut =
     subst (λ (r : Result (Option (ℕ × Entry)) LogStop). EntryGives r place rest buf left) (sym (err_is r stop is
-        ∙ ap (λ (s : LogStop). Err s) read)) cut
+    ∙ ap (λ (s : LogStop). Err s) read)) cut
 
 -- an entry has begun, and its bytes come after the head
 module _ (place : LogPlace) (rest : List ℕ) (entry : Entry) (begins : begun place.side rest ≡ Some entry) where
@@ -59,10 +59,14 @@ module _ (place : LogPlace) (rest : List ℕ) (entry : Entry) (begins : begun pl
       → IsCut place rest left
   bytes_cut k left few gone =
       let n = min (3 + k) (length rest) in
-      let short : length (take n rest) < reach place.side (take n rest) = omega (arith, taken_len (3 + k) rest,
-          same_reach n (omega (arith, long)), few) in
+      let short : length (take n rest) < reach place.side (take n rest) = omega (
+        arith,
+        taken_len (3 + k) rest,
+        same_reach n (omega (arith, long)),
+        few,
+      ) in
       cut_at place rest (3 + k) left (gone ∙ ap (λ (l : List ℕ). Some l) (drop-drop k 3 rest))
-          (cut_entry place.side (take n rest) short)
+      (cut_entry place.side (take n rest) short)
 
   -- they came to the start of a buffer
   module _ (front : List ℕ) (k : ℕ) (fills : FillsFront (drop 3 rest) front k) (size : length front ≡ bytes_of entry)
@@ -73,19 +77,31 @@ module _ (place : LogPlace) (rest : List ℕ) (entry : Entry) (begins : begun pl
     pub cut_off : k < bytes_of entry → (entry_in place.side rest ≡ None)
         × (left ≡ Some (drop (reach place.side rest) rest))
     cut_off few =
-        let all : length rest ≡ 3 + k = omega (arith, fills.ends (omega (arith, few, size)), length-drop 3 rest,
-            long) in
-        let short : length rest < reach place.side rest = omega (arith, all, few, reach_is) in
-        (cut_entry place.side rest short, after ∙ ap (λ (l : List ℕ). Some l) (past (3 + k) rest (omega (arith, all))
-            ∙ sym (past (reach place.side rest) rest (omega (arith, short)))))
+        let all : length rest ≡ 3 + k = omega (
+          arith,
+          fills.ends (omega (arith, few, size)),
+          length-drop 3 rest,
+          long,
+        ) in
+        let short : length rest < reach place.side rest = omega (arith, all, few, reach_is) in (
+          cut_entry place.side rest short,
+          after ∙ ap (λ (l : List ℕ). Some l) (past (3 + k) rest (omega (arith, all))
+              ∙ sym (past (reach place.side rest) rest (omega (arith, short)))),
+        )
 
     pub there : (buf : List ℕ) → k ≤ bytes_of entry → bytes_of entry ≤ k → (entry_in place.side rest ≡ Some entry)
         × (take (bytes_of entry) (front ++ buf) ≡ take (bytes_of entry) (drop 3 rest))
         × (left ≡ Some (drop (3 + bytes_of entry) rest))
     there buf within all =
         let exact : k ≡ bytes_of entry = omega (arith, within, all) in
-        let enough : reach place.side rest ≤ length rest = omega (arith, reach_is, fills.within, length-drop 3 rest,
-            long, exact) in (
+        let enough : reach place.side rest ≤ length rest = omega (
+          arith,
+          reach_is,
+          fills.within,
+          length-drop 3 rest,
+          long,
+          exact,
+        ) in (
           whole_entry place.side rest enough ∙ begins,
           take-append-le (bytes_of entry) front buf (omega (arith, size)) ∙ (λ i. take (sym exact i) front) ∙ fills.same
               ∙ (λ i. take (exact i) (drop 3 rest)),

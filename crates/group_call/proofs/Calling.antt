@@ -53,7 +53,7 @@ module _ (p : Params) (frames : List Frame) where
 
   by_message : (past : List Event) (run : Groups) → run ≡ grouped_by (sent_so past) → (o : Option SaidMessage)
       → one_hears p o run ≡ grouped_by (option_map_or (λ (told : SaidMessage). Feedback told.bytes ∷ []) o []
-          ++ sent_so past)
+      ++ sent_so past)
   by_message past run is None = is
   by_message past run is (Some told) = ap (λ (r : Groups). group_after_saying p 0 told.bytes r) is
 
@@ -65,7 +65,7 @@ module _ (p : Params) (frames : List Frame) where
 
   by_packet : (n : ℕ) (view : ViewerRun) (w : Joined Style Mb Picture) → Reached view w → (o : Option (List ℕ))
       → Reached (option_map_or (view_packet p n view) o view)
-          (option_map_or (after_bytes (coding p) (rules_of p) w n) o w)
+      (option_map_or (after_bytes (coding p) (rules_of p) w n) o w)
   by_packet n view w same None = same
   by_packet n view w same (Some bytes) = record {
     receiver = ap (λ (r : ReceiverRun Style Mb Picture). after_packet (decoding p.format) (rules_of p) bytes r)
@@ -90,7 +90,7 @@ module _ (p : Params) (frames : List Frame) where
     one_more Send past h =
         let run = (group_of_one p frames past).run in
         let long : length run.coded ≡ length (both past).sender.coded =
-            ap (λ (l : List (Coded Style Mb Picture)). length l) (coded_is past run h.run_is) in
+        ap (λ (l : List (Coded Style Mb Picture)). length l) (coded_is past run h.run_is) in
         record {
           run_is = ap (λ (n : ℕ). one_sends p (slice_get frames n) run) long
               ∙ by_frame past run h.run_is (slice_get frames (length (both past).sender.coded));
@@ -102,11 +102,11 @@ module _ (p : Params) (frames : List Frame) where
         let one = group_of_one p frames past in
         let w = both past in
         let same : packets_in p one.run.coded n ≡ packets_in p w.sender.coded n =
-            ap (λ (l : List (Coded Style Mb Picture)). packets_in p l n) (coded_is past one.run h.run_is) in
+        ap (λ (l : List (Coded Style Mb Picture)). packets_in p l n) (coded_is past one.run h.run_is) in
         let reached = by_packet n one.view w (record { receiver = h.receiver; told = h.told; plays = h.plays })
-            (slice_get (packets_in p w.sender.coded n) j) in
+        (slice_get (packets_in p w.sender.coded n) j) in
         let moved = subst (λ (l : List (List ℕ)). Reached (option_map_or (view_packet p n one.view)
-            (slice_get l j) one.view) (both (Deliver n j ∷ past))) (sym same) reached in
+        (slice_get l j) one.view) (both (Deliver n j ∷ past))) (sym same) reached in
         record {
           run_is = h.run_is;
           receiver = moved.receiver;

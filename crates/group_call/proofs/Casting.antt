@@ -55,7 +55,7 @@ pub newest_packets : (p : Params) (quant : ℕ) (frame : Frame) (run : Groups) (
     → state.packets ≡ packets_in p (with_next p quant frame run) (length run.coded)
 newest_packets p quant frame run state same h =
     let number : length (with_next p quant frame run) - 1
-        ≡ length run.coded = omega (arith, one_longer run.coded (next_of_group p (paced quant) frame run)) in
+    ≡ length run.coded = omega (arith, one_longer run.coded (next_of_group p (paced quant) frame run)) in
     last_packets p state (record run { coded = with_next p quant frame run }) same h
     ∙ ap (λ (n : ℕ). packets_in p (with_next p quant frame run) n) number
 
@@ -69,9 +69,9 @@ newest_room p laws quant frame run ranged =
     let n = length run.coded in
     subst (λ (o : Option (Coded Style Mb Picture)).
     (size_of (option_map_or (λ (y : Coded Style Mb Picture). (encoding p).packets n
-        (packets_before (take n (run.coded ++ x ∷ []))) (header_of (rules_of p) n y) y.slices) o []) ≤ 1200 * mbs_of
-        p.format)
+    (packets_before (take n (run.coded ++ x ∷ []))) (header_of (rules_of p) n y) y.slices) o []) ≤ 1200 * mbs_of
+    p.format)
     × (length (option_map_or (λ (y : Coded Style Mb Picture). (encoding p).packets n
-        (packets_before (take n (run.coded ++ x ∷ []))) (header_of (rules_of p) n y) y.slices) o []) ≤ mbs_of p.format))
+    (packets_before (take n (run.coded ++ x ∷ []))) (header_of (rules_of p) n y) y.slices) o []) ≤ mbs_of p.format))
     (sym (get_last run.coded x))
     (laws.captured quant frame run.coded _ n (packets_before (take n (run.coded ++ x ∷ []))) ranged)

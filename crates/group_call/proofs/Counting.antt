@@ -18,14 +18,14 @@ module _ (rules : Rules) (sent played : ℕ) (abouts : List ℕ) where
   unfolding first_refusal
   next_far far =
       ap (λ (b : Bool). if b then Some (Far sent played) else if nat_le (sent + 1) sent then Some NoFrame else None)
-          (le-leb (played + rules.half) sent far)
+      (le-leb (played + rules.half) sent far)
 
   pub next_near : sent < sent + 1 → sent < played + rules.half → first_refusal rules (sent + 1) sent played abouts Send
       ≡ None
   unfolding first_refusal
   next_near some near =
       ap (λ (b : Bool). if b then Some (Far sent played) else if nat_le (sent + 1) sent then Some NoFrame else None)
-          (lt-leb (played + rules.half) sent near)
+      (lt-leb (played + rules.half) sent near)
       ∙ ap (λ (b : Bool). if b then Some NoFrame else None) (lt-leb (sent + 1) sent some)
 
   pub number_unsent : (n place : ℕ) → sent ≤ n → first_refusal rules (sent + 1) sent played abouts (Deliver n place)
@@ -33,14 +33,14 @@ module _ (rules : Rules) (sent played : ℕ) (abouts : List ℕ) where
   unfolding first_refusal
   number_unsent n place few =
       ap (λ (b : Bool). if b then Some NotSent else if nat_le (n + rules.half) played then Some
-          (Far n played) else None) (le-leb sent n few)
+      (Far n played) else None) (le-leb sent n few)
 
   pub number_far : (n place : ℕ) → n < sent → n + rules.half ≤ played
       → first_refusal rules (sent + 1) sent played abouts (Deliver n place) ≡ Some (Far n played)
   unfolding first_refusal
   number_far n place some far =
       ap (λ (b : Bool). if b then Some NotSent else if nat_le (n + rules.half) played then Some
-          (Far n played) else None) (lt-leb sent n some)
+      (Far n played) else None) (lt-leb sent n some)
       ∙ ap (λ (b : Bool). if b then Some (Far n played) else None) (le-leb (n + rules.half) played far)
 
   pub number_near : (n place : ℕ) → n < sent → played < n + rules.half
@@ -48,7 +48,7 @@ module _ (rules : Rules) (sent played : ℕ) (abouts : List ℕ) where
   unfolding first_refusal
   number_near n place some near =
       ap (λ (b : Bool). if b then Some NotSent else if nat_le (n + rules.half) played then Some
-          (Far n played) else None) (lt-leb sent n some)
+      (Far n played) else None) (lt-leb sent n some)
       ∙ ap (λ (b : Bool). if b then Some (Far n played) else None) (lt-leb (n + rules.half) played near)
 
   pub shown_early : sent ≤ played → first_refusal rules (sent + 1) sent played abouts Play ≡ Some PlayBeforeSend
@@ -126,7 +126,7 @@ module _ (rules : Rules) (sent played : ℕ) (told : List SaidMessage) (k : ℕ)
   about_at : (x : SaidMessage) → slice_get told k ≡ Some x → slice_get abouts k ≡ Some x.about
   about_at x is =
       slice_get-map (λ (told : SaidMessage). told.about) told k
-          ∙ ap (λ (o : Option SaidMessage). option_map (λ (told : SaidMessage). told.about) o) is
+      ∙ ap (λ (o : Option SaidMessage). option_map (λ (told : SaidMessage). told.about) o) is
 
   pub told_far : (x : SaidMessage) → slice_get told k ≡ Some x → length told ≤ k + 1024 → x.about + rules.half ≤ sent
       → refusal_of_message ≡ Some (Far x.about sent)
@@ -142,12 +142,17 @@ module _ (rules : Rules) (sent played : ℕ) (told : List SaidMessage) (k : ℕ)
     where
       by_place : (k + 1024 < length told) ⊎ (length told ≤ k + 1024) → (slice_get told k ≡ Some x)
           × (length told ≤ k + 1024)
-      by_place (inr near) =
-          (sym (ap (λ (b : Bool). if b then slice_get told k else None) (le-leb (length told) (k + 1024) near))
-              ∙ is, near)
+      by_place (inr near) = (
+        sym (ap (λ (b : Bool). if b then slice_get told k else None) (le-leb (length told) (k + 1024) near))
+            ∙ is,
+        near,
+      )
       by_place (inl past) =
-          absurd (cc (is, ap (λ (b : Bool). if b then slice_get told k else None)
-              (lt-leb (length told) (k + 1024) past)))
+          absurd (cc (
+            is,
+            ap (λ (b : Bool). if b then slice_get told k else None)
+                (lt-leb (length told) (k + 1024) past),
+          ))
 
   pub has_left : told_at told k ≡ None → k < length told → k + 1024 < length told
   has_left is some = by_place (cases_lt (k + 1024) (length told))

@@ -76,7 +76,7 @@ module _ {Frame Style Mb Picture MessageFault : Type 0} (pictures : Pictures Sty
       ≡ reconstruction_of_slices pictures style reference slices
   picture_by_slices lawful style reference slices mbs divides =
       lawful.picture_same _ _ (λ s inside. ap (λ (mb : Mb). pictures.reconstructed_sample style reference mb s)
-          (sym (mb_is (pictures.owner s) inside)))
+      (sym (mb_is (pictures.owner s) inside)))
     where
       mb_is : (k : ℕ) → k < rules.mbs → mb_among pictures.skip slices k ≡ slice_index_or mbs k pictures.skip
       mb_is k lt =
@@ -84,9 +84,9 @@ module _ {Frame Style Mb Picture MessageFault : Type 0} (pictures : Pictures Sty
           elim (slice_get_cases slices (covers.place_of k)).1 [
             | inl h ↦
                 let has = covers.has (covers.place_of k) k h.0 lt h.2
-                    ∙ eq-eqb (covers.place_of k) (covers.place_of k) refl in
+                ∙ eq-eqb (covers.place_of k) (covers.place_of k) refl in
                 mb_of_one pictures.skip slices (covers.place_of k) k h.0 h.2 has
-                    (λ i other at_i has_i. eqb-true i (covers.place_of k) (sym (covers.has i k other lt at_i) ∙ has_i))
+                (λ i other at_i has_i. eqb-true i (covers.place_of k) (sym (covers.has i k other lt at_i) ∙ has_i))
                 ∙ divides.same (covers.place_of k) k h.0 h.2 has
             | inr h ↦ absurd (omega (arith, h.0, covers.below k lt))
           ]
@@ -102,8 +102,12 @@ module _ {Frame Style Mb Picture Fault MessageFault : Type 0}
 
   header_fits : (n : ℕ) (x : Coded Style Mb Picture) → FitsHeader rules (is_some x.reference) (header_of rules n x)
   unfolding header_of
-  header_fits n x = record { number = mod-lt n positive; reference = λ m e. below x.reference m e; half = refl;
-      kind = kind x.reference }
+  header_fits n x = record {
+    number = mod-lt n positive;
+    reference = λ m e. below x.reference m e;
+    half = refl;
+    kind = kind x.reference;
+  }
     where
       positive : 0 < period rules
       positive = omega (arith, ruled.lead_small, ruled.slots_small)
@@ -128,14 +132,17 @@ module _ {Frame Style Mb Picture Fault MessageFault : Type 0}
   written_again n sequence j x slice one at_j =
       let style = style_is n x in
       let cut : x.slices ≡ coding.encoding.cut (header_of rules n x).style one.mbs = one.slices
-          ∙ ap (λ (s : Style). coding.encoding.cut s one.mbs) (sym style) in
+      ∙ ap (λ (s : Style). coding.encoding.cut s one.mbs) (sym style) in
       let chosen : IsChosen (pictures_of coding) coding.encoding (is_some x.reference) (header_of rules n x).style
-          one.mbs = subst (λ (s : Style). IsChosen (pictures_of coding) coding.encoding (is_some x.reference) s one.mbs)
-          (sym style) one.chosen in
+      one.mbs = subst (λ (s : Style). IsChosen (pictures_of coding) coding.encoding (is_some x.reference) s one.mbs)
+      (sym style) one.chosen in
       let got = lawful.read_again n sequence (is_some x.reference) (header_of rules n x) one.mbs j slice chosen
-          (header_fits n x) (ap (λ (ss : List (Slice Mb)). slice_get ss j) (sym cut) ∙ at_j) in
-      (got.0, ap (λ (ss : List (Slice Mb)). slice_get (coding.encoding.packets n sequence (header_of rules n x) ss) j)
-          cut ∙ got.1, got.2)
+      (header_fits n x) (ap (λ (ss : List (Slice Mb)). slice_get ss j) (sym cut) ∙ at_j) in (
+        got.0,
+        ap (λ (ss : List (Slice Mb)). slice_get (coding.encoding.packets n sequence (header_of rules n x) ss) j)
+            cut ∙ got.1,
+        got.2,
+      )
 
   -- the packets of a picture are read as its slices
   pub packet_is_read : (coded : List (Coded Style Mb Picture)) (n j : ℕ) (x : Coded Style Mb Picture)

@@ -23,12 +23,12 @@ pub stand_as : (rules : Rules) (a b : List Member) (m n : ℕ) (parties : List P
     → MembersStand rules a m parties → MembersStand rules b n parties
 stand_as rules a b m n parties same sent stand =
     subst (λ (l : List Member). MembersStand rules l n parties) same
-        (subst (λ (k : ℕ). MembersStand rules a k parties) sent stand)
+    (subst (λ (k : ℕ). MembersStand rules a k parties) sent stand)
 
 -- the newest picture that all have, unless its chain may not grow, is the reference
 pub chosen_is : (rules : Rules) (depth : ℕ → ℕ) (known : ℕ → Bool) (n : ℕ)
     → within_chain rules depth (greatest (λ m. known m && nat_le n (m + window rules)) n)
-        ≡ reference_for rules depth known n
+    ≡ reference_for rules depth known n
 unfolding reference_for
 chosen_is rules depth known n = refl
 
@@ -52,17 +52,17 @@ pub said_in : (rules : Rules) (members : List Member) (sent n : ℕ) (parties : 
     (bytes : List ℕ) (message : Message)
     → sent ≡ n → read_message clock bytes ≡ Ok message
     → MembersStand rules members sent (with_party_at k (party_after_saying (known_by_feedback rules sent (Some message))
-        (party_at parties k)) parties)
+    (party_at parties k)) parties)
     → MembersStand rules members n
-        (with_party_at k (party_after_saying (known_by_feedback rules n (result_ok (read_message clock bytes)))
-        (party_at parties k)) parties)
+    (with_party_at k (party_after_saying (known_by_feedback rules n (result_ok (read_message clock bytes)))
+    (party_at parties k)) parties)
 said_in rules members sent n parties k clock bytes message same read stand =
     subst (λ (o : Option Message). MembersStand rules members n
-        (with_party_at k (party_after_saying (known_by_feedback rules n o) (party_at parties k)) parties))
-        (sym (ap result_ok read))
+    (with_party_at k (party_after_saying (known_by_feedback rules n o) (party_at parties k)) parties))
+    (sym (ap result_ok read))
     (subst (λ (i : ℕ). MembersStand rules members i
-        (with_party_at k (party_after_saying (known_by_feedback rules i (Some message)) (party_at parties k)) parties))
-        same stand)
+    (with_party_at k (party_after_saying (known_by_feedback rules i (Some message)) (party_at parties k)) parties))
+    same stand)
 
 pub refused_reply : (b : Bool) (fault : MessageFault)
     → option_map reply_of (if b then Some (answers.Refused fault) else None)

@@ -29,12 +29,12 @@ module _ {Frame Style Mb Picture MessageFault : Type 0} (pictures : Pictures Sty
           let newest = ((reference_is pictures encoding rules greatest_is pace frame run m).0 is).0 in
           let at = position-Some (is_waited_for rules n) run.parties k nobody waits in
           let late = and_parts party.present
-              (not (is_some (greatest (λ i. party_has party i && leb n (i + window rules)) n))) at.1 in
+          (not (is_some (greatest (λ i. party_has party i && leb n (i + window rules)) n))) at.1 in
           let none = none_found (greatest (λ i. party_has party i && leb n (i + window rules)) n) late.1 in
           let fails : (party_has party m && leb n (m + window rules))
-              ≡ false = (none_is (λ i. party_has party i && leb n (i + window rules)) n).0 none m newest.sent in
+          ≡ false = (none_is (λ i. party_has party i && leb n (i + window rules)) n).0 none m newest.sent in
           let has = (all_have_is run.parties m).0 newest.all k at.0 late.0 in
           let passes = and_from (party_has party m) (leb n (m + window rules)) has
-              (le-leb n (m + window rules) newest.near) in
+          (le-leb n (m + window rules) newest.near) in
           let wrong : true ≡ false = sym passes ∙ fails in
           cc

@@ -86,8 +86,10 @@ module _ {Frame Style Mb Picture MessageFault : Type 0} (pictures : Pictures Sty
           → IsNewestOfAll rules run m × (depth_at run.coded m < rules.chain)
       kept k true low is same =
           let e : k ≡ m = cc in
-          subst (λ (i : ℕ). IsNewestOfAll rules run i × (depth_at run.coded i < rules.chain)) e (newest_at k is,
-              ltb-true (depth_at run.coded k) rules.chain low)
+          subst (λ (i : ℕ). IsNewestOfAll rules run i × (depth_at run.coded i < rules.chain)) e (
+            newest_at k is,
+            ltb-true (depth_at run.coded k) rules.chain low,
+          )
       kept k false low is same = cc
 
       found : (o : Option ℕ) → greatest test n ≡ o → option_and_then grows o ≡ Some m → IsNewestOfAll rules run m
@@ -106,7 +108,7 @@ module _ {Frame Style Mb Picture MessageFault : Type 0} (pictures : Pictures Sty
           )
           in
           ap (option_and_then grows) is
-              ∙ ap (λ (b : Bool). if b then Some m else None) (lt-ltb (depth_at run.coded m) rules.chain low)
+          ∙ ap (λ (b : Bool). if b then Some m else None) (lt-ltb (depth_at run.coded m) rules.chain low)
 
   pub feedback_changes_one : FeedbackChangesOne pictures encoding rules
   feedback_changes_one k bytes run j apart = get_or-set_other run.parties k j _ nobody apart
@@ -124,7 +126,7 @@ module _ (Style Mb Picture : Type 0) where
   joiner_has_none k m run there before =
       let now = with_party_at k (party_joined (length run.coded)) run.parties in
       list_all_at (may_go_by m) now k nobody
-          (subst (λ (n : ℕ). k < n) (sym (length-set run.parties k (party_joined (length run.coded)))) there)
+      (subst (λ (n : ℕ). k < n) (sym (length-set run.parties k (party_joined (length run.coded)))) there)
       (ap (may_go_by m) (get_or-set_same run.parties k (party_joined (length run.coded)) nobody there)
       ∙ ap (λ (b : Bool). b && is_among [] m) (lt-leb (length run.coded) m before))
 
@@ -142,6 +144,6 @@ module _ (Style Mb Picture : Type 0) where
       each j below (inl same) =
           ap (λ (i : ℕ). may_go_by m (get_or now i nobody)) same
           ∙ ap (may_go_by m) (get_or-set_same run.parties k left nobody
-              (subst (λ (i : ℕ). i < length run.parties) same below))
+          (subst (λ (i : ℕ). i < length run.parties) same below))
       each j below (inr apart) = ap (may_go_by m) (get_or-set_other run.parties k j left nobody apart)
           ∙ others j below apart

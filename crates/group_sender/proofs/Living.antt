@@ -34,7 +34,7 @@ module _ {Frame Style Mb Picture Fault MessageFault : Type 0}
   module _ (quant : ℕ) (range : (0 < quant) × (quant < 32)) (frame : Frame) (coded : List (Coded Style Mb Picture))
       (reference : Option ℕ)
       (there : (m : ℕ) → reference ≡ Some m → (y : Coded Style Mb Picture) × (slice_get coded m ≡ Some y)
-          × IsMade (pictures_of coding) y.picture) where
+      × IsMade (pictures_of coding) y.picture) where
     abbrev before_of : Option Picture
     before_of = option_and_then (λ m. picture_at coded m) reference
 
@@ -60,8 +60,8 @@ module _ {Frame Style Mb Picture Fault MessageFault : Type 0}
     before_made (Some m) at p e =
         let found = at m refl in
         let is : (let o : Option Picture = Some found.0.picture in o)
-            ≡ Some p = sym (ap (λ (o : Option (Coded Style Mb Picture)). option_map
-            (λ (x : Coded Style Mb Picture). x.picture) o) found.1) ∙ e in
+        ≡ Some p = sym (ap (λ (o : Option (Coded Style Mb Picture)). option_map
+        (λ (x : Coded Style Mb Picture). x.picture) o) found.1) ∙ e in
         let same : found.0.picture ≡ p = cc in
         subst (λ (q : Picture). IsMade (pictures_of coding) q) same found.2
 
@@ -87,7 +87,7 @@ module _ {Frame Style Mb Picture Fault MessageFault : Type 0}
         → ((m : ℕ) → reference ≡ Some m → slice_get c.coded m ≡ slice_get coded m)
         → ((m : ℕ) → reference ≡ Some m → (length c.coded ≤ m + window rules) × (is_among c.known m ≡ true))
         → IsSoundPicture (pictures_of coding) rules c (capture (pictures_of coding) coding.encoding quant frame coded
-            reference)
+        reference)
     unfolding capture
     is_sound c same known =
         let divides = lawful.encodes.divides (is_some reference) style_of mbs_of chosen_mbs in
@@ -95,9 +95,9 @@ module _ {Frame Style Mb Picture Fault MessageFault : Type 0}
           covers = divides.covers;
           picture =
               picture_by_slices (pictures_of coding) coding.encoding rules lawful.decodes.pictures style_of before_of
-                  (coding.encoding.cut style_of mbs_of) mbs_of divides
+              (coding.encoding.cut style_of mbs_of) mbs_of divides
               ∙ ap (λ (o : Option Picture). reconstruction_of_slices (pictures_of coding) style_of o
-                  (coding.encoding.cut style_of mbs_of)) (same_before reference same);
+              (coding.encoding.cut style_of mbs_of)) (same_before reference same);
           reference = known;
         }
       where
@@ -132,7 +132,7 @@ module _ {Frame Style Mb Picture Fault MessageFault : Type 0}
     (ruled : IsRules rules)
     (greatest_is : GreatestIs) (follow : AnySoundSender coding.decoding rules)
     (k : ℕ) (before : List (GroupEntry Frame)) (frame : Frame) (quant : ℕ) (range : (0 < quant) × (quant < 32))
-        (final : List (Coded Style Mb Picture)) (count : ℕ)
+    (final : List (Coded Style Mb Picture)) (count : ℕ)
     (placed : k < length (group_run (pictures_of coding) coding.encoding rules before).parties) where
   abbrev first : GroupRun Style Mb Picture
   first = group_run (pictures_of coding) coding.encoding rules before
@@ -179,10 +179,10 @@ module _ {Frame Style Mb Picture Fault MessageFault : Type 0}
       let earlier = began n (omega (arith, low)) in
       let c = call (began_at n) in
       let is : source c ≡ Some blank = ap (λ (b : Bool). if b then Some blank else slice_get final (length c.coded))
-          (lt-ltb (length c.coded) joined (omega (arith, earlier.0, low))) in
+      (lt-ltb (length c.coded) joined (omega (arith, earlier.0, low))) in
       let long : length (call (Play ∷ Send ∷ began_at n)).coded ≡ length c.coded + 1 =
       ap (λ (o : Option (Coded Style Mb Picture)). length (c.coded ++ option_map_or (λ x. x ∷ []) o [])) is
-          ∙ length-append c.coded (blank ∷ [])
+      ∙ length-append c.coded (blank ∷ [])
       in (
         omega (arith, long, earlier.0),
         (
@@ -201,7 +201,7 @@ module _ {Frame Style Mb Picture Fault MessageFault : Type 0}
       → Goes c (record g { parties = with_party_at j p g.parties }) past
   other_place c g past j p apart at =
       let stays : party_at (with_party_at j p g.parties) k ≡ party_at g.parties k =
-          get_or-set_other g.parties j k p nobody (λ e. apart (sym e)) in
+      get_or-set_other g.parties j k p nobody (λ e. apart (sym e)) in
       record {
         counts = at.counts;
         late = at.late;
@@ -224,7 +224,7 @@ module _ {Frame Style Mb Picture Fault MessageFault : Type 0}
   sizes_few coded =
       let long : length (last_sizes coding.encoding rules coded) ≡ length coded - (length coded - 16) =
       length-map-range_with_len (λ n. bytes_in (packets_of coding.encoding rules coded n)) (length coded - 16)
-          (length coded - (length coded - 16))
+      (length coded - (length coded - 16))
       in
       omega (arith, long)
 
@@ -232,8 +232,10 @@ module _ {Frame Style Mb Picture Fault MessageFault : Type 0}
   one_picture : (g : GroupRun Style Mb Picture) (past : List Event) (pace : List ℕ → ℕ) (f : Frame) → IsPace pace
       → Goes (call past) g past
       → slice_get final (length g.coded) ≡ Some (next_for_all (pictures_of coding) coding.encoding rules pace f g)
-      → Goes (call (Send ∷ past)) (record g { coded = g.coded
-          ++ next_for_all (pictures_of coding) coding.encoding rules pace f g ∷ [] }) (Send ∷ past)
+      → Goes (call (Send ∷ past)) (record g {
+        coded = g.coded
+            ++ next_for_all (pictures_of coding) coding.encoding rules pace f g ∷ [];
+      }) (Send ∷ past)
   one_picture g past pace f paces at is_final =
       let c = call past in
       let n = length g.coded in
@@ -242,20 +244,20 @@ module _ {Frame Style Mb Picture Fault MessageFault : Type 0}
       let x = next_for_all (pictures_of coding) coding.encoding rules pace f g in
       let source_is : source c ≡ Some x =
       ap (λ (b : Bool). if b then Some blank else slice_get final (length c.coded))
-          (le-ltb (length c.coded) joined (omega (arith, at.late, at.counts)))
+      (le-ltb (length c.coded) joined (omega (arith, at.late, at.counts)))
       ∙ ap (λ (i : ℕ). slice_get final i) at.counts ∙ is_final
       in
       let newest : (m : ℕ) → r ≡ Some m
-          → IsNewestOfAll rules g m =
-          λ m e. ((reference_is (pictures_of coding) coding.encoding rules greatest_is pace f g m).0
-          (reference_of q f g.coded r ∙ e)).0 in
+      → IsNewestOfAll rules g m =
+      λ m e. ((reference_is (pictures_of coding) coding.encoding rules greatest_is pace f g m).0
+      (reference_of q f g.coded r ∙ e)).0 in
       let has : (m : ℕ) → r ≡ Some m → (joined ≤ m) × (is_among c.known m ≡ true) = λ m e.
       let parts = both_true (leb (party_at g.parties k).since m) (is_among (party_at g.parties k).told m)
-          ((all_have_is g.parties m).0 (newest m e).all k at.there at.present) in
+      ((all_have_is g.parties m).0 (newest m e).all k at.there at.present) in
       (subst (λ (i : ℕ). i ≤ m) at.since (leb-true (party_at g.parties k).since m parts.0), at.told m parts.1)
       in
       let there : (m : ℕ) → r ≡ Some m → (y : Coded Style Mb Picture) × (slice_get g.coded m ≡ Some y)
-          × IsMade (pictures_of coding) y.picture = λ m e.
+      × IsMade (pictures_of coding) y.picture = λ m e.
       let found = found_at g.coded m (newest m e).sent in
       (found.0, found.1, (at.well m found.0 (has m e).0 found.1).made)
       in
@@ -265,7 +267,7 @@ module _ {Frame Style Mb Picture Fault MessageFault : Type 0}
       (λ m e. (subst (λ (i : ℕ). i ≤ m + window rules) (sym at.counts) (newest m e).near, (has m e).1))
       in
       let with_x : (call (Send ∷ past)).coded ≡ c.coded ++ x ∷ [] = ap (λ (o : Option (Coded Style Mb Picture)). c.coded
-          ++ option_map_or (λ y. y ∷ []) o []) source_is in
+      ++ option_map_or (λ y. y ∷ []) o []) source_is in
       record {
         counts = ap (λ (l : List (Coded Style Mb Picture)). length l) with_x ∙ length-append c.coded (x ∷ [])
             ∙ ap (λ (i : ℕ). i + 1) at.counts ∙ sym (length-append g.coded (x ∷ []));
@@ -281,17 +283,20 @@ module _ {Frame Style Mb Picture Fault MessageFault : Type 0}
         present = at.present;
         since = at.since;
         told = at.told;
-        sound = (λ y is. subst (λ (z : Coded Style Mb Picture). IsSoundPicture (pictures_of coding) rules c z)
-            (some_same x y (sym source_is ∙ is)) sound_x, at.sound);
+        sound = (
+          λ y is. subst (λ (z : Coded Style Mb Picture). IsSoundPicture (pictures_of coding) rules c z)
+              (some_same x y (sym source_is ∙ is)) sound_x,
+          at.sound,
+        );
       }
 
   -- a message of this receiver comes back
   one_message : (g : GroupRun Style Mb Picture) (past : List Event) (i : ℕ) (bytes : List ℕ) (note : NumberedMessage)
       → AllMayHappenFrom (pictures_of coding) rules source count past → slice_get (call past).said i ≡ Some note
-          → length (call past).coded < about note + rules.half
+      → length (call past).coded < about note + rules.half
       → bytes ≡ coding.encoding.write_message (travelling rules note) → Goes (call past) g past
       → Goes (call (Back i ∷ past)) (after_feedback_of (pictures_of coding) coding.encoding rules k bytes g)
-          (Back i ∷ past)
+      (Back i ∷ past)
   one_message g past i bytes note near said close bytes_are at =
       let c = call past in
       let n = length g.coded in
@@ -299,23 +304,23 @@ module _ {Frame Style Mb Picture Fault MessageFault : Type 0}
       let u = (follow source packets count past near at.sound).messages i note said in
       let read : coding.encoding.read_message bytes ≡ Ok (travelling rules note) =
       ap (λ (b : List ℕ). coding.encoding.read_message b) bytes_are
-          ∙ lawful.encodes.message_again (travelling rules note) u.in_period u.flags
+      ∙ lawful.encodes.message_again (travelling rules note) u.in_period u.flags
       in
       let made : made_known rules n (travelling rules note) ≡ Some (told_full note) =
-          subst (λ (s : ℕ). made_known rules s (travelling rules note) ≡ Some (told_full note)) at.counts
-          (u.known close) in
+      subst (λ (s : ℕ). made_known rules s (travelling rules note) ≡ Some (told_full note)) at.counts
+      (u.known close) in
       let numbers = known_by_feedback rules n (result_ok (coding.encoding.read_message bytes)) in
       let are : numbers ≡ told_full note =
       ap (λ (o : Option Message). known_by_feedback rules n o) (ap result_ok read)
-          ∙ ap (λ (o : Option (List ℕ)). option_map_or (λ (l : List ℕ). l) o []) made
+      ∙ ap (λ (o : Option (List ℕ)). option_map_or (λ (l : List ℕ). l) o []) made
       in
       let heard : Party = record party { told = numbers ++ party.told } in
       let here : party_at (with_party_at k (party_after_saying numbers party) g.parties) k ≡ heard =
       get_or-set_same g.parties k (party_after_saying numbers party) nobody at.there
-          ∙ ap (λ (b : Bool). if b then heard else party) at.present
+      ∙ ap (λ (b : Bool). if b then heard else party) at.present
       in
       let known : (call (Back i ∷ past)).known ≡ told_full note
-          ++ c.known = ap (λ (o : Option NumberedMessage). option_map_or told_full o [] ++ c.known) said in
+      ++ c.known = ap (λ (o : Option NumberedMessage). option_map_or told_full o [] ++ c.known) said in
       record {
         counts = at.counts;
         late = at.late;
@@ -326,11 +331,11 @@ module _ {Frame Style Mb Picture Fault MessageFault : Type 0}
         since = ap (λ (q : Party). q.since) here ∙ at.since;
         told = λ m is.
             let mine : (is_among numbers m || is_among party.told m)
-                ≡ true = sym (list_any-append (λ j. eqb j m) numbers party.told)
-                ∙ sym (ap (λ (q : Party). is_among q.told m) here) ∙ is in
+            ≡ true = sym (list_any-append (λ j. eqb j m) numbers party.told)
+            ∙ sym (ap (λ (q : Party). is_among q.told m) here) ∙ is in
             ap (λ (l : List ℕ). is_among l m) known ∙ list_any-append (λ j. eqb j m) (told_full note) c.known
             ∙ or_known (is_among numbers m) (is_among party.told m) (is_among (told_full note) m)
-                (is_among c.known m) mine (λ t. sym (ap (λ (l : List ℕ). is_among l m) are) ∙ t) (at.told m);
+            (is_among c.known m) mine (λ t. sym (ap (λ (l : List ℕ). is_among l m) are) ∙ t) (at.told m);
         sound = (tt, at.sound);
       }
 
@@ -344,7 +349,7 @@ module _ {Frame Style Mb Picture Fault MessageFault : Type 0}
   goes [] fair near front =
       let b = began joined (omega arith) in
       let here : party_at (with_party_at k (party_joined joined) first.parties) k
-          ≡ party_joined joined = get_or-set_same first.parties k (party_joined joined) nobody placed in
+      ≡ party_joined joined = get_or-set_same first.parties k (party_joined joined) nobody placed in
       record {
         counts = b.0;
         late = omega arith;
@@ -361,17 +366,17 @@ module _ {Frame Style Mb Picture Fault MessageFault : Type 0}
       let g = group past in
       let x = next_for_all (pictures_of coding) coding.encoding rules pace f g in
       one_picture g (lived_events joined past) pace f fair.0
-          (goes past fair.1 near.1 (λ n y is. front n y (slice_get_left g.coded (x ∷ []) n y is)))
-          (front (length g.coded) x (slice_get_last g.coded x))
+      (goes past fair.1 near.1 (λ n y is. front n y (slice_get_left g.coded (x ∷ []) n y is)))
+      (front (length g.coded) x (slice_get_last g.coded x))
   goes (Done (FeedbackOf j bytes) ∷ past) fair near front =
       other_place (call (lived_events joined past)) (group past) (lived_events joined past) j _ fair.0
-          (goes past fair.1 near front)
+      (goes past fair.1 near front)
   goes (Done (JoinsAt j) ∷ past) fair near front =
       other_place (call (lived_events joined past)) (group past) (lived_events joined past) j _ fair.0
-          (goes past fair.1 near front)
+      (goes past fair.1 near front)
   goes (Done (LeavesAt j) ∷ past) fair near front =
       other_place (call (lived_events joined past)) (group past) (lived_events joined past) j _ fair.0
-          (goes past fair.1 near front)
+      (goes past fair.1 near front)
   goes (Arrives n j ∷ past) fair near front =
       let at = goes past fair.1 near.1 front in
       record {
@@ -405,16 +410,16 @@ module _ {Frame Style Mb Picture Fault MessageFault : Type 0}
       }
   goes (ComesBack i bytes ∷ past) fair near front =
       one_message (group past) (lived_events joined past) i bytes near.0.0 near.1 near.0.1 near.0.2
-          (fair.0 near.0.0 near.0.1) (goes past fair.1 near.1 front)
+      (fair.0 near.0.0 near.0.1) (goes past fair.1 near.1 front)
 
 pub group_is_followed : {Frame Style Mb Picture Fault MessageFault : Type 0}
     (coding : Coding Frame Style Mb Picture Fault MessageFault) (rules : Rules)
     → IsCoding coding rules → IsRules rules → GreatestIs → AnySoundSender coding.decoding rules
-        → GroupIsFollowed coding rules
+    → GroupIsFollowed coding rules
 group_is_followed coding rules lawful ruled greatest_is follow k before lived frame quant count placed range fair near =
     let coded = (group_run (pictures_of coding) coding.encoding rules (group_entries k before lived)).coded in
     let at = goes coding rules lawful ruled greatest_is follow k before frame quant range coded count placed lived fair
-        near (λ n x is. is) in
+    near (λ n x is. is) in
     record {
       follows = follow _ _ count _ near at.sound;
       own = at.same;

@@ -38,16 +38,16 @@ module _ {Frame Style Mb Picture MessageFault : Type 0} (pictures : Pictures Sty
 
   next_is : (frame : Frame) (coded : List (Coded Style Mb Picture)) (known : List ℕ)
       → capture pictures encoding (pace (last_sizes encoding rules coded)) frame coded
-          (reference_for rules (depth_at coded) (all_have (one_party known)) (length coded))
+      (reference_for rules (depth_at coded) (all_have (one_party known)) (length coded))
       ≡ next_coded pictures encoding rules pace frame coded known
   next_is frame coded known =
       ap (λ (f : ℕ → Bool). capture pictures encoding (pace (last_sizes encoding rules coded)) frame coded
-          (reference_for rules (depth_at coded) f (length coded)))
+      (reference_for rules (depth_at coded) f (length coded)))
       (λ i m. one_has known m i)
 
   is_one : (entries : List (SenderEntry Frame))
       → IsOne (group_run pictures encoding rules (in_group_of_one pictures encoding rules pace entries))
-          (sender_run pictures encoding rules pace entries)
+      (sender_run pictures encoding rules pace entries)
   is_one [] = record { coded = refl; parties = refl }
   is_one (Capture frame ∷ past) =
       let before = is_one past in
@@ -55,9 +55,9 @@ module _ {Frame Style Mb Picture MessageFault : Type 0} (pictures : Pictures Sty
       record {
         coded =
             (λ i. before.coded i ++ capture pictures encoding (pace (last_sizes encoding rules (before.coded i))) frame
-                (before.coded i)
+            (before.coded i)
             (reference_for rules (depth_at (before.coded i)) (all_have (before.parties i)) (length (before.coded i))) ∷
-                [])
+            [])
             ∙ ap (λ (x : Coded Style Mb Picture). alone.coded ++ x ∷ []) (next_is frame alone.coded alone.known);
         parties = before.parties;
       }
@@ -67,7 +67,7 @@ module _ {Frame Style Mb Picture MessageFault : Type 0} (pictures : Pictures Sty
         coded = before.coded;
         parties = (λ i. set (before.parties i) 0
             (party_after_saying (known_by_feedback rules (length (before.coded i))
-                (result_ok (encoding.read_message bytes))) (party_at (before.parties i) 0)));
+            (result_ok (encoding.read_message bytes))) (party_at (before.parties i) 0)));
       }
 
   pub one_is_a_sender : (entries : List (SenderEntry Frame)) → IsASender pictures encoding rules pace entries

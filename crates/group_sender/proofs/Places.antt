@@ -52,14 +52,14 @@ told_all rules members number k parties all told = record {
 pub told_one : (rules : Rules) (members : List Member) (number k : ℕ) (parties : List Party) (new : Member)
     → k < length members → AreTold rules members number k parties
     → MemberStands rules new (number + 1) (party_at parties k)
-        → AreTold rules (set members k new) number (k + 1) parties
+    → AreTold rules (set members k new) number (k + 1) parties
 told_one rules members number k parties new low told one = record {
   count = length-set members k new ∙ told.count;
   told = λ j other small below. here j other small below (cases_eq j k);
   left = λ j other late below.
       let apart : j ≡ k → ⊥ = λ e. omega (arith, e, late) in
       subst (λ (x : Member). MemberStands rules x number (party_at parties j))
-          (sym (get_or-set_other members k j new other apart))
+      (sym (get_or-set_other members k j new other apart))
       (told.left j other (omega (arith, late)) (subst (λ (n : ℕ). j < n) (length-set members k new) below));
 }
   where
@@ -67,10 +67,10 @@ told_one rules members number k parties new low told one = record {
         → MemberStands rules (get_or (set members k new) j other) (number + 1) (party_at parties j)
     here j other small below (inl same) =
         subst (λ (i : ℕ). MemberStands rules (get_or (set members k new) i other) (number + 1) (party_at parties i))
-            (sym same)
+        (sym same)
         (subst (λ (x : Member). MemberStands rules x (number + 1) (party_at parties k))
-            (sym (get_or-set_same members k new other low)) one)
+        (sym (get_or-set_same members k new other low)) one)
     here j other small below (inr apart) =
         subst (λ (x : Member). MemberStands rules x (number + 1) (party_at parties j))
-            (sym (get_or-set_other members k j new other apart))
+        (sym (get_or-set_other members k j new other apart))
         (told.told j other (omega (arith, small, apart)) (subst (λ (n : ℕ). j < n) (length-set members k new) below))

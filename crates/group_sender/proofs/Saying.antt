@@ -29,12 +29,12 @@ or_either A false b is left right = right is
 more_below : (sent q : ℕ) (numbers : List ℕ) → q < sent → AreBelow sent numbers → AreBelow sent (q ∷ numbers)
 more_below sent q numbers below rest m is =
     or_either (m < sent) (eqb q m) (is_among numbers m) is (λ t. subst (λ (k : ℕ). k < sent) (eqb-true q m t) below)
-        (rest m)
+    (rest m)
 
 pub both_below : (sent : ℕ) (a b : List ℕ) → AreBelow sent a → AreBelow sent b → AreBelow sent (a ++ b)
 both_below sent a b left right m is =
     or_either (m < sent) (is_among a m) (is_among b m) (sym (list_any-append (λ q. eqb q m) a b)
-        ∙ is) (left m) (right m)
+    ∙ is) (left m) (right m)
 
 -- those that pass this test are
 filtered_below : (sent : ℕ) (numbers : List ℕ) → AreBelow sent (filter (λ q. ltb q sent) numbers)
@@ -95,7 +95,7 @@ said_below rules sent message some = go (nearest_below rules sent (number_of mes
 
     at : (t : ℕ) (b : Bool) → t < sent
         → AreBelow sent (option_map_or (λ l. l) (if b then Some (called_complete rules sent t message
-            ++ flagged t) else None) [])
+        ++ flagged t) else None) [])
     at t true below = both_below sent (called_complete rules sent t message) (flagged t)
         (called_below rules sent t message below) (filtered_below sent (flagged_after t (message_flags message)))
     at t false below = none_below sent
@@ -103,6 +103,6 @@ said_below rules sent message some = go (nearest_below rules sent (number_of mes
     go : (o : Option ℕ) → nearest_below rules sent (number_of message) ≡ o
         → AreBelow sent (option_map_or (λ l. l)
         (option_and_then (λ t. if ltb sent (t + rules.half) then Some (called_complete rules sent t message
-            ++ flagged t) else None) o) [])
+        ++ flagged t) else None) o) [])
     go None is = none_below sent
     go (Some t) is = at t (ltb sent (t + rules.half)) (below_is_below rules sent (number_of message) t some is)

@@ -75,7 +75,7 @@ module _ {Frame Style Mb Picture Fault MessageFault : Type 0}
     AreLived (Plays ∷ past) = AreLived past
     AreLived (ComesBack i bytes ∷ past) =
         ((note : NumberedMessage)
-            → slice_get (call_from (pictures_of coding) rules source (lived_events joined past)).said i ≡ Some note
+        → slice_get (call_from (pictures_of coding) rules source (lived_events joined past)).said i ≡ Some note
         → bytes ≡ coding.encoding.write_message (travelling rules note)) × AreLived past
 
   -- The receiver follows its call: it answers, plays and says as the call does. And the call's

@@ -51,8 +51,11 @@ standing_err {A} at (Err c) d e = let same : stands c.kind at ≡ d = err_is {A 
 -- what stands after a text stands after what is before that text as well
 then_at : (b c : Bits) (text front left : List Bool) (place : ℕ) → Between b text c → c.bits ≡ front ++ left
     → place ≡ c.at + length front → (b.bits ≡ (text ++ front) ++ left) × (place ≡ b.at + length (text ++ front))
-then_at b c text front left place h parts at = (h.parts ∙ ap (λ (t : List Bool). text ++ t) parts
-    ∙ sym (append_assoc text front left), omega (arith, at, h.at, length-append text front))
+then_at b c text front left place h parts at = (
+  h.parts ∙ ap (λ (t : List Bool). text ++ t) parts
+      ∙ sym (append_assoc text front left),
+  omega (arith, at, h.at, length-append text front),
+)
 
 -- ---- the fault of one element
 
@@ -96,8 +99,10 @@ found_none {S} (v ∷ words) bits w e h = chosen (begins v.0 bits) refl e (λ g 
     chosen : (b : Bool) → begins v.0 bits ≡ b → cond b (Some v) (found words bits) ≡ None
         → (found words bits ≡ None → IsIn w words → begins w.0 bits ≡ false) → begins w.0 bits ≡ false
     chosen true g e more = absurd cc
-    chosen false g e more = elim h [ inl same ↦ subst (λ (u : List Bool × S). begins u.0 bits ≡ false) same g
-        | inr later ↦ more e later ]
+    chosen false g e more = elim h [
+      | inl same ↦ subst (λ (u : List Bool × S). begins u.0 bits ≡ false) same g
+      | inr later ↦ more e later
+    ]
 
 or_here : (a b : Bool) → a ≡ true → (a || b) ≡ true
 or_here true b e = refl
@@ -137,7 +142,7 @@ cut_word {S} words bits none cut =
     proper w x i [] e =
         let whole : bits ≡ w ++ [] = sym (e ∙ append-nil bits) ∙ sym (append-nil w) in
         absurd (no_both (begins w bits) (found_none words bits (w, x) none i) (ap (begins w) whole
-            ∙ begins_itself w []))
+        ∙ begins_itself w []))
     proper w x i (next ∷ rest) e = (w, next, rest, (x, i), e)
 
 no_word : {S : Type 0} (words : List (List Bool × S)) (bits : List Bool) → found words bits ≡ None
@@ -186,21 +191,31 @@ none_of_cut {S} words left apart cut = at_found (found words left) refl
         let rest = drop (length u.0) left in
         let p : left ≡ u.0 ++ rest = begins_parts u.0 left i.1 in
         let e : cut.0 ≡ u.0 ++ (rest ++ tail) = cut.4 ∙ ap (λ (t : List Bool). t ++ tail) p
-            ∙ append_assoc u.0 rest tail in
+        ∙ append_assoc u.0 rest tail in
         let first : found words (u.0 ++ (rest ++ tail)) ≡ Some u = found_again words u (rest ++ tail) apart i.0 in
-        let second : found words (cut.0 ++ []) ≡ Some (cut.0, cut.3.0) = found_again words (cut.0,
-            cut.3.0) [] apart cut.3.1 in
+        let second : found words (cut.0 ++ []) ≡ Some (cut.0, cut.3.0) = found_again words (
+          cut.0,
+          cut.3.0,
+        ) [] apart cut.3.1 in
         let same : u ≡ (cut.0, cut.3.0) = some_is u (cut.0, cut.3.0) (sym first
-            ∙ ap (found words) (sym e ∙ sym (append-nil cut.0)) ∙ second) in
+        ∙ ap (found words) (sym e ∙ sym (append-nil cut.0)) ∙ second) in
         let word : u.0 ≡ cut.0 = ap (λ (v : List Bool × S). v.0) same in
-        absurd (omega (arith, ap length cut.4, length-append left tail, ap length p, length-append u.0 rest,
-            ap length word))
+        absurd (omega (
+          arith,
+          ap length cut.4,
+          length-append left tail,
+          ap length p,
+          length-append u.0 rest,
+          ap length word,
+        ))
 
 cut_of : {S : Type 0} (words : List (List Bool × S)) (left : List Bool) → IsCutWord (λ w. IsWordOf words w) left
     → is_cut words left ≡ true
 unfolding is_cut
-cut_of {S} words left cut = any_here (λ (v : List Bool × S). begins left v.0) words (cut.0,
-    cut.3.0) (ap (begins left) cut.4 ∙ begins_itself left (cut.1 ∷ cut.2)) cut.3.1
+cut_of {S} words left cut = any_here (λ (v : List Bool × S). begins left v.0) words (
+  cut.0,
+  cut.3.0,
+) (ap (begins left) cut.4 ∙ begins_itself left (cut.1 ∷ cut.2)) cut.3.1
 
 none_of_no : {S : Type 0} (words : List (List Bool × S)) (left : List Bool) → IsNoWord (λ w. IsWordOf words w) left
     → found words left ≡ None
@@ -283,7 +298,7 @@ apart_words {S} words w v more apart p q e =
     let first : found words (w ++ more) ≡ Some (w, p.0) = found_again words (w, p.0) more apart p.1 in
     let second : found words (v ++ []) ≡ Some (v, q.0) = found_again words (v, q.0) [] apart q.1 in
     let same : (w, p.0) ≡ (v, q.0) = some_is (w, p.0) (v, q.0) (sym first ∙ ap (found words) (e ∙ sym (append-nil v))
-        ∙ second) in
+    ∙ second) in
     let word : w ≡ v = ap (λ (u : List Bool × S). u.0) same in
     nil_of more (omega (arith, ap length e, length-append w more, ap length word))
 
@@ -314,7 +329,7 @@ exact_words {A} s IsWord member apart fault b d = (λ e. fault b d e, λ h. at_r
               let cut = f.0 in
               let tail : List Bool = cut.1 ∷ cut.2 in
               let whole : t.0 ++ (x.1.bits ++ tail) ≡ cut.0 = sym (append_assoc t.0 x.1.bits tail)
-                  ∙ ap (λ (y : List Bool). y ++ tail) (sym t.1.parts) ∙ sym cut.4 in
+              ∙ ap (λ (y : List Bool). y ++ tail) (sym t.1.parts) ∙ sym cut.4 in
               let none = apart t.0 cut.0 (x.1.bits ++ tail) is cut.3 whole in
               absurd (omega (arith, ap length none, length-append x.1.bits tail))
           | inr f ↦ let two = f.0 t.0 is in absurd (two.0 x.1.bits t.1.parts)
@@ -323,20 +338,20 @@ exact_words {A} s IsWord member apart fault b d = (λ e. fault b d e, λ h. at_r
         let g = fault b c e in
         let kind : c.kind ≡ d.kind = one_kind IsWord b.bits c.kind d.kind g.1 h.1 in
         e ∙ ap (λ (k : FaultKind). err {A = A × Bits} (stands k c.at)) kind
-            ∙ ap (λ (p : ℕ). err {A = A × Bits} (stands d.kind p)) (g.0 ∙ sym h.0)
+        ∙ ap (λ (p : ℕ). err {A = A × Bits} (stands d.kind p)) (g.0 ∙ sym h.0)
 
 -- ---- whole syntaxes
 
 turns_fault : {S A : Type 0} (spells : S → Turn S A → List Bool → Type 0) (fails : S → List Bool → List Bool
     → Type 0) (body : S → Bits → Result (Turn S A × Bits) Fault) (d : Fault)
     → ((t : S) (b c : Bits) (x : Turn S A) → body t b ≡ Ok (x, c) → (text : List Bool) × Between b text c
-        × spells t x text)
+    × spells t x text)
     → ((t : S) (b : Bits) → body t b ≡ Err d → (front left : List Bool) × (b.bits ≡ front ++ left)
-        × (d.at ≡ b.at + length front) × fails t front left)
+    × (d.at ≡ b.at + length front) × fails t front left)
     → ((t u : S) (b c : Bits) → body t b ≡ Ok (again u, c) → length c.bits < length b.bits)
     → (fuel : ℕ) (s : S) (b : Bits) → length b.bits < fuel → turns_at body fuel s b ≡ Err d
     → (front left : List Bool) × (b.bits ≡ front ++ left) × (d.at ≡ b.at + length front) × (n : ℕ)
-        × FaultTurns spells fails n s front left
+    × FaultTurns spells fails n s front left
 turns_fault spells fails body d whole each shorter zero s b lt e = absurd (omega arith)
 turns_fault {S} {A} spells fails body d whole each shorter (suc fuel) s b lt e =
     elim (bind_err (body s b) (λ x. turned (turns_at body fuel) x.0 x.1) d e) [
@@ -347,10 +362,10 @@ turns_fault {S} {A} spells fails body d whole each shorter (suc fuel) s b lt e =
   where
     after : (x : Turn S A) (c : Bits) → body s b ≡ Ok (x, c) → turned (turns_at body fuel) x c ≡ Err d
         → ((t : S) (c : Bits) → body s b ≡ Ok (again t, c) → turns_at body fuel t c ≡ Err d → (front left : List Bool)
-            × (c.bits ≡ front ++ left) × (d.at ≡ c.at + length front) × (n : ℕ)
-            × FaultTurns spells fails n t front left)
+        × (c.bits ≡ front ++ left) × (d.at ≡ c.at + length front) × (n : ℕ)
+        × FaultTurns spells fails n t front left)
         → (front left : List Bool) × (b.bits ≡ front ++ left) × (d.at ≡ b.at + length front) × (n : ℕ)
-            × FaultTurns spells fails n s front left
+        × FaultTurns spells fails n s front left
     after (again t) c h r more =
         let one = whole s b c (again t) h in
         let m = more t c h r in
@@ -390,8 +405,14 @@ fault_found (part s allowed next) b d each e =
           let x = h.0 in
           let t = sound s b x.1 x.0 h.1 in
           elim (refused_err (allowed x.0) b.at (reading (next x.0) x.1) d h.2) [
-            | inl g ↦ ([], b.bits, refl, g.1
-                ∙ sym (add-zero b.at), inr (inl (refl, (x.0, t.0, x.1.bits, t.2, t.1.parts, g.0))))
+            | inl g ↦ (
+              [],
+              b.bits,
+              refl,
+              g.1
+                  ∙ sym (add-zero b.at),
+              inr (inl (refl, (x.0, t.0, x.1.bits, t.2, t.1.parts, g.0))),
+            )
             | inr g ↦
                 let r = fault_found (next x.0) x.1 d (each.1 x.0) g.1 in
                 let p = then_at b x.1 t.0 r.0 r.1 d.at t.1 r.2 r.3 in
@@ -402,15 +423,25 @@ fault_found (element s allowed next) b d each e =
     elim (bind_err (standing_at b.at (reading s b)) (λ x. refused (allowed x.0) b.at (reading (next x.0) x.1)) d e) [
       | inl h ↦
           let c = standing_err b.at (reading s b) d h in
-          let f = fault_found s b c.0 each.0 c.1 in
-          ([], b.bits, refl, c.3 ∙ sym (add-zero b.at),
-              inl (refl, f.0, f.1, f.2, subst (λ (k : FaultKind). Faults s f.0 f.1 k) c.2 f.4))
+          let f = fault_found s b c.0 each.0 c.1 in (
+            [],
+            b.bits,
+            refl,
+            c.3 ∙ sym (add-zero b.at),
+            inl (refl, f.0, f.1, f.2, subst (λ (k : FaultKind). Faults s f.0 f.1 k) c.2 f.4),
+          )
       | inr h ↦
           let x = h.0 in
           let t = sound s b x.1 x.0 (standing_ok b.at (reading s b) x h.1) in
           elim (refused_err (allowed x.0) b.at (reading (next x.0) x.1) d h.2) [
-            | inl g ↦ ([], b.bits, refl, g.1
-                ∙ sym (add-zero b.at), inr (inl (refl, (x.0, t.0, x.1.bits, t.2, t.1.parts, g.0))))
+            | inl g ↦ (
+              [],
+              b.bits,
+              refl,
+              g.1
+                  ∙ sym (add-zero b.at),
+              inr (inl (refl, (x.0, t.0, x.1.bits, t.2, t.1.parts, g.0))),
+            )
             | inr g ↦
                 let r = fault_found (next x.0) x.1 d (each.1 x.0) g.1 in
                 let p = then_at b x.1 t.0 r.0 r.1 d.at t.1 r.2 r.3 in
@@ -419,23 +450,23 @@ fault_found (element s allowed next) b d each e =
     ]
 fault_found (repeat s body) b d each e =
     let m = turns_fault (λ t x text. Spells (body t) x text) (λ t f l. Faults (body t) f l d.kind)
-        (λ t c. reading (body t) c) d
+    (λ t c. reading (body t) c) d
     (λ t c f x h. sound (body t) c f x h) (λ t c h. fault_found (body t) c d (each.1 t) h)
-        (λ t u c f h. turn_shorter t u body c f each.0 h)
+    (λ t u c f h. turn_shorter t u body c f each.0 h)
     (suc (length b.bits)) s b (omega arith) e in
     (m.0, m.1, m.2, m.3, (m.4, m.5))
 
 turns_fault_again : {S A : Type 0} (spells : S → Turn S A → List Bool → Type 0) (fails : S → List Bool → List Bool
     → Type 0) (body : S → Bits → Result (Turn S A × Bits) Fault) (kind : FaultKind)
     → ((t : S) (x : Turn S A) (text rest : List Bool) (at : ℕ) → spells t x text
-        → body t (record { at = at; bits = text ++ rest }) ≡ Ok (x, record { at = at + length text; bits = rest }))
+    → body t (record { at = at; bits = text ++ rest }) ≡ Ok (x, record { at = at + length text; bits = rest }))
     → ((t : S) (front left : List Bool) (at : ℕ) → fails t front left
-        → body t (record { at = at; bits = front ++ left }) ≡ Err (record { kind = kind; at = at + length front }))
+    → body t (record { at = at; bits = front ++ left }) ≡ Err (record { kind = kind; at = at + length front }))
     → ((t u : S) → spells t (again u) [] → ⊥)
     → (n fuel : ℕ) (s : S) (front left : List Bool) (at : ℕ) → FaultTurns spells fails n s front left
-        → length front < fuel
+    → length front < fuel
     → turns_at body fuel s (record { at = at; bits = front ++ left })
-        ≡ Err (record { kind = kind; at = at + length front })
+    ≡ Err (record { kind = kind; at = at + length front })
 turns_fault_again spells fails body kind whole each some n zero s front left at h lt = absurd (omega arith)
 turns_fault_again spells fails body kind whole each some zero (suc fuel) s front left at h lt =
     rw (each s front left at h) refl
@@ -444,13 +475,13 @@ turns_fault_again {S} {A} spells fails body kind whole each some (suc n) (suc fu
     let text = h.1 in
     let rest = h.2 in
     let e : front ++ left ≡ text ++ (rest ++ left) = ap (λ (x : List Bool). x ++ left) h.4
-        ∙ append_assoc text rest left in
+    ∙ append_assoc text rest left in
     let len : length front ≡ length text + length rest = ap length h.4 ∙ length-append text rest in
     let one : body s (record { at = at; bits = text ++ (rest ++ left) })
-        ≡ Ok (again t, record { at = at + length text; bits = rest ++ left }) = whole s (again t) text (rest
-        ++ left) at h.3 in
+    ≡ Ok (again t, record { at = at + length text; bits = rest ++ left }) = whole s (again t) text (rest
+    ++ left) at h.3 in
     let more = turns_fault_again spells fails body kind whole each some n fuel t rest left (at + length text) h.5
-        (shorter text rest front lt len (λ z. some s t (subst (λ (x : List Bool). spells s (again t) x) z h.3))) in
+    (shorter text rest front lt len (λ z. some s t (subst (λ (x : List Bool). spells s (again t) x) z h.3))) in
     rw (e, one, more, len, add_assoc at (length text) (length rest)) refl
   where
     shorter : (front tail whole : List Bool) → length whole < suc fuel → length whole ≡ length front + length tail
@@ -469,23 +500,31 @@ fault_again (field n allowed next) at front left kind each h =
       | inl f ↦ rw (f.0, field_fault_again n allowed at left kind f.1, add-zero at) refl
       | inr f ↦
           let e : front ++ left ≡ spelled n f.0 ++ (f.1 ++ left) = ap (λ (x : List Bool). x ++ left) f.4
-              ∙ append_assoc (spelled n f.0) f.1 left in
+          ∙ append_assoc (spelled n f.0) f.1 left in
           let len : length front ≡ length (spelled n f.0) + length f.1 = ap length f.4
-              ∙ length-append (spelled n f.0) f.1 in
-          rw (e, field_again n allowed f.0 at (f.1 ++ left) f.2 f.3,
-              fault_again (next f.0) (at + length (spelled n f.0)) f.1 left kind (each f.0) f.5, len,
-              add_assoc at (length (spelled n f.0)) (length f.1)) refl
+          ∙ length-append (spelled n f.0) f.1 in
+          rw (
+            e,
+            field_again n allowed f.0 at (f.1 ++ left) f.2 f.3,
+            fault_again (next f.0) (at + length (spelled n f.0)) f.1 left kind (each f.0) f.5,
+            len,
+            add_assoc at (length (spelled n f.0)) (length f.1),
+          ) refl
     ]
 fault_again (code words next) at front left kind each h =
     elim h [
       | inl f ↦ rw (f.0, word_fault_again words.list at left kind words.apart f.1, add-zero at) refl
       | inr f ↦
           let e : front ++ left ≡ f.0 ++ (f.2 ++ left) = ap (λ (x : List Bool). x ++ left) f.4
-              ∙ append_assoc f.0 f.2 left in
+          ∙ append_assoc f.0 f.2 left in
           let len : length front ≡ length f.0 + length f.2 = ap length f.4 ∙ length-append f.0 f.2 in
-          rw (e, word_again words.list f.0 f.1 at (f.2 ++ left) words.apart f.3,
-              fault_again (next f.1) (at + length f.0) f.2 left kind (each f.1) f.5, len,
-              add_assoc at (length f.0) (length f.2)) refl
+          rw (
+            e,
+            word_again words.list f.0 f.1 at (f.2 ++ left) words.apart f.3,
+            fault_again (next f.1) (at + length f.0) f.2 left kind (each f.1) f.5,
+            len,
+            add_assoc at (length f.0) (length f.2),
+          ) refl
     ]
 fault_again (part s allowed next) at front left kind each h =
     elim h [
@@ -495,11 +534,16 @@ fault_again (part s allowed next) at front left kind each h =
             | inl f ↦ let r = f.1 in rw (f.0, r.4, complete s r.0 r.1 r.2 at each.0 r.3, r.5, add-zero at) refl
             | inr f ↦
                 let e : front ++ left ≡ f.1 ++ (f.2 ++ left) = ap (λ (x : List Bool). x ++ left) f.5
-                    ∙ append_assoc f.1 f.2 left in
+                ∙ append_assoc f.1 f.2 left in
                 let len : length front ≡ length f.1 + length f.2 = ap length f.5 ∙ length-append f.1 f.2 in
-                rw (e, complete s f.0 f.1 (f.2 ++ left) at each.0 f.3, f.4,
-                    fault_again (next f.0) (at + length f.1) f.2 left kind (each.1 f.0) f.6, len,
-                    add_assoc at (length f.1) (length f.2)) refl
+                rw (
+                  e,
+                  complete s f.0 f.1 (f.2 ++ left) at each.0 f.3,
+                  f.4,
+                  fault_again (next f.0) (at + length f.1) f.2 left kind (each.1 f.0) f.6,
+                  len,
+                  add_assoc at (length f.1) (length f.2),
+                ) refl
           ]
     ]
 fault_again (element s allowed next) at front left kind each h =
@@ -510,18 +554,23 @@ fault_again (element s allowed next) at front left kind each h =
             | inl f ↦ let r = f.1 in rw (f.0, r.4, complete s r.0 r.1 r.2 at each.0 r.3, r.5, add-zero at) refl
             | inr f ↦
                 let e : front ++ left ≡ f.1 ++ (f.2 ++ left) = ap (λ (x : List Bool). x ++ left) f.5
-                    ∙ append_assoc f.1 f.2 left in
+                ∙ append_assoc f.1 f.2 left in
                 let len : length front ≡ length f.1 + length f.2 = ap length f.5 ∙ length-append f.1 f.2 in
-                rw (e, complete s f.0 f.1 (f.2 ++ left) at each.0 f.3, f.4,
-                    fault_again (next f.0) (at + length f.1) f.2 left kind (each.1 f.0) f.6, len,
-                    add_assoc at (length f.1) (length f.2)) refl
+                rw (
+                  e,
+                  complete s f.0 f.1 (f.2 ++ left) at each.0 f.3,
+                  f.4,
+                  fault_again (next f.0) (at + length f.1) f.2 left kind (each.1 f.0) f.6,
+                  len,
+                  add_assoc at (length f.1) (length f.2),
+                ) refl
           ]
     ]
 fault_again (repeat s body) at front left kind each h =
     turns_fault_again (λ t x text. Spells (body t) x text) (λ t f l. Faults (body t) f l kind)
-        (λ t c. reading (body t) c) kind
+    (λ t c. reading (body t) c) kind
     (λ t x text rest k g. complete (body t) x text rest k (each.1 t) g) (λ t f l k g. fault_again (body t) k f l kind
-        (each.1 t) g) each.0
+    (each.1 t) g) each.0
     h.0 (suc (length (front ++ left))) s front left at h.1 (omega (arith, length-append front left))
 
 -- A READER'S FAULT IS THE FIRST FAULT: the one of the element after the longest list of elements that have none.
@@ -554,24 +603,37 @@ pub fault_here : {A : Type 0} (n : ℕ) (allowed : Allowed ℕ) (next : ℕ → 
     (kind : FaultKind) → v < 2 ^ n → allowed v ≡ Some kind
     → HasFault (field n allowed next) (spelled n v ++ more) kind 0
 unfolding reading
-fault_here n allowed next v more kind lt some = λ at rest. rw (append_assoc (spelled n v) more rest,
-    number_again n v at (more ++ rest) lt, some, add-zero at) refl
+fault_here n allowed next v more kind lt some = λ at rest. rw (
+  append_assoc (spelled n v) more rest,
+  number_again n v at (more ++ rest) lt,
+  some,
+  add-zero at,
+) refl
 
 pub fault_after_field : {A : Type 0} (n : ℕ) (allowed : Allowed ℕ) (next : ℕ → Syntax A) (v : ℕ) (text : List Bool)
     (kind : FaultKind) (place : ℕ) → v < 2 ^ n → allowed v ≡ None → HasFault (next v) text kind place
     → HasFault (field n allowed next) (spelled n v ++ text) kind (n + place)
 unfolding reading
 fault_after_field n allowed next v text kind place lt none h =
-    λ at rest. rw (append_assoc (spelled n v) text rest, field_again n allowed v at (text ++ rest) lt none,
-        h (at + length (spelled n v)) rest, length-spelled n v, add_assoc at n place) refl
+    λ at rest. rw (
+      append_assoc (spelled n v) text rest,
+      field_again n allowed v at (text ++ rest) lt none,
+      h (at + length (spelled n v)) rest,
+      length-spelled n v,
+      add_assoc at n place,
+    ) refl
 
 pub fault_after_word : {S A : Type 0} (words : Words S) (next : S → Syntax A) (word : List Bool) (x : S)
     (text : List Bool) (kind : FaultKind) (place : ℕ) → IsIn (word, x) words.list → HasFault (next x) text kind place
     → HasFault (code words next) (word ++ text) kind (length word + place)
 unfolding reading
 fault_after_word words next word x text kind place listed h =
-    λ at rest. rw (append_assoc word text rest, word_again words.list word x at (text ++ rest) words.apart listed,
-        h (at + length word) rest, add_assoc at (length word) place) refl
+    λ at rest. rw (
+      append_assoc word text rest,
+      word_again words.list word x at (text ++ rest) words.apart listed,
+      h (at + length word) rest,
+      add_assoc at (length word) place,
+    ) refl
 
 pub fault_in_part : {S A : Type 0} (s : Syntax S) (allowed : Allowed S) (next : S
     → Syntax A) (text : List Bool) (kind : FaultKind) (place : ℕ) → HasFault s text kind place
@@ -584,8 +646,12 @@ pub fault_of_part : {S A : Type 0} (s : Syntax S) (allowed : Allowed S) (next : 
     → allowed x ≡ Some kind
     → HasFault (part s allowed next) (text ++ more) kind 0
 unfolding reading
-fault_of_part s allowed next x text more kind each spelt some = λ at rest. rw (append_assoc text more rest,
-    complete s x text (more ++ rest) at each spelt, some, add-zero at) refl
+fault_of_part s allowed next x text more kind each spelt some = λ at rest. rw (
+  append_assoc text more rest,
+  complete s x text (more ++ rest) at each spelt,
+  some,
+  add-zero at,
+) refl
 
 pub fault_after_part : {S A : Type 0} (s : Syntax S) (allowed : Allowed S) (next : S
     → Syntax A) (x : S) (front text : List Bool) (kind : FaultKind) (place : ℕ) → IsProductive s → Spells s x front
@@ -593,8 +659,13 @@ pub fault_after_part : {S A : Type 0} (s : Syntax S) (allowed : Allowed S) (next
     → HasFault (part s allowed next) (front ++ text) kind (length front + place)
 unfolding reading
 fault_after_part s allowed next x front text kind place each spelt none h =
-    λ at rest. rw (append_assoc front text rest, complete s x front (text ++ rest) at each spelt, none,
-        h (at + length front) rest, add_assoc at (length front) place) refl
+    λ at rest. rw (
+      append_assoc front text rest,
+      complete s x front (text ++ rest) at each spelt,
+      none,
+      h (at + length front) rest,
+      add_assoc at (length front) place,
+    ) refl
 
 -- each fault inside an element stands at the element's first bit
 pub fault_in_element : {S A : Type 0} (s : Syntax S) (allowed : Allowed S) (next : S
@@ -608,8 +679,12 @@ pub fault_of_element : {S A : Type 0} (s : Syntax S) (allowed : Allowed S) (next
     → allowed x ≡ Some kind
     → HasFault (element s allowed next) (text ++ more) kind 0
 unfolding reading
-fault_of_element s allowed next x text more kind each spelt some = λ at rest. rw (append_assoc text more rest,
-    complete s x text (more ++ rest) at each spelt, some, add-zero at) refl
+fault_of_element s allowed next x text more kind each spelt some = λ at rest. rw (
+  append_assoc text more rest,
+  complete s x text (more ++ rest) at each spelt,
+  some,
+  add-zero at,
+) refl
 
 pub fault_after_element : {S A : Type 0} (s : Syntax S) (allowed : Allowed S) (next : S
     → Syntax A) (x : S) (front text : List Bool) (kind : FaultKind) (place : ℕ) → IsProductive s → Spells s x front
@@ -617,8 +692,13 @@ pub fault_after_element : {S A : Type 0} (s : Syntax S) (allowed : Allowed S) (n
     → HasFault (element s allowed next) (front ++ text) kind (length front + place)
 unfolding reading
 fault_after_element s allowed next x front text kind place each spelt none h =
-    λ at rest. rw (append_assoc front text rest, complete s x front (text ++ rest) at each spelt, none,
-        h (at + length front) rest, add_assoc at (length front) place) refl
+    λ at rest. rw (
+      append_assoc front text rest,
+      complete s x front (text ++ rest) at each spelt,
+      none,
+      h (at + length front) rest,
+      add_assoc at (length front) place,
+    ) refl
 
 pub fault_in_turn : {S A : Type 0} (s : S) (body : S → Syntax (Turn S A)) (text : List Bool) (kind : FaultKind)
     (place : ℕ) → HasFault (body s) text kind place → HasFault (repeat s body) text kind place
@@ -631,9 +711,11 @@ pub fault_after_turn : {S A : Type 0} (s t : S) (body : S → Syntax (Turn S A))
     → HasFault (repeat s body) (front ++ text) kind (length front + place)
 fault_after_turn s t body front text kind place each some spelt h =
     λ at rest. ap (λ (b : List Bool). reading (repeat s body) (record { at = at; bits = b }))
-        (append_assoc front text rest)
-    ∙ repeat-again s t body (record { at = at; bits = front ++ (text ++ rest) }) (record { at = at + length front;
-        bits = text ++ rest }) some (complete (body s) (again t) front (text ++ rest) at each spelt)
+    (append_assoc front text rest)
+    ∙ repeat-again s t body (record { at = at; bits = front ++ (text ++ rest) }) (record {
+      at = at + length front;
+      bits = text ++ rest;
+    }) some (complete (body s) (again t) front (text ++ rest) at each spelt)
     ∙ h (at + length front) rest
     ∙ ap (λ (k : ℕ). err (stands kind k)) (add_assoc at (length front) place)
 
@@ -648,8 +730,11 @@ pub fault_of_no_word : {S A : Type 0} (words : Words S) (next : S → Syntax A) 
     → list_all (λ u. not (begins x u.0) && not (begins u.0 x)) words.list ≡ true
     → HasFault (code words next) x BadCode 0
 unfolding reading
-fault_of_no_word words next x e = λ at rest. rw (word_fault_again words.list at (x ++ rest) BadCode words.apart
-    (inr (no_word_of_front words.list x rest e, refl)), add-zero at) refl
+fault_of_no_word words next x e = λ at rest. rw (
+  word_fault_again words.list at (x ++ rest) BadCode words.apart
+      (inr (no_word_of_front words.list x rest e, refl)),
+  add-zero at,
+) refl
 
 -- the text of a row in another form
 pub fault_of_text : {A : Type 0} (s : Syntax A) (x y : List Bool) (kind : FaultKind) (place : ℕ) → x ≡ y
@@ -669,8 +754,11 @@ pub ends_after_word : {S A : Type 0} (words : Words S) (next : S → Syntax A) (
     → EndsWithFault (next x) text kind place → EndsWithFault (code words next) (word ++ text) kind (length word + place)
 unfolding reading
 ends_after_word words next word x text kind place listed h =
-    λ at. rw (word_again words.list word x at text words.apart listed, h (at + length word),
-    add_assoc at (length word) place) refl
+    λ at. rw (
+      word_again words.list word x at text words.apart listed,
+      h (at + length word),
+      add_assoc at (length word) place,
+    ) refl
 
 pub ends_in_element : {S A : Type 0} (s : Syntax S) (allowed : Allowed S) (next : S
     → Syntax A) (text : List Bool) (kind : FaultKind) (place : ℕ) → EndsWithFault s text kind place

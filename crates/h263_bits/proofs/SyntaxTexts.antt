@@ -58,8 +58,11 @@ pub Between-nil : (b : Bits) → Between b [] b
 Between-nil b = record { parts = refl; at = omega arith }
 
 pub Between-then : (b c d : Bits) (x y : List Bool) → Between b x c → Between c y d → Between b (x ++ y) d
-Between-then b c d x y p q = record { parts = p.parts ∙ ap (λ (t : List Bool). x ++ t) q.parts
-    ∙ sym (append_assoc x y d.bits); at = omega (arith, p.at, q.at, length-append x y) }
+Between-then b c d x y p q = record {
+  parts = p.parts ∙ ap (λ (t : List Bool). x ++ t) q.parts
+      ∙ sym (append_assoc x y d.bits);
+  at = omega (arith, p.at, q.at, length-append x y);
+}
 
 -- ---- numbers
 
@@ -82,7 +85,7 @@ number_takes n v b c e =
           let c-is : skip n b ≡ c = ap (λ (p : ℕ × Bits). p.1) f in
           let len : length (take n b.bits) ≡ n = omega (arith, length-take n b.bits) in
           let text : spelled n v ≡ take n b.bits = ap (spelled n) (sym v-is)
-              ∙ ap (λ (k : ℕ). spelled k (number (take n b.bits))) (sym len) ∙ spelled-number (take n b.bits) in (
+          ∙ ap (λ (k : ℕ). spelled k (number (take n b.bits))) (sym len) ∙ spelled-number (take n b.bits) in (
             subst (λ (d : Bits). Between b (spelled n v) d) c-is
                 (record { parts = rw text (sym (take-append-drop n b.bits)); at = omega (arith, length-spelled n v) }),
             subst (λ (w : ℕ). w < 2 ^ n) v-is (subst (λ (k : ℕ). number (take n b.bits) < 2 ^ k) len
@@ -91,13 +94,23 @@ number_takes n v b c e =
     ]
 
 pub number_again : (n v at : ℕ) (rest : List Bool) → v < 2 ^ n
-    → number_at n (record { at = at; bits = spelled n v ++ rest }) ≡ Ok (v, record { at = at + length (spelled n v);
-    bits = rest })
+    → number_at n (record { at = at; bits = spelled n v ++ rest }) ≡ Ok (
+      v,
+      record {
+        at = at + length (spelled n v);
+        bits = rest;
+      },
+    )
 number_again n v at rest lt =
     let len = length-spelled n v in
     long_is n (record { at = at; bits = spelled n v ++ rest }) (omega (arith, length-append (spelled n v) rest))
-    ∙ rw (take_at (spelled n v) rest n len, drop_at (spelled n v) rest n len, number-spelled n v, mod-eq_of_lt lt,
-        len) refl
+    ∙ rw (
+      take_at (spelled n v) rest n len,
+      drop_at (spelled n v) rest n len,
+      number-spelled n v,
+      mod-eq_of_lt lt,
+      len,
+    ) refl
 
 pub field_takes : (n : ℕ) (allowed : Allowed ℕ) (v : ℕ) (b c : Bits) → field_at n allowed b ≡ Ok (v, c)
     → Between b (spelled n v) c × (v < 2 ^ n) × (allowed v ≡ None)
@@ -167,7 +180,7 @@ pub apart_at : {S : Type 0} (v w : List Bool × S) (words : List (List Bool × S
 apart_at v w [] e h = absurd h
 apart_at {S} v w (u ∷ words) e h =
     let p = and_both (not (begins v.0 u.0) && not (begins u.0 v.0))
-        (list_all (λ u. not (begins v.0 u.0) && not (begins u.0 v.0)) words) e in
+    (list_all (λ u. not (begins v.0 u.0) && not (begins u.0 v.0)) words) e in
     let q = and_both (not (begins v.0 u.0)) (not (begins u.0 v.0)) p.0 in
     elim h [
       | inl same ↦ subst (λ (x : List Bool × S). (begins v.0 x.0 ≡ false) × (begins x.0 v.0 ≡ false)) same
@@ -211,10 +224,14 @@ word_takes {S} words x b c e = at_found (found words b.bits) refl e
         let f = ok_is (w.1, skip (length w.0) b) (x, c) e in
         let i = found_in words b.bits w h in
         let x-is : w.1 ≡ x = ap (λ (p : S × Bits). p.0) f in
-        let c-is : skip (length w.0) b ≡ c = ap (λ (p : S × Bits). p.1) f in
-        (w.0, subst (λ (y : S). IsIn (w.0, y) words) x-is i.0,
-            subst (λ (d : Bits). Between b w.0 d) c-is (record { parts = begins_parts w.0 b.bits i.1;
-            at = omega arith }))
+        let c-is : skip (length w.0) b ≡ c = ap (λ (p : S × Bits). p.1) f in (
+          w.0,
+          subst (λ (y : S). IsIn (w.0, y) words) x-is i.0,
+          subst (λ (d : Bits). Between b w.0 d) c-is (record {
+            parts = begins_parts w.0 b.bits i.1;
+            at = omega arith;
+          }),
+        )
 
 pub word_again : {S : Type 0} (words : List (List Bool × S)) (w : List Bool) (x : S) (at : ℕ) (rest : List Bool)
     → is_prefix_free words ≡ true → IsIn (w, x) words → word_at words (record { at = at; bits = w ++ rest })
@@ -231,9 +248,9 @@ Finds spells b c a = (text : List Bool) × Between b text c × spells a text
 turns_sound : {S A : Type 0} (spells : S → Turn S A → List Bool → Type 0) (body : S → Bits
     → Result (Turn S A × Bits) Fault)
     → ((t : S) (b c : Bits) (x : Turn S A) → body t b ≡ Ok (x, c) → (text : List Bool) × Between b text c
-        × spells t x text)
+    × spells t x text)
     → (fuel : ℕ) (s : S) (b c : Bits) (a : A) → turns_at body fuel s b ≡ Ok (a, c)
-        → (text : List Bool) × Between b text c × (n : ℕ) × Turns spells n s a text
+    → (text : List Bool) × Between b text c × (n : ℕ) × Turns spells n s a text
 turns_sound spells body each zero s b c a e = absurd cc
 turns_sound {S} {A} spells body each (suc fuel) s b c a e =
     let one = bind_ok (body s b) (λ x. turned (turns_at body fuel) x.0 x.1) (a, c) e in
@@ -243,7 +260,7 @@ turns_sound {S} {A} spells body each (suc fuel) s b c a e =
     after : (x : Turn S A) (d : Bits) (front : List Bool) → Between b front d → spells s x front
         → turned (turns_at body fuel) x d ≡ Ok (a, c)
         → ((t : S) (d : Bits) → turns_at body fuel t d ≡ Ok (a, c) → (text : List Bool) × Between d text c × (n : ℕ)
-            × Turns spells n t a text)
+        × Turns spells n t a text)
         → (text : List Bool) × Between b text c × (n : ℕ) × Turns spells n s a text
     after (again t) d front takes spelt e more =
         let m = more t d e in
@@ -251,9 +268,12 @@ turns_sound {S} {A} spells body each (suc fuel) s b c a e =
     after (finally v) d front takes spelt e more =
         let f = ok_is (v, d) (a, c) e in
         let v-is : v ≡ a = ap (λ (p : A × Bits). p.0) f in
-        let d-is : d ≡ c = ap (λ (p : A × Bits). p.1) f in
-        (front, subst (λ (u : Bits). Between b front u) d-is takes, 0,
-            subst (λ (u : A). spells s (finally u) front) v-is spelt)
+        let d-is : d ≡ c = ap (λ (p : A × Bits). p.1) f in (
+          front,
+          subst (λ (u : Bits). Between b front u) d-is takes,
+          0,
+          subst (λ (u : A). spells s (finally u) front) v-is spelt,
+        )
 
 pub sound : {A : Type 0} (s : Syntax A) (b c : Bits) (a : A) → reading s b ≡ Ok (a, c)
     → (text : List Bool) × Between b text c × Spells s a text
@@ -266,9 +286,11 @@ sound {A} (done x) b c a e =
 sound (field n allowed next) b c a e =
     let one = bind_ok (field_at n allowed b) (λ x. reading (next x.0) x.1) (a, c) e in
     let t = field_takes n allowed one.0.0 b one.0.1 one.1 in
-    let r = sound (next one.0.0) one.0.1 c a one.2 in
-    (spelled n one.0.0 ++ r.0, Between-then b one.0.1 c (spelled n one.0.0) r.0 t.0 r.1,
-        (one.0.0, r.0, t.1, t.2, refl, r.2))
+    let r = sound (next one.0.0) one.0.1 c a one.2 in (
+      spelled n one.0.0 ++ r.0,
+      Between-then b one.0.1 c (spelled n one.0.0) r.0 t.0 r.1,
+      (one.0.0, r.0, t.1, t.2, refl, r.2),
+    )
 sound (code words next) b c a e =
     let one = bind_ok (word_at words.list b) (λ x. reading (next x.0) x.1) (a, c) e in
     let t = word_takes words.list one.0.0 b one.0.1 one.1 in
@@ -281,15 +303,17 @@ sound (part s allowed next) b c a e =
     let r = sound (next one.0.0) one.0.1 c a g.1 in
     (t.0 ++ r.0, Between-then b one.0.1 c t.0 r.0 t.1 r.1, (one.0.0, t.0, r.0, refl, t.2, g.0, r.2))
 sound (element s allowed next) b c a e =
-    let one = bind_ok (standing_at b.at (reading s b)) (λ x. refused (allowed x.0) b.at (reading (next x.0) x.1)) (a,
-        c) e in
+    let one = bind_ok (standing_at b.at (reading s b)) (λ x. refused (allowed x.0) b.at (reading (next x.0) x.1)) (
+      a,
+      c,
+    ) e in
     let t = sound s b one.0.1 one.0.0 (standing_ok b.at (reading s b) one.0 one.1) in
     let g = allowed_ok (allowed one.0.0) b.at (reading (next one.0.0) one.0.1) (a, c) one.2 in
     let r = sound (next one.0.0) one.0.1 c a g.1 in
     (t.0 ++ r.0, Between-then b one.0.1 c t.0 r.0 t.1 r.1, (one.0.0, t.0, r.0, refl, t.2, g.0, r.2))
 sound (repeat s body) b c a e =
     let m = turns_sound (λ t x front. Spells (body t) x front) (λ t d. reading (body t) d)
-        (λ t d f x h. sound (body t) d f x h) (suc (length b.bits)) s b c a e in
+    (λ t d f x h. sound (body t) d f x h) (suc (length b.bits)) s b c a e in
     (m.0, m.1, (m.2, m.3))
 
 abbrev from : ℕ → List Bool → Bits
@@ -298,11 +322,11 @@ from at bits = record { at = at; bits = bits }
 turns_complete : {S A : Type 0} (spells : S → Turn S A → List Bool → Type 0) (body : S → Bits
     → Result (Turn S A × Bits) Fault)
     → ((t : S) (x : Turn S A) (text rest : List Bool) (at : ℕ) → spells t x text
-        → body t (record { at = at; bits = text ++ rest }) ≡ Ok (x, record { at = at + length text; bits = rest }))
+    → body t (record { at = at; bits = text ++ rest }) ≡ Ok (x, record { at = at + length text; bits = rest }))
     → ((t u : S) → spells t (again u) [] → ⊥)
     → (n fuel : ℕ) (s : S) (a : A) (text rest : List Bool) (at : ℕ) → Turns spells n s a text → length text < fuel
     → turns_at body fuel s (record { at = at; bits = text ++ rest })
-        ≡ Ok (a, record { at = at + length text; bits = rest })
+    ≡ Ok (a, record { at = at + length text; bits = rest })
 turns_complete spells body each some n zero s a text rest at h lt = absurd (omega arith)
 turns_complete spells body each some zero (suc fuel) s a text rest at h lt = rw (each s (finally a) text rest at h) refl
 turns_complete {S} {A} spells body each some (suc n) (suc fuel) s a text rest at h lt =
@@ -310,13 +334,13 @@ turns_complete {S} {A} spells body each some (suc n) (suc fuel) s a text rest at
     let front = h.1 in
     let tail = h.2 in
     let e : text ++ rest ≡ front ++ (tail ++ rest) = ap (λ (x : List Bool). x ++ rest) h.3
-        ∙ append_assoc front tail rest in
+    ∙ append_assoc front tail rest in
     let len : length text ≡ length front + length tail = ap length h.3 ∙ length-append front tail in
     let one : body s (record { at = at; bits = front ++ (tail ++ rest) })
-        ≡ Ok (again t, record { at = at + length front; bits = tail ++ rest }) = each s (again t) front (tail
-        ++ rest) at h.4 in
+    ≡ Ok (again t, record { at = at + length front; bits = tail ++ rest }) = each s (again t) front (tail
+    ++ rest) at h.4 in
     let more = turns_complete spells body each some n fuel t a tail rest (at + length front) h.5
-        (shorter front tail text lt len (λ z. some s t (subst (λ (x : List Bool). spells s (again t) x) z h.4))) in
+    (shorter front tail text lt len (λ z. some s t (subst (λ (x : List Bool). spells s (again t) x) z h.4))) in
     rw (e, one, more, len, add_assoc at (length front) (length tail)) refl
   where
     shorter : (front tail whole : List Bool) → length whole < suc fuel → length whole ≡ length front + length tail
@@ -332,45 +356,68 @@ complete (done x) a text rest at ok h = rw (h.0, h.1) (ap (λ (k : ℕ). Ok (x, 
 complete (field n allowed next) a text rest at ok h =
     let v = h.0 in
     let e : text ++ rest ≡ spelled n v ++ (h.1 ++ rest) = ap (λ (x : List Bool). x ++ rest) h.4
-        ∙ append_assoc (spelled n v) h.1 rest in
+    ∙ append_assoc (spelled n v) h.1 rest in
     let len : length text ≡ length (spelled n v) + length h.1 = ap length h.4 ∙ length-append (spelled n v) h.1 in
-    rw (e, field_again n allowed v at (h.1 ++ rest) h.2 h.3, complete (next v) a h.1 rest (at + length (spelled n v))
-        (ok v) h.5, len, add_assoc at (length (spelled n v)) (length h.1)) refl
+    rw (
+      e,
+      field_again n allowed v at (h.1 ++ rest) h.2 h.3,
+      complete (next v) a h.1 rest (at + length (spelled n v))
+          (ok v) h.5,
+      len,
+      add_assoc at (length (spelled n v)) (length h.1),
+    ) refl
 complete (code words next) a text rest at ok h =
     let w = h.0 in
     let x = h.1 in
     let e : text ++ rest ≡ w ++ (h.2 ++ rest) = ap (λ (y : List Bool). y ++ rest) h.4 ∙ append_assoc w h.2 rest in
     let len : length text ≡ length w + length h.2 = ap length h.4 ∙ length-append w h.2 in
-    rw (e, word_again words.list w x at (h.2 ++ rest) words.apart h.3,
-        complete (next x) a h.2 rest (at + length w) (ok x) h.5, len, add_assoc at (length w) (length h.2)) refl
+    rw (
+      e,
+      word_again words.list w x at (h.2 ++ rest) words.apart h.3,
+      complete (next x) a h.2 rest (at + length w) (ok x) h.5,
+      len,
+      add_assoc at (length w) (length h.2),
+    ) refl
 complete (part s allowed next) a text rest at ok h =
     let x = h.0 in
     let e : text ++ rest ≡ h.1 ++ (h.2 ++ rest) = ap (λ (y : List Bool). y ++ rest) h.3 ∙ append_assoc h.1 h.2 rest in
     let len : length text ≡ length h.1 + length h.2 = ap length h.3 ∙ length-append h.1 h.2 in
-    rw (e, complete s x h.1 (h.2 ++ rest) at ok.0 h.4, h.5, complete (next x) a h.2 rest (at + length h.1) (ok.1 x) h.6,
-        len, add_assoc at (length h.1) (length h.2)) refl
+    rw (
+      e,
+      complete s x h.1 (h.2 ++ rest) at ok.0 h.4,
+      h.5,
+      complete (next x) a h.2 rest (at + length h.1) (ok.1 x) h.6,
+      len,
+      add_assoc at (length h.1) (length h.2),
+    ) refl
 complete (element s allowed next) a text rest at ok h =
     let x = h.0 in
     let e : text ++ rest ≡ h.1 ++ (h.2 ++ rest) = ap (λ (y : List Bool). y ++ rest) h.3 ∙ append_assoc h.1 h.2 rest in
     let len : length text ≡ length h.1 + length h.2 = ap length h.3 ∙ length-append h.1 h.2 in
-    rw (e, complete s x h.1 (h.2 ++ rest) at ok.0 h.4, h.5, complete (next x) a h.2 rest (at + length h.1) (ok.1 x) h.6,
-        len, add_assoc at (length h.1) (length h.2)) refl
+    rw (
+      e,
+      complete s x h.1 (h.2 ++ rest) at ok.0 h.4,
+      h.5,
+      complete (next x) a h.2 rest (at + length h.1) (ok.1 x) h.6,
+      len,
+      add_assoc at (length h.1) (length h.2),
+    ) refl
 complete (repeat s body) a text rest at ok h =
     turns_complete (λ t x front. Spells (body t) x front) (λ t d. reading (body t) d)
-        (λ t x front tail k g. complete (body t) x front tail k (ok.1 t) g) ok.0 h.0 (suc (length (text ++ rest))) s a
-        text rest at h.1 (omega (arith, length-append text rest))
+    (λ t x front tail k g. complete (body t) x front tail k (ok.1 t) g) ok.0 h.0 (suc (length (text ++ rest))) s a
+    text rest at h.1 (omega (arith, length-append text rest))
 
 -- Of two texts of which one begins the other both are the same, and spell the same value.
 pub one_reading : {A : Type 0} (s : Syntax A) (a b : A) (x y more : List Bool) → IsProductive s → Spells s a x
     → Spells s b y → x ++ more ≡ y → (x ≡ y) × (a ≡ b)
 one_reading {A} s a b x y more each p q e =
     let first : reading s (record { at = 0; bits = x ++ more }) ≡ Ok (a, record { at = 0 + length x; bits = more }) =
-        complete s a x more 0 each p in
+    complete s a x more 0 each p in
     let second : reading s (record { at = 0; bits = y ++ [] }) ≡ Ok (b, record { at = 0 + length y; bits = [] }) =
-        complete s b y [] 0 each q in
+    complete s b y [] 0 each q in
     let whole : x ++ more ≡ y ++ [] = e ∙ sym (append-nil y) in
     let same : ok (a, from (0 + length x) more) ≡ ok (b, from (0 + length y) []) = sym first
-        ∙ ap (λ (t : List Bool). reading s (record { at = 0; bits = t })) whole ∙ second in
+    ∙ ap (λ (t : List Bool). reading s (record { at = 0; bits = t })) whole ∙ second in
     let f = ok_is _ _ same in
     let rest : more ≡ [] = ap (λ (p : A × Bits). p.1.bits) f in
     (sym (append-nil x) ∙ ap (λ (t : List Bool). x ++ t) (sym rest) ∙ e, ap (λ (p : A × Bits). p.0) f)
@@ -387,7 +434,7 @@ reads_texts view s (Err e) old new g = tt
 pub texts_read : {X A : Type 0} (view : X → A) (s : Syntax A) (r : Result X Fault) (old new : Bits) → IsProductive s
     → Gives view r new (reading s old)
     → (a : A) (text rest : List Bool) → Spells s a text → old.bits ≡ text ++ rest
-        → IsOkAnd r (λ x. (view x ≡ a) × (new.bits ≡ rest))
+    → IsOkAnd r (λ x. (view x ≡ a) × (new.bits ≡ rest))
 texts_read {X} {A} view s r old new each g a text rest spelt parts = at_result r g
   where
     whole : reading s old ≡ ok (a, from (old.at + length text) rest)
@@ -475,8 +522,13 @@ pub field_length : {A : Type 0} (n : ℕ) (allowed : Allowed ℕ) (next : ℕ �
     → Spells (field n allowed next) a bits
     → (v : ℕ) × (rest : List Bool) × Spells (next v) a rest × (length bits ≡ n + length rest)
 unfolding Spells
-field_length n allowed next a bits h = (h.0, h.1, h.5, ap length h.4 ∙ length-append (spelled n h.0) h.1
-    ∙ ap (λ (k : ℕ). k + length h.1) (length-spelled n h.0))
+field_length n allowed next a bits h = (
+  h.0,
+  h.1,
+  h.5,
+  ap length h.4 ∙ length-append (spelled n h.0) h.1
+      ∙ ap (λ (k : ℕ). k + length h.1) (length-spelled n h.0),
+)
 
 -- a test that holds of what each word of a table stands for holds of one
 pub stands_within : {S : Type 0} (test : S → Bool) (words : List (List Bool × S)) (w : List Bool × S)
@@ -500,7 +552,7 @@ pub length-fields : (fs : List (ℕ × ℕ)) → length (fields fs) ≡ sum_by (
 length-fields [] = refl
 length-fields (f ∷ fs) =
     length-append (spelled f.0 f.1) (fields fs) ∙ ap (λ (n : ℕ). n + length (fields fs)) (length-spelled f.0 f.1)
-        ∙ ap (λ (n : ℕ). f.0 + n) (length-fields fs)
+    ∙ ap (λ (n : ℕ). f.0 + n) (length-fields fs)
     ∙ sym (sum_by-cons (λ (g : ℕ × ℕ). g.0) f fs)
 
 -- ---- repeated parts, for loops
@@ -541,7 +593,7 @@ unfolding reading
 repeat-again s u body b c some e =
     let less = turn_shorter s u body b c some e in
     rw e (turns-fuel (λ t d. reading (body t) d) (λ t v d f h. turn_shorter t v body d f some h) (length b.bits)
-        (suc (length c.bits)) u c less (omega arith))
+    (suc (length c.bits)) u c less (omega arith))
 
 pub repeat-finally : {S A : Type 0} (s : S) (a : A) (body : S → Syntax (Turn S A)) (b c : Bits)
     → reading (body s) b ≡ Ok (finally a, c) → reading (repeat s body) b ≡ Ok (a, c)
@@ -558,8 +610,12 @@ repeat-err s fault body b e = rw e refl
 pub field_some : {A : Type 0} (n : ℕ) (allowed : Allowed ℕ) (next : ℕ → Syntax A) (a : A)
     → Spells (field (suc n) allowed next) a [] → ⊥
 unfolding Spells
-field_some n allowed next a h = absurd (omega (arith, ap length h.4, length-append (spelled (suc n) h.0) h.1,
-    length-spelled (suc n) h.0))
+field_some n allowed next a h = absurd (omega (
+  arith,
+  ap length h.4,
+  length-append (spelled (suc n) h.0) h.1,
+  length-spelled (suc n) h.0,
+))
 
 pub either_productive : {A : Type 0} (t : Bool) (a b : Syntax A) → IsProductive a → IsProductive b
     → IsProductive (either t a b)
@@ -599,8 +655,12 @@ word_some {S} (v ∷ words) w e h =
 pub code_some : {S A : Type 0} (words : Words S) (next : S → Syntax A) (a : A)
     → list_all (λ v. nat_lt 0 (length v.0)) words.list ≡ true → Spells (code words next) a [] → ⊥
 unfolding Spells
-code_some words next a e h = absurd (omega (arith, word_some words.list (h.0, h.1) e h.3, ap length h.4,
-    length-append h.0 h.2))
+code_some words next a e h = absurd (omega (
+  arith,
+  word_some words.list (h.0, h.1) e h.3,
+  ap length h.4,
+  length-append h.0 h.2,
+))
 
 -- ---- where a reader stands, and what a writer has written
 
@@ -614,18 +674,25 @@ pub moved : (bytes : List ℕ) (from to : ℕ) (text : List Bool) (c : Bits) →
 moved bytes from to text c order within h =
     let n = length text in
     let len : length (bits_between bytes from to).bits ≡ to - from = length-window (bits_of bytes) from to order
-        (omega (arith, length-bits_of bytes)) in
+    (omega (arith, length-bits_of bytes)) in
     let fits : from + n ≤ to = omega (arith, len, ap length h.parts, length-append text c.bits) in
     let bits : c.bits ≡ take (to - (from + n)) (drop (from + n) (bits_of bytes)) =
     sym (drop_at text c.bits n refl) ∙ ap (drop n) (sym h.parts) ∙ drop-window (bits_of bytes) from to n fits in
     let place : from + n ≡ c.at = sym h.at in
-    record { bits = ap (λ (t : List Bool). record { at = c.at; bits = t }) (bits
-        ∙ ap (λ (k : ℕ). take (to - k) (drop k (bits_of bytes))) place); order = omega (arith, fits, place) }
+    record {
+      bits = ap (λ (t : List Bool). record { at = c.at; bits = t }) (bits
+          ∙ ap (λ (k : ℕ). take (to - k) (drop k (bits_of bytes))) place);
+      order = omega (arith, fits, place);
+    }
 
 -- no text
 pub appends_none : (w : BitWriter) (text : List Bool) → text ≡ [] → Appends w w text
-appends_none w text none = record { buffer = refl; room = refl; text = sym (ap (λ (t : List Bool). written w ++ t) none
-    ∙ append-nil (written w)) }
+appends_none w text none = record {
+  buffer = refl;
+  room = refl;
+  text = sym (ap (λ (t : List Bool). written w ++ t) none
+      ∙ append-nil (written w));
+}
 
 -- one text after the other
 pub appends_both : (a b c : BitWriter) (x y : List Bool) → Appends a b x → Appends b c y → Appends a c (x ++ y)

@@ -34,8 +34,12 @@ take_grown done k n xs ys le within =
 pub grown_within : (done k n : ℕ) (xs ys : List ℕ) → done ≤ length xs → n ≤ length ys
     → done + n ≤ length (put_mid done k xs ys)
 grown_within done k n xs ys le within =
-    omega (arith, length-append (take done xs) (ys ++ drop k (drop done xs)), length-append ys (drop k (drop done xs)),
-        length-take done xs)
+    omega (
+      arith,
+      length-append (take done xs) (ys ++ drop k (drop done xs)),
+      length-append ys (drop k (drop done xs)),
+      length-take done xs,
+    )
 
 front_grown : (done k n : ℕ) (xs ys left : List ℕ) → done ≤ length xs → n ≤ length ys → take done xs ≡ take done left
     → take n ys ≡ take n (drop done left) → take (done + n) (put_mid done k xs ys) ≡ take (done + n) left

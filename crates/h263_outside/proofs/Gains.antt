@@ -66,7 +66,7 @@ pub gained_more : (first : Role → Option (List ℕ)) (role : Role) (a b ab : L
     → last ≡ appended first role ab
 gained_more first role a b ab middle last p q e =
     q ∙ ap (λ (w : Role → Option (List ℕ)). appended w role b) p ∙ appended-appended first role a b
-        ∙ ap (λ (l : List ℕ). appended first role l) e
+    ∙ ap (λ (l : List ℕ). appended first role l) e
 
 lose_twice : (o : Option (List ℕ)) (a b : ℕ) → option_map (λ l. drop b l) (option_map (λ l. drop a l) o)
     ≡ option_map (λ l. drop (a + b) l) o
@@ -88,7 +88,7 @@ pub consumed_more : (first : Role → Option (List ℕ)) (role : Role) (a b ab :
     → middle ≡ consumed first role a → last ≡ consumed middle role b → a + b ≡ ab → last ≡ consumed first role ab
 consumed_more first role a b ab middle last p q e =
     q ∙ ap (λ (w : Role → Option (List ℕ)). consumed w role b) p ∙ consumed-consumed first role a b
-        ∙ ap (λ (n : ℕ). consumed first role n) e
+    ∙ ap (λ (n : ℕ). consumed first role n) e
 
 -- what is left of the role itself
 pub consumed_at : (w : Role → Option (List ℕ)) (role : Role) (n : ℕ) → consumed w role n role

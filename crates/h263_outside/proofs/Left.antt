@@ -19,7 +19,7 @@ pub left_in_file : {F : Type 0} (known : F → Option (List ℕ)) (input : Input
     → (input.ahead.end == input.ahead.at) ≡ true → input_left known input ≡ known input.file
 left_in_file known input test =
     ap (λ (l : List ℕ). prepend_known l (known input.file)) (nothing_ahead input.ahead test)
-        ∙ prepend_known-nil (known input.file)
+    ∙ prepend_known-nil (known input.file)
 
 -- after a read that failed all is left
 pub nothing_read : {E : Type 0} (old kept new : Option (List ℕ)) (r : Result ℕ E) (P : E → Type 0) (buf : List ℕ)

@@ -74,8 +74,14 @@ stays_at role r bytes old new other e = ap (λ (w : Role → Option (List ℕ)).
 -- a write that stopped on a role has given it a prefix
 pub front_at : (role : Role) (all : List ℕ) (old new : Role → Option (List ℕ)) → GainsFront role all old new
     → Front all (old role) (new role)
-front_at role all old new f = record { rest = f.rest; so_far = record { front = f.front; whole = f.whole;
-    gains = gained_at role f.front old new f.gained } }
+front_at role all old new f = record {
+  rest = f.rest;
+  so_far = record {
+    front = f.front;
+    whole = f.whole;
+    gains = gained_at role f.front old new f.gained;
+  };
+}
 
 -- and each other role stays
 pub front_stays_at : (role r : Role) (all : List ℕ) (old new : Role → Option (List ℕ)) → is_role role r ≡ false

@@ -62,8 +62,10 @@ unfolding leading Spells
 leading_is o bits s =
     let first = opening_is false s.0 s.1 s.4 in
     let same : o ≡ s.0 = value s.0.v s.2 s.6 in
-    record { range = subst IsOpening (sym same) first.range;
-        long = omega (arith, first.long, ap length s.3, length-append s.1 s.2) }
+    record {
+      range = subst IsOpening (sym same) first.range;
+      long = omega (arith, first.long, ap length s.3, length-append s.1 s.2);
+    }
   where
     value : (t : Bool) (rest : List Bool) → Spells (either t (field 8 any (λ redundancy. done s.0)) (done s.0)) o rest
         → o ≡ s.0
@@ -72,8 +74,11 @@ leading_is o bits s =
 
 pub leading_productive : IsProductive leading
 unfolding leading opening IsProductive
-leading_productive = (λ rr p v plen pebit. tt, λ o. either_productive o.v (field 8 any (λ redundancy. done o)) (done o)
-    (λ w. one o) (one o))
+leading_productive = (
+  λ rr p v plen pebit. tt,
+  λ o. either_productive o.v (field 8 any (λ redundancy. done o)) (done o)
+      (λ w. one o) (one o),
+)
   where
     one : (o : Opening) → IsProductive (done o)
     one o = tt
@@ -98,8 +103,13 @@ empty (x ∷ xs) e = absurd (omega arith)
 filled_ok : (r : Result (Header × Bits) Fault) (extra : Option Header) → filled r ≡ Ok extra → IsFilled r extra
 filled_ok (Ok x) extra e =
     let p = passed_unless (length x.1.bits == 0) _ (ok (Some x.0)) extra e in
-    record { header = x.0; rest = x.1; read = refl; none = empty x.1.bits (eqb-true (length x.1.bits) 0 p.0);
-        value = sym (ok_is (Some x.0) extra p.1) }
+    record {
+      header = x.0;
+      rest = x.1;
+      read = refl;
+      none = empty x.1.bits (eqb-true (length x.1.bits) 0 p.0);
+      value = sym (ok_is (Some x.0) extra p.1);
+    }
 filled_ok (Err f) extra e = absurd (err_not_ok f extra e)
 
 pub extra_ok : (format : Format) (plen pebit : ℕ) (extra : Option Header) (b : Bits) → pebit < 8
@@ -115,7 +125,7 @@ extra_ok format plen pebit extra b low e = at_none (plen == 0) refl e
         let s = sound (header format) (first_bits n b) f.rest f.header f.read in
         let middle = take (8 * plen) b.bits in
         let front : take n middle ≡ s.0 = take-take n (8 * plen) b.bits (omega arith) fits ∙ s.1.parts
-            ∙ ap (λ (t : List Bool). s.0 ++ t) f.none ∙ append-nil s.0 in
+        ∙ ap (λ (t : List Bool). s.0 ++ t) f.none ∙ append-nil s.0 in
         let text : IsExtra format plen pebit (Some f.header) middle = (
           s.0,
           drop n middle,
@@ -125,8 +135,11 @@ extra_ok format plen pebit extra b low e = at_none (plen == 0) refl e
           omega (arith, length-drop n middle, length-take (8 * plen) b.bits),
           s.2,
         ) in
-        record { fits = fits; text = subst (λ (o : Option Header). IsExtra format plen pebit o middle)
-            (sym f.value) text }
+        record {
+          fits = fits;
+          text = subst (λ (o : Option Header). IsExtra format plen pebit o middle)
+              (sym f.value) text;
+        }
 
     at_none : (t : Bool) → (plen == 0) ≡ t
         → cond t (ok None) (cond (nat_lt (length b.bits) (8 * plen)) (err (record { kind = faults.Ended; at = b.at }))
@@ -135,15 +148,17 @@ extra_ok format plen pebit extra b low e = at_none (plen == 0) refl e
     at_none true h e =
         let zero_plen : plen ≡ 0 = eqb-true plen 0 h in
         let text : IsExtra format plen pebit None (take (8 * plen) b.bits) =
-            (zero_plen, ap (λ (n : ℕ). take (8 * n) b.bits) zero_plen) in
-        record { fits = omega (arith, zero_plen);
-            text = subst (λ (o : Option Header). IsExtra format plen pebit o (take (8 * plen) b.bits))
-            (ok_is None extra e) text }
+        (zero_plen, ap (λ (n : ℕ). take (8 * n) b.bits) zero_plen) in
+        record {
+          fits = omega (arith, zero_plen);
+          text = subst (λ (o : Option Header). IsExtra format plen pebit o (take (8 * plen) b.bits))
+              (ok_is None extra e) text;
+        }
     at_none false h e =
         let p = passed_if (nat_lt (length b.bits) (8 * plen)) _
-            (filled (reading (header format) (first_bits (8 * plen - pebit) b))) extra e in
+        (filled (reading (header format) (first_bits (8 * plen - pebit) b))) extra e in
         some (omega (arith, eqb-false plen 0 h)) (ltb-false (length b.bits) (8 * plen) p.0)
-            (filled_ok (reading (header format) (first_bits (8 * plen - pebit) b)) extra p.1)
+        (filled_ok (reading (header format) (first_bits (8 * plen - pebit) b)) extra p.1)
 
 -- ---- the data's first two bits
 
@@ -173,8 +188,10 @@ abbrev begun : Option Header → ℕ → Bool → Payload
 begun extra at begins = record { extra = extra; begins = begins; from = at }
 
 abbrev if_picture : Option Header → ℕ → Result Payload Fault
-if_picture extra at = cond (is_none extra) (ok (begun extra at true)) (err (record { kind = faults.ExtraHeader;
-    at = at }))
+if_picture extra at = cond (is_none extra) (ok (begun extra at true)) (err (record {
+  kind = faults.ExtraHeader;
+  at = at;
+}))
 
 abbrev if_slice : Option Header → ℕ → Result Payload Fault
 if_slice extra at = cond (is_none extra) (err (record { kind = faults.NoExtraHeader; at = at }))
@@ -195,18 +212,18 @@ begun_ok extra b p e =
     at_two v c parts low high true h e =
         let q = passed_unless (is_none extra) _ (ok (begun extra b.at true)) p e in
         start_of extra b p true v c parts (ap (spelled 2) (eqb-true v 2 h)
-            ∙ two_is) q.0 (sym (ok_is (begun extra b.at true) p q.1))
+        ∙ two_is) q.0 (sym (ok_is (begun extra b.at true) p q.1))
     at_two v c parts low high false h e =
         let q = passed_if (is_none extra) _ (ok (begun extra b.at false)) p e in
         let three : v ≡ 3 = omega (arith, eqb-false v 2 h) in
         start_of extra b p false v c parts (ap (spelled 2) three
-            ∙ three_is) q.0 (sym (ok_is (begun extra b.at false) p q.1))
+        ∙ three_is) q.0 (sym (ok_is (begun extra b.at false) p q.1))
 
 pub read_text : (format : Format) (p : Payload) (b : Bits) → payload_at format b ≡ Ok p → IsPayload format p b
 unfolding payload_at
 read_text format p b e =
     let one = bind_ok (reading leading b) (λ x. extra_at format x.0.plen x.0.pebit x.1 >>=
-        λ extra. begun_at extra (skip (8 * x.0.plen) x.1)) p e in
+    λ extra. begun_at extra (skip (8 * x.0.plen) x.1)) p e in
     let x = one.0.0 in
     let c = one.0.1 in
     let n = 8 * x.plen in
@@ -239,8 +256,10 @@ pub extra_again : HeaderLaws
     → (format : Format) (plen pebit : ℕ) (extra : Option Header) (at : ℕ) (middle coded : List Bool)
     → IsExtra format plen pebit extra middle → IsReadMiddle format plen pebit extra at middle coded
 unfolding extra_at
-extra_again laws format plen pebit None at middle coded t = record { len = omega (arith, ap length t.1, t.0);
-    read = rw t.0 refl }
+extra_again laws format plen pebit None at middle coded t = record {
+  len = omega (arith, ap length t.1, t.0);
+  read = rw t.0 refl;
+}
 extra_again laws format plen pebit (Some h) at middle coded t =
     let text = t.0 in
     let rest = t.1 in
@@ -248,14 +267,20 @@ extra_again laws format plen pebit (Some h) at middle coded t =
     let size : length text ≡ 8 * plen - pebit = omega (arith, ap length t.2, length-append text rest, len, t.5) in
     let first : take (8 * plen - pebit) (middle ++ coded) ≡ text ++ [] =
     ap (λ (x : List Bool). take (8 * plen - pebit) (x ++ coded)) t.2
-        ∙ ap (take (8 * plen - pebit)) (append_assoc text rest coded)
-        ∙ take_at text (rest ++ coded) (8 * plen - pebit) size ∙ sym (append-nil text) in
+    ∙ ap (take (8 * plen - pebit)) (append_assoc text rest coded)
+    ∙ take_at text (rest ++ coded) (8 * plen - pebit) size ∙ sym (append-nil text) in
     let read : reading (header format) (first_bits (8 * plen - pebit) (record { at = at; bits = middle ++ coded }))
-        ≡ Ok (h, record { at = at + length text; bits = [] }) =
+    ≡ Ok (h, record { at = at + length text; bits = [] }) =
     ap (λ (x : List Bool). reading (header format) (record { at = at; bits = x })) first
-        ∙ complete (header format) h text [] at (laws.productive format) t.6 in
-    record { len = len; read = rw (ne_eqb plen 0 (λ same. omega (arith, same, t.3)),
-        le-ltb (length (middle ++ coded)) (8 * plen) (omega (arith, len, length-append middle coded)), read) refl }
+    ∙ complete (header format) h text [] at (laws.productive format) t.6 in
+    record {
+      len = len;
+      read = rw (
+        ne_eqb plen 0 (λ same. omega (arith, same, t.3)),
+        le-ltb (length (middle ++ coded)) (8 * plen) (omega (arith, len, length-append middle coded)),
+        read,
+      ) refl;
+    }
 
 begun_again : (extra : Option Header) (begins : Bool) (at : ℕ) (rest : List Bool) → begins ≡ is_none extra
     → begun_at extra (record { at = at; bits = true ∷ not begins ∷ rest })
@@ -263,15 +288,15 @@ begun_again : (extra : Option Header) (begins : Bool) (at : ℕ) (rest : List Bo
 unfolding begun_at
 begun_again extra true at rest e =
     let two : number_at 2 (record { at = at; bits = true ∷ false ∷ rest })
-        ≡ Ok (2, record { at = at + length (spelled 2 2); bits = rest }) =
+    ≡ Ok (2, record { at = at + length (spelled 2 2); bits = rest }) =
     ap (λ (t : List Bool). number_at 2 (record { at = at; bits = t ++ rest })) (sym two_is)
-        ∙ number_again 2 2 at rest (omega arith) in
+    ∙ number_again 2 2 at rest (omega arith) in
     rw (two, ← e) refl
 begun_again extra false at rest e =
     let three : number_at 2 (record { at = at; bits = true ∷ true ∷ rest })
-        ≡ Ok (3, record { at = at + length (spelled 2 3); bits = rest }) =
+    ≡ Ok (3, record { at = at + length (spelled 2 3); bits = rest }) =
     ap (λ (t : List Bool). number_at 2 (record { at = at; bits = t ++ rest })) (sym three_is)
-        ∙ number_again 2 3 at rest (omega arith) in
+    ∙ number_again 2 3 at rest (omega arith) in
     rw (three, ← e) refl
 
 -- a payload that the bits spell is read
@@ -282,9 +307,9 @@ text_read laws format p b s =
     let at = b.at + length s.front in
     let one : reading leading b ≡ Ok (s.opening, record { at = at; bits = s.middle ++ s.coded }) =
     ap (λ (t : List Bool). reading leading (record { at = b.at; bits = t })) s.parts
-        ∙ complete leading s.opening s.front (s.middle ++ s.coded) b.at leading_productive s.opened in
+    ∙ complete leading s.opening s.front (s.middle ++ s.coded) b.at leading_productive s.opened in
     let two = extra_again laws format s.opening.plen s.opening.pebit p.extra at s.middle s.coded s.extra in
     let coded : drop (8 * s.opening.plen) (s.middle ++ s.coded) ≡ true ∷ not p.begins ∷ s.begun.0 =
-        drop_at s.middle s.coded (8 * s.opening.plen) two.len ∙ s.begun.1 in
+    drop_at s.middle s.coded (8 * s.opening.plen) two.len ∙ s.begun.1 in
     let place : at + 8 * s.opening.plen ≡ p.from = omega (arith, s.from, two.len) in
     rw (one, two.read, coded, place) (begun_again p.extra p.begins p.from s.begun.0 s.begins)

@@ -34,7 +34,7 @@ unfolding leading opening
 p_row rr lt =
     fault_in_part (opening false) any _ (fields ((5, rr) ∷ (1, 0) ∷ [])) faults.FollowOn 5
     (fault_after_field 5 any _ rr (fields ((1, 0) ∷ [])) faults.FollowOn 0 lt refl
-        (fault_here 1 (may_follow false) _ 0 [] faults.FollowOn (omega arith) refl))
+    (fault_here 1 (may_follow false) _ 0 [] faults.FollowOn (omega arith) refl))
 
 abbrev after_extra : Opening → Bits → Result (Option Header) Fault → Result Payload Fault
 after_extra o b extra = extra >>= λ x. begun_at x (skip (8 * o.plen) b)
@@ -45,21 +45,25 @@ unfolding payload_at
 after_leading format b o at left l =
     let read : reading leading b ≡ Ok (o, from at left) =
     ap (λ (t : List Bool). reading leading (from b.at t)) l.parts
-        ∙ complete leading o l.front left b.at leading_productive l.text
-        ∙ ap (λ (n : ℕ). Ok (o, from n left)) (sym l.place) in
+    ∙ complete leading o l.front left b.at leading_productive l.text
+    ∙ ap (λ (n : ℕ). Ok (o, from n left)) (sym l.place) in
     rw read refl
 
 extra_cut : (format : Format) (plen pebit : ℕ) (b : Bits) → 0 < plen → length b.bits < 8 * plen
     → extra_at format plen pebit b ≡ Err (stands faults.Ended b.at)
 unfolding extra_at
-extra_cut format plen pebit b some lt = rw (ne_eqb plen 0 (λ e. omega (arith, e, some)),
-    lt-ltb (length b.bits) (8 * plen) lt) refl
+extra_cut format plen pebit b some lt = rw (
+  ne_eqb plen 0 (λ e. omega (arith, e, some)),
+  lt-ltb (length b.bits) (8 * plen) lt,
+) refl
 
 extra_is : (format : Format) (plen pebit : ℕ) (b : Bits) → 0 < plen → 8 * plen ≤ length b.bits
     → extra_at format plen pebit b ≡ filled (reading (header format) (first_bits (8 * plen - pebit) b))
 unfolding extra_at
-extra_is format plen pebit b some le = rw (ne_eqb plen 0 (λ e. omega (arith, e, some)),
-    le-ltb (length b.bits) (8 * plen) le) refl
+extra_is format plen pebit b some le = rw (
+  ne_eqb plen 0 (λ e. omega (arith, e, some)),
+  le-ltb (length b.bits) (8 * plen) le,
+) refl
 
 cut_row : (format : Format) (b : Bits) (o : Opening) (at : ℕ) (left : List Bool) → Leads b o at left → 0 < o.plen
     → length left < 8 * o.plen → payload_at format b ≡ Err (stands faults.Ended at)
@@ -74,14 +78,18 @@ less o extra left size = take_at extra left (8 * o.plen - o.pebit) (omega (arith
 header_row : (format : Format) (b : Bits) (o : Opening) (start : ℕ) (extra left : List Bool) (fault : Fault)
     → Leads b o start (extra ++ left) → 0 < o.plen
     → length extra + o.pebit ≡ 8 * o.plen → o.pebit ≤ length left → reading (header format) (from start extra)
-        ≡ Err fault → payload_at format b ≡ Err fault
+    ≡ Err fault → payload_at format b ≡ Err fault
 header_row format b o start extra left fault l some size there e =
     let c = from start (extra ++ left) in
     let read : reading (header format) (first_bits (8 * o.plen - o.pebit) c)
-        ≡ Err fault = ap (λ (t : List Bool). reading (header format) (from start t)) (less o extra left size) ∙ e in
+    ≡ Err fault = ap (λ (t : List Bool). reading (header format) (from start t)) (less o extra left size) ∙ e in
     after_leading format b o start (extra ++ left) l
-        ∙ ap (after_extra o c) (extra_is format o.plen o.pebit c some (omega (arith, length-append extra left, size,
-        there)) ∙ ap filled read)
+    ∙ ap (after_extra o c) (extra_is format o.plen o.pebit c some (omega (
+      arith,
+      length-append extra left,
+      size,
+      there,
+    )) ∙ ap filled read)
 
 over : (h : Header) (c : Bits) → 0 < length c.bits → filled (Ok (h, c)) ≡ Err (stands faults.ExtraHeader c.at)
 over h c some = rw (ne_eqb (length c.bits) 0 (λ e. omega (arith, e, some))) refl
@@ -90,20 +98,20 @@ left_over_row : HeaderLaws
     → (format : Format) (b : Bits) (o : Opening) (start : ℕ) (h : Header) (text more left : List Bool)
     → Leads b o start (text ++ (more ++ left)) → 0 < o.plen → IsHeaderText format h text
     → 0 < length more → length text + length more + o.pebit ≡ 8 * o.plen → o.pebit ≤ length left
-        → payload_at format b ≡ Err (stands faults.ExtraHeader (start + length text))
+    → payload_at format b ≡ Err (stands faults.ExtraHeader (start + length text))
 left_over_row laws format b o start h text more left l some t extra size there =
     let whole = text ++ (more ++ left) in
     let c = from start whole in
     let regroup : whole ≡ (text ++ more) ++ left = sym (append_assoc text more left) in
     let both : length (text ++ more) + o.pebit ≡ 8 * o.plen = omega (arith, length-append text more, size) in
     let len : length whole ≡ length (text ++ more) + length left = ap length regroup
-        ∙ length-append (text ++ more) left in
+    ∙ length-append (text ++ more) left in
     let read : reading (header format) (first_bits (8 * o.plen - o.pebit) c) ≡ Ok (h, from (start + length text) more) =
     ap (λ (x : List Bool). reading (header format) (from start x)) (ap (take (8 * o.plen - o.pebit)) regroup
-        ∙ less o (text ++ more) left both) ∙ complete (header format) h text more start (laws.productive format) t in
+    ∙ less o (text ++ more) left both) ∙ complete (header format) h text more start (laws.productive format) t in
     after_leading format b o start whole l
     ∙ ap (after_extra o c) (extra_is format o.plen o.pebit c some (omega (arith, len, both, there)) ∙ ap filled read
-        ∙ over h (from (start + length text) more) extra)
+    ∙ over h (from (start + length text) more) extra)
 
 -- the data's first two bits
 
@@ -153,9 +161,9 @@ in_data laws format b extra at coded kind r fault =
     let place : r.start + 8 * o.plen ≡ at = omega (arith, again.len, r.place) in
     let left : skip (8 * o.plen) c ≡ from at coded =
     ap (λ (k : ℕ). from k (drop (8 * o.plen) (r.middle ++ coded))) place
-        ∙ ap (λ (t : List Bool). from at t) (drop_at r.middle coded (8 * o.plen) again.len) in
+    ∙ ap (λ (t : List Bool). from at t) (drop_at r.middle coded (8 * o.plen) again.len) in
     after_leading format b o r.start (r.middle ++ coded) r.leads ∙ ap (after_extra o c) again.read
-        ∙ ap (begun_at extra) left ∙ fault
+    ∙ ap (begun_at extra) left ∙ fault
 
 from_row : HeaderLaws → (format : Format) (b : Bits) (kind : FaultKind) (at : ℕ) → IsPayloadFault format b kind at
     → payload_at format b ≡ Err (stands kind at)
@@ -164,7 +172,7 @@ from_row laws format b kind at (in_leading k p f) = leading_row format b (stands
 from_row laws format b kind at (cut_extra o p left l some lt) = cut_row format b o p left l some lt
 from_row laws format b kind at (in_extra o start extra left k p l some size there f) =
     header_row format b o start extra left (stands k p) l some size there
-        ((first_fault_is (header format) (from start extra) (stands k p) (laws.productive format)).1 f)
+    ((first_fault_is (header format) (from start extra) (stands k p) (laws.productive format)).1 f)
 from_row laws format b kind at (left_over o start h text more left l some t extra size there) =
     left_over_row laws format b o start h text more left l some t extra size there
 from_row laws format b kind at (cut_data extra p coded r lt) = in_data laws format b extra p coded faults.Ended r
@@ -221,7 +229,7 @@ at_header format b o start h text left l some size there t =
     let middle = text ++ pad in
     let len : length middle ≡ 8 * o.plen = omega (arith, length-append text pad, pads, size) in
     let parts : text ++ left ≡ middle ++ coded = ap (λ (x : List Bool). text ++ x) (sym (take-append-drop o.pebit left))
-        ∙ sym (append_assoc text pad coded) in
+    ∙ sym (append_assoc text pad coded) in
     at_data format b (Some h) (start + length middle) coded (record {
       opening = o;
       start = start;
@@ -237,8 +245,12 @@ at_extra : HeaderLaws → (format : Format) (b : Bits) (o : Opening) (start : �
 at_extra laws format b o start extra left l some size there = by (reading (header format) (from start extra)) refl
   where
     by : (r : Result (Header × Bits) Fault) → reading (header format) (from start extra) ≡ r → Stands format b
-    by (Err d) e = inl (d.kind, d.at, in_extra o start extra left d.kind d.at l some size there
-        ((first_fault_is (header format) (from start extra) d (laws.productive format)).0 e))
+    by (Err d) e = inl (
+      d.kind,
+      d.at,
+      in_extra o start extra left d.kind d.at l some size there
+          ((first_fault_is (header format) (from start extra) d (laws.productive format)).0 e),
+    )
     by (Ok x) e =
         let s = sound (header format) (from start extra) x.1 x.0 e in
         left_or (length x.1.bits == 0) refl s.0 s.2 s.1.parts
@@ -247,20 +259,24 @@ at_extra laws format b o start extra left l some size there = by (reading (heade
             → extra ≡ text ++ x.1.bits → Stands format b
         left_or true e text h parts =
             let whole : extra ≡ text = parts
-                ∙ ap (λ (t : List Bool). text ++ t) (empty x.1.bits (eqb-true (length x.1.bits) 0 e))
-                ∙ append-nil text in
+            ∙ ap (λ (t : List Bool). text ++ t) (empty x.1.bits (eqb-true (length x.1.bits) 0 e))
+            ∙ append-nil text in
             at_header format b o start x.0 text left (subst (λ (t : List Bool). Leads b o start (t ++ left)) whole l)
-                some (omega (arith, size, ap length whole)) there h
+            some (omega (arith, size, ap length whole)) there h
         left_or false e text h parts =
             let more = x.1.bits in
             let regroup : extra ++ left ≡ text ++ (more ++ left) = ap (λ (t : List Bool). t ++ left) parts
-                ∙ append_assoc text more left in
+            ∙ append_assoc text more left in
             inl (
               faults.ExtraHeader,
               start + length text,
               left_over o start x.0 text more left (subst (λ (t : List Bool). Leads b o start t) regroup l) some h
-                  (omega (arith, eqb-false (length more) 0 e)) (omega (arith, size, ap length parts,
-                  length-append text more)) there,
+                  (omega (arith, eqb-false (length more) 0 e)) (omega (
+                    arith,
+                    size,
+                    ap length parts,
+                    length-append text more,
+                  )) there,
             )
 
 at_opening : HeaderLaws → (format : Format) (b : Bits) (o : Opening) (start : ℕ) (left : List Bool)
@@ -268,8 +284,14 @@ at_opening : HeaderLaws → (format : Format) (b : Bits) (o : Opening) (start : 
 at_opening laws format b o start left l = by (o.plen == 0) refl
   where
     by : (t : Bool) → (o.plen == 0) ≡ t → Stands format b
-    by true e = at_data format b None start left (record { opening = o; start = start; middle = []; leads = l;
-        text = (eqb-true o.plen 0 e, refl); place = omega arith })
+    by true e = at_data format b None start left (record {
+      opening = o;
+      start = start;
+      middle = [];
+      leads = l;
+      text = (eqb-true o.plen 0 e, refl);
+      place = omega arith;
+    })
     by false e =
         let some : 0 < o.plen = omega (arith, eqb-false o.plen 0 e) in
         let pebit : o.pebit < 8 = (leading_is o l.front l.text).range.pebit in
@@ -278,9 +300,14 @@ at_opening laws format b o start left l = by (o.plen == 0) refl
           | inl lt ↦ inl (faults.Ended, start, cut_extra o start left l some lt)
           | inr fits ↦
               at_extra laws format b o start (take n left) (drop n left) (subst (λ (t : List Bool). Leads b o start t)
-                  (sym (take-append-drop n left)) l) some
-              (omega (arith, length-take n left, fits, pebit, some)) (omega (arith, length-drop n left, fits, pebit,
-                  some))
+              (sym (take-append-drop n left)) l) some
+              (omega (arith, length-take n left, fits, pebit, some)) (omega (
+                arith,
+                length-drop n left,
+                fits,
+                pebit,
+                some,
+              ))
         ]
 
 each_stands : HeaderLaws → (format : Format) (b : Bits) → Stands format b
@@ -290,18 +317,24 @@ each_stands laws format b = by (reading leading b) refl
     by (Err d) e = inl (d.kind, d.at, in_leading d.kind d.at ((first_fault_is leading b d leading_productive).0 e))
     by (Ok x) e =
         let s = sound leading b x.1 x.0 e in
-        at_opening laws format b x.0 x.1.at x.1.bits (record { front = s.0; text = s.2; parts = s.1.parts;
-            place = s.1.at })
+        at_opening laws format b x.0 x.1.at x.1.bits (record {
+          front = s.0;
+          text = s.2;
+          parts = s.1.parts;
+          place = s.1.at;
+        })
 
 to_row : HeaderLaws → (format : Format) (b : Bits) (fault : Fault) → Stands format b → payload_at format b ≡ Err fault
     → IsPayloadFault format b fault.kind fault.at
 to_row laws format b fault (inl r) e =
     let same : stands r.0 r.1 ≡ fault = err_is {A = Payload} (stands r.0 r.1) fault
-        (sym (from_row laws format b r.0 r.1 r.2) ∙ e) in
+    (sym (from_row laws format b r.0 r.1 r.2) ∙ e) in
     subst (λ (d : Fault). IsPayloadFault format b d.kind d.at) same r.2
 to_row laws format b fault (inr r) e = absurd (err_not_ok fault r.0 (sym e ∙ text_read laws format r.0 b r.1))
 
 pub first_faults : HeaderLaws → (format : Format) (b : Bits) (fault : Fault) → (payload_at format b ≡ Err fault)
     ↔ IsPayloadFault format b fault.kind fault.at
-first_faults laws format b fault = (λ e. to_row laws format b fault (each_stands laws format b) e,
-    λ r. from_row laws format b fault.kind fault.at r)
+first_faults laws format b fault = (
+  λ e. to_row laws format b fault (each_stands laws format b) e,
+  λ r. from_row laws format b fault.kind fault.at r,
+)

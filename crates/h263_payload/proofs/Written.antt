@@ -27,10 +27,10 @@ leading_spelt plen pebit p q =
     let text = fields (opening_fields plen pebit) in
     let fixed : Spells (opening false) o text =
     spells_field 5 any _ o 0 _ (omega arith) refl (spells_field 1 _ _ o 1 _ (omega arith) refl
-        (spells_field 1 any _ o 0 _ (omega arith) refl
+    (spells_field 1 any _ o 0 _ (omega arith) refl
     (spells_field 6 any _ o plen _ p refl (spells_field 3 any _ o pebit _ q refl (spells_done o))))) in
     spells_whole leading o _ _ (append-nil text) (spells_part (opening false) any _ o o text [] fixed refl
-        (spells_done o))
+    (spells_done o))
 
 -- in front of a picture
 pub picture_again : HeaderLaws → (format : Format) (at : ℕ) (rest : List Bool)
@@ -62,7 +62,7 @@ slice_again laws h at rest ok =
     let padding = spelled (padding_of h) 0 in
     let middle = written_header h ++ padding in
     let len : length middle ≡ length (written_header h) + padding_of h = length-append (written_header h) padding
-        ∙ ap (λ (n : ℕ). length (written_header h) + n) (length-spelled (padding_of h) 0) in
+    ∙ ap (λ (n : ℕ). length (written_header h) + n) (length-spelled (padding_of h) 0) in
     text_read laws h.format _ _ (record {
       opening = opening_of (bytes_of h) (padding_of h);
       front = front;
@@ -70,8 +70,15 @@ slice_again laws h at rest ok =
       coded = true ∷ true ∷ rest;
       parts = append_assoc front middle (true ∷ true ∷ rest);
       opened = leading_spelt (bytes_of h) (padding_of h) (few_bytes laws h ok) (omega arith);
-      extra = (written_header h, padding, refl, omega (arith, laws.length h), omega (arith, len, laws.length h),
-          length-spelled (padding_of h) 0, laws.spelt h ok);
+      extra = (
+        written_header h,
+        padding,
+        refl,
+        omega (arith, laws.length h),
+        omega (arith, len, laws.length h),
+        length-spelled (padding_of h) 0,
+        laws.spelt h ok,
+      );
       begun = (rest, refl);
       begins = refl;
       from = ap (λ (n : ℕ). at + n) (length-append front middle);
@@ -83,6 +90,12 @@ length-written_payload laws (Some h) =
     let front = fields (opening_fields (bytes_of h) (padding_of h)) in
     let padding = spelled (padding_of h) 0 in
     let whole : 8 * bytes_of h ≡ written_bits h + padding_of h = omega arith in
-    omega (arith, length-append front (written_header h ++ padding), length-append (written_header h) padding,
-        length-spelled (padding_of h) 0, laws.length h, length-fields (opening_fields (bytes_of h) (padding_of h)),
-        whole)
+    omega (
+      arith,
+      length-append front (written_header h ++ padding),
+      length-append (written_header h) padding,
+      length-spelled (padding_of h) 0,
+      laws.length h,
+      length-fields (opening_fields (bytes_of h) (padding_of h)),
+      whole,
+    )

@@ -34,7 +34,7 @@ length_with : (f : Format) (sample : Samples) (plane : Plane) → length (plane_
     ≡ width_in f plane * height_in f plane
 length_with f sample plane =
     length-map-range_with_len (λ (k : ℕ). sample plane (k % width_in f plane) (k / width_in f plane)) 0
-        (width_in f plane * height_in f plane)
+    (width_in f plane * height_in f plane)
 
 -- it is whole
 pub whole_with : (f : Format) (sample : Samples) → IsWhole (picture_with f sample)
@@ -72,7 +72,7 @@ row_with g w h x y hx hy =
     let column : (w * y + x) % w ≡ x = ap (λ (k : ℕ). k % w) turned ∙ mod-mul-add y w x (omega arith) in
     let row : (w * y + x) / w ≡ y = ap (λ (k : ℕ). k / w) turned ∙ div-mul-add y w x (omega arith) in
     get_or-map-range_with_len (λ (k : ℕ). g (k % w) (k / w)) 0 (w * h) (w * y + x) (w * y + x) 0 (omega arith)
-        (omega arith)
+    (omega arith)
     ∙ ap (λ (k : ℕ). g k ((w * y + x) / w)) column ∙ ap (λ (k : ℕ). g x k) row
 
 -- its samples are those
@@ -86,8 +86,8 @@ sample_with f sample plane x y h =
 -- a whole picture with these samples is that one
 pub only_with : (p : Picture) (sample : Samples) → IsWhole p →
     ((plane : Plane) (x y : ℕ) → Inside p.format plane x y 1 → sample_at p plane x y ≡ sample plane x y)
-        → p ≡ picture_with p.format sample
+    → p ≡ picture_with p.format sample
 only_with p sample whole same =
     same_pictures p (picture_with p.format sample) whole (whole_with p.format sample)
-        (sym (format_with p.format sample))
+    (sym (format_with p.format sample))
     (record { samples = λ plane x y h. same plane x y h ∙ sym (sample_with p.format sample plane x y h) })

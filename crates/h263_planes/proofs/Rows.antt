@@ -18,7 +18,7 @@ pub stored : (n at : ℕ) (row bytes : List ℕ) → length row ≡ n → at + n
     put_chunk at bytes (chunk 0 n row) ≡ sets bytes at row
 stored n at row bytes long room whole =
     ap (λ (l : List ℕ). put_chunk at bytes l) whole ∙ put_chunk_is at bytes row (omega arith)
-        ∙ put_mid_sets at row bytes (omega arith)
+    ∙ put_mid_sets at row bytes (omega arith)
 
 pub rows_long : (width n stride : ℕ) (samples : List ℕ) (at k : ℕ) (bytes : List ℕ)
     → length (sets_rows width n stride samples at k bytes) ≡ length bytes
@@ -35,12 +35,12 @@ no_rows width n stride samples at bytes = refl
 pub one_more : (width n stride : ℕ) (samples : List ℕ) (at k : ℕ) (bytes before now : List ℕ)
     → before ≡ sets_rows width n stride samples at k bytes →
     now ≡ sets before (at + width * k) (slice_range samples (stride * k) (stride * k + n))
-        → now ≡ sets_rows width n stride samples at (k + 1) bytes
+    → now ≡ sets_rows width n stride samples at (k + 1) bytes
 unfolding sets_rows
 one_more width n stride samples at k bytes before now stood put =
     let next : suc k ≡ k + 1 = omega arith in
     put ∙ ap (λ (l : List ℕ). sets l (at + width * k) (slice_range samples (stride * k) (stride * k + n))) stood
-        ∙ ap (λ (m : ℕ). sets_rows width n stride samples at m bytes) next
+    ∙ ap (λ (m : ℕ). sets_rows width n stride samples at m bytes) next
 
 -- the same by the places to which and from which the row goes
 pub one_more_at : (width n stride : ℕ) (samples : List ℕ) (at k to from : ℕ) (bytes before now : List ℕ)
@@ -50,7 +50,7 @@ pub one_more_at : (width n stride : ℕ) (samples : List ℕ) (at k to from : �
 one_more_at width n stride samples at k to from bytes before now et ef stood put =
     one_more width n stride samples at k bytes before now stood
     (put ∙ ap (λ (m : ℕ). sets before m (slice_range samples from (from + n))) et
-        ∙ ap (λ (m : ℕ). sets before (at + width * k) (slice_range samples m (m + n))) ef)
+    ∙ ap (λ (m : ℕ). sets before (at + width * k) (slice_range samples m (m + n))) ef)
 
 row_long : (samples : List ℕ) (n a : ℕ) → a + n ≤ length samples → length (slice_range samples a (a + n)) ≡ n
 row_long samples n a h = simp (length-take, length-drop) (omega arith)
@@ -103,7 +103,7 @@ pub square_samples : (f : Format) (plane other : Plane) (samples : List ℕ) (n 
     (count : ℕ) → (count ≤ n) → stride * (n - 1) + n ≤ length samples → y + (n - 1) < height_in f plane →
     sample_at (picture_of f (sets_rows (width_in f plane) n stride samples at count bytes)) other i j
     ≡ cond (in_block plane x y n count other i j) (get_or samples (stride * (j - y) + (i - x)) 0)
-        (sample_at (picture_of f bytes) other i j)
+    (sample_at (picture_of f bytes) other i j)
 unfolding sets_rows
 square_samples f plane other samples n stride x y at i j bytes whole place across column zero some all down =
     none_yet (same_plane plane other) x y n i j _ _
@@ -116,12 +116,12 @@ square_samples f plane other samples n stride x y at i j bytes whole place acros
     let wide : x + length run ≤ width_in f plane = omega arith in
     let below : y + k < height_in f plane = omega arith in
     let put = put_row f plane run before (at + width_in f plane * k) x (y + k)
-        (place_of_row (offset_of f plane) (width_in f plane) x y k at place) wide below in
+    (place_of_row (offset_of f plane) (width_in f plane) x y k at place) wide below in
     let now = run_samples f before _ plane other run x (y + k) i j
-        (rows_long (width_in f plane) n stride samples at k bytes ∙ whole) wide below column put in
+    (rows_long (width_in f plane) n stride samples at k bytes ∙ whole) wide below column put in
     let now_n = subst (λ (m : ℕ). sample_at (picture_of f (sets before (at + width_in f plane * k) run)) other i j
-        ≡ cond (in_run plane x (y + k) m other i j) (get_or run (i - x) 0) (sample_at (picture_of f before) other i j))
-        long now in
+    ≡ cond (in_run plane x (y + k) m other i j) (get_or run (i - x) 0) (sample_at (picture_of f before) other i j))
+    long now in
     more_rows (same_plane plane other) x y n k i j _ _ _ _ _ now_n
     (square_samples f plane other samples n stride x y at i j bytes whole place across column k (omega arith) all down)
     (λ here from to. in_row samples n stride x y k i j here from to)

@@ -44,17 +44,17 @@ placed f plane s x y less is =
 spot_is : (f : Format) (plane : Plane) (x y : ℕ) → Inside f plane x y 1 → spot f (number_at f plane x y) ≡ at plane x y
 spot_is f Y x y i =
     let room : width_of f * y + x + 1 ≤ width_of f * height_of f = run_inside (width_of f) (height_of f) x y 1 i.in_row
-        i.in_plane in
+    i.in_plane in
     at_y f (number_at f Y x y) (omega arith) ∙ placed f Y (number_at f Y x y) x y i.in_row (omega arith)
 spot_is f Cb x y i =
     let room : width_of f / 2 * y + x + 1 ≤ width_of f / 2 * (height_of f / 2) = run_inside (width_of f / 2)
-        (height_of f / 2) x y 1 i.in_row i.in_plane in
+    (height_of f / 2) x y 1 i.in_row i.in_plane in
     let e = chroma_fits f in
     at_cb f (number_at f Cb x y) (omega arith) (omega arith)
-        ∙ placed f Cb (number_at f Cb x y - offset_of f Cb) x y i.in_row (omega arith)
+    ∙ placed f Cb (number_at f Cb x y - offset_of f Cb) x y i.in_row (omega arith)
 spot_is f Cr x y i =
     at_cr f (number_at f Cr x y) (omega arith) (omega arith)
-        ∙ placed f Cr (number_at f Cr x y - offset_of f Cr) x y i.in_row (omega arith)
+    ∙ placed f Cr (number_at f Cr x y - offset_of f Cr) x y i.in_row (omega arith)
 
 -- each sample has its number
 some_y : (f : Format) → 0 < width_of f
@@ -83,8 +83,10 @@ here_is f s =
     elim (cases_lt s (offset_of f Cb)) [
       | inl lt ↦ subst (Here f s) (sym (at_y f s lt)) (
         let e = whole (width_of f) s (some_y f) in omega arith,
-        λ _. record { in_row = let m : s % width_of f < width_of f = mod-lt s (some_y f) in omega arith;
-            in_plane = (div-lt_iff_lt-mul {k = width_of f} {x = s} {y = height_of f} (some_y f)).1 (omega arith) },
+        λ _. record {
+          in_row = let m : s % width_of f < width_of f = mod-lt s (some_y f) in omega arith;
+          in_plane = (div-lt_iff_lt-mul {k = width_of f} {x = s} {y = height_of f} (some_y f)).1 (omega arith);
+        },
       )
       | inr low ↦ elim (cases_lt s (offset_of f Cr)) [
         | inl lt ↦ subst (Here f s) (sym (at_cb f s low lt)) (
@@ -92,18 +94,22 @@ here_is f s =
             let e = whole (width_of f / 2) (s - offset_of f Cb) (some_c f) in
             let fits = chroma_fits f in (
               omega arith,
-              λ _. record { in_row = let m : (s - offset_of f Cb) % (width_of f / 2) < width_of f / 2 =
-                  mod-lt (s - offset_of f Cb) (some_c f) in omega arith;
-                  in_plane = (div-lt_iff_lt-mul {k = width_of f / 2} {x = s - offset_of f Cb} {y = height_of f / 2}
-                  (some_c f)).1 (omega arith) },
+              λ _. record {
+                in_row = let m : (s - offset_of f Cb) % (width_of f / 2) < width_of f / 2 =
+                    mod-lt (s - offset_of f Cb) (some_c f) in omega arith;
+                in_plane = (div-lt_iff_lt-mul {k = width_of f / 2} {x = s - offset_of f Cb} {y = height_of f / 2}
+                    (some_c f)).1 (omega arith);
+              },
             ))
         | inr low' ↦ subst (Here f s) (sym (at_cr f s low low')) (
             let e = whole (width_of f / 2) (s - offset_of f Cr) (some_c f) in (
               omega arith,
-              λ mb. record { in_row = let m : (s - offset_of f Cr) % (width_of f / 2) < width_of f / 2 =
-                  mod-lt (s - offset_of f Cr) (some_c f) in omega arith;
-                  in_plane = rows_left f ((s - offset_of f Cr) % (width_of f / 2))
-                  ((s - offset_of f Cr) / (width_of f / 2)) mb },
+              λ mb. record {
+                in_row = let m : (s - offset_of f Cr) % (width_of f / 2) < width_of f / 2 =
+                    mod-lt (s - offset_of f Cr) (some_c f) in omega arith;
+                in_plane = rows_left f ((s - offset_of f Cr) % (width_of f / 2))
+                    ((s - offset_of f Cr) / (width_of f / 2)) mb;
+              },
             ))
       ]
     ]
@@ -134,12 +140,12 @@ is_made : (f : Format) (p : Picture) (g : ℕ → ℕ) → p.format ≡ f → Is
     → sample_of p (spot f s) ≡ g s) → p ≡ picture_by f g
 is_made f p g format whole same =
     subst (λ (k : Format). ((plane : Plane) (x y : ℕ) → Inside k plane x y 1
-        → sample_at p plane x y ≡ g (number_at f plane x y))
-        → p ≡ picture_with k (λ plane x y. g (number_at f plane x y))) format
+    → sample_at p plane x y ≡ g (number_at f plane x y))
+    → p ≡ picture_with k (λ plane x y. g (number_at f plane x y))) format
     (only_with p (λ plane x y. g (number_at f plane x y)) whole)
     (λ plane x y i. ap (λ (t : Spot). sample_of p t) (sym (spot_is f plane x y i))
-        ∙ same (number_at f plane x y) (subst (λ (k : ℕ). k < mbs_of f) (sym (owner_is f plane x y i))
-        (in_picture f plane x y i)))
+    ∙ same (number_at f plane x y) (subst (λ (k : ℕ). k < mbs_of f) (sym (owner_is f plane x y i))
+    (in_picture f plane x y i)))
 
 sample_made : (f : Format) (g : ℕ → ℕ) (s : ℕ) → owner_of f s < mbs_of f → sample_of (picture_by f g) (spot f s) ≡ g s
 sample_made f g s lt = sample_with f (λ plane x y. g (number_at f plane x y)) (spot f s).plane (spot f s).x (spot f s).y
@@ -151,8 +157,13 @@ same_made f g h same = is_made f (picture_by f g) h (format_with f _) (whole_wit
     ∙ same s lt)
 
 pub spots : AreSpots
-spots = record { spot_is = spot_is; number_is = number_is; inside = inside_is; in_picture = in_picture;
-    owner_is = owner_is }
+spots = record {
+  spot_is = spot_is;
+  number_is = number_is;
+  inside = inside_is;
+  in_picture = in_picture;
+  owner_is = owner_is;
+}
 
 pub by_samples : ArePicturesBySamples
 by_samples = record { only = is_made; sample = sample_made; same = same_made }

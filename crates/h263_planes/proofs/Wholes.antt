@@ -36,7 +36,7 @@ same_rows w h a b some ea eb same =
     let row : k / w < h = (div-lt_iff_lt-mul {k = w} {x = k} {y = h} some).1 short in
     let e : w * (k / w) + k % w ≡ k = omega arith in
     let here : get_or a (w * (k / w) + k % w) 0 ≡ get_or b (w * (k / w) + k % w) 0 =
-        same (k % w) (k / w) (omega arith) row in
+    same (k % w) (k / w) (omega arith) row in
     subst (λ (i : ℕ). get_or a i 0 ≡ get_or b i 0) e here)
 
 same_plane_lists : (p q : Picture) (plane : Plane) → IsWhole p → IsWhole q → p.format ≡ q.format → HasSameSamples p q
@@ -45,24 +45,30 @@ same_plane_lists p q plane hp hq e same =
     let w : ℕ = width_in p.format plane in
     let h : ℕ = height_in p.format plane in
     let eq : length (plane_of q plane) ≡ w * h = subst (λ (f : Format). length (plane_of q plane)
-        ≡ width_in f plane * height_in f plane) (sym e) (hq.lengths plane) in
+    ≡ width_in f plane * height_in f plane) (sym e) (hq.lengths plane) in
     same_rows w h (plane_of p plane) (plane_of q plane) (some_columns p.format plane) (hp.lengths plane) eq
     (λ x y hx hy.
-    let there : sample_at p plane x y ≡ sample_at q plane x y = same.samples plane x y (record { in_row = hx;
-        in_plane = hy }) in
+    let there : sample_at p plane x y ≡ sample_at q plane x y = same.samples plane x y (record {
+      in_row = hx;
+      in_plane = hy;
+    }) in
     there ∙ ap (λ (f : Format). get_or (plane_of q plane) (width_in f plane * y + x) 0) (sym e))
 
 -- pictures with the same format and planes are the same
 same_parts : (f f' : Format) (y y' b b' r r' : List ℕ) → f ≡ f' → y ≡ y' → b ≡ b' → r ≡ r' →
-    let p : Picture = record { format = f; y = y; cb = b; cr = r } in let q : Picture = record { format = f'; y = y';
-        cb = b'; cr = r' } in p ≡ q
+    let p : Picture = record { format = f; y = y; cb = b; cr = r } in let q : Picture = record {
+      format = f';
+      y = y';
+      cb = b';
+      cr = r';
+    } in p ≡ q
 same_parts f f' y y' b b' r r' hf hy hb hr = cc
 
 -- whole pictures of one format with the same samples are the same
 pub same_pictures : (p q : Picture) → IsWhole p → IsWhole q → p.format ≡ q.format → HasSameSamples p q → p ≡ q
 same_pictures p q hp hq e same =
     same_parts p.format q.format p.y q.y p.cb q.cb p.cr q.cr e (same_plane_lists p q Y hp hq e same)
-        (same_plane_lists p q Cb hp hq e same) (same_plane_lists p q Cr hp hq e same)
+    (same_plane_lists p q Cb hp hq e same) (same_plane_lists p q Cr hp hq e same)
 
 -- ---- bytes
 
@@ -93,8 +99,10 @@ samples_of_planes f bytes Cr = range_of_samples (offset_of f Cr) (offset_of f Cr
 
 pub is_picture : (f : Format) (bytes : List ℕ) → length bytes ≡ size_of_picture f → AreSamples bytes
     → IsPicture (picture_of f bytes)
-is_picture f bytes long fit = record { whole = whole_picture f bytes long;
-    samples = λ plane. samples_of_planes f bytes plane fit }
+is_picture f bytes long fit = record {
+  whole = whole_picture f bytes long;
+  samples = λ plane. samples_of_planes f bytes plane fit;
+}
 
 -- a prefix in two parts
 front_of : (xs : List ℕ) (m n : ℕ) → m ≤ n → take m xs ++ take (n - m) (drop m xs) ≡ take n xs
@@ -109,7 +117,7 @@ parts_of xs m n e hm hn whole =
     let start : m - 0 ≡ m = omega arith in
     ap (λ (k : ℕ). take k xs ++ take (n - m) (drop m xs) ++ take (e - n) (drop n xs)) start
     ∙ ap (λ (l : List ℕ). l ++ take (e - n) (drop n xs)) front ∙ ap (λ (l : List ℕ). take n xs ++ l) rest
-        ∙ take-append-drop n xs
+    ∙ take-append-drop n xs
 
 -- the bytes of the picture that bytes give are these bytes
 pub bytes_of_picture : (f : Format) (bytes : List ℕ) → length bytes ≡ size_of_picture f → bytes_of (picture_of f bytes)
@@ -117,14 +125,14 @@ pub bytes_of_picture : (f : Format) (bytes : List ℕ) → length bytes ≡ size
 bytes_of_picture f bytes h =
     let e = chroma_fits f in
     parts_of bytes (offset_of f Cb) (offset_of f Cr) (offset_of f Cr + width_of f * height_of f / 4) (omega arith)
-        (omega arith) (omega arith)
+    (omega arith) (omega arith)
 
 -- the part between two others
 part_is : (a b c : List ℕ) (i j : ℕ) → i ≡ length a → j ≡ length a + length b → slice_range (a ++ b ++ c) i j ≡ b
 part_is a b c i j ei ej =
     let n : j - i ≡ length b = omega arith in
     let rest : drop i (a ++ b ++ c) ≡ b ++ c = ap (λ (k : ℕ). drop k (a ++ b ++ c)) ei
-        ∙ ap (drop (length a)) (append_assoc a b c) ∙ drop-append_seam a (b ++ c) in
+    ∙ ap (drop (length a)) (append_assoc a b c) ∙ drop-append_seam a (b ++ c) in
     ap (λ (k : ℕ). take k (drop i (a ++ b ++ c))) n ∙ ap (take (length b)) rest ∙ take-append_seam b c
 
 pub size_of_bytes : (p : Picture) → IsWhole p → length (bytes_of p) ≡ size_of_picture p.format
@@ -143,9 +151,9 @@ picture_of_bytes p h =
     let lr : length p.cr ≡ width_of p.format / 2 * (height_of p.format / 2) = h.lengths Cr in
     same_planes p.format _ _ _ _ _ _
     (ap (λ (l : List ℕ). slice_range l 0 (offset_of p.format Cb)) (append_assoc p.y p.cb p.cr)
-        ∙ part_is [] p.y (p.cb ++ p.cr) 0 (offset_of p.format Cb) (omega arith) (omega arith))
+    ∙ part_is [] p.y (p.cb ++ p.cr) 0 (offset_of p.format Cb) (omega arith) (omega arith))
     (part_is p.y p.cb p.cr (offset_of p.format Cb) (offset_of p.format Cr) (omega arith) (omega arith))
     (ap (λ (l : List ℕ). slice_range l (offset_of p.format Cr)
-        (offset_of p.format Cr + width_of p.format * height_of p.format / 4)) (sym (append-nil (p.y ++ p.cb ++ p.cr)))
+    (offset_of p.format Cr + width_of p.format * height_of p.format / 4)) (sym (append-nil (p.y ++ p.cb ++ p.cr)))
     ∙ part_is (p.y ++ p.cb) p.cr [] (offset_of p.format Cr) _ (omega (arith, length-append p.y p.cb))
-        (omega (arith, length-append p.y p.cb)))
+    (omega (arith, length-append p.y p.cb)))

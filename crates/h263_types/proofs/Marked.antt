@@ -67,7 +67,7 @@ is_mark marks k less set =
     let gone = bit_at_clear_same w64 marks k less in
     let most : without marks k ≤ marks = and_le_l marks (bit_not w64 (1 * 2 ^ k % 2 ^ 64)) in
     let other : without marks k ≢ marks = λ e. one_less (bit_at marks k) set (ap (λ (n : ℕ). bit_at n k) (sym e)
-        ∙ gone) in
+    ∙ gone) in
     record { below = less; set = set; gone = gone; others = bit_at_clear_other w64 marks k less; fewer = omega arith }
 
 pub has_lowest : HasLowest

@@ -31,4 +31,4 @@ pub whole : ((format : Format) (bytes : List ℕ) (s : Slice) → packet_at form
 whole read formats found format bytes s e =
     let start = read format bytes s e in
     (found bytes s.header).1 (subst (λ (f : Format). start_at f bytes ≡ Ok s.header)
-        (sym (formats format bytes s.header start)) start)
+    (sym (formats format bytes s.header start)) start)

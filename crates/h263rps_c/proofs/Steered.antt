@@ -28,7 +28,7 @@ forget_is_intra law p first frame past = law p (pace_in_force p first past) fram
 below_floor : (p : Params) (first : Option ℕ) (later past : List Steering) →
     let run = run_after p first (later ++ Forget ∷ past) in
     (length (run_after p first past).run.coded ≤ run.since)
-        × (length (run_after p first past).run.coded ≤ length run.run.coded)
+    × (length (run_after p first past).run.coded ≤ length run.run.coded)
 below_floor p first [] past = (omega arith, omega arith)
 below_floor p first (Capture frame ∷ later) past =
     let before = below_floor p first later past in
@@ -64,8 +64,10 @@ abbrev with_known : Params → ℕ → Frame → List (SenderEntry Frame) → Li
 with_known p first frame entries known =
     let run = senders.run_of p (pace_of first p) entries in
     record {
-      run = record run { coded = run.coded ++ call.next_coded (pictures p.format) (encoding p) (rules_of p)
-          (pace_of first p) frame run.coded known ∷ [] };
+      run = record run {
+        coded = run.coded ++ call.next_coded (pictures p.format) (encoding p) (rules_of p)
+            (pace_of first p) frame run.coded known ∷ [];
+      };
       since = 0;
     }
 
@@ -74,9 +76,9 @@ plain_is_run nothing p first [] = refl
 plain_is_run nothing p first (call.Capture frame ∷ entries) =
     let run = senders.run_of p (pace_of first p) entries in
     ap (λ (t : Option ℕ). senders.after_code p (quant_after_sizes t (first_after p.quant (map plain entries))) frame
-        (run_after p (target_in first) (map plain entries))) (same_target (target_in first) entries)
+    (run_after p (target_in first) (map plain entries))) (same_target (target_in first) entries)
     ∙ ap (λ (q : ℕ). senders.after_code p (quant_after_sizes (target_in first) q) frame
-        (run_after p (target_in first) (map plain entries))) (same_quant p.quant entries)
+    (run_after p (target_in first) (map plain entries))) (same_quant p.quant entries)
     ∙ ap (senders.after_code p (pace_of first p) frame) (plain_is_run nothing p first entries)
     ∙ ap (λ (known : List ℕ). with_known p first frame entries known) (nothing run.known)
 plain_is_run nothing p first (call.Feedback bytes ∷ entries) = ap (senders.after_message p bytes)

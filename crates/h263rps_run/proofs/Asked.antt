@@ -27,16 +27,16 @@ use Rattle.h263rps_run.proofs.Promised.{performed, some_since, nothing_done, rep
 -- there is no second video
 pub one_video : (c : Command)
     → ((inputs : Role → List ℕ) (fault : Y4mFault) → (run_of c inputs).last.status ≡ VideoRefused fault
-        → video_fault (inputs Video) ≡ Some fault)
+    → video_fault (inputs Video) ≡ Some fault)
     → ((inputs : Role → List ℕ) (fault : Y4mFault) → (run_of c inputs).last.status ≡ Video2Refused fault → ⊥)
-        → IsRefusedRightly c
+    → IsRefusedRightly c
 one_video c first none = record { first = first; second = λ inputs fault ends. absurd (none inputs fault ends) }
 
 -- there is no video
 pub no_video : (c : Command)
     → ((inputs : Role → List ℕ) (fault : Y4mFault) → (run_of c inputs).last.status ≡ VideoRefused fault → ⊥)
     → ((inputs : Role → List ℕ) (fault : Y4mFault) → (run_of c inputs).last.status ≡ Video2Refused fault → ⊥)
-        → IsRefusedRightly c
+    → IsRefusedRightly c
 no_video c none none2 = record {
   first = λ inputs fault ends. absurd (none inputs fault ends);
   second = λ inputs fault ends. absurd (none2 inputs fault ends);
@@ -50,7 +50,7 @@ call_source p false = refl
 -- its run is that of the words
 as_run : (a : Asked) (c : Command) → a.command ≡ c → IsRefusedRightly c → (result : Status) (old new : Outside)
     → IsRunOf (run_of c) ((Report, []) ∷ roles_of c a) (source_of c) result old new → IsNotUsage result
-        → IsRun (Some a) result old new
+    → IsRun (Some a) result old new
 as_run a c e rightly result old new run words = record {
   run = subst (λ (k : Command). IsRunOf (run_of k) ((Report, []) ∷ roles_of k a) (source_of k) result old new)
       (sym e) run;
@@ -154,19 +154,22 @@ unopened_run o old new none kept same rose = record {
 pub report_failed : (o : Option Asked) (old new : Outside) (status : Status) → NoneAttached new.attached
     → new.left ≡ old.left → new.written ≡ old.written
     → HasCause status old.faults new.faults → (status ≡ OpenFault Report) ⊎ (status ≡ OutOfMemory)
-        → IsRun o status old new
+    → IsRun o status old new
 report_failed o old new status none kept same cause (inl is) =
     subst (λ (s : Status). IsRun o s old new) (sym is)
     (unopened_run o old new none kept same (subst (λ (s : Status). HasCause s old.faults new.faults) is cause))
 report_failed o old new status none kept same cause (inr is) =
     subst (λ (s : Status). IsRun o s old new) (sym is)
-        (starved_run o old new none same (subst (λ (s : Status). HasCause s old.faults new.faults) is cause))
+    (starved_run o old new none same (subst (λ (s : Status). HasCause s old.faults new.faults) is cause))
 
 -- the report alone is attached
 pub report_alone : (old mid : Outside) → NoneAttached old.attached → mid.attached ≡ with_role old.attached Report true
     → IfSome (mid.name Report) (λ told. told ≡ []) → AreAttached ((Report, []) ∷ []) mid
-report_alone old mid none attached named = record { roles = λ r. ap (λ (f : Role → Bool). f r) attached
-    ∙ at r (is_role Report r); names = (named, tt) }
+report_alone old mid none attached named = record {
+  roles = λ r. ap (λ (f : Role → Bool). f r) attached
+      ∙ at r (is_role Report r);
+  names = (named, tt);
+}
   where
     at : (r : Role) (t : Bool) → (if t then true else old.attached r) ≡ (t || false)
     at r true = refl
@@ -194,7 +197,7 @@ run_since o old mid new result attaches quiet run = record {
 -- the words were no command, or there was no memory for them
 pub stopped_run : (words : List Text) (stop : WordStop) (mid new : Outside) → (stop ≡ stops.Usage → asked words ≡ None)
     → AreAttached ((Report, []) ∷ []) mid → OnlyWrites mid new → (result : Status)
-        → Finishes (word_stop stop) result mid new → IsRun (command_of words) result mid new
+    → Finishes (word_stop stop) result mid new → IsRun (command_of words) result mid new
 stopped_run words stops.OutOfMemory mid new none are rest result told =
     unread_run (command_of words) mid new are rest result told
 stopped_run words stops.Usage mid new none are rest result told =
@@ -214,9 +217,9 @@ module _ (words : List Text) (a : Asked) (asks : asked words ≡ Some a) (old mi
     (c : Command) (is : a.command ≡ c) (result : Status) (new : Outside)
     (status : (inputs : Role → List ℕ) → Tells mid inputs → HasStatus (run_of c inputs) result mid.faults new.faults)
     (texts : (inputs : Role → List ℕ) → Tells mid inputs → IsSettled result
-        → HasTexts (run_of c inputs) end_text result mid.written new.written)
+    → HasTexts (run_of c inputs) end_text result mid.written new.written)
     (prefixes : (inputs : Role → List ℕ) → Tells mid inputs → IsStopped result
-        → HasPrefixes (run_of c inputs) end_text result mid.written new.written)
+    → HasPrefixes (run_of c inputs) end_text result mid.written new.written)
     (not_usage : IsNotUsage result)
     (unopened : IsUnopened result → ReadsNothing result mid new)
     (flushed : IsFlushed result new)
@@ -224,13 +227,13 @@ module _ (words : List Text) (a : Asked) (asks : asked words ≡ Some a) (old mi
     (attached : AttachedAt ((Report, []) ∷ roles) result new)
     (whole_input : (inputs : Role → List ℕ) → Tells mid inputs → IsReadOut result (source_of c) new)
     (taken_input : (inputs : Role → List ℕ) → Tells mid inputs
-        → TakesInput result (run_of c inputs) end_text inputs mid.written new) where
+    → TakesInput result (run_of c inputs) end_text inputs mid.written new) where
   pub performed_run : IsRun (command_of words) result old new
   performed_run =
       asked_run words a old mid new result attaches quiet asks
       (as_run a c is (rightly c) result mid new
       (subst (λ (l : List (Role × Text)). IsRunOf (run_of c) ((Report, []) ∷ l) (source_of c) result mid new) (own
-          ∙ ap (λ (k : Command). roles_of k a) is)
+      ∙ ap (λ (k : Command). roles_of k a) is)
       (performed (run_of c) roles (source_of c) mid new result status texts prefixes not_usage unopened flushed causes
-          attached whole_input taken_input))
+      attached whole_input taken_input))
       not_usage)

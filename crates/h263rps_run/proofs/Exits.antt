@@ -26,7 +26,7 @@ pub exit_by : {X Y D : Type 0} (outside : D → Outside) (before after : D) (wor
     → IfOk words (λ x. IsExit (command_of (texts_of x)) code (outside before) (outside after))
     → OnErr words (code ≡ code_of OutOfMemory) → OnErr words (after ≡ before)
     → IfOk words (λ x. texts_of x ≡ these) → command_of these ≡ asked
-        → IsExit asked code (outside before) (outside after)
+    → IsExit asked code (outside before) (outside after)
 exit_by outside before after (Ok x) texts_of these asked code none run starved same are is =
     subst (λ (o : Option Asked). IsExit o code (outside before) (outside after)) (ap command_of are ∙ is) run
 exit_by outside before after (Err e) texts_of these asked code none run starved same are is =

@@ -39,20 +39,20 @@ roles_named (Call params false) given names =
     λ i. there Video (given (codes "in")) names.0 i ++ (there Pictures (given (codes "out")) names.1.0 i ++ [])
 roles_named (Call params true) given names =
     λ i. there Video (given (codes "in")) names.0 i ++ (there Events (given (codes "trace")) names.1.0 i
-        ++ (there Pictures (given (codes "out")) names.1.1.0 i ++ []))
+    ++ (there Pictures (given (codes "out")) names.1.1.0 i ++ []))
 roles_named (Send params target fit) given names =
     λ i. there Video (given (codes "in")) names.0 i ++ (there Events (given (codes "log")) names.1.0 i
-        ++ (there Wire (given (codes "wire")) names.1.1.0 i ++ []))
+    ++ (there Wire (given (codes "wire")) names.1.1.0 i ++ []))
 roles_named (Recv params join) given names =
     λ i. there Events (given (codes "log")) names.0 i ++ (there Pictures (given (codes "out")) names.1.0 i
-        ++ (there Wire (given (codes "wire")) names.1.1.0 i ++ []))
+    ++ (there Wire (given (codes "wire")) names.1.1.0 i ++ []))
 roles_named (Demo params seed frames) given names = refl
 roles_named (Rate target bucket) given names = λ i. there Events (given (codes "log")) names.0 i ++ []
 roles_named (Audit params) given names = λ i. there Events (given (codes "log")) names.0 i ++ []
 roles_named (Duplex params) given names =
     λ i. there Video (given (codes "in1")) names.0 i ++ (there Video2 (given (codes "in2")) names.1.0 i
-        ++ (there Events (given (codes "trace")) names.1.1.0 i ++ (there Pictures (given (codes "out1")) names.1.1.1.0 i
-        ++ (there Pictures2 (given (codes "out2")) names.1.1.1.1.0 i ++ []))))
+    ++ (there Events (given (codes "trace")) names.1.1.0 i ++ (there Pictures (given (codes "out1")) names.1.1.1.0 i
+    ++ (there Pictures2 (given (codes "out2")) names.1.1.1.1.0 i ++ []))))
 
 -- ---- one after the other
 
@@ -72,7 +72,7 @@ put a places count at word all more room is so_far =
     let rest = named a (drop (at + 1) order) in
     ap (λ (l : List (Role × Bor Text)). names l ++ rest) (take-set_at places count (count + 1) (role, word) refl room)
     ∙ ap (λ (l : List (Role × Text)). l ++ rest) (map-append (λ (p : Role × Bor Text). (p.0, p.1.now))
-        (take count places) ((role, word) ∷ []))
+    (take count places) ((role, word) ∷ []))
     ∙ append_assoc (names (take count places)) ((role, word.now) ∷ []) rest
     ∙ ap (λ (l : List (Role × Text)). names (take count places) ++ l) (sym (next a at more (Some word.now) is))
     ∙ so_far

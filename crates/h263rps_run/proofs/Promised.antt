@@ -117,8 +117,10 @@ module _ (output : (Role → List ℕ) → Run) (order : List (Role × List ℕ)
     status = λ inputs told. inl (inl rose);
     texts = λ inputs told settled. absurd settled;
     prefixes = λ inputs told stopped. absurd stopped;
-    unread = λ is. record { left = kept;
-        written = gains_nothing (end_text (OpenFault Report)) old.written new.written no_line same };
+    unread = λ is. record {
+      left = kept;
+      written = gains_nothing (end_text (OpenFault Report)) old.written new.written no_line same;
+    };
     flushed = λ is. absurd (cc (ap (λ (f : Role → Bool). f Report) none, is));
     causes = rose;
     attached = record { first = []; name = []; rest = order; whole = refl; attached = none_attached new none };
@@ -159,8 +161,12 @@ module _ (output : (Role → List ℕ) → Run) (order : List (Role × List ℕ)
     words_starved written flushed quiet = record {
       status = λ inputs tells. inr (inr refl);
       texts = λ inputs tells settled. absurd settled;
-      prefixes = λ inputs tells stopped. inl (record { done = []; rest = (output inputs).turns; front = refl;
-          written = gains_line OutOfMemory mid.written new.written written });
+      prefixes = λ inputs tells stopped. inl (record {
+        done = [];
+        rest = (output inputs).turns;
+        front = refl;
+        written = gains_line OutOfMemory mid.written new.written written;
+      });
       unread = λ is. absurd (cc is);
       flushed = λ is. flushed;
       causes = quiet;
@@ -181,9 +187,9 @@ module _ (output : (Role → List ℕ) → Run) (order : List (Role × List ℕ)
   module _ (mid new : Outside) (result : Status)
       (status : (inputs : Role → List ℕ) → Tells mid inputs → HasStatus (output inputs) result mid.faults new.faults)
       (texts : (inputs : Role → List ℕ) → Tells mid inputs → IsSettled result
-          → HasTexts (output inputs) end_text result mid.written new.written)
+      → HasTexts (output inputs) end_text result mid.written new.written)
       (prefixes : (inputs : Role → List ℕ) → Tells mid inputs → IsStopped result
-          → HasPrefixes (output inputs) end_text result mid.written new.written)
+      → HasPrefixes (output inputs) end_text result mid.written new.written)
       (words : IsNotUsage result)
       (unopened : IsUnopened result → ReadsNothing result mid new)
       (flushed : IsFlushed result new)
@@ -191,7 +197,7 @@ module _ (output : (Role → List ℕ) → Run) (order : List (Role × List ℕ)
       (attached : AttachedAt ((Report, []) ∷ order) result new)
       (whole_input : (inputs : Role → List ℕ) → Tells mid inputs → IsReadOut result source new)
       (taken_input : (inputs : Role → List ℕ) → Tells mid inputs
-          → TakesInput result (output inputs) end_text inputs mid.written new) where
+      → TakesInput result (output inputs) end_text inputs mid.written new) where
     pub performed : IsRunOf output ((Report, []) ∷ order) source result mid new
     performed = record {
       status = status;
@@ -229,8 +235,11 @@ module _ (output : (Role → List ℕ) → Run) (source : Option Role) (mid new 
       (sym told.same) (told_usage told.written told.flushed)
   usage_told result (inr cut) =
       subst (λ (s : Status). IsRunOf output ((Report, []) ∷ []) source s mid new) (sym cut.fault)
-      (line_cut output [] source mid new are rest Usage tt (record { fault = refl; written = cut.written;
-          cause = cut.cause }))
+      (line_cut output [] source mid new are rest Usage tt (record {
+        fault = refl;
+        written = cut.written;
+        cause = cut.cause;
+      }))
 
 -- the same from an earlier outside, where only roles were attached since
 module _ (output : (Role → List ℕ) → Run) (order : List (Role × List ℕ)) (source : Option Role) (old mid new : Outside)

@@ -55,7 +55,7 @@ excess_down u l t =
 -- so the average is too high by 1 where they are more.
 one_of_four : (r x y u v : ℕ) → r ≤ 1 → x < 256 → y < 256 → u < 256 → v < 256 →
     minus (average 0 (average 0 x y) (average 0 u v)) (excess_of r (bit_xor x y) (bit_xor u v)
-        (bit_xor (average 0 x y) (average 0 u v))) ≡ average4 r x y u v
+    (bit_xor (average 0 x y) (average 0 u v))) ≡ average4 r x y u v
 one_of_four r x y u v hr hx hy hu hv =
     omega (arith, low_xor x y, low_xor u v, low_xor (average 0 x y) (average 0 u v), hr, hx, hy, hu, hv)
 
@@ -92,8 +92,10 @@ mean_is zero [] ys ex ey hx hy = refl
 mean_is zero (x ∷ xs) ys ex ey hx hy = absurd (omega arith)
 mean_is (suc n) [] ys ex ey hx hy = absurd (omega arith)
 mean_is (suc n) (x ∷ xs) [] ex ey hx hy = absurd (omega arith)
-mean_is (suc n) (x ∷ xs) (y ∷ ys) ex ey hx hy = cc (one_mean x y hx.0 hy.0,
-    mean_is n xs ys (omega arith) (omega arith) hx.1 hy.1)
+mean_is (suc n) (x ∷ xs) (y ∷ ys) ex ey hx hy = cc (
+  one_mean x y hx.0 hy.0,
+  mean_is n xs ys (omega arith) (omega arith) hx.1 hy.1,
+)
 
 pub mean_small : (xs ys : List ℕ) → Each1 (λ x. x < 256) xs → Each1 (λ x. x < 256) ys
     → Each1 (λ x. x < 256) (zip2 (average 0) xs ys)
@@ -131,7 +133,7 @@ pub excess_length : (f g : ℕ → ℕ → ℕ) (n : ℕ) (us ls ts : List ℕ) 
     → length (excess_l f g n us ls ts) ≡ n
 excess_length f g n us ls ts eu el et =
     lanes bit_and (zip2 g (zip2 f us ls) ts) (replicate n 1) (lanes g (zip2 f us ls) ts (lanes f us ls eu el) et)
-        (length-replicate n 1)
+    (length-replicate n 1)
 
 pub excess_at : (f g : ℕ → ℕ → ℕ) (n : ℕ) (us ls ts : List ℕ) (i : ℕ) → length us ≡ n → length ls ≡ n → length ts ≡ n
     → i < n →
@@ -139,7 +141,7 @@ pub excess_at : (f g : ℕ → ℕ → ℕ) (n : ℕ) (us ls ts : List ℕ) (i :
 excess_at f g n us ls ts i eu el et hi =
     let first = lanes f us ls eu el in
     lane bit_and (zip2 g (zip2 f us ls) ts) (replicate n 1) i (lanes g (zip2 f us ls) ts first et)
-        (length-replicate n 1) hi
+    (length-replicate n 1) hi
     ∙ cc (lane g (zip2 f us ls) ts i first et hi, lane f us ls i eu el hi, get_or-replicate {A = ℕ} n i 1 0 hi)
 
 -- a lane of the averages of four, less their excess
@@ -147,17 +149,17 @@ pub four_at : (n r : ℕ) (xs ys us vs es : List ℕ) (i : ℕ) → r ≤ 1 → 
     → length vs ≡ n → length es ≡ n →
     Each1 (λ x. x < 256) xs → Each1 (λ x. x < 256) ys → Each1 (λ x. x < 256) us → Each1 (λ x. x < 256) vs → i < n →
     get_or es i 0 ≡ excess_of r (get_or (zip2 bit_xor xs ys) i 0) (get_or (zip2 bit_xor us vs) i 0)
-        (get_or (zip2 bit_xor (zip2 (average 0) xs ys) (zip2 (average 0) us vs)) i 0) →
+    (get_or (zip2 bit_xor (zip2 (average 0) xs ys) (zip2 (average 0) us vs)) i 0) →
     get_or (zip2 minus (zip2 (average 0) (zip2 (average 0) xs ys) (zip2 (average 0) us vs)) es) i 0
-        ≡ average4 r (get_or xs i 0) (get_or ys i 0) (get_or us i 0) (get_or vs i 0)
+    ≡ average4 r (get_or xs i 0) (get_or ys i 0) (get_or us i 0) (get_or vs i 0)
 four_at n r xs ys us vs es i hr ex ey eu ev ee hx hy hu hv hi he =
     let mean = average 0 in
     let above = lanes mean xs ys ex ey in
     let below = lanes mean us vs eu ev in
     let small = λ (zs : List ℕ) (ez : length zs ≡ n) (hz : Each1 (λ x. x < 256) zs). Each1-get_or (λ x. x < 256) zs i 0
-        (omega (arith, ez, hi)) hz in
+    (omega (arith, ez, hi)) hz in
     lane minus (zip2 mean (zip2 mean xs ys) (zip2 mean us vs)) es i
-        (lanes mean (zip2 mean xs ys) (zip2 mean us vs) above below) ee hi
+    (lanes mean (zip2 mean xs ys) (zip2 mean us vs) above below) ee hi
     ∙ cc (
       he,
       lane mean (zip2 mean xs ys) (zip2 mean us vs) i above below hi,
@@ -168,7 +170,7 @@ four_at n r xs ys us vs es i hr ex ey eu ev ee hx hy hu hv hi he =
       lane bit_xor us vs i eu ev hi,
     )
     ∙ one_of_four r (get_or xs i 0) (get_or ys i 0) (get_or us i 0) (get_or vs i 0) hr (small xs ex hx) (small ys ey hy)
-        (small us eu hu) (small vs ev hv)
+    (small us eu hu) (small vs ev hv)
 
 -- ---- loads
 

@@ -18,7 +18,7 @@ at_sixteen p x y i h = get_or-map-range_with_len (λ i. sample_at p Y (x + i) y)
 -- sixteen of eighteen samples of a row
 pub part_from : (p : Picture) (x to y at : ℕ) (row part : List ℕ) → to ≡ x + at → at ≤ 2 →
     ((i : ℕ) → i < 18 → get_or row i 0 ≡ sample_at p Y (x + i) y) → part ≡ slice_range row at (at + 16)
-        → length part ≡ 16 → part ≡ sixteen_from p to y
+    → length part ≡ 16 → part ≡ sixteen_from p to y
 unfolding sixteen_from
 part_from p x to y at row part et hat are e long =
     let f = λ (i : ℕ). sample_at p Y (to + i) y in
@@ -28,7 +28,7 @@ part_from p x to y at row part et hat are e long =
     let h : i < 16 = omega (arith, hi, long) in
     let place : x + (at + i) ≡ to + i = omega (arith, et) in
     ap (λ (l : List ℕ). get_or l i 0) (e ∙ ap (λ (k : ℕ). take k (drop at row)) n) ∙ get_or-take 16 (drop at row) i 0 h
-        ∙ get_or-drop at row i 0
+    ∙ get_or-drop at row i 0
     ∙ are (at + i) (omega (arith, h, hat)) ∙ ap (λ (k : ℕ). sample_at p Y k y) place
     ∙ sym (get_or-map-range_with_len f 0 16 i i 0 h (omega arith)))
 
@@ -59,6 +59,6 @@ module _ (p : Picture) (r x y i : ℕ) (h : i < 16) where
   -- both
   pub between_of : (n z : ℕ) → z ≡ y + 1 →
       n ≡ average4 r (get_or (sixteen_from p x y) i 0) (get_or (sixteen_from p (x + 1) y) i 0)
-          (get_or (sixteen_from p x z) i 0) (get_or (sixteen_from p (x + 1) z) i 0) →
+      (get_or (sixteen_from p x z) i 0) (get_or (sixteen_from p (x + 1) z) i 0) →
       n ≡ interpolated p Y true true r (x + i) y
   between_of n z ez e = e ∙ cc (at_sixteen p x y i h, next, below z ez, next_below z ez)

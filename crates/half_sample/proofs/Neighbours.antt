@@ -31,12 +31,12 @@ half_on : (v : ℤ) → unsigned_abs v % 2 ≡ 1 → (int_shr (v +ℤ pos 1) 1 �
 half_on (pos n) h =
     let e : pos n +ℤ pos 1 ≡ pos (n + 1) = omega (arith, ints) in
     subst (λ (w : ℤ). (int_shr w 1 ≡ int_shr (pos n) 1 +ℤ pos 1) × (unsigned_abs w % 2 ≡ 0)) (sym e)
-        (omega (arith, ints, h), omega (arith, h))
+    (omega (arith, ints, h), omega (arith, h))
 half_on (negsuc zero) h = (refl, refl)
 half_on (negsuc (suc n)) h =
     let e : negsuc (suc n) +ℤ pos 1 ≡ negsuc n = omega (arith, ints) in
     subst (λ (w : ℤ). (int_shr w 1 ≡ int_shr (negsuc (suc n)) 1 +ℤ pos 1) × (unsigned_abs w % 2 ≡ 0)) (sym e)
-        (omega (arith, ints, h), omega (arith, h))
+    (omega (arith, ints, h), omega (arith, h))
 
 half_further : (at x : ℕ) (v : ℤ) → is_half Y v ≡ true → pos x ≡ whole_place at v
     → pos (x + 1) ≡ whole_place at (v +ℤ pos 1)
@@ -59,14 +59,14 @@ halves x y = record { x = x; y = y }
 -- the first sixteen rows from a place on
 upper_rows : (p : Picture) (r mb x y : ℕ) (v : Vector) (hx hy : Bool) (samples : List ℕ) →
     LeadsTo 16 p.format Y mb v (at_place x y) → IsHalfOf Y v (halves hx hy) → AreRowsFrom p hx hy r x y 17 samples
-        → ArePredicted 16 p Y mb v r samples
+    → ArePredicted 16 p Y mb v r samples
 upper_rows p r mb x y v hx hy samples leads is rows = λ j i hj hi.
     rows j i (omega (arith, hj)) hi ∙ block_sample 16 p Y r mb i j v (at_place x y) (halves hx hy) leads is
 
 -- and the last sixteen
 lower_rows : (p : Picture) (r mb x y : ℕ) (v : Vector) (hx hy : Bool) (samples : List ℕ) →
     LeadsTo 16 p.format Y mb v (at_place x (y + 1)) → IsHalfOf Y v (halves hx hy) → AreRowsFrom p hx hy r x y 17 samples
-        → ArePredicted 16 p Y mb v r (drop 16 samples)
+    → ArePredicted 16 p Y mb v r (drop 16 samples)
 lower_rows p r mb x y v hx hy samples leads is rows = λ j i hj hi.
     let place : 16 + (16 * j + i) ≡ 16 * (j + 1) + i = omega arith in
     let row : y + (j + 1) ≡ y + 1 + j = omega arith in
@@ -105,8 +105,10 @@ all_around p r mb v to a odd leads rows =
           (record { x = sym odd.x; y = is_odd v.y odd.y }) rows.up_left;
       down = lower_rows p r mb (x + 1) y (down_by 2 (right_by 1 v)) false true a.up (record { x = x1; y = y2 })
           (record { x = is_whole v.x odd.x; y = is_odd v.y odd.y }) rows.up;
-      down_right = lower_rows p r mb (x + 1) y (down_by 2 (right_by 2 v)) true true a.up_right (record { x = x2;
-          y = y2 }) (record { x = is_odd v.x odd.x; y = is_odd v.y odd.y }) rows.up_right;
+      down_right = lower_rows p r mb (x + 1) y (down_by 2 (right_by 2 v)) true true a.up_right (record {
+        x = x2;
+        y = y2;
+      }) (record { x = is_odd v.x odd.x; y = is_odd v.y odd.y }) rows.up_right;
     }
 
 -- the eighteen rows of eighteen samples that they read lie inside the picture
@@ -116,7 +118,7 @@ all_inside f mb v to odd beyond leads =
     let left = 16 * (mb % columns_of f) in
     let top = 16 * (mb / columns_of f) in
     let across = luma_ends left (width_of f) (to.x + 1) true (v.x +ℤ pos 2) beyond.0.2
-        (one_further left to.x v.x leads.x) (is_odd v.x odd.x) in
+    (one_further left to.x v.x leads.x) (is_odd v.x odd.x) in
     let down = luma_ends top (height_of f) (to.y + 1) true (v.y +ℤ pos 2) beyond.1.2 (one_further top to.y v.y leads.y)
-        (is_odd v.y odd.y) in
+    (is_odd v.y odd.y) in
     record { in_row = omega (arith, across); in_plane = omega (arith, down) }

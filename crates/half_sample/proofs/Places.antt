@@ -27,10 +27,14 @@ moved_more a x i whole h =
 pub block_sample : (n : ℕ) (p : Picture) (plane : Plane) (r mb i j : ℕ) (v : Vector) (to : Place) (half : Half) →
     LeadsTo n p.format plane mb v to → IsHalfOf plane v half →
     interpolated p plane half.x half.y r (to.x + i) (to.y + j)
-        ≡ predicted_sample p plane (n * (mb % columns_of p.format) + i) (n * (mb / columns_of p.format) + j) v r
+    ≡ predicted_sample p plane (n * (mb % columns_of p.format) + i) (n * (mb / columns_of p.format) + j) v r
 block_sample n p plane r mb i j v to half leads is =
-    cc (is.x, is.y, moved_more (n * (mb % columns_of p.format)) to.x i (whole_part plane v.x) leads.x,
-        moved_more (n * (mb / columns_of p.format)) to.y j (whole_part plane v.y) leads.y)
+    cc (
+      is.x,
+      is.y,
+      moved_more (n * (mb % columns_of p.format)) to.x i (whole_part plane v.x) leads.x,
+      moved_more (n * (mb / columns_of p.format)) to.y j (whole_part plane v.y) leads.y,
+    )
 
 -- a place by equal columns and an equal component
 pub same_place : (f : ℕ → ℕ) (part : ℤ → ℤ) {r k k' : ℕ} {z z' : ℤ} → pos r ≡ pos (f k) +ℤ part z → k ≡ k' → z ≡ z'
@@ -82,7 +86,7 @@ further (negsuc (suc zero)) = (refl, refl)
 further (negsuc (suc (suc n))) =
     let e : negsuc (suc (suc n)) +ℤ pos 2 ≡ negsuc n = omega (arith, ints) in
     subst (λ (w : ℤ). (int_shr w 1 ≡ int_shr (negsuc (suc (suc n))) 1 +ℤ pos 1)
-        × (unsigned_abs w % 2 ≡ suc (suc (suc n)) % 2)) (sym e) (omega (arith, ints), omega arith)
+    × (unsigned_abs w % 2 ≡ suc (suc (suc n)) % 2)) (sym e) (omega (arith, ints), omega arith)
 
 pub one_further : (at y : ℕ) (v : ℤ) → pos y ≡ whole_place at v → pos (y + 1) ≡ whole_place at (v +ℤ pos 2)
 one_further at y v h = omega (arith, ints, h, (further v).0)

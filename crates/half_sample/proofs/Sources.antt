@@ -79,7 +79,7 @@ pub first_reach : (s : Source) (half : Half) (n : ℕ) → HasRows s half n
     → Reaches s 0 (columns_beside s.colours + cond half.x 1 0)
 first_reach s half n h =
     subst (λ (k : ℕ). Reaches s 0 (k + cond half.x 1 0)) h.columns (nearer s _ _ (n + cond half.x 1 0) h.reach
-        (omega arith))
+    (omega arith))
 
 -- ---- samples
 
@@ -97,12 +97,12 @@ pub mixed_is : (p : Picture) (plane : Plane) (hx hy : Bool) (r x y a b c d : ℕ
 mixed_is p plane false false r x y a b c d hr ea eb ec ed =
     let same : x + 0 ≡ x = omega arith in
     twice r a b hr (ea ∙ sym (eb ∙ ap (λ (k : ℕ). sample_at p plane k y) same)) ∙ eb
-        ∙ ap (λ (k : ℕ). sample_at p plane k y) same
+    ∙ ap (λ (k : ℕ). sample_at p plane k y) same
 mixed_is p plane true false r x y a b c d hr ea eb ec ed = cc (ea, eb)
 mixed_is p plane false true r x y a b c d hr ea eb ec ed =
     let same : x + 0 ≡ x = omega arith in
     twice_below r a b c d (sample_at p plane x y) (sample_at p plane x (y + 1)) hr ea (eb
-        ∙ ap (λ (k : ℕ). sample_at p plane k y) same) (ec refl)
+    ∙ ap (λ (k : ℕ). sample_at p plane k y) same) (ec refl)
     (ed refl ∙ ap (λ (k : ℕ). sample_at p plane k (y + 1)) same)
 mixed_is p plane true true r x y a b c d hr ea eb ec ed = cc (ea, eb, ec refl, ed refl)
 
@@ -118,7 +118,7 @@ pub between_is : (p : Picture) (plane : Plane) (s : Source) (half : Half) (r x y
     → r ≤ 1 →
     ((at : ℕ) → lane_of s at lane ≡ get_or rows (at + i) 0) →
     ((k l : ℕ) → k < n + cond half.x 1 0 → l < n + cond half.y 1 0 → get_or rows (s.width * l + k) 0
-        ≡ sample_at p plane (x + k) (y + l)) →
+    ≡ sample_at p plane (x + k) (y + l)) →
     i < n → j < n → lane_between s half r (s.width * j) lane ≡ interpolated p plane half.x half.y r (x + i) (y + j)
 between_is p plane s half r x y n lane i j rows hr is are hi hj =
     let w : ℕ = s.width in
@@ -132,12 +132,12 @@ between_is p plane s half r x y n lane i j rows hr is are hi hj =
     mixed_is p plane half.x half.y r (x + i) (y + j) _ _ _ _ hr
     (is (w * j) ∙ are i j (omega arith) (omega arith))
     (is (w * j + c) ∙ ap (λ (k : ℕ). get_or rows k 0) across
-        ∙ are (i + c) j (one_more_column half.x n i hi) (omega arith)
-        ∙ ap (λ (k : ℕ). sample_at p plane k (y + j)) right)
+    ∙ are (i + c) j (one_more_column half.x n i hi) (omega arith)
+    ∙ ap (λ (k : ℕ). sample_at p plane k (y + j)) right)
     (λ e. is (w * j + w) ∙ ap (λ (k : ℕ). get_or rows k 0) below
-        ∙ are i (j + 1) (omega arith) (one_more_row half.y n j e hj) ∙ ap (sample_at p plane (x + i)) down)
+    ∙ are i (j + 1) (omega arith) (one_more_row half.y n j e hj) ∙ ap (sample_at p plane (x + i)) down)
     (λ e. is (w * j + w + c) ∙ ap (λ (k : ℕ). get_or rows k 0) both
-        ∙ are (i + c) (j + 1) (one_more_column half.x n i hi) (one_more_row half.y n j e hj)
+    ∙ are (i + c) (j + 1) (one_more_column half.x n i hi) (one_more_row half.y n j e hj)
     ∙ ap (λ (k : ℕ). sample_at p plane k (y + (j + 1))) right ∙ ap (sample_at p plane (x + i + c)) down)
 
 -- a lane by another place and another number of it

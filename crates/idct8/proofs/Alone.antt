@@ -39,9 +39,9 @@ row_alone c zeros r k hr hk =
     let first : sum_below 8 (λ j. factor Inverse j r *ℤ f j) ≡ factor Inverse 0 r *ℤ f 0 =
     first_alone 7 (λ j. factor Inverse j r *ℤ f j)
     (λ j some less. times_zero (factor Inverse j r) (f j)
-        (sums_of_zeros c j k (λ i hi. zeros (8 * j + i) (omega (arith, some)) (omega (arith, less, hi))))) in
+    (sums_of_zeros c j k (λ i hi. zeros (8 * j + i) (omega (arith, some)) (omega (arith, less, hi))))) in
     ap (λ (m : ℤ). rounded (m *ℤ f 0)) (sym (first_row r hr)) ∙ ap rounded (sym first)
-        ∙ passes_are Inverse c f r k (λ j hj. refl)
+    ∙ passes_are Inverse c f r k (λ j hj. refl)
 
 past_factor : (m z : ℤ) → pos 2048 *ℤ (m *ℤ z) ≡ m *ℤ (pos 2048 *ℤ z)
 past_factor m z = times_assoc (pos 2048) m z ∙ ap (λ (s : ℤ). s *ℤ z) (*ℤ_comm (pos 2048) m)
@@ -53,12 +53,12 @@ pub column_alone : (c : List ℤ) → ((j i : ℕ) → j < 8 → 1 ≤ i → i <
 column_alone c zeros r k hk =
     let f = λ (j : ℕ). pos 2048 *ℤ entry c j 0 in
     let row_is = λ (j : ℕ) (hj : j < 8). first_alone 7 (λ i. factor Inverse i k *ℤ entry c j i)
-        (λ i some less. times_zero (factor Inverse i k) (entry c j i) (zeros j i hj some (omega (arith, less)))) in
+    (λ i some less. times_zero (factor Inverse i k) (entry c j i) (zeros j i hj some (omega (arith, less)))) in
     let sums = λ (j : ℕ) (hj : j < 8). ap (λ (m : ℤ). m *ℤ entry c j 0) (sym (first_row k hk)) ∙ sym (row_is j hj) in
     ap rounded
     (factor_sum (pos 2048) 8 (λ j. factor Inverse j r *ℤ entry c j 0)
     ∙ same_sum 8 (λ j. pos 2048 *ℤ (factor Inverse j r *ℤ entry c j 0)) (λ j. factor Inverse j r *ℤ f j)
-        (λ j hj. past_factor (factor Inverse j r) (entry c j 0)))
+    (λ j hj. past_factor (factor Inverse j r) (entry c j 0)))
     ∙ passes_are Inverse c f r k sums
 
 -- ---- rounding
@@ -70,7 +70,7 @@ line_bits (negsuc n) = (omega (arith, ints), omega (arith, ints))
 
 same_quotient : (s r q : ℤ) → (pos 16384 *ℤ r) ≤ℤ (s +ℤ pos 8192) → (s +ℤ pos 8192) ≤ℤ (pos 16384 *ℤ r +ℤ pos 16383) →
     (pos 33554432 *ℤ q) ≤ℤ (pos 2048 *ℤ s +ℤ pos 16777216)
-        → (pos 2048 *ℤ s +ℤ pos 16777216) ≤ℤ (pos 33554432 *ℤ q +ℤ pos 33554431) → r ≡ q
+    → (pos 2048 *ℤ s +ℤ pos 16777216) ≤ℤ (pos 33554432 *ℤ q +ℤ pos 33554431) → r ≡ q
 same_quotient s r q a b d e = omega (arith, ints)
 
 -- 2048 times a sum is rounded by 2^25 as the sum is by 2^14

@@ -84,8 +84,10 @@ module _ (c0 c1 c2 c3 c4 c5 c6 c7 : ℤ) where
   column_6 = let plain : pos 2048 *ℤ c0 +ℤ pos 16777216 -ℤ pos 2048 *ℤ c4 +ℤ (pos 1108 *ℤ c2 -ℤ pos 2676 *ℤ c6) -ℤ
       (pos 2408 *ℤ c1 -ℤ pos 565 *ℤ c3 -ℤ (pos 2841 *ℤ c5 +ℤ pos 1609 *ℤ c7))
       ≡ pos 0 +ℤ pos 2048 *ℤ c0 +ℤ neg_ℤ (pos 2408) *ℤ c1 +ℤ pos 1108 *ℤ c2 +ℤ pos 565 *ℤ c3 +ℤ neg_ℤ
-      (pos 2048) *ℤ c4 +ℤ pos 2841 *ℤ c5 +ℤ neg_ℤ (pos 2676) *ℤ c6 +ℤ pos 1609 *ℤ c7 +ℤ pos 16777216 = omega (arith,
-      ints) in plain ∙ ap (λ (z : ℤ). z +ℤ pos 16777216) (sym (inverse_6 c0 c1 c2 c3 c4 c5 c6 c7))
+      (pos 2048) *ℤ c4 +ℤ pos 2841 *ℤ c5 +ℤ neg_ℤ (pos 2676) *ℤ c6 +ℤ pos 1609 *ℤ c7 +ℤ pos 16777216 = omega (
+        arith,
+        ints,
+      ) in plain ∙ ap (λ (z : ℤ). z +ℤ pos 16777216) (sym (inverse_6 c0 c1 c2 c3 c4 c5 c6 c7))
 
   pub column_7 : pos 2048 *ℤ c0 +ℤ pos 16777216 +ℤ pos 2048 *ℤ c4 +ℤ (pos 2676 *ℤ c2 +ℤ pos 1108 *ℤ c6) -ℤ
       (pos 2841 *ℤ c1 +ℤ pos 2408 *ℤ c3 +ℤ (pos 1609 *ℤ c5 +ℤ pos 565 *ℤ c7))

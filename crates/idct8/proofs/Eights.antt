@@ -53,13 +53,13 @@ one_row_of_each P a b k v w room_a room_b before own =
 pub two_rows : (P : ℕ → List ℤ → List ℤ → Type 0) (f g : ℕ → ℕ) (rows : List Row) (k : ℕ) (v w : List ℤ)
     → f k < length rows → g k < length (slice_set rows (f k) (row_with v)) → f k ≢ g k →
     ((j : ℕ) → j < k → (f j ≢ f k) × (f j ≢ g k) × (g j ≢ f k) × (g j ≢ g k))
-        → ((j : ℕ) → j < k → P j (row_at rows (f j)) (row_at rows (g j))) → P k v w →
+    → ((j : ℕ) → j < k → P j (row_at rows (f j)) (row_at rows (g j))) → P k v w →
     (j : ℕ) → j < k + 1 → P j (row_at (slice_set (slice_set rows (f k) (row_with v)) (g k) (row_with w)) (f j))
-        (row_at (slice_set (slice_set rows (f k) (row_with v)) (g k) (row_with w)) (g j))
+    (row_at (slice_set (slice_set rows (f k) (row_with v)) (g k) (row_with w)) (g j))
 two_rows P f g rows k v w room_f room_g differ apart before own =
     let once : List Row = slice_set rows (f k) (row_with v) in
     below_more (λ j. P j (row_at (slice_set once (g k) (row_with w)) (f j)) (row_at (slice_set once (g k) (row_with w))
-        (g j))) k
+    (g j))) k
     (λ j hj. both (P j)
     (row_other once (g k) (f j) w (apart j hj).1 ∙ row_other rows (f k) (f j) v (apart j hj).0)
     (row_other once (g k) (g j) w (apart j hj).3 ∙ row_other rows (f k) (g j) v (apart j hj).2)

@@ -59,7 +59,7 @@ small_7 = below_eight (λ x. Within 2841 (basis 7 x)) (near tt tt) (near tt tt) 
 basis_small : (u x : ℕ) → u < 8 → x < 8 → Within 2841 (basis u x)
 basis_small u x hu hx =
     below_eight (λ k. Within 2841 (basis k x)) (small_0 x hx) (small_1 x hx) (small_2 x hx) (small_3 x hx)
-        (small_4 x hx) (small_5 x hx) (small_6 x hx) (small_7 x hx) u hu
+    (small_4 x hx) (small_5 x hx) (small_6 x hx) (small_7 x hx) u hu
 
 pub factor_small : (d : Direction) (i k : ℕ) → i < 8 → k < 8 → Within 2841 (factor d i k)
 factor_small Inverse i k hi hk = basis_small i k hi hk
@@ -78,11 +78,11 @@ pub pass_of : (d : Direction) (f : ℕ → ℤ) (k : ℕ) {c0 c1 c2 c3 c4 c5 c6 
 pass_of d f k {c0} {c1} {c2} {c3} {c4} {c5} {c6} {c7} e0 e1 e2 e3 e4 e5 e6 e7 =
     same_sum 8 _ _
     (below_eight (λ i. factor d i k *ℤ slice_index_or (c0 ∷ c1 ∷ c2 ∷ c3 ∷ c4 ∷ c5 ∷ c6 ∷ c7 ∷ []) i (pos 0)
-        ≡ factor d i k *ℤ f i)
+    ≡ factor d i k *ℤ f i)
     (ap (λ z. factor d 0 k *ℤ z) e0) (ap (λ z. factor d 1 k *ℤ z) e1) (ap (λ z. factor d 2 k *ℤ z) e2)
-        (ap (λ z. factor d 3 k *ℤ z) e3)
+    (ap (λ z. factor d 3 k *ℤ z) e3)
     (ap (λ z. factor d 4 k *ℤ z) e4) (ap (λ z. factor d 5 k *ℤ z) e5) (ap (λ z. factor d 6 k *ℤ z) e6)
-        (ap (λ z. factor d 7 k *ℤ z) e7))
+    (ap (λ z. factor d 7 k *ℤ z) e7))
 
 -- a bound of a number is one of its equal, and a larger one too
 pub within_same : (m n : ℕ) {z e : ℤ} → m ≤ n → z ≡ e → Within m e → Within n z

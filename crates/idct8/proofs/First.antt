@@ -17,10 +17,14 @@ unfolding sum_below
 first_differs zero f g e first others = omega (arith, ints, first)
 first_differs (suc n) f g e first others =
     let before : sum_below (suc n) f ≡ e +ℤ sum_below (suc n) g = first_differs n f g e first
-        (λ k some lt. others k some (omega (arith, lt))) in
+    (λ k some lt. others k some (omega (arith, lt))) in
     let last : f (suc n) ≡ g (suc n) = others (suc n) (omega arith) (omega arith) in
-    let step : sum_below (suc n) f +ℤ f (suc n) ≡ e +ℤ (sum_below (suc n) g +ℤ g (suc n)) = omega (arith, ints, before,
-        last) in
+    let step : sum_below (suc n) f +ℤ f (suc n) ≡ e +ℤ (sum_below (suc n) g +ℤ g (suc n)) = omega (
+      arith,
+      ints,
+      before,
+      last,
+    ) in
     step
 
 pub first_row : (x : ℕ) → x < 8 → basis 0 x ≡ pos 2048
@@ -42,7 +46,7 @@ rounded_apart dc z =
     let both = all_bits (pos 33554432 *ℤ dc +ℤ w) in
     let own = all_bits w in
     ap (λ (y : ℤ). int_shr y 25) (apart_regrouped dc z)
-        ∙ shifted dc (int_shr (pos 33554432 *ℤ dc +ℤ w) 25) (int_shr w 25) w both.0 both.1 own.0 own.1
+    ∙ shifted dc (int_shr (pos 33554432 *ℤ dc +ℤ w) 25) (int_shr w 25) w both.0 both.1 own.0 own.1
 
 first_term : (a b v o dc : ℤ) → a ≡ pos 2048 → b ≡ pos 2048 → v ≡ pos 8 *ℤ dc → o ≡ pos 0
     → a *ℤ b *ℤ v ≡ pos 33554432 *ℤ dc +ℤ a *ℤ b *ℤ o
@@ -54,19 +58,19 @@ first_term a b v o dc ea eb ev eo =
 pub first_apart : (values others : List ℤ) (dc : ℤ) → slice_index_or values 0 (pos 0) ≡ pos 8 *ℤ dc
     → slice_index_or others 0 (pos 0) ≡ pos 0 →
     ((at : ℕ) → 1 ≤ at → at < 64 → slice_index_or values at (pos 0) ≡ slice_index_or others at (pos 0)) → (y x : ℕ)
-        → y < 8 → x < 8 → inverse_at values y x ≡ dc +ℤ inverse_at others y x
+    → y < 8 → x < 8 → inverse_at values y x ≡ dc +ℤ inverse_at others y x
 first_apart values others dc first none same y x hy hx =
     let term = λ (c : List ℤ) (u v : ℕ). basis u x *ℤ basis v y *ℤ entry c v u in
     let later = λ (u v : ℕ) (some : 1 ≤ 8 * v + u) (less : 8 * v + u < 64). ap (λ (z : ℤ). basis u x *ℤ basis v y *ℤ z)
-        (same (8 * v + u) some less) in
+    (same (8 * v + u) some less) in
     let inner : sum_below 8 (term values 0) ≡ pos 33554432 *ℤ dc +ℤ sum_below 8 (term others 0) =
     first_differs 7 (term values 0) (term others 0) (pos 33554432 *ℤ dc)
     (first_term (basis 0 x) (basis 0 y) (entry values 0 0) (entry others 0 0) dc (first_row x hx)
-        (first_row y hy) first none)
+    (first_row y hy) first none)
     (λ v some less. later 0 v (omega (arith, some)) (omega (arith, less))) in
     let outer : sum_below 8 (λ u. sum_below 8 (term values u))
-        ≡ pos 33554432 *ℤ dc +ℤ sum_below 8 (λ u. sum_below 8 (term others u)) =
+    ≡ pos 33554432 *ℤ dc +ℤ sum_below 8 (λ u. sum_below 8 (term others u)) =
     first_differs 7 (λ u. sum_below 8 (term values u)) (λ u. sum_below 8 (term others u)) (pos 33554432 *ℤ dc) inner
     (λ u some less. same_sum 8 (term values u) (term others u) (λ v hv. later u v (omega (arith, some))
-        (omega (arith, less, hv)))) in
+    (omega (arith, less, hv)))) in
     ap rounded outer ∙ rounded_apart dc (sum_below 8 (λ u. sum_below 8 (term others u)))

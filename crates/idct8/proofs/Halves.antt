@@ -75,7 +75,7 @@ module _ (a m : List ℤ) (ha : SixteenWithin 8191 a) (hm : SixteenWithin 2841 m
       ≡ of_z w32 (lane m i *ℤ lane a i)
   product i hi =
       get_or-zip2 times (map wide (map (of_z w16) a)) (map (of_z w32) m) i 0 0 0 (omega (arith, long_a))
-          (omega (arith, long_m))
+      (omega (arith, long_m))
       ∙ cc (
         get_or-map wide (map (of_z w16) a) i 0 0 (omega (arith, length-map a (of_z w16), ha.long)),
         get_or-map (of_z w16) a i (pos 0) 0 (omega (arith, ha.long)),
@@ -119,7 +119,7 @@ pub dot_words : (a m : List ℤ) → SixteenWithin 8191 a → SixteenWithin 2841
 dot_words a m ha hm =
     let T = zip2 times (map wide (map (of_z w16) a)) (map (of_z w32) m) in
     let both = picked_words T (λ i. lane m i *ℤ lane a i) (2841 * 8191) (products_long a m ha hm) (product a m ha hm)
-        (small_product a m ha hm) in
+    (small_product a m ha hm) in
     sum_words (lit≤ tt) both.0 both.1
 
 -- ---- halves that are unfolded
@@ -151,8 +151,11 @@ swapped_words h hh = record {
 }
   where
     at : (k : ℕ) → k < 8 → get_or (map (of_z w32) h ++ map (of_z w32) h) k 0 ≡ of_z w32 (lane h k)
-    at k hk = get_or_append_left (map (of_z w32) h) (map (of_z w32) h) 0 k (omega (arith, length-map h (of_z w32),
-        hh.long)) ∙ get_or-map (of_z w32) h k (pos 0) 0 (omega (arith, hh.long))
+    at k hk = get_or_append_left (map (of_z w32) h) (map (of_z w32) h) 0 k (omega (
+      arith,
+      length-map h (of_z w32),
+      hh.long,
+    )) ∙ get_or-map (of_z w32) h k (pos 0) 0 (omega (arith, hh.long))
 
 -- the words of the sums, then those of the differences from the last to the first
 abbrev pub unfolded_of : List ℤ → List ℕ
@@ -192,7 +195,7 @@ unfolded_words h hh = record {
     right j k e hk =
         let there : j - 8 ≡ k = omega arith in
         get_or-append_right S D 8 j 0 sums.long (omega arith) ∙ ap (λ (n : ℕ). get_or D n 0) there
-            ∙ differences.spelt k hk
+        ∙ differences.spelt k hk
 
 -- ---- a row
 
@@ -240,27 +243,27 @@ halves_l r =
 
 pub halves_are : (r s t sums : List ℤ) → EightWithin 8191 r →
     ((i : ℕ) → i < 8 → lane s i ≡ lane first_pairs (2 * i) *ℤ lane (spread r 0 2 1 3) (2 * i) +ℤ lane first_pairs
-        (2 * i + 1) *ℤ lane (spread r 0 2 1 3) (2 * i + 1)) →
+    (2 * i + 1) *ℤ lane (spread r 0 2 1 3) (2 * i + 1)) →
     ((i : ℕ) → i < 8 → lane t i ≡ lane last_pairs (2 * i) *ℤ lane (spread r 4 6 5 7) (2 * i) +ℤ lane last_pairs
-        (2 * i + 1) *ℤ lane (spread r 4 6 5 7) (2 * i + 1)) →
+    (2 * i + 1) *ℤ lane (spread r 4 6 5 7) (2 * i + 1)) →
     ((i : ℕ) → i < 8 → lane sums i ≡ lane s i +ℤ lane t i) → (i : ℕ) → i < 8 → lane sums i ≡ lane (halves_l r) i
 halves_are r s t sums h es et e = below_eight (λ i. lane sums i ≡ lane (halves_l r) i)
     (two_terms (pos 2048) (pos 2676) (pos 2048) (pos 1108) (e 0 (lit< tt)) (es 0 (lit< tt)) (et 0 (lit< tt))
-        (at 0 (lit< tt)) (at 2 (lit< tt)) (at 4 (lit< tt)) (at 6 (lit< tt)))
+    (at 0 (lit< tt)) (at 2 (lit< tt)) (at 4 (lit< tt)) (at 6 (lit< tt)))
     (two_terms (pos 2048) (pos 1108) (negsuc 2047) (negsuc 2675) (e 1 (lit< tt)) (es 1 (lit< tt)) (et 1 (lit< tt))
-        (at 0 (lit< tt)) (at 2 (lit< tt)) (at 4 (lit< tt)) (at 6 (lit< tt)))
+    (at 0 (lit< tt)) (at 2 (lit< tt)) (at 4 (lit< tt)) (at 6 (lit< tt)))
     (two_terms (pos 2048) (negsuc 1107) (negsuc 2047) (pos 2676) (e 2 (lit< tt)) (es 2 (lit< tt)) (et 2 (lit< tt))
-        (at 0 (lit< tt)) (at 2 (lit< tt)) (at 4 (lit< tt)) (at 6 (lit< tt)))
+    (at 0 (lit< tt)) (at 2 (lit< tt)) (at 4 (lit< tt)) (at 6 (lit< tt)))
     (two_terms (pos 2048) (negsuc 2675) (pos 2048) (negsuc 1107) (e 3 (lit< tt)) (es 3 (lit< tt)) (et 3 (lit< tt))
-        (at 0 (lit< tt)) (at 2 (lit< tt)) (at 4 (lit< tt)) (at 6 (lit< tt)))
+    (at 0 (lit< tt)) (at 2 (lit< tt)) (at 4 (lit< tt)) (at 6 (lit< tt)))
     (two_terms (pos 2841) (pos 2408) (pos 1609) (pos 565) (e 4 (lit< tt)) (es 4 (lit< tt)) (et 4 (lit< tt))
-        (at 1 (lit< tt)) (at 3 (lit< tt)) (at 5 (lit< tt)) (at 7 (lit< tt)))
+    (at 1 (lit< tt)) (at 3 (lit< tt)) (at 5 (lit< tt)) (at 7 (lit< tt)))
     (two_terms (pos 2408) (negsuc 564) (negsuc 2840) (negsuc 1608) (e 5 (lit< tt)) (es 5 (lit< tt)) (et 5 (lit< tt))
-        (at 1 (lit< tt)) (at 3 (lit< tt)) (at 5 (lit< tt)) (at 7 (lit< tt)))
+    (at 1 (lit< tt)) (at 3 (lit< tt)) (at 5 (lit< tt)) (at 7 (lit< tt)))
     (two_terms (pos 1609) (negsuc 2840) (pos 565) (pos 2408) (e 6 (lit< tt)) (es 6 (lit< tt)) (et 6 (lit< tt))
-        (at 1 (lit< tt)) (at 3 (lit< tt)) (at 5 (lit< tt)) (at 7 (lit< tt)))
+    (at 1 (lit< tt)) (at 3 (lit< tt)) (at 5 (lit< tt)) (at 7 (lit< tt)))
     (two_terms (pos 565) (negsuc 1608) (pos 2408) (negsuc 2840) (e 7 (lit< tt)) (es 7 (lit< tt)) (et 7 (lit< tt))
-        (at 1 (lit< tt)) (at 3 (lit< tt)) (at 5 (lit< tt)) (at 7 (lit< tt)))
+    (at 1 (lit< tt)) (at 3 (lit< tt)) (at 5 (lit< tt)) (at 7 (lit< tt)))
   where
     at : (k : ℕ) → k < 8 → to_z w16 (get_or (joined r r) k 0) ≡ lane r k
     at k hk = of_left 8191 r r k (lit≤ tt) h hk
@@ -322,21 +325,21 @@ pub row_is : (r halves sums : List ℤ) → ((i : ℕ) → i < 8 → lane halves
 unfolding basis sum_below
 row_is r halves sums is added taken = below_eight (λ k. lane sums k ≡ pass_at Inverse r k)
     (plus_of (added 0 (lit< tt)) (is 0 (lit< tt)) (is 4 (lit< tt))
-        ∙ plain_0 (lane r 0) (lane r 1) (lane r 2) (lane r 3) (lane r 4) (lane r 5) (lane r 6) (lane r 7))
+    ∙ plain_0 (lane r 0) (lane r 1) (lane r 2) (lane r 3) (lane r 4) (lane r 5) (lane r 6) (lane r 7))
     (plus_of (added 1 (lit< tt)) (is 1 (lit< tt)) (is 5 (lit< tt))
-        ∙ plain_1 (lane r 0) (lane r 1) (lane r 2) (lane r 3) (lane r 4) (lane r 5) (lane r 6) (lane r 7))
+    ∙ plain_1 (lane r 0) (lane r 1) (lane r 2) (lane r 3) (lane r 4) (lane r 5) (lane r 6) (lane r 7))
     (plus_of (added 2 (lit< tt)) (is 2 (lit< tt)) (is 6 (lit< tt))
-        ∙ plain_2 (lane r 0) (lane r 1) (lane r 2) (lane r 3) (lane r 4) (lane r 5) (lane r 6) (lane r 7))
+    ∙ plain_2 (lane r 0) (lane r 1) (lane r 2) (lane r 3) (lane r 4) (lane r 5) (lane r 6) (lane r 7))
     (plus_of (added 3 (lit< tt)) (is 3 (lit< tt)) (is 7 (lit< tt))
-        ∙ plain_3 (lane r 0) (lane r 1) (lane r 2) (lane r 3) (lane r 4) (lane r 5) (lane r 6) (lane r 7))
+    ∙ plain_3 (lane r 0) (lane r 1) (lane r 2) (lane r 3) (lane r 4) (lane r 5) (lane r 6) (lane r 7))
     (minus_of (taken 3 (lit< tt)) (is 3 (lit< tt)) (is 7 (lit< tt))
-        ∙ plain_4 (lane r 0) (lane r 1) (lane r 2) (lane r 3) (lane r 4) (lane r 5) (lane r 6) (lane r 7))
+    ∙ plain_4 (lane r 0) (lane r 1) (lane r 2) (lane r 3) (lane r 4) (lane r 5) (lane r 6) (lane r 7))
     (minus_of (taken 2 (lit< tt)) (is 2 (lit< tt)) (is 6 (lit< tt))
-        ∙ plain_5 (lane r 0) (lane r 1) (lane r 2) (lane r 3) (lane r 4) (lane r 5) (lane r 6) (lane r 7))
+    ∙ plain_5 (lane r 0) (lane r 1) (lane r 2) (lane r 3) (lane r 4) (lane r 5) (lane r 6) (lane r 7))
     (minus_of (taken 1 (lit< tt)) (is 1 (lit< tt)) (is 5 (lit< tt))
-        ∙ plain_6 (lane r 0) (lane r 1) (lane r 2) (lane r 3) (lane r 4) (lane r 5) (lane r 6) (lane r 7))
+    ∙ plain_6 (lane r 0) (lane r 1) (lane r 2) (lane r 3) (lane r 4) (lane r 5) (lane r 6) (lane r 7))
     (minus_of (taken 0 (lit< tt)) (is 0 (lit< tt)) (is 4 (lit< tt))
-        ∙ plain_7 (lane r 0) (lane r 1) (lane r 2) (lane r 3) (lane r 4) (lane r 5) (lane r 6) (lane r 7))
+    ∙ plain_7 (lane r 0) (lane r 1) (lane r 2) (lane r 3) (lane r 4) (lane r 5) (lane r 6) (lane r 7))
   where
     plus_of : {x a b y z : ℤ} → x ≡ a +ℤ b → a ≡ y → b ≡ z → x ≡ y +ℤ z
     plus_of e ea eb = cc (e, ea, eb)

@@ -54,8 +54,8 @@ scaled a m z over e =
     ∙ times_sum (pos m) (pos a) (pos 4294967296 *ℤ over)
     ∙ ap (λ (k : ℤ). k +ℤ pos m *ℤ (pos 4294967296 *ℤ over)) (*ℤ_comm (pos m) (pos a))
     ∙ ap (λ (k : ℤ). pos (a * m) +ℤ k) (times_assoc (pos m) (pos 4294967296) over
-        ∙ ap (λ (k : ℤ). k *ℤ over) (*ℤ_comm (pos m) (pos 4294967296))
-        ∙ sym (times_assoc (pos 4294967296) (pos m) over))
+    ∙ ap (λ (k : ℤ). k *ℤ over) (*ℤ_comm (pos m) (pos 4294967296))
+    ∙ sym (times_assoc (pos 4294967296) (pos m) over))
 
 reduced : (n : ℕ) → pos n ≡ pos (n % 4294967296) +ℤ pos 4294967296 *ℤ pos (n / 4294967296)
 reduced n = omega (arith, ints)
@@ -86,7 +86,7 @@ lows_of_two op g {us} {vs} {e} {f} is u v = record {
   long = length-zip2 op us vs (u.long ∙ sym v.long) ∙ u.long;
   low = λ i hi.
       subst (λ (n : ℕ). Low n (g (e i) (f i)))
-          (sym (get_or-zip2 op us vs i 0 0 0 (omega (arith, u.long)) (omega (arith, v.long))))
+      (sym (get_or-zip2 op us vs i 0 0 0 (omega (arith, u.long)) (omega (arith, v.long))))
       (is (get_or us i 0) (get_or vs i 0) (e i) (f i) (u.low i hi) (v.low i hi));
 }
 
@@ -99,8 +99,11 @@ lows_minus u v = lows_of_two minus (λ y z. y -ℤ z) minus_low u v
 pub lows_splat : (m : ℕ) → m < 4294967296 → Lows (replicate 8 m) (λ i. pos m)
 lows_splat m h = record {
   long = length-replicate 8 m;
-  low = λ i hi. subst (λ (n : ℕ). Low n (pos m)) (sym (get_or-replicate 8 i m 0 hi)) (record { below = h; over = pos 0;
-      is = omega (arith, ints) });
+  low = λ i hi. subst (λ (n : ℕ). Low n (pos m)) (sym (get_or-replicate 8 i m 0 hi)) (record {
+    below = h;
+    over = pos 0;
+    is = omega (arith, ints);
+  });
 }
 
 pub lows_times : (m : ℕ) {us : List ℕ} {f : ℕ → ℤ} → Lows us f
@@ -110,7 +113,7 @@ lows_times m {us} {f} u = record {
   low = λ i hi.
       subst (λ (n : ℕ). Low n (pos m *ℤ f i))
       (sym (get_or-zip2 times us (replicate 8 m) i 0 0 0 (omega (arith, u.long)) (omega (arith, length-replicate 8 m))
-          ∙ ap (times (get_or us i 0)) (get_or-replicate 8 i m 0 hi)))
+      ∙ ap (times (get_or us i 0)) (get_or-replicate 8 i m 0 hi)))
       (times_low (get_or us i 0) m (f i) (u.low i hi));
 }
 

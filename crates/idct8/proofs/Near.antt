@@ -36,15 +36,15 @@ pub row_bound : (b u : ℕ) (f : ℕ → ℤ) → u < 8 → ((x : ℕ) → x < 8
     → Within (b * 16384) (sum_below 8 (λ x. basis u x *ℤ f x))
 row_bound b u f hu h =
     let term = λ (x : ℕ) (hx : x < 8). subst (λ (n : ℕ). n ≤ b * unsigned_abs (basis u x))
-        (sym (unsigned_abs-mul (basis u x) (f x)))
+    (sym (unsigned_abs-mul (basis u x) (f x)))
     (let own : unsigned_abs (f x) ≤ b = abs_from_within b (f x) (h x hx) in
     let left : unsigned_abs (basis u x) * unsigned_abs (f x) ≤ unsigned_abs (basis u x) * b =
-        mul-le-mul_left (unsigned_abs (basis u x)) own in
+    mul-le-mul_left (unsigned_abs (basis u x)) own in
     omega (arith, left)) in
     let sizes : unsigned_abs (sum_below 8 (λ x. basis u x *ℤ f x)) ≤ total 8 (λ x. b * unsigned_abs (basis u x)) =
-        size_of_sum 8 (λ x. basis u x *ℤ f x) (λ x. b * unsigned_abs (basis u x)) term in
+    size_of_sum 8 (λ x. basis u x *ℤ f x) (λ x. b * unsigned_abs (basis u x)) term in
     let scaled : total 8 (λ x. b * unsigned_abs (basis u x)) ≡ b * total 8 (λ x. unsigned_abs (basis u x)) =
-        total_scaled b 8 (λ x. unsigned_abs (basis u x)) in
+    total_scaled b 8 (λ x. unsigned_abs (basis u x)) in
     let whole : b * total 8 (λ x. unsigned_abs (basis u x)) ≤ b * 16384 = mul-le-mul_left b (row_size u hu) in
     within_from_abs (b * 16384) (sum_below 8 (λ x. basis u x *ℤ f x)) (omega (arith, sizes, scaled, whole))
 
@@ -53,9 +53,9 @@ pub pass_bound : (b : ℕ) (r : List Row) (u i : ℕ) → u < 8 → i < 8 → Ro
     → Within (b * 16384) (pass_at Forward (list_at r i) u)
 pass_bound b r u i hu hi h = row_bound b u (λ x. lane (list_at r i) x) hu
     (below_eight (λ x. Within b (lane (list_at r i) x)) ((h 0 (lit< tt)).within i hi) ((h 1 (lit< tt)).within i hi)
-        ((h 2 (lit< tt)).within i hi) ((h 3 (lit< tt)).within i hi)
+    ((h 2 (lit< tt)).within i hi) ((h 3 (lit< tt)).within i hi)
     ((h 4 (lit< tt)).within i hi) ((h 5 (lit< tt)).within i hi) ((h 6 (lit< tt)).within i hi)
-        ((h 7 (lit< tt)).within i hi))
+    ((h 7 (lit< tt)).within i hi))
 
 -- ---- rounding
 
@@ -75,11 +75,11 @@ second_off z = omega (arith, ints, low_bits (z +ℤ pos 4096))
 -- 2^8 times a sum of numbers, of which each times 2^8 is another one and an error
 errors_apart : (u : ℕ) (h a : ℕ → ℤ) →
     pos 256 *ℤ sum_below 8 (λ x. basis u x *ℤ h x) ≡ sum_below 8 (λ x. basis u x *ℤ a x) +ℤ sum_below 8
-        (λ x. basis u x *ℤ (pos 256 *ℤ h x -ℤ a x))
+    (λ x. basis u x *ℤ (pos 256 *ℤ h x -ℤ a x))
 errors_apart u h a =
     factor_sum (pos 256) 8 (λ x. basis u x *ℤ h x)
     ∙ same_sum 8 (λ x. pos 256 *ℤ (basis u x *ℤ h x)) (λ x. basis u x *ℤ a x +ℤ basis u x *ℤ (pos 256 *ℤ h x -ℤ a x))
-        (λ x hx. one (basis u x) (h x) (a x))
+    (λ x hx. one (basis u x) (h x) (a x))
     ∙ sym (sums_added 8 (λ x. basis u x *ℤ a x) (λ x. basis u x *ℤ (pos 256 *ℤ h x -ℤ a x)))
   where
     whole : (k a : ℤ) → a +ℤ (k -ℤ a) ≡ k
@@ -100,8 +100,8 @@ unfolding exact_sum
 by_columns s v u =
     same_sum 8 (λ x. sum_below 8 (λ y. basis u x *ℤ basis v y *ℤ entry s y x)) (λ x. basis u x *ℤ down_sum s v x)
     (λ x hx. sym (factor_sum (basis u x) 8 (λ y. basis v y *ℤ entry s y x)
-        ∙ same_sum 8 (λ y. basis u x *ℤ (basis v y *ℤ entry s y x)) (λ y. basis u x *ℤ basis v y *ℤ entry s y x)
-        (λ y hy. times_assoc (basis u x) (basis v y) (entry s y x))))
+    ∙ same_sum 8 (λ y. basis u x *ℤ (basis v y *ℤ entry s y x)) (λ y. basis u x *ℤ basis v y *ℤ entry s y x)
+    (λ y hy. times_assoc (basis u x) (basis v y) (entry s y x))))
 
 -- two errors together
 both_off : (a e q t : ℤ) → pos 256 *ℤ q ≡ a +ℤ e → Within (128 * 16384) e → Within 4096 (pos 8192 *ℤ t -ℤ q)
@@ -121,13 +121,25 @@ off_by s v u hu =
 
 bracket : (a t c : ℤ) → Within 3145728 (pos 2097152 *ℤ t -ℤ a) → (pos 33554432 *ℤ c) ≤ℤ (a +ℤ pos 16777216)
     → (a +ℤ pos 16777216) ≤ℤ (pos 33554432 *ℤ c +ℤ pos 33554431) → IsBracketed t c
-bracket a (pos n) (pos m) h low high = record { least = omega (arith, ints); most = omega (arith, ints);
-    up = λ le. omega (arith, ints); down = λ le. omega (arith, ints) }
+bracket a (pos n) (pos m) h low high = record {
+  least = omega (arith, ints);
+  most = omega (arith, ints);
+  up = λ le. omega (arith, ints);
+  down = λ le. omega (arith, ints);
+}
 bracket a (pos n) (negsuc m) h low high = absurd (omega (arith, ints))
-bracket a (negsuc n) (pos m) h low high = record { least = omega (arith, ints); most = omega (arith, ints);
-    up = λ le. omega (arith, ints); down = λ le. omega (arith, ints) }
-bracket a (negsuc n) (negsuc m) h low high = record { least = omega (arith, ints); most = omega (arith, ints);
-    up = λ le. omega (arith, ints); down = λ le. omega (arith, ints) }
+bracket a (negsuc n) (pos m) h low high = record {
+  least = omega (arith, ints);
+  most = omega (arith, ints);
+  up = λ le. omega (arith, ints);
+  down = λ le. omega (arith, ints);
+}
+bracket a (negsuc n) (negsuc m) h low high = record {
+  least = omega (arith, ints);
+  most = omega (arith, ints);
+  up = λ le. omega (arith, ints);
+  down = λ le. omega (arith, ints);
+}
 
 pub near_is : (s : List ℤ) (v u : ℕ) → v < 8 → u < 8 → IsBracketed (near_at s v u) (forward_at s v u)
 unfolding exact_sum
@@ -145,7 +157,7 @@ ones = below_eight (λ x. basis 0 x ≡ pos 2048) refl refl refl refl refl refl 
 plain_sum : (f : ℕ → ℤ) → sum_below 8 (λ x. basis 0 x *ℤ f x) ≡ pos 2048 *ℤ sum_below 8 f
 plain_sum f =
     same_sum 8 (λ x. basis 0 x *ℤ f x) (λ x. pos 2048 *ℤ f x) (λ x hx. ap (λ (k : ℤ). k *ℤ f x) (ones x hx))
-        ∙ sym (factor_sum (pos 2048) 8 f)
+    ∙ sym (factor_sum (pos 2048) 8 f)
 
 -- the first rounding of a multiple of 2^8, and the second of one of 2^13
 first_none : (z d : ℤ) → z ≡ pos 2048 *ℤ d → int_shr (z +ℤ pos 128) 8 ≡ pos 8 *ℤ d
@@ -167,10 +179,10 @@ unfolding block_sum
 near_first s =
     let column = λ (x : ℕ). sum_below 8 (λ y. entry s y x) in
     let down : (x : ℕ) → x < 8 → down_at s 0 x ≡ pos 8 *ℤ column x = λ x hx. first_none (down_sum s 0 x) (column x)
-        (plain_sum (λ y. entry s y x)) in
+    (plain_sum (λ y. entry s y x)) in
     let across : sum_below 8 (λ x. basis 0 x *ℤ down_at s 0 x) ≡ pos 2048 *ℤ (pos 8 *ℤ sum_below 8 column) =
     plain_sum (down_at s 0) ∙ ap (λ (k : ℤ). pos 2048 *ℤ k) (same_sum 8 (down_at s 0) (λ x. pos 8 *ℤ column x) down
-        ∙ sym (factor_sum (pos 8) 8 column)) in
+    ∙ sym (factor_sum (pos 8) 8 column)) in
     second_none (sum_below 8 (λ x. basis 0 x *ℤ down_at s 0 x)) (sum_below 8 column) (omega (arith, ints, across))
 
 exact_first : (s : List ℤ) → exact_sum s 0 0 ≡ pos 4194304 *ℤ block_sum s
@@ -179,8 +191,8 @@ exact_first s =
     let column = λ (x : ℕ). sum_below 8 (λ y. entry s y x) in
     let across : sum_below 8 (λ x. basis 0 x *ℤ down_sum s 0 x) ≡ pos 2048 *ℤ (pos 2048 *ℤ sum_below 8 column) =
     plain_sum (down_sum s 0)
-        ∙ ap (λ (k : ℤ). pos 2048 *ℤ k) (same_sum 8 (down_sum s 0) (λ x. pos 2048 *ℤ column x)
-        (λ x hx. plain_sum (λ y. entry s y x)) ∙ sym (factor_sum (pos 2048) 8 column)) in
+    ∙ ap (λ (k : ℤ). pos 2048 *ℤ k) (same_sum 8 (down_sum s 0) (λ x. pos 2048 *ℤ column x)
+    (λ x hx. plain_sum (λ y. entry s y x)) ∙ sym (factor_sum (pos 2048) 8 column)) in
     by_columns s 0 0 ∙ omega (arith, ints, across)
 
 same_quotient : (a t d : ℤ) → a ≡ pos 4194304 *ℤ d → t ≡ pos 2 *ℤ d → int_shr (a +ℤ pos 16777216) 25
@@ -211,4 +223,4 @@ near_of_lanes s r t u v hv turned h =
     ap (λ (k : ℤ). int_shr (k +ℤ pos (2 ^ 12)) 13)
     (same_sum 8 (λ x. basis u x *ℤ lane (list_at t v) x) (λ x. basis u x *ℤ down_at s v x)
     (λ x hx. ap (λ (k : ℤ). basis u x *ℤ k) (listed t v x hx ∙ ap (λ (w : List ℤ). lane w v) (turned x hx)
-        ∙ listed r x v hv ∙ h v x hv hx)))
+    ∙ listed r x v hv ∙ h v x hv hx)))

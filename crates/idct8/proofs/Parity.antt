@@ -146,20 +146,20 @@ module _ (s : List ℤ) (v u : ℕ) (o q : Bool) (across : (x : ℕ) → x < 4 �
 
   columns_folded : (x : ℕ) → x < 4 →
       sum_below 8 (λ y. basis u x *ℤ basis v y *ℤ entry s y x) +ℤ sum_below 8
-          (λ y. basis u (7 - x) *ℤ basis v y *ℤ entry s y (7 - x))
-          ≡ sum_below 4 (λ y. basis u x *ℤ basis v y *ℤ part o q s y x)
+      (λ y. basis u (7 - x) *ℤ basis v y *ℤ entry s y (7 - x))
+      ≡ sum_below 4 (λ y. basis u x *ℤ basis v y *ℤ part o q s y x)
   columns_folded x hx =
       let here : sum_below 8 (λ y. basis u x *ℤ basis v y *ℤ entry s y x)
-          ≡ sum_below 4 (λ y. basis u x *ℤ basis v y *ℤ down_at q s y x) = column_folded x in
+      ≡ sum_below 4 (λ y. basis u x *ℤ basis v y *ℤ down_at q s y x) = column_folded x in
       let there : sum_below 8 (λ y. basis u (7 - x) *ℤ basis v y *ℤ entry s y (7 - x))
-          ≡ sum_below 4 (λ y. basis u (7 - x) *ℤ basis v y *ℤ down_at q s y (7 - x)) = column_folded (7 - x) in
+      ≡ sum_below 4 (λ y. basis u (7 - x) *ℤ basis v y *ℤ down_at q s y (7 - x)) = column_folded (7 - x) in
       ap (λ z. z +ℤ sum_below 8 (λ y. basis u (7 - x) *ℤ basis v y *ℤ entry s y (7 - x))) here
       ∙ ap (λ z. sum_below 4 (λ y. basis u x *ℤ basis v y *ℤ down_at q s y x) +ℤ z) there
       ∙ sums_added 4 (λ y. basis u x *ℤ basis v y *ℤ down_at q s y x)
-          (λ y. basis u (7 - x) *ℤ basis v y *ℤ down_at q s y (7 - x))
+      (λ y. basis u (7 - x) *ℤ basis v y *ℤ down_at q s y (7 - x))
       ∙ same_sum 4 _ (λ y. basis u x *ℤ basis v y *ℤ part o q s y x)
       (λ y hy. across_term o (basis u x) (basis u (7 - x)) (basis v y) (down_at q s y x) (down_at q s y (7 - x))
-          (across x hx))
+      (across x hx))
 
   -- the double sum of a coefficient is one over its part of the block
   pub all_folded : sum_below 8 (λ x. sum_below 8 (λ y. basis u x *ℤ basis v y *ℤ entry s y x))
@@ -199,7 +199,7 @@ unfolding sum_below total
 size_of_sum factor zero f g h = omega arith
 size_of_sum factor (suc n) f g h =
     let more : factor * unsigned_abs (sum_below n f +ℤ f n) ≤ factor * (unsigned_abs (sum_below n f) + unsigned_abs
-        (f n)) = mul-le-mul_left factor (two_sizes (sum_below n f) (f n)) in
+    (f n)) = mul-le-mul_left factor (two_sizes (sum_below n f) (f n)) in
     omega (arith, size_of_sum factor n f g h, h n, more)
 
 -- ---- the numbers of the basis
@@ -250,7 +250,7 @@ square_of_squares a b = omega arith
 -- the squares of all products of a number of one half row and a number of another
 basis_squares : (u v : ℕ) → u < 8 → v < 8 →
     total 4 (λ x. total 4 (λ y. unsigned_abs (basis u x) * unsigned_abs (basis v y) *
-        (unsigned_abs (basis u x) * unsigned_abs (basis v y)))) ≤ 16777851 * 16777851
+    (unsigned_abs (basis u x) * unsigned_abs (basis v y)))) ≤ 16777851 * 16777851
 basis_squares u v hu hv =
     let a : ℕ → ℕ = λ x. unsigned_abs (basis u x) in
     let b : ℕ → ℕ = λ y. unsigned_abs (basis v y) in
@@ -279,11 +279,11 @@ two_squares_by : (b : Bool) (m n : ℕ) → nat_lt m n ≡ b → 2 * (m * n) ≤
 two_squares_by true m n e =
     let less : m < n = ltb-true _ _ e in
     let is : m + (n - m) ≡ n = omega arith in
-        subst (λ (k : ℕ). 2 * (m * k) ≤ m * m + k * k) is (product_above m (n - m))
+    subst (λ (k : ℕ). 2 * (m * k) ≤ m * m + k * k) is (product_above m (n - m))
 two_squares_by false m n e =
     let more : n ≤ m = not_less m n e in
     let is : n + (m - n) ≡ m = omega arith in
-        subst (λ (k : ℕ). 2 * (k * n) ≤ k * k + n * n) is (product_below n (m - n))
+    subst (λ (k : ℕ). 2 * (k * n) ≤ k * k + n * n) is (product_below n (m - n))
 
 two_squares : (m n : ℕ) → 2 * (m * n) ≤ m * m + n * n
 two_squares m n = two_squares_by (nat_lt m n) m n refl
@@ -298,13 +298,13 @@ term t c s = term_by t c s (two_squares (t * c) (2 ^ 23 * s))
 -- one term of a coefficient: the factors of the folded samples times t, these samples times 2 ^ 23
 size_of_term : (t : ℕ) (a b s : ℤ) → 2 * (t * 2 ^ 23) * unsigned_abs (a *ℤ b *ℤ s)
     ≤ t * t * (unsigned_abs a * unsigned_abs b * (unsigned_abs a * unsigned_abs b)) + 2 ^ 46 *
-        (unsigned_abs s * unsigned_abs s)
+    (unsigned_abs s * unsigned_abs s)
 size_of_term t a b s =
     let c : ℕ = unsigned_abs a * unsigned_abs b in
     let size : unsigned_abs (a *ℤ b *ℤ s) ≡ c * unsigned_abs s = unsigned_abs-mul (a *ℤ b) s
-        ∙ ap (λ (n : ℕ). n * unsigned_abs s) (unsigned_abs-mul a b) in
+    ∙ ap (λ (n : ℕ). n * unsigned_abs s) (unsigned_abs-mul a b) in
     subst (λ (n : ℕ). 2 * (t * 2 ^ 23) * n ≤ t * t * (c * c) + 2 ^ 46 * (unsigned_abs s * unsigned_abs s)) (sym size)
-        (term t c (unsigned_abs s))
+    (term t c (unsigned_abs s))
 
 -- ---- the size of a coefficient
 
@@ -342,9 +342,9 @@ module _ (s : List ℤ) (rows : List Row) (o q : Bool) (at : ℕ → ℕ) (room 
     → x < 8 → k < 4 → lane (row_at rows x) (at k) ≡ down_at q s k x) (squares : List ℤ) (across : (i : ℕ) → i < 8
     → lane squares i ≡
     pos (square (mirrored o (lane (row_at rows 0) i) (lane (row_at rows 7) i)) + square
-        (mirrored o (lane (row_at rows 1) i) (lane (row_at rows 6) i))
+    (mirrored o (lane (row_at rows 1) i) (lane (row_at rows 6) i))
     + square (mirrored o (lane (row_at rows 2) i) (lane (row_at rows 5) i)) + square
-        (mirrored o (lane (row_at rows 3) i) (lane (row_at rows 4) i)))) where
+    (mirrored o (lane (row_at rows 3) i) (lane (row_at rows 4) i)))) where
   row_of_part : (k : ℕ) → k < 4 → unsigned_abs (lane squares (at k))
       ≡ square (part o q s k 0) + square (part o q s k 1) + square (part o q s k 2) + square (part o q s k 3)
   row_of_part k h =
@@ -358,7 +358,7 @@ module _ (s : List ℤ) (rows : List Row) (o q : Bool) (at : ℕ → ℕ) (room 
       let down_7 = downs 7 k (lit< tt) h in
       ap unsigned_abs (across (at k) (room k h)
       ∙ (λ i. pos (square (mirrored o (down_0 i) (down_7 i)) + square (mirrored o (down_1 i) (down_6 i)) + square
-          (mirrored o (down_2 i) (down_5 i)) + square (mirrored o (down_3 i) (down_4 i)))))
+      (mirrored o (down_2 i) (down_5 i)) + square (mirrored o (down_3 i) (down_4 i)))))
 
   four_rows : (g : ℕ → ℕ → ℕ) (most : ℕ)
       → (g 0 0 + g 0 1 + g 0 2 + g 0 3) + (g 1 0 + g 1 1 + g 1 2 + g 1 3) + (g 2 0 + g 2 1 + g 2 2 + g 2 3) +
@@ -368,13 +368,19 @@ module _ (s : List ℤ) (rows : List Row) (o q : Bool) (at : ℕ → ℕ) (room 
 
   pub energy_of : (passed : List ℤ) → ((i : ℕ) → lane passed i ≡ lane squares i) → (most : ℕ) →
       unsigned_abs (lane passed (at 0)) + unsigned_abs (lane passed (at 1)) + unsigned_abs
-          (lane passed (at 2)) + unsigned_abs (lane passed (at 3)) ≤ most → energy o q s ≤ most
+      (lane passed (at 2)) + unsigned_abs (lane passed (at 3)) ≤ most → energy o q s ≤ most
   energy_of passed same most few =
       let row : (k : ℕ) → k < 4 → unsigned_abs (lane passed (at k))
-          ≡ square (part o q s k 0) + square (part o q s k 1) + square (part o q s k 2) + square (part o q s k 3) =
-          λ k h. ap unsigned_abs (same (at k)) ∙ row_of_part k h in
-      four_rows (λ y x. square (part o q s y x)) most (omega (arith, few, row 0 (lit< tt), row 1 (lit< tt),
-          row 2 (lit< tt), row 3 (lit< tt)))
+      ≡ square (part o q s k 0) + square (part o q s k 1) + square (part o q s k 2) + square (part o q s k 3) =
+      λ k h. ap unsigned_abs (same (at k)) ∙ row_of_part k h in
+      four_rows (λ y x. square (part o q s y x)) most (omega (
+        arith,
+        few,
+        row 0 (lit< tt),
+        row 1 (lit< tt),
+        row 2 (lit< tt),
+        row 3 (lit< tt),
+      ))
 
 -- how large a sum over a part is
 part_small : (s : List ℤ) (v u t most : ℕ) (o q : Bool) → v < 8 → u < 8 → energy o q s ≤ most
@@ -383,27 +389,27 @@ part_small : (s : List ℤ) (v u t most : ℕ) (o q : Bool) → v < 8 → u < 8 
 part_small s v u t most o q hv hu energies few top =
     let squares : ℕ → ℕ → ℕ = λ x y. square (part o q s y x) in
     let product : ℕ → ℕ → ℕ = λ x y. unsigned_abs (basis u x) * unsigned_abs (basis v y) *
-        (unsigned_abs (basis u x) * unsigned_abs (basis v y)) in
+    (unsigned_abs (basis u x) * unsigned_abs (basis v y)) in
     let term : ℕ → ℕ → ℤ = λ x y. basis u x *ℤ basis v y *ℤ part o q s y x in
     let all : ℤ = sum_below 4 (λ x. sum_below 4 (term x)) in
     let factor : ℕ = 2 * (t * 2 ^ 23) in
     let column : (x : ℕ) → factor * unsigned_abs (sum_below 4 (term x)) ≤ t * t * total 4 (product x) + 2 ^ 46 * total 4
-        (squares x) = λ x.
+    (squares x) = λ x.
     subst (λ (n : ℕ). factor * unsigned_abs (sum_below 4 (term x)) ≤ n) (total_both (t * t) (2 ^ 46) 4 (product x)
-        (squares x))
+    (squares x))
     (size_of_sum factor 4 (term x) (λ y. t * t * product x y + 2 ^ 46 * squares x y)
-        (λ y. size_of_term t (basis u x) (basis v y) (part o q s y x))) in
+    (λ y. size_of_term t (basis u x) (basis v y) (part o q s y x))) in
     let whole : factor * unsigned_abs all ≤ t * t * total 4 (λ x. total 4 (product x)) + 2 ^ 46 * total 4
-        (λ x. total 4 (squares x)) =
+    (λ x. total 4 (squares x)) =
     subst (λ (n : ℕ). factor * unsigned_abs all ≤ n) (total_both (t * t) (2 ^ 46) 4 (λ x. total 4 (product x))
-        (λ x. total 4 (squares x)))
+    (λ x. total 4 (squares x)))
     (size_of_sum factor 4 (λ x. sum_below 4 (term x)) (λ x. t * t * total 4 (product x) + 2 ^ 46 * total 4 (squares x))
-        column) in
+    column) in
     let products : t * t * total 4 (λ x. total 4 (product x)) ≤ t * t * (16777851 * 16777851) = mul-le-mul_left (t * t)
-        (basis_squares u v hu hv) in
+    (basis_squares u v hu hv) in
     let small : total 4 (λ x. total 4 (squares x)) ≤ most = energies in
     below (unsigned_abs all) (total 4 (λ x. total 4 (squares x))) t (omega (arith, whole, products))
-        (omega (arith, small, few)) top
+    (omega (arith, small, few)) top
 
 -- a coefficient is smaller than t where each part of the block has so small a sum of squares
 coefficient_below : (s : List ℤ) (v u t most : ℕ) → v < 8 → u < 8 → ((o q : Bool) → energy o q s ≤ most)
@@ -446,7 +452,7 @@ mirrored_square : (o : Bool) (a b : ℤ) → square (mirrored o a b) ≤ 2 * (sq
 mirrored_square o a b =
     let size = mirrored_size o a b in
     let most : square (mirrored o a b) ≤ (unsigned_abs a + unsigned_abs b) * (unsigned_abs a + unsigned_abs b) =
-        mul-le-mul size size in
+    mul-le-mul size size in
     omega (arith, most, square_of_sum (unsigned_abs a) (unsigned_abs b))
 
 -- a number of a part by the four that it comes from
@@ -479,4 +485,4 @@ pub coefficient_small : (s : List ℤ) (v u t : ℕ) → v < 8 → u < 8 → t �
     unsigned_abs (forward_at s v u) < t
 coefficient_small s v u t hv hu top few =
     coefficient_below s v u t (4 * total 64 (λ k. square (get_or s k (pos 0)))) hv hu (λ o q. energy_most o q s)
-        (omega (arith, few)) top
+    (omega (arith, few)) top

@@ -21,15 +21,15 @@ column_sums d block r i = sum_below 8 (λ j. factor d j r *ℤ entry block j i)
 double_small : (d : Direction) (b : ℕ) (c : List ℤ) (r k : ℕ) → r < 8 → k < 8
     → ((j i : ℕ) → j < 8 → i < 8 → Within b (entry c j i)) →
     Within (2841 * (2841 * b * 8) * 8)
-        (sum_below 8 (λ i. sum_below 8 (λ j. factor d i k *ℤ factor d j r *ℤ entry c j i)))
+    (sum_below 8 (λ i. sum_below 8 (λ j. factor d i k *ℤ factor d j r *ℤ entry c j i)))
 double_small d b c r k hr hk h =
     within_same (2841 * (2841 * b * 8) * 8) (2841 * (2841 * b * 8) * 8) (omega arith)
     (same_sum 8 (λ i. sum_below 8 (λ j. factor d i k *ℤ factor d j r *ℤ entry c j i))
-        (λ i. factor d i k *ℤ column_sums d c r i)
+    (λ i. factor d i k *ℤ column_sums d c r i)
     (λ i hi. sym (factor_sum (factor d i k) 8 (λ j. factor d j r *ℤ entry c j i)
-        ∙ same_sum 8 _ _ (λ j hj. times_assoc (factor d i k) (factor d j r) (entry c j i)))))
+    ∙ same_sum 8 _ _ (λ j hj. times_assoc (factor d i k) (factor d j r) (entry c j i)))))
     (within_pass d (2841 * b * 8) k (λ i. column_sums d c r i) hk (λ i hi. within_pass d b r (λ j. entry c j i) hr
-        (λ j hj. h j i hj hi)))
+    (λ j hj. h j i hj hi)))
 
 -- rounding takes 25 bits away
 shifted_40 : (z : ℤ) → neg_ℤ (pos (2 ^ 40 - 2 ^ 24)) ≤ℤ z → z ≤ℤ pos (2 ^ 40 + 2 ^ 24) → Within (2 ^ 15) (int_shr z 25)
@@ -58,12 +58,14 @@ pub inverse_small : (c : List ℤ) (y x : ℕ) → y < 8 → x < 8
 inverse_small c y x hy hx h {z} e =
     within_same (2 ^ 15) (2 ^ 15) (lit≤ tt) e
     (rounded_40 _ (within_more (2841 * (2841 * 2 ^ 11 * 8) * 8) (2 ^ 40) _ (lit≤ tt)
-        (double_small Inverse (2 ^ 11) c y x hy hx h)))
+    (double_small Inverse (2 ^ 11) c y x hy hx h)))
 
 -- it fits 16 bits
 narrow_rounded : (z : ℤ) → Within (2841 * (2841 * 2 ^ 11 * 8) * 8) z → Within 32000 (rounded z)
-narrow_rounded z h = (omega (arith, ints, h, all_bits (z +ℤ pos (2 ^ 24))),
-    omega (arith, ints, h, all_bits (z +ℤ pos (2 ^ 24))))
+narrow_rounded z h = (
+  omega (arith, ints, h, all_bits (z +ℤ pos (2 ^ 24))),
+  omega (arith, ints, h, all_bits (z +ℤ pos (2 ^ 24))),
+)
 
 pub inverse_narrow : (c : List ℤ) (y x : ℕ) → y < 8 → x < 8
     → ((j i : ℕ) → j < 8 → i < 8 → Within (2 ^ 11) (entry c j i)) →
@@ -76,5 +78,5 @@ pub forward_small : (s : List ℤ) (v u : ℕ) → v < 8 → u < 8 → ((j i : �
 forward_small s v u hv hu h {z} e =
     let w : Within (2 ^ 15) z = within_same (2 ^ 15) (2 ^ 15) (lit≤ tt) e
     (rounded_40 _ (within_more (2841 * (2841 * 255 * 8) * 8) (2 ^ 40) _ (lit≤ tt)
-        (double_small Forward 255 s v u hv hu h))) in
+    (double_small Forward 255 s v u hv hu h))) in
     record { low = omega (arith, ints); high = omega (arith, ints) }

@@ -32,7 +32,7 @@ steps_by : (h l c r q : ℤ) → (pos 8192 *ℤ c) ≤ℤ (l +ℤ pos 16777216)
     → (l +ℤ pos 16777216) ≤ℤ (pos 8192 *ℤ c +ℤ pos 8191) →
     (pos 4096 *ℤ r) ≤ℤ (h +ℤ c) → (h +ℤ c) ≤ℤ (pos 4096 *ℤ r +ℤ pos 4095) →
     (pos 33554432 *ℤ q) ≤ℤ (pos 8192 *ℤ h +ℤ l +ℤ pos 16777216)
-        → (pos 8192 *ℤ h +ℤ l +ℤ pos 16777216) ≤ℤ (pos 33554432 *ℤ q +ℤ pos 33554431) → r ≡ q
+    → (pos 8192 *ℤ h +ℤ l +ℤ pos 16777216) ≤ℤ (pos 33554432 *ℤ q +ℤ pos 33554431) → r ≡ q
 steps_by h l c r q a b d e f g = omega (arith, ints)
 
 pub rounded_in_steps : (h l : ℤ) → int_shr (h +ℤ int_shr (l +ℤ pos 16777216) 13) 12 ≡ rounded (pos 8192 *ℤ h +ℤ l)
@@ -47,7 +47,7 @@ rounded_in_steps h l =
 -- an operation with a splat, and one of each lane
 pub splat_op_words : (w : Width) {m k : ℕ} {us : List ℕ} {f : ℕ → ℤ} (op : ℕ → ℕ → ℕ) (s : ℕ) (g : ℤ → ℤ) →
     ((a : ℤ) → Within m a → op (of_z w a) s ≡ of_z w (g a)) → ((a : ℤ) → Within m a → Within k (g a)) → Words w m us f
-        → Words w k (zip2 op us (replicate 8 s)) (λ i. g (f i))
+    → Words w k (zip2 op us (replicate 8 s)) (λ i. g (f i))
 splat_op_words w {m} {k} {us} {f} op s g is small u = record {
   long = length-zip2 op us (replicate 8 s) (u.long ∙ sym (length-replicate 8 s)) ∙ u.long;
   spelt = λ i hi. get_or-zip2 op us (replicate 8 s) i 0 0 0 (omega (arith, u.long))
@@ -111,11 +111,11 @@ high_words v h = down_words 13 8191 (lit≤ tt) high_small (own_words w32 465469
 
 pub low_words : (v : List ℤ) → EightWithin 46546944 v →
     Words w32 8191 (zip2 (λ a b. (a + (2 ^ 32 - b)) % 2 ^ 32) (map (of_z w32) v)
-        (zip2 up (zip2 down (map (of_z w32) v) (replicate 8 13)) (replicate 8 13)))
-        (λ i. lane v i -ℤ pos 8192 *ℤ int_shr (lane v i) 13)
+    (zip2 up (zip2 down (map (of_z w32) v) (replicate 8 13)) (replicate 8 13)))
+    (λ i. lane v i -ℤ pos 8192 *ℤ int_shr (lane v i) 13)
 low_words v h =
     refined w32 8191 (difference_words (lit≤ tt) (own_words w32 46546944 v h)
-        (splat_op_words w32 up 13 (λ a. pos 8192 *ℤ a) up_is up_small (high_words v h))) (λ i hi. low_small (lane v i))
+    (splat_op_words w32 up 13 (λ a. pos 8192 *ℤ a) up_is up_small (high_words v h))) (λ i hi. low_small (lane v i))
 
 pub whole_is : (z h l : ℤ) → h ≡ int_shr z 13 → l ≡ z -ℤ pos 8192 *ℤ int_shr z 13 → z ≡ pos 8192 *ℤ h +ℤ l
 whole_is z h l eh el = omega (arith, ints)
@@ -123,8 +123,11 @@ whole_is z h l eh el = omega (arith, ints)
 -- ---- rounding
 
 pub splat_words : (w : Width) (n : ℕ) (m : ℤ) → Within n m → Words w n (replicate 8 (of_z w m)) (λ i. m)
-splat_words w n m h = record { long = length-replicate 8 (of_z w m);
-    spelt = λ i hi. get_or-replicate 8 i (of_z w m) 0 hi; small = λ i hi. h }
+splat_words w n m h = record {
+  long = length-replicate 8 (of_z w m);
+  spelt = λ i hi. get_or-replicate 8 i (of_z w m) 0 hi;
+  small = λ i hi. h;
+}
 
 half_small : Within 16777216 (pos 16777216)
 half_small = (omega (arith, ints), omega (arith, ints))
@@ -137,13 +140,13 @@ result_small z h = omega (arith, ints, middle_bits z)
 
 pub nearest_words : (h l : List ℤ) → EightWithin (2 ^ 30) h → EightWithin (2 ^ 30) l →
     Words w32 270000 (zip2 down (zip2 (λ a b. (a + b) % 2 ^ 32) (map (of_z w32) h)
-        (zip2 down (zip2 (λ a b. (a + b) % 2 ^ 32) (map (of_z w32) l) (replicate 8 16777216)) (replicate 8 13)))
-        (replicate 8 12))
+    (zip2 down (zip2 (λ a b. (a + b) % 2 ^ 32) (map (of_z w32) l) (replicate 8 16777216)) (replicate 8 13)))
+    (replicate 8 12))
     (λ i. int_shr (lane h i +ℤ int_shr (lane l i +ℤ pos 16777216) 13) 12)
 nearest_words h l hh hl =
     down_words 12 270000 (lit≤ tt) result_small
     (sum_words (lit≤ tt) (own_words w32 (2 ^ 30) h hh) (down_words 13 140000 (lit≤ tt) carried_small
-        (sum_words (lit≤ tt) (own_words w32 (2 ^ 30) l hl) (splat_words w32 16777216 (pos 16777216) half_small))))
+    (sum_words (lit≤ tt) (own_words w32 (2 ^ 30) l hl) (splat_words w32 16777216 (pos 16777216) half_small))))
 
 quotient_small : (z : ℤ) → Within (2 ^ 31 - 1) z → Within 64 (int_shr z 25)
 quotient_small z h = omega (arith, ints, all_bits z)

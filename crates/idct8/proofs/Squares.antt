@@ -20,8 +20,10 @@ product_is_square (pos n) = refl
 product_is_square (negsuc n) = refl
 
 pub two_squares : (a b : ℤ) {z : ℤ} → z ≡ a *ℤ a +ℤ b *ℤ b → z ≡ pos (square a + square b)
-two_squares a b {z} e = let f : a *ℤ a +ℤ b *ℤ b ≡ pos (square a) +ℤ pos (square b) = cc (product_is_square a,
-    product_is_square b) in e ∙ f
+two_squares a b {z} e = let f : a *ℤ a +ℤ b *ℤ b ≡ pos (square a) +ℤ pos (square b) = cc (
+  product_is_square a,
+  product_is_square b,
+) in e ∙ f
 
 added : (k l m n : ℕ) → pos (k + l) +ℤ pos (m + n) ≡ pos (k + l + m + n)
 added k l m n = omega (arith, ints)
@@ -61,9 +63,9 @@ pub size_within : (most : ℕ) (v : List ℤ) (k n : ℕ) → most ≤ 214748364
 size_within most v k n fits h hk e =
     let passed : lane (map (to_z w32) (map (of_z w32) v)) k ≡ lane v k = passed_lane most k fits h in
     let kept : to_z w32 (of_z w32 (lane v k))
-        ≡ lane v k = to_z-of_z w32 (lane v k) (within_fits most (lane v k) fits (h.within k hk)) in
+    ≡ lane v k = to_z-of_z w32 (lane v k) (within_fits most (lane v k) fits (h.within k hk)) in
     let is : n ≡ unsigned_abs (lane v k) = e ∙ ap (λ (z : ℤ). unsigned_abs (to_z w32 (of_z w32 z))) passed
-        ∙ ap unsigned_abs kept in
+    ∙ ap unsigned_abs kept in
     (is, subst (λ (m : ℕ). m ≤ most) (sym is) (abs_from_within most (lane v k) (h.within k hk)))
 
 pub size_read : (v : List ℤ) (k n : ℕ) → EightWithin 1073479696 v → k < 8
@@ -81,9 +83,9 @@ pub up_read : (most : ℕ) (v : List ℤ) (k : ℕ) → most ≤ 2147483647 → 
 up_read most v k fits h hk up =
     let passed : lane (map (to_z w32) (map (of_z w32) v)) k ≡ lane v k = passed_lane most k fits h in
     let kept : to_z w32 (of_z w32 (lane v k))
-        ≡ lane v k = to_z-of_z w32 (lane v k) (within_fits most (lane v k) fits (h.within k hk)) in
+    ≡ lane v k = to_z-of_z w32 (lane v k) (within_fits most (lane v k) fits (h.within k hk)) in
     let is : to_z w32 (of_z w32 (lane (map (to_z w32) (map (of_z w32) v)) k))
-        ≡ lane v k = ap (λ (z : ℤ). to_z w32 (of_z w32 z)) passed ∙ kept in
+    ≡ lane v k = ap (λ (z : ℤ). to_z w32 (of_z w32 z)) passed ∙ kept in
     subst (λ (z : ℤ). T (non_neg z)) (sym is) (not_below (lane v k) up)
 
 pub up_by : {z y : ℤ} {n : ℕ} → z ≡ y → y ≡ pos n → pos 0 ≤ℤ z
@@ -127,11 +129,11 @@ by_columns g e e0 e1 e2 e3 e4 e5 e6 e7 = omega (arith, e, e0, e1, e2, e3, e4, e5
 pub column_squares : (s : List ℤ) (r : List Row) (v : List ℤ) (i : ℕ) → i < 8
     → ((j i : ℕ) → j < 8 → i < 8 → lane (row_at r j) i ≡ entry s j i) →
     lane v i ≡ pos (square (lane (row_at r 0) i) + square (lane (row_at r 1) i) + square (lane (row_at r 2) i) + square
-        (lane (row_at r 3) i)
+    (lane (row_at r 3) i)
     + (square (lane (row_at r 4) i) + square (lane (row_at r 5) i) + square (lane (row_at r 6) i) + square
-        (lane (row_at r 7) i))) →
+    (lane (row_at r 7) i))) →
     unsigned_abs (lane v i) ≡ square (entry s 0 i) + square (entry s 1 i) + square (entry s 2 i) + square
-        (entry s 3 i) + (square (entry s 4 i) + square (entry s 5 i) + square (entry s 6 i) + square (entry s 7 i))
+    (entry s 3 i) + (square (entry s 4 i) + square (entry s 5 i) + square (entry s 6 i) + square (entry s 7 i))
 column_squares s r v i hi numbers e =
     ap unsigned_abs e
     ∙ eight (numbers 0 i (lit< tt) hi) (numbers 1 i (lit< tt) hi) (numbers 2 i (lit< tt) hi) (numbers 3 i (lit< tt) hi)
@@ -140,5 +142,5 @@ column_squares s r v i hi numbers e =
     eight : {a b c d e f g h a' b' c' d' e' f' g' h' : ℤ} → a ≡ a' → b ≡ b' → c ≡ c' → d ≡ d' → e ≡ e' → f ≡ f' → g ≡ g'
         → h ≡ h' →
         square a + square b + square c + square d + (square e + square f + square g + square h)
-            ≡ square a' + square b' + square c' + square d' + (square e' + square f' + square g' + square h')
+        ≡ square a' + square b' + square c' + square d' + (square e' + square f' + square g' + square h')
     eight ea eb ec ed ee ef eg eh = cc (ea, eb, ec, ed, ee, ef, eg, eh)

@@ -44,7 +44,7 @@ passes_of_parts d h l f r e =
     ap (λ s. s +ℤ pass_at d l r) (factor_sum (pos 8192) 8 (λ j. factor d j r *ℤ lane h j))
     ∙ sums_added 8 (λ j. pos 8192 *ℤ (factor d j r *ℤ lane h j)) (λ j. factor d j r *ℤ lane l j)
     ∙ same_sum 8 _ _ (λ j hj. one_term (factor d j r) (lane h j) (lane l j)
-        ∙ ap (λ z. factor d j r *ℤ z) (sym (e j hj)))
+    ∙ ap (λ z. factor d j r *ℤ z) (sym (e j hj)))
   where
     one_term : (m a b : ℤ) → pos 8192 *ℤ (m *ℤ a) +ℤ m *ℤ b ≡ m *ℤ (pos 8192 *ℤ a +ℤ b)
     one_term m a b = ap (λ s. s +ℤ m *ℤ b) (times_assoc (pos 8192) m a ∙ ap (λ s. s *ℤ a) (*ℤ_comm (pos 8192) m)
@@ -59,7 +59,7 @@ passes_are d c f r k sums =
     (λ j hj. ap (λ z. factor d j r *ℤ z) (sums j hj)
     ∙ factor_sum (factor d j r) 8 (λ i. factor d i k *ℤ entry c j i)
     ∙ same_sum 8 _ _ (λ i hi. times_assoc (factor d j r) (factor d i k) (entry c j i)
-        ∙ ap (λ z. z *ℤ entry c j i) (*ℤ_comm (factor d j r) (factor d i k))))
+    ∙ ap (λ z. z *ℤ entry c j i) (*ℤ_comm (factor d j r) (factor d i k))))
     ∙ sums_turned 8 8 (λ j i. factor d i k *ℤ factor d j r *ℤ entry c j i))
 
 -- the sums of a row

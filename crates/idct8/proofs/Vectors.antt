@@ -67,7 +67,7 @@ times_is x m hx hm =
     let bx : of_z w32 x < 2 ^ 32 = omega (arith, ints) in
     let e : to_z w32 (times (of_z w32 x) (of_z w32 m)) ≡ x *ℤ m =
     rw (to_z-of_z w32 x fx, to_z-of_z w32 m fm) at (wrapping_mul-bits w32 (of_z w32 x) (of_z w32 m) bx bm)
-        ∙ int_wrap_fits w32 (x *ℤ m) fits in
+    ∙ int_wrap_fits w32 (x *ℤ m) fits in
     sym (of_z-to_z w32 (times (of_z w32 x) (of_z w32 m)) (omega arith)) ∙ ap (of_z w32) (e ∙ *ℤ_comm x m)
 
 pub plus_small : (a b : ℤ) (m n : ℕ) → Within m a → Within n b → Within (m + n) (a +ℤ b)
@@ -115,13 +115,13 @@ difference_words16 {m} {n} h u v = zip_words w16 minus16 (λ a b. a -ℤ b) (λ 
 -- a vector of numbers of 16 bits, made wide, times a factor
 pub product_words : (m : ℤ) (v : List ℤ) → Within (2 ^ 12) m → EightWithin 32767 v →
     Words w32 (2 ^ 12 * 32767) (zip2 times (map wide (map (of_z w16) v)) (replicate 8 (of_z w32 m)))
-        (λ i. m *ℤ lane v i)
+    (λ i. m *ℤ lane v i)
 product_words m v hm hv = record {
   long = length-zip2 times (map wide (map (of_z w16) v)) (replicate 8 (of_z w32 m)) (wide_long
       ∙ sym (length-replicate 8 (of_z w32 m))) ∙ wide_long;
   spelt = λ i hi.
       get_or-zip2 times (map wide (map (of_z w16) v)) (replicate 8 (of_z w32 m)) i 0 0 0 (omega (arith, wide_long))
-          (omega (arith, length-replicate 8 (of_z w32 m)))
+      (omega (arith, length-replicate 8 (of_z w32 m)))
       ∙ cc (
         get_or-map wide (map (of_z w16) v) i 0 0 (omega (arith, long)),
         get_or-map (of_z w16) v i (pos 0) 0 (omega (arith, hv.long)),
@@ -146,7 +146,7 @@ square_is x hx =
     let bx : of_z w32 x < 2 ^ 32 = omega (arith, ints) in
     let e : to_z w32 (times (of_z w32 x) (of_z w32 x)) ≡ x *ℤ x =
     rw (to_z-of_z w32 x fx) at (wrapping_mul-bits w32 (of_z w32 x) (of_z w32 x) bx bx)
-        ∙ int_wrap_fits w32 (x *ℤ x) fits in
+    ∙ int_wrap_fits w32 (x *ℤ x) fits in
     sym (of_z-to_z w32 (times (of_z w32 x) (of_z w32 x)) (omega arith)) ∙ ap (of_z w32) e
 
 -- the squares of a vector of numbers of 16 bits, made wide
@@ -157,7 +157,7 @@ square_words v hv = record {
   long = length-zip2 times (map wide (map (of_z w16) v)) (map wide (map (of_z w16) v)) refl ∙ wide_long;
   spelt = λ i hi.
       get_or-zip2 times (map wide (map (of_z w16) v)) (map wide (map (of_z w16) v)) i 0 0 0 (omega (arith, wide_long))
-          (omega (arith, wide_long))
+      (omega (arith, wide_long))
       ∙ cc (
         get_or-map wide (map (of_z w16) v) i 0 0 (omega (arith, long)),
         get_or-map (of_z w16) v i (pos 0) 0 (omega (arith, hv.long)),
@@ -193,7 +193,7 @@ lane_of : (w : Width) {n : ℕ} {us : List ℕ} {f : ℕ → ℤ} → ((z : ℤ)
     → (i : ℕ) → i < 8 → lane (map (to_z w) us) i ≡ f i
 lane_of w {n} {us} {f} fits u i hi =
     get_or-map (to_z w) us i 0 (pos 0) (omega (arith, u.long)) ∙ ap (to_z w) (u.spelt i hi)
-        ∙ to_z-of_z w (f i) (fits (f i) (u.small i hi))
+    ∙ to_z-of_z w (f i) (fits (f i) (u.small i hi))
 
 small_of : (w : Width) {n : ℕ} (k : ℕ) {us : List ℕ} {f : ℕ → ℤ} → ((z : ℤ) → Within n z → FitsSigned w z) → n ≤ k
     → Words w n us f → EightWithin k (map (to_z w) us)

@@ -25,7 +25,7 @@ pub inverse_of_zeros : (values : List ℤ) → ((at : ℕ) → at < 64 → slice
 inverse_of_zeros values h y x =
     let terms = λ (u v : ℕ). basis u x *ℤ basis v y *ℤ entry values v u in
     let inner = λ (u : ℕ) (hu : u < 8). zero_sum 8 (terms u) (λ v hv. times_zero (basis u x *ℤ basis v y)
-        (entry values v u) (h (8 * v + u) (omega arith))) in
+    (entry values v u) (h (8 * v + u) (omega arith))) in
     ap rounded (zero_sum 8 (λ u. sum_below 8 (terms u)) inner)
 
 -- the sums of a row of zeros

@@ -59,7 +59,7 @@ pub record Entered {State : Type 0} (side : Side) (s : LogState State) (after : 
 pub entered : {State : Type 0} (side : Side) (s : LogState State) (reader after : LogPlace) (at : ℕ)
     (found entry : Entry) (rest buf : List ℕ) (left : Option (List ℕ)) (o : Option (ℕ × Entry))
     → s.at ≡ reader.at → s.entries ≡ reader.entries → reader.side ≡ side → IsInLog after → o ≡ Some (at, found)
-        → found ≡ entry
+    → found ≡ entry
     → EntryGives (Ok o) reader rest buf left → Moves (Ok o) reader after → Entered side s after at entry rest buf left
 entered side s reader after at found entry rest buf left o place count of_side within some is gives moves =
     let known : o ≡ Some (at, entry) = some ∙ ap (λ (e : Entry). let x : Option (ℕ × Entry) = Some (at, e) in x) is in
@@ -92,5 +92,8 @@ still_long v buf long whole =
 -- what a command was ready for it still is where the same roles are attached
 pub ready_after : (ready : ℕ → (Role → Bool) → Type 0) (most n : ℕ) (old new : Role → Bool) → n ≤ most → new ≡ old
     → ready n old → ReadyAfter most (λ k. ready k new)
-ready_after ready most n old new few same is = record { count = n; few = few;
-    is = subst (λ (attached : Role → Bool). ready n attached) (sym same) is }
+ready_after ready most n old new few same is = record {
+  count = n;
+  few = few;
+  is = subst (λ (attached : Role → Bool). ready n attached) (sym same) is;
+}

@@ -14,7 +14,7 @@ use Rattle.log_command.specs.Log.{LogState, StopsAtHead, log_begin}
 pub begun : {State : Type 0} (laws : TurnLaws) (first : State) (head : Role → List ℕ) (stands : LogState State
     → (Role → List ℕ) → Type 0) (inputs : Role → List ℕ) (old new : Outside)
     → Tells old inputs → new.left ≡ old.left → Gains head old.written new.written
-        → stands (record { mind = first; at = 0; entries = 0 }) (left_after inputs no_bytes)
+    → stands (record { mind = first; at = 0; entries = 0 }) (left_after inputs no_bytes)
     → Went (log_begin first head) stands (λ _. true) true inputs old new
 begun laws first head stands inputs old new told same gains kept = record {
   next = record { mind = first; at = 0; entries = 0 };

@@ -41,7 +41,7 @@ module _ {State : Type 0} (does : LogRules State) (s : LogState State) where
   entry_next [] o few some is = absurd (omega arith)
   entry_next (b ∷ log) o few some is =
       ap (λ (t : Bool). if t then entry_step does s (b ∷ log) (entry_in does.side (b ∷ log)) else refused_log
-          (TooMany s.at)) (lt-ltb s.entries 16777216 few)
+      (TooMany s.at)) (lt-ltb s.entries 16777216 few)
       ∙ ap (entry_step does s (b ∷ log)) is
 
   pub none_next : (log : List ℕ) → s.entries ≡ 16777216 → 0 < length log
@@ -49,7 +49,7 @@ module _ {State : Type 0} (does : LogRules State) (s : LogState State) where
   none_next [] all some = absurd (omega arith)
   none_next (b ∷ log) all some =
       ap (λ (t : Bool). if t then entry_step does s (b ∷ log) (entry_in does.side (b ∷ log)) else refused_log
-          (TooMany s.at)) (le-ltb s.entries 16777216 (omega (arith, all)))
+      (TooMany s.at)) (le-ltb s.entries 16777216 (omega (arith, all)))
 
   -- ---- what was taken when a read failed holds no whole entry
 
@@ -63,7 +63,7 @@ module _ {State : Type 0} (does : LogRules State) (s : LogState State) where
     part_if : (t : Bool) (next : LogState State) (size : ℕ) (texts : Role → List ℕ)
         → IsPart (entry_turn size texts ∷ []) (of Events k)
         → IsPart (step_turns (if t then Goes next (entry_turn size texts) else refused_log (TooMany s.at)))
-            (of Events k)
+        (of Events k)
     part_if true next size texts part = part
     part_if false next size texts part = tt
 
@@ -115,16 +115,16 @@ module _ {State : Type 0} (does : LogRules State) (s : LogState State) where
       other_next : (bytes : List ℕ) (t : Bool) → bytes ≡ take (bytes_of e) (drop 3 (inputs Events))
           → nat_lt (does.plays s.mind) 1048576 ≡ t → log_step does s inputs
           ≡ (if t then Goes (after_entry s (does.other s.mind bytes) (3 + bytes_of e))
-              (entry_turn (3 + bytes_of e) (does.other_text s.mind bytes)) else refused_log (TooMany s.at))
+          (entry_turn (3 + bytes_of e) (does.other_text s.mind bytes)) else refused_log (TooMany s.at))
       other_next bytes t same test =
           entry_next (inputs Events) (Some e) few (some_bytes does.side (inputs Events) e is) is
           ∙ no_packet (inputs Events) e other ∙ ap (other_step does s (3 + bytes_of e)) (sym same)
           ∙ ap (λ (b : Bool). if b then Goes (after_entry s (does.other s.mind bytes) (3 + bytes_of e))
-              (entry_turn (3 + bytes_of e) (does.other_text s.mind bytes)) else refused_log (TooMany s.at)) test
+          (entry_turn (3 + bytes_of e) (does.other_text s.mind bytes)) else refused_log (TooMany s.at)) test
 
       pub other_is : (bytes : List ℕ) → bytes ≡ take (bytes_of e) (drop 3 (inputs Events)) → does.plays s.mind < 1048576
           → log_step does s inputs ≡ Goes (after_entry s (does.other s.mind bytes) (3 + bytes_of e))
-              (entry_turn (3 + bytes_of e) (does.other_text s.mind bytes))
+          (entry_turn (3 + bytes_of e) (does.other_text s.mind bytes))
       other_is bytes same more = other_next bytes true same (lt-ltb (does.plays s.mind) 1048576 more)
 
       pub all_played : 1048576 ≤ does.plays s.mind → log_step does s inputs ≡ refused_log (TooMany s.at)

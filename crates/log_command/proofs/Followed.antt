@@ -40,7 +40,7 @@ module _ {State : Type 0} (does : LogRules State) where
   comes_refused : (mind : State) (E : List Found) (F : Option LogFault) (rest : LogState State → (Role → ℕ)
       → Run) (fault : LogFault)
       → IsEnd F (does.plays mind) E (follow (refused_log {State = State} fault) rest).last.status
-          → Comes mind E F (follow (refused_log fault) rest)
+      → Comes mind E F (follow (refused_log fault) rest)
   comes_refused mind E F rest fault end = record {
     accepted = [];
     refused = E;
@@ -54,8 +54,11 @@ module _ {State : Type 0} (does : LogRules State) where
   comes_more : (mind : State) (found : Found) (E : List Found) (F : Option LogFault) (run : Run)
       → Comes (mind_with does mind found.entry found.bytes) E F run
       → Comes mind (found ∷ E) F
-          (record { turns = entry_turn (3 + bytes_of found.entry) (text_with does mind found.entry found.bytes) ∷
-          run.turns; last = run.last })
+      (record {
+        turns = entry_turn (3 + bytes_of found.entry) (text_with does mind found.entry found.bytes) ∷
+            run.turns;
+        last = run.last;
+      })
   comes_more mind found E F run comes =
       let now = mind_with does mind found.entry found.bytes in
       let text = text_with does mind found.entry found.bytes in
@@ -68,7 +71,7 @@ module _ {State : Type 0} (does : LogRules State) where
             append_assoc (text r) (texts_of run.turns r) (run.last.texts r)
             ∙ ap (λ (l : List ℕ). text r ++ l) (comes.texts r)
             ∙ sym (append_assoc (text r) (text_after does now comes.accepted r)
-                (told run.last.status (does.end_text (mind_after does now comes.accepted) r)));
+            (told run.last.status (does.end_text (mind_after does now comes.accepted) r)));
         end = comes.end;
       }
 
@@ -76,8 +79,8 @@ module _ {State : Type 0} (does : LogRules State) where
 
   module _ (s : LogState State) (n : ℕ) (rest : LogState State → (Role → ℕ) → Run) (log : List ℕ)
       (go : (mind : State) (size : ℕ)
-          → Comes mind (found_of does.side n (s.at + size) (drop size log))
-          (fault_of does.side n (s.at + size) (drop size log)) (rest (after_entry s mind size) (of Events size))) where
+      → Comes mind (found_of does.side n (s.at + size) (drop size log))
+      (fault_of does.side n (s.at + size) (drop size log)) (rest (after_entry s mind size) (of Events size))) where
     abbrev bytes : Entry → List ℕ
     bytes e = take (bytes_of e) (drop 3 log)
 
@@ -91,7 +94,7 @@ module _ {State : Type 0} (does : LogRules State) where
     goes_on : (e : Entry) → Comes s.mind (found_from (Some e) s.at log (laters (3 + bytes_of e)))
         (fault_from (Some e) s.at (later_fault (3 + bytes_of e)))
         (follow (Goes (after_entry s (mind_with does s.mind e (bytes e)) (3 + bytes_of e))
-            (entry_turn (3 + bytes_of e) (text_with does s.mind e (bytes e)))) rest)
+        (entry_turn (3 + bytes_of e) (text_with does s.mind e (bytes e)))) rest)
     goes_on e = comes_more s.mind (record { at = s.at; entry = e; bytes = bytes e }) (laters (3 + bytes_of e))
         (later_fault (3 + bytes_of e)) _ (go (mind_with does s.mind e (bytes e)) (3 + bytes_of e))
 
@@ -99,8 +102,8 @@ module _ {State : Type 0} (does : LogRules State) where
     other_comes : (e : Entry) → (IsPacketEntry e → ⊥) → mind_with does s.mind e (bytes e) ≡ does.other s.mind (bytes e)
         → text_with does s.mind e (bytes e) ≡ does.other_text s.mind (bytes e)
         → Comes s.mind (found_from (Some e) s.at log (laters (3 + bytes_of e)))
-            (fault_from (Some e) s.at (later_fault (3 + bytes_of e)))
-            (follow (other_step does s (3 + bytes_of e) (bytes e)) rest)
+        (fault_from (Some e) s.at (later_fault (3 + bytes_of e)))
+        (follow (other_step does s (3 + bytes_of e) (bytes e)) rest)
     other_comes e other mind text = by_test (nat_lt (does.plays s.mind) 1048576) refl
       where
         found : Found
@@ -109,14 +112,14 @@ module _ {State : Type 0} (does : LogRules State) where
         by_test : (t : Bool) → nat_lt (does.plays s.mind) 1048576 ≡ t
             → Comes s.mind (found ∷ laters (3 + bytes_of e)) (later_fault (3 + bytes_of e))
             (follow (if t then Goes (after_entry s (does.other s.mind (bytes e)) (3 + bytes_of e))
-                (entry_turn (3 + bytes_of e) (does.other_text s.mind (bytes e))) else refused_log (TooMany s.at)) rest)
+            (entry_turn (3 + bytes_of e) (does.other_text s.mind (bytes e))) else refused_log (TooMany s.at)) rest)
         by_test true few =
             subst (λ (x : State). Comes s.mind (found ∷ laters (3 + bytes_of e)) (later_fault (3 + bytes_of e))
-                (follow (Goes (after_entry s x (3 + bytes_of e))
-                (entry_turn (3 + bytes_of e) (does.other_text s.mind (bytes e)))) rest)) mind
+            (follow (Goes (after_entry s x (3 + bytes_of e))
+            (entry_turn (3 + bytes_of e) (does.other_text s.mind (bytes e)))) rest)) mind
             (subst (λ (x : Role → List ℕ). Comes s.mind (found ∷ laters (3 + bytes_of e)) (later_fault (3 + bytes_of e))
-                (follow (Goes (after_entry s (mind_with does s.mind e (bytes e)) (3 + bytes_of e))
-                (entry_turn (3 + bytes_of e) x)) rest)) text
+            (follow (Goes (after_entry s (mind_with does s.mind e (bytes e)) (3 + bytes_of e))
+            (entry_turn (3 + bytes_of e) x)) rest)) text
             (goes_on e))
         by_test false many = comes_refused s.mind (found ∷ laters (3 + bytes_of e)) (later_fault (3 + bytes_of e)) rest
             (TooMany s.at) (other, ltb-false (does.plays s.mind) 1048576 many, refl)
@@ -133,12 +136,12 @@ module _ {State : Type 0} (does : LogRules State) where
     -- where none is whole nothing follows
     reached : (o : Option Entry) → entry_in does.side log ≡ o
         → Comes s.mind (found_from o s.at log (laters (reach does.side log)))
-            (fault_from o s.at (later_fault (reach does.side log))) (follow (entry_step does s log o) rest)
+        (fault_from o s.at (later_fault (reach does.side log))) (follow (entry_step does s log o) rest)
     reached None is = entry_comes None
     reached (Some e) is =
         subst (λ (k : ℕ). Comes s.mind (found_from (Some e) s.at log (laters k))
-            (fault_from (Some e) s.at (later_fault k)) (follow (entry_step does s log (Some e)) rest))
-            (sym (reach_is does.side log e is)) (entry_comes (Some e))
+        (fault_from (Some e) s.at (later_fault k)) (follow (entry_step does s log (Some e)) rest))
+        (sym (reach_is does.side log e is)) (entry_comes (Some e))
 
   -- ---- the run
 
@@ -165,7 +168,7 @@ module _ {State : Type 0} (does : LogRules State) where
 
   last_comes : (s : LogState State) (log : List ℕ) → s.entries + 0 ≡ 16777216
       → Comes s.mind (found_of does.side 0 s.at log) (fault_of does.side 0 s.at log)
-          (follow (step_in does s log) (λ next taken. silence))
+      (follow (step_in does s log) (λ next taken. silence))
   unfolding found_of fault_of
   last_comes s [] room = comes_end s (λ next taken. silence)
   last_comes s (b ∷ log) room = last_choice s (nat_lt s.entries 16777216) _ room refl
@@ -175,14 +178,14 @@ module _ {State : Type 0} (does : LogRules State) where
     abbrev GoesOn : List ℕ → Type 0
     GoesOn log =
         (mind : State) (size : ℕ)
-            → Comes mind (found_of does.side n (s.at + size) (drop size log))
-            (fault_of does.side n (s.at + size) (drop size log)) (rest (after_entry s mind size) (of Events size))
+        → Comes mind (found_of does.side n (s.at + size) (drop size log))
+        (fault_of does.side n (s.at + size) (drop size log)) (rest (after_entry s mind size) (of Events size))
 
     choice_comes : (t : Bool) (log : List ℕ) → GoesOn log → nat_lt s.entries 16777216 ≡ t
         → Comes s.mind (found_from (entry_in does.side log) s.at log (found_of does.side n (s.at + reach does.side log)
-            (drop (reach does.side log) log)))
+        (drop (reach does.side log) log)))
         (fault_from (entry_in does.side log) s.at (fault_of does.side n (s.at + reach does.side log)
-            (drop (reach does.side log) log)))
+        (drop (reach does.side log) log)))
         (follow (or_many t s (entry_step does s log (entry_in does.side log))) rest)
     choice_comes false log go many = absurd (omega (arith, ltb-false s.entries 16777216 many, room))
     choice_comes true log go few = reached s n rest log go (entry_in does.side log) refl
@@ -199,13 +202,13 @@ module _ {State : Type 0} (does : LogRules State) where
 
   run_comes : (n : ℕ) (s : LogState State) (inputs : Role → List ℕ) → s.entries + n ≡ 16777216
       → Comes s.mind (found_of does.side n s.at (inputs Events)) (fault_of does.side n s.at (inputs Events))
-          (run_of (log_step does) n s inputs)
+      (run_of (log_step does) n s inputs)
   unfolding run_of
   run_comes zero s inputs room = last_comes s (inputs Events) room
   run_comes (suc n) s inputs room =
       step_comes s n (λ next taken. run_of (log_step does) n next (left_after inputs taken)) room (inputs Events)
       (λ mind size. run_comes n (after_entry s mind size) (left_after inputs (of Events size))
-          (one_less s.entries n room))
+      (one_less s.entries n room))
 
   module _ (first : State) (head : Role → List ℕ) (inputs : Role → List ℕ) where
     abbrev begin : LogState State

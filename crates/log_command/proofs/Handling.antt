@@ -45,12 +45,12 @@ module _ {State : Type 0} (does : LogRules State) (laws : TurnLaws) (s : LogStat
   stops stays reader after buf (reader_stops.BadRecord place) side at count e moves =
       refuses (LogRefused (BadRecord place))
       (entry_next does s (inputs Events) None (omega (arith, moves.0, count)) e.0
-          (subst (λ (x : Side). entry_in x (inputs Events) ≡ None) side e.1)
+      (subst (λ (x : Side). entry_in x (inputs Events) ≡ None) side e.1)
       ∙ ap (λ (n : ℕ). refused_log (BadRecord n)) (at ∙ sym moves.1))
   stops stays reader after buf (reader_stops.TooMany place) side at count e moves =
       refuses (LogRefused (TooMany place))
       (none_next does s (inputs Events) (count ∙ moves.0) e.0 ∙ ap (λ (n : ℕ). refused_log (TooMany n)) (at
-          ∙ sym moves.1))
+      ∙ sym moves.1))
 
   -- the log is at its end
   end_is : inputs Events ≡ [] → log_step does s inputs ≡ Ends (all_read does s)
@@ -64,13 +64,13 @@ module _ {State : Type 0} (does : LogRules State) (laws : TurnLaws) (s : LogStat
     by =
         laws.ends Fine no_bytes (does.end_text s.mind) inputs old new
         (laws.none_read Events old new inputs told none (ap (λ (l : Role → Option (List ℕ)). l Events) still
-            ∙ gone) (λ r other. ap (λ (l : Role → Option (List ℕ)). l r) still ∙ others r other))
+        ∙ gone) (λ r other. ap (λ (l : Role → Option (List ℕ)). l r) still ∙ others r other))
         (subst (λ (w : Role → Option (List ℕ)). Gains (does.end_text s.mind) w new.written) same gains);
   }
 
   pub end_cut : (new : Outside) → inputs Events ≡ []
       → GainsFronts (does.end_text s.mind) mid.written new.written
-          → GainsFronts (step_texts (log_step does s inputs)) old.written new.written
+      → GainsFronts (step_texts (log_step does s inputs)) old.written new.written
   end_cut new none g =
       subst (λ (x : Step (LogState State)). GainsFronts (step_texts x) old.written new.written) (sym (end_is none))
       (subst (λ (w : Role → Option (List ℕ)). GainsFronts (does.end_text s.mind) w new.written) same g)

@@ -50,7 +50,7 @@ module _ {State : Type 0} (does : LogRules State) (status : Status) (other : IsO
       (inputs Events) ends
   run_refuses_none (suc n) s inputs ends =
       at_log s (λ next taken. run_of (log_step does) n next (left_after inputs taken))
-          (λ next taken is. run_refuses_none n next (left_after inputs taken) is) (inputs Events) ends
+      (λ next taken is. run_refuses_none n next (left_after inputs taken) is) (inputs Events) ends
 
   pub none_refused : (first : State) (head : Role → List ℕ) (inputs : Role → List ℕ)
       → (log_run does first head inputs).last.status ≡ status → ⊥

@@ -22,7 +22,7 @@ pub first_found : (line more : List ℕ) (b : ℕ) → NoNewline line → b ≡ 
 first_found [] more b free ten = first_newline b more ten
 first_found (x ∷ line) more b free ten =
     first_other x (line ++ b ∷ more) (All-head Other x line free)
-        ∙ ap (λ (l : List ℕ). x ∷ l) (first_found line more b (All-tail Other x line free) ten)
+    ∙ ap (λ (l : List ℕ). x ∷ l) (first_found line more b (All-tail Other x line free) ten)
 
 -- a line that ends with the text
 pub first_all : (line : List ℕ) → NoNewline line → first_line line ≡ line
@@ -35,7 +35,7 @@ pub first_past : (front more : List ℕ) → NoNewline front → first_line (fro
 first_past [] more free = refl
 first_past (x ∷ front) more free =
     first_other x (front ++ more) (All-head Other x front free)
-        ∙ ap (λ (l : List ℕ). x ∷ l) (first_past front more (All-tail Other x front free))
+    ∙ ap (λ (l : List ℕ). x ∷ l) (first_past front more (All-tail Other x front free))
 
 -- what a byte that was read, or the end, says of what was left
 abbrev pub Begins : Option ℕ → List ℕ → Type 0
@@ -80,13 +80,17 @@ module _ (text buf : List ℕ) (i : ℕ) (came : Came text buf i) (left : Option
   pub unclosed : 0 < i → drop i text ≡ [] → IsFirst text buf i left × (is_closed text ≡ false)
   unclosed some none =
       let all : take i text ≡ text = sym (append-nil (take i text)) ∙ ap (λ (l : List ℕ). take i text ++ l) (sym none)
-          ∙ take-append-drop i text in
+      ∙ take-append-drop i text in
       let line : first_line text ≡ take i text = first_all text (subst NoNewline all came.free) ∙ sym all in
       let long : length (first_line text) ≡ i = ap (λ (l : List ℕ). length l) line ∙ size in
       let end : length text ≡ i = ap (λ (l : List ℕ). length l) (sym all) ∙ size in
       let over : length text ≤ length (first_line text) = omega (arith, long, end) in (
-        record { some = omega (arith, some, end); size = long; same = came.same ∙ sym line;
-            gone = after (length (first_line text)) (sym long) },
+        record {
+          some = omega (arith, some, end);
+          size = long;
+          same = came.same ∙ sym line;
+          gone = after (length (first_line text)) (sym long);
+        },
         le-ltb (length (first_line text)) (length text) over,
       )
 
@@ -101,11 +105,15 @@ module _ (text buf : List ℕ) (i : ℕ) (came : Came text buf i) (left : Option
     pub closed : b ≡ 10 → IsFirst text buf i left × (is_closed text ≡ true)
     closed ten =
         let line : first_line text ≡ take i text = ap first_line parts
-            ∙ first_found (take i text) (drop 1 (drop i text)) b came.free ten in
+        ∙ first_found (take i text) (drop 1 (drop i text)) b came.free ten in
         let long : length (first_line text) ≡ i = ap (λ (l : List ℕ). length l) line ∙ size in
         let more : length (first_line text) < length text = omega (arith, long, longer) in (
-          record { some = omega (arith, longer); size = long; same = came.same ∙ sym line;
-              gone = after (length (first_line text)) (sym long) },
+          record {
+            some = omega (arith, longer);
+            size = long;
+            same = came.same ∙ sym line;
+            gone = after (length (first_line text)) (sym long);
+          },
           lt-ltb (length (first_line text)) (length text) more,
         )
 
@@ -129,9 +137,14 @@ module _ (text buf : List ℕ) (i : ℕ) (came : Came text buf i) (left : Option
       too_long is =
           let line : first_line text ≡ take (i + 1) text ++ first_line (drop (i + 1) text) =
           ap first_line (sym (take-append-drop (i + 1) text))
-              ∙ first_past (take (i + 1) text) (drop (i + 1) text) free_on in
+          ∙ first_past (take (i + 1) text) (drop (i + 1) text) free_on in
           let all : length (take (i + 1) text) ≡ i + 1 = omega (arith, length-take (i + 1) text, longer) in
-          let long : 64 < length (first_line text) = omega (arith, ap (λ (l : List ℕ). length l) line,
-              length-append (take (i + 1) text) (first_line (drop (i + 1) text)), all, is) in
+          let long : 64 < length (first_line text) = omega (
+            arith,
+            ap (λ (l : List ℕ). length l) line,
+            length-append (take (i + 1) text) (first_line (drop (i + 1) text)),
+            all,
+            is,
+          ) in
           let most : min (length (first_line text) + 1) 65 ≡ 64 + 1 = omega (arith, long) in
           (long, after 64 is ∙ ap (λ (k : ℕ). Some (drop k text)) (sym most))

@@ -14,8 +14,11 @@ use Rattle.loss_trace.proofs.Spelled.{long_says_none}
 
 pub over : (reader : TracePlace) (rest : List ℕ) (left : Option (List ℕ)) → rest ≡ [] → left ≡ Some (drop 1 rest)
     → IsOver reader rest left
-over reader rest left none gone = (gone ∙ ap (λ (l : List ℕ). Some (drop 1 l)) none
-    ∙ ap (λ (l : List ℕ). Some l) (sym none), λ _. none)
+over reader rest left none gone = (
+  gone ∙ ap (λ (l : List ℕ). Some (drop 1 l)) none
+      ∙ ap (λ (l : List ℕ). Some l) (sym none),
+  λ _. none,
+)
 
 pub past_all : (rest : List ℕ) (b : ℕ) (left : Option (List ℕ)) → rest ≡ b ∷ drop 1 rest → left ≡ Some (drop 1 rest)
     → IsPastAll rest left

@@ -39,7 +39,7 @@ number_found n digits h =
     let is : is_number digits ≡ true =
     and_of (nat_lt 0 (length digits) && nat_le (length digits) 7) (all_ascii_digits digits)
     (and_of (nat_lt 0 (length digits)) (nat_le (length digits) 7) (lt-ltb 0 (length digits) h.some)
-        (le-leb (length digits) 7 h.few)) h.decimal in
+    (le-leb (length digits) 7 h.few)) h.decimal in
     (λ i. cond (is i) (Some (h.value i)) None)
 
 -- the first full stop
@@ -68,7 +68,7 @@ stop_len (b ∷ digits) more all =
     let h = both (is_ascii_digit b) (all_ascii_digits digits) all in
     let apart : not (is_stop b) ≡ true = ap not (digit_apart b h.0) in
     ap (λ (t : Bool). cond t (1 + position_or_len is_stop (digits ++ 46 ∷ more)) 0) apart
-        ∙ (omega (arith, stop_len digits more h.1))
+    ∙ (omega (arith, stop_len digits more h.1))
 
 stop_found : (digits more : List ℕ) → all_ascii_digits digits ≡ true → position is_stop (digits ++ 46 ∷ more)
     ≡ Some (length digits)
@@ -100,8 +100,13 @@ module _ (bytes digits place : List ℕ) (n : ℕ) (parts : bytes ≡ digits ++ 
   one_place : (o : Option ℕ) → number_in place ≡ o → option_map (λ i. Packet n i) o ≡ Some event → IsPlace event bytes
   one_place None is e = absurd (cc)
   one_place (Some i) is e =
-      let spelled : IsPlace (Packet n i) bytes = (digits, 46 ∷ place, parts, number,
-          (46 ∷ [], place, refl, refl, (place, [], sym (append-nil place), number_is place i is, refl))) in
+      let spelled : IsPlace (Packet n i) bytes = (
+        digits,
+        46 ∷ place,
+        parts,
+        number,
+        (46 ∷ [], place, refl, refl, (place, [], sym (append-nil place), number_is place i is, refl)),
+      ) in
       let same : Packet n i ≡ event = cc in
       subst (λ (x : Event). IsPlace x bytes) same spelled
 
@@ -109,8 +114,13 @@ module _ (bytes digits place : List ℕ) (n : ℕ) (parts : bytes ≡ digits ++ 
       → cond t (Some (All n)) (option_map (λ i. Packet n i) (number_in place)) ≡ Some event → IsPlace event bytes
   a_place true is e =
       let star : place ≡ codes "*" = (bytes_eq-Decides place (codes "*")).0 is in
-      let spelled : IsPlace (All n) bytes = (digits, 46 ∷ place, parts, number,
-          (46 ∷ place, [], sym (append-nil (46 ∷ place)), ap (λ (l : List ℕ). 46 ∷ l) star, refl)) in
+      let spelled : IsPlace (All n) bytes = (
+        digits,
+        46 ∷ place,
+        parts,
+        number,
+        (46 ∷ place, [], sym (append-nil (46 ∷ place)), ap (λ (l : List ℕ). 46 ∷ l) star, refl),
+      ) in
       let same : All n ≡ event = cc in
       subst (λ (x : Event). IsPlace x bytes) same spelled
   a_place false is e = one_place (number_in place) refl e
@@ -120,7 +130,7 @@ a_number : (bytes : List ℕ) (k : ℕ) (event : Event) → position is_stop byt
 a_number bytes k event at None is e = absurd (cc)
 a_number bytes k event at (Some n) is e =
     a_place bytes (take k bytes) (drop (k + 1) bytes) n (stop_parts bytes k at) (number_is (take k bytes) n is) event
-        (bytes_eq (drop (k + 1) bytes) (codes "*")) refl e
+    (bytes_eq (drop (k + 1) bytes) (codes "*")) refl e
 
 a_stop : (bytes : List ℕ) (event : Event) (o : Option ℕ) → position is_stop bytes ≡ o → with_stop bytes o ≡ Some event
     → IsPlace event bytes
@@ -149,8 +159,8 @@ no_star place all is = let e : all_ascii_digits (codes "*") ≡ true = subst (λ
 with_place_at : (n i : ℕ) (place : List ℕ) → IsNumber i place → with_place place n ≡ Some (Packet n i)
 with_place_at n i place number =
     let star : bytes_eq place (codes "*")
-        ≡ false = false_of (bytes_eq place (codes "*"))
-        (λ t. no_star place number.decimal ((bytes_eq-Decides place (codes "*")).0 t)) in
+    ≡ false = false_of (bytes_eq place (codes "*"))
+    (λ t. no_star place number.decimal ((bytes_eq-Decides place (codes "*")).0 t)) in
     ap (λ (t : Bool). cond t (Some (All n)) (option_map (λ k. Packet n k) (number_in place))) star
     ∙ ap (λ (o : Option ℕ). option_map (λ k. Packet n k) o) (number_found i place number)
 
@@ -164,11 +174,11 @@ place_found Send bytes h = absurd h
 place_found (Packet n i) bytes (digits, rest, parts, is, (dot, after, more, stop, (digits2, none, all, is2, end))) =
     let place : after ≡ digits2 = all ∙ ap (λ (l : List ℕ). digits2 ++ l) end ∙ append-nil digits2 in
     let whole : bytes ≡ digits ++ 46 ∷ digits2 = parts ∙ ap (λ (l : List ℕ). digits ++ l) (more
-        ∙ (λ j. stop j ++ place j)) in
+    ∙ (λ j. stop j ++ place j)) in
     ap packet_in whole ∙ packet_at n digits digits2 is ∙ with_place_at n i digits2 is2
 place_found (All n) bytes (digits, rest, parts, is, (dot, none, more, stop, end)) =
     let whole : bytes ≡ digits ++ 46 ∷ 42 ∷ [] = parts
-        ∙ ap (λ (l : List ℕ). digits ++ l) (word_after (codes ".*") rest dot none more stop end) in
+    ∙ ap (λ (l : List ℕ). digits ++ l) (word_after (codes ".*") rest dot none more stop end) in
     ap packet_in whole ∙ packet_at n digits (42 ∷ []) is
 place_found (Back message) bytes h = absurd h
 place_found Play bytes h = absurd h
@@ -212,8 +222,13 @@ module _ (line : List ℕ) (event : Event) where
       → option_map (λ n. Back n) o ≡ Some event → IsLine event line
   back_line None is front e = absurd (cc)
   back_line (Some n) is front e =
-      let spelled : IsLine (Back n) line = (codes "B ", drop 2 line, front, refl,
-          (drop 2 line, [], sym (append-nil (drop 2 line)), number_is (drop 2 line) n is, refl)) in
+      let spelled : IsLine (Back n) line = (
+        codes "B ",
+        drop 2 line,
+        front,
+        refl,
+        (drop 2 line, [], sym (append-nil (drop 2 line)), number_is (drop 2 line) n is, refl),
+      ) in
       let same : Back n ≡ event = cc in
       subst (λ (x : Event). IsLine x line) same spelled
 
@@ -227,7 +242,7 @@ module _ (line : List ℕ) (event : Event) where
       (option_map (λ n. Back n) (number_in (drop 2 line))) (short_in line)) ≡ Some event → IsLine event line
   a_packet true is e =
       subst (λ (l : List ℕ). IsLine event l) (sym (begins line (codes "D ") is))
-          (place_line event (drop 2 line) (packet_is (drop 2 line) event e))
+      (place_line event (drop 2 line) (packet_is (drop 2 line) event e))
   a_packet false is e = a_back (bytes_eq (take 2 line) (codes "B ")) refl e
 
 -- a line in which an event is found is a text of it
@@ -245,7 +260,7 @@ event_found (All n) line (front, rest, parts, is, h) =
 event_found (Back n) line (front, rest, parts, is, (digits, none, all, number, end)) =
     let back : rest ≡ digits = all ∙ ap (λ (l : List ℕ). digits ++ l) end ∙ append-nil digits in
     ap event_in (parts ∙ (λ i. is i ++ back i))
-        ∙ ap (λ (o : Option ℕ). option_map (λ k. Back k) o) (number_found n digits number)
+    ∙ ap (λ (o : Option ℕ). option_map (λ k. Back k) o) (number_found n digits number)
 event_found Play line (front, rest, parts, is, end) = ap event_in (word_after (codes "P") line front rest parts is end)
 
 -- a line of an event is short
@@ -264,8 +279,13 @@ part_len (Number n) bytes is = is.few
 parts_len : (parts : List Part) (bytes : List ℕ) → Spell parts bytes → length bytes ≤ most parts
 parts_len [] bytes none = omega (arith, ap (λ (l : List ℕ). length l) none)
 parts_len (part ∷ parts) bytes (front, rest, whole, is, h) =
-    omega (arith, ap (λ (l : List ℕ). length l) whole, length-append front rest, part_len part front is,
-        parts_len parts rest h)
+    omega (
+      arith,
+      ap (λ (l : List ℕ). length l) whole,
+      length-append front rest,
+      part_len part front is,
+      parts_len parts rest h,
+    )
 
 event_len : (event : Event) → most (parts_of event) ≤ 17
 event_len Nothing = lit≤ tt

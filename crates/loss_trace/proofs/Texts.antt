@@ -21,8 +21,14 @@ pub record Begins (text : List ℕ) (lines : List (List ℕ)) : Type 0 where
   pub after : IsText (later_lines text) more
 
 pub no_lines : (lines : List (List ℕ)) → lines ≡ [] → IsText [] lines
-no_lines lines none = record { closed = []; end = []; spelled = refl; apart = All-nil Free;
-    unclosed = All-nil (λ b. b ≢ 10); all = none }
+no_lines lines none = record {
+  closed = [];
+  end = [];
+  spelled = refl;
+  apart = All-nil Free;
+  unclosed = All-nil (λ b. b ≢ 10);
+  all = none;
+}
 
 -- a line and its newline stand first
 module _ (line rest : List ℕ) (free : NoNewline line) where
@@ -62,11 +68,17 @@ begins_closed text line closed end lines spelled apart free all =
     let rest = closed_text closed ++ end in
     let none : NoNewline line = All-head Free line closed apart in
     let whole : text ≡ line ++ 10 ∷ rest = spelled ∙ append_assoc (line ++ 10 ∷ []) (closed_text closed) end
-        ∙ append_assoc line (10 ∷ []) rest in
+    ∙ append_assoc line (10 ∷ []) rest in
     let first : first_line text ≡ line = ap first_line whole ∙ whole_first line rest none in
     let after : later_lines text ≡ rest = ap later_lines whole ∙ whole_after line rest none in
-    let tail : IsText rest (closed ++ last_line end) = record { closed = closed; end = end; spelled = refl;
-        apart = All-tail Free line closed apart; unclosed = free; all = refl } in record {
+    let tail : IsText rest (closed ++ last_line end) = record {
+      closed = closed;
+      end = end;
+      spelled = refl;
+      apart = All-tail Free line closed apart;
+      unclosed = free;
+      all = refl;
+    } in record {
       more = closed ++ last_line end;
       first = all ∙ ap (λ (l : List ℕ). l ∷ (closed ++ last_line end)) (sym first);
       after = subst (λ (l : List ℕ). IsText l (closed ++ last_line end)) (sym after) tail;
@@ -86,8 +98,13 @@ no_text : (closed : List (List ℕ)) (end : List ℕ) (lines : List (List ℕ)) 
     → lines ≡ closed ++ last_line end → lines ≡ []
 no_text [] end lines spelled all = all ∙ ap last_line (sym spelled)
 no_text (line ∷ closed) end lines spelled all =
-    absurd (omega (arith, ap (λ (l : List ℕ). length l) spelled, length-append (closed_text (line ∷ closed)) end,
-        length-append (line ++ 10 ∷ []) (closed_text closed), length-append line (10 ∷ [])))
+    absurd (omega (
+      arith,
+      ap (λ (l : List ℕ). length l) spelled,
+      length-append (closed_text (line ∷ closed)) end,
+      length-append (line ++ 10 ∷ []) (closed_text closed),
+      length-append line (10 ∷ []),
+    ))
 
 pub ends : (lines : List (List ℕ)) → IsText [] lines → lines ≡ []
 ends lines is = no_text is.closed is.end lines is.spelled is.all
@@ -123,10 +140,10 @@ split_step b text split true is more =
 split_step b text split false is more =
     let line = first_line text in
     let longer : length line < length text = omega (arith, more, ap (λ (l : List ℕ). length l) (first_byte b text is))
-        in
+    in
     let place : suc (length line + 1) ≡ length (b ∷ line) + 1 = omega arith in
     let here : Splits (b ∷ text) (b ∷ line) = ap (λ (l : List ℕ). b ∷ l) (split longer)
-        ∙ ap (λ (n : ℕ). b ∷ (line ++ 10 ∷ drop n (b ∷ text))) place in
+    ∙ ap (λ (n : ℕ). b ∷ (line ++ 10 ∷ drop n (b ∷ text))) place in
     subst (Splits (b ∷ text)) (sym (first_byte b text is)) here
 
 splits : (text : List ℕ) → length (first_line text) < length text → Splits text (first_line text)
@@ -137,8 +154,11 @@ all_step : (b : ℕ) (text : List ℕ) → (length text ≤ length (first_line t
     → (b == 10) ≡ t → length (b ∷ text) ≤ length (first_line (b ∷ text)) → b ∷ text ≡ first_line (b ∷ text)
 all_step b text all true is le = absurd (omega (arith, le, ap (λ (l : List ℕ). length l) (first_ten b text is)))
 all_step b text all false is le =
-    let shorter : length text ≤ length (first_line text) = omega (arith, le,
-        ap (λ (l : List ℕ). length l) (first_byte b text is)) in
+    let shorter : length text ≤ length (first_line text) = omega (
+      arith,
+      le,
+      ap (λ (l : List ℕ). length l) (first_byte b text is),
+    ) in
     ap (λ (l : List ℕ). b ∷ l) (all shorter) ∙ sym (first_byte b text is)
 
 -- or all of it is its first line
@@ -179,11 +199,11 @@ before_cases b rest more is true closed = before_text (b ∷ rest) more
     (splits (b ∷ rest) (ltb-true (length (first_line (b ∷ rest))) (length (b ∷ rest)) closed)) is
 before_cases b rest more is false closed =
     let short : length (b ∷ rest) ≤ length (first_line (b ∷ rest)) = ltb-false (length (first_line (b ∷ rest)))
-        (length (b ∷ rest)) closed in
+    (length (b ∷ rest)) closed in
     let after : later_lines (b ∷ rest) ≡ [] = drop_of_length-le (b ∷ rest) {i = length (first_line (b ∷ rest)) + 1}
-        (omega (arith, short)) in
+    (omega (arith, short)) in
     alone (b ∷ rest) more b rest refl (is_all (b ∷ rest) short)
-        (ends more (subst (λ (l : List ℕ). IsText l more) after is))
+    (ends more (subst (λ (l : List ℕ). IsText l more) after is))
 
 pub before : (b : ℕ) (rest : List ℕ) (more : List (List ℕ)) → IsText (later_lines (b ∷ rest)) more
     → IsText (b ∷ rest) (first_line (b ∷ rest) ∷ more)
@@ -194,8 +214,12 @@ lines_from : (n : ℕ) (text : List ℕ) → length text ≤ n → (lines : List
 lines_from n [] le = ([], no_lines [] refl)
 lines_from zero (b ∷ text) le = absurd (omega arith)
 lines_from (suc n) (b ∷ text) le =
-    let less : length (later_lines (b ∷ text)) ≤ n = omega (arith, le, length-drop (length (first_line (b ∷ text)) + 1)
-        (b ∷ text)) in
+    let less : length (later_lines (b ∷ text)) ≤ n = omega (
+      arith,
+      le,
+      length-drop (length (first_line (b ∷ text)) + 1)
+          (b ∷ text),
+    ) in
     let more = lines_from n (later_lines (b ∷ text)) less in
     (first_line (b ∷ text) ∷ more.0, before b text more.0 more.1)
 
@@ -208,12 +232,16 @@ one_from : (n : ℕ) (text : List ℕ) (lines others : List (List ℕ)) → leng
 one_from n [] lines others le is other = ends lines is ∙ sym (ends others other)
 one_from zero (b ∷ text) lines others le is other = absurd (omega arith)
 one_from (suc n) (b ∷ text) lines others le is other =
-    let less : length (later_lines (b ∷ text)) ≤ n = omega (arith, le, length-drop (length (first_line (b ∷ text)) + 1)
-        (b ∷ text)) in
+    let less : length (later_lines (b ∷ text)) ≤ n = omega (
+      arith,
+      le,
+      length-drop (length (first_line (b ∷ text)) + 1)
+          (b ∷ text),
+    ) in
     let p = begins b text lines is in
     let q = begins b text others other in
     p.first ∙ ap (λ (l : List (List ℕ)). first_line (b ∷ text) ∷ l)
-        (one_from n (later_lines (b ∷ text)) p.more q.more less p.after q.after) ∙ sym q.first
+    (one_from n (later_lines (b ∷ text)) p.more q.more less p.after q.after) ∙ sym q.first
 
 pub one_lines : (text : List ℕ) (lines others : List (List ℕ)) → IsText text lines → IsText text others → lines ≡ others
 one_lines text lines others is other = one_from (length text) text lines others (omega arith) is other

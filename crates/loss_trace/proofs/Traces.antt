@@ -58,8 +58,12 @@ passed : (m at n : ℕ) (text : List ℕ) (events : List Event) (lines tail : Li
 passed m at n text [] [] tail size is says =
     let same : n ≡ m = omega (arith, size) in
     let here : at ≡ at + 0 = omega arith in
-    record { rest = text; is = is; fault = (λ i. fault_of (same i) (here i) text);
-        read = ap (λ (k : ℕ). events_of k text) same }
+    record {
+      rest = text;
+      is = is;
+      fault = (λ i. fault_of (same i) (here i) text);
+      read = ap (λ (k : ℕ). events_of k text) same;
+    }
 passed m at n text [] (line ∷ lines) tail size is says = absurd says
 passed m at n text (event ∷ events) [] tail size is says = absurd says
 passed m at n [] (event ∷ events) (line ∷ lines) tail size is says =
@@ -69,20 +73,20 @@ passed m at (suc n) (b ∷ text) (event ∷ events) (line ∷ lines) tail size i
     let p = begins b text ((line ∷ lines) ++ tail) is in
     let first : line ≡ first_line (b ∷ text) = first_of line (first_line (b ∷ text)) (lines ++ tail) p.more p.first in
     let after : IsText (later_lines (b ∷ text)) (lines ++ tail) =
-        subst (λ (l : List (List ℕ)). IsText (later_lines (b ∷ text)) l)
-        (sym (more_of line (first_line (b ∷ text)) (lines ++ tail) p.more p.first)) p.after in
+    subst (λ (l : List (List ℕ)). IsText (later_lines (b ∷ text)) l)
+    (sym (more_of line (first_line (b ∷ text)) (lines ++ tail) p.more p.first)) p.after in
     let said : event_in (first_line (b ∷ text)) ≡ Some event = ap event_in (sym first)
-        ∙ event_found event line says.0 in
+    ∙ event_found event line says.0 in
     let h = passed m (at + 1) n (later_lines (b ∷ text)) events lines tail (omega (arith, size)) after says.1 in
     let place : at + 1 + length lines ≡ at + length (line ∷ lines) = omega arith in record {
       rest = h.rest;
       is = h.is;
       fault = fault_step n at b text
           ∙ ap (λ (o : Option Event). fault_from o at (fault_of n (at + 1) (later_lines (b ∷ text)))) said ∙ h.fault
-              ∙ ap (λ (k : ℕ). fault_of m k h.rest) place;
+          ∙ ap (λ (k : ℕ). fault_of m k h.rest) place;
       read = events_step n b text
           ∙ ap (λ (o : Option Event). events_from o (events_of n (later_lines (b ∷ text)))) said
-              ∙ ap (λ (l : List Event). event ∷ l) h.read;
+          ∙ ap (λ (l : List Event). event ∷ l) h.read;
     }
 
 empty_text : (text : List ℕ) → IsText text [] → text ≡ []
@@ -95,7 +99,7 @@ module _ (n m : ℕ) (text : List ℕ) (events : List Event) (lines : List (List
   pub all_read : (at : ℕ) → IsText text lines → (fault_of n at text ≡ None) × (events_of n text ≡ events)
   all_read at is =
       let h = passed m at n text events lines [] size (subst (λ (l : List (List ℕ)). IsText text l)
-          (sym (append-nil lines)) is) says in
+      (sym (append-nil lines)) is) says in
       let none : h.rest ≡ [] = empty_text h.rest h.is in (
         h.fault ∙ ap (λ (l : List ℕ). fault_of m (at + length lines) l) none ∙ fault_end m (at + length lines),
         h.read ∙ ap (λ (l : List ℕ). events ++ events_of m l) none ∙ ap (λ (l : List Event). events ++ l) (events_end m)
@@ -128,7 +132,7 @@ module _ (n m : ℕ) (text : List ℕ) (events : List Event) (lines : List (List
         let p = begins b rest (line ∷ after) is in
         let first : line ≡ first_line (b ∷ rest) = first_of line (first_line (b ∷ rest)) after p.more p.first in
         let said : event_in (first_line (b ∷ rest)) ≡ None = ap event_in (sym first)
-            ∙ none_said (event_in line) refl bad in (
+        ∙ none_said (event_in line) refl bad in (
           fault_step k (at + length lines) b rest
               ∙ ap (λ (o : Option Event). fault_from o (at + length lines)
               (fault_of k (at + length lines + 1) (later_lines (b ∷ rest)))) said,
@@ -158,14 +162,14 @@ line_step : (n at b : ℕ) (text : List ℕ) → ((at : ℕ) → fault_of n at (
     → event_in (first_line (b ∷ text)) ≡ o → Lined (suc n) (b ∷ text)
 line_step n at b text more none None said =
     absurd (some_not_none (BadLine at) (fault_of (suc n) at (b ∷ text)) (fault_step n at b text
-        ∙ ap (λ (o : Option Event). fault_from o at (fault_of n (at + 1) (later_lines (b ∷ text)))) said) none)
+    ∙ ap (λ (o : Option Event). fault_from o at (fault_of n (at + 1) (later_lines (b ∷ text)))) said) none)
 line_step n at b text more none (Some event) said =
     let rest = later_lines (b ∷ text) in
     let line = first_line (b ∷ text) in
     let h = more (at + 1) (sym (fault_step n at b text
-        ∙ ap (λ (o : Option Event). fault_from o at (fault_of n (at + 1) rest)) said) ∙ none) in
+    ∙ ap (λ (o : Option Event). fault_from o at (fault_of n (at + 1) rest)) said) ∙ none) in
     let read : events_of (suc n) (b ∷ text) ≡ event ∷ events_of n rest = events_step n b text
-        ∙ ap (λ (o : Option Event). events_from o (events_of n rest)) said in record {
+    ∙ ap (λ (o : Option Event). events_from o (events_of n rest)) said in record {
       lines = line ∷ h.lines;
       is = before b text h.lines h.is;
       says = subst (λ (l : List Event). Say l (line ∷ h.lines)) (sym read) (event_is line event said, h.says);
@@ -173,8 +177,12 @@ line_step n at b text more none (Some event) said =
     }
 
 no_more : (n : ℕ) → Lined n []
-no_more n = record { lines = []; is = no_lines [] refl;
-    says = subst (λ (l : List Event). Say l []) (sym (events_end n)) tt; few = omega arith }
+no_more n = record {
+  lines = [];
+  is = no_lines [] refl;
+  says = subst (λ (l : List Event). Say l []) (sym (events_end n)) tt;
+  few = omega arith;
+}
 
 lined : (n : ℕ) (text : List ℕ) (at : ℕ) → fault_of n at text ≡ None → Lined n text
 lined n [] at none = no_more n
@@ -202,8 +210,12 @@ trace_events_are text events h = (trace_read 16777216 text events h.lines h.spel
 
 pub is_trace : (text : List ℕ) → trace_fault text ≡ None → IsTrace text (trace_events text)
 unfolding trace_fault trace_events
-is_trace text none = let h = lined 16777216 text 1 none in record { lines = h.lines; spelled = h.is; says = h.says;
-    few = h.few }
+is_trace text none = let h = lined 16777216 text 1 none in record {
+  lines = h.lines;
+  spelled = h.is;
+  says = h.says;
+  few = h.few;
+}
 
 pub bad_trace : (text : List ℕ) (events : List Event) (lines after : List (List ℕ)) (line : List ℕ)
     → IsText text (lines ++ line ∷ after) → Say events lines → length lines < 16777216 → IsBad line
@@ -211,7 +223,7 @@ pub bad_trace : (text : List ℕ) (events : List Event) (lines after : List (Lis
 unfolding trace_fault trace_events
 bad_trace text events lines after line is says few says_none =
     let h = bad 16777216 (16777216 - length lines) text events lines
-        (most_is 16777216 (length lines) (omega (arith, few))) says 1 line after is (omega (arith, few)) says_none in
+    (most_is 16777216 (length lines) (omega (arith, few))) says 1 line after is (omega (arith, few)) says_none in
     let place : 1 + length lines ≡ length lines + 1 = omega arith in
     (h.0 ∙ ap (λ (n : ℕ). Some (BadLine n)) place, h.1)
 

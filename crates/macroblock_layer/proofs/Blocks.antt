@@ -26,7 +26,7 @@ pub next : (text : List ℤ → List Bool) (blocks : List Block) (k : ℕ) → k
 unfolding blocks_text
 next text blocks k inside =
     let split : drop k blocks ≡ slice_index_or blocks k (record { levels = [] }) ∷ drop (k + 1) blocks =
-        rw (add-one) (drop-cons blocks k (record { levels = [] }) inside) in
+    rw (add-one) (drop-cons blocks k (record { levels = [] }) inside) in
     ap (λ (l : List Block). blocks_text text l) split
 
 -- what is left of the blocks' texts is the next one and the rest

@@ -61,10 +61,24 @@ four_row tables n w h = coded_row w faults.FourVectors 0 (fault_of_whole_part (m
 
 stuffing_class : TableLaws → (kind : Kind) → Spells (class_turn kind) (again tt) (word "000000001")
 unfolding class_turn Spells mcbpc_text
-stuffing_class tables kinds.I = (Stuffing, word "000000001", [], refl, tables.spelt.mcbpc kinds.I Stuffing tt, refl,
-    (refl, refl))
-stuffing_class tables kinds.P = (Stuffing, word "000000001", [], refl, tables.spelt.mcbpc kinds.P Stuffing tt, refl,
-    (refl, refl))
+stuffing_class tables kinds.I = (
+  Stuffing,
+  word "000000001",
+  [],
+  refl,
+  tables.spelt.mcbpc kinds.I Stuffing tt,
+  refl,
+  (refl, refl),
+)
+stuffing_class tables kinds.P = (
+  Stuffing,
+  word "000000001",
+  [],
+  refl,
+  tables.spelt.mcbpc kinds.P Stuffing tt,
+  refl,
+  (refl, refl),
+)
 
 intra_stuffed : TableLaws → Spells (lead_turn kinds.I tt) (again tt) (word "000000001")
 unfolding lead_turn
@@ -88,8 +102,13 @@ inter_stuffing tables text kind place h = fault_after_turn tt tt (lead_turn kind
     (turn_productive kinds.P) (lead_some kinds.P) (inter_stuffed tables) h
 
 lead_faults : TableLaws → LeadFaults
-lead_faults tables = record { intra = intra_row; inter = inter_row; four = four_row tables;
-    intra_stuffing = intra_stuffing tables; inter_stuffing = inter_stuffing tables }
+lead_faults tables = record {
+  intra = intra_row;
+  inter = inter_row;
+  four = four_row tables;
+  intra_stuffing = intra_stuffing tables;
+  inter_stuffing = inter_stuffing tables;
+}
 
 -- ---- the vector
 
@@ -106,7 +125,7 @@ unfolding vector difference
 along_row tables reach predictor x a text kind place spelt h =
     fault_in_part difference (in_reach reach predictor) _ (a ++ text) kind (length a + place)
     (fault_after_part mvd any _ x a text kind place tables.productive.mvd spelt refl
-        (fault_in_part mvd any _ text kind place h))
+    (fault_in_part mvd any _ text kind place h))
 
 difference_spelt : (x y : ℤ) (a b : List Bool) → Spells mvd x a → Spells mvd y b
     → Spells difference (record { x = x; y = y }) (a ++ b)
@@ -123,8 +142,10 @@ reach_row : TableLaws → (reach : Reach) (predictor : Vector) (x y : ℤ) (a b 
 unfolding vector
 reach_row tables reach predictor x y a b p q out =
     fault_of_whole_part difference (in_reach reach predictor) _ (record { x = x; y = y }) (a ++ b) faults.BadVector
-        (difference_productive tables) (difference_spelt x y a b p q) (out_of_reach reach predictor (record { x = x;
-        y = y }) out)
+    (difference_productive tables) (difference_spelt x y a b p q) (out_of_reach reach predictor (record {
+      x = x;
+      y = y;
+    }) out)
 
 -- ---- what stands after MCBPC
 
@@ -142,34 +163,34 @@ step_row : TableLaws → (quant : ℕ) (reach : Reach) (predictor : Vector) (cla
 unfolding coded_mb
 step_row tables quant reach predictor class cbpc pattern a text kind place spelt h =
     fault_after_part (cbpy (is_intra class)) any _ pattern a text kind place (tables.productive.cbpy (is_intra class))
-        spelt refl
+    spelt refl
     (fault_in_part (quantiser class quant) any _ text kind place h)
 
 coded_intra_row : TableLaws → (quant : ℕ) (reach : Reach) (predictor : Vector) (class : MbClass) (cbpc pattern q : ℕ)
     (a b text : List Bool) (kind : FaultKind) (place : ℕ) → is_intra class ≡ true
     → Spells (cbpy (is_intra class)) pattern a → Spells (quantiser class quant) q b
     → HasFault (intra_mb q pattern cbpc) text kind place
-        → HasFault (coded_mb quant reach predictor class cbpc) (a ++ (b ++ text)) kind (length a + (length b + place))
+    → HasFault (coded_mb quant reach predictor class cbpc) (a ++ (b ++ text)) kind (length a + (length b + place))
 unfolding coded_mb
 coded_intra_row tables quant reach predictor class cbpc pattern q a b text kind place is p s h =
     fault_after_part (cbpy (is_intra class)) any _ pattern a (b ++ text) kind (length b + place)
-        (tables.productive.cbpy (is_intra class)) p refl
+    (tables.productive.cbpy (is_intra class)) p refl
     (fault_after_part (quantiser class quant) any _ q b text kind place (quantiser_productive tables class quant) s refl
-        (subst (λ (t : Bool). HasFault (either t (intra_mb q pattern cbpc) (inter_mb reach predictor q pattern cbpc))
-        text kind place) (sym is) h))
+    (subst (λ (t : Bool). HasFault (either t (intra_mb q pattern cbpc) (inter_mb reach predictor q pattern cbpc))
+    text kind place) (sym is) h))
 
 coded_inter_row : TableLaws → (quant : ℕ) (reach : Reach) (predictor : Vector) (class : MbClass) (cbpc pattern q : ℕ)
     (a b text : List Bool) (kind : FaultKind) (place : ℕ) → is_intra class ≡ false
     → Spells (cbpy (is_intra class)) pattern a → Spells (quantiser class quant) q b
     → HasFault (inter_mb reach predictor q pattern cbpc) text kind place
-        → HasFault (coded_mb quant reach predictor class cbpc) (a ++ (b ++ text)) kind (length a + (length b + place))
+    → HasFault (coded_mb quant reach predictor class cbpc) (a ++ (b ++ text)) kind (length a + (length b + place))
 unfolding coded_mb
 coded_inter_row tables quant reach predictor class cbpc pattern q a b text kind place is p s h =
     fault_after_part (cbpy (is_intra class)) any _ pattern a (b ++ text) kind (length b + place)
-        (tables.productive.cbpy (is_intra class)) p refl
+    (tables.productive.cbpy (is_intra class)) p refl
     (fault_after_part (quantiser class quant) any _ q b text kind place (quantiser_productive tables class quant) s refl
-        (subst (λ (t : Bool). HasFault (either t (intra_mb q pattern cbpc) (inter_mb reach predictor q pattern cbpc))
-        text kind place) (sym is) h))
+    (subst (λ (t : Bool). HasFault (either t (intra_mb q pattern cbpc) (inter_mb reach predictor q pattern cbpc))
+    text kind place) (sym is) h))
 
 coded_faults : TableLaws → (quant : ℕ) (reach : Reach) (predictor : Vector) (class : MbClass) (cbpc : ℕ)
     → CodedFaults quant reach predictor class cbpc
@@ -224,7 +245,7 @@ of_inter_row : TableLaws → (reach : Reach) (predictor v : Vector) (quant cbpy 
 unfolding inter_mb
 of_inter_row tables reach predictor v quant cbpy cbpc a text kind place spelt h =
     fault_after_part (vector reach predictor) any _ v a text kind place (vector_productive tables reach predictor) spelt
-        refl (fault_in_part (blocks inter cbpy cbpc) any _ text kind place h)
+    refl (fault_in_part (blocks inter cbpy cbpc) any _ text kind place h)
 
 intra_block_row : (coded : Bool) (text : List Bool) (kind : FaultKind) (place : ℕ)
     → HasFault (intra_block coded) text kind place → HasFault (intra coded) text kind place
@@ -253,7 +274,7 @@ block_row_1 : BlockLaws → (is : Bool) (cbpy cbpc : ℕ) (xa : Block) (a text :
 unfolding blocks
 block_row_1 of_blocks is cbpy cbpc xa a text kind place sa h =
     fault_after_part (block_in is (is_set cbpy 3)) any _ xa a text kind place
-        (block_productive of_blocks is (is_set cbpy 3)) sa refl
+    (block_productive of_blocks is (is_set cbpy 3)) sa refl
     (fault_in_part (block_in is (is_set cbpy 2)) any _ text kind place h)
 
 block_row_2 : BlockLaws → (is : Bool) (cbpy cbpc : ℕ) (xa xb : Block) (a b text : List Bool) (kind : FaultKind)
@@ -263,24 +284,24 @@ block_row_2 : BlockLaws → (is : Bool) (cbpy cbpc : ℕ) (xa xb : Block) (a b t
 unfolding blocks
 block_row_2 of_blocks is cbpy cbpc xa xb a b text kind place sa sb h =
     fault_after_part (block_in is (is_set cbpy 3)) any _ xa a (b ++ text) kind (length b + place)
-        (block_productive of_blocks is (is_set cbpy 3)) sa refl
+    (block_productive of_blocks is (is_set cbpy 3)) sa refl
     (fault_after_part (block_in is (is_set cbpy 2)) any _ xb b text kind place
-        (block_productive of_blocks is (is_set cbpy 2)) sb refl
+    (block_productive of_blocks is (is_set cbpy 2)) sb refl
     (fault_in_part (block_in is (is_set cbpy 1)) any _ text kind place h))
 
 block_row_3 : BlockLaws → (is : Bool) (cbpy cbpc : ℕ) (xa xb xc : Block) (a b c text : List Bool) (kind : FaultKind)
     (place : ℕ) → Spells (block_in is (is_set cbpy 3)) xa a → Spells (block_in is (is_set cbpy 2)) xb b
     → Spells (block_in is (is_set cbpy 1)) xc c → HasFault (block_in is (is_set cbpy 0)) text kind place
     → HasFault (blocks (λ coded. block_in is coded) cbpy cbpc) (a ++ (b ++ (c ++ text))) kind
-        (length a + (length b + (length c + place)))
+    (length a + (length b + (length c + place)))
 unfolding blocks
 block_row_3 of_blocks is cbpy cbpc xa xb xc a b c text kind place sa sb sc h =
     fault_after_part (block_in is (is_set cbpy 3)) any _ xa a (b ++ (c ++ text)) kind (length b + (length c + place))
-        (block_productive of_blocks is (is_set cbpy 3)) sa refl
+    (block_productive of_blocks is (is_set cbpy 3)) sa refl
     (fault_after_part (block_in is (is_set cbpy 2)) any _ xb b (c ++ text) kind (length c + place)
-        (block_productive of_blocks is (is_set cbpy 2)) sb refl
+    (block_productive of_blocks is (is_set cbpy 2)) sb refl
     (fault_after_part (block_in is (is_set cbpy 1)) any _ xc c text kind place
-        (block_productive of_blocks is (is_set cbpy 1)) sc refl
+    (block_productive of_blocks is (is_set cbpy 1)) sc refl
     (fault_in_part (block_in is (is_set cbpy 0)) any _ text kind place h)))
 
 block_row_4 : BlockLaws → (is : Bool) (cbpy cbpc : ℕ) (xa xb xc xd : Block) (a b c d text : List Bool)
@@ -288,17 +309,17 @@ block_row_4 : BlockLaws → (is : Bool) (cbpy cbpc : ℕ) (xa xb xc xd : Block) 
     → Spells (block_in is (is_set cbpy 2)) xb b → Spells (block_in is (is_set cbpy 1)) xc c
     → Spells (block_in is (is_set cbpy 0)) xd d → HasFault (block_in is (is_set cbpc 1)) text kind place
     → HasFault (blocks (λ coded. block_in is coded) cbpy cbpc) (a ++ (b ++ (c ++ (d ++ text)))) kind
-        (length a + (length b + (length c + (length d + place))))
+    (length a + (length b + (length c + (length d + place))))
 unfolding blocks
 block_row_4 of_blocks is cbpy cbpc xa xb xc xd a b c d text kind place sa sb sc sd h =
     fault_after_part (block_in is (is_set cbpy 3)) any _ xa a (b ++ (c ++ (d ++ text))) kind
-        (length b + (length c + (length d + place))) (block_productive of_blocks is (is_set cbpy 3)) sa refl
+    (length b + (length c + (length d + place))) (block_productive of_blocks is (is_set cbpy 3)) sa refl
     (fault_after_part (block_in is (is_set cbpy 2)) any _ xb b (c ++ (d ++ text)) kind (length c + (length d + place))
-        (block_productive of_blocks is (is_set cbpy 2)) sb refl
+    (block_productive of_blocks is (is_set cbpy 2)) sb refl
     (fault_after_part (block_in is (is_set cbpy 1)) any _ xc c (d ++ text) kind (length d + place)
-        (block_productive of_blocks is (is_set cbpy 1)) sc refl
+    (block_productive of_blocks is (is_set cbpy 1)) sc refl
     (fault_after_part (block_in is (is_set cbpy 0)) any _ xd d text kind place
-        (block_productive of_blocks is (is_set cbpy 0)) sd refl
+    (block_productive of_blocks is (is_set cbpy 0)) sd refl
     (fault_in_part (block_in is (is_set cbpc 1)) any _ text kind place h))))
 
 block_row_5 : BlockLaws → (is : Bool) (cbpy cbpc : ℕ) (xa xb xc xd xe : Block) (a b c d e text : List Bool)
@@ -307,20 +328,20 @@ block_row_5 : BlockLaws → (is : Bool) (cbpy cbpc : ℕ) (xa xb xc xd xe : Bloc
     → Spells (block_in is (is_set cbpy 0)) xd d → Spells (block_in is (is_set cbpc 1)) xe e
     → HasFault (block_in is (is_set cbpc 0)) text kind place
     → HasFault (blocks (λ coded. block_in is coded) cbpy cbpc) (a ++ (b ++ (c ++ (d ++ (e ++ text))))) kind
-        (length a + (length b + (length c + (length d + (length e + place)))))
+    (length a + (length b + (length c + (length d + (length e + place)))))
 unfolding blocks
 block_row_5 of_blocks is cbpy cbpc xa xb xc xd xe a b c d e text kind place sa sb sc sd se h =
     fault_after_part (block_in is (is_set cbpy 3)) any _ xa a (b ++ (c ++ (d ++ (e ++ text)))) kind
-        (length b + (length c + (length d + (length e + place)))) (block_productive of_blocks is (is_set cbpy 3)) sa
-        refl
+    (length b + (length c + (length d + (length e + place)))) (block_productive of_blocks is (is_set cbpy 3)) sa
+    refl
     (fault_after_part (block_in is (is_set cbpy 2)) any _ xb b (c ++ (d ++ (e ++ text))) kind
-        (length c + (length d + (length e + place))) (block_productive of_blocks is (is_set cbpy 2)) sb refl
+    (length c + (length d + (length e + place))) (block_productive of_blocks is (is_set cbpy 2)) sb refl
     (fault_after_part (block_in is (is_set cbpy 1)) any _ xc c (d ++ (e ++ text)) kind (length d + (length e + place))
-        (block_productive of_blocks is (is_set cbpy 1)) sc refl
+    (block_productive of_blocks is (is_set cbpy 1)) sc refl
     (fault_after_part (block_in is (is_set cbpy 0)) any _ xd d (e ++ text) kind (length e + place)
-        (block_productive of_blocks is (is_set cbpy 0)) sd refl
+    (block_productive of_blocks is (is_set cbpy 0)) sd refl
     (fault_after_part (block_in is (is_set cbpc 1)) any _ xe e text kind place
-        (block_productive of_blocks is (is_set cbpc 1)) se refl
+    (block_productive of_blocks is (is_set cbpc 1)) se refl
     (fault_in_part (block_in is (is_set cbpc 0)) any _ text kind place h)))))
 
 six_rows : BlockLaws → (is : Bool) (cbpy cbpc : ℕ) → BlockFaults is cbpy cbpc
@@ -341,8 +362,10 @@ mb_faults tables of_blocks = record {
   of_lead = lead_row;
   of_rest = after_row;
   coded = coded_faults tables;
-  of_dquant = λ quant text kind place h. (dquant_inter_row quant text kind place h,
-      dquant_intra_row quant text kind place h);
+  of_dquant = λ quant text kind place h. (
+    dquant_inter_row quant text kind place h,
+    dquant_intra_row quant text kind place h,
+  );
   vectors = record { across = across_row; along = along_row tables; out_of_reach = reach_row tables };
   of_vector = vector_row;
   of_intra = of_intra_row;

@@ -14,7 +14,7 @@ use Rattle.macroblock_layer.specs.Written.{class_of, class_text, step_text, head
 pub both_fit : (a b i j : ℕ) → a < 2 ^ i → b < 2 ^ j → a * 2 ^ j + b < 2 ^ (i + j)
 both_fit a b i j first second =
     let more : (a + 1) * 2 ^ j ≤ 2 ^ i * 2 ^ j = mul-le-mul (let next : a + 1 ≤ 2 ^ i = omega (arith, first) in
-        next) (let same : 2 ^ j ≤ 2 ^ j = omega arith in same) in
+    next) (let same : 2 ^ j ≤ 2 ^ j = omega arith in same) in
     omega (arith, more, second, pow-add 2 i j)
 
 -- a number of at most 32 bits
@@ -48,9 +48,9 @@ both_are n m first second a b is also = ap (λ (t : List Bool). t ++ spelled m s
 pub head_long : (kind : Kind) (quant new : ℕ) (intra : Bool) (cbpy cbpc : ℕ)
     → length (head_text kind quant new intra cbpy cbpc)
     ≡ length (class_text kind (class_of intra (new == quant)) cbpc) + length (cbpy_text intra cbpy) + length
-        (step_text quant new)
+    (step_text quant new)
 unfolding head_text
 head_long kind quant new intra cbpy cbpc =
     let all = length-append (class_text kind (class_of intra (new == quant)) cbpc) (cbpy_text intra cbpy
-        ++ step_text quant new) in
+    ++ step_text quant new) in
     omega (arith, all, length-append (cbpy_text intra cbpy) (step_text quant new))

@@ -58,8 +58,12 @@ cod_short kinds.P = omega arith
 
 class_short : (kind : Kind) (class : MbClass) (cbpc : ℕ) → length (class_text kind class cbpc) ≤ 10
 unfolding class_text
-class_short kind class cbpc = omega (arith, cod_short kind, mcbpc_short kind class cbpc,
-    length-append (cod_text kind) (mcbpc_text kind (Word class cbpc)))
+class_short kind class cbpc = omega (
+  arith,
+  cod_short kind,
+  mcbpc_short kind class cbpc,
+  length-append (cod_text kind) (mcbpc_text kind (Word class cbpc)),
+)
 
 patterns_within : are_within 6 cbpy_texts ≡ true
 unfolding cbpy_texts are_within
@@ -96,9 +100,14 @@ pub head_short : (kind : Kind) (quant new : ℕ) (intra : Bool) (cbpy cbpc : ℕ
 unfolding head_text
 head_short kind quant new intra cbpy cbpc =
     let class = class_of intra (new == quant) in
-    omega (arith, class_short kind class cbpc, cbpy_short intra cbpy, step_short quant new,
-        length-append (class_text kind class cbpc) (cbpy_text intra cbpy ++ step_text quant new),
-        length-append (cbpy_text intra cbpy) (step_text quant new))
+    omega (
+      arith,
+      class_short kind class cbpc,
+      cbpy_short intra cbpy,
+      step_short quant new,
+      length-append (class_text kind class cbpc) (cbpy_text intra cbpy ++ step_text quant new),
+      length-append (cbpy_text intra cbpy) (step_text quant new),
+    )
 
 magnitudes_within : are_within 12 magnitude_texts ≡ true
 unfolding magnitude_texts are_within
@@ -114,8 +123,12 @@ sign_short (pos n) = at (n == 0)
 
 mvd_short : (z : ℤ) → length (mvd_text z) ≤ 13
 unfolding mvd_text
-mvd_short z = omega (arith, word_within 12 magnitude_texts (size_of z) magnitudes_within, sign_short z,
-    length-append (text_at magnitude_texts (size_of z)) (sign_text z))
+mvd_short z = omega (
+  arith,
+  word_within 12 magnitude_texts (size_of z) magnitudes_within,
+  sign_short z,
+  length-append (text_at magnitude_texts (size_of z)) (sign_text z),
+)
 
 pub vector_short : (predictor v : Vector) → length (vector_text predictor v) ≤ 26
 unfolding vector_text
@@ -132,27 +145,27 @@ blocks_within text each [] all = omega arith
 blocks_within text each (b ∷ blocks) all =
     let first : length (text b.levels) ≤ 1408 = each b.levels (all 0 b (omega arith)) in
     let more : length (blocks_text text blocks) ≤ 1408 * length blocks = blocks_within text each blocks
-        (λ k d lt. all (suc k) d (omega arith)) in
+    (λ k d lt. all (suc k) d (omega arith)) in
     omega (arith, first, more, length-append (text b.levels) (blocks_text text blocks))
 
 pub intra_blocks_short : BlockLaws → (blocks : List Block) → AreWhole blocks
     → length (blocks_text intra_text blocks) ≤ 8448
 intra_blocks_short of_blocks blocks whole =
     let most : length (blocks_text intra_text blocks) ≤ 1408 * length blocks = blocks_within intra_text
-        (λ levels long. omega (arith, of_blocks.short.intra levels long)) blocks whole.each in
+    (λ levels long. omega (arith, of_blocks.short.intra levels long)) blocks whole.each in
     omega (arith, most, whole.count)
 
 pub inter_blocks_short : BlockLaws → (blocks : List Block) → AreWhole blocks
     → length (blocks_text inter_text blocks) ≤ 8448
 inter_blocks_short of_blocks blocks whole =
     let most : length (blocks_text inter_text blocks) ≤ 1408 * length blocks = blocks_within inter_text
-        (λ levels long. of_blocks.short.inter levels long) blocks whole.each in
+    (λ levels long. of_blocks.short.inter levels long) blocks whole.each in
     omega (arith, most, whole.count)
 
 pub intra_mb_length : (kind : Kind) (quant new : ℕ) (blocks : List Block)
     → length (intra_mb_text kind quant new blocks)
-        ≡ length (head_text kind quant new true (cbpy_of is_coded blocks) (cbpc_of is_coded blocks)) + length
-        (blocks_text intra_text blocks)
+    ≡ length (head_text kind quant new true (cbpy_of is_coded blocks) (cbpc_of is_coded blocks)) + length
+    (blocks_text intra_text blocks)
 unfolding intra_mb_text
 intra_mb_length kind quant new blocks = length-append (head_text kind quant new true (cbpy_of is_coded blocks)
     (cbpc_of is_coded blocks)) (blocks_text intra_text blocks)
@@ -160,25 +173,37 @@ intra_mb_length kind quant new blocks = length-append (head_text kind quant new 
 pub inter_mb_length : (quant : ℕ) (predictor : Vector) (new : ℕ) (v : Vector) (blocks : List Block)
     → length (inter_mb_text quant predictor new v blocks)
     ≡ length (head_text kinds.P quant new false (cbpy_of has_levels blocks) (cbpc_of has_levels blocks)) +
-        (length (vector_text predictor v) + length (blocks_text inter_text blocks))
+    (length (vector_text predictor v) + length (blocks_text inter_text blocks))
 unfolding inter_mb_text
 inter_mb_length quant predictor new v blocks =
     let head = head_text kinds.P quant new false (cbpy_of has_levels blocks) (cbpc_of has_levels blocks) in
-    omega (arith, length-append head (vector_text predictor v ++ blocks_text inter_text blocks),
-        length-append (vector_text predictor v) (blocks_text inter_text blocks))
+    omega (
+      arith,
+      length-append head (vector_text predictor v ++ blocks_text inter_text blocks),
+      length-append (vector_text predictor v) (blocks_text inter_text blocks),
+    )
 
 intra_mb_short : BlockLaws → (kind : Kind) (quant new : ℕ) (blocks : List Block) → AreWhole blocks
     → length (intra_mb_text kind quant new blocks) ≤ 8492
 intra_mb_short of_blocks kind quant new blocks whole =
-    omega (arith, intra_mb_length kind quant new blocks, head_short kind quant new true (cbpy_of is_coded blocks)
-        (cbpc_of is_coded blocks), intra_blocks_short of_blocks blocks whole)
+    omega (
+      arith,
+      intra_mb_length kind quant new blocks,
+      head_short kind quant new true (cbpy_of is_coded blocks)
+          (cbpc_of is_coded blocks),
+      intra_blocks_short of_blocks blocks whole,
+    )
 
 inter_mb_short : BlockLaws → (quant : ℕ) (predictor : Vector) (new : ℕ) (v : Vector) (blocks : List Block)
     → AreWhole blocks → length (inter_mb_text quant predictor new v blocks) ≤ 8492
 inter_mb_short of_blocks quant predictor new v blocks whole =
-    omega (arith, inter_mb_length quant predictor new v blocks,
-        head_short kinds.P quant new false (cbpy_of has_levels blocks) (cbpc_of has_levels blocks),
-        vector_short predictor v, inter_blocks_short of_blocks blocks whole)
+    omega (
+      arith,
+      inter_mb_length quant predictor new v blocks,
+      head_short kinds.P quant new false (cbpy_of has_levels blocks) (cbpc_of has_levels blocks),
+      vector_short predictor v,
+      inter_blocks_short of_blocks blocks whole,
+    )
 
 -- how many bits the text of a macroblock has at most
 pub mb_short : BlockLaws → AreShort

@@ -63,26 +63,36 @@ blocks_productive block cbpy cbpc each =
 
 intra_mb_productive : BlockLaws → (quant cbpy cbpc : ℕ) → IsProductive (intra_mb quant cbpy cbpc)
 unfolding intra_mb IsProductive
-intra_mb_productive of_blocks quant cbpy cbpc = (blocks_productive intra cbpy cbpc (intra_block_productive of_blocks),
-    λ bs. tt)
+intra_mb_productive of_blocks quant cbpy cbpc = (
+  blocks_productive intra cbpy cbpc (intra_block_productive of_blocks),
+  λ bs. tt,
+)
 
 inter_mb_productive : TableLaws → BlockLaws → (reach : Reach) (predictor : Vector) (quant cbpy cbpc : ℕ)
     → IsProductive (inter_mb reach predictor quant cbpy cbpc)
 unfolding inter_mb IsProductive
-inter_mb_productive tables of_blocks reach predictor quant cbpy cbpc = (vector_productive tables reach predictor,
-    λ v. (blocks_productive inter cbpy cbpc (inter_block_productive of_blocks), λ bs. tt))
+inter_mb_productive tables of_blocks reach predictor quant cbpy cbpc = (
+  vector_productive tables reach predictor,
+  λ v. (blocks_productive inter cbpy cbpc (inter_block_productive of_blocks), λ bs. tt),
+)
 
 after_productive : TableLaws → BlockLaws → (quant : ℕ) (reach : Reach) (predictor : Vector) (l : Lead)
     → IsProductive (after_lead quant reach predictor l)
 unfolding after_lead coded_mb IsProductive
 after_productive tables of_blocks quant reach predictor Skipped = tt
-after_productive tables of_blocks quant reach predictor (Coded class cbpc) =
-    (tables.productive.cbpy (is_intra class), λ cbpy. (quantiser_productive tables class quant,
-        λ q. either_productive (is_intra class) (intra_mb q cbpy cbpc) (inter_mb reach predictor q cbpy cbpc)
-        (intra_mb_productive of_blocks q cbpy cbpc) (inter_mb_productive tables of_blocks reach predictor q cbpy cbpc)))
+after_productive tables of_blocks quant reach predictor (Coded class cbpc) = (
+  tables.productive.cbpy (is_intra class),
+  λ cbpy. (
+    quantiser_productive tables class quant,
+    λ q. either_productive (is_intra class) (intra_mb q cbpy cbpc) (inter_mb reach predictor q cbpy cbpc)
+        (intra_mb_productive of_blocks q cbpy cbpc) (inter_mb_productive tables of_blocks reach predictor q cbpy cbpc),
+  ),
+)
 
 -- each part of a macroblock that is repeated takes a bit at least
 pub mb_productive : TableLaws → BlockLaws → AreProductive
 unfolding mb IsProductive
-mb_productive tables of_blocks kind quant reach predictor = (lead_productive kind,
-    λ l. after_productive tables of_blocks quant reach predictor l)
+mb_productive tables of_blocks kind quant reach predictor = (
+  lead_productive kind,
+  λ l. after_productive tables of_blocks quant reach predictor l,
+)

@@ -32,7 +32,7 @@ lead_skipped at rest = repeat-finally tt Skipped (lead_turn kinds.P) _ _ (one_bi
 
 read_skipped : (quant : ℕ) (reach : Reach) (predictor : Vector) (at : ℕ) (rest : List Bool)
     → reading (mb kinds.P quant reach predictor) (record { at = at; bits = true ∷ rest })
-        ≡ Ok (Skip, skip 1 (record { at = at; bits = true ∷ rest }))
+    ≡ Ok (Skip, skip 1 (record { at = at; bits = true ∷ rest }))
 unfolding reading mb after_lead
 read_skipped quant reach predictor at rest = rw (lead_skipped at rest) refl
 

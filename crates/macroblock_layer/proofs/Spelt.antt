@@ -51,8 +51,8 @@ unfolding class_turn coded_turn
 turn_spelt tables kind class cbpc there one =
     spells_whole (class_turn kind) (coded_turn class cbpc) (mcbpc_text kind (Word class cbpc) ++ []) _ (append-nil _)
     (spells_part (mcbpc kind) no_four (λ m. done (after_mcbpc m)) (coded_turn class cbpc) (Word class cbpc)
-        (mcbpc_text kind (Word class cbpc)) [] (tables.spelt.mcbpc kind (Word class cbpc) there) one
-        (spells_done (coded_turn class cbpc)))
+    (mcbpc_text kind (Word class cbpc)) [] (tables.spelt.mcbpc kind (Word class cbpc) there) one
+    (spells_done (coded_turn class cbpc)))
 
 lead_spelt : TableLaws → (kind : Kind) (class : MbClass) (cbpc : ℕ) → IsInTable kind (Word class cbpc)
     → no_four (Word class cbpc) ≡ None → Spells (lead kind) (Coded class cbpc) (class_text kind class cbpc)
@@ -62,15 +62,15 @@ lead_spelt tables kinds.I class cbpc there one = spells_last tt (lead_turn kinds
 lead_spelt tables kinds.P class cbpc there one =
     spells_last tt (lead_turn kinds.P) (Coded class cbpc) (false ∷ mcbpc_text kinds.P (Word class cbpc))
     (spells_field 1 any (λ cod. either (cod == 1) (done (finally Skipped)) (class_turn kinds.P))
-        (coded_turn class cbpc) 0 (mcbpc_text kinds.P (Word class cbpc)) (omega arith) refl
-        (turn_spelt tables kinds.P class cbpc there one))
+    (coded_turn class cbpc) 0 (mcbpc_text kinds.P (Word class cbpc)) (omega arith) refl
+    (turn_spelt tables kinds.P class cbpc there one))
 
 skip_spelt : Spells (lead kinds.P) Skipped (true ∷ [])
 unfolding lead lead_turn spelled
 skip_spelt =
     spells_last tt (lead_turn kinds.P) Skipped (true ∷ [])
     (spells_field 1 any (λ cod. either (cod == 1) (done (finally Skipped)) (class_turn kinds.P)) (finally Skipped) 1 []
-        (omega arith) refl (spells_done (finally Skipped)))
+    (omega arith) refl (spells_done (finally Skipped)))
 
 -- ---- quantiser
 
@@ -80,12 +80,17 @@ is_step quant new near other = at (cases_lt new quant)
     at : (new < quant) ⊎ (quant ≤ new) → IsStep (pos new -ℤ pos quant)
     at (inl less) =
         let e : pos new -ℤ pos quant ≡ negsuc (quant - new - 1) = omega (arith, ints) in
-        subst (λ (z : ℤ). IsStep z) (sym e) (elim (cases_lt 0 (quant - new - 1)) [ inl two ↦
-            inr (omega (arith, near.down)) | inr one ↦ inl (omega (arith, near.down)) ])
+        subst (λ (z : ℤ). IsStep z) (sym e) (elim (cases_lt 0 (quant - new - 1)) [
+          | inl two ↦
+              inr (omega (arith, near.down))
+          | inr one ↦ inl (omega (arith, near.down))
+        ])
     at (inr more) =
         let e : pos new -ℤ pos quant ≡ pos (new - quant) = omega (arith, ints) in
-        subst (λ (z : ℤ). IsStep z) (sym e) (elim (cases_lt 1 (new - quant)) [ inl two ↦ inr (omega (arith, near.up))
-            | inr one ↦ inl (omega (arith, near.up, other)) ])
+        subst (λ (z : ℤ). IsStep z) (sym e) (elim (cases_lt 1 (new - quant)) [
+          | inl two ↦ inr (omega (arith, near.up))
+          | inr one ↦ inl (omega (arith, near.up, other))
+        ])
 
 limited_same : (n : ℕ) → IsQuant n → limited (pos n) ≡ n
 limited_same n is =
@@ -102,8 +107,8 @@ changed tables quant new is near other =
     let e : limited (pos quant +ℤ step) ≡ new = ap (λ (z : ℤ). limited z) (back quant new) ∙ limited_same new is in
     spells_whole _ new (dquant_text step ++ []) (dquant_text step) (append-nil _)
     (spells_part dquant any (λ step. done (limited (pos quant +ℤ step))) new step (dquant_text step) []
-        (tables.spelt.dquant step (is_step quant new near other)) refl (subst (λ (n : ℕ). Spells (done n) new [])
-        (sym e) (spells_done new)))
+    (tables.spelt.dquant step (is_step quant new near other)) refl (subst (λ (n : ℕ). Spells (done n) new [])
+    (sym e) (spells_done new)))
 
 as_before : (test : Bool) (quant new : ℕ) → new ≡ quant → Spells (quantiser (class_of test true) quant) new []
 unfolding quantiser
@@ -154,7 +159,7 @@ taken_for v w i j is e = at (v +ℤ pos 32) refl
     at (pos u) f =
         let sum : (w +ℤ pos 32) +ℤ pos (i * 64) ≡ pos (u + 64 * j) = omega (arith, ints, e, f) in
         let r : int_rem_euclid (w +ℤ pos 32) (pos 64) ≡ pos ((u + 64 * j) % 64) = int_rem_euclid_is (w +ℤ pos 32)
-            (pos 64) 64 i (u + 64 * j) (omega arith) refl sum in
+        (pos 64) 64 i (u + 64 * j) (omega arith) refl sum in
         let low : (u + 64 * j) % 64 ≡ u = omega (arith, ints, f, is.high) in
         ap (λ (y : ℤ). y -ℤ pos 32) (r ∙ ap (λ (n : ℕ). pos n) low) ∙ omega (arith, ints, f)
 
@@ -179,11 +184,11 @@ difference_spelt tables predictor v =
     let a = wrapped_within (v.x -ℤ predictor.x) in
     let b = wrapped_within (v.y -ℤ predictor.y) in
     spells_whole difference (between predictor v) (mvd_text x ++ (mvd_text y ++ [])) _
-        (ap (λ (t : List Bool). mvd_text x ++ t) (append-nil (mvd_text y)))
+    (ap (λ (t : List Bool). mvd_text x ++ t) (append-nil (mvd_text y)))
     (spells_part mvd any (λ x. part mvd any λ y. done (record { x = x; y = y })) (between predictor v) x (mvd_text x)
-        (mvd_text y ++ []) (tables.spelt.mvd x a.0 a.1) refl
+    (mvd_text y ++ []) (tables.spelt.mvd x a.0 a.1) refl
     (spells_part mvd any (λ y. done (record { x = x; y = y })) (between predictor v) y (mvd_text y) []
-        (tables.spelt.mvd y b.0 b.1) refl (spells_done (between predictor v))))
+    (tables.spelt.mvd y b.0 b.1) refl (spells_done (between predictor v))))
 
 moved_back : (predictor v : Vector) → IsVector v → moved predictor (between predictor v) ≡ v
 unfolding between
@@ -206,8 +211,12 @@ le_true : (a b : ℤ) → a ≤ℤ b → int_le a b ≡ true
 le_true a b h = is_true (int_le a b) h.le
 
 reached : (reach : Reach) (v : Vector) → IsWithin reach v.x v.y → is_within reach v ≡ true
-reached reach v h = rw (le_true reach.left v.x h.0.0, le_true v.x reach.right h.0.1, le_true reach.up v.y h.1.0,
-    le_true v.y reach.down h.1.1) refl
+reached reach v h = rw (
+  le_true reach.left v.x h.0.0,
+  le_true v.x reach.right h.0.1,
+  le_true reach.up v.y h.1.0,
+  le_true v.y reach.down h.1.1,
+) refl
 
 vector_spelt : TableLaws → (reach : Reach) (predictor v : Vector) → IsVector v → IsWithin reach v.x v.y
     → Spells (vector reach predictor) v (vector_text predictor v)
@@ -215,12 +224,12 @@ unfolding vector
 vector_spelt tables reach predictor v is within =
     let e = moved_back predictor v is in
     let test : is_within reach (moved predictor (between predictor v)) ≡ true = ap (λ (w : Vector). is_within reach w) e
-        ∙ reached reach v within in
+    ∙ reached reach v within in
     let free : in_reach reach predictor (between predictor v) ≡ None = rw test refl in
     spells_whole (vector reach predictor) v (vector_text predictor v ++ []) _ (append-nil _)
     (spells_part difference (in_reach reach predictor) (λ d. done (moved predictor d)) v (between predictor v)
-        (vector_text predictor v) [] (difference_spelt tables predictor v) free
-        (subst (λ (w : Vector). Spells (done w) v []) (sym e) (spells_done v)))
+    (vector_text predictor v) [] (difference_spelt tables predictor v) free
+    (subst (λ (w : Vector). Spells (done w) v []) (sym e) (spells_done v)))
 
 -- ---- blocks
 
@@ -230,7 +239,7 @@ unfolding intra
 intra_spelt of_blocks b long is =
     spells_whole (intra (is_coded b.levels)) b (intra_text b.levels ++ []) _ (append-nil _)
     (spells_part (intra_block (is_coded b.levels)) any (λ levels. done (block_of levels)) b b.levels
-        (intra_text b.levels) [] (of_blocks.spelt.intra b long is) refl (spells_done b))
+    (intra_text b.levels) [] (of_blocks.spelt.intra b long is) refl (spells_done b))
 
 inter_spelt : BlockLaws → (b : Block) → length b.levels ≡ 64 → IsInterBlock b
     → Spells (inter (has_levels b.levels)) b (inter_text b.levels)
@@ -244,12 +253,12 @@ inter_spelt of_blocks b long is = at (none_left b.levels) refl
         let zeros : b.levels ≡ no_levels = of_blocks.empty.levels b.levels long none in
         let same : b ≡ block_of no_levels = ap block_of zeros in
         spells_whole (done (block_of no_levels)) b [] (inter_text b.levels) (sym (of_blocks.empty.text b.levels none))
-            (subst (λ (c : Block). Spells (done c) b []) same (spells_done b))
+        (subst (λ (c : Block). Spells (done c) b []) same (spells_done b))
     at false some =
         spells_whole (part inter_block any λ levels. done (block_of levels)) b (inter_text b.levels
-            ++ []) _ (append-nil _)
+        ++ []) _ (append-nil _)
         (spells_part inter_block any (λ levels. done (block_of levels)) b b.levels (inter_text b.levels) []
-            (of_blocks.spelt.inter b long is some) refl (spells_done b))
+        (of_blocks.spelt.inter b long is some) refl (spells_done b))
 
 -- the bits of a pattern
 four_bits : (a b c d : Bool) → let n : ℕ = 8 * bit_of a + 4 * bit_of b + 2 * bit_of c + bit_of d in
@@ -312,17 +321,17 @@ module _ (block : Bool → Syntax Block) (text : List ℤ → List Bool) (coded 
       let y = four_bits (coded a.levels) (coded b.levels) (coded c.levels) (coded d.levels) in
       let z = two_bits (coded e.levels) (coded f.levels) in
       spells_part (block (is_set (cbpy_of coded bs) 3)) any _ bs a (text a.levels) _
-          (one _ a y.0 (long 0 a (omega arith)) (is 0 a (omega arith))) refl
+      (one _ a y.0 (long 0 a (omega arith)) (is 0 a (omega arith))) refl
       (spells_part (block (is_set (cbpy_of coded bs) 2)) any _ bs b (text b.levels) _
-          (one _ b y.1 (long 1 a (omega arith)) (is 1 a (omega arith))) refl
+      (one _ b y.1 (long 1 a (omega arith)) (is 1 a (omega arith))) refl
       (spells_part (block (is_set (cbpy_of coded bs) 1)) any _ bs c (text c.levels) _
-          (one _ c y.2 (long 2 a (omega arith)) (is 2 a (omega arith))) refl
+      (one _ c y.2 (long 2 a (omega arith)) (is 2 a (omega arith))) refl
       (spells_part (block (is_set (cbpy_of coded bs) 0)) any _ bs d (text d.levels) _
-          (one _ d y.3 (long 3 a (omega arith)) (is 3 a (omega arith))) refl
+      (one _ d y.3 (long 3 a (omega arith)) (is 3 a (omega arith))) refl
       (spells_part (block (is_set (cbpc_of coded bs) 1)) any _ bs e (text e.levels) _
-          (one _ e z.0 (long 4 a (omega arith)) (is 4 a (omega arith))) refl
+      (one _ e z.0 (long 4 a (omega arith)) (is 4 a (omega arith))) refl
       (spells_part (block (is_set (cbpc_of coded bs) 0)) any _ bs f (text f.levels) _
-          (one _ f z.1 (long 5 a (omega arith)) (is 5 a (omega arith))) refl
+      (one _ f z.1 (long 5 a (omega arith)) (is 5 a (omega arith))) refl
       (spells_done bs))))))
 
   blocks_spelt : (bs : List Block) → AreWhole bs → All P bs
@@ -332,7 +341,7 @@ module _ (block : Bool → Syntax Block) (text : List ℤ → List Bool) (coded 
       let are : s.a ∷ s.b ∷ s.c ∷ s.d ∷ s.e ∷ s.f ∷ [] ≡ bs = sym s.are in
       subst (λ (l : List Block). Spells (blocks block (cbpy_of coded l) (cbpc_of coded l)) l (blocks_text text l)) are
       (six_spelt s.a s.b s.c s.d s.e s.f (subst (λ (l : List Block). All (λ (x : Block). length x.levels ≡ 64) l) s.are
-          whole.each) (subst (λ (l : List Block). All P l) s.are is))
+      whole.each) (subst (λ (l : List Block). All P l) s.are is))
 
 -- ---- whole macroblocks
 
@@ -352,40 +361,40 @@ module _ (tables : TableLaws) (quant : ℕ) (reach : Reach) (predictor : Vector)
   coded_intra : (same : Bool) → Spells (quantiser (class_of true same) quant) new step
       → Spells (blocks intra pattern cbpc) bs text
       → Spells (coded_mb quant reach predictor (class_of true same) cbpc) (mbs.Intra new bs) (cbpy_text true pattern
-          ++ (step ++ (text ++ [])))
+      ++ (step ++ (text ++ [])))
   unfolding coded_mb intra_mb
   coded_intra true q b =
       spells_part (cbpy true) any _ (mbs.Intra new bs) pattern (cbpy_text true pattern) _
-          (tables.spelt.cbpy true pattern low) refl
+      (tables.spelt.cbpy true pattern low) refl
       (spells_part (quantiser classes.Intra quant) any _ (mbs.Intra new bs) new step _ q refl
       (spells_part (blocks intra pattern cbpc) any _ (mbs.Intra new bs) bs text [] b refl
-          (spells_done (mbs.Intra new bs))))
+      (spells_done (mbs.Intra new bs))))
   coded_intra false q b =
       spells_part (cbpy true) any _ (mbs.Intra new bs) pattern (cbpy_text true pattern) _
-          (tables.spelt.cbpy true pattern low) refl
+      (tables.spelt.cbpy true pattern low) refl
       (spells_part (quantiser classes.IntraQ quant) any _ (mbs.Intra new bs) new step _ q refl
       (spells_part (blocks intra pattern cbpc) any _ (mbs.Intra new bs) bs text [] b refl
-          (spells_done (mbs.Intra new bs))))
+      (spells_done (mbs.Intra new bs))))
 
   coded_inter : (v : Vector) (vt : List Bool) (same : Bool) → Spells (quantiser (class_of false same) quant) new step
       → Spells (vector reach predictor) v vt → Spells (blocks inter pattern cbpc) bs text
       → Spells (coded_mb quant reach predictor (class_of false same) cbpc) (mbs.Inter new v bs) (cbpy_text false pattern
-          ++ (step ++ (vt ++ (text ++ []))))
+      ++ (step ++ (vt ++ (text ++ []))))
   unfolding coded_mb inter_mb
   coded_inter v vt true q w b =
       spells_part (cbpy false) any _ (mbs.Inter new v bs) pattern (cbpy_text false pattern) _
-          (tables.spelt.cbpy false pattern low) refl
+      (tables.spelt.cbpy false pattern low) refl
       (spells_part (quantiser classes.Inter quant) any _ (mbs.Inter new v bs) new step _ q refl
       (spells_part (vector reach predictor) any _ (mbs.Inter new v bs) v vt _ w refl
       (spells_part (blocks inter pattern cbpc) any _ (mbs.Inter new v bs) bs text [] b refl
-          (spells_done (mbs.Inter new v bs)))))
+      (spells_done (mbs.Inter new v bs)))))
   coded_inter v vt false q w b =
       spells_part (cbpy false) any _ (mbs.Inter new v bs) pattern (cbpy_text false pattern) _
-          (tables.spelt.cbpy false pattern low) refl
+      (tables.spelt.cbpy false pattern low) refl
       (spells_part (quantiser classes.InterQ quant) any _ (mbs.Inter new v bs) new step _ q refl
       (spells_part (vector reach predictor) any _ (mbs.Inter new v bs) v vt _ w refl
       (spells_part (blocks inter pattern cbpc) any _ (mbs.Inter new v bs) bs text [] b refl
-          (spells_done (mbs.Inter new v bs)))))
+      (spells_done (mbs.Inter new v bs)))))
 
 pattern_low : (coded : List ℤ → Bool) (bs : List Block) → cbpy_of coded bs < 16
 pattern_low coded bs = (four_bits (coded (levels_at bs 0)) (coded (levels_at bs 1)) (coded (levels_at bs 2))
@@ -405,16 +414,16 @@ intra_mb_spelt tables of_blocks kind quant reach predictor new bs is near whole 
     let class : MbClass = class_of true (new == quant) in
     let low = pattern_low is_coded bs in
     let lead_at = lead_spelt tables kind class cbpc (intra_there kind (new == quant) cbpc (cbpc_low is_coded bs))
-        (one_vector true (new == quant) cbpc) in
+    (one_vector true (new == quant) cbpc) in
     let q = quantiser_spelt tables true quant new is.quant_in_range near in
     let b = blocks_spelt intra intra_text is_coded (λ (x : Block). IsIntraBlock x) (intra_spelt of_blocks) bs whole
-        is.each in
+    is.each in
     let coded = coded_intra tables quant reach predictor new bs pattern cbpc (step_text quant new)
-        (blocks_text intra_text bs) low (new == quant) q b in
+    (blocks_text intra_text bs) low (new == quant) q b in
     spells_whole (mb kind quant reach predictor) m _ _ (regroup (class_text kind class cbpc) (cbpy_text true pattern)
-        (step_text quant new) (blocks_text intra_text bs))
+    (step_text quant new) (blocks_text intra_text bs))
     (spells_part (lead kind) any (λ l. after_lead quant reach predictor l) m (Coded class cbpc)
-        (class_text kind class cbpc) _ lead_at refl coded)
+    (class_text kind class cbpc) _ lead_at refl coded)
 
 inter_mb_spelt : TableLaws → BlockLaws → (quant : ℕ) (reach : Reach) (predictor : Vector) (new : ℕ) (v : Vector)
     (bs : List Block) → IsInterMb new v bs → IsNear quant new → AreWhole bs → IsWithin reach v.x v.y
@@ -427,24 +436,24 @@ inter_mb_spelt tables of_blocks quant reach predictor new v bs is near whole wit
     let class : MbClass = class_of false (new == quant) in
     let low = pattern_low has_levels bs in
     let lead_at = lead_spelt tables kinds.P class cbpc (cbpc_low has_levels bs) (one_vector false (new == quant) cbpc)
-        in
+    in
     let q = quantiser_spelt tables false quant new is.quant_in_range near in
     let w = vector_spelt tables reach predictor v is.vector_in_range within in
     let b = blocks_spelt inter inter_text has_levels (λ (x : Block). IsInterBlock x) (inter_spelt of_blocks) bs whole
-        is.each in
+    is.each in
     let coded = coded_inter tables quant reach predictor new bs pattern cbpc (step_text quant new)
-        (blocks_text inter_text bs) low v (vector_text predictor v) (new == quant) q w b in
+    (blocks_text inter_text bs) low v (vector_text predictor v) (new == quant) q w b in
     spells_whole (mb kinds.P quant reach predictor) m _ _ (regroup_more (class_text kinds.P class cbpc)
-        (cbpy_text false pattern) (step_text quant new) (vector_text predictor v) (blocks_text inter_text bs))
+    (cbpy_text false pattern) (step_text quant new) (vector_text predictor v) (blocks_text inter_text bs))
     (spells_part (lead kinds.P) any (λ l. after_lead quant reach predictor l) m (Coded class cbpc)
-        (class_text kinds.P class cbpc) _ lead_at refl coded)
+    (class_text kinds.P class cbpc) _ lead_at refl coded)
 
 skip_mb_spelt : (quant : ℕ) (reach : Reach) (predictor : Vector)
     → Spells (mb kinds.P quant reach predictor) mbs.Skip (true ∷ [])
 unfolding mb after_lead
 skip_mb_spelt quant reach predictor =
     spells_part (lead kinds.P) any (λ l. after_lead quant reach predictor l) mbs.Skip Skipped (true ∷ []) [] skip_spelt
-        refl (spells_done mbs.Skip)
+    refl (spells_done mbs.Skip)
 
 -- what is written of a macroblock is a text of it, where its vector is in reach
 pub mb_written : TableLaws → BlockLaws → AreSpelt

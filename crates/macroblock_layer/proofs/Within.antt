@@ -97,15 +97,19 @@ pub component_of : (z : ℤ) → IsComponent (wrapped z)
 component_of z =
     let r = rem_within (z +ℤ pos 32) in
     let e : wrapped z ≡ pos r.0 -ℤ pos 32 = ap (λ (x : ℤ). x -ℤ pos 32) r.1 in
-    subst (λ (x : ℤ). IsComponent x) (sym e) (record { low = omega (arith, ints, r.2);
-        high = omega (arith, ints, r.2) })
+    subst (λ (x : ℤ). IsComponent x) (sym e) (record {
+      low = omega (arith, ints, r.2);
+      high = omega (arith, ints, r.2);
+    })
 
 vector_within : (reach : Reach) (predictor v : Vector) (text : List Bool) → Spells (vector reach predictor) v text
     → IsVector v
 unfolding Spells vector
 vector_within reach predictor v text h =
-    subst (λ (w : Vector). IsVector w) (sym h.6.0) (record { x = component_of (predictor.x +ℤ h.0.x);
-        y = component_of (predictor.y +ℤ h.0.y) })
+    subst (λ (w : Vector). IsVector w) (sym h.6.0) (record {
+      x = component_of (predictor.x +ℤ h.0.x);
+      y = component_of (predictor.y +ℤ h.0.y);
+    })
 
 -- ---- blocks
 
@@ -148,8 +152,8 @@ blocks_within block P each cbpy cbpc bs text h =
     let f = e.6 in
     subst (λ (l : List Block). All P l) (sym f.6.0)
     (six P h.0 b.0 c.0 d.0 e.0 f.0 (each (is_set cbpy 3) h.0 h.1 h.4) (each (is_set cbpy 2) b.0 b.1 b.4)
-        (each (is_set cbpy 1) c.0 c.1 c.4) (each (is_set cbpy 0) d.0 d.1 d.4) (each (is_set cbpc 1) e.0 e.1 e.4)
-        (each (is_set cbpc 0) f.0 f.1 f.4))
+    (each (is_set cbpy 1) c.0 c.1 c.4) (each (is_set cbpy 0) d.0 d.1 d.4) (each (is_set cbpc 1) e.0 e.1 e.4)
+    (each (is_set cbpc 0) f.0 f.1 f.4))
 
 -- ---- whole macroblocks
 
@@ -157,8 +161,13 @@ intra_mb_within : BlockLaws → (quant cbpy cbpc : ℕ) (m : Mb) (text : List Bo
     → Spells (intra_mb quant cbpy cbpc) m text → IsMb m × IsOfKind kinds.I m
 unfolding Spells intra_mb
 intra_mb_within of_blocks quant cbpy cbpc m text is h =
-    subst (λ (x : Mb). IsMb x × IsOfKind kinds.I x) (sym h.6.0) (record { quant_in_range = is;
-        each = blocks_within intra (λ b. IsIntraBlock b) (intra_is of_blocks) cbpy cbpc h.0 h.1 h.4 }, tt)
+    subst (λ (x : Mb). IsMb x × IsOfKind kinds.I x) (sym h.6.0) (
+      record {
+        quant_in_range = is;
+        each = blocks_within intra (λ b. IsIntraBlock b) (intra_is of_blocks) cbpy cbpc h.0 h.1 h.4;
+      },
+      tt,
+    )
 
 inter_mb_within : BlockLaws → (reach : Reach) (predictor : Vector) (quant cbpy cbpc : ℕ) (m : Mb) (text : List Bool)
     → IsQuant quant → Spells (inter_mb reach predictor quant cbpy cbpc) m text → IsMb m
@@ -166,13 +175,16 @@ unfolding Spells inter_mb
 inter_mb_within of_blocks reach predictor quant cbpy cbpc m text is h =
     let more = h.6 in
     subst (λ (x : Mb). IsMb x) (sym more.6.0)
-    (record { quant_in_range = is; vector_in_range = vector_within reach predictor h.0 h.1 h.4;
-        each = blocks_within inter (λ b. IsInterBlock b) (inter_is of_blocks) cbpy cbpc more.0 more.1 more.4 })
+    (record {
+      quant_in_range = is;
+      vector_in_range = vector_within reach predictor h.0 h.1 h.4;
+      each = blocks_within inter (λ b. IsInterBlock b) (inter_is of_blocks) cbpy cbpc more.0 more.1 more.4;
+    })
 
 either_within : BlockLaws → (kind : Kind) (test : Bool) (reach : Reach) (predictor : Vector) (quant cbpy cbpc : ℕ)
     (m : Mb) (text : List Bool) → (kind ≡ kinds.I → test ≡ true) → IsQuant quant
     → Spells (either test (intra_mb quant cbpy cbpc) (inter_mb reach predictor quant cbpy cbpc)) m text
-        → IsMb m × IsOfKind kind m
+    → IsMb m × IsOfKind kind m
 either_within of_blocks kinds.I true reach predictor quant cbpy cbpc m text only is h =
     intra_mb_within of_blocks quant cbpy cbpc m text is h
 either_within of_blocks kinds.I false reach predictor quant cbpy cbpc m text only is h = let e : false
@@ -202,7 +214,7 @@ after_within of_blocks kind quant reach predictor Skipped m text is of h = subst
 after_within of_blocks kind quant reach predictor (Coded class cbpc) m text is of h =
     let more = h.6 in
     either_within of_blocks kind (is_intra class) reach predictor more.0 h.0 cbpc m more.2
-        (only_intra kind class cbpc of) (quantiser_within class quant more.0 more.1 is more.4) more.6
+    (only_intra kind class cbpc of) (quantiser_within class quant more.0 more.1 is more.4) more.6
 
 pub mb_within : BlockLaws → (kind : Kind) (quant : ℕ) (reach : Reach) (predictor : Vector) → IsQuant quant
     → (m : Mb) (text : List Bool) → Spells (mb kind quant reach predictor) m text → IsMb m × IsOfKind kind m

@@ -50,7 +50,7 @@ tally_last f p (suc k) =
     let rest = tally_last f (suc p) k in
     let same : suc p + k ≡ p + suc k = omega arith in
     let moved : tally f (suc p) (suc k) ≡ tally f (suc p) k + bit (f (p + suc k)) =
-        subst (λ (m : ℕ). tally f (suc p) (suc k) ≡ tally f (suc p) k + bit (f m)) same rest in
+    subst (λ (m : ℕ). tally f (suc p) (suc k) ≡ tally f (suc p) k + bit (f m)) same rest in
     omega (arith, moved)
 
 and_false : (b : Bool) → (b && false) ≡ false
@@ -107,7 +107,7 @@ module _ {Style Mb Picture : Type 0} where
   full_other coded arrivals n j m apart =
       ap (λ (b : Bool). nat_lt m (length coded) && b)
       (below_same (length (slices_at coded m)) (has_arrived (with_arrival arrivals n j) m) (has_arrived arrivals m)
-          (λ k. arrived_more arrivals n j m k apart))
+      (λ k. arrived_more arrivals n j m k apart))
 
   -- no delivery to a full picture counts
   not_again : AllBelowIs → (rules : Rules) (c : Call Style Mb Picture) (n j : ℕ) → full c n ≡ true
@@ -160,11 +160,11 @@ module _ {Style Mb Picture : Type 0} where
       go false e = e
       go true e =
           let parts = both (nat_lt (length coded) (length (coded ++ x ∷ [])))
-              (all_below (length (slices_at (coded ++ x ∷ []) (length coded))) (has_arrived arrivals (length coded))) e
-              in
+          (all_below (length (slices_at (coded ++ x ∷ []) (length coded))) (has_arrived arrivals (length coded))) e
+          in
           let first : has_arrived arrivals (length coded) 0
-              ≡ true = (below (length (slices_at (coded ++ x ∷ []) (length coded)))
-              (has_arrived arrivals (length coded))).0 parts.1 0 (rw (slices_last coded x) some) in
+          ≡ true = (below (length (slices_at (coded ++ x ∷ []) (length coded)))
+          (has_arrived arrivals (length coded))).0 parts.1 0 (rw (slices_last coded x) some) in
           let bad : false ≡ true = sym none ∙ first in
           cc
 
@@ -223,16 +223,16 @@ module _ {Style Mb Picture : Type 0} (pictures : Pictures Style Mb Picture) (rul
   sent below c p k x s is some =
       let next : Call Style Mb Picture = record c { coded = c.coded ++ x ∷ [] } in
       let same : after pictures rules source c Send
-          ≡ next = ap (λ (o : Option (Coded Style Mb Picture)). let d : Call Style Mb Picture =
-          record c { coded = c.coded ++ option_map_or (λ y. y ∷ []) o [] } in d) is in
+      ≡ next = ap (λ (o : Option (Coded Style Mb Picture)). let d : Call Style Mb Picture =
+      record c { coded = c.coded ++ option_map_or (λ y. y ∷ []) o [] } in d) is in
       let one : length (c.coded ++ x ∷ []) ≡ length c.coded + 1 = simp length-append in
       let here : length c.coded ≡ p + k = s.coded in
       let last : full next (p + k) ≡ false = subst (λ (m : ℕ). is_full (c.coded ++ x ∷ []) c.arrivals m ≡ false) here
       (full_last below c.coded x c.arrivals some (s.fresh (length c.coded) 0 (omega arith))) in
       let before : tally (full next) p k ≡ tally (full c) p k = tally_same (full next) (full c) p k
-          (λ m le lt. full_front c.coded x c.arrivals m (omega arith)) in
+      (λ m le lt. full_front c.coded x c.arrivals m (omega arith)) in
       let count : tally (full next) p (suc k) ≡ tally (full c) p k = tally_last (full next) p k
-          ∙ rw (last, before) (omega arith) in
+      ∙ rw (last, before) (omega arith) in
       subst (λ (d : Call Style Mb Picture). Standing d p (suc k)) (sym same) (record {
         coded = omega arith;
         played = s.played;
@@ -283,26 +283,26 @@ module _ {Style Mb Picture : Type 0} (pictures : Pictures Style Mb Picture) (rul
       go false d b f =
           subst (λ (x : Call Style Mb Picture). Standing x p (suc k))
           (sym (same false b d f ∙ ap (λ (l : List NumberedMessage). let x : Call Style Mb Picture =
-              record c { said = l } in x) (append-nil c.said))) s
+          record c { said = l } in x) (append-nil c.said))) s
       go true d false f =
           let next : Call Style Mb Picture = record c { arrivals = more } in
           let here : is_full c.coded more (p + k) ≡ false = subst (λ (m : ℕ). is_full c.coded more m ≡ false) at f in
           let was : full c (p + k) ≡ false = subst (λ (m : ℕ). full c m ≡ false) at (not_full d) in
           let count : tally (is_full c.coded more) p (suc k) ≡ tally (full c) p (suc k) =
-              tally_last (is_full c.coded more) p k ∙ rw (here, before) (sym (tally_last (full c) p k ∙ rw was refl)) in
+          tally_last (is_full c.coded more) p k ∙ rw (here, before) (sym (tally_last (full c) p k ∙ rw was refl)) in
           subst (λ (x : Call Style Mb Picture). Standing x p (suc k))
           (sym (same true false d f
-              ∙ ap (λ (l : List NumberedMessage). let x : Call Style Mb Picture = record next { said = l } in
-              x) (append-nil c.said)))
+          ∙ ap (λ (l : List NumberedMessage). let x : Call Style Mb Picture = record next { said = l } in
+          x) (append-nil c.said)))
           (record { coded = s.coded; played = s.played; said = rw count s.said; near = s.near; fresh = fresh })
       go true d true f =
           let note = Got n (full_flags rules c.coded more n) in
           let here : is_full c.coded more (p + k) ≡ true = subst (λ (m : ℕ). is_full c.coded more m ≡ true) at f in
           let was : full c (p + k) ≡ false = subst (λ (m : ℕ). full c m ≡ false) at (not_full d) in
           let count : tally (is_full c.coded more) p (suc k) ≡ tally (full c) p k + 1 =
-              tally_last (is_full c.coded more) p k ∙ rw (here, before) refl in
+          tally_last (is_full c.coded more) p k ∙ rw (here, before) refl in
           let count_before : tally (full c) p (suc k) ≡ tally (full c) p k + 0 = tally_last (full c) p k
-              ∙ rw was refl in
+          ∙ rw was refl in
           let said : length c.said ≡ p + tally (full c) p (suc k) = s.said in
           let one : length (c.said ++ note ∷ []) ≡ length c.said + 1 = simp length-append in
           subst (λ (x : Call Style Mb Picture). Standing x p (suc k)) (sym (same true true d f)) (record {
@@ -445,18 +445,18 @@ module _ {Style Mb Picture : Type 0} (pictures : Pictures Style Mb Picture) (rul
   deliver_lines : AllBelowIs → (frames : ℕ) → 4 ≤ rules.half → (p k n : ℕ) → n ≡ p + k → k ≤ 1
       → (lines rest : List Line) → Delivers n lines
       → ((past : List Event) → Good frames past p (suc k) → Ends frames past rest) → (past : List Event)
-          → Good frames past p (suc k) → Ends frames past (lines ++ rest)
+      → Good frames past p (suc k) → Ends frames past (lines ++ rest)
   deliver_lines below frames half p k n at small [] rest none onward past g = onward past g
   deliver_lines below frames half p k n at small _ rest (one i lines more) onward past g =
       line_ends frames past (line.Packet n i) (lines ++ rest)
       (deliver_lines below frames half p k n at small lines rest more onward (Deliver n i ∷ past)
-          (deliver_good below frames half past p k n i at small g))
+      (deliver_good below frames half past p k n i at small g))
   deliver_lines below frames half p k n at small _ rest (all lines more) onward past g =
       line_ends frames past (line.All n) (lines ++ rest)
       (deliver_lines below frames half p k n at small lines rest more onward
-          (onto (line_events (call_at past) (line.All n)) past)
+      (onto (line_events (call_at past) (line.All n)) past)
       (deliver_all below frames half (range_with_len 0 (length (slices_at (call_at past).coded n))) past p k n at small
-          g))
+      g))
 
   -- the play of a picture, and perhaps its message
   play_lines : (frames : ℕ) → 4 ≤ rules.half → (p v : ℕ) (rest : List Line)
@@ -473,7 +473,7 @@ module _ {Style Mb Picture : Type 0} (pictures : Pictures Style Mb Picture) (rul
       go true played = onward (Play ∷ past) played
       go false played =
           rw less (line_ends frames (Play ∷ past) (line.Back p) rest
-              (onward (Back p ∷ Play ∷ past) (back_good frames half (Play ∷ past) p played)))
+          (onward (Back p ∷ Play ∷ past) (back_good frames half (Play ∷ past) p played)))
 
   -- the lines of frame n, and what is after them
   frame_ends : AllBelowIs → (frames : ℕ) → SendsSlices pictures rules source frames → 4 ≤ rules.half
@@ -484,7 +484,7 @@ module _ {Style Mb Picture : Type 0} (pictures : Pictures Style Mb Picture) (rul
       line_ends frames past line.Send ((deliveries 0 (draw (next_state state) 16) ++ []) ++ rest)
       (rw append-nil
       (deliver_lines below frames half 0 0 0 (omega arith) (omega arith) (deliveries 0 (draw (next_state state) 16))
-          rest (deliveries_deliver 0 (draw (next_state state) 16))
+      rest (deliveries_deliver 0 (draw (next_state state) 16))
       onward (Send ∷ past) (send_good below frames sends half past 0 0 (omega arith) (omega arith) g)))
   frame_ends below frames sends half (suc m) state rest left onward past g =
       let u = draw (next_state state) 16 in
@@ -492,7 +492,7 @@ module _ {Style Mb Picture : Type 0} (pictures : Pictures Style Mb Picture) (rul
       line_ends frames past line.Send ((deliveries (suc m) u ++ plays (suc m) (next_state state)) ++ rest)
       (rw (append_assoc (deliveries (suc m) u) (plays (suc m) (next_state state)) rest)
       (deliver_lines below frames half m 1 (suc m) (omega arith) (omega arith) (deliveries (suc m) u)
-          (plays (suc m) (next_state state) ++ rest) (deliveries_deliver (suc m) u)
+      (plays (suc m) (next_state state) ++ rest) (deliveries_deliver (suc m) u)
       (play_lines frames half m v rest onward)
       (Send ∷ past) (send_good below frames sends half past m 1 (omega arith) (omega arith) g)))
 
@@ -511,15 +511,18 @@ module _ {Style Mb Picture : Type 0} (pictures : Pictures Style Mb Picture) (rul
       last_ends (suc m) e past g =
           let some_frame : nat_lt 0 frames ≡ true = grind (arith, e) in
           rw some_frame (line_ends frames past line.Play []
-              (no_lines frames (Play ∷ past) (play_good frames past m 0 (omega arith) g).near))
+          (no_lines frames (Play ∷ past) (play_good frames past m 0 (omega arith) g).near))
   frames_end below frames sends half (suc some) n state sum past g =
       let next : n + 1 ≡ suc n = omega arith in
       let rest = frames_from some (suc n) (after_plays n (next_state state)) ++ last_line frames in
-      rw (next, append_assoc (frame_lines n state) (frames_from some (suc n) (after_plays n (next_state state)))
-          (last_line frames))
+      rw (
+        next,
+        append_assoc (frame_lines n state) (frames_from some (suc n) (after_plays n (next_state state)))
+            (last_line frames),
+      )
       (frame_ends below frames sends half n state rest (omega arith)
       (λ later behind. frames_end below frames sends half some (suc n) (after_plays n (next_state state))
-          (omega arith) later behind) past g)
+      (omega arith) later behind) past g)
 
   -- every event of a made trace is near
   pub made_near : AllBelowIs → (seed frames : ℕ) → 4 ≤ rules.half → SendsSlices pictures rules source frames
@@ -535,15 +538,15 @@ pub encoder_sends : {Frame Style Mb Picture Fault MessageFault : Type 0}
     (coding : Coding Frame Style Mb Picture Fault MessageFault) (rules : Rules) (pace : List ℕ
     → ℕ) (frames : List Frame)
     → EncoderIsSound coding rules → IsRules rules → IsPace pace
-        → SendsSlices (pictures_of coding) rules (encoded coding rules pace frames) (length frames)
+    → SendsSlices (pictures_of coding) rules (encoded coding rules pace frames) (length frames)
 encoder_sends {Frame} {Style} {Mb} {Picture} coding rules pace frames sound lawful paced = λ past lt.
     let c = call_from (pictures_of coding) rules (encoded coding rules pace frames) past in
     let frame = some_at frames (length c.coded) lt in
     let next : Coded Style Mb Picture = next_coded (pictures_of coding) coding.encoding rules pace frame.0 c.coded
-        c.known in
+    c.known in
     let is : encoded coding rules pace frames c ≡ Some next =
     ap (option_map (λ (f : Frame). next_coded (pictures_of coding) coding.encoding rules pace f c.coded c.known))
-        frame.1 in
+    frame.1 in
     let covers = ((sound pace frames (Send ∷ past) paced).0 next is).covers in
     let first : covers.place_of 0 < length next.slices = covers.below 0 lawful.some_mbs in
     (next, is, omega arith)
@@ -553,7 +556,7 @@ pub made_taken : {Frame Style Mb Picture Fault MessageFault : Type 0}
     → ℕ) (frames : List Frame) (seed : ℕ)
     → AllBelowIs → EncoderIsSound coding rules → IsRules rules → IsPace pace → 4 ≤ rules.half
     → AllMayHappen coding rules pace frames (expanded (pictures_of coding) rules (encoded coding rules pace frames) []
-        (made_trace seed (length frames)))
+    (made_trace seed (length frames)))
 made_taken coding rules pace frames seed below sound lawful paced half =
     made_near (pictures_of coding) rules (encoded coding rules pace frames) below seed (length frames) half
-        (encoder_sends coding rules pace frames sound lawful paced)
+    (encoder_sends coding rules pace frames sound lawful paced)

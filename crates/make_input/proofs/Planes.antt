@@ -26,9 +26,9 @@ pub three_planes : (made : Plane → ℕ → ℕ → ℕ) (p0 p1 p2 p3 : Picture
     → ((x y : ℕ) → Inside p1.format Cb x y 1 → sample_at p2 Cb x y ≡ made Cb x y)
     → ((x y : ℕ) → Inside p2.format Cr x y 1 → sample_at p3 Cr x y ≡ made Cr x y)
     → ((other : Plane) (x y : ℕ) → Inside p1.format other x y 1 → same_plane Cb other ≡ false → sample_at p2 other x y
-        ≡ sample_at p1 other x y)
+    ≡ sample_at p1 other x y)
     → ((other : Plane) (x y : ℕ) → Inside p2.format other x y 1 → same_plane Cr other ≡ false → sample_at p3 other x y
-        ≡ sample_at p2 other x y)
+    ≡ sample_at p2 other x y)
     → (plane : Plane) (x y : ℕ) → Inside p3.format plane x y 1 → sample_at p3 plane x y ≡ made plane x y
 three_planes made p0 p1 p2 p3 f1 f2 f3 luma cb cr kept kept_again = go
   where

@@ -23,12 +23,12 @@ sample_of_luma : (p : Picture) (mb r : ℕ) (v : Vector) (luma : List ℕ) (b : 
     → (k : ℕ) → k < 64 →
     get_or luma (16 * (8 * (b / 2) + k / 8) + (8 * (b % 2) + k % 8)) 0
     ≡ predicted_sample p Y (16 * (mb % columns_of p.format) + 8 * (b % 2) + k % 8)
-        (16 * (mb / columns_of p.format) + 8 * (b / 2) + k / 8) v r
+    (16 * (mb / columns_of p.format) + 8 * (b / 2) + k / 8) v r
 sample_of_luma p mb r v luma b four predicted k hk =
     let column : 16 * (mb % columns_of p.format) + (8 * (b % 2) + k % 8)
-        ≡ 16 * (mb % columns_of p.format) + 8 * (b % 2) + k % 8 = omega arith in
+    ≡ 16 * (mb % columns_of p.format) + 8 * (b % 2) + k % 8 = omega arith in
     let row : 16 * (mb / columns_of p.format) + (8 * (b / 2) + k / 8)
-        ≡ 16 * (mb / columns_of p.format) + 8 * (b / 2) + k / 8 = omega arith in
+    ≡ 16 * (mb / columns_of p.format) + 8 * (b / 2) + k / 8 = omega arith in
     predicted (8 * (b / 2) + k / 8) (8 * (b % 2) + k % 8) (omega arith) (omega arith)
     ∙ ap (λ (x : ℕ). predicted_sample p Y x (16 * (mb / columns_of p.format) + (8 * (b / 2) + k / 8)) v r) column
     ∙ ap (λ (y : ℕ). predicted_sample p Y (16 * (mb % columns_of p.format) + 8 * (b % 2) + k % 8) y v r) row
@@ -36,7 +36,7 @@ sample_of_luma p mb r v luma b four predicted k hk =
 sample_of_colour : (p : Picture) (plane : Plane) (mb r : ℕ) (v : Vector) (block : List ℕ)
     → ArePredicted 8 p plane mb v r block → (k : ℕ) → k < 64 →
     get_or block k 0 ≡ predicted_sample p plane (8 * (mb % columns_of p.format) + k % 8)
-        (8 * (mb / columns_of p.format) + k / 8) v r
+    (8 * (mb / columns_of p.format) + k / 8) v r
 sample_of_colour p plane mb r v block predicted k hk =
     let e : k ≡ 8 * (k / 8) + k % 8 = omega arith in
     ap (λ (m : ℕ). get_or block m 0) e ∙ predicted (k / 8) (k % 8) (omega arith) (omega arith)
@@ -58,15 +58,15 @@ six_predicted p mb r v samples is (suc (suc (suc (suc (suc (suc b)))))) k hb hk 
 pub square_is_block : (p : Picture) (mb b : ℕ) (corner : Corner) (plane : Plane) (samples : List ℤ)
     → corner ≡ corner_of p.format mb b → corner.plane ≡ plane → length samples ≡ 64 →
     ((k : ℕ) → k < 64 → get_or samples k (pos 0) ≡ pos (sample_at p plane (corner.x + k % 8) (corner.y + k / 8)))
-        → samples ≡ samples_of p mb b
+    → samples ≡ samples_of p mb b
 unfolding samples_of
 square_is_block p mb b corner plane samples e same long each =
     subst (λ (corner : Corner). samples
-        ≡ map (λ k. pos (sample_at p corner.plane (corner.x + k % 8) (corner.y + k / 8))) (range_with_len 0 64)) e
+    ≡ map (λ k. pos (sample_at p corner.plane (corner.x + k % 8) (corner.y + k / 8))) (range_with_len 0 64)) e
     (fill_by_all (λ (k : ℕ). pos (sample_at p corner.plane (corner.x + k % 8) (corner.y + k / 8))) samples 64
-        (pos 0) long
+    (pos 0) long
     (λ k h. each k h ∙ ap (λ (plane : Plane). pos (sample_at p plane (corner.x + k % 8) (corner.y + k / 8)))
-        (sym same)))
+    (sym same)))
 
 -- ---- what is left of a block
 
@@ -78,7 +78,7 @@ pub residuals_are : (p q : Picture) (r mb : ℕ) (v : Vector) (b : ℕ) (residua
 unfolding residuals_of
 residuals_are p q r mb v b residuals predicted long each from =
     fill_by_all (λ (k : ℕ). pos (sample_in_block p mb b k) -ℤ pos (predicted_in_block q r mb v b k)) residuals 64
-        (pos 0) long
+    (pos 0) long
     (λ k h. each k h ∙ ap (λ (n : ℕ). pos (sample_in_block p mb b k) -ℤ pos n) (from k h))
 
 -- ---- luma
@@ -103,4 +103,4 @@ own_luma p mb samples long predicted =
     (λ k h.
     let place : k ≡ 16 * (k / 16) + k % 16 = omega arith in
     ap (λ (m : ℕ). get_or samples m 0) place ∙ predicted (k / 16) (k % 16) (omega arith) (omega arith)
-        ∙ own_sample p (left + k % 16) (top + k / 16))
+    ∙ own_sample p (left + k % 16) (top + k / 16))

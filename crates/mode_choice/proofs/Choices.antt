@@ -34,7 +34,7 @@ pub one_of_candidates : {X : Type 0} (candidate : Vector → X) (vs : List Vecto
     (A : X → Type 0) → A first → All (λ v. A (candidate v)) vs → A best
 one_of_candidates candidate vs first best has A h each =
     All-contains A (first ∷ map candidate vs) best (All-cons A first (map candidate vs) h (All-map A candidate vs each))
-        has
+    has
 
 -- the test of reach answers what it should
 abbrev pub IsTested : Type 0
@@ -56,8 +56,8 @@ IsInRange = (frame reference : Picture) (mb radius r : ℕ) → IsVector (best_v
 pub chosen_in_p : (A : Mb → Type 0) (frame reference : Picture) (h : Header) (params : Params) (mb : ℕ) →
     A (intra_of frame h.quant params.keep mb) → A Skip →
     A (Inter h.quant (best_vector frame reference mb params.radius h.rounding).vector
-        (residual_blocks_of frame reference h.quant params.keep h.rounding mb
-        (best_vector frame reference mb params.radius h.rounding).vector)) →
+    (residual_blocks_of frame reference h.quant params.keep h.rounding mb
+    (best_vector frame reference mb params.radius h.rounding).vector)) →
     A (choice_in_p frame reference h params mb)
 chosen_in_p A frame reference h params mb intra skip inter = one_of_two A _ _ _ intra (one_of_two A _ _ _ skip inter)
 
@@ -67,7 +67,7 @@ chosen_in_range vectors frame None h params mb quant = blocks_in_range frame h.q
 chosen_in_range vectors frame (Some reference) h params mb quant =
     chosen_in_p IsMb frame reference h params mb (blocks_in_range frame h.quant params.keep mb quant) tt
     (residual_blocks_in_range frame reference h.quant params.keep h.rounding mb _ quant
-        (vectors frame reference mb params.radius h.rounding))
+    (vectors frame reference mb params.radius h.rounding))
 
 -- the best vector is one of the candidates
 abbrev pub IsBestCandidate : Type 0
@@ -88,4 +88,4 @@ chosen_reaches best frame (Some reference) h params mb only here = reaches h.kin
         chosen_in_p (ReachesInside frame.format mb) frame reference h params mb tt tt
         (let v = (best_vector frame reference mb params.radius h.rounding).vector in
         subst (λ (f : Format). InReach f mb v.x v.y) same (best frame reference mb params.radius h.rounding
-            (subst (λ (f : Format). mb < mbs_of f) (sym same) here)).reach)
+        (subst (λ (f : Format). mb < mbs_of f) (sym same) here)).reach)

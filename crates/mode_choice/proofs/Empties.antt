@@ -33,5 +33,5 @@ none_in_any zero (b ∷ blocks) (m ∷ marks) lb lm h = absurd (omega (arith, lb
 none_in_any (suc n) (b ∷ blocks) (m ∷ marks) lb lm h =
     let first = ap (λ (k : ℕ). eqb k 0) (h 0 (omega arith)) ∙ none_marked b.levels in
     let others = none_in_any n blocks marks (omega (arith, lb)) (omega (arith, lm))
-        (λ k lt. h (suc k) (omega (arith, lt))) in
+    (λ k lt. h (suc k) (omega (arith, lt))) in
     cc (first, others)

@@ -22,7 +22,7 @@ one_difference : (x y : ℕ) → x < 256 → y < 256 → to_z w16 (minus x y) �
 one_difference x y hx hy =
     let fits : FitsSigned w16 (pos x -ℤ pos y) = omega (arith, ints) in
     ap (to_z w16) (minus_is (pos x) (pos y) 255 255 (lit≤ tt) (byte_within x hx) (byte_within y hy))
-        ∙ to_z-of_z w16 (pos x -ℤ pos y) fits
+    ∙ to_z-of_z w16 (pos x -ℤ pos y) fits
 
 pub difference_at : (xs ys : List ℕ) (i : ℕ) → i < length xs → i < length ys → get_or xs i 0 < 256
     → get_or ys i 0 < 256 →

@@ -52,7 +52,7 @@ block_in_range quant keep samples =
       dc = subst IsDc (sym (get_or-map-range_with_len f 0 64 0 0 (pos 0) (lit< tt) refl)) (dc_in_range _);
       levels = λ k some below.
           subst IsLevel (sym (get_or-map-range_with_len f 0 64 k k (pos 0) below (omega arith)))
-              (level_in_range quant keep k (coefficient_at samples k) some);
+          (level_in_range quant keep k (coefficient_at samples k) some);
     }
 
 each_block : (P : Block → Type 0) (f : ℕ → Block) → ((b : ℕ) → P (f b)) → All P (map f (range_with_len 0 6))
@@ -65,8 +65,11 @@ pub blocks_in_range : (frame : Picture) (quant keep mb : ℕ) → IsQuant quant
     → IsIntraMb quant (blocks_of frame quant keep mb)
 unfolding blocks_of
 blocks_in_range frame quant keep mb h =
-    record { quant_in_range = h; each = each_block IsIntraBlock (λ b. levels_of quant keep (samples_of frame mb b))
-        (λ b. block_in_range quant keep (samples_of frame mb b)) }
+    record {
+      quant_in_range = h;
+      each = each_block IsIntraBlock (λ b. levels_of quant keep (samples_of frame mb b))
+          (λ b. block_in_range quant keep (samples_of frame mb b));
+    }
 
 -- ---- residuals
 
@@ -82,7 +85,7 @@ residuals_in_range quant keep residuals =
       levels = λ k below.
           subst IsLevel (sym (get_or-map-range_with_len f 0 64 k k (pos 0) below (omega arith)))
           (kept_or_zero (nat_lt k keep) (inter_level quant (coefficient_at residuals k))
-              (residual_small quant (coefficient_at residuals k)));
+          (residual_small quant (coefficient_at residuals k)));
     }
 
 pub residual_blocks_in_range : (frame reference : Picture) (quant keep r mb : ℕ) (v : Vector) → IsQuant quant
@@ -120,7 +123,7 @@ pub is_forward : (coefficients block : List ℤ) (at k : ℕ) → at ≡ block_p
     get_or coefficients at (pos 0) ≡ coefficient_at block k
 is_forward coefficients block at k e h each =
     sym (at_place coefficients at) ∙ each (at / 8) (at % 8) (omega arith) (omega arith)
-        ∙ ap (λ (n : ℕ). forward_at block (n / 8) (n % 8)) e
+    ∙ ap (λ (n : ℕ). forward_at block (n / 8) (n % 8)) e
 
 -- a coefficient that is smaller than a step and half a quantiser has no level
 pub no_level : (quant : ℕ) (f : ℤ) → IsQuant quant → unsigned_abs f < 2 * quant + quant / 2
@@ -142,6 +145,6 @@ unfolding residual_levels_of
 no_levels quant keep residuals none =
     let block : List ℤ → Block = λ ls. record { levels = ls } in
     ap block (fill_by_all (λ (k : ℕ). residual_level_of quant keep k (coefficient_at residuals k))
-        (replicate 64 (pos 0)) 64 (pos 0) (length-replicate 64 (pos 0))
+    (replicate 64 (pos 0)) 64 (pos 0) (length-replicate 64 (pos 0))
     (λ k h. get_or-replicate 64 k (pos 0) (pos 0) h
-        ∙ kept_nothing (nat_lt k keep) (inter_level quant (coefficient_at residuals k)) (none k)))
+    ∙ kept_nothing (nat_lt k keep) (inter_level quant (coefficient_at residuals k)) (none k)))

@@ -73,9 +73,9 @@ pub one_more_marked : (blocks : List Block) (marks : List ℕ) (n : ℕ) (block 
 one_more_marked blocks marks n block m room place is before k lt =
     let none : Block = record { levels = [] } in
     below_more (λ (k : ℕ). get_or (slice_set marks n m) k 0
-        ≡ marks_of (get_or (slice_set blocks n block) k none).levels) n
+    ≡ marks_of (get_or (slice_set blocks n block) k none).levels) n
     (λ j hj. get_or-set_other marks n j m 0 (omega (arith, hj)) ∙ before j hj
-        ∙ ap (λ (b : Block). marks_of b.levels) (sym (get_or-set_other blocks n j block none (omega (arith, hj)))))
+    ∙ ap (λ (b : Block). marks_of b.levels) (sym (get_or-set_other blocks n j block none (omega (arith, hj)))))
     (get_or-set_same marks n m 0 place ∙ is
-        ∙ ap (λ (b : Block). marks_of b.levels) (sym (get_or-set_same blocks n block none room)))
+    ∙ ap (λ (b : Block). marks_of b.levels) (sym (get_or-set_same blocks n block none room)))
     k lt

@@ -13,7 +13,7 @@ above_at_or_below k y now here before above at below = grind (arith, nat_tests)
 pub row_is_put : (samples row : List ℤ) (f : ℕ → ℤ) (y : ℕ) → length samples ≡ 64 → length row ≡ 8 → y < 8
     → ((x : ℕ) → x < 8 → get_or row x (pos 0) ≡ f x) →
     (k : ℕ) → k < 64 → get_or (put_chunk (8 * y) samples row) k (pos 0)
-        ≡ cond (nat_eq (k / 8) y) (f (k % 8)) (get_or samples k (pos 0))
+    ≡ cond (nat_eq (k / 8) y) (f (k % 8)) (get_or samples k (pos 0))
 row_is_put samples row f y long eight h each k hk =
     above_at_or_below k y _ _ _
     (λ above. get_or-put_chunk_below (8 * y) samples row k (pos 0) above)
@@ -21,5 +21,5 @@ row_is_put samples row f y long eight h each k hk =
     let place : k ≡ 8 * y + k % 8 = omega (arith, at) in
     ap (λ (n : ℕ). get_or (put_chunk (8 * y) samples row) n (pos 0)) place
     ∙ get_or-put_chunk_at (8 * y) samples row (k % 8) (pos 0) (omega (arith, eight)) (omega (arith, eight, long, h))
-        ∙ each (k % 8) (omega arith))
+    ∙ each (k % 8) (omega arith))
     (λ below. get_or-put_chunk_above (8 * y) samples row k (pos 0) (omega (arith, eight, below)))

@@ -32,14 +32,14 @@ second_of false a b h = refl
 -- the macroblock by the best vector is the choice where the samples aren't nearer to their mean
 pub by_best : (frame reference : Picture) (h : Header) (params : Params) (mb : ℕ) (out : Mb) (v : Vector) (cost : ℤ) →
     IsCost cost → v ≡ (best_vector frame reference mb params.radius h.rounding).vector
-        → cost ≡ (best_vector frame reference mb params.radius h.rounding).cost →
+    → cost ≡ (best_vector frame reference mb params.radius h.rounding).cost →
     is_intra (deviation_of (luma.samples_of frame mb)) (to_z w32 (of_z w32 cost)) ≡ false →
     out ≡ inter_of frame reference h.quant params.keep h.rounding mb v → out ≡ choice_in_p frame reference h params mb
 by_best frame reference h params mb out v cost range vector least test made =
     made
     ∙ ap (λ (v : Vector). inter_of frame reference h.quant params.keep h.rounding mb v) vector
     ∙ sym (second_of _ _ _ (ap (λ (z : ℤ). is_intra (deviation_of (luma.samples_of frame mb)) z) (sym least
-        ∙ sym (cost_kept cost range)) ∙ test))
+    ∙ sym (cost_kept cost range)) ∙ test))
 
 -- the samples that its vector predicts, where it has one
 pub of_inter : (r at quant : ℕ) (p : Picture) (v : Vector) (blocks : List Block) (mb : Mb) (samples : Predicted)

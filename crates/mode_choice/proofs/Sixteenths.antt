@@ -23,7 +23,7 @@ between t f h = record { low = h.least; high = h.most; up = h.up; down = h.down 
 settled_level : AreSettled → (coding : Coding) (quant : ℕ) (t level f : ℤ) → IsQuant quant → IsBracketed t f →
     level ≡ signed_of t (pos (steps_of quant ((unsigned_abs t + 6) / 16 - half_of coding quant))) →
     steps_of quant ((unsigned_abs t + 6) / 16 - half_of coding quant)
-        ≡ steps_of quant ((unsigned_abs t + 9) / 16 - half_of coding quant) →
+    ≡ steps_of quant ((unsigned_abs t + 9) / 16 - half_of coding quant) →
     level ≡ level_by coding quant f
 settled_level settled Intra quant t level f h near is same =
     let least : ℕ = (unsigned_abs t + 6) / 16 in
@@ -31,7 +31,7 @@ settled_level settled Intra quant t level f h near is same =
     is
     ∙ ap (λ (k : ℕ). signed_of t (pos k)) (less_none quant least)
     ∙ sym (settled.intra quant least most t f h (between t f near) (sym (less_none quant least) ∙ same
-        ∙ less_none quant most))
+    ∙ less_none quant most))
 settled_level settled Inter quant t level f h near is same =
     is ∙ sym (settled.inter quant ((unsigned_abs t + 6) / 16) ((unsigned_abs t + 9) / 16) t f h (between t f near) same)
 
@@ -69,5 +69,5 @@ brackets samples sixteenths near each k =
     let at : ℕ = block_place_of k in
     let below : at < 64 = block_place_below k in
     subst (λ (t : ℤ). IsBracketed t (coefficient_at samples k))
-        (sym (each (at % 8) (at / 8) (omega arith) (omega (arith, below))))
+    (sym (each (at % 8) (at / 8) (omega arith) (omega (arith, below))))
     (near samples (at / 8) (at % 8) (omega (arith, below)) (omega arith))

@@ -25,7 +25,7 @@ holds_below p k h all =
     let e : get_or (range_with_len 0 64) k 0 ≡ k = get_or-range_with_len 0 64 k 0 h ∙ zero-add k in
     let there : k < length (range_with_len 0 64) = h in
     subst (λ (n : ℕ). p n ≡ true) e (not_false (p (get_or (range_with_len 0 64) k 0)) (list_all p (range_with_len 0 64))
-        (list_all_at p (range_with_len 0 64) k 0 there) all)
+    (list_all_at p (range_with_len 0 64) k 0 there) all)
 
 same : (m n : ℕ) → nat_eq m n ≡ true → m ≡ n
 same m n h = grind (arith, nat_tests)

@@ -100,7 +100,7 @@ starts marked s keep block rest marks = record {
       let at = place_in s k in
       get_or-replicate 64 k (pos 0) (pos 0) less
       ∙ none_unmarked (get_or block at (pos 0)) (is_zero (get_or block at (pos 0))) (nat_lt k keep) (bit_at rest at)
-          refl
+      refl
       (ap (λ (n : ℕ). bit_at n at) marks ∙ marked block at);
   range = All-replicate IsLevel 64 (pos 0) zero_level;
 }
@@ -130,7 +130,7 @@ set_one one s keep block at k rest levels v mark place room level range before =
             ap (bit_at left) here ∙ mark.gone,
           ))
           (λ differs. let other : place_in s j ≢ at = λ here. differs (sym (order_there one s j less)
-              ∙ ap (order_of s) here ∙ sym place) in
+          ∙ ap (order_of s) here ∙ sym place) in
           (get_or-set_other levels k j v (pos 0) differs, mark.others (place_in s j) (place_below s j) other));
       range = All-set IsLevel levels k v range before.range;
     }
@@ -143,7 +143,7 @@ not_yet one s keep block at k rest levels mark place less before =
     let back : place_in s k ≡ at = ap (place_in s) place ∙ order_back one s at mark.below in
     before.stand k less
     ∙ ap (λ (n : ℕ). cond (nat_eq n 0) (kept_level keep k (get_or block (place_in s k) (pos 0))) (pos 0))
-        (ap (bit_at rest) back ∙ mark.set)
+    (ap (bit_at rest) back ∙ mark.set)
 
 -- the marks that are left are some of those before
 pub left_marks : (rest at i : ℕ) → bit_at (without rest at) i ≡ 1 → bit_at rest i ≡ 1
@@ -171,7 +171,7 @@ pub ends : (s : Standing) (keep : ℕ) (block : List ℤ) (rest : ℕ) (levels :
     (k : ℕ) → k < 64 → get_or levels k (pos 0) ≡ kept_level keep k (get_or block (place_in s k) (pos 0))
 ends s keep block rest levels none before k less =
     all_gone (bit_at rest (place_in s k)) _ _ (ap (λ (n : ℕ). bit_at n (place_in s k)) none
-        ∙ bit_at-zero (place_in s k)) (before.stand k less)
+    ∙ bit_at-zero (place_in s k)) (before.stand k less)
 
 -- what a transform gives at a place of the zigzag order
 pub is_forward_at : (coefficients block : List ℤ) (k : ℕ)

@@ -38,7 +38,7 @@ whole_residuals : (p reference : Picture) (quant keep r mb : ℕ) (v : Vector)
 unfolding residual_blocks_of
 whole_residuals p reference quant keep r mb v =
     six_blocks (λ b. residual_levels_of quant keep (residuals_of p reference r mb v b))
-        (λ b. long_residual quant keep (residuals_of p reference r mb v b))
+    (λ b. long_residual quant keep (residuals_of p reference r mb v b))
 
 pub chosen_whole : (frame : Picture) (reference : Option Picture) (h : Header) (params : Params) (mb : ℕ)
     → HasWholeBlocks (choice_of frame reference h params mb)

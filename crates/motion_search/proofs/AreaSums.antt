@@ -75,7 +75,7 @@ column_less f x y n =
     let e : n + 1 ≡ suc n = omega arith in
     let first : f x (y + 0) ≡ f x y = let z : y + 0 ≡ y = omega arith in ap (f x) z in
     let rest = total_is (λ i. f x (y + suc i)) (λ j. f x (y + 1 + j)) n (λ i hi. let s : y + suc i
-        ≡ y + 1 + i = omega arith in ap (f x) s) in
+    ≡ y + 1 + i = omega arith in ap (f x) s) in
     ap (total (λ j. f x (y + j))) e ∙ total_first (λ j. f x (y + j)) n ∙ omega (arith, first, rest)
 
 pub column_small : (f : ℕ → ℕ → ℕ) (x y n : ℕ) → AreBytes f → column_sum f x y n ≤ 255 * n
@@ -116,9 +116,9 @@ area_apart : (b f : ℕ → ℕ → ℕ) (u v : ℕ)
 unfolding area_sum column_sum
 area_apart b f u v =
     sums_apart (λ i. total (λ j. f (u + i) (v + j)) 8) (λ i. total (λ j. b (u + i) (v + j)) 8)
-        (λ i. total (λ j. abs_diff (b (u + i) (v + j)) (f (u + i) (v + j))) 8) 8
+    (λ i. total (λ j. abs_diff (b (u + i) (v + j)) (f (u + i) (v + j))) 8) 8
     (λ i. sums_apart (λ j. f (u + i) (v + j)) (λ j. b (u + i) (v + j))
-        (λ j. abs_diff (b (u + i) (v + j)) (f (u + i) (v + j))) 8 (λ j. omega arith))
+    (λ j. abs_diff (b (u + i) (v + j)) (f (u + i) (v + j))) 8 (λ j. omega arith))
 
 differences_total : (xs ys : List ℕ) (n : ℕ) → length xs ≡ n → length ys ≡ n
     → differences xs ys ≡ total (λ k. abs_diff (get_or xs k 0) (get_or ys k 0)) n
@@ -145,9 +145,9 @@ block_rows block f long =
     differences_total block (square f) 256 long (length-square f)
     ∙ by_rows (λ k. abs_diff (get_or block k 0) (get_or (square f) k 0)) 16
     ∙ total_is (λ j. total (λ i. abs_diff (get_or block (16 * j + i) 0) (get_or (square f) (16 * j + i) 0)) 16)
-        (λ j. total (λ i. abs_diff (in_block block i j) (f i j)) 16) 16
+    (λ j. total (λ i. abs_diff (in_block block i j) (f i j)) 16) 16
     (λ j hj. total_is (λ i. abs_diff (get_or block (16 * j + i) 0) (get_or (square f) (16 * j + i) 0))
-        (λ i. abs_diff (in_block block i j) (f i j)) 16
+    (λ i. abs_diff (in_block block i j) (f i j)) 16
     (λ i hi. ap (abs_diff (in_block block i j)) (get_or-square f j i hj hi)))
 
 -- the two halves of eight rows
@@ -155,10 +155,10 @@ two_quarters : (d : ℕ → ℕ → ℕ) (v : ℕ) → total (λ j. total (λ i.
     ≡ quarter_of d 0 v + quarter_of d 8 v
 two_quarters d v =
     total_is (λ j. total (λ i. d i (v + j)) 16) (λ j. total (λ i. d (0 + i) (v + j)) 8 + total (λ i. d (8 + i) (v + j))
-        8) 8
+    8) 8
     (λ j hj. total_split (λ i. d i (v + j)) 8 8 ∙ ap (λ (k : ℕ). k + total (λ i. d (8 + i) (v + j)) 8)
     (total_is (λ i. d i (v + j)) (λ i. d (0 + i) (v + j)) 8 (λ i hi. let e : i ≡ 0 + i = omega arith in
-        ap (λ (k : ℕ). d k (v + j)) e)))
+    ap (λ (k : ℕ). d k (v + j)) e)))
     ∙ total_plus (λ j. total (λ i. d (0 + i) (v + j)) 8) (λ j. total (λ i. d (8 + i) (v + j)) 8) 8
     ∙ cc (total_swap (λ j i. d (0 + i) (v + j)) 8 8, total_swap (λ j i. d (8 + i) (v + j)) 8 8)
 
@@ -168,7 +168,7 @@ four_quarters d =
     total_split (λ j. total (λ i. d i j) 16) 8 8
     ∙ ap (λ (k : ℕ). k + total (λ j. total (λ i. d i (8 + j)) 16) 8)
     (total_is (λ j. total (λ i. d i j) 16) (λ j. total (λ i. d i (0 + j)) 16) 8 (λ j hj. let e : j
-        ≡ 0 + j = omega arith in ap (λ (k : ℕ). total (λ i. d i k) 16) e))
+    ≡ 0 + j = omega arith in ap (λ (k : ℕ). total (λ i. d i k) 16) e))
     ∙ cc (two_quarters d 0, two_quarters d 8)
 
 -- two blocks differ by at least as much as the sums of their quarters do, taken together
@@ -176,12 +176,19 @@ pub quarters_apart : (block : List ℕ) (f : ℕ → ℕ → ℕ) → length blo
     let b = in_block block in
     abs_diff (area_sum f 0 0) (area_sum b 0 0) + abs_diff (area_sum f 8 0) (area_sum b 8 0)
     + (abs_diff (area_sum f 0 8) (area_sum b 0 8) + abs_diff (area_sum f 8 8) (area_sum b 8 8)) ≤ differences block
-        (square f)
+    (square f)
 quarters_apart block f long =
     let b = in_block block in
     let d = λ (i j : ℕ). abs_diff (b i j) (f i j) in
-    omega (arith, area_apart b f 0 0, area_apart b f 8 0, area_apart b f 0 8, area_apart b f 8 8,
-        block_rows block f long, four_quarters d)
+    omega (
+      arith,
+      area_apart b f 0 0,
+      area_apart b f 8 0,
+      area_apart b f 0 8,
+      area_apart b f 8 8,
+      block_rows block f long,
+      four_quarters d,
+    )
 
 -- ---- sixteen lanes
 
@@ -190,7 +197,7 @@ unfolding sixteen
 is_sixteen xs f long same =
     same_number_lists xs (map f (range_with_len 0 16)) (long ∙ sym (length-map-range_with_len f 0 16))
     (λ i hi. let h : i < 16 = omega (arith, hi, long) in same i h
-        ∙ sym (get_or-map-range_with_len f 0 16 i i 0 h (omega arith)))
+    ∙ sym (get_or-map-range_with_len f 0 16 i i 0 h (omega arith)))
 
 pub length-sixteen : (f : ℕ → ℕ) → length (sixteen f) ≡ 16
 unfolding sixteen
@@ -217,20 +224,20 @@ minus a b = (a + (2 ^ 16 - b)) % 2 ^ 16
 -- one more row below, and one less above
 pub more_lanes : (f : ℕ → ℕ → ℕ) (at : ℕ → ℕ) (y n : ℕ) (xs ys : List ℕ) → AreBytes f → n < 8 →
     xs ≡ sixteen (λ i. column_sum f (at i) y n) → ys ≡ sixteen (λ i. f (at i) (y + n))
-        → zip2 plus xs ys ≡ sixteen (λ i. column_sum f (at i) y (n + 1))
+    → zip2 plus xs ys ≡ sixteen (λ i. column_sum f (at i) y (n + 1))
 more_lanes f at y n xs ys h hn ex ey =
     let both : zip2 plus xs ys ≡ zip2 plus (sixteen (λ i. column_sum f (at i) y n)) (sixteen (λ i. f (at i) (y + n))) =
-        cc (ex, ey) in
+    cc (ex, ey) in
     both ∙ zip2-sixteen plus (λ i. column_sum f (at i) y n) (λ i. f (at i) (y + n))
     ∙ sixteen_is (λ i. plus (column_sum f (at i) y n) (f (at i) (y + n))) (λ i. column_sum f (at i) y (n + 1))
     (λ i hi. omega (arith, column_more f (at i) y n, column_small f (at i) y n h, h (at i) (y + n), hn))
 
 pub less_lanes : (f : ℕ → ℕ → ℕ) (at : ℕ → ℕ) (y n : ℕ) (xs ys : List ℕ) → AreBytes f → n < 8 →
     xs ≡ sixteen (λ i. column_sum f (at i) y (n + 1)) → ys ≡ sixteen (λ i. f (at i) y)
-        → zip2 minus xs ys ≡ sixteen (λ i. column_sum f (at i) (y + 1) n)
+    → zip2 minus xs ys ≡ sixteen (λ i. column_sum f (at i) (y + 1) n)
 less_lanes f at y n xs ys h hn ex ey =
     let both : zip2 minus xs ys ≡ zip2 minus (sixteen (λ i. column_sum f (at i) y (n + 1)))
-        (sixteen (λ i. f (at i) y)) = cc (ex, ey) in
+    (sixteen (λ i. f (at i) y)) = cc (ex, ey) in
     both ∙ zip2-sixteen minus (λ i. column_sum f (at i) y (n + 1)) (λ i. f (at i) y)
     ∙ sixteen_is (λ i. minus (column_sum f (at i) y (n + 1)) (f (at i) y)) (λ i. column_sum f (at i) (y + 1) n)
     (λ i hi. omega (arith, column_less f (at i) y n, column_small f (at i) (y + 1) n h, h (at i) y, hn))
@@ -301,7 +308,7 @@ left_areas f y l r h el er =
     ap (λ (xs : List ℕ). lanes_left xs r) el ∙ ap (lanes_left (sixteen (λ i. column_sum f i y 8))) er
     ∙ left_lanes (λ k. column_sum f k y 8) ∙ areas_of f 0 y h
     ∙ sixteen_is (λ i. area_sum f (0 + i) y) (λ i. area_sum f i y) (λ i hi. let e : 0 + i ≡ i = omega arith in
-        ap (λ (k : ℕ). area_sum f k y) e)
+    ap (λ (k : ℕ). area_sum f k y) e)
 
 pub right_areas : (f : ℕ → ℕ → ℕ) (y : ℕ) (l r : List ℕ) → AreBytes f → l ≡ sixteen (λ i. column_sum f i y 8)
     → r ≡ sixteen (λ i. column_sum f (16 + i) y 8) →
@@ -329,7 +336,7 @@ half_small a b left right ha hb hl hr = omega (arith, small_apart a left ha hl, 
 pub half_lanes : (g : ℕ → ℕ) (at left right : ℕ) (xs ys : List ℕ) → ((k : ℕ) → g k ≤ 16320) → left ≤ 16320
     → right ≤ 16320 →
     xs ≡ sixteen (λ i. abs_diff (g (at + i)) left) → ys ≡ sixteen (λ i. abs_diff (g (at + 8 + i)) right)
-        → zip2 plus xs ys ≡ sixteen (λ i. abs_diff (g (at + i)) left + abs_diff (g (at + 8 + i)) right)
+    → zip2 plus xs ys ≡ sixteen (λ i. abs_diff (g (at + i)) left + abs_diff (g (at + 8 + i)) right)
 half_lanes g at left right xs ys h hl hr ex ey =
     both_lanes (λ i. abs_diff (g (at + i)) left) (λ i. abs_diff (g (at + 8 + i)) right) xs ys ex ey
     (λ i. omega (arith, half_small (g (at + i)) (g (at + 8 + i)) left right (h (at + i)) (h (at + 8 + i)) hl hr))
@@ -342,7 +349,7 @@ loaded_sums xs at h = is_sixteen (chunk at 16 xs) (λ i. get_or xs (at + i) 0) (
 -- a lane that isn't marked has more than the most
 pub mark_tells : (xs : List ℕ) (f : ℕ → ℕ) (most i : ℕ) → xs ≡ sixteen f → i < 16 →
     mask_l (map (top 15) (zip2 (λ a b. cond (leb a b) (2 ^ 16 - 1) 0) xs (replicate 16 most))) % 2 ^ 64 / 2 ^ i % 2 ≡ 0
-        → most < f i
+    → most < f i
 mark_tells xs f most i e hi h = by (leb (f i) most) refl
   where
     long : length xs ≡ 16
@@ -352,7 +359,7 @@ mark_tells xs f most i e hi h = by (leb (f i) most) refl
         2 ≡ cond (leb (f i) most) 1 0
     bit =
         ap (λ (n : ℕ). n / 2 ^ i % 2) (bitmask_splat w16 leb xs 16 most long (omega arith))
-            ∙ bit_mask_l (map (λ (x : ℕ). leb x most) xs) i
+        ∙ bit_mask_l (map (λ (x : ℕ). leb x most) xs) i
         ∙ ap (λ (b : Bool). cond b 1 0) (get_or-map (λ (x : ℕ). leb x most) xs i 0 false (omega (arith, hi, long)))
         ∙ ap (λ (k : ℕ). cond (leb k most) 1 0) (ap (λ (l : List ℕ). get_or l i 0) e ∙ at_sixteen f i hi)
 
@@ -363,31 +370,31 @@ mark_tells xs f most i e hi h = by (leb (f i) most) refl
 -- the block in column i of row y differs by no less than its quarters' sums do
 pub ruled_out : (f : ℕ → ℕ → ℕ) (y i tl tr bl br : ℕ) (block : List ℕ) → length block ≡ 256 →
     tl ≡ area_sum (in_block block) 0 0 → tr ≡ area_sum (in_block block) 8 0 → bl ≡ area_sum (in_block block) 0 8
-        → br ≡ area_sum (in_block block) 8 8 →
+    → br ≡ area_sum (in_block block) 8 8 →
     abs_diff (area_sum f i y) tl + abs_diff (area_sum f (8 + i) y) tr + (abs_diff (area_sum f i (y + 8)) bl + abs_diff
-        (area_sum f (8 + i) (y + 8)) br)
+    (area_sum f (8 + i) (y + 8)) br)
     ≤ differences block (square (λ k j. f (i + k) (y + j)))
 ruled_out f y i tl tr bl br block long etl etr ebl ebr =
     let g = λ (k j : ℕ). f (i + k) (y + j) in
     let there = λ (u v x z k j : ℕ) (ex : i + (u + k) ≡ x + k) (ez : y + (v + j)
-        ≡ z + j). ap (λ (m : ℕ). f m (y + (v + j))) ex ∙ ap (f (x + k)) ez in
+    ≡ z + j). ap (λ (m : ℕ). f m (y + (v + j))) ex ∙ ap (f (x + k)) ez in
     let a : area_sum f i y ≡ area_sum g 0 0 =
-        sym (area_is g f 0 0 i y (λ k j hk hj. there 0 0 i y k j (omega arith) (omega arith))) in
+    sym (area_is g f 0 0 i y (λ k j hk hj. there 0 0 i y k j (omega arith) (omega arith))) in
     let b : area_sum f (8 + i) y
-        ≡ area_sum g 8 0 = sym (area_is g f 8 0 (8 + i) y (λ k j hk hj. there 8 0 (8 + i) y k j (omega arith)
-        (omega arith))) in
+    ≡ area_sum g 8 0 = sym (area_is g f 8 0 (8 + i) y (λ k j hk hj. there 8 0 (8 + i) y k j (omega arith)
+    (omega arith))) in
     let c : area_sum f i (y + 8)
-        ≡ area_sum g 0 8 = sym (area_is g f 0 8 i (y + 8) (λ k j hk hj. there 0 8 i (y + 8) k j (omega arith)
-        (omega arith))) in
+    ≡ area_sum g 0 8 = sym (area_is g f 0 8 i (y + 8) (λ k j hk hj. there 0 8 i (y + 8) k j (omega arith)
+    (omega arith))) in
     let d : area_sum f (8 + i) (y + 8)
-        ≡ area_sum g 8 8 = sym (area_is g f 8 8 (8 + i) (y + 8) (λ k j hk hj. there 8 8 (8 + i) (y + 8) k j
-        (omega arith) (omega arith))) in
+    ≡ area_sum g 8 8 = sym (area_is g f 8 8 (8 + i) (y + 8) (λ k j hk hj. there 8 8 (8 + i) (y + 8) k j
+    (omega arith) (omega arith))) in
     let same : abs_diff (area_sum f i y) tl + abs_diff (area_sum f (8 + i) y) tr +
-        (abs_diff (area_sum f i (y + 8)) bl + abs_diff (area_sum f (8 + i) (y + 8)) br)
+    (abs_diff (area_sum f i (y + 8)) bl + abs_diff (area_sum f (8 + i) (y + 8)) br)
     ≡ abs_diff (area_sum g 0 0) (area_sum (in_block block) 0 0) + abs_diff (area_sum g 8 0)
-        (area_sum (in_block block) 8 0)
+    (area_sum (in_block block) 8 0)
     + (abs_diff (area_sum g 0 8) (area_sum (in_block block) 0 8) + abs_diff (area_sum g 8 8)
-        (area_sum (in_block block) 8 8)) = cc (a, b, c, d, etl, etr, ebl, ebr) in
+    (area_sum (in_block block) 8 8)) = cc (a, b, c, d, etl, etr, ebl, ebr) in
     subst (λ (n : ℕ). n ≤ differences block (square g)) (sym same) (quarters_apart block g long)
 
 pub more_than : (m s n : ℕ) → m < s → s ≤ n → m < n
@@ -402,9 +409,9 @@ pub block_row_twice : (block row : List ℕ) (j : ℕ) → row ≡ slice_range b
     → IsRow (twice block) j row row
 block_row_twice block row j e =
     let part : slice_range block (16 * j) (16 * j + 16) ≡ take 16 (drop (16 * j) block) = (let n : 16 * j + 16 - 16 * j
-        ≡ 16 = omega arith in ap (λ (k : ℕ). take k (drop (16 * j) block)) n) in
+    ≡ 16 = omega arith in ap (λ (k : ℕ). take k (drop (16 * j) block)) n) in
     let at = λ (i : ℕ) (hi : i < 16). ap (λ (l : List ℕ). get_or l i 0) (e ∙ part)
-        ∙ get_or-take 16 (drop (16 * j) block) i 0 hi ∙ get_or-drop (16 * j) block i 0 in
+    ∙ get_or-take 16 (drop (16 * j) block) i 0 hi ∙ get_or-drop (16 * j) block i 0 in
     record {
       left = λ i hi. let k : i ≡ i % 16 = omega (arith, hi) in at i hi ∙ ap (λ (m : ℕ). in_block block m j) k;
       right = λ i hi. let k : i ≡ (16 + i) % 16 = omega (arith, hi) in at i hi ∙ ap (λ (m : ℕ). in_block block m j) k;
@@ -416,7 +423,7 @@ pub quarter_is : (block xs : List ℕ) (u v : ℕ) → u ≤ 8 → xs ≡ sixtee
 quarter_is block xs u v hu e =
     ap (λ (l : List ℕ). get_or l u 0) e ∙ at_sixteen (λ i. area_sum (twice block) i v) u (omega (arith, hu))
     ∙ area_is (twice block) (in_block block) u v u v (λ i j hi hj. let k : (u + i) % 16
-        ≡ u + i = omega (arith, hu, hi) in ap (λ (m : ℕ). in_block block m (v + j)) k)
+    ≡ u + i = omega (arith, hu, hi) in ap (λ (m : ℕ). in_block block m (v + j)) k)
 
 pub no_lanes : (f : ℕ → ℕ → ℕ) (at : ℕ → ℕ) (y : ℕ) → replicate 16 0 ≡ sixteen (λ i. column_sum f (at i) y 0)
 unfolding sixteen column_sum total
@@ -452,7 +459,7 @@ pub away_lanes : (xs : List ℕ) (f : ℕ → ℕ) (n : ℕ) → n ≤ 16320 →
     → difference_l xs (replicate 16 n) ≡ sixteen (λ i. abs_diff (f i) n)
 away_lanes xs f n hn hf e =
     ap (λ (l : List ℕ). difference_l l (replicate 16 n)) e ∙ ap (difference_l (sixteen f)) (all_same n)
-        ∙ difference_lanes f (λ _. n)
+    ∙ difference_lanes f (λ _. n)
     ∙ sixteen_is (λ i. smaller (f i) n) (λ i. abs_diff (f i) n) (λ i hi. smaller_is (f i) n (hf i) hn)
 
 pub block_area_small : (block : List ℕ) (n u v : ℕ) → ((k : ℕ) → get_or block k 0 < 256)

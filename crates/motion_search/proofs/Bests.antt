@@ -49,8 +49,10 @@ module _ (block : List ℕ) (reference : Picture) (mb rounding : ℕ) where
   -- the zero vector is one of those of whole samples
   pub zero_is_candidate : (radius : ℕ) → mb < mbs_of reference.format
       → IsWholeCandidate block reference mb radius rounding (candidate_of block reference mb rounding zero_vector)
-  zero_is_candidate radius h = record { whole = zero_is_whole radius;
-      candidate = is_candidate zero_vector (zero_reaches reference.format mb h) }
+  zero_is_candidate radius h = record {
+    whole = zero_is_whole radius;
+    candidate = is_candidate zero_vector (zero_reaches reference.format mb h);
+  }
 
   -- so is the best one of them
   pub whole_is_candidate : (radius : ℕ) → mb < mbs_of reference.format
@@ -59,12 +61,14 @@ module _ (block : List ℕ) (reference : Picture) (mb rounding : ℕ) where
   whole_is_candidate radius h =
       let is = IsWholeCandidate block reference mb radius rounding in
       least_has is (candidate_of block reference mb rounding zero_vector) (candidates_of block reference mb rounding
-          (whole_vectors radius))
+      (whole_vectors radius))
       (zero_is_candidate radius h)
       (to_candidates is (whole_vectors radius)
       (all_whole (λ v. in_reach reference.format mb v ≡ true → is (candidate_of block reference mb rounding v)) radius
-      (λ v whole reaches. record { whole = whole;
-          candidate = is_candidate v ((reach_is reference.format mb v).0 reaches) })))
+      (λ v whole reaches. record {
+        whole = whole;
+        candidate = is_candidate v ((reach_is reference.format mb v).0 reaches);
+      })))
 
   pub none_before_whole : (radius : ℕ) (v : Vector) → IsWholeSample radius v → InReach reference.format mb v.x v.y →
       before (candidate_of block reference mb rounding v) (best_whole block reference mb radius rounding) ≡ false
@@ -73,7 +77,7 @@ module _ (block : List ℕ) (reference : Picture) (mb rounding : ℕ) where
       let first = candidate_of block reference mb rounding zero_vector in
       let cs = candidates_of block reference mb rounding (whole_vectors radius) in
       whole_one (λ w. in_reach reference.format mb w ≡ true
-          → before (candidate_of block reference mb rounding w) (least first cs) ≡ false) radius v whole
+      → before (candidate_of block reference mb rounding w) (least first cs) ≡ false) radius v whole
       (from_candidates (λ c. before c (least first cs) ≡ false) (whole_vectors radius) (none_before first cs))
       ((reach_is reference.format mb v).1 reaches)
 
@@ -81,7 +85,7 @@ module _ (block : List ℕ) (reference : Picture) (mb rounding : ℕ) where
   pub is_best_whole : (radius : ℕ) (c : Candidate) → mb < mbs_of reference.format
       → IsWholeCandidate block reference mb radius rounding c →
       ((v : Vector) → IsWholeSample radius v → InReach reference.format mb v.x v.y
-          → before (candidate_of block reference mb rounding v) c ≡ false) →
+      → before (candidate_of block reference mb rounding v) c ≡ false) →
       c ≡ best_whole block reference mb radius rounding
   unfolding best_whole
   is_best_whole radius c h is none =
@@ -91,7 +95,7 @@ module _ (block : List ℕ) (reference : Picture) (mb rounding : ℕ) where
       (none zero_vector (zero_is_whole radius) (zero_reaches reference.format mb h))
       (to_candidates (λ d. before d c ≡ false) (whole_vectors radius)
       (all_whole (λ v. in_reach reference.format mb v ≡ true → before (candidate_of block reference mb rounding v) c
-          ≡ false) radius
+      ≡ false) radius
       (λ v whole reaches. none v whole ((reach_is reference.format mb v).0 reaches))))
       (subst (λ (d : Candidate). before d (least first cs) ≡ false) (candidate_is c is.candidate)
       (none_before_whole radius c.vector is.whole is.candidate.reach))
@@ -104,14 +108,14 @@ module _ (block : List ℕ) (reference : Picture) (mb rounding : ℕ) where
   -- the best of a candidate and its neighbours is a candidate
   pub near_is_candidate : (best : Candidate) → IsCandidate block reference mb rounding best →
       IsCandidate block reference mb rounding (best_near block reference mb rounding best)
-          × IsNear best.vector (best_near block reference mb rounding best).vector
+      × IsNear best.vector (best_near block reference mb rounding best).vector
   unfolding best_near
   near_is_candidate best h =
       let is = λ (c : Candidate). IsCandidate block reference mb rounding c × IsNear best.vector c.vector in
       least_has is best (candidates_of block reference mb rounding (neighbours best.vector)) (h, itself best.vector)
       (to_candidates is (neighbours best.vector)
       (all_near (λ v. in_reach reference.format mb v ≡ true
-          → is (candidate_of block reference mb rounding v)) best.vector
+      → is (candidate_of block reference mb rounding v)) best.vector
       (λ v near reaches. (is_candidate v ((reach_is reference.format mb v).0 reaches), near))))
 
   pub none_before_near : (best : Candidate) (v : Vector) → IsCandidate block reference mb rounding best
@@ -121,29 +125,29 @@ module _ (block : List ℕ) (reference : Picture) (mb rounding : ℕ) where
   none_before_near best v is near reaches =
       let cs = candidates_of block reference mb rounding (neighbours best.vector) in
       near_one (λ w. in_reach reference.format mb w ≡ true
-          → before (candidate_of block reference mb rounding w) (least best cs) ≡ false) best.vector v near
+      → before (candidate_of block reference mb rounding w) (least best cs) ≡ false) best.vector v near
       (λ _. subst (λ (d : Candidate). before d (least best cs) ≡ false) (sym (candidate_is best is))
-          (first_not_before best cs))
+      (first_not_before best cs))
       (from_candidates (λ c. before c (least best cs) ≡ false) (neighbours best.vector) (none_before best cs))
       ((reach_is reference.format mb v).1 reaches)
 
   pub is_best_near : (best c : Candidate) → IsCandidate block reference mb rounding best
       → IsCandidate block reference mb rounding c → IsNear best.vector c.vector →
       ((v : Vector) → IsNear best.vector v → InReach reference.format mb v.x v.y
-          → before (candidate_of block reference mb rounding v) c ≡ false) →
+      → before (candidate_of block reference mb rounding v) c ≡ false) →
       c ≡ best_near block reference mb rounding best
   unfolding best_near
   is_best_near best c of_best of_c near none =
       let cs = candidates_of block reference mb rounding (neighbours best.vector) in
       is_least best c cs
       (subst (λ (d : Candidate). before d c ≡ false) (candidate_is best of_best)
-          (none best.vector (itself best.vector) of_best.reach))
+      (none best.vector (itself best.vector) of_best.reach))
       (to_candidates (λ d. before d c ≡ false) (neighbours best.vector)
       (all_near (λ v. in_reach reference.format mb v ≡ true → before (candidate_of block reference mb rounding v) c
-          ≡ false) best.vector
+      ≡ false) best.vector
       (λ v by reaches. none v by ((reach_is reference.format mb v).0 reaches))))
       (subst (λ (d : Candidate). before d (least best cs) ≡ false) (candidate_is c of_c)
-          (none_before_near best c.vector of_best near of_c.reach))
+      (none_before_near best c.vector of_best near of_c.reach))
 
   -- ---- a cost below 0
 
@@ -159,8 +163,12 @@ module _ (block : List ℕ) (reference : Picture) (mb rounding : ℕ) where
     where
       by : (v ≡ zero_vector) ⊎ (lead_of v ≡ 0) → (c.vector ≡ zero_vector) ⊎ (lead_of c.vector ≡ 0)
           → before (candidate_of block reference mb rounding v) c ≡ false
-      by (inr e) w = dearer_not_before (candidate_of block reference mb rounding v) c (omega (arith, ints, low,
-          behind_costs v e))
+      by (inr e) w = dearer_not_before (candidate_of block reference mb rounding v) c (omega (
+        arith,
+        ints,
+        low,
+        behind_costs v e,
+      ))
       by (inl e) (inr k) = absurd (omega (arith, ints, low, is.cost, behind_costs c.vector k))
       by (inl e) (inl k) = subst (λ (d : Candidate). before d c
           ≡ false) (sym (ap (candidate_of block reference mb rounding) (e ∙ sym k) ∙ candidate_is c is)) (not_itself c)
@@ -199,7 +207,7 @@ module _ (block : List ℕ) (reference : Picture) (mb rounding : ℕ) where
       → before (candidate_of block reference mb rounding v) (step_of v now) ≡ false
   step_none v now h =
       subst (λ (b : Bool). before (candidate_of block reference mb rounding v)
-          (cond b (first_of now (candidate_of block reference mb rounding v)) now) ≡ false)
+      (cond b (first_of now (candidate_of block reference mb rounding v)) now) ≡ false)
       (sym ((reach_is reference.format mb v).1 h)) (other_not_before now (candidate_of block reference mb rounding v))
 
   -- the first of two is what a step keeps
@@ -225,5 +233,7 @@ module _ (block : List ℕ) (reference : Picture) (mb rounding : ℕ) where
       → IsWholeCandidate block reference mb radius rounding now
       → IsWholeCandidate block reference mb radius rounding (step_of v now)
   step_is_whole radius v now whole h =
-      step_has (IsWholeCandidate block reference mb radius rounding) v now h (λ reaches. record { whole = whole;
-          candidate = is_candidate v reaches })
+      step_has (IsWholeCandidate block reference mb radius rounding) v now h (λ reaches. record {
+        whole = whole;
+        candidate = is_candidate v reaches;
+      })

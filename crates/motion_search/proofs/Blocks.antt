@@ -55,53 +55,53 @@ row_is : (f : ℕ → ℕ → ℕ) (row : List ℕ) (j : ℕ) → j < 16 → len
     → chunk (16 * j) 16 (square f) ≡ row
 row_is f row j hj long same =
     let there : length (chunk (16 * j) 16 (square f))
-        ≡ 16 = length-chunk (16 * j) 16 (square f) (omega (arith, length-square f)) in
+    ≡ 16 = length-chunk (16 * j) 16 (square f) (omega (arith, length-square f)) in
     same_number_lists (chunk (16 * j) 16 (square f)) row (there ∙ sym long)
     (λ i hi. let h : i < 16 = omega arith in
     get_or-take 16 (drop (16 * j) (square f)) i 0 h ∙ get_or-drop (16 * j) (square f) i 0 ∙ get_or-square f j i hj h
-        ∙ sym (same i h))
+    ∙ sym (same i h))
 
 -- the first of some rows and the others
 pub row_cut : (block other : List ℕ) (j : ℕ) →
     ((xs ys us vs : List ℕ) → length xs ≡ length us → differences (xs ++ ys) (us ++ vs)
-        ≡ differences xs us + differences ys vs) →
+    ≡ differences xs us + differences ys vs) →
     j < 16 → length block ≡ 256 → length other ≡ 256 →
     differences (drop (16 * j) block) (drop (16 * j) other)
-        ≡ differences (chunk (16 * j) 16 block) (chunk (16 * j) 16 other) + differences (drop (16 * (j + 1)) block)
-        (drop (16 * (j + 1)) other)
+    ≡ differences (chunk (16 * j) 16 block) (chunk (16 * j) 16 other) + differences (drop (16 * (j + 1)) block)
+    (drop (16 * (j + 1)) other)
 row_cut block other j add hj hb ho =
     let next : 16 * j + 16 ≡ 16 * (j + 1) = omega arith in
     let long : length (chunk (16 * j) 16 block) ≡ length (chunk (16 * j) 16 other) =
     length-chunk (16 * j) 16 block (omega arith) ∙ sym (length-chunk (16 * j) 16 other (omega arith)) in
     let cut : differences (drop (16 * j) block) (drop (16 * j) other) ≡ differences (chunk (16 * j) 16 block
-        ++ drop (16 * j + 16) block) (chunk (16 * j) 16 other ++ drop (16 * j + 16) other) =
+    ++ drop (16 * j + 16) block) (chunk (16 * j) 16 other ++ drop (16 * j + 16) other) =
     cc (chunk-drop (16 * j) 16 block, chunk-drop (16 * j) 16 other) in
     cut ∙ add (chunk (16 * j) 16 block) (drop (16 * j + 16) block) (chunk (16 * j) 16 other) (drop (16 * j + 16) other)
-        long
+    long
     ∙ ap (λ (k : ℕ). differences (chunk (16 * j) 16 block) (chunk (16 * j) 16 other) + differences (drop k block)
-        (drop k other)) next
+    (drop k other)) next
 
 one_row_more : (f : ℕ → ℕ → ℕ) (block row : List ℕ) (j : ℕ) →
     ((xs ys us vs : List ℕ) → length xs ≡ length us → differences (xs ++ ys) (us ++ vs)
-        ≡ differences xs us + differences ys vs) →
+    ≡ differences xs us + differences ys vs) →
     j < 16 → length block ≡ 256 → length row ≡ 16 → ((i : ℕ) → i < 16 → get_or row i 0 ≡ f i j) →
     differences (drop (16 * j) block) (drop (16 * j) (square f))
-        ≡ differences (slice_range block (16 * j) (16 * j + 16)) row + differences (drop (16 * (j + 1)) block)
-        (drop (16 * (j + 1)) (square f))
+    ≡ differences (slice_range block (16 * j) (16 * j + 16)) row + differences (drop (16 * (j + 1)) block)
+    (drop (16 * (j + 1)) (square f))
 one_row_more f block row j add hj hb hr same =
     row_cut block (square f) j add hj hb (length-square f)
     ∙ ap (λ (r : List ℕ). differences (chunk (16 * j) 16 block) r + differences (drop (16 * (j + 1)) block)
-        (drop (16 * (j + 1)) (square f))) (row_is f row j hj hr same)
+    (drop (16 * (j + 1)) (square f))) (row_is f row j hj hr same)
     ∙ ap (λ (b : List ℕ). differences b row + differences (drop (16 * (j + 1)) block) (drop (16 * (j + 1)) (square f)))
-        (sym (part_is block (16 * j) 16))
+    (sym (part_is block (16 * j) 16))
 
 pub one_row_of : (p : Picture) (block row : List ℕ) (x y j : ℕ) →
     ((xs ys us vs : List ℕ) → length xs ≡ length us → differences (xs ++ ys) (us ++ vs)
-        ≡ differences xs us + differences ys vs) →
+    ≡ differences xs us + differences ys vs) →
     j < 16 → length block ≡ 256 → length row ≡ 16
-        → ((i : ℕ) → i < 16 → get_or row i 0 ≡ sample_at p Y (x + i) (y + j)) →
+    → ((i : ℕ) → i < 16 → get_or row i 0 ≡ sample_at p Y (x + i) (y + j)) →
     differences (slice_range block (16 * j) (16 * j + 16)) row + differences_from block p x y (j + 1)
-        ≡ differences_from block p x y j
+    ≡ differences_from block p x y j
 unfolding differences_from
 one_row_of p block row x y j add hj hb hr same =
     sym (one_row_more (λ i k. sample_at p Y (x + i) (y + k)) block row j add hj hb hr same)
@@ -110,7 +110,7 @@ one_row_of p block row x y j add hj hb hr same =
 pub four_apart : (left : ℕ → ℕ) (j a b c d : ℕ) → a + left (j + 1) ≡ left j → b + left (j + 4 + 1) ≡ left (j + 4)
     → c + left (j + 8 + 1) ≡ left (j + 8) → d + left (j + 12 + 1) ≡ left (j + 12) →
     a + b + c + d + (left (j + 1) + left (j + 5) + left (j + 9) + left (j + 13))
-        ≡ left j + left (j + 4) + left (j + 8) + left (j + 12)
+    ≡ left j + left (j + 4) + left (j + 8) + left (j + 12)
 four_apart left j a b c d ha hb hc hd =
     let five : left (j + 4 + 1) ≡ left (j + 5) = ap left (omega arith) in
     let nine : left (j + 8 + 1) ≡ left (j + 9) = ap left (omega arith) in
@@ -139,7 +139,7 @@ unfolding differences_from
 no_rows block p x y j long end =
     let past : length block ≤ 16 * j = omega arith in
     ap (λ (l : List ℕ). differences l (drop (16 * j) (square (λ a b. sample_at p Y (x + a) (y + b)))))
-        (drop_of_length-le block past)
+    (drop_of_length-le block past)
 
 pub no_rows_of_two : (block other : List ℕ) (j : ℕ) → length block ≡ 256 → 16 ≤ j → rows_from block other j ≡ 0
 unfolding rows_from

@@ -43,7 +43,7 @@ zeros_small (suc n) (suc k) = zeros_small n k
 -- two lent parts of a row
 pub lent_beside : (p : Picture) (x z y row : ℕ) (f : ℕ → ℕ → ℕ) (xs ys : List ℕ) → IsBeside p x z f → y ≡ row →
     ((i : ℕ) → i < 16 → slice_index xs i ≡ sample_at p Y (x + i) y)
-        → ((i : ℕ) → i < 16 → slice_index ys i ≡ sample_at p Y (z + i) y) → IsRow f row xs ys
+    → ((i : ℕ) → i < 16 → slice_index ys i ≡ sample_at p Y (z + i) y) → IsRow f row xs ys
 lent_beside p x z y row f xs ys b e hx hy =
     record {
       left = λ i hi. hx i hi ∙ ap (sample_at p Y (x + i)) e ∙ sym (b.left i row hi);
@@ -93,7 +93,7 @@ pub area_again : (p : Picture) (x i y : ℕ) → i ≤ 8 → area_sum (again p x
 area_again p x i y h =
     area_is (again p x) (sample_at p Y) i y (x + i) y
     (λ u v hu hv. let place : x + (i + u) % 16 ≡ x + i + u = omega (arith, h, hu) in
-        ap (λ (k : ℕ). sample_at p Y k (y + v)) place)
+    ap (λ (k : ℕ). sample_at p Y k (y + v)) place)
 
 -- ---- what the sums that are kept say of a vector
 
@@ -104,7 +104,7 @@ pub kept_area : (p : Picture) (s : KeptSums) (x y i n : ℕ) → AreSumsOf p s �
 kept_area p s x y i n are low high inside e =
     let row : s.first + (y - s.first) ≡ y = omega (arith, low) in
     ap (λ (k : ℕ). get_or s.sums k 0) e
-        ∙ are.sums (x + i) (y - s.first) (omega (arith, inside)) (omega (arith, low, high))
+    ∙ are.sums (x + i) (y - s.first) (omega (arith, inside)) (omega (arith, low, high))
     ∙ ap (area_sum (sample_at p Y) (x + i)) row ∙ sym (area_next p x i y)
 
 -- what the sums of quarters leave between a block and the one that a vector leads to is no more than
@@ -114,26 +114,26 @@ pub ruled_out_by_kept : (p : Picture) (s : KeptSums) (block : List ℕ) (q : Qua
     s.first ≤ y → y + 8 < s.end → x + i + 16 ≤ width_of p.format → at ≡ 384 * (y - s.first) + x →
     most < abs_diff (get_or s.sums (at + i) 0) q.top_left + abs_diff (get_or s.sums (at + 8 + i) 0) q.top_right
     + (abs_diff (get_or s.sums (at + 3072 + i) 0) q.bottom_left + abs_diff (get_or s.sums (at + 3072 + 8 + i) 0)
-        q.bottom_right) →
+    q.bottom_right) →
     most < differences block (square (λ k j. samples_from p x (i + k) (y + j)))
 ruled_out_by_kept p s block q x y i at most are own low high inside e more =
     let f = samples_from p x in
     let tl = kept_area p s x y i (at + i) are low (omega (arith, high)) (omega (arith, inside)) (omega (arith, e)) in
     let tr = kept_area p s x y (8 + i) (at + 8 + i) are low (omega (arith, high)) (omega (arith, inside))
-        (omega (arith, e)) in
+    (omega (arith, e)) in
     let bl = kept_area p s x (y + 8) i (at + 3072 + i) are (omega (arith, low)) high (omega (arith, inside))
-        (omega (arith, e, low)) in
+    (omega (arith, e, low)) in
     let br = kept_area p s x (y + 8) (8 + i) (at + 3072 + 8 + i) are (omega (arith, low)) high (omega (arith, inside))
-        (omega (arith, e, low)) in
+    (omega (arith, e, low)) in
     let same : abs_diff (get_or s.sums (at + i) 0) q.top_left + abs_diff (get_or s.sums (at + 8 + i) 0) q.top_right
     + (abs_diff (get_or s.sums (at + 3072 + i) 0) q.bottom_left + abs_diff (get_or s.sums (at + 3072 + 8 + i) 0)
-        q.bottom_right)
+    q.bottom_right)
     ≡ abs_diff (area_sum f i y) q.top_left + abs_diff (area_sum f (8 + i) y) q.top_right
     + (abs_diff (area_sum f i (y + 8)) q.bottom_left + abs_diff (area_sum f (8 + i) (y + 8)) q.bottom_right) =
-        cc (tl, tr, bl, br) in
+    cc (tl, tr, bl, br) in
     more_than most _ (differences block (square (λ k j. f (i + k) (y + j)))) (subst (λ (n : ℕ). most < n) same more)
     (ruled_out f y i q.top_left q.top_right q.bottom_left q.bottom_right block own.long own.top_left own.top_right
-        own.bottom_left own.bottom_right)
+    own.bottom_left own.bottom_right)
 
 -- ---- sums written down
 
@@ -146,7 +146,7 @@ put_apart at xs ys long k (inr above) = get_or-put_chunk_above at xs ys k 0 (ome
 pub apart_twice : (old mid new : List ℕ) (at : ℕ) → ((k : ℕ) → (k < at) ⊎ (at + 16 ≤ k)
     → get_or mid k 0 ≡ get_or old k 0) →
     ((k : ℕ) → (k < at + 8) ⊎ (at + 8 + 16 ≤ k) → get_or new k 0 ≡ get_or mid k 0) → (k : ℕ) → (k < at) ⊎ (at + 24 ≤ k)
-        → get_or new k 0 ≡ get_or old k 0
+    → get_or new k 0 ≡ get_or old k 0
 apart_twice old mid new at first second k (inl below) = second k (inl (omega (arith, below))) ∙ first k (inl below)
 apart_twice old mid new at first second k (inr above) = second k (inr (omega (arith, above)))
     ∙ first k (inr (omega (arith, above)))
@@ -154,9 +154,9 @@ apart_twice old mid new at first second k (inr above) = second k (inr (omega (ar
 pub stored_twice : (f : ℕ → ℕ → ℕ) (y : ℕ) (mid new l r : List ℕ) (at i : ℕ) → l ≡ sixteen (λ i. area_sum f i y)
     → r ≡ sixteen (λ i. area_sum f (8 + i) y) →
     ((i : ℕ) → i < 16 → get_or mid (at + i) 0 ≡ get_or l i 0)
-        → ((i : ℕ) → i < 16 → get_or new (at + 8 + i) 0 ≡ get_or r i 0) →
+    → ((i : ℕ) → i < 16 → get_or new (at + 8 + i) 0 ≡ get_or r i 0) →
     ((k : ℕ) → (k < at + 8) ⊎ (at + 8 + 16 ≤ k) → get_or new k 0 ≡ get_or mid k 0) → i < 24
-        → get_or new (at + i) 0 ≡ area_sum f i y
+    → get_or new (at + i) 0 ≡ area_sum f i y
 stored_twice f y mid new l r at i el er first second kept hi = by (cases_le 8 i)
   where
     by : (8 ≤ i) ⊎ (i < 8) → get_or new (at + i) 0 ≡ area_sum f i y
@@ -164,7 +164,7 @@ stored_twice f y mid new l r at i el er first second kept hi = by (cases_le 8 i)
         let e : at + i ≡ at + 8 + (i - 8) = omega (arith, h) in
         let column : 8 + (i - 8) ≡ i = omega (arith, h) in
         ap (λ (k : ℕ). get_or new k 0) e ∙ second (i - 8) (omega (arith, h, hi))
-            ∙ ap (λ (xs : List ℕ). get_or xs (i - 8) 0) er
+        ∙ ap (λ (xs : List ℕ). get_or xs (i - 8) 0) er
         ∙ at_sixteen (λ i. area_sum f (8 + i) y) (i - 8) (omega (arith, h, hi)) ∙ ap (λ (k : ℕ). area_sum f k y) column
     by (inr h) =
         kept (at + i) (inl (omega (arith, h))) ∙ first i (omega (arith, h)) ∙ ap (λ (xs : List ℕ). get_or xs i 0) el
@@ -174,7 +174,7 @@ stored_twice f y mid new l r at i el er first second kept hi = by (cases_le 8 i)
 pub some_small : (f : ℕ → ℕ → ℕ) (y : ℕ) (old new : List ℕ) (at : ℕ) → AreBytes f → ((k : ℕ) → (k < at) ⊎ (at + 24 ≤ k)
     → get_or new k 0 ≡ get_or old k 0) →
     ((i : ℕ) → i < 24 → get_or new (at + i) 0 ≡ area_sum f i y) → ((k : ℕ) → get_or old k 0 ≤ 16320) → (k : ℕ)
-        → get_or new k 0 ≤ 16320
+    → get_or new k 0 ≤ 16320
 some_small f y old new at bytes others stored small k = by (cases_le at k) (cases_le (at + 24) k)
   where
     by : (at ≤ k) ⊎ (k < at) → (at + 24 ≤ k) ⊎ (k < at + 24) → get_or new k 0 ≤ 16320
@@ -182,8 +182,11 @@ some_small f y old new at bytes others stored small k = by (cases_le at k) (case
     by (inl h) (inl above) = omega (arith, others k (inr above), small k)
     by (inl h) (inr within) =
         let e : at + (k - at) ≡ k = omega (arith, h) in
-        subst (λ (m : ℕ). get_or new m 0 ≤ 16320) e (omega (arith, stored (k - at) (omega (arith, h, within)),
-            area_small f (k - at) y bytes))
+        subst (λ (m : ℕ). get_or new m 0 ≤ 16320) e (omega (
+          arith,
+          stored (k - at) (omega (arith, h, within)),
+          area_small f (k - at) y bytes,
+        ))
 
 -- the columns to the left of a strip are no places of it
 pub row_apart : (x k n c : ℕ) → c < x → x + 24 ≤ 384 → (384 * n + c < 384 * k + x) ⊎ (384 * k + x + 24 ≤ 384 * n + c)
@@ -219,7 +222,7 @@ strip_kept p x many first k old new n hn seen kept stored = by (cases_le x n)
     by (inl h) =
         let e : x + (n - x) ≡ n = omega (arith, h) in
         subst (λ (m : ℕ). get_or new (384 * k + m) 0 ≡ area_sum (sample_at p Y) m (first + k)) e
-            (stored (n - x) (omega (arith, h, hn)))
+        (stored (n - x) (omega (arith, h, hn)))
     by (inr h) = kept k n h ∙ seen h
 
 pub width_small : (f : Format) → width_of f ≤ 352
@@ -245,17 +248,19 @@ pub begins_before : (old_first old_end new_end from end : ℕ)
     (from < old_first) ⊎ (old_end < end) → from ≤ end → (from ≤ new_end) × (new_end ≤ end)
 begins_before old_first old_end new_end from end (inl e) more h = (omega (arith, e), omega (arith, e, h))
 begins_before old_first old_end new_end from end (inr is) (inl above) h = absurd (omega (arith, is.0, above))
-begins_before old_first old_end new_end from end (inr is) (inr below) h = (omega (arith, is.1, is.2),
-    omega (arith, is.2, below))
+begins_before old_first old_end new_end from end (inr is) (inr below) h = (
+  omega (arith, is.1, is.2),
+  omega (arith, is.2, below),
+)
 
 -- rows that are added to those that were kept
 pub rows_added : (p : Picture) (s t : KeptSums) (end : ℕ) → AreSumsOf p s → length t.sums ≡ 14976 → t.first ≡ s.first
     → t.end ≡ end →
     s.end ≤ end → end ≤ s.first + 39 →
     ((x k : ℕ) → x + 8 ≤ width_of p.format → s.end - s.first ≤ k → k < end - s.first → get_or t.sums (384 * k + x) 0
-        ≡ area_sum (sample_at p Y) x (s.first + k)) →
+    ≡ area_sum (sample_at p Y) x (s.first + k)) →
     ((k : ℕ) → k < 384 * (s.end - s.first) → get_or t.sums k 0 ≡ get_or s.sums k 0)
-        → ((k : ℕ) → get_or t.sums k 0 ≤ 16320) → AreSumsOf p t
+    → ((k : ℕ) → get_or t.sums k 0 ≤ 16320) → AreSumsOf p t
 rows_added p s t end are whole first at_end more room added above small =
     record {
       whole = whole;
@@ -287,7 +292,7 @@ rows_dropped p s t dropped are whole first at_end few moved others =
           let place : 384 * dropped + (384 * k + x) ≡ 384 * (dropped + k) + x = omega arith in
           let row : s.first + (dropped + k) ≡ t.first + k = omega (arith, first) in
           moved (384 * k + x) (omega (arith, hk, hx, first, at_end, width_small p.format))
-              ∙ ap (λ (n : ℕ). get_or s.sums n 0) place
+          ∙ ap (λ (n : ℕ). get_or s.sums n 0) place
           ∙ are.sums x (dropped + k) hx (omega (arith, hk, first, at_end)) ∙ ap (area_sum (sample_at p Y) x) row;
       small = λ k. by k (cases_le (384 * (s.end - s.first - dropped)) k);
     }

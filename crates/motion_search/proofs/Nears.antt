@@ -51,13 +51,13 @@ module _ (block : List ℕ) (p : Picture) (mb r : ℕ) (best : Candidate) where
             (step_has block p mb r (IsCandidate block p mb r) v now h.candidate (is_candidate block p mb r v));
         near = subst (λ (d : Candidate). IsNear best.vector d.vector) (sym e)
             (step_has block p mb r (λ (d : Candidate). IsNear best.vector d.vector) v now h.near
-                (λ _. around_is_near best.vector (n + n / 4) (omega (arith, hn))));
+            (λ _. around_is_near best.vector (n + n / 4) (omega (arith, hn))));
         kept = subst (λ (b : Candidate). before best b ≡ false) (sym e) (step_kept block p mb r best v now h.kept);
         none = below_more (λ m. InReach p.format mb (eighth best.vector m).x (eighth best.vector m).y
             → before (candidate_of block p mb r (eighth best.vector m)) next ≡ false) n
             (λ m hm reaches. let d = candidate_of block p mb r (eighth best.vector m) in
             subst (λ (b : Candidate). before d b ≡ false) (sym e)
-                (step_kept block p mb r d v now (h.none m hm reaches)))
+            (step_kept block p mb r d v now (h.none m hm reaches)))
             (λ reaches. let d = candidate_of block p mb r v in
             subst (λ (b : Candidate). before d b ≡ false) (sym e) (step_none block p mb r v now reaches));
         cost = cost;
@@ -69,7 +69,7 @@ module _ (block : List ℕ) (p : Picture) (mb r : ℕ) (best : Candidate) where
   all_eight n first hn is h =
       is_best_near block p mb r best first is h.candidate h.near
       (λ v near. near_others (λ w. InReach p.format mb w.x w.y → before (candidate_of block p mb r w) first
-          ≡ false) best.vector v near
+      ≡ false) best.vector v near
       (λ _. subst (λ (d : Candidate). before d first ≡ false) (sym (candidate_is block p mb r best is)) h.kept)
       (λ m hm. h.none m (omega (arith, hn, hm))))
 
@@ -77,19 +77,20 @@ module _ (block : List ℕ) (p : Picture) (mb r : ℕ) (best : Candidate) where
   pub by_differences : (n s : ℕ) (v : Vector) (now other next : Candidate) → next ≡ first_of now other
       → other ≡ costing v s → v ≡ eighth best.vector n →
       s ≡ difference_of block p mb r (eighth best.vector n)
-          → InReach p.format mb (eighth best.vector n).x (eighth best.vector n).y
-          → next ≡ step_of block p mb r (eighth best.vector n) now
+      → InReach p.format mb (eighth best.vector n).x (eighth best.vector n).y
+      → next ≡ step_of block p mb r (eighth best.vector n) now
   by_differences n s v now other next e costs ev es reaches =
       e ∙ ap (first_of now) (costs ∙ ap (λ (w : Vector). costing w s) ev ∙ ap (costing (eighth best.vector n)) es)
-          ∙ taken block p mb r (eighth best.vector n) now reaches
+      ∙ taken block p mb r (eighth best.vector n) now reaches
 
 -- where the first and the last of the nine are within, all of them are
 pub nine_within : (reach : Reach) (v up_left down_right : Vector) (k : ℕ) → k < 9 → up_left ≡ around v 0
     → down_right ≡ around v 8 →
     IsWithin reach up_left.x up_left.y → IsWithin reach down_right.x down_right.y
-        → IsWithin reach (around v k).x (around v k).y
+    → IsWithin reach (around v k).x (around v k).y
 nine_within reach v up_left down_right k hk eu ed hu hd =
     let u = subst (λ (w : Vector). IsWithin reach w.x w.y) eu hu in
-    let d = subst (λ (w : Vector). IsWithin reach w.x w.y) ed hd in
-    ((omega (arith, ints, hk, u, d), omega (arith, ints, hk, u, d)),
-        (omega (arith, ints, hk, u, d), omega (arith, ints, hk, u, d)))
+    let d = subst (λ (w : Vector). IsWithin reach w.x w.y) ed hd in (
+      (omega (arith, ints, hk, u, d), omega (arith, ints, hk, u, d)),
+      (omega (arith, ints, hk, u, d), omega (arith, ints, hk, u, d)),
+    )

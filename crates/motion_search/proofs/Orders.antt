@@ -42,7 +42,7 @@ not_before_first c b a h k = before_is c a ∙ upto total a b c (sym (before_is 
 pub dearer_not_before : (c d : Candidate) → d.cost <ℤ c.cost → before c d ≡ false
 dearer_not_before c d h =
     ap (λ (r : Ordering). is_lt (ordering_then r (ordering_then (nat_cmp (length_of c.vector) (length_of d.vector))
-        (ordering_then (int_cmp c.vector.y d.vector.y) (int_cmp c.vector.x d.vector.x)))))
+    (ordering_then (int_cmp c.vector.y d.vector.y) (int_cmp c.vector.x d.vector.x)))))
     (sym (int_cmp_is c.cost d.cost Greater h))
 
 both_equal : (a b : Ordering) → ordering_then a b ≡ Equal → (a ≡ Equal) × (b ≡ Equal)
@@ -60,7 +60,7 @@ same_int x y h = (Decides-int_eq x y).0 (ap is_eq h)
 
 same_parts : (x x' y y' k k' : ℤ) → x ≡ x' → y ≡ y' → k ≡ k' →
     let c : Candidate = record { vector = record { x = x; y = y }; cost = k } in
-        let d : Candidate = record { vector = record { x = x'; y = y' }; cost = k' } in c ≡ d
+    let d : Candidate = record { vector = record { x = x'; y = y' }; cost = k' } in c ≡ d
 same_parts x x' y y' k k' hx hy hk = cc
 
 pub same_candidates : (c d : Candidate) → before c d ≡ false → before d c ≡ false → c ≡ d
@@ -70,7 +70,7 @@ same_candidates c d h k =
     let length = both_equal (nat_cmp (length_of c.vector) (length_of d.vector)) _ cost.1 in
     let rows = both_equal (int_cmp c.vector.y d.vector.y) _ length.1 in
     same_parts c.vector.x d.vector.x c.vector.y d.vector.y c.cost d.cost (same_int _ _ rows.1) (same_int _ _ rows.0)
-        (same_int _ _ cost.0)
+    (same_int _ _ cost.0)
 
 -- ---- the first of two
 
@@ -125,7 +125,7 @@ none_before first (c ∷ cs) =
     All-cons (λ d. before d (least first (c ∷ cs)) ≡ false) c cs (other_not_before (least first cs) c)
     (All-weaker (λ d. before d (least first cs) ≡ false) (λ d. before d (least first (c ∷ cs)) ≡ false)
     (λ d h. not_before_first d (least first cs) (first_of (least first cs) c) h (best_not_before (least first cs) c)) cs
-        (none_before first cs))
+    (none_before first cs))
 
 -- one of them before which none comes is the least
 pub is_least : (first best : Candidate) (cs : List Candidate) → before first best ≡ false

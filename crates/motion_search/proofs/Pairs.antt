@@ -27,10 +27,10 @@ part_is_square out f at room same =
 -- a row of a block of 256 samples, and the rows after it
 pub stored_row_cut : (block samples : List ℕ) (j : ℕ) →
     ((xs ys us vs : List ℕ) → length xs ≡ length us → differences (xs ++ ys) (us ++ vs)
-        ≡ differences xs us + differences ys vs) →
+    ≡ differences xs us + differences ys vs) →
     j < 16 → length block ≡ 256 → length samples ≡ 256 →
     differences (slice_range block (16 * j) (16 * j + 16)) (slice_range samples (16 * j) (16 * j + 16)) + rows_from
-        block samples (j + 1) ≡ rows_from block samples j
+    block samples (j + 1) ≡ rows_from block samples j
 unfolding rows_from
 stored_row_cut block samples j add hj hb hs =
     let n : 16 * j + 16 - 16 * j ≡ 16 = omega arith in

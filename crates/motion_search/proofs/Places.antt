@@ -31,7 +31,7 @@ whole_sample p hx hy r x x' y y' ehx ehy ex ey = cc
 -- by a vector of whole samples a macroblock differs from the square that it leads to
 pub whole_predicts : (block : List ℕ) (p : Picture) (mb r x y : ℕ) (v : Vector) → IsEven v →
     pos x ≡ whole_place (16 * (mb % columns_of p.format)) v.x
-        → pos y ≡ whole_place (16 * (mb / columns_of p.format)) v.y →
+    → pos y ≡ whole_place (16 * (mb / columns_of p.format)) v.y →
     differences block (square (λ i j. sample_at p Y (x + i) (y + j))) ≡ difference_of block p mb r v
 unfolding difference_of
 whole_predicts block p mb r x y v even ex ey =
@@ -43,7 +43,7 @@ whole_predicts block p mb r x y v even ex ey =
     (is_square (square seen) predicted (length-square seen)
     (λ j i hj hi. get_or-square seen j i hj hi
     ∙ sym (whole_sample p (is_half Y v.x) (is_half Y v.y) r (moved (left + i) (whole_part Y v.x)) (x + i)
-        (moved (top + j) (whole_part Y v.y)) (y + j)
+    (moved (top + j) (whole_part Y v.y)) (y + j)
     (not_half v.x even.x) (not_half v.y even.y) (moved_more left x i v.x ex) (moved_more top y j v.y ey))))
 
 -- ---- what rounding leaves as it is
@@ -65,7 +65,7 @@ not_rounded block p mb r v even =
     (is_square (square (predicted r)) (predicted 0) (length-square (predicted r))
     (λ j i hj hi. get_or-square (predicted r) j i hj hi
     ∙ even_sample p (is_half Y v.x) (is_half Y v.y) r (moved (left + i) (whole_part Y v.x))
-        (moved (top + j) (whole_part Y v.y)) (not_half v.x even.x) (not_half v.y even.y)))
+    (moved (top + j) (whole_part Y v.y)) (not_half v.x even.x) (not_half v.y even.y)))
 
 -- candidates of whole samples are those of the other rounding too
 pub whole_not_rounded : (block : List ℕ) (p : Picture) (mb radius r : ℕ) (c : Candidate)
@@ -73,8 +73,11 @@ pub whole_not_rounded : (block : List ℕ) (p : Picture) (mb radius r : ℕ) (c 
 whole_not_rounded block p mb radius r c h =
     record {
       whole = h.whole;
-      candidate = record { reach = h.candidate.reach; cost = h.candidate.cost
-          ∙ sym (ap (λ (d : Candidate). d.cost) (not_rounded block p mb r c.vector h.whole.even)) };
+      candidate = record {
+        reach = h.candidate.reach;
+        cost = h.candidate.cost
+            ∙ sym (ap (λ (d : Candidate). d.cost) (not_rounded block p mb r c.vector h.whole.even));
+      };
     }
 
 stands_still : (x : ℕ) → moved x (whole_part Y (pos 0)) ≡ x

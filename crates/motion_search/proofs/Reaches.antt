@@ -46,8 +46,10 @@ module _ (f : Format) (mb radius : ℕ) (reach : Reach) (is : Reaches f mb reach
 
   pub before_end : (end i : ℕ) → IsEnd radius reach.right end → i < 2 * radius + 1
       → InReach f mb (whole_component radius i) (whole_component radius row) → i < end
-  before_end end i at_end hi h = (at_end i).1 (hi,
-      ((is (whole_component radius i) (whole_component radius row)).0 h).0.1)
+  before_end end i at_end hi h = (at_end i).1 (
+    hi,
+    ((is (whole_component radius i) (whole_component radius row)).0 h).0.1,
+  )
 
   pub in_rows : (i : ℕ) → InReach f mb (whole_component radius i) (whole_component radius row)
       → IsInRows radius reach row
@@ -69,8 +71,10 @@ module _ (f : Format) (mb radius : ℕ) (reach : Reach) (is : Reaches f mb reach
   pub row_ends : (top y : ℕ) → mb < mbs_of f → top ≡ 16 * (mb / columns_of f) → IsInRows radius reach row
       → pos y ≡ whole_place top (whole_component radius row) → y + 15 < height_of f
   row_ends top y h e down ey =
-      let there = ((is (pos 0) (whole_component radius row)).1 (((is (pos 0) (pos 0)).0 (zero_reaches f mb h)).0,
-          down)).1.2.1 in
+      let there = ((is (pos 0) (whole_component radius row)).1 (
+        ((is (pos 0) (pos 0)).0 (zero_reaches f mb h)).0,
+        down,
+      )).1.2.1 in
       omega (arith, ints, there, subst (λ (k : ℕ). pos y ≡ whole_place k (whole_component radius row)) e ey)
 
   pub column_starts : (left i : ℕ) → mb < mbs_of f → left ≡ 16 * (mb % columns_of f)
@@ -85,8 +89,10 @@ module _ (f : Format) (mb radius : ℕ) (reach : Reach) (is : Reaches f mb reach
       → (reach.left ≤ℤ whole_component radius i) × (whole_component radius i ≤ℤ reach.right) →
       pos x ≡ whole_place left (whole_component radius i) → x + 15 < width_of f
   column_ends left x i h e across ex =
-      let there = ((is (whole_component radius i) (pos 0)).1 (across,
-          ((is (pos 0) (pos 0)).0 (zero_reaches f mb h)).1)).0.2.1 in
+      let there = ((is (whole_component radius i) (pos 0)).1 (
+        across,
+        ((is (pos 0) (pos 0)).0 (zero_reaches f mb h)).1,
+      )).0.2.1 in
       omega (arith, ints, there, subst (λ (k : ℕ). pos x ≡ whole_place k (whole_component radius i)) e ex)
 
   pub reached_column_ends : (left x i : ℕ) → left ≡ 16 * (mb % columns_of f)

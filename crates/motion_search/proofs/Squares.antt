@@ -71,10 +71,12 @@ whole_is_whole radius k h =
     let some : 0 < 2 * radius + 1 = omega arith in
     let column : k % (2 * radius + 1) < 2 * radius + 1 = mod-lt k some in
     let row : k / (2 * radius + 1) < 2 * radius + 1 =
-        (div-lt_iff_lt-mul {k = 2 * radius + 1} {x = k} {y = 2 * radius + 1} some).1 h in
+    (div-lt_iff_lt-mul {k = 2 * radius + 1} {x = k} {y = 2 * radius + 1} some).1 h in
     record {
-      even = record { x = component_even radius (k % (2 * radius + 1));
-          y = component_even radius (k / (2 * radius + 1)) };
+      even = record {
+        x = component_even radius (k % (2 * radius + 1));
+        y = component_even radius (k / (2 * radius + 1));
+      };
       x = component_within radius (k % (2 * radius + 1)) column;
       y = component_within radius (k / (2 * radius + 1)) row;
     }
@@ -98,9 +100,9 @@ index_leads radius v h =
     let small = place_small radius v.x h.x in
     same_vectors _ v.x _ v.y
     (ap (whole_component radius) (mod-mul-add (place_of radius v.y) (2 * radius + 1) (place_of radius v.x) small)
-        ∙ place_leads radius v.x h.even.x h.x)
+    ∙ place_leads radius v.x h.even.x h.x)
     (ap (whole_component radius) (div-mul-add (place_of radius v.y) (2 * radius + 1) (place_of radius v.x) small)
-        ∙ place_leads radius v.y h.even.y h.y)
+    ∙ place_leads radius v.y h.even.y h.y)
 
 -- what is true of each vector of whole samples within the radius is true of those of the list
 pub all_whole : (P : Vector → Type 0) (radius : ℕ) → ((v : Vector) → IsWholeSample radius v → P v)
@@ -112,7 +114,7 @@ all_whole P radius h =
     All-from_get_or P (whole_vectors radius) zero_vector
     (λ k hk. let small : k < n = omega arith in
     subst P (sym (get_or-map-range_with_len (whole_vector radius) 0 n k k zero_vector small (omega arith)))
-        (h (whole_vector radius k) (whole_is_whole radius k small)))
+    (h (whole_vector radius k) (whole_is_whole radius k small)))
 
 pub whole_one : (P : Vector → Type 0) (radius : ℕ) (v : Vector) → IsWholeSample radius v → All P (whole_vectors radius)
     → P v
@@ -123,7 +125,7 @@ whole_one P radius v h all =
     let small : k < n = index_small radius v h in
     let long : length (whole_vectors radius) ≡ n = length-map-range_with_len (whole_vector radius) 0 n in
     subst P (get_or-map-range_with_len (whole_vector radius) 0 n k k zero_vector small (omega arith)
-        ∙ index_leads radius v h)
+    ∙ index_leads radius v h)
     (All-get_or P (whole_vectors radius) k zero_vector (omega arith) all)
 
 -- ---- reach
@@ -136,7 +138,7 @@ side_is at size v =
     let d = Decides-and (int_le (neg_ℤ (pos 32)) v && int_le v (pos 31)) _
     (Decides-and (int_le (neg_ℤ (pos 32)) v) (int_le v (pos 31)) (le_decides _ _) (le_decides _ _))
     (Decides-and (int_le (pos 0) (whole_place at v)) (int_le (whole_place at v +ℤ pos (16 + unsigned_abs v % 2))
-        (pos size)) (le_decides _ _) (le_decides _ _)) in
+    (pos size)) (le_decides _ _) (le_decides _ _)) in
     (λ e. let h = d.0 e in (h.0.0, h.0.1, h.1), λ h. d.1 ((h.0, h.1), h.2))
 
 pub reach_is : (f : Format) (mb : ℕ) (v : Vector) → Decides (in_reach f mb v) (InReach f mb v.x v.y)
@@ -172,14 +174,23 @@ all_near P v h =
     let o : ℤ = pos 0 in
     let p : ℤ = pos 1 in
     let at = λ (x y : ℤ) (hx : unsigned_abs x ≤ 1) (hy : unsigned_abs y ≤ 1). h (moved_by v x y)
-        (near_by v x y hx hy) in
-    All-from_recursion P (neighbours v)
-    (at m m (lit≤ tt) (lit≤ tt),
-        (at o m (lit≤ tt) (lit≤ tt),
-        (at p m (lit≤ tt) (lit≤ tt),
-        (at m o (lit≤ tt) (lit≤ tt),
-        (at p o (lit≤ tt) (lit≤ tt),
-        (at m p (lit≤ tt) (lit≤ tt), (at o p (lit≤ tt) (lit≤ tt), (at p p (lit≤ tt) (lit≤ tt), tt))))))))
+    (near_by v x y hx hy) in
+    All-from_recursion P (neighbours v) (
+      at m m (lit≤ tt) (lit≤ tt),
+      (
+        at o m (lit≤ tt) (lit≤ tt),
+        (
+          at p m (lit≤ tt) (lit≤ tt),
+          (
+            at m o (lit≤ tt) (lit≤ tt),
+            (
+              at p o (lit≤ tt) (lit≤ tt),
+              (at m p (lit≤ tt) (lit≤ tt), (at o p (lit≤ tt) (lit≤ tt), (at p p (lit≤ tt) (lit≤ tt), tt))),
+            ),
+          ),
+        ),
+      ),
+    )
 
 stays : (x d : ℤ) → d ≡ pos 0 → x +ℤ d ≡ x
 stays x d e = omega (arith, ints, e)
@@ -212,7 +223,7 @@ led_there x x' = omega (arith, ints)
 pub near_one : (P : Vector → Type 0) (v w : Vector) → IsNear v w → P v → All P (neighbours v) → P w
 near_one P v w near h all =
     subst P (same_vectors _ w.x _ w.y (led_there v.x w.x) (led_there v.y w.y))
-        (one_by P v (w.x -ℤ v.x) (w.y -ℤ v.y) near.x near.y h all)
+    (one_by P v (w.x -ℤ v.x) (w.y -ℤ v.y) near.x near.y h all)
 
 -- ---- the nine around a vector
 
@@ -231,9 +242,9 @@ near_around P v w near all =
     subst P
     (same_vectors _ w.x _ w.y
     (ap (λ (k : ℕ). v.x +ℤ (pos k -ℤ pos 1)) (mod-mul-add j 3 i across.0) ∙ ap (λ (z : ℤ). v.x +ℤ z) across.1
-        ∙ led_there v.x w.x)
+    ∙ led_there v.x w.x)
     (ap (λ (k : ℕ). v.y +ℤ (pos k -ℤ pos 1)) (div-mul-add j 3 i across.0) ∙ ap (λ (z : ℤ). v.y +ℤ z) down.1
-        ∙ led_there v.y w.y))
+    ∙ led_there v.y w.y))
     (all (j * 3 + i) small)
 
 -- what is true of the vector itself and of its eight neighbours
@@ -272,5 +283,5 @@ pub whole_from_places : (P : Vector → Type 0) (radius : ℕ) (v : Vector) → 
 whole_from_places P radius v h all =
     subst P
     (same_vectors (whole_component radius (place_of radius v.x)) v.x (whole_component radius (place_of radius v.y)) v.y
-        (place_leads radius v.x h.even.x h.x) (place_leads radius v.y h.even.y h.y))
+    (place_leads radius v.x h.even.x h.x) (place_leads radius v.y h.even.y h.y))
     (all (place_of radius v.x) (place_of radius v.y) (place_small radius v.x h.x) (place_small radius v.y h.y))

@@ -31,8 +31,10 @@ next_place at x radius k i h = omega (arith, ints, h, half_of_even k radius, hal
 -- a row of the square leads no more than the radius up or down
 pub row_near : (top y radius row : ℕ) → pos y ≡ whole_place top (whole_component radius row) → row ≤ 2 * radius
     → (top ≤ y + radius) × (y ≤ top + radius)
-row_near top y radius row h few = (omega (arith, ints, h, half_of_even row radius, few),
-    omega (arith, ints, h, half_of_even row radius, few))
+row_near top y radius row h few = (
+  omega (arith, ints, h, half_of_even row radius, few),
+  omega (arith, ints, h, half_of_even row radius, few),
+)
 
 -- where a row of the square leads to, by whole samples
 pub place_adds : (top y radius row : ℕ) → pos y ≡ whole_place top (whole_component radius row) → y + radius ≡ top + row
@@ -50,7 +52,7 @@ dear_not_before block p mb n v best same dear zero =
     subst (λ (k : ℕ). before (costing v k) best ≡ false) same
     (not_before_by_differences v n best dear
     (λ e. subst (λ (k : ℕ). before (costing v k) best ≡ false) (sym same)
-        (subst (λ (w : Vector). before (candidate_of block p mb 0 w) best ≡ false) (sym e) zero)))
+    (subst (λ (w : Vector). before (candidate_of block p mb 0 w) best ≡ false) (sym e) zero)))
 
 -- the one of sixteen in column i, whose quarters tell enough
 pub unmarked_not_before : (block : List ℕ) (p : Picture) (mb radius left top x y column row i most : ℕ)
@@ -59,19 +61,19 @@ pub unmarked_not_before : (block : List ℕ) (p : Picture) (mb radius left top x
     pos x ≡ whole_place left (whole_component radius column) → pos y ≡ whole_place top (whole_component radius row) →
     best.cost ≤ℤ pos most → most < differences block (square (λ k j. samples_from p x (i + k) (y + j))) →
     before (candidate_of block p mb 0 zero_vector) best ≡ false
-        → before (candidate_of block p mb 0 (whole_at radius (column + i) row)) best ≡ false
+    → before (candidate_of block p mb 0 (whole_at radius (column + i) row)) best ≡ false
 unmarked_not_before block p mb radius left top x y column row i most best at_left at_top ex ey cheap dear zero =
     let v = whole_at radius (column + i) row in
     let seen = λ (k j : ℕ). samples_from p x (i + k) (y + j) in
     let there = λ (k j : ℕ). sample_at p Y (x + i + k) (y + j) in
     let same : square seen ≡ square there =
     is_square (square seen) there (length-square seen) (λ j k hj hk. get_or-square seen j k hj hk
-        ∙ (let e : x + (i + k) ≡ x + i + k = omega arith in ap (λ (m : ℕ). sample_at p Y m (y + j)) e)) in
+    ∙ (let e : x + (i + k) ≡ x + i + k = omega arith in ap (λ (m : ℕ). sample_at p Y m (y + j)) e)) in
     dear_not_before block p mb (differences block (square seen)) v best
     (ap (differences block) same
     ∙ whole_predicts block p mb 0 (x + i) y v (at_is_even radius (column + i) row)
     (subst (λ (k : ℕ). pos (x + i) ≡ whole_place k (whole_component radius (column + i))) at_left
-        (next_place left x radius column i ex))
+    (next_place left x radius column i ex))
     (subst (λ (k : ℕ). pos y ≡ whole_place k (whole_component radius row)) at_top ey))
     (omega (arith, ints, cheap, dear)) zero
 

@@ -31,15 +31,15 @@ module _ (p : Params) where
   seen_same c both agree =
       let abouts : map (λ (told : SaidMessage). told.about) both.said ≡ map about c.said =
       ap (λ (l : List SaidMessage). map (λ (told : SaidMessage). told.about) l) agree.messages
-          ∙ abouts_are (coding p).encoding.write_message (rules_of p) c.said
+      ∙ abouts_are (coding p).encoding.write_message (rules_of p) c.said
       in
       λ i. record { coded = agree.pictures i; played = agree.played i; plays = agree.plays i; abouts = abouts i }
 
   pub show_the_same : IsParams p → CallLaws p → NearLaws p → (frames : List Frame) (past : List Event)
       → AllMayHappenBoth (coding p) (rules_of p) (receiver_end.run_of p []) (steady p) frames past
-          → ShowTheSame p frames past
+      → ShowTheSame p frames past
   show_the_same in_range laws near_laws frames past near =
       let ideally : AllMayHappen (coding p) (rules_of p) (steady p) frames past =
-          (near_laws.near (steady p) frames past (steady_is p in_range)).1 near in
+      (near_laws.near (steady p) frames past (steady_is p in_range)).1 near in
       seen_same (ideal (coding p) (rules_of p) (steady p) frames past) (both_after p (steady p) frames [] past)
       (laws.follow (steady p) frames past (steady_is p in_range) ideally).agree

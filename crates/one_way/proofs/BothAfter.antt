@@ -58,14 +58,15 @@ module _ {Frame Style Mb Picture Fault MessageFault : Type 0}
   pub near_delivered : (n count : ℕ) (past : List Event) → n < length (both past).sender.coded
       → (both past).receiver.played < n + rules.half
       → AllMayHappenBoth coding rules begun pace frames past
-          → AllMayHappenBoth coding rules begun pace frames (delivered n count ++ past)
+      → AllMayHappenBoth coding rules begun pace frames (delivered n count ++ past)
   near_delivered n zero past sent played near = near
   near_delivered n (suc j) past sent played near =
       let same : length (both (delivered n j ++ past)).sender.coded ≡ length (both past).sender.coded =
       ap (λ (run : SenderRun Style Mb Picture). length run.coded) (sender_delivered n j past)
-      in
-      ((omega (arith, sent, same), omega (arith, played, played_delivered n j past)),
-          near_delivered n j past sent played near)
+      in (
+        (omega (arith, sent, same), omega (arith, played, played_delivered n j past)),
+        near_delivered n j past sent played near,
+      )
 
   -- a message leaves the pictures as they are
   pub coded_brought : (w : Joined Style Mb Picture) (o : Option SaidMessage)
@@ -86,13 +87,13 @@ module _ {Frame Style Mb Picture Fault MessageFault : Type 0}
   sent_counts w None = (omega arith, omega arith)
   sent_counts w (Some frame) =
       let longer = one_longer w.sender.coded (next_coded (pictures_of coding) coding.encoding rules pace frame
-          w.sender.coded w.sender.known) in
+      w.sender.coded w.sender.known) in
       (omega (arith, longer), omega (arith, longer))
 
   -- the sender is ahead of the play, by half a period at most
   pub counts_near : begun.played ≡ 0 → (past : List Event) → AllMayHappenBoth coding rules begun pace frames past
       → ((both past).receiver.played ≤ length (both past).sender.coded)
-          × (length (both past).sender.coded ≤ (both past).receiver.played + rules.half)
+      × (length (both past).sender.coded ≤ (both past).receiver.played + rules.half)
   counts_near none [] near = (omega (arith, none), omega (arith, none))
   counts_near none (Send ∷ past) near =
       let before = counts_near none past near.1 in
@@ -111,5 +112,5 @@ module _ {Frame Style Mb Picture Fault MessageFault : Type 0}
   counts_near none (Back k ∷ past) near =
       let before = counts_near none past near.1 in
       let coded = ap (λ (l : List (Coded Style Mb Picture)). length l)
-          (coded_brought (both past) (slice_get (both past).said k)) in
+      (coded_brought (both past) (slice_get (both past).said k)) in
       (omega (arith, before.0, coded), omega (arith, before.1, coded))

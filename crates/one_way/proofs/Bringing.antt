@@ -80,10 +80,13 @@ too_late rules sent played pairs k said kept late =
     by_place x at (inl near) =
         let none = back_near rules sent played (map about_of pairs) (sent + 1) k x.0 (about_at pairs k x at) near in
         let here : message_at pairs k ≡ Some x = ap (λ (b : Bool). if b then slice_get pairs k else None)
-            (le-leb (length pairs) (k + 1024) (kept none)) ∙ at in
+        (le-leb (length pairs) (k + 1024) (kept none)) ∙ at in
         absurd (omega (arith, near, late x here))
-    by_place x at (inr far) = (x.0, back_far rules sent played (map about_of pairs) (sent + 1) k x.0
-        (about_at pairs k x at) far)
+    by_place x at (inr far) = (
+      x.0,
+      back_far rules sent played (map about_of pairs) (sent + 1) k x.0
+          (about_at pairs k x at) far,
+    )
 
 -- ---- by what both ends have done
 
@@ -99,19 +102,19 @@ module _ (p : Params) (in_range : IsParams p) (laws : NearLaws p) (network : Net
   message_kept k near =
       let all = (both_after p (steady p) frames before past).said in
       let long : length pairs_in ≡ length all = sym (as_many told_in pairs_in)
-          ∙ ap (λ (l : List SaidMessage). length l) h.messages_are.same in
+      ∙ ap (λ (l : List SaidMessage). length l) h.messages_are.same in
       let few = laws.messages (receiver_end.run_of p before) (steady p) frames past k begun (steady_is p in_range)
-          (near, h.way_holds.near) in
+      (near, h.way_holds.near) in
       omega (arith, few, long, half_few p.clock, in_range.lead, in_range.slots_high)
 
   -- the refusal by the messages of the ring
   pub told_is : (sent k : ℕ) → sent ≡ length (both_after p (steady p) frames before past).sender.coded
       → first_refusal (rules_of p) (sent + 1) sent (both_after p (steady p) frames before past).receiver.played
-          (map about_of pairs_in) (Back k) ≡ refusal_after p before frames past (Back k)
+      (map about_of pairs_in) (Back k) ≡ refusal_after p before frames past (Back k)
   told_is sent k same =
       let abouts : map about_of pairs_in ≡ (in_both (both_after p (steady p) frames before past)).abouts =
       sym (abouts_are pairs_in)
-          ∙ ap (λ (l : List SaidMessage). map (λ (told : SaidMessage). told.about) l) h.messages_are.same
+      ∙ ap (λ (l : List SaidMessage). map (λ (told : SaidMessage). told.about) l) h.messages_are.same
       in
       λ i. first_refusal (rules_of p) (same i + 1) (same i) (both_after p (steady p) frames before past).receiver.played
-          (abouts i) (Back k)
+      (abouts i) (Back k)

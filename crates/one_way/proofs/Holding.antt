@@ -51,7 +51,7 @@ module _ (p : Params) (way : Way) (sender : State) (receiver : Kept) (before : L
   -- a packet is delivered, or none is there
   pub holds_packet : (new : Kept) (n j : ℕ) → MayHappenNow p before frames past (Deliver n j)
       → AreJoined p (steady p) sender new frames before (Deliver n j ∷ past)
-          → HoldsWay p way sender new before frames (Deliver n j ∷ past)
+      → HoldsWay p way sender new before frames (Deliver n j ∷ past)
   holds_packet new n j near joined =
       let w = both past in
       let o = slice_get (call.packets_of (encoding p) (rules_of p) w.sender.coded n) j in
@@ -72,14 +72,14 @@ module _ (p : Params) (way : Way) (sender : State) (receiver : Kept) (before : L
   pub holds_play : (new : Kept) (tally : Tally) (mark : Mark) → MayHappenNow p before frames past Play
       → AreJoined p (steady p) sender new frames before (Play ∷ past)
       → tally ≡ counted mark way.tally
-          → mark ≡ mark_of (played_mark (decoding p.format) (rules_of p) (both past).receiver)
+      → mark ≡ mark_of (played_mark (decoding p.format) (rules_of p) (both past).receiver)
       → HoldsWay p (record way { tally = tally }) sender new before frames (Play ∷ past)
   holds_play new tally mark near joined tallied marked = record {
     joined = joined;
     near = (near, h.near);
     tally = subst (λ (x : Tally). AreCounted x (both (Play ∷ past)).plays) (sym tallied)
         (count_more mark way.tally (played_shown (decoding p.format) (rules_of p) (both past).receiver)
-            (both past).plays marked h.tally);
+        (both past).plays marked h.tally);
     packets = h.packets;
     references = h.references;
   }
@@ -87,11 +87,11 @@ module _ (p : Params) (way : Way) (sender : State) (receiver : Kept) (before : L
   -- a message comes back
   pub holds_message : (new : State) (k : ℕ) → MayHappenNow p before frames past (Back k)
       → AreJoined p (steady p) new receiver frames before (Back k ∷ past)
-          → HoldsWay p way new receiver before frames (Back k ∷ past)
+      → HoldsWay p way new receiver before frames (Back k ∷ past)
   holds_message new k near joined =
       let w = both past in
       let same = coded_brought (coding p) (rules_of p) (receiver_end.run_of p before) (steady p) frames w
-          (slice_get w.said k) in
+      (slice_get w.said k) in
       record {
         joined = joined;
         near = (near, h.near);
@@ -108,9 +108,9 @@ module _ (p : Params) (way : Way) (sender : State) (receiver : Kept) (before : L
       → MayHappenNow p before frames past Send → slice_get frames (length (both past).sender.coded) ≡ Some f
       → AreJoined p (steady p) new receiver frames before (Send ∷ past)
       → ((pictures : ring.Pictures) → ring.HoldsPackets way.packets pictures
-          → ring.HoldsPackets packets (pictures ++ new.packets ∷ []))
+      → ring.HoldsPackets packets (pictures ++ new.packets ∷ []))
       → ((list : List (Option ℕ)) → AreNoted way.references list → length (both past).sender.coded ≡ length list
-          → AreNoted references (list ++ (next_of p (steady p) f (both past)).reference ∷ []))
+      → AreNoted references (list ++ (next_of p (steady p) f (both past)).reference ∷ []))
       → new.sent ≡ sender.sent + 1
       → HoldsWay p (record way { packets = packets; references = references }) new receiver before frames (Send ∷ past)
   holds_send runs new f packets references near at joined keeps notes one_more =
@@ -118,7 +118,7 @@ module _ (p : Params) (way : Way) (sender : State) (receiver : Kept) (before : L
       let next = next_of p (steady p) f (both past) in
       let sent = sent_is p runs (steady p) sender receiver frames before past h.joined in
       let coded_is : (both (Send ∷ past)).sender.coded ≡ coded ++ next ∷ [] = coded_sent (coding p) (rules_of p)
-          (steady p) frames (receiver_end.run_of p before) past f at in
+      (steady p) frames (receiver_end.run_of p before) past f at in
       let number : new.sent - 1 ≡ length coded = omega (arith, one_more, sent) in
       let cut : new.packets ≡ call.packets_of (encoding p) (rules_of p) (coded ++ next ∷ []) (length coded) =
       packets_are p runs (steady p) new receiver frames before (Send ∷ past) joined

@@ -22,23 +22,23 @@ module _ {Frame Style Mb Picture Fault MessageFault : Type 0}
 
     pub entries_sent : (f : Frame) → slice_get frames (length (both past).sender.coded) ≡ Some f
         → sender_entries coding rules begun pace frames (Send ∷ past)
-            ≡ Capture f ∷ sender_entries coding rules begun pace frames past
+        ≡ Capture f ∷ sender_entries coding rules begun pace frames past
     entries_sent f at =
         ap (λ (o : Option Frame). let first : List (SenderEntry Frame) =
-            option_map_or (λ frame. Capture frame ∷ []) o [] in
-            first ++ sender_entries coding rules begun pace frames past) at
+        option_map_or (λ frame. Capture frame ∷ []) o [] in
+        first ++ sender_entries coding rules begun pace frames past) at
 
     pub coded_sent : (f : Frame) → slice_get frames (length (both past).sender.coded) ≡ Some f
         → (both (Send ∷ past)).sender.coded ≡ (both past).sender.coded ++ next (both past) f ∷ []
     coded_sent f at =
         ap (λ (o : Option Frame).
-            (option_map_or (λ frame. after_capture (pictures_of coding) coding.encoding rules pace frame
-            (both past).sender) o (both past).sender).coded) at
+        (option_map_or (λ frame. after_capture (pictures_of coding) coding.encoding rules pace frame
+        (both past).sender) o (both past).sender).coded) at
 
     pub entries_delivered : (n j : ℕ) (bytes : List ℕ)
         → slice_get (packets_of coding.encoding rules (both past).sender.coded n) j ≡ Some bytes
         → receiver_entries coding rules begun pace frames (Deliver n j ∷ past)
-            ≡ Packet bytes ∷ receiver_entries coding rules begun pace frames past
+        ≡ Packet bytes ∷ receiver_entries coding rules begun pace frames past
     entries_delivered n j bytes at =
         ap (λ (o : Option (List ℕ)). let first : List ReceiverEntry = option_map_or (λ bytes. Packet bytes ∷ []) o [] in
-            first ++ receiver_entries coding rules begun pace frames past) at
+        first ++ receiver_entries coding rules begun pace frames past) at

@@ -33,7 +33,7 @@ get_before (a ∷ xs) ys (suc k) few = get_before xs ys k (omega (arith, few))
 module _ {Frame Style Mb Picture Fault MessageFault : Type 0}
     (coding : Coding Frame Style Mb Picture Fault MessageFault) (rules : Rules)
     (law : LaterFramesBoth coding rules) (begun : ReceiverRun Style Mb Picture) (pace : List ℕ
-        → ℕ) (frames later : List Frame) where
+    → ℕ) (frames later : List Frame) where
   first_same : (w : Joined Style Mb Picture) (e : Event) → MayHappenBoth coding rules frames w e
       → to_sender coding rules (frames ++ later) w e ≡ to_sender coding rules frames w e
   first_same w Send near = ap (λ (o : Option Frame). let first : List (SenderEntry Frame) =
@@ -45,25 +45,25 @@ module _ {Frame Style Mb Picture Fault MessageFault : Type 0}
 
   pub sent_same : (past : List Event) → AllMayHappenBoth coding rules begun pace frames past
       → sender_entries coding rules begun pace (frames ++ later) past
-          ≡ sender_entries coding rules begun pace frames past
+      ≡ sender_entries coding rules begun pace frames past
   sent_same [] near = refl
   sent_same (e ∷ past) near =
       let w = joined coding rules begun pace frames past in
       ap (λ (w : Joined Style Mb Picture). to_sender coding rules (frames ++ later) w e
-          ++ sender_entries coding rules begun pace (frames ++ later) past) (law begun pace frames later past near.1).0
+      ++ sender_entries coding rules begun pace (frames ++ later) past) (law begun pace frames later past near.1).0
       ∙ ap (λ (l : List (SenderEntry Frame)). l ++ sender_entries coding rules begun pace (frames ++ later) past)
-          (first_same w e near.0)
+      (first_same w e near.0)
       ∙ ap (λ (l : List (SenderEntry Frame)). to_sender coding rules frames w e ++ l) (sent_same past near.1)
 
   pub heard_same : (past : List Event) → AllMayHappenBoth coding rules begun pace frames past
       → receiver_entries coding rules begun pace (frames ++ later) past
-          ≡ receiver_entries coding rules begun pace frames past
+      ≡ receiver_entries coding rules begun pace frames past
   heard_same [] near = refl
   heard_same (e ∷ past) near =
       let w = joined coding rules begun pace frames past in
       ap (λ (w : Joined Style Mb Picture). to_receiver coding rules w e
-          ++ receiver_entries coding rules begun pace (frames ++ later) past)
-          (law begun pace frames later past near.1).0
+      ++ receiver_entries coding rules begun pace (frames ++ later) past)
+      (law begun pace frames later past near.1).0
       ∙ ap (λ (l : List ReceiverEntry). to_receiver coding rules w e ++ l) (heard_same past near.1)
 
 -- a way holds for more frames
@@ -80,10 +80,10 @@ module _ (p : Params) (law : LaterFramesBoth (coded.coding p) (rules_of p)) (way
           receiver_params = h.joined.receiver_params;
           sends = subst (λ (l : List (SenderEntry videos.Frame)). sender_end.Stands (steady p) sender l)
               (sym (sent_same (coded.coding p) (rules_of p) law begun (steady p) frames later past h.near))
-                  h.joined.sends;
+              h.joined.sends;
           receives = subst (λ (l : List ReceiverEntry). receiver_end.Stands receiver (l ++ before))
               (sym (heard_same (coded.coding p) (rules_of p) law begun (steady p) frames later past h.near))
-                  h.joined.receives;
+              h.joined.receives;
         };
         near = both.1;
         tally = subst (λ (w : Joined styles.Style Mb planes.Picture). AreCounted way.tally w.plays)

@@ -77,7 +77,7 @@ module _ (p : Params) (runs : EachEndRuns (coding p) (rules_of p)) (pace : List 
       ∙ j.sends.stands.packets
       ∙ ap (λ (q : Params). sender_end.last_packets q pace sent_so) j.sender_params
       ∙ ap (λ (run : SenderRun Style Mb Picture). call.packets_of (encoding p) (rules_of p) run.coded
-          (length run.coded - 1)) (sym sender_is)
+      (length run.coded - 1)) (sym sender_is)
       ∙ ap (λ (k : ℕ). call.packets_of (encoding p) (rules_of p) both.sender.coded (k - 1)) (sym sent_is)
 
   -- ---- a picture is sent
@@ -89,33 +89,33 @@ module _ (p : Params) (runs : EachEndRuns (coding p) (rules_of p)) (pace : List 
     receiver_params = j.receiver_params;
     sends = subst (λ (l : List (SenderEntry Frame)). sender_end.Stands pace new l)
         (sym (entries_sent (coding p) (rules_of p) pace frames (receiver_end.run_of p before) past f
-            (ap (λ (k : ℕ). slice_get frames k) (sym sent_is) ∙ at))) stands;
+        (ap (λ (k : ℕ). slice_get frames k) (sym sent_is) ∙ at))) stands;
     receives = j.receives;
   }
 
   pub send_tells : (f : Frame) (answer : Coded)
       → sender_end.Describes (length (sender_end.run_of sender.params pace sent_so).coded)
-          (sender_end.next_after sender.params pace f sent_so) answer
+      (sender_end.next_after sender.params pace f sent_so) answer
       → sender_end.Describes (length both.sender.coded) (next_of p pace f both) answer
   send_tells f answer tells =
       subst (λ (run : SenderRun Style Mb Picture). sender_end.Describes (length run.coded)
-          (next_coded (pictures p.format) (encoding p) (rules_of p) pace f run.coded run.known) answer) (sym sender_is)
+      (next_coded (pictures p.format) (encoding p) (rules_of p) pace f run.coded run.known) answer) (sym sender_is)
       (subst (λ (q : Params). sender_end.Describes (length (sender_end.run_of q pace sent_so).coded)
-          (sender_end.next_after q pace f sent_so) answer) j.sender_params tells)
+      (sender_end.next_after q pace f sent_so) answer) j.sender_params tells)
 
   -- ---- a packet is delivered
 
   pub after_packet : (new : Kept) (n place : ℕ) (bytes : List ℕ) → new.params ≡ receiver.params
       → slice_get (call.packets_of (encoding p) (rules_of p) both.sender.coded n) place ≡ Some bytes
       → receiver_end.Stands new (Packet bytes ∷ heard_so)
-          → AreJoined p pace sender new frames before (Deliver n place ∷ past)
+      → AreJoined p pace sender new frames before (Deliver n place ∷ past)
   after_packet new n place bytes same at stands = record {
     sender_params = j.sender_params;
     receiver_params = same ∙ j.receiver_params;
     sends = j.sends;
     receives = subst (λ (l : List ReceiverEntry). receiver_end.Stands new (l ++ before))
         (sym (entries_delivered (coding p) (rules_of p) pace frames (receiver_end.run_of p before) past n place bytes
-            at)) stands;
+        at)) stands;
   }
 
   pub packet_answer : (result : Heard) (bytes : List ℕ)
@@ -123,9 +123,9 @@ module _ (p : Params) (runs : EachEndRuns (coding p) (rules_of p)) (pace : List 
       → IsHeard p.clock result (heard (decoding p.format) (rules_of p) both.receiver ((decoding p.format).read bytes))
   packet_answer result bytes answer =
       subst (λ (run : ReceiverRun Style Mb Picture). IsHeard p.clock result (heard (decoding p.format) (rules_of p) run
-          ((decoding p.format).read bytes))) (sym receiver_is)
+      ((decoding p.format).read bytes))) (sym receiver_is)
       (subst (λ (q : Params). IsHeard q.clock result (receiver_end.answer_after q heard_so bytes)) j.receiver_params
-          answer)
+      answer)
 
   -- ---- a picture is played
 
@@ -140,15 +140,15 @@ module _ (p : Params) (runs : EachEndRuns (coding p) (rules_of p)) (pace : List 
 
   pub play_told : (result : Played)
       → IsPlayed receiver.params.clock result (receiver_end.mark_after receiver.params heard_so)
-          (receiver_end.message_after receiver.params heard_so)
+      (receiver_end.message_after receiver.params heard_so)
       → IsPlayed p.clock result (played_mark (decoding p.format) (rules_of p) both.receiver)
-          (played_message (decoding p.format) (rules_of p) both.receiver)
+      (played_message (decoding p.format) (rules_of p) both.receiver)
   play_told result told =
       subst (λ (run : ReceiverRun Style Mb Picture). IsPlayed p.clock result
-          (played_mark (decoding p.format) (rules_of p) run) (played_message (decoding p.format) (rules_of p) run))
-          (sym receiver_is)
+      (played_mark (decoding p.format) (rules_of p) run) (played_message (decoding p.format) (rules_of p) run))
+      (sym receiver_is)
       (subst (λ (q : Params). IsPlayed q.clock result (receiver_end.mark_after q heard_so)
-          (receiver_end.message_after q heard_so)) j.receiver_params told)
+      (receiver_end.message_after q heard_so)) j.receiver_params told)
 
   -- what is on the screen
   pub screen_is : (receiver_end.run_of receiver.params heard_so).screen ≡ both.receiver.screen
@@ -161,7 +161,7 @@ module _ (p : Params) (runs : EachEndRuns (coding p) (rules_of p)) (pace : List 
   pub after_message : (new : State) (k : ℕ) (told : SaidMessage) → new.params ≡ sender.params
       → slice_get both.said k ≡ Some told
       → sender_end.Stands pace new (Feedback told.bytes ∷ sent_so)
-          → AreJoined p pace new receiver frames before (Back k ∷ past)
+      → AreJoined p pace new receiver frames before (Back k ∷ past)
   after_message new k told same at stands = record {
     sender_params = same ∙ j.sender_params;
     receiver_params = j.receiver_params;

@@ -42,7 +42,7 @@ pub record Below (p : Params) : Type 0 where
   pub limit : 1200 ≤ p.limit
   pub ranged : (messages : List Message) (predicted : Bool) (depth quant : ℕ) (h : Header Style) → IsQuant quant
       → h.style ≡ style_with p messages predicted depth quant → FitsHeader (rules_of p) predicted h
-          → IsHeader (header_from h)
+      → IsHeader (header_from h)
   pub chosen_count : (frame : Picture) (reference : Option Picture) (h : picture.Header)
       → length (choices_of frame reference h p) ≡ mbs_of frame.format
   pub chosen_each : (frame : Picture) (reference : Option Picture) (h : picture.Header) (k : ℕ)
@@ -81,8 +81,12 @@ names_one k (Some r) = refl
 -- the header of a picture fits
 pub fits : (p : Params) (n : ℕ) (reference : Option ℕ) (style : Style)
     → FitsHeader (rules_of p) (is_some reference)
-    (record { number = n % period (rules_of p); reference = option_map (λ m. m % period (rules_of p)) reference;
-        half = (rules_of p).half; style = style })
+    (record {
+      number = n % period (rules_of p);
+      reference = option_map (λ m. m % period (rules_of p)) reference;
+      half = (rules_of p).half;
+      style = style;
+    })
 fits p n reference style =
     let some = some_period p.clock in
     record {
@@ -108,7 +112,7 @@ module _ (p : Params) (below : Below p) where
   chosen_room : (frame : Frame) (predicted : Bool) (depth quant : ℕ) (before : Option Picture) (h : Header Style)
       (n sequence : ℕ)
       → IsQuant quant → h.style ≡ style_with p frame.messages predicted depth quant
-          → FitsHeader (rules_of p) predicted h
+      → FitsHeader (rules_of p) predicted h
       → Room p ((encoding p).packets n sequence h ((encoding p).cut h.style ((encoding p).choice frame before h.style)))
   chosen_room frame predicted depth quant before h n sequence ranged style fit =
       let picture = in_format p.format frame.picture in
@@ -118,7 +122,7 @@ module _ (p : Params) (below : Below p) where
       let many : length mbs ≡ mbs_of p.format = below.chosen_count picture before g in
       let whole : All HasWholeBlocks mbs = All-from_get_or HasWholeBlocks mbs Skip (λ k few.
       subst HasWholeBlocks (sym (below.chosen_each picture before g k (omega (arith, few, many))))
-          (below.chosen_whole picture before g k)) in
+      (below.chosen_whole picture before g k)) in
       let header = below.ranged frame.messages predicted depth quant h ranged style fit in
       let packets = packets_of n sequence (header_from h) (cut_of (header_from h) p.limit mbs) in
       let are = below.are_packets n sequence (header_from h) mbs header whole in
@@ -127,12 +131,12 @@ module _ (p : Params) (below : Below p) where
         count = omega (arith, below.count n sequence (header_from h) mbs packets header whole are, many);
       } in
       subst (λ (slices : List (Slice Mb)). Room p (packets_of n sequence (header_from h) slices))
-          (below.same_cut predicted h mbs fit kind) room
+      (below.same_cut predicted h mbs fit kind) room
 
   pub captured_room : (quant : ℕ) (frame : Frame) (coded : List (Coded Style Mb Picture)) (reference : Option ℕ)
       (n sequence : ℕ) → IsQuant quant
       → Room p (let x = capture (pictures p.format) (encoding p) quant frame coded reference in
-          (encoding p).packets n sequence (header_of (rules_of p) n x) x.slices)
+      (encoding p).packets n sequence (header_of (rules_of p) n x) x.slices)
   unfolding capture header_of
   captured_room quant frame coded reference n sequence ranged =
       chosen_room frame (is_some reference) _ quant _ _ n sequence ranged refl (fits p n reference _)
@@ -154,7 +158,7 @@ module _ (p : Params) (below : Below p) where
   few_sizes coded =
       let count : length (call.last_sizes (encoding p) (rules_of p) coded) ≡ length coded - (length coded - 16) =
       length-map-range_with_len (λ n. call.bytes_in (call.packets_of (encoding p) (rules_of p) coded n))
-          (length coded - 16) (length coded - (length coded - 16))
+      (length coded - 16) (length coded - (length coded - 16))
       in
       omega (arith, count)
 
@@ -171,18 +175,20 @@ module _ (p : Params) (below : Below p) where
   by_slot : (n sequence : ℕ) (o : Option (Coded Style Mb Picture)) → ((x : Coded Style Mb Picture) → o ≡ Some x
       → IsCaptured p x)
       → Room p (option_map_or (λ (x : Coded Style Mb Picture). (encoding p).packets n sequence
-          (header_of (rules_of p) n x) x.slices) o [])
+      (header_of (rules_of p) n x) x.slices) o [])
   by_slot n sequence None each = record { bytes = omega arith; count = omega arith }
   by_slot n sequence (Some x) each =
       let c = each x refl in
       subst (λ (y : Coded Style Mb Picture). Room p ((encoding p).packets n sequence (header_of (rules_of p) n y)
-          y.slices)) (sym c.is)
-      (captured_room c.quant c.frame c.coded c.reference n sequence (record { low = omega (arith, c.some);
-          high = omega (arith, c.few) }))
+      y.slices)) (sym c.is)
+      (captured_room c.quant c.frame c.coded c.reference n sequence (record {
+        low = omega (arith, c.some);
+        high = omega (arith, c.few);
+      }))
 
   pub packets_room : (pace : List ℕ → ℕ) (entries : List (SenderEntry Frame)) (n : ℕ) → IsPace pace
       → Room p (call.packets_of (encoding p) (rules_of p) (sender_run (pictures p.format) (encoding p)
-          (rules_of p) pace entries).coded n)
+      (rules_of p) pace entries).coded n)
   unfolding call.packets_of
   packets_room pace entries n paced =
       let coded = (sender_run (pictures p.format) (encoding p) (rules_of p) pace entries).coded in

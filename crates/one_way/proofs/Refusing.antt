@@ -15,7 +15,7 @@ module _ (rules : Rules) (sent played : ℕ) (abouts : List ℕ) where
   unfolding first_refusal
   capture_far far =
       ap (λ (b : Bool). if b then Some (Far sent played) else if nat_le (sent + 1) sent then Some NoFrame else None)
-          (le-leb (played + rules.half) sent far)
+      (le-leb (played + rules.half) sent far)
 
   -- where this many pictures are there to be sent
   pub capture_near : (pictures : ℕ) → sent < pictures → sent < played + rules.half
@@ -23,7 +23,7 @@ module _ (rules : Rules) (sent played : ℕ) (abouts : List ℕ) where
   unfolding first_refusal
   capture_near pictures some near =
       ap (λ (b : Bool). if b then Some (Far sent played) else if nat_le pictures sent then Some NoFrame else None)
-          (lt-leb (played + rules.half) sent near)
+      (lt-leb (played + rules.half) sent near)
       ∙ ap (λ (b : Bool). if b then Some NoFrame else None) (lt-leb pictures sent some)
 
   -- one that isn't far is near
@@ -41,14 +41,14 @@ module _ (rules : Rules) (sent played : ℕ) (abouts : List ℕ) where
   unfolding first_refusal
   packet_unsent pictures n place few =
       ap (λ (b : Bool). if b then Some NotSent else if nat_le (n + rules.half) played then Some
-          (Far n played) else None) (le-leb sent n few)
+      (Far n played) else None) (le-leb sent n few)
 
   pub packet_far : (pictures n place : ℕ) → n < sent → n + rules.half ≤ played
       → first_refusal rules pictures sent played abouts (Deliver n place) ≡ Some (Far n played)
   unfolding first_refusal
   packet_far pictures n place some far =
       ap (λ (b : Bool). if b then Some NotSent else if nat_le (n + rules.half) played then Some
-          (Far n played) else None) (lt-leb sent n some)
+      (Far n played) else None) (lt-leb sent n some)
       ∙ ap (λ (b : Bool). if b then Some (Far n played) else None) (le-leb (n + rules.half) played far)
 
   pub packet_near : (pictures n place : ℕ) → n < sent → played < n + rules.half
@@ -56,7 +56,7 @@ module _ (rules : Rules) (sent played : ℕ) (abouts : List ℕ) where
   unfolding first_refusal
   packet_near pictures n place some near =
       ap (λ (b : Bool). if b then Some NotSent else if nat_le (n + rules.half) played then Some
-          (Far n played) else None) (lt-leb sent n some)
+      (Far n played) else None) (lt-leb sent n some)
       ∙ ap (λ (b : Bool). if b then Some (Far n played) else None) (lt-leb (n + rules.half) played near)
 
   -- ---- a play

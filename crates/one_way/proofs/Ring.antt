@@ -25,11 +25,11 @@ use Rattle.one_way.specs.Way.{IsAmongLast, kept_in}
 pub kept_in_ring : (p : Params) (ring : SentPackets) (coded : List (Coded Style Mb Picture)) (n : ℕ)
     (has : HasPackets p ring coded)
     → n < length coded → length coded ≤ n + period_of ring → kept_of (period_of ring) has.pictures n
-        ≡ call.packets_of (encoding p) (rules_of p) coded n
+    ≡ call.packets_of (encoding p) (rules_of p) coded n
 kept_in_ring p ring coded n has few near =
     ap (λ (b : Bool). if b then slice_index_or has.pictures n [] else [])
     (and_from (nat_lt n (length has.pictures)) (nat_le (length has.pictures) (n + period_of ring))
-        (lt-ltb n (length has.pictures) (omega (arith, few, has.count)))
+    (lt-ltb n (length has.pictures) (omega (arith, few, has.count)))
     (le-leb (length has.pictures) (n + period_of ring) (omega (arith, near, has.count))))
     ∙ has.each n
 
@@ -41,14 +41,14 @@ kept_is p way coded n has among = kept_in_ring p way.packets coded n has among.0
 -- a picture has as many packets as slices
 pub count_is : (p : Params) (coded : List (Coded Style Mb Picture)) (n : ℕ)
     → ((number sequence : ℕ) (h : Header Style) (slices : List (Slice Mb))
-        → length ((encoding p).packets number sequence h slices) ≡ length slices)
+    → length ((encoding p).packets number sequence h slices) ≡ length slices)
     → length (call.packets_of (encoding p) (rules_of p) coded n) ≡ length (slices_at coded n)
 unfolding call.packets_of slices_at
 count_is p coded n count = by_slot (slice_get coded n)
   where
     by_slot : (o : Option (Coded Style Mb Picture))
         → length (option_map_or (λ (x : Coded Style Mb Picture). (encoding p).packets n
-            (call.packets_before (take n coded)) (call.header_of (rules_of p) n x) x.slices) o [])
+        (call.packets_before (take n coded)) (call.header_of (rules_of p) n x) x.slices) o [])
         ≡ length (option_map_or (λ (x : Coded Style Mb Picture). x.slices) o [])
     by_slot None = refl
     by_slot (Some x) = count n (call.packets_before (take n coded)) (call.header_of (rules_of p) n x) x.slices

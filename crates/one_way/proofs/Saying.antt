@@ -21,8 +21,10 @@ SaysBytes =
 
 -- what is told of picture n
 abbrev pub told_of : ℕ → Option Message → List SaidMessage
-told_of n message = option_map_or (λ (m : Message). let told : SaidMessage = record { about = n;
-    bytes = write_message m } in told ∷ []) message []
+told_of n message = option_map_or (λ (m : Message). let told : SaidMessage = record {
+  about = n;
+  bytes = write_message m;
+} in told ∷ []) message []
 
 -- ---- answers
 
@@ -46,6 +48,6 @@ pub told_is : SaysBytes → (clock : Clock) (n : ℕ) (o : Option Said) (message
 told_is law clock n o None none fit = ap (told_by n) none
 told_is law clock n o (Some message) m fit =
     let bytes : AreBytes (text_of m.0) = subst (λ (o : Option Said). IfSome o (λ said. AreBytes (text_of said))) m.1 fit
-        in
+    in
     ap (told_by n) m.1 ∙ ap (λ (bytes : List ℕ). let told : SaidMessage = record { about = n; bytes = bytes } in
-        told ∷ []) (law clock m.0 message bytes m.2)
+    told ∷ []) (law clock m.0 message bytes m.2)

@@ -68,14 +68,14 @@ module _ (p : Params) where
   unfolding call.packets_of
   packets_stay coded x n few =
       λ i. option_map_or (λ (y : Coded Style Mb Picture). (encoding p).packets n
-          (call.packets_before (take_front coded x n (omega (arith, few)) i)) (call.header_of (rules_of p) n y)
-          y.slices) (get_front coded x n few i) []
+      (call.packets_before (take_front coded x n (omega (arith, few)) i)) (call.header_of (rules_of p) n y)
+      y.slices) (get_front coded x n few i) []
 
   packets_past : (coded : List (Coded Style Mb Picture)) (n : ℕ) → length coded ≤ n → packets_of coded n ≡ []
   unfolding call.packets_of
   packets_past coded n few =
       ap (λ (o : Option (Coded Style Mb Picture)). option_map_or (λ (y : Coded Style Mb Picture). (encoding p).packets n
-          (call.packets_before (take n coded)) (call.header_of (rules_of p) n y) y.slices) o []) (get_past coded n few)
+      (call.packets_before (take n coded)) (call.header_of (rules_of p) n y) y.slices) o []) (get_past coded n few)
 
   -- before the first picture
   pub none_sent : (n : ℕ) → slice_index_or [] n [] ≡ packets_of [] n
@@ -85,7 +85,7 @@ module _ (p : Params) where
   pub has_one_more : (ring new : SentPackets) (coded : List (Coded Style Mb Picture)) (x : Coded Style Mb Picture)
       (packets : List (List ℕ))
       → HasPackets p ring coded → ((pictures : Pictures) → HoldsPackets ring pictures
-          → HoldsPackets new (pictures ++ packets ∷ []))
+      → HoldsPackets new (pictures ++ packets ∷ []))
       → packets ≡ packets_of (coded ++ x ∷ []) (length coded) → HasPackets p new (coded ++ x ∷ [])
   has_one_more ring new coded x packets has kept is = record {
     pictures = has.pictures ++ packets ∷ [];
@@ -98,7 +98,7 @@ module _ (p : Params) where
           ≡ packets_of (coded ++ x ∷ []) n
       by_place n (inl few) =
           or_front has.pictures packets [] n (omega (arith, few, has.count)) ∙ has.each n
-              ∙ sym (packets_stay coded x n few)
+          ∙ sym (packets_stay coded x n few)
       by_place n (inr many) = by_end n many (cases_lt (length coded) n)
         where
           by_end : (n : ℕ) → length coded ≤ n → (length coded < n) ⊎ (n ≤ length coded)
@@ -125,5 +125,5 @@ noted_is (x ∷ coded) (suc n) = noted_is coded n
 
 pub noted_more : (coded : List (Coded Style Mb Picture)) (x : Coded Style Mb Picture)
     → map (λ (x : Coded Style Mb Picture). x.reference) (coded ++ x ∷ [])
-        ≡ map (λ (x : Coded Style Mb Picture). x.reference) coded ++ x.reference ∷ []
+    ≡ map (λ (x : Coded Style Mb Picture). x.reference) coded ++ x.reference ∷ []
 noted_more coded x = map_more (λ (x : Coded Style Mb Picture). x.reference) coded x

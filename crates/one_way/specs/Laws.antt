@@ -198,8 +198,10 @@ pub record RingLaws (p : Params) : Type 0 where
       → IfSome said (λ s. AreBytes (text_of s)) → told_by n said ≡ said_to write_message n answer
   pub told : (n : ℕ) (said : Option Said) (message : Option Message) → IsMessage p.clock said message
       → IfSome said (λ s. AreBytes (text_of s))
-      → told_by n said ≡ option_map_or (λ (m : Message). let told : SaidMessage = record { about = n;
-          bytes = write_message m } in told ∷ []) message []
+      → told_by n said ≡ option_map_or (λ (m : Message). let told : SaidMessage = record {
+        about = n;
+        bytes = write_message m;
+      } in told ∷ []) message []
   -- the mark of one play more
   pub counted : (mark : Mark) (tally : Tally) (shown : Shown Picture) (plays : List (Shown Picture))
       → mark ≡ mark_of shown.mark → AreCounted tally plays → AreCounted (counted mark tally) (shown ∷ plays)

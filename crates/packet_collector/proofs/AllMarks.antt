@@ -24,10 +24,10 @@ all_marks f marks from zero within = refl
 all_marks f marks from (suc count) within =
     let rest = drop from marks in
     let more : take (count + 1) rest ≡ take count rest ++ get_or rest count false ∷ [] = take_more rest count false
-        (omega (arith, length-drop from marks)) in
+    (omega (arith, length-drop from marks)) in
     let next : suc count ≡ count + 1 = omega arith in
     let whole : take (suc count) rest ≡ take count rest ++ get_or rest count false ∷ [] =
-        ap (λ (n : ℕ). take n rest) next ∙ more in
+    ap (λ (n : ℕ). take n rest) next ∙ more in
     ap (list_all f) whole
     ∙ list_all-append f (take count rest) (get_or rest count false ∷ [])
     ∙ last_first (list_all f (take count rest)) (f (get_or rest count false))

@@ -91,10 +91,10 @@ pub packet_sound : PartLaws → (format : Format) (s : Slice) (bytes : List ℕ)
 unfolding packet_at
 packet_sound laws format s bytes e =
     let one = bind_ok (rtp_in bytes) (λ r. payload_at format (payload_bits_of bytes r) >>= λ p. slice_after format p
-        (data_of bytes r p)) s e in
+    (data_of bytes r p)) s e in
     let r = one.0 in
     let two = bind_ok (payload_at format (payload_bits_of bytes r)) (λ p. slice_after format p (data_of bytes r p)) s
-        one.2 in
+    one.2 in
     let p = two.0 in
     let t = after_sound laws format p s (data_of bytes r p) two.2 in
     record {
@@ -120,8 +120,11 @@ record IsHeadedAgain (format : Format) (extra : Option Header) (h : Header) (at 
 headed_again : HeaderLaws → (format : Format) (extra : Option Header) (h : Header) (at : ℕ) (front rest : List Bool)
     → IsHeaded format extra h front → IsHeadedAgain format extra h at front rest
 headed_again laws format None h at front rest t =
-    record { left = record { at = at + length front; bits = rest };
-        read = complete (header format) h front rest at (laws.productive format) t; bits = refl }
+    record {
+      left = record { at = at + length front; bits = rest };
+      read = complete (header format) h front rest at (laws.productive format) t;
+      bits = refl;
+    }
 headed_again laws format (Some x) h at front rest t = record {
   left = record { at = at; bits = front ++ rest };
   read = ap (λ (y : Header). Ok (y, record { at = at; bits = front ++ rest })) t.0;
@@ -136,13 +139,13 @@ packet_complete laws format s bytes t =
     let p = t.payload in
     let one : rtp_in bytes ≡ Ok r = laws.rtp_written r bytes t.is_rtp in
     let two : payload_at format (payload_bits_of bytes r)
-        ≡ Ok p = laws.payload_written format p (payload_bits_of bytes r) t.is_payload in
+    ≡ Ok p = laws.payload_written format p (payload_bits_of bytes r) t.is_payload in
     let again = headed_again laws.headers format p.extra s.header p.from t.front t.after t.headed in
     let three : headed_at format p.extra (data_of bytes r p) ≡ Ok (s.header, again.left) =
     ap (λ (bits : List Bool). headed_at format p.extra (record { at = p.from; bits = bits })) t.parts ∙ again.read in
     let four : slice_at s.header p.begins again.left ≡ Ok (s.first, s.mbs) =
     (laws.slices s.header p.begins s.first s.mbs again.left).1
-        (subst (λ (bits : List Bool). IsSliceText s.header p.begins s.first s.mbs bits) (sym again.bits) t.text) in
+    (subst (λ (bits : List Bool). IsSliceText s.header p.begins s.first s.mbs bits) (sym again.bits) t.text) in
     rw (one, two, three, four) refl
 
 -- ---- what a call leaves
@@ -155,15 +158,19 @@ fills_packet laws (Err fault) out format bytes g = tt
 pub packet_fills : PartLaws → (r : Result Piece Fault) (out : List Mb) (format : Format) (bytes : List ℕ)
     → IfOk r (IsPieceIn format out) → length out ≡ mbs_of format → FillsPacket r out (packet_at format bytes)
     → (s : Slice) → IsPacket format s bytes
-        → IsOkAnd r (λ piece. (piece.head.count ≡ length s.mbs) × (slice_in piece out ≡ s))
+    → IsOkAnd r (λ piece. (piece.head.count ≡ length s.mbs) × (slice_in piece out ≡ s))
 packet_fills laws (Ok piece) out format bytes range size g s is =
     let same = ok_is (slice_in piece out) s (sym g ∙ packet_complete laws format s bytes is) in
     let first = piece.head.first in
     let count = piece.head.count in
     let sized : length out ≡ mbs_of piece.header.format = size ∙ ap mbs_of (sym range.of-format) in
     let long : length (mbs_from first count out)
-        ≡ count = length-take-le count (drop first out) (omega (arith, sized, length-drop first out,
-        range.slice.head.within)) in
+    ≡ count = length-take-le count (drop first out) (omega (
+      arith,
+      sized,
+      length-drop first out,
+      range.slice.head.within,
+    )) in
     (sym long ∙ ap (λ (x : Slice). length x.mbs) same, same)
 packet_fills laws (Err fault) out format bytes range size g s is = absurd (err_not_ok fault s (sym g
     ∙ packet_complete laws format s bytes is))
@@ -206,6 +213,6 @@ pub packet_inside : (format : Format) (s : Slice) (bytes : List ℕ) → IsPacke
 packet_inside format s bytes p =
     let payload = p.is_payload in
     let same = headed_format format payload.opening.plen payload.opening.pebit p.payload.extra payload.middle s.header
-        p.front payload.extra p.headed in
+    p.front payload.extra p.headed in
     let body = p.text.body in
     record { format_is = same; some = body.some; within = omega (arith, body.some, body.within, ap mbs_of same) }

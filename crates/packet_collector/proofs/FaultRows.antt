@@ -56,7 +56,7 @@ of_slice format fault payload b left h headed e = rw (headed, e) refl
 headed_again : PartLaws → (format : Format) (extra : Option Header) (h : Header) (at : ℕ) (front rest : List Bool)
     → IsHeaded format extra h front
     → headed_at format extra (record { at = at; bits = front ++ rest })
-        ≡ Ok (h, record { at = at + length front; bits = rest })
+    ≡ Ok (h, record { at = at + length front; bits = rest })
 headed_again laws format None h at front rest t = complete (header format) h front rest at
     (laws.headers.productive format) t
 headed_again laws format (Some x) h at front rest t =
@@ -64,15 +64,17 @@ headed_again laws format (Some x) h at front rest t =
     let place : at ≡ at + length front = omega (arith, ap length t.1) in
     let here : Bits = record { at = at; bits = front ++ rest } in
     let headers : ok {A = Header × Bits} (x, here)
-        ≡ ok (h, here) = ap (λ (y : Header). ok {A = Header × Bits} (y, here)) t.0 in
+    ≡ ok (h, here) = ap (λ (y : Header). ok {A = Header × Bits} (y, here)) t.0 in
     headers ∙ ap (λ (b : List Bool). ok {A = Header × Bits} (h, record { at = at; bits = b })) bits
-        ∙ ap (λ (n : ℕ). ok {A = Header × Bits} (h, record { at = n; bits = rest })) place
+    ∙ ap (λ (n : ℕ). ok {A = Header × Bits} (h, record { at = n; bits = rest })) place
 
 carried : PartLaws → (format : Format) (bytes : List ℕ) (rtp : Rtp) (payload : Payload)
     → Carries format bytes rtp payload
     → (rtp_in bytes ≡ Ok rtp) × (payload_at format (payload_bits_of bytes rtp) ≡ Ok payload)
-carried laws format bytes rtp payload c = (laws.rtp_written rtp bytes c.is_rtp,
-    laws.payload_written format payload (payload_bits_of bytes rtp) c.is_payload)
+carried laws format bytes rtp payload c = (
+  laws.rtp_written rtp bytes c.is_rtp,
+  laws.payload_written format payload (payload_bits_of bytes rtp) c.is_payload,
+)
 
 from_row : PartLaws → FaultLaws → (format : Format) (bytes : List ℕ) (kind : FaultKind) (at : ℕ)
     → IsPacketFault format bytes kind at → packet_at format bytes ≡ Err (stands kind at)
@@ -80,19 +82,19 @@ from_row laws faults format bytes kind at (in_rtp k p r) = of_rtp format bytes (
     ((faults.rtp bytes (stands k p)).1 r)
 from_row laws faults format bytes kind at (in_payload rtp k p is r) =
     of_payload format bytes (stands k p) rtp (laws.rtp_written rtp bytes is)
-        ((faults.payload format (payload_bits_of bytes rtp) (stands k p)).1 r)
+    ((faults.payload format (payload_bits_of bytes rtp) (stands k p)).1 r)
 from_row laws faults format bytes kind at (in_header rtp payload k p c none f) =
     let parts = carried laws format bytes rtp payload c in
     after_payload format bytes (stands k p) rtp payload parts.0 parts.1 (of_header format (stands k p) payload
-        (data_of bytes rtp payload) none ((faults.headers format (data_of bytes rtp payload) (stands k p)).1 f))
+    (data_of bytes rtp payload) none ((faults.headers format (data_of bytes rtp payload) (stands k p)).1 f))
 from_row laws faults format bytes kind at (in_slice rtp payload h front rest k p c split headed f) =
     let parts = carried laws format bytes rtp payload c in
     let left : Bits = record { at = payload.from + length front; bits = rest } in
     let read : headed_at format payload.extra (data_of bytes rtp payload) ≡ Ok (h, left) =
     ap (λ (t : List Bool). headed_at format payload.extra (record { at = payload.from; bits = t })) split
-        ∙ headed_again laws format payload.extra h payload.from front rest headed in
+    ∙ headed_again laws format payload.extra h payload.from front rest headed in
     after_payload format bytes (stands k p) rtp payload parts.0 parts.1 (of_slice format (stands k p) payload
-        (data_of bytes rtp payload) left h read ((faults.slices h payload.begins left (stands k p)).1 f))
+    (data_of bytes rtp payload) left h read ((faults.slices h payload.begins left (stands k p)).1 f))
 
 -- ---- what is found is in a row
 
@@ -107,9 +109,12 @@ headed_found : (format : Format) (extra : Option Header) (h : Header) (b c : Bit
 headed_found format None h b c e = let t = sound (header format) b c h e in (t.0, t.1.parts, t.1.at, t.2)
 headed_found format (Some x) h b c e =
     let same = ok_is (x, b) (h, c) e in
-    let left : c ≡ b = ap (λ (y : Header × Bits). y.1) (sym same) in
-    ([], ap (λ (d : Bits). d.bits) (sym left), omega (arith, ap (λ (d : Bits). d.at) left),
-        (ap (λ (y : Header × Bits). y.0) same, refl))
+    let left : c ≡ b = ap (λ (y : Header × Bits). y.1) (sym same) in (
+      [],
+      ap (λ (d : Bits). d.bits) (sym left),
+      omega (arith, ap (λ (d : Bits). d.at) left),
+      (ap (λ (y : Header × Bits). y.0) same, refl),
+    )
 
 headed_err : (format : Format) (extra : Option Header) (b : Bits) (fault : Fault) → headed_at format extra b ≡ Err fault
     → (extra ≡ None) × (reading (header format) b ≡ Err fault)
@@ -122,8 +127,8 @@ at_slice : FaultLaws → (format : Format) (bytes : List ℕ) (rtp : Rtp) (paylo
 unfolding slice_after
 at_slice faults format bytes rtp payload fault c e =
     let b = data_of bytes rtp payload in
-    elim (bind_err (headed_at format payload.extra b) (λ x. with_header x.0 (slice_at x.0 payload.begins x.1)) fault e)
-        [
+    elim (bind_err (headed_at format payload.extra b)
+    (λ x. with_header x.0 (slice_at x.0 payload.begins x.1)) fault e) [
       | inl f ↦
           let g = headed_err format payload.extra b fault f in
           in_header rtp payload fault.kind fault.at c g.0 ((faults.headers format b fault).0 g.1)
@@ -132,11 +137,11 @@ at_slice faults format bytes rtp payload fault c e =
           let left = f.0.1 in
           let g = headed_found format payload.extra h b left f.1 in
           let place : left ≡ record { at = payload.from + length g.0; bits = left.bits } =
-              ap (λ (n : ℕ). record { at = n; bits = left.bits }) g.2 in
+          ap (λ (n : ℕ). record { at = n; bits = left.bits }) g.2 in
           let found = (faults.slices h payload.begins left fault).0
-              (with_err h (slice_at h payload.begins left) fault f.2) in
+          (with_err h (slice_at h payload.begins left) fault f.2) in
           in_slice rtp payload h g.0 left.bits fault.kind fault.at c g.1 g.3
-              (subst (λ (d : Bits). IsSliceFault h payload.begins d fault) place found)
+          (subst (λ (d : Bits). IsSliceFault h payload.begins d fault) place found)
     ]
 
 to_row : PartLaws → FaultLaws → (format : Format) (bytes : List ℕ) (fault : Fault) → packet_at format bytes ≡ Err fault
@@ -144,21 +149,25 @@ to_row : PartLaws → FaultLaws → (format : Format) (bytes : List ℕ) (fault 
 unfolding packet_at
 to_row laws faults format bytes fault e =
     elim (bind_err (rtp_in bytes) (λ rtp. payload_at format (payload_bits_of bytes rtp) >>=
-        λ payload. slice_after format payload (data_of bytes rtp payload)) fault e) [
+    λ payload. slice_after format payload (data_of bytes rtp payload)) fault e) [
       | inl f ↦ in_rtp fault.kind fault.at ((faults.rtp bytes fault).0 f)
       | inr f ↦
           let rtp = f.0 in
           let is = laws.rtp_read rtp bytes f.1 in
           elim (bind_err (payload_at format (payload_bits_of bytes rtp)) (λ payload. slice_after format payload
-              (data_of bytes rtp payload)) fault f.2) [
+          (data_of bytes rtp payload)) fault f.2) [
             | inl g ↦ in_payload rtp fault.kind fault.at is ((faults.payload format (payload_bits_of bytes rtp) fault).0
                 g)
-            | inr g ↦ at_slice faults format bytes rtp g.0 fault (record { is_rtp = is;
-                is_payload = laws.payload_read format g.0 (payload_bits_of bytes rtp) g.1 }) g.2
+            | inr g ↦ at_slice faults format bytes rtp g.0 fault (record {
+              is_rtp = is;
+              is_payload = laws.payload_read format g.0 (payload_bits_of bytes rtp) g.1;
+            }) g.2
           ]
     ]
 
 pub first_faults : PartLaws → FaultLaws → (format : Format) (bytes : List ℕ) (fault : Fault)
     → (packet_at format bytes ≡ Err fault) ↔ IsPacketFault format bytes fault.kind fault.at
-first_faults laws faults format bytes fault = (λ e. to_row laws faults format bytes fault e,
-    λ r. from_row laws faults format bytes fault.kind fault.at r)
+first_faults laws faults format bytes fault = (
+  λ e. to_row laws faults format bytes fault e,
+  λ r. from_row laws faults format bytes fault.kind fault.at r,
+)

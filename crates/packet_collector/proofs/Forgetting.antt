@@ -77,8 +77,11 @@ was_in first (t ∷ ts) u is = at (nat_le first t.number) is (λ there. was_in f
 kept_left : (first n : ℕ) (taken : List Taken) (kept : Option Header) → first ≤ n → IsKept taken n kept
     → IsKept (from_number first taken) n kept
 kept_left first n taken None low is = any_left first n taken low ∙ is
-kept_left first n taken (Some h) low is = (any_left first n taken low
-    ∙ is.0, λ t in-list same. is.1 t (was_in first taken t in-list) same)
+kept_left first n taken (Some h) low is = (
+  any_left first n taken low
+      ∙ is.0,
+  λ t in-list same. is.1 t (was_in first taken t in-list) same,
+)
 
 pub forgotten : (c : Collector) (first : ℕ) (taken : List Taken) → Collects c first taken
     → Collects c first (from_number first taken)

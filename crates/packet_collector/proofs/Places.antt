@@ -22,8 +22,12 @@ module _ (c : Collector) (n : ℕ) (head : SliceHead) (is : IsHeadOf (format_of 
   tests f =
       let m = mbs_of (format_of c) in
       let p = place_in c n in
-      let fits : p * m + head.first + head.count ≤ length c.marks.items.items = omega (arith, c.each, is.within,
-          mul-le (p + 1) m (row_of c) m (omega (arith, below c n)) (omega arith)) in
+      let fits : p * m + head.first + head.count ≤ length c.marks.items.items = omega (
+        arith,
+        c.each,
+        is.within,
+        mul-le (p + 1) m (row_of c) m (omega (arith, below c n)) (omega arith),
+      ) in
       all_marks f c.marks.items.items (p * m + head.first) head.count fits
       ∙ all_same head.count _ _ (λ i lt. ap (λ (k : ℕ). f (get_or c.marks.items.items k false)) (omega arith))
 

@@ -22,12 +22,12 @@ same_rest period n m e order near =
     elim (cases_lt (n / period) (m / period)) [
       | inl less ↦
           let far : (n / period + 1) * period ≤ m / period * period = mul-le (n / period + 1) period (m / period) period
-              (omega arith) (omega arith) in
+          (omega arith) (omega arith) in
           let more : (n / period + 1) * period ≡ n / period * period + period = omega arith in
           absurd (omega (arith, far, more, div-add-mod' n period, div-add-mod' m period))
       | inr most ↦
           let back : m / period * period ≤ n / period * period = mul-le (m / period) period (n / period) period most
-              (omega arith) in
+          (omega arith) in
           omega (arith, back, div-add-mod' n period, div-add-mod' m period)
     ]
 
@@ -79,24 +79,24 @@ starts c first many size begins headers marks = record {
 -- marks that are put for a run of macroblocks, and a header, are in the place of one picture
 pub put_in : (c new : Collector) (p q from count at : ℕ) (value : Bool) (kept : Option Header) (old marks : List Bool)
     → format_of new ≡ format_of c → new.headers.items.items ≡ set c.headers.items.items q kept
-        → new.marks.items.items ≡ marks → old ≡ c.marks.items.items
+    → new.marks.items.items ≡ marks → old ≡ c.marks.items.items
     → q ≡ p → p < row_of c → from + count ≤ mbs_of (format_of c) → at ≡ p * mbs_of (format_of c) + from
     → ((i : ℕ) → at ≤ i → i < at + count → get_or marks i false ≡ value)
     → ((i : ℕ) → (i < at) ⊎ (at + count ≤ i) → get_or marks i false ≡ get_or old i false)
     → IsPutIn c new p from count value kept
 put_in c new p q from count at value kept old marks format headers now before same place within start inside others =
     record {
-  format = format;
-  headers = headers ∙ ap (λ (k : ℕ). set c.headers.items.items k kept) same;
-  place = place;
-  within = within;
-  inside = λ i low high. ap (λ (l : List Bool). get_or l i false) now
-      ∙ inside i (omega (arith, start)) (omega (arith, start));
-  others = λ i out. ap (λ (l : List Bool). get_or l i false) now ∙ others i (elim out [
-    | inl low ↦ inl (omega (arith, start))
-    | inr high ↦ inr (omega (arith, start))
-  ]) ∙ ap (λ (l : List Bool). get_or l i false) before;
-}
+      format = format;
+      headers = headers ∙ ap (λ (k : ℕ). set c.headers.items.items k kept) same;
+      place = place;
+      within = within;
+      inside = λ i low high. ap (λ (l : List Bool). get_or l i false) now
+          ∙ inside i (omega (arith, start)) (omega (arith, start));
+      others = λ i out. ap (λ (l : List Bool). get_or l i false) now ∙ others i (elim out [
+        | inl low ↦ inl (omega (arith, start))
+        | inr high ↦ inr (omega (arith, start))
+      ]) ∙ ap (λ (l : List Bool). get_or l i false) before;
+    }
 
 -- a Vec that got other elements, as many
 pub put_back : {Z : Type 0} (v : Vec Bool Z) (marks : List Bool) → length marks ≡ length v.items
@@ -126,13 +126,13 @@ module _ (c new : Collector) (p from count : ℕ) (value : Bool) (kept : Option 
   mark_inside : (n k : ℕ) → place_in c n ≡ p → from ≤ k → k < from + count → has_in new n k ≡ value
   mark_inside n k e low high =
       let at : place_in c n * mbs_of (format_of c) ≡ p * mbs_of (format_of c) =
-          ap (λ (q : ℕ). q * mbs_of (format_of c)) e in
+      ap (λ (q : ℕ). q * mbs_of (format_of c)) e in
       mark_as n k ∙ put.inside _ (omega (arith, at)) (omega (arith, at))
 
   mark_outside : (n k : ℕ) → place_in c n ≡ p → (k < from) ⊎ (from + count ≤ k) → has_in new n k ≡ has_in c n k
   mark_outside n k e out =
       let at : place_in c n * mbs_of (format_of c) ≡ p * mbs_of (format_of c) =
-          ap (λ (q : ℕ). q * mbs_of (format_of c)) e in
+      ap (λ (q : ℕ). q * mbs_of (format_of c)) e in
       mark_as n k ∙ put.others _ (elim out [
         | inl low ↦ inl (omega (arith, at))
         | inr high ↦ inr (omega (arith, at))
@@ -163,13 +163,20 @@ module _ (c new : Collector) (n : ℕ) (piece : Piece) (first : ℕ) (taken : Li
   one = record { number = n; piece = piece }
 
   below_end : IsInRow c n → (t : Taken) → (one ≡ t) ⊎ IsIn t taken → t.number < first + row_of new
-  below_end row t (inl here) = omega (arith, row.high, so.begins, many_same c new _ _ _ _ _ put,
-      ap (λ (x : Taken). x.number) here)
+  below_end row t (inl here) = omega (
+    arith,
+    row.high,
+    so.begins,
+    many_same c new _ _ _ _ _ put,
+    ap (λ (x : Taken). x.number) here,
+  )
   below_end row t (inr there) = omega (arith, so.below t there, many_same c new _ _ _ _ _ put)
 
   old_row : first_of new ≡ first_of c → (m : ℕ) → IsInRow new m → IsInRow c m
-  old_row same m row = record { low = omega (arith, row.low, same);
-      high = omega (arith, row.high, same, many_same c new _ _ _ _ _ put) }
+  old_row same m row = record {
+    low = omega (arith, row.low, same);
+    high = omega (arith, row.high, same, many_same c new _ _ _ _ _ put);
+  }
 
   header_is : IsInRow c n → FitsKept (header_in c n) piece.header → (m : ℕ) → IsInRow c m
       → IsKept (one ∷ taken) m (header_in new m)
@@ -178,10 +185,10 @@ module _ (c new : Collector) (n : ℕ) (piece : Piece) (first : ℕ) (taken : Li
         | inl same ↦
             subst (λ (k : ℕ). IsKept (one ∷ taken) k (header_in new k)) (sym same)
             (subst (λ (h : Option Header). IsKept (one ∷ taken) n h) (sym (header_there c new _ _ _ _ _ put n refl))
-                (kept_more taken n (header_in c n) piece (so.headers n row) fits))
+            (kept_more taken n (header_in c n) piece (so.headers n row) fits))
         | inr differs ↦
             subst (λ (h : Option Header). IsKept (one ∷ taken) m h)
-                (sym (header_other c new _ _ _ _ _ put m (λ e. differs (apart c m n row_m row e))))
+            (sym (header_other c new _ _ _ _ _ put m (λ e. differs (apart c m n row_m row e))))
             (kept_other one taken m (header_in c m) (λ e. differs (sym e)) (so.headers m row_m))
       ]
 
@@ -238,8 +245,10 @@ module _ (c new : Collector) (first : ℕ) (taken : List Taken) (put : IsPutIn c
   first_in = record { low = omega arith; high = omega (arith, c.some) }
 
   still : first_of new ≡ first_of c + 1 → (m : ℕ) → IsInRow new m → m ≢ next → IsInRow c m
-  still same m row differs = record { low = omega (arith, row.low, same);
-      high = omega (arith, row.high, same, many_same c new _ _ _ _ _ put, differs) }
+  still same m row differs = record {
+    low = omega (arith, row.low, same);
+    high = omega (arith, row.high, same, many_same c new _ _ _ _ _ put, differs);
+  }
 
   moved : first_of new ≡ first_of c + 1 → (m : ℕ) → IsInRow new m → (in-row : IsInRow c m)
       → place_in c m ≢ place_in c (first_of c)
@@ -253,11 +262,11 @@ module _ (c new : Collector) (first : ℕ) (taken : List Taken) (put : IsPutIn c
       | inl here ↦
           subst (λ (k : ℕ). IsKept taken k (header_in new k)) (sym here)
           (subst (λ (h : Option Header). IsKept taken next h) (sym (header_there c new _ _ _ _ _ put next next_place))
-              none_next)
+          none_next)
       | inr differs ↦
           let in-row = still same m row differs in
           subst (λ (h : Option Header). IsKept taken m h)
-              (sym (header_other c new _ _ _ _ _ put m (moved same m row in-row))) (so.headers m in-row)
+          (sym (header_other c new _ _ _ _ _ put m (moved same m row in-row))) (so.headers m in-row)
     ];
     marks = λ m k row lt.
         let inside : k < mbs_of (format_of c) = omega (arith, lt, ap mbs_of put.format) in
@@ -265,7 +274,7 @@ module _ (c new : Collector) (first : ℕ) (taken : List Taken) (put : IsPutIn c
           | inl here ↦
               subst (λ (j : ℕ). has_in new j k ≡ has_taken taken j k) (sym here)
               (mark_inside c new _ _ _ _ _ put next k next_place (omega arith) (omega (arith, inside))
-                  ∙ sym (never taken next k none_next))
+              ∙ sym (never taken next k none_next))
           | inr differs ↦
               let in-row = still same m row differs in
               mark_other c new _ _ _ _ _ put m k (moved same m row in-row) inside ∙ so.marks m k in-row inside

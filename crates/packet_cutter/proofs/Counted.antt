@@ -19,8 +19,12 @@ use Rattle.packet_cutter.proofs.Fronts.{front_whole}
 pub length-padded : (text : List Bool) → length (padded text) ≡ 8 * bytes_of text
 length-padded text =
     let whole : 8 * bytes_of text ≡ length text + to_byte (length text) = omega arith in
-    omega (arith, length-append text (spelled (to_byte (length text)) 0), length-spelled (to_byte (length text)) 0,
-        whole)
+    omega (
+      arith,
+      length-append text (spelled (to_byte (length text)) 0),
+      length-spelled (to_byte (length text)) 0,
+      whole,
+    )
 
 pub length-rtp : (marker : Bool) (sequence timestamp : ℕ) → length (fields (rtp_fields marker sequence timestamp)) ≡ 96
 length-rtp marker sequence timestamp = length-fields (rtp_fields marker sequence timestamp)
@@ -55,8 +59,11 @@ pub count : (number sequence : ℕ) (h : Header) (first : ℕ) (runs : List (Lis
     → ArePackets number sequence h first runs packets → length packets ≡ length runs
 unfolding ArePackets
 count number sequence h first [] packets a = ap length a
-count number sequence h first (run ∷ runs) packets a = omega (arith, ap length a.2,
-    count number (sequence + 1) h (first + length run) runs a.1 a.4)
+count number sequence h first (run ∷ runs) packets a = omega (
+  arith,
+  ap length a.2,
+  count number (sequence + 1) h (first + length run) runs a.1 a.4,
+)
 
 abbrev pub IsWithin : ℕ → List ℕ → Type 0
 IsWithin limit packet = length packet ≤ limit
@@ -68,7 +75,11 @@ unfolding IsCut ArePackets
 within number sequence h limit first mbs [] packets c a = subst (All (IsWithin limit)) (sym a)
     (All-nil (IsWithin limit))
 within number sequence h limit first mbs (run ∷ runs) packets c a =
-    let fits : length a.0 ≤ limit = omega (arith, c.2.fits, ap length a.3,
-        packet_size number sequence (is_last runs) h first run) in
+    let fits : length a.0 ≤ limit = omega (
+      arith,
+      c.2.fits,
+      ap length a.3,
+      packet_size number sequence (is_last runs) h first run,
+    ) in
     subst (All (IsWithin limit)) (sym a.2) (All-cons (IsWithin limit) a.0 a.1 fits (within number (sequence + 1) h limit
-        (first + length run) c.0 runs a.1 c.3 a.4))
+    (first + length run) c.0 runs a.1 c.3 a.4))

@@ -40,15 +40,20 @@ packet_grows h first run more =
     let longer = mbs_text (around h first) h.quant [] (run ++ more) in
     let after = mbs_text-after (around h first) h.quant [] run more in
     let bits : length (opening ++ text) ≤ length (opening ++ longer) =
-    omega (arith, length-append opening text, length-append opening longer, ap length after.1,
-        length-append text after.0) in
+    omega (
+      arith,
+      length-append opening text,
+      length-append opening longer,
+      ap length after.1,
+      length-append text after.0,
+    ) in
     omega (arith, bytes_grow (length (opening ++ text)) (length (opening ++ longer)) bits)
 
 -- a slice is the longest where the next macroblock doesn't fit
 pub longest_by_next : (h : Header) (limit first : ℕ) (run rest : List Mb) → 0 < length run
     → packet_bytes h first run ≤ limit
     → ((m : Mb) (others : List Mb) → rest ≡ m ∷ others → limit < packet_bytes h first (run ++ m ∷ []))
-        → IsLongest h limit first run rest
+    → IsLongest h limit first run rest
 longest_by_next h limit first run rest some fits next = record {
   some = some;
   fits = fits;
@@ -78,10 +83,18 @@ divided (x ∷ a) b (y ∷ c) d e =
     let same : x ≡ y = cc in
     let tails : a ++ b ≡ c ++ d = cc in
     elim (divided a b c d tails) [
-      | inl w ↦ inl (record { more = w.more; front = ap (λ (t : List Mb). y ∷ t) w.front
-          ∙ ap (λ (z : Mb). z ∷ (a ++ w.more)) (sym same); after = w.after })
-      | inr w ↦ inr (record { more = w.more; front = ap (λ (t : List Mb). x ∷ t) w.front
-          ∙ ap (λ (z : Mb). z ∷ (c ++ w.more)) same; after = w.after })
+      | inl w ↦ inl (record {
+        more = w.more;
+        front = ap (λ (t : List Mb). y ∷ t) w.front
+            ∙ ap (λ (z : Mb). z ∷ (a ++ w.more)) (sym same);
+        after = w.after;
+      })
+      | inr w ↦ inr (record {
+        more = w.more;
+        front = ap (λ (t : List Mb). x ∷ t) w.front
+            ∙ ap (λ (z : Mb). z ∷ (c ++ w.more)) same;
+        after = w.after;
+      })
     ]
 
 no_further : (h : Header) (limit first : ℕ) (run rest other left : List Mb) → IsLongest h limit first run rest
@@ -115,7 +128,7 @@ one_cut h limit first mbs (run ∷ runs) (other ∷ others) a b =
     let after = subst (λ (l : List Mb). IsCut h limit (first + length run) l others) (sym same.1)
     (subst (λ (l : List Mb). IsCut h limit (first + length l) b.0 others) (sym same.0) b.3) in
     ap (λ (l : List (List Mb)). run ∷ l) (one_cut h limit (first + length run) a.0 runs others a.3 after)
-        ∙ ap (λ (l : List Mb). l ∷ others) same.0
+    ∙ ap (λ (l : List Mb). l ∷ others) same.0
 
 -- ---- its parts
 
@@ -180,8 +193,11 @@ grown h limit first run (m ∷ rest) some fits =
 
 one_fits : AreShort → AllShort → (h : Header) (limit first : ℕ) (m : Mb) → IsHeader h → 1200 ≤ limit → HasWholeBlocks m
     → packet_bytes h first (m ∷ []) ≤ limit
-one_fits slices short h limit first m is room whole = omega (arith, front_short short h first is,
-    slices.one h (begins_at first) first m is whole)
+one_fits slices short h limit first m is room whole = omega (
+  arith,
+  front_short short h first is,
+  slices.one h (begins_at first) first m is whole,
+)
 
 -- a picture whose macroblocks are short can be cut
 pub cut_exists : AreShort → AllShort → (h : Header) (limit : ℕ) → IsHeader h → 1200 ≤ limit
@@ -192,11 +208,11 @@ cut_exists slices short h limit is room n first [] few whole = ([], refl)
 cut_exists slices short h limit is room zero first (m ∷ mbs) few whole = absurd (omega arith)
 cut_exists slices short h limit is room (suc n) first (m ∷ mbs) few whole =
     let g = grown h limit first (m ∷ []) mbs (omega arith) (one_fits slices short h limit first m is room
-        (whole 0 m (omega arith))) in
+    (whole 0 m (omega arith))) in
     let run = m ∷ g.more in
     let parts : m ∷ mbs ≡ run ++ g.others = ap (λ (l : List Mb). m ∷ l) g.parts in
     let after : All HasWholeBlocks g.others = subst (All HasWholeBlocks) (drop-append_seam run g.others)
-        (All-drop HasWholeBlocks (length run) (run ++ g.others) (subst (All HasWholeBlocks) parts whole)) in
+    (All-drop HasWholeBlocks (length run) (run ++ g.others) (subst (All HasWholeBlocks) parts whole)) in
     let fewer : length g.others ≤ n = omega (arith, ap length g.parts, length-append g.more g.others) in
     let next = cut_exists slices short h limit is room n (first + length run) g.others fewer after in
     (run ∷ next.0, (g.others, parts, g.longest, next.1))

@@ -32,10 +32,10 @@ left_marked mbs marks first within are =
 pub one_more : (mbs : List Mb) (marks : List (List ℕ)) (n : ℕ) (m : Mb) (theirs : List ℕ) → n < length mbs
     → n < length marks → HasMarks m theirs →
     ((k : ℕ) → k < n → HasMarks (mb_in mbs k) (get_or marks k [])) → (k : ℕ) → k < n + 1
-        → HasMarks (mb_in (slice_set mbs n m) k) (get_or (slice_set marks n theirs) k [])
+    → HasMarks (mb_in (slice_set mbs n m) k) (get_or (slice_set marks n theirs) k [])
 one_more mbs marks n m theirs room place is before k lt =
     below_more (λ (k : ℕ). HasMarks (mb_in (slice_set mbs n m) k) (get_or (slice_set marks n theirs) k [])) n
     (λ j h. marked_as (mb_in mbs j) _ (get_or marks j []) _ (get_or-set_other mbs n j m Skip (omega (arith, h)))
-        (get_or-set_other marks n j theirs [] (omega (arith, h))) (before j h))
+    (get_or-set_other marks n j theirs [] (omega (arith, h))) (before j h))
     (marked_as m _ theirs _ (get_or-set_same mbs n m Skip room) (get_or-set_same marks n theirs [] place) is)
     k lt

@@ -39,8 +39,13 @@ headers_short slices short h first is = at (begins_at first)
     at : (begins : Bool) → 8 * (12 + payload_bits (extra_of h begins) / 8) + length (opening_text h begins first) + 7 ≤
         408
     at true = omega (arith, slices.opening h true first is)
-    at false = let s = short h is in omega (arith, s.before, slices.later h first, address_few h.format,
-        reference_few h.trp)
+    at false = let s = short h is in omega (
+      arith,
+      s.before,
+      slices.later h first,
+      address_few h.format,
+      reference_few h.trp,
+    )
 
 packet_short : AreShort → AllShort → (h : Header) (first : ℕ) (run : List Mb) → IsHeader h
     → 8 * packet_bytes h first run ≤ 408 + length (mbs_text (around h first) h.quant [] run)
@@ -55,8 +60,14 @@ regrouped rtp payload opening mbs zeros = simp append_assoc
 
 few_others : (before mbs after bits : List Bool) (size : ℕ) → bits ≡ before ++ (mbs ++ after) → length bits ≡ 8 * size
     → 8 * size ≤ 408 + length mbs → length before + length after ≤ 8 * 51
-few_others before mbs after bits size parts long few = omega (arith, long, few, ap length parts,
-    length-append before (mbs ++ after), length-append mbs after)
+few_others before mbs after bits size parts long few = omega (
+  arith,
+  long,
+  few,
+  ap length parts,
+  length-append before (mbs ++ after),
+  length-append mbs after,
+)
 
 pub other_parts : ArePayloadsLong → AreShort → AllShort
     → (number sequence : ℕ) (marker : Bool) (h : Header) (first : ℕ) (run : List Mb) → IsHeader h →

@@ -17,8 +17,11 @@ none_in bytes places = refl
 pub length-packets : (bytes places : List ℕ) (n : ℕ) → length (packets_in bytes places n) ≡ n
 unfolding packets_in
 length-packets bytes places zero = refl
-length-packets bytes places (suc n) = omega (arith,
-    length-append (packets_in bytes places n) (packet_at bytes places n ∷ []), length-packets bytes places n)
+length-packets bytes places (suc n) = omega (
+  arith,
+  length-append (packets_in bytes places n) (packet_at bytes places n ∷ []),
+  length-packets bytes places n,
+)
 
 pub packet_is : (bytes places : List ℕ) (n i : ℕ) → i < n → get_or (packets_in bytes places n) i []
     ≡ packet_at bytes places i
@@ -29,13 +32,13 @@ packet_is bytes places (suc n) i lt =
       | inl below ↦
           let low : i < length (packets_in bytes places n) = omega (arith, below, length-packets bytes places n) in
           get_or-append (packets_in bytes places n) (packet_at bytes places n ∷ []) [] i low
-              ∙ packet_is bytes places n i below
+          ∙ packet_is bytes places n i below
       | inr last ↦
           let e : i ≡ length (packets_in bytes places n) = omega (arith, lt, last, length-packets bytes places n) in
           let m : n ≡ i = omega (arith, lt, last) in
           ap (λ (k : ℕ). get_or (packets_in bytes places n ++ packet_at bytes places n ∷ []) k []) e
-              ∙ get_or-append_seam (packets_in bytes places n) (packet_at bytes places n) [] []
-              ∙ ap (packet_at bytes places) m
+          ∙ get_or-append_seam (packets_in bytes places n) (packet_at bytes places n) [] []
+          ∙ ap (packet_at bytes places) m
     ]
 
 -- a window within the first bytes
@@ -45,30 +48,30 @@ window_same old new a b at order within low high same =
     let e : b ≡ a + (b - a) = omega arith in
     let moved = λ (l : List ℕ). sym (drop-take a (b - a) l) ∙ ap (λ (k : ℕ). drop a (take k l)) (sym e) in
     let front : take b new ≡ take b old = sym (take-take b at new within high) ∙ ap (take b) same
-        ∙ take-take b at old within low in
+    ∙ take-take b at old within low in
     moved new ∙ ap (drop a) front ∙ sym (moved old)
 
 -- the packets before a place stay where the bytes and the places before it do
 pub same_packets : (old new places others : List ℕ) (n at : ℕ) → at ≤ length old → at ≤ length new
     → take at new ≡ take at old
     → ((i : ℕ) → i ≤ n → get_or others i 0 ≡ get_or places i 0)
-        → ((i : ℕ) → i < n → get_or places i 0 ≤ get_or places (i + 1) 0)
-        → ((i : ℕ) → i < n → get_or places (i + 1) 0 ≤ at)
+    → ((i : ℕ) → i < n → get_or places i 0 ≤ get_or places (i + 1) 0)
+    → ((i : ℕ) → i < n → get_or places (i + 1) 0 ≤ at)
     → packets_in new others n ≡ packets_in old places n
 unfolding packets_in
 same_packets old new places others zero at low high same there order within = refl
 same_packets old new places others (suc n) at low high same there order within =
     let before = same_packets old new places others n at low high same (λ i le. there i (omega arith))
-        (λ i lt. order i (omega arith)) (λ i lt. within i (omega arith)) in
+    (λ i lt. order i (omega arith)) (λ i lt. within i (omega arith)) in
     let from : get_or others n 0 ≡ get_or places n 0 = there n (omega arith) in
     let to : get_or others (n + 1) 0 ≡ get_or places (n + 1) 0 = there (n + 1) (omega arith) in
     let one : packet_at new others n ≡ packet_at old places n =
     ap (λ (k : ℕ). slice_range new k (get_or others (n + 1) 0)) from
-        ∙ ap (λ (k : ℕ). slice_range new (get_or places n 0) k) to
+    ∙ ap (λ (k : ℕ). slice_range new (get_or places n 0) k) to
     ∙ window_same old new (get_or places n 0) (get_or places (n + 1) 0) at (order n (omega arith))
-        (within n (omega arith)) low high same in
+    (within n (omega arith)) low high same in
     ap (λ (l : List (List ℕ)). l ++ packet_at new others n ∷ []) before
-        ∙ ap (λ (p : List ℕ). packets_in old places n ++ p ∷ []) one
+    ∙ ap (λ (p : List ℕ). packets_in old places n ++ p ∷ []) one
 
 -- ---- one packet more
 
@@ -83,21 +86,21 @@ pub one_more : (old new places : List ℕ) (limit n size : ℕ) → ArePlaced li
     → get_or places n 0 ≤ length old → get_or places n 0 ≤ length new
     → take (get_or places n 0) new ≡ take (get_or places n 0) old
     → packets_in new (set places (n + 1) (get_or places n 0 + size)) (n + 1) ≡ packets_in old places n
-        ++ take size (drop (get_or places n 0) new) ∷ []
+    ++ take size (drop (get_or places n 0) new) ∷ []
 unfolding packets_in
 one_more old new places limit n size p room low high same =
     let at = get_or places n 0 in
     let others = set places (n + 1) (at + size) in
     let before = same_packets old new places others n at low high same (other_place places n (at + size)) p.order
-        p.within in
+    p.within in
     let from : get_or others n 0 ≡ at = other_place places n (at + size) n (omega arith) in
     let to : get_or others (n + 1) 0 ≡ at + size = new_place places n (at + size) (omega (arith, p.whole)) in
     let long : at + size - at ≡ size = omega arith in
     let one : packet_at new others n ≡ take size (drop at new) =
     ap (λ (k : ℕ). slice_range new k (get_or others (n + 1) 0)) from ∙ ap (λ (k : ℕ). slice_range new at k) to
-        ∙ ap (λ (k : ℕ). take k (drop at new)) long in
+    ∙ ap (λ (k : ℕ). take k (drop at new)) long in
     ap (packets_in new others) (add-one n) ∙ ap (λ (l : List (List ℕ)). l ++ packet_at new others n ∷ []) before
-        ∙ ap (λ (t : List ℕ). packets_in old places n ++ t ∷ []) one
+    ∙ ap (λ (t : List ℕ). packets_in old places n ++ t ∷ []) one
 
 pub window_length : (xs : List ℕ) (at k : ℕ) → at + k ≤ length xs → length (take (at + k - at) (drop at xs)) ≡ k
 window_length xs at k h = omega (arith, length-take (at + k - at) (drop at xs), length-drop at xs)
@@ -106,7 +109,7 @@ window_length xs at k h = omega (arith, length-take (at + k - at) (drop at xs), 
 pub appended : (old d ys post places : List ℕ) (limit n size : ℕ) → d ≡ old → ArePlaced limit places n → n < 396
     → get_or places n 0 ≤ length old → size ≤ length ys
     → packets_in (take (get_or places n 0) d ++ (ys ++ post)) (set places (n + 1) (get_or places n 0 + size)) (n + 1)
-        ≡ packets_in old places n ++ take size ys ∷ []
+    ≡ packets_in old places n ++ take size ys ∷ []
 appended old d ys post places limit n size same p few within fits =
     let at = get_or places n 0 in
     let front = take at d in
@@ -115,6 +118,6 @@ appended old d ys post places limit n size same p few within fits =
     let high : at ≤ length new = omega (arith, length-append front (ys ++ post), len) in
     let kept : take at new ≡ take at old = take_at front (ys ++ post) at len ∙ ap (take at) same in
     let after : take size (drop at new) ≡ take size ys = ap (take size) (drop_at front (ys ++ post) at len)
-        ∙ take-append-le size ys post fits in
+    ∙ take-append-le size ys post fits in
     one_more old new places limit n size p few within high kept
-        ∙ ap (λ (l : List ℕ). packets_in old places n ++ l ∷ []) after
+    ∙ ap (λ (l : List ℕ). packets_in old places n ++ l ∷ []) after

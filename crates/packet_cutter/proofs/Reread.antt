@@ -53,11 +53,15 @@ pub record AreReadAgain : Type 0 where
 after_text : (bytes : List ℕ) (front rest : List Bool) (at : ℕ) → bits_of bytes ≡ front ++ rest → length front ≡ at
     → bits_between bytes at (8 * length bytes) ≡ record { at = at; bits = rest }
 after_text bytes front rest at e len =
-    let room : length rest ≤ 8 * length bytes - at = omega (arith, length-bits_of bytes, ap length e,
-        length-append front rest) in
+    let room : length rest ≤ 8 * length bytes - at = omega (
+      arith,
+      length-bits_of bytes,
+      ap length e,
+      length-append front rest,
+    ) in
     let there : drop at (bits_of bytes) ≡ rest = ap (drop at) e ∙ drop_at front rest at len in
     ap (λ (t : List Bool). record { at = at; bits = t }) (ap (take (8 * length bytes - at)) there
-        ∙ take_all (8 * length bytes - at) rest room)
+    ∙ take_all (8 * length bytes - at) rest room)
 
 abbrev ok_rtp : Rtp → Result Rtp Fault
 ok_rtp r = Ok r
@@ -75,10 +79,10 @@ rtp_again below number sequence marker bytes rest e short =
     let len : length text ≡ 96 = length-rtp marker (sequence % 65536) (timestamp_of number) in
     let long : 12 ≤ length bytes = omega (arith, length-bits_of bytes, ap length e, length-append text rest, len) in
     let front : bits_of (take 12 bytes) ≡ text = bits_of-take 12 bytes long ∙ ap (take 96) e
-        ∙ take_at text rest 96 len in
+    ∙ take_at text rest 96 len in
     let few : length (drop 12 bytes) ≤ 65523 = omega (arith, length-drop 12 bytes) in
     let read = below.rtp (take 12 bytes) (drop 12 bytes) marker (sequence % 65536) (timestamp_of number) (omega arith)
-        (omega arith) front few in
+    (omega arith) front few in
     let end : 12 + length (drop 12 bytes) ≡ length bytes = omega (arith, length-drop 12 bytes) in
     ap rtp_in (sym (take-append-drop 12 bytes)) ∙ read ∙ ap (λ (n : ℕ). ok_rtp (rtp_of number sequence marker n)) end
 
@@ -93,14 +97,17 @@ started h false first run = (drop 2 (padded (slice_text h false first run)), ref
 payload_again : AreReadAgain → (h : Header) (begins : Bool) (at : ℕ) (coded : List Bool) → IsHeader h
     → IsBegun begins coded
     → payload_at h.format (record { at = at; bits = written_payload (extra_of h begins) ++ coded })
-        ≡ Ok (record { extra = extra_of h begins; begins = begins;
-        from = at + length (written_payload (extra_of h begins)) })
+    ≡ Ok (record {
+      extra = extra_of h begins;
+      begins = begins;
+      from = at + length (written_payload (extra_of h begins));
+    })
 payload_again below h true at coded is begun =
     ap (λ (t : List Bool). payload_at h.format (record { at = at; bits = written_payload None ++ t })) begun.1
-        ∙ below.picture h.format at begun.0
+    ∙ below.picture h.format at begun.0
 payload_again below h false at coded is begun =
     ap (λ (t : List Bool). payload_at h.format (record { at = at; bits = written_payload (Some h) ++ t })) begun.1
-        ∙ below.slice h at begun.0 is
+    ∙ below.slice h at begun.0 is
 
 -- ---- the picture header and the slice
 
@@ -124,7 +131,7 @@ divided h false first texts zeros = append_assoc (head_text h false first) texts
 pub read_as : AreReadAgain → (number sequence : ℕ) (marker : Bool) (h : Header) (first : ℕ) (run : List Mb)
     (bytes : List ℕ) → IsHeader h → 0 < length run → first + length run ≤ mbs_of h.format
     → AreWritable (around h first) h.quant [] run → bits_of bytes ≡ packet_text number sequence marker h first run
-        → length bytes ≤ 65535 → IsReadAs number sequence marker h first run bytes
+    → length bytes ≤ 65535 → IsReadAs number sequence marker h first run bytes
 read_as below number sequence marker h first run bytes is some within each e short =
     let begins = begins_at first in
     let rtp = fields (rtp_fields marker (sequence % 65536) (timestamp_of number)) in
@@ -133,11 +140,14 @@ read_as below number sequence marker h first run bytes is some within each e sho
     let texts = mbs_text (around h first) h.quant [] run in
     let zeros = spelled (to_byte (length (slice_text h begins first run))) 0 in
     let len : length rtp ≡ 96 = length-rtp marker (sequence % 65536) (timestamp_of number) in
-    let from : 96 + length payload ≡ 8 * front_bytes h first = omega (arith, below.many (extra_of h begins),
-        front_whole h first) in
+    let from : 96 + length payload ≡ 8 * front_bytes h first = omega (
+      arith,
+      below.many (extra_of h begins),
+      front_whole h first,
+    ) in
     let there = after_text bytes rtp (payload ++ coded) 96 e len in
     let data_there = after_text bytes (rtp ++ payload) coded (8 * front_bytes h first) (e
-        ∙ sym (append_assoc rtp payload coded)) (omega (arith, length-append rtp payload, len, from)) in
+    ∙ sym (append_assoc rtp payload coded)) (omega (arith, length-append rtp payload, len, from)) in
     record {
       front = header_part h begins;
       after = head_text h begins first ++ (texts ++ zeros);
@@ -146,6 +156,8 @@ read_as below number sequence marker h first run bytes is some within each e sho
           ∙ ap (λ (n : ℕ). ok_payload (record { extra = extra_of h begins; begins = begins; from = n })) from;
       parts = ap (λ (b : Bits). b.bits) data_there ∙ divided h begins first texts zeros;
       headed = headed below.headers h begins is;
-      text = below.slices.text h begins first run zeros is (record { within = omega (arith, some, within);
-          at_zero = refl }) some within each (below.slices.padding (length (slice_text h begins first run)));
+      text = below.slices.text h begins first run zeros is (record {
+        within = omega (arith, some, within);
+        at_zero = refl;
+      }) some within each (below.slices.padding (length (slice_text h begins first run)));
     }

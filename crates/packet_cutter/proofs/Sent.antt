@@ -36,16 +36,16 @@ cut_is found (suc most) h limit first (m ∷ mbs) (run ∷ runs) few cut =
     let longest = cut.2 in
     let count : longest_of (packet_bytes h) limit first (m ∷ mbs) ≡ length run =
     ap (longest_of (packet_bytes h) limit first) cut.1
-        ∙ longest_is found (packet_bytes h) limit first run rest longest.some longest.fits longest.longest in
+    ∙ longest_is found (packet_bytes h) limit first run rest longest.some longest.fits longest.longest in
     let front : take (length run) (m ∷ mbs) ≡ run = ap (take (length run)) cut.1 ∙ take_at run rest (length run) refl in
     let after : drop (length run) (m ∷ mbs) ≡ rest = ap (drop (length run)) cut.1
-        ∙ drop_at run rest (length run) refl in
+    ∙ drop_at run rest (length run) refl in
     let fewer : length rest ≤ most = omega (arith, ap length cut.1, length-append run rest, longest.some) in
     let slice : List Mb → Slice Mb = λ l. record { first = first; mbs = l } in
     let others = λ (n : ℕ) (l : List Mb). slices_from most (packet_bytes h) limit (first + n) l in
     ap (λ (l : List (Slice Mb)). slice run ∷ l) (cut_is found most h limit (first + length run) rest runs fewer cut.3)
     ∙ ap (λ (l : List Mb). slice run ∷ others (length run) l) (sym after)
-        ∙ ap (λ (l : List Mb). slice l ∷ others (length run) (drop (length run) (m ∷ mbs))) (sym front)
+    ∙ ap (λ (l : List Mb). slice l ∷ others (length run) (drop (length run) (m ∷ mbs))) (sym front)
     ∙ ap (λ (n : ℕ). slice (take n (m ∷ mbs)) ∷ others n (drop n (m ∷ mbs))) (sym count)
 
 -- ---- the packets
@@ -62,9 +62,9 @@ packets_are number sequence h first [] packets each = each
 packets_are number sequence h first (run ∷ runs) packets each =
     let after = packets_are number (sequence + 1) h (first + length run) runs each.1 each.4 in
     each.2 ∙ ap (λ (p : List ℕ). p ∷ each.1) (each.3
-        ∙ ap (λ (b : Bool). packet_of number sequence b h first run) (sym (same_last (first + length run) runs)))
+    ∙ ap (λ (b : Bool). packet_of number sequence b h first run) (sym (same_last (first + length run) runs)))
     ∙ ap (λ (l : List (List ℕ)). packet_of number sequence (is_last (slices_at (first + length run) runs)) h first run ∷
-        l) after
+    l) after
 
 pub are_packets : (number sequence : ℕ) (h : Header) (first : ℕ) (runs : List (List Mb))
     → ArePackets number sequence h first runs (packets_of number sequence h (slices_at first runs))
@@ -84,7 +84,7 @@ pub packets_of_cut : GreatestIs
     → packets ≡ packets_of number sequence h (cut_of h limit mbs)
 packets_of_cut found number sequence h limit mbs packets p =
     packets_are number sequence h 0 p.runs packets p.each
-        ∙ ap (packets_of number sequence h) (cut_is found (length mbs) h limit 0 mbs p.runs (omega arith) p.cut)
+    ∙ ap (packets_of number sequence h) (cut_is found (length mbs) h limit 0 mbs p.runs (omega arith) p.cut)
 
 -- and back, where there is a cut
 pub cut_of_packets : GreatestIs
@@ -93,9 +93,12 @@ pub cut_of_packets : GreatestIs
     → packets ≡ packets_of number sequence h (cut_of h limit mbs) → ArePacketsOf number sequence h limit mbs packets
 cut_of_packets found number sequence h limit mbs packets runs cut e =
     let same = sym (e ∙ ap (packets_of number sequence h)
-        (sym (cut_is found (length mbs) h limit 0 mbs runs (omega arith) cut))) in
-    record { runs = runs; cut = cut;
-        each = subst (ArePackets number sequence h 0 runs) same (are_packets number sequence h 0 runs) }
+    (sym (cut_is found (length mbs) h limit 0 mbs runs (omega arith) cut))) in
+    record {
+      runs = runs;
+      cut = cut;
+      each = subst (ArePackets number sequence h 0 runs) same (are_packets number sequence h 0 runs);
+    }
 
 -- ---- one packet each
 
@@ -122,7 +125,7 @@ next_last j n = grind (arith, nat_tests)
 pub packet_at_is : (number sequence : ℕ) (h : Header) (slices : List (Slice Mb)) (j : ℕ) (slice : Slice Mb)
     → slice_get slices j ≡ Some slice
     → slice_get (packets_of number sequence h slices) j
-        ≡ Some (packet_of number (sequence + j) (j + 1 == length slices) h slice.first slice.mbs)
+    ≡ Some (packet_of number (sequence + j) (j + 1 == length slices) h slice.first slice.mbs)
 unfolding packets_of
 packet_at_is number sequence h [] j slice e = absurd cc
 packet_at_is number sequence h (head ∷ slices) zero slice e =
@@ -151,7 +154,7 @@ pub same_packet : (number s t : ℕ) (marker : Bool) (h : Header) (first : ℕ) 
 unfolding packet_of
 same_packet number s t marker h first run e =
     ap (λ (n : ℕ). bytes_in (packet_bytes h first run) (fields (rtp_fields marker n (timestamp_of number))
-        ++ (written_payload (extra_of h (begins_at first)) ++ padded (slice_text h (begins_at first) first run)))) e
+    ++ (written_payload (extra_of h (begins_at first)) ++ padded (slice_text h (begins_at first) first run)))) e
 
 pub same_packets : (number s t : ℕ) (h : Header) (slices : List (Slice Mb)) → s % 65536 ≡ t % 65536
     → packets_of number s h slices ≡ packets_of number t h slices
@@ -160,9 +163,9 @@ same_packets number s t h [] e = refl
 same_packets number s t h (slice ∷ slices) e =
     let next : (s + 1) % 65536 ≡ (t + 1) % 65536 = omega arith in
     ap (λ (p : List ℕ). p ∷ packets_of number (s + 1) h slices)
-        (same_packet number s t (is_last slices) h slice.first slice.mbs e)
+    (same_packet number s t (is_last slices) h slice.first slice.mbs e)
     ∙ ap (λ (l : List (List ℕ)). packet_of number t (is_last slices) h slice.first slice.mbs ∷ l)
-        (same_packets number (s + 1) (t + 1) h slices next)
+    (same_packets number (s + 1) (t + 1) h slices next)
 
 pub wraps : (number sequence : ℕ) (h : Header) (slices : List (Slice Mb))
     → packets_of number (sequence % 2 ^ 16) h slices ≡ packets_of number sequence h slices
@@ -176,7 +179,7 @@ pub packet_bits : ArePayloadsLong → (number sequence : ℕ) (marker : Bool) (h
 unfolding packet_of
 packet_bits many number sequence marker h first run =
     bits_of_bytes (packet_bytes h first run) (packet_text number sequence marker h first run)
-        (length-packet many number sequence marker h first run)
+    (length-packet many number sequence marker h first run)
 
 -- ---- each slice fits
 

@@ -42,10 +42,13 @@ take_past (m ∷ run) rest (suc n) le =
 pub longest_is : GreatestIs → (size : ℕ → List Mb → ℕ) (limit first : ℕ) (run rest : List Mb) → 0 < length run
     → size first run ≤ limit
     → ((more others : List Mb) → rest ≡ more ++ others → 0 < length more → limit < size first (run ++ more))
-        → longest_of size limit first (run ++ rest) ≡ length run
+    → longest_of size limit first (run ++ rest) ≡ length run
 longest_is found size limit first run rest some fits longest =
-    longest_some test (length (run ++ rest)) last ((found test (length (run ++ rest)) last).1 (here,
-        omega (arith, length-append run rest), above)) ∙ whole
+    longest_some test (length (run ++ rest)) last ((found test (length (run ++ rest)) last).1 (
+      here,
+      omega (arith, length-append run rest),
+      above,
+    )) ∙ whole
   where
     test : ℕ → Bool
     test n = nat_le (size first (take (n + 1) (run ++ rest))) limit
@@ -65,7 +68,7 @@ longest_is found size limit first run rest some fits longest =
     here : test (length run - 1) ≡ true
     here =
         let is : take (length run - 1 + 1) (run ++ rest) ≡ run = ap (λ (n : ℕ). take n (run ++ rest)) whole
-            ∙ take_at run rest (length run) refl in
+        ∙ take_at run rest (length run) refl in
         leb_true (size first (take (length run - 1 + 1) (run ++ rest))) (omega (arith, ap (size first) is))
 
     above : (k : ℕ) → length run - 1 < k → k < length (run ++ rest) → test k ≡ false
@@ -74,7 +77,7 @@ longest_is found size limit first run rest some fits longest =
         let is : take (k + 1) (run ++ rest) ≡ run ++ take n rest = take_past run rest (k + 1) (omega arith) in
         let few : n ≤ length rest = omega (arith, length-append run rest) in
         let past = longest (take n rest) (drop n rest) (sym (take-append-drop n rest))
-            (omega (arith, length-take-le n rest few)) in
+        (omega (arith, length-take-le n rest few)) in
         leb_false (size first (take (k + 1) (run ++ rest))) (omega (arith, past, ap (size first) is))
 
 -- ---- the slices are in a row
@@ -119,8 +122,11 @@ place_below first end [] k row low high = absurd (omega arith)
 place_below first end (slice ∷ slices) k row low high =
     elim (cases_lt k (slice.first + length slice.mbs)) [
       | inl here ↦ omega (arith, place_head slice slices k here)
-      | inr after ↦ omega (arith, place_tail slice slices k after,
-          place_below (first + length slice.mbs) end slices k row.2 (omega (arith, row.0, after)) high)
+      | inr after ↦ omega (
+        arith,
+        place_tail slice slices k after,
+        place_below (first + length slice.mbs) end slices k row.2 (omega (arith, row.0, after)) high,
+      )
     ]
 
 pub slice_inside : (first end : ℕ) (slices : List (Slice Mb)) (j : ℕ) (slice : Slice Mb) → AreInRow first end slices
@@ -187,10 +193,10 @@ one_has first end (head ∷ slices) (suc j) k slice row low e =
       | inl here ↦
           let inside = slice_inside (first + length head.mbs) end slices j slice row.2 e in
           not_before slice k (omega (arith, row.0, inside.0)) ∙ no_is_zero j
-              ∙ sym (ap (λ (n : ℕ). suc j == n) (place_head head slices k here))
+          ∙ sym (ap (λ (n : ℕ). suc j == n) (place_head head slices k here))
       | inr after ↦
           one_has (first + length head.mbs) end slices j k slice row.2 (omega (arith, row.0, after)) e
-              ∙ both_suc j (place_in slices k) ∙ sym (ap (λ (n : ℕ). suc j == n) (place_tail head slices k after))
+          ∙ both_suc j (place_in slices k) ∙ sym (ap (λ (n : ℕ). suc j == n) (place_tail head slices k after))
     ]
 
 pub row_covers : (count : ℕ) (slices : List (Slice Mb)) → AreInRow 0 count slices → Covers count slices
@@ -215,20 +221,20 @@ in_row found (suc most) size limit first (m ∷ mbs) few =
     let long : length (take count (m ∷ mbs)) ≡ count = length-take-le count (m ∷ mbs) range.1 in
     let left : length (drop count (m ∷ mbs)) ≡ length (m ∷ mbs) - count = length-drop count (m ∷ mbs) in
     let after = in_row found most size limit (first + count) (drop count (m ∷ mbs)) (omega (arith, left, range.0)) in
-    let end : first + count + length (drop count (m ∷ mbs)) ≡ first + length (m ∷ mbs) = omega (arith, left, range.1) in
-        (
+    let end : first + count + length (drop count (m ∷ mbs)) ≡ first + length (m ∷ mbs) =
+    omega (arith, left, range.1) in (
       refl,
       omega (arith, long, range.0),
       subst (λ (n : ℕ). AreInRow (first + n) (first + length (m ∷ mbs)) (slices_from most size limit (first + count)
           (drop count (m ∷ mbs)))) (sym long)
           (subst (λ (n : ℕ). AreInRow (first + count) n (slices_from most size limit (first + count)
-              (drop count (m ∷ mbs)))) end after),
+          (drop count (m ∷ mbs)))) end after),
     )
 
 pub same_mbs : GreatestIs → (most : ℕ) (size : ℕ → List Mb → ℕ) (limit first : ℕ) (mbs : List Mb) (other : Mb) (j k : ℕ)
     (slice : Slice Mb) → length mbs ≤ most
     → slice_get (slices_from most size limit first mbs) j ≡ Some slice → has_mb slice k ≡ true
-        → mb_at other slice k ≡ get_or mbs (k - first) other
+    → mb_at other slice k ≡ get_or mbs (k - first) other
 unfolding slices_from
 same_mbs found zero size limit first mbs other j k slice few e has = absurd cc
 same_mbs found (suc most) size limit first [] other j k slice few e has = absurd cc
@@ -239,8 +245,12 @@ same_mbs found (suc most) size limit first (m ∷ mbs) other zero k slice few e 
     let same : head ≡ slice = cc in
     let there = has_parts head k (subst (λ (s : Slice Mb). has_mb s k ≡ true) (sym same) has) in
     subst (λ (s : Slice Mb). mb_at other s k ≡ get_or (m ∷ mbs) (k - first) other) same
-    (get_or-take count (m ∷ mbs) (k - first) other (omega (arith, there.0, there.1,
-        length-take-le count (m ∷ mbs) range.1)))
+    (get_or-take count (m ∷ mbs) (k - first) other (omega (
+      arith,
+      there.0,
+      there.1,
+      length-take-le count (m ∷ mbs) range.1,
+    )))
 same_mbs found (suc most) size limit first (m ∷ mbs) other (suc j) k slice few e has =
     let count = longest_of size limit first (m ∷ mbs) in
     let range = longest_in found size limit first (m ∷ mbs) (omega arith) in
@@ -248,7 +258,7 @@ same_mbs found (suc most) size limit first (m ∷ mbs) other (suc j) k slice few
     let fewer : length (drop count (m ∷ mbs)) ≤ most = omega (arith, left, range.0) in
     let row = in_row found most size limit (first + count) (drop count (m ∷ mbs)) fewer in
     let inside = slice_inside (first + count) (first + count + length (drop count (m ∷ mbs)))
-        (slices_from most size limit (first + count) (drop count (m ∷ mbs))) j slice row e in
+    (slices_from most size limit (first + count) (drop count (m ∷ mbs))) j slice row e in
     let there = has_parts slice k has in
     let place : count + (k - (first + count)) ≡ k - first = omega (arith, inside.0, there.0) in
     same_mbs found most size limit (first + count) (drop count (m ∷ mbs)) other j k slice fewer e has
@@ -259,7 +269,7 @@ pub divides : GreatestIs → (size : ℕ → List Mb → ℕ) (limit : ℕ) (ski
 divides found size limit skip mbs =
     let start : 0 + length mbs ≡ length mbs = omega arith in
     let row = subst (λ (n : ℕ). AreInRow 0 n (slices_from (length mbs) size limit 0 mbs)) start
-        (in_row found (length mbs) size limit 0 mbs (omega arith)) in
+    (in_row found (length mbs) size limit 0 mbs (omega arith)) in
     record {
       covers = row_covers (length mbs) (slices_from (length mbs) size limit 0 mbs) row;
       same = λ j k slice e has. let place : k - 0 ≡ k = omega arith in

@@ -30,18 +30,28 @@ same_payload h g false s = ap (λ (n : ℕ). 16 + 8 * ((n + to_byte n) / 8)) s.b
 
 same_opening : AreShort → (h g : Header) (begins : Bool) (first : ℕ) → HaveOneForm h g
     → length (opening_text h begins first) ≡ length (opening_text g begins first)
-same_opening laws h g true first s = omega (arith, laws.begins h first, laws.begins g first, s.bits,
-    ap address_bits s.format)
-same_opening laws h g false first s = omega (arith, laws.later h first, laws.later g first,
-    same_reference h.trp g.trp s.named, ap address_bits s.format)
+same_opening laws h g true first s = omega (
+  arith,
+  laws.begins h first,
+  laws.begins g first,
+  s.bits,
+  ap address_bits s.format,
+)
+same_opening laws h g false first s = omega (
+  arith,
+  laws.later h first,
+  laws.later g first,
+  same_reference h.trp g.trp s.named,
+  ap address_bits s.format,
+)
 
 same_text : (h g : Header) (first : ℕ) (run : List Mb) → HaveOneForm h g → mbs_text (around h first) h.quant [] run
     ≡ mbs_text (around g first) g.quant [] run
 same_text h g first run s =
     let text = λ (kind : Kind) (format : Format) (quant : ℕ). mbs_text
-        (around (record h { kind = kind; format = format }) first) quant [] run in
+    (around (record h { kind = kind; format = format }) first) quant [] run in
     ap (λ (k : Kind). text k h.format h.quant) s.kind ∙ ap (λ (f : Format). text g.kind f h.quant) s.format
-        ∙ ap (λ (q : ℕ). text g.kind g.format q) s.quant
+    ∙ ap (λ (q : ℕ). text g.kind g.format q) s.quant
 
 pub same_packet : AreShort → (h g : Header) (first : ℕ) (run : List Mb) → HaveOneForm h g → packet_bytes h first run
     ≡ packet_bytes g first run
@@ -55,7 +65,7 @@ same_packet laws h g first run s =
       ap length (same_text h g first run s),
     ) in
     ap (λ (n : ℕ). 12 + n / 8 + bytes_of (slice_text h (begins_at first) first run))
-        (same_payload h g (begins_at first) s) ∙ ap (λ (n : ℕ). front_bytes g first + (n + to_byte n) / 8) mine
+    (same_payload h g (begins_at first) s) ∙ ap (λ (n : ℕ). front_bytes g first + (n + to_byte n) / 8) mine
 
 same_longest : AreShort → (h g : Header) (limit first : ℕ) (run rest : List Mb) → HaveOneForm h g
     → IsLongest h limit first run rest → IsLongest g limit first run rest
@@ -70,8 +80,12 @@ pub by_style : AreShort → (h g : Header) (limit first : ℕ) (mbs : List Mb) (
     → IsCut h limit first mbs runs → IsCut g limit first mbs runs
 unfolding IsCut
 by_style laws h g limit first mbs [] s a = a
-by_style laws h g limit first mbs (run ∷ runs) s a = (a.0, a.1, same_longest laws h g limit first run a.0 s a.2,
-    by_style laws h g limit (first + length run) a.0 runs s a.3)
+by_style laws h g limit first mbs (run ∷ runs) s a = (
+  a.0,
+  a.1,
+  same_longest laws h g limit first run a.0 s a.2,
+  by_style laws h g limit (first + length run) a.0 runs s a.3,
+)
 
 pub cut_by_style : AreShort → (h g : Header) (limit : ℕ) (mbs : List Mb) → HaveOneForm h g
     → cut_of h limit mbs ≡ cut_of g limit mbs

@@ -14,7 +14,7 @@ abbrev pub Goes : ℕ → ℕ → Header → ℕ → List Mb → ℕ → List (L
 Goes number sequence h limit mbs first packets =
     (others : List (List Mb)) (more : List (List ℕ)) → 0 < length others → IsCut h limit first (drop first mbs) others
     → ArePackets number (sequence + length packets) h first others more
-        → ArePacketsOf number sequence h limit mbs (packets ++ more)
+    → ArePacketsOf number sequence h limit mbs (packets ++ more)
 
 -- the packets have the macroblocks up to number `first`
 pub record IsUnderWay (number sequence : ℕ) (h : Header) (limit : ℕ) (mbs : List Mb) (first : ℕ)
@@ -46,7 +46,7 @@ pub record IsNext (number sequence : ℕ) (h : Header) (limit : ℕ) (mbs : List
 pub turned : (number sequence s : ℕ) (h : Header) (limit : ℕ) (mbs : List Mb) (first n : ℕ) (packets : List (List ℕ))
     (packet : List ℕ) → IsUnderWay number sequence h limit mbs first packets → first < length mbs
     → s % 65536 ≡ (sequence + length packets) % 65536 → IsNext number s h limit mbs first n packet
-        → IsUnderWay number sequence h limit mbs (first + n) (packets ++ packet ∷ [])
+    → IsUnderWay number sequence h limit mbs (first + n) (packets ++ packet ∷ [])
 unfolding IsCut ArePackets
 turned number sequence s h limit mbs first n packets packet u lt same next = record { goes = goes; ends = ends }
   where
@@ -72,19 +72,29 @@ turned number sequence s h limit mbs first n packets packet u lt same next = rec
         let none : drop (first + n) mbs ≡ [] = drop_all (first + n) mbs (omega (arith, e)) in
         let all : n ≡ length (drop first mbs) = omega (arith, e, length-drop first mbs) in
         let last = is true (eq-eqb n (length (drop first mbs)) all) in
-        u.goes lt (take n (drop first mbs) ∷ []) (packet ∷ []) (omega arith) (drop (first + n) mbs, parts, longest,
-            none) (packet, [], refl, last, refl)
+        u.goes lt (take n (drop first mbs) ∷ []) (packet ∷ []) (omega arith) (
+          drop (first + n) mbs,
+          parts,
+          longest,
+          none,
+        ) (packet, [], refl, last, refl)
 
     goes : first + n < length mbs → Goes number sequence h limit mbs (first + n) (packets ++ packet ∷ [])
     goes further others more some cut each =
         let part : (n == length (drop first mbs))
-            ≡ false = ne_eqb n (length (drop first mbs)) (λ e. omega (arith, e, further, length-drop first mbs)) in
+        ≡ false = ne_eqb n (length (drop first mbs)) (λ e. omega (arith, e, further, length-drop first mbs)) in
         let here = is (is_last others) (part ∙ sym (not_last others some)) in
         let cut_after = subst (λ (k : ℕ). IsCut h limit (first + k) (drop (first + n) mbs) others) (sym len) cut in
-        let next_sequence : sequence + length (packets ++ packet ∷ []) ≡ sequence + length packets + 1 = omega (arith,
-            length-append packets (packet ∷ [])) in
+        let next_sequence : sequence + length (packets ++ packet ∷ []) ≡ sequence + length packets + 1 = omega (
+          arith,
+          length-append packets (packet ∷ []),
+        ) in
         let each_after = subst (λ (k : ℕ). ArePackets number (sequence + length packets + 1) h (first + k) others more)
-            (sym len) (subst (λ (k : ℕ). ArePackets number k h (first + n) others more) next_sequence each) in
+        (sym len) (subst (λ (k : ℕ). ArePackets number k h (first + n) others more) next_sequence each) in
         subst (ArePacketsOf number sequence h limit mbs) (sym (append_assoc packets (packet ∷ []) more))
-        (u.goes lt (take n (drop first mbs) ∷ others) (packet ∷ more) (omega arith) (drop (first + n) mbs, parts,
-            longest, cut_after) (packet, more, refl, here, each_after))
+        (u.goes lt (take n (drop first mbs) ∷ others) (packet ∷ more) (omega arith) (
+          drop (first + n) mbs,
+          parts,
+          longest,
+          cut_after,
+        ) (packet, more, refl, here, each_after))

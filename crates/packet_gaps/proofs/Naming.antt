@@ -86,7 +86,7 @@ first_told m newest x (g ∷ gs) e =
     let s = same_some (sym (ap (λ (b : Bool). cond b (Some g) (find (may_ask m newest) gs)) t) ∙ e) in
     let n : g.number ≡ x.number = ap (λ (y : Gap). y.number) s in
     ap (λ (b : Bool). cond b (eqb g.number x.number || has_number x.number (filter (is_told m newest x.number) gs))
-        (has_number x.number (filter (is_told m newest x.number) gs)))
+    (has_number x.number (filter (is_told m newest x.number) gs)))
     (told_at m newest x.number g (omega (arith, n)) (omega (arith, n)) ∙ t)
     ∙ or_left (eqb g.number x.number) (has_number x.number (filter (is_told m newest x.number) gs))
     (eq-eqb g.number x.number n))

@@ -229,14 +229,14 @@ by_number came newest k picture gs s =
     (λ (h : newest < k).
     let t = lt-ltb newest k h in
     subst (λ (b : Bool). IsNewest (k ∷ came) (cond b k newest)
-        × AllByRecursion (λ g. Between (k ∷ came) (cond b k newest) g.number)
+    × AllByRecursion (λ g. Between (k ∷ came) (cond b k newest) g.number)
     (cond b (last_of 64 (gs ++ map (gap_of picture) (numbers_from (newest + 1) (k - newest - 1))))
     (filter (λ g. not (eqb g.number k)) gs))) (sym t)
     (newer came newest k s.0 h, ahead came newest k picture gs s.0 h s.1))
     (λ (h : k ≤ newest).
     let t = le-ltb newest k h in
     subst (λ (b : Bool). IsNewest (k ∷ came) (cond b k newest)
-        × AllByRecursion (λ g. Between (k ∷ came) (cond b k newest) g.number)
+    × AllByRecursion (λ g. Between (k ∷ came) (cond b k newest) g.number)
     (cond b (last_of 64 (gs ++ map (gap_of picture) (numbers_from (newest + 1) (k - newest - 1))))
     (filter (λ g. not (eqb g.number k)) gs))) (sym t)
     (same_newest came newest k s.0 h, behind came newest k gs s.1))

@@ -44,7 +44,7 @@ first_of places longest sequence (y ∷ ys) x e is =
       | inr elsewhere ↦
           let rest : find at ys ≡ Some x = sym (cond-false (at y) (Some y) (find at ys) elsewhere) ∙ e in
           cond-false (as_it y) (Some y) (find as_it ys) (not_as places longest sequence y elsewhere)
-              ∙ first_of places longest sequence ys x rest is
+          ∙ first_of places longest sequence ys x rest is
     ]
   where
     not_as : (places longest sequence : ℕ) (y : List ℕ) → may_stay_at places longest (sequence % places) y ≡ false
@@ -54,10 +54,10 @@ first_of places longest sequence (y ∷ ys) x e is =
           | inl kept ↦
               let other : (sequence_number_of y % places == sequence % places) ≡ false =
               sym (cond-true (may_stay longest y) (sequence_number_of y % places == sequence % places) false kept)
-                  ∙ e in
+              ∙ e in
               cond-true (may_stay longest y) (sequence_number_of y == sequence) false kept
               ∙ ne_eqb (sequence_number_of y) sequence (λ same. eqb_apart (sequence_number_of y % places)
-                  (sequence % places) other (ap (λ (n : ℕ). n % places) same))
+              (sequence % places) other (ap (λ (n : ℕ). n % places) same))
           | inr not ↦ cond-false (may_stay longest y) (sequence_number_of y == sequence) false not
         ]
 
@@ -104,7 +104,7 @@ still_last : (count places longest : ℕ) (newer older : List (List ℕ)) (x : L
 still_last count places longest [] older x are small kept next few =
     let at = may_stay_at places longest (sequence_number_of x % places) in
     let yes_it : at x ≡ true = cond-true (may_stay longest x) (sequence_number_of x % places ==
-        sequence_number_of x % places) false kept
+    sequence_number_of x % places) false kept
     ∙ eq-eqb (sequence_number_of x % places) (sequence_number_of x % places) refl in
     cond-true (at x) (Some x) (find at older) yes_it
 still_last count places longest (y ∷ ys) older x are small kept next few =
@@ -114,13 +114,13 @@ still_last count places longest (y ∷ ys) older x are small kept next few =
     let below : k < places = omega (arith, few, are.enough) in
     let number : sequence_number_of y % places ≡ (s + k) % places =
     ap (λ (n : ℕ). n % places) (next.0 ∙ ap (λ (n : ℕ). n % 65536) (plus_one s (length ys)))
-        ∙ remainder_kept count places (s + k) are small in
+    ∙ remainder_kept count places (s + k) are small in
     let other : sequence_number_of y % places ≡ s % places
-        → ⊥ = λ same. other_remainder s k places (omega arith) below (sym number ∙ same) in
+    → ⊥ = λ same. other_remainder s k places (omega arith) below (sym number ∙ same) in
     let not_it : at y ≡ false = not_at longest (sequence_number_of y % places) (s % places) y other in
     let lower : length ys < count = omega (arith, few) in
     cond-false (at y) (Some y) (find at (ys ++ x ∷ older)) not_it
-        ∙ still_last count places longest ys older x are small kept next.1 lower
+    ∙ still_last count places longest ys older x are small kept next.1 lower
   where
     plus_one : (a b : ℕ) → a + b + 1 ≡ a + (b + 1)
     plus_one a b = omega arith
@@ -136,7 +136,7 @@ pub kept : StillKept
 kept count places longest newer older x are small is next few =
     ap (if_numbered (sequence_number_of x)) (still_last count places longest newer older x are small is next few)
     ∙ cond-true (sequence_number_of x == sequence_number_of x) (Some x) None
-        (eq-eqb (sequence_number_of x) (sequence_number_of x) refl)
+    (eq-eqb (sequence_number_of x) (sequence_number_of x) refl)
 
 pub bounded : Bounded
 bounded count places are small = few_places count places are small

@@ -52,7 +52,7 @@ place_told places longest remainder sequence sent packet is =
     let o = last_at places longest remainder sent in
     told sequence o
     (λ x e. kept_long longest x
-        (kept_at places longest remainder x (find_passes (may_stay_at places longest remainder) sent x e)))
+    (kept_at places longest remainder x (find_passes (may_stay_at places longest remainder) sent x e)))
     ∙ ap (λ (b : List ℕ). cond (numbered sequence b) (Some b) None) (sym is)
 
 -- ---- one more
@@ -84,7 +84,7 @@ bytes_other items i j v other =
 pub put_each : (items : List (Vec ℕ Global)) (places longest place : ℕ) (packet : List ℕ) (sent : List (List ℕ))
     (v : Vec ℕ Global)
     → length items ≡ places → place < places → place ≡ sequence_number_of packet % places → may_stay longest packet
-        ≡ true → v.items ≡ packet
+    ≡ true → v.items ≡ packet
     → ((i : ℕ) → i < places → bytes_of items i ≡ bytes_or_none (last_at places longest i sent))
     → (i : ℕ) → i < places → bytes_of (set items place v) i ≡ bytes_or_none (last_at places longest i (packet ∷ sent))
 put_each items places longest place packet sent v count low is kept bytes each i lt =
@@ -93,13 +93,13 @@ put_each items places longest place packet sent v count low is kept bytes each i
       | inl same ↦
           let at : may_stay_at places longest i packet ≡ true =
           cond-true (may_stay longest packet) (sequence_number_of packet % places == i) false kept
-              ∙ eq-eqb (sequence_number_of packet % places) i (sym is ∙ sym same) in
+          ∙ eq-eqb (sequence_number_of packet % places) i (sym is ∙ sym same) in
           ap (bytes_of (set items place v)) same ∙ bytes_here items place v (omega (arith, count)) ∙ bytes
           ∙ sym (ap bytes_or_none (cond-true (may_stay_at places longest i packet) (Some packet) rest at))
       | inr other ↦
           let at : may_stay_at places longest i packet ≡ false =
           cond-true (may_stay longest packet) (sequence_number_of packet % places == i) false kept
-              ∙ ne_eqb (sequence_number_of packet % places) i (λ e. other (sym e ∙ sym is)) in
+          ∙ ne_eqb (sequence_number_of packet % places) i (λ e. other (sym e ∙ sym is)) in
           bytes_other items place i v other ∙ each i lt
           ∙ sym (ap bytes_or_none (cond-false (may_stay_at places longest i packet) (Some packet) rest at))
     ]
@@ -108,7 +108,7 @@ pub kept_is : (longest : ℕ) (packet : List ℕ) → 12 ≤ length packet → l
     ≡ true
 kept_is longest packet long short =
     cond-true (nat_le 12 (length packet)) (nat_le (length packet) longest) false (le-leb 12 (length packet) long)
-        ∙ le-leb (length packet) longest short
+    ∙ le-leb (length packet) longest short
 
 -- ---- the start
 

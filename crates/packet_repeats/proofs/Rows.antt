@@ -65,4 +65,4 @@ remainder_kept count places n are small =
     let as_power : n % 65536 ≡ n % 2 ^ ((16 - k) + k) = ap (λ (j : ℕ). n % 2 ^ j) all in
     ap (λ (m : ℕ). n % 65536 % m) is ∙ ap (λ (m : ℕ). m % 2 ^ k) (as_power ∙ mod-pow-add n (16 - k) k)
     ∙ mul-add-mod_self_right (n / 2 ^ k % 2 ^ (16 - k)) (2 ^ k) (n % 2 ^ k) ∙ mod-mod n (2 ^ k)
-        ∙ ap (λ (m : ℕ). n % m) (sym is)
+    ∙ ap (λ (m : ℕ). n % m) (sym is)

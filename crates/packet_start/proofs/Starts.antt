@@ -31,10 +31,10 @@ pub starts_as_read : (format : Format) (bytes : List ℕ) (s : Slice) → packet
 unfolding packet_at slice_after start_at
 starts_as_read format bytes s e =
     let one = bind_ok (rtp_in bytes) (λ r. payload_at format (payload_bits_of bytes r) >>= λ p. slice_after format p
-        (data_of bytes r p)) s e in
+    (data_of bytes r p)) s e in
     let r = one.0 in
     let two = bind_ok (payload_at format (payload_bits_of bytes r)) (λ p. slice_after format p (data_of bytes r p)) s
-        one.2 in
+    one.2 in
     let p = two.0 in
     let three = bind_ok (headed_at format p.extra (data_of bytes r p)) _ s two.2 in
     rw (one.1, two.1, three.1) (ap ok (sym (with_ok three.0.0 _ s three.2)))
@@ -58,10 +58,10 @@ started : (format : Format) (bytes : List ℕ) (h : Header) → start_at format 
 unfolding start_at
 started format bytes h e =
     let one = bind_ok (rtp_in bytes) (λ r. payload_at format (payload_bits_of bytes r) >>=
-        λ p. alone (headed_at format p.extra (data_of bytes r p))) h e in
+    λ p. alone (headed_at format p.extra (data_of bytes r p))) h e in
     let r = one.0 in
     let two = bind_ok (payload_at format (payload_bits_of bytes r))
-        (λ p. alone (headed_at format p.extra (data_of bytes r p))) h one.2 in
+    (λ p. alone (headed_at format p.extra (data_of bytes r p))) h one.2 in
     let p = two.0 in
     let three = alone_ok (headed_at format p.extra (data_of bytes r p)) h two.2 in
     record { rtp = r; payload = p; left = three.0; is_rtp = one.1; is_payload = two.1; headed = three.1 }
@@ -89,11 +89,11 @@ start_is_of_format texts format bytes h e =
     let s = started format bytes h e in
     let t = texts format s.payload (payload_bits_of bytes s.rtp) s.is_payload in
     headed_format format t.opening.plen t.opening.pebit s.payload.extra t.middle (data_of bytes s.rtp s.payload) s.left
-        h t.extra s.headed
+    h t.extra s.headed
 
 pub in_format : ((format : Format) (bytes : List ℕ) (h : Header) → start_at format bytes ≡ Ok h → h.format ≡ format)
     → (r : Result Header Fault) (format : Format) (bytes : List ℕ) → r ≡ start_at format bytes
-        → IfOk r (λ h. h.format ≡ format)
+    → IfOk r (λ h. h.format ≡ format)
 in_format formats (Ok h) format bytes is = formats format bytes h (sym is)
 in_format formats (Err fault) format bytes is = tt
 
@@ -109,7 +109,7 @@ part_read s allowed next b y e =
 
 field_read : {A : Type 0} (n : ℕ) (allowed : Allowed ℕ) (next : ℕ → Syntax A) (b : Bits) (y : A × Bits)
     → reading (field n allowed next) b ≡ Ok y → (x : ℕ × Bits) × (field_at n allowed b ≡ Ok x)
-        × (reading (next x.0) x.1 ≡ Ok y)
+    × (reading (next x.0) x.1 ≡ Ok y)
 unfolding reading
 field_read n allowed next b y e = bind_ok (field_at n allowed b) (λ x. reading (next x.0) x.1) y e
 
@@ -127,7 +127,7 @@ code_is format n e = at (n == format_code format) (nat_lt 0 n) (nat_lt n 4) refl
   where
     at : (t low high : Bool) → (n == format_code format) ≡ t
         → cond t None (cond low (cond high (Some faults.OtherFormat) (Some faults.SourceFormat))
-            (Some faults.SourceFormat)) ≡ None → n ≡ format_code format
+        (Some faults.SourceFormat)) ≡ None → n ≡ format_code format
     at true low high is e = eqb-true n (format_code format) is
     at false true true is e = absurd cc
     at false true false is e = absurd cc
@@ -193,7 +193,7 @@ one_extra a b plen pebit c m n p q = at (plen == 0) (nat_lt (length c.bits) (8 *
     at : (none short : Bool)
         → cond none (ok None) (cond short (fault_at faults.Ended c.at) (filled (reading (header a) w))) ≡ Ok m
         → cond none (ok None) (cond short (fault_at faults.Ended c.at) (filled (reading (header b) w))) ≡ Ok n
-            → (a ≡ b) ⊎ ((m ≡ None) × (n ≡ None))
+        → (a ≡ b) ⊎ ((m ≡ None) × (n ≡ None))
     at true short p q = inr (sym (ok_is None m p), sym (ok_is None n q))
     at false true p q = absurd cc
     at false false p q =
@@ -225,16 +225,16 @@ one_payload : (a b : Format) (c : Bits) (p q : Payload) → payload_at a c ≡ O
 unfolding payload_at begun_at
 one_payload a b c p q e f =
     let u = bind_ok (reading leading c) (λ x. extra_at a x.0.plen x.0.pebit x.1 >>=
-        λ extra. begun_at extra (skip (8 * x.0.plen) x.1)) p e in
+    λ extra. begun_at extra (skip (8 * x.0.plen) x.1)) p e in
     let v = bind_ok (reading leading c) (λ x. extra_at b x.0.plen x.0.pebit x.1 >>=
-        λ extra. begun_at extra (skip (8 * x.0.plen) x.1)) q f in
+    λ extra. begun_at extra (skip (8 * x.0.plen) x.1)) q f in
     let o = u.0 in
     let same = ok_is u.0 v.0 (sym u.1 ∙ v.1) in
     let left = skip (8 * o.0.plen) o.1 in
     let s = bind_ok (extra_at a o.0.plen o.0.pebit o.1) (λ extra. begun_at extra left) p u.2 in
     let t = bind_ok (extra_at b o.0.plen o.0.pebit o.1) (λ extra. begun_at extra left) q
     (subst (λ (x : _). (extra_at b x.0.plen x.0.pebit x.1 >>= λ extra. begun_at extra (skip (8 * x.0.plen) x.1))
-        ≡ Ok q) (sym same) v.2) in
+    ≡ Ok q) (sym same) v.2) in
     at s.0 t.0 left s.2 t.2 (one_extra a b o.0.plen o.0.pebit o.1 s.0 t.0 s.1 t.1)
   where
     at : (m n : Option Header) (left : Bits) → begun_at m left ≡ Ok p → begun_at n left ≡ Ok q

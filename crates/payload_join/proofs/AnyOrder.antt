@@ -106,13 +106,13 @@ state_is : (low : ℕ) (s : Joined) (z : List ℕ) (p : Packet) (x : ℕ) → Is
     ≡ with_packet s x p
 state_is low s z p x n =
     ap (held_after s) n.read ∙ ap (held_after_as s p) (held_is low s z p x n)
-        ∙ ap (λ (k : ℕ). with_packet s k p) n.number
+    ∙ ap (λ (k : ℕ). with_packet s k p) n.number
 
 given_is : (format : Format) (low : ℕ) (s : Joined) (z : List ℕ) (p : Packet) (x : ℕ) → IsNext low s z p x
     → given format s (packet_in z) ≡ made format s.held (with_packet s x p)
 given_is format low s z p x n =
     ap (given format s) n.read ∙ ap (given_as format s p) (held_is low s z p x n)
-        ∙ ap (λ (k : ℕ). made format s.held (with_packet s k p)) n.number
+    ∙ ap (λ (k : ℕ). made format s.held (with_packet s k p)) n.number
 
 -- the greatest number then
 record IsTop (low : ℕ) (o : Option ℕ) (x top : ℕ) : Type 0 where
@@ -123,12 +123,21 @@ record IsTop (low : ℕ) (o : Option ℕ) (x top : ℕ) : Type 0 where
 
 top_is : (low : ℕ) (o : Option ℕ) (x : ℕ) → ((t : ℕ) → o ≡ Some t → (low ≤ t) × (t < low + 64)) → low ≤ x → x < low + 64
     → IsTop low o x (top_with o x)
-top_is low None x tops from below = record { from = from; below = below; over = omega arith;
-    past = λ t e. absurd (no_some t e) }
+top_is low None x tops from below = record {
+  from = from;
+  below = below;
+  over = omega arith;
+  past = λ t e. absurd (no_some t e);
+}
 top_is low (Some top) x tops from below =
     let b = tops top refl in
-    record { from = omega (arith, b.0); below = omega (arith, b.1); over = omega arith; past = λ t e. let same : top
-        ≡ t = some_same top t e in omega (arith, same) }
+    record {
+      from = omega (arith, b.0);
+      below = omega (arith, b.1);
+      over = omega arith;
+      past = λ t e. let same : top
+          ≡ t = some_same top t e in omega (arith, same);
+    }
 
 -- what is held then: the packet, and what was held
 found_at : (low : ℕ) (zs : List (List ℕ)) (s : Joined) (z : List ℕ) (p : Packet) (x m : ℕ) → IsRunOf low zs s
@@ -147,8 +156,11 @@ found_sub low s p x m q e = at (x == m) refl (kept_sub (top_with s.top x) m (one
   where
     at : (t : Bool) → (x == m) ≡ t → cond (x == m) (Some p) (packet_at s.held m) ≡ Some q
         → ((x ≡ m) × (p ≡ q)) ⊎ (packet_at s.held m ≡ Some q)
-    at true is f = inl (eqb-true x m is, some_same p q (subst (λ (t : Bool). cond t (Some p) (packet_at s.held m)
-        ≡ Some q) is f))
+    at true is f = inl (
+      eqb-true x m is,
+      some_same p q (subst (λ (t : Bool). cond t (Some p) (packet_at s.held m)
+          ≡ Some q) is f),
+    )
     at false is f = inr (subst (λ (t : Bool). cond t (Some p) (packet_at s.held m) ≡ Some q) is f)
 
 apart : (s : Joined) (x m : ℕ) (q : Packet) → packet_at s.held x ≡ None → packet_at s.held m ≡ Some q → (x == m) ≡ false
@@ -174,18 +186,30 @@ next_run low zs s z p x run n =
       tops = λ k e. let same : top_with s.top x ≡ k = some_same (top_with s.top x) k e in
           (omega (arith, t.from, same), omega (arith, t.below, same));
       empty = λ e. absurd (no_some (top_with s.top x) (sym e));
-      from = λ m q e. elim (found_sub low s p x m q e) [ inl here ↦ omega (arith, here.0, n.from)
-          | inr old ↦ run.from m q old ];
+      from = λ m q e. elim (found_sub low s p x m q e) [
+        | inl here ↦ omega (arith, here.0, n.from)
+        | inr old ↦ run.from m q old
+      ];
       upto = λ m k q e f.
           let same : top_with s.top x ≡ k = some_same (top_with s.top x) k f in
-          elim (found_sub low s p x m q e) [ inl here ↦ omega (arith, here.0, t.over, same)
-              | inr old ↦ omega (arith, same, below_top m q old (top_with s.top x) t) ];
+          elim (found_sub low s p x m q e) [
+            | inl here ↦ omega (arith, here.0, t.over, same)
+            | inr old ↦ omega (arith, same, below_top m q old (top_with s.top x) t)
+          ];
       inside = λ m q e.
           elim (found_sub low s p x m q e) [
-            | inl here ↦ record { bytes = z; listed = inl refl; read = n.read ∙ ap (λ (r : Packet). Ok r) here.1;
-                number = ap (λ (r : Packet). near low r.sequence) (sym here.1) ∙ n.is ∙ here.0 }
-            | inr old ↦ let f = run.inside m q old in record { bytes = f.bytes; listed = inr f.listed; read = f.read;
-                number = f.number }
+            | inl here ↦ record {
+              bytes = z;
+              listed = inl refl;
+              read = n.read ∙ ap (λ (r : Packet). Ok r) here.1;
+              number = ap (λ (r : Packet). near low r.sequence) (sym here.1) ∙ n.is ∙ here.0;
+            }
+            | inr old ↦ let f = run.inside m q old in record {
+              bytes = f.bytes;
+              listed = inr f.listed;
+              read = f.read;
+              number = f.number;
+            }
           ];
       there = λ b q listed read. listed_at b q listed read;
     }
@@ -203,7 +227,7 @@ next_run low zs s z p x run n =
         let e : p ≡ q = read_same p q (packet_in b) (ap packet_in (sym same) ∙ n.read) read in
         let at : near low q.sequence ≡ x = ap (λ (r : Packet). near low r.sequence) (sym e) ∙ n.is in
         ap (packet_at (with_packet s x p).held) at ∙ found_at low zs s z p x x run n n.from
-            ∙ (rw (eq-eqb x x refl) (ap (λ (r : Packet). Some r) e))
+        ∙ (rw (eq-eqb x x refl) (ap (λ (r : Packet). Some r) e))
     listed_at b q (inr old) read =
         let e = run.there b q old read in
         next_grows low zs s z p x run n (near low q.sequence) q e
@@ -234,9 +258,11 @@ record Ran (format : Format) (low : ℕ) (zs : List (List ℕ)) : Type 0 where
 nothing_ran : (format : Format) (low : ℕ) → Ran format low []
 unfolding joined_by join_run packet_at
 nothing_ran format low =
-    record { run = nothing_run low;
-        out = subst (λ (t : List (List ℕ)). IsPermutation [] t)
-        (sym (empty_from format nothing nothing (low - 63) 127 (λ j lt. refl))) (IsPermutation-refl []) }
+    record {
+      run = nothing_run low;
+      out = subst (λ (t : List (List ℕ)). IsPermutation [] t)
+          (sym (empty_from format nothing nothing (low - 63) 127 (λ j lt. refl))) (IsPermutation-refl []);
+    }
 
 one_step : (format : Format) (low : ℕ) (zs : List (List ℕ)) (z : List ℕ) (p : Packet) (x : ℕ) → 63 ≤ low
     → Ran format low zs → IsNext low (joined_by zs) z p x → Ran format low (z ∷ zs)
@@ -253,21 +279,21 @@ one_step format low zs z p x some ran n =
     (λ m lt. none_of (now m) (λ q f. absurd (omega (arith, run.upto m (top_with s.top x) q f refl))))
     in
     let given_so : given format s (packet_in z) ≡ made_from format (packet_at s.held) now (low - 63) 127 =
-        given_is format low s z p x n ∙ window in
+    given_is format low s z p x n ∙ window in
     let before = made_from format nothing (packet_at s.held) (low - 63) 127 in
     let made_now = made_from format (packet_at s.held) now (low - 63) 127 in
     let all : IsPermutation (join_run format zs ++ made_now) (made_from format nothing now (low - 63) 127) =
     IsPermutation-trans _ (before ++ made_now) _ (IsPermutation-append_left made_now (join_run format zs) before
-        ran.out)
+    ran.out)
     (IsPermutation-sym _ _ (more_out format (packet_at s.held) now (low - 63) 127
-        (next_grows low zs s z p x ran.run n)))
+    (next_grows low zs s z p x ran.run n)))
     in
     record {
       run = subst (IsRunOf low (z ∷ zs)) (sym e) run;
       out = subst (λ (u : Joined). IsPermutation (join_run format zs ++ given format s (packet_in z))
           (made_from format nothing (packet_at u.held) (low - 63) 127)) (sym e)
           (subst (λ (g : List (List ℕ)). IsPermutation (join_run format zs
-              ++ g) (made_from format nothing now (low - 63) 127)) (sym given_so) all);
+          ++ g) (made_from format nothing now (low - 63) 127)) (sym given_so) all);
     }
 
 near_low : (low x : ℕ) → low ≤ x → x < low + 64 → near low (x % 65536) ≡ x
@@ -295,11 +321,11 @@ first_next low z a e =
 later_next : (low : ℕ) (zs : List (List ℕ)) (s : Joined) (t : ℕ) (z : List ℕ) → IsRunOf low zs s → s.top ≡ Some t
     → 65536 ≤ low + 63 → (a : IsAmong low z)
     → ((b : List ℕ) → IsIn b zs → IsAmong low b) → ((b : List ℕ) → IsIn b zs → sequence_of b ≡ sequence_of z → ⊥)
-        → IsNext low s z a.packet (low + a.place)
+    → IsNext low s z a.packet (low + a.place)
 later_next low zs s t z run top high a among differ =
     let b = run.tops t top in
     let is : near low a.packet.sequence ≡ low + a.place = ap (near low) a.sequence
-        ∙ near_low low (low + a.place) (omega arith) (omega (arith, a.few)) in
+    ∙ near_low low (low + a.place) (omega arith) (omega (arith, a.few)) in
     record {
       read = a.read;
       is = is;
@@ -318,8 +344,8 @@ later_next low zs s t z run top high a among differ =
     twice : (q : Packet) → IsFrom low zs (low + a.place) q → near low a.packet.sequence ≡ low + a.place → ⊥
     twice q f is =
         let same : q.sequence ≡ a.packet.sequence = near_same low q.sequence a.packet.sequence
-            (low_sequence f.bytes q (among f.bytes f.listed) f.read) (low_sequence z a.packet a a.read) (f.number
-            ∙ sym is) in
+        (low_sequence f.bytes q (among f.bytes f.listed) f.read) (low_sequence z a.packet a a.read) (f.number
+        ∙ sym is) in
         differ f.bytes f.listed (ap sequence_in f.read ∙ same ∙ sym (ap sequence_in a.read))
 
 -- ---- any order
@@ -354,20 +380,26 @@ record RanUp (format : Format) (low : ℕ) (zs : List (List ℕ)) : Type 0 where
 all_ran : (format : Format) (low : ℕ) (xs : List (List ℕ)) (first : List ℕ) (a : IsAmong low first)
     → a.packet.sequence + 65536 ≡ low + a.place → 65536 ≤ low + 63
     → ((b : List ℕ) → IsIn b (xs ++ first ∷ []) → IsAmong low b)
-        → IsDistinct nat_eq (map sequence_of (xs ++ first ∷ [])) → RanUp format low (xs ++ first ∷ [])
+    → IsDistinct nat_eq (map sequence_of (xs ++ first ∷ [])) → RanUp format low (xs ++ first ∷ [])
 unfolding joined_by
 all_ran format low [] first a e high among distinct =
     let n = first_next low first a e in
-    record { ran = one_step format low [] first a.packet (low + a.place) (omega arith) (nothing_ran format low) n;
-        top = _; top_is = step_top low [] first a.packet (low + a.place) n }
+    record {
+      ran = one_step format low [] first a.packet (low + a.place) (omega arith) (nothing_ran format low) n;
+      top = _;
+      top_is = step_top low [] first a.packet (low + a.place) n;
+    }
 all_ran format low (z ∷ xs) first a e high among distinct =
     let zs = xs ++ first ∷ [] in
     let rest = all_ran format low xs first a e high (λ b l. among b (inr l)) (distinct_rest z zs distinct) in
     let m = among z (inl refl) in
     let n = later_next low zs (joined_by zs) rest.top z rest.ran.run rest.top_is high m (λ b l. among b (inr l))
-        (distinct_here z zs distinct) in
-    record { ran = one_step format low zs z m.packet (low + m.place) (omega arith) rest.ran n; top = _;
-        top_is = step_top low zs z m.packet (low + m.place) n }
+    (distinct_here z zs distinct) in
+    record {
+      ran = one_step format low zs z m.packet (low + m.place) (omega arith) rest.ran n;
+      top = _;
+      top_is = step_top low zs z m.packet (low + m.place) n;
+    }
 
 all_in : {X : Type 0} (P : X → Type 0) (xs : List X) (b : X) → All P xs → IsIn b xs → P b
 all_in P [] b all listed = absurd listed
@@ -383,7 +415,7 @@ each_listed (y ∷ ys) (suc k) d lt = inr (each_listed ys k d (omega arith))
 in_moved : (xs ys : List (List ℕ)) (b : List ℕ) → IsPermutation xs ys → IsIn b xs → IsIn b ys
 in_moved xs ys b moves listed =
     all_in (λ (x : List ℕ). IsIn x ys) xs b (All-permutation (λ (x : List ℕ). IsIn x ys) ys xs
-        (IsPermutation-sym xs ys moves) (λ k d lt. each_listed ys k d lt)) listed
+    (IsPermutation-sym xs ys moves) (λ k d lt. each_listed ys k d lt)) listed
 
 -- the same packets are found by the same numbers
 found_again : (low : ℕ) (zs ws : List (List ℕ)) (s u : Joined) → IsRunOf low zs s → IsRunOf low ws u
@@ -403,8 +435,13 @@ again : (low new place : ℕ) → new % 65536 ≡ low % 65536 → (low + place) 
 again low new place same = omega arith
 
 counted : (low new : ℕ) (b : List ℕ) → new % 65536 ≡ low % 65536 → IsAmong low b → IsAmong new b
-counted low new b same a = record { packet = a.packet; read = a.read; place = a.place; few = a.few;
-    sequence = a.sequence ∙ again low new a.place same }
+counted low new b same a = record {
+  packet = a.packet;
+  read = a.read;
+  place = a.place;
+  few = a.few;
+  sequence = a.sequence ∙ again low new a.place same;
+}
 
 congruent : (sequence place low : ℕ) → place < 64 → sequence ≡ (low + place) % 65536
     → (sequence + 65536 - place) % 65536 ≡ low % 65536
@@ -432,24 +469,29 @@ any_order format low first xs ys all distinct moves =
     let new : ℕ = a.packet.sequence + 65536 - a.place in
     let c : new % 65536 ≡ low % 65536 = congruent a.packet.sequence a.place low a.few a.sequence in
     let among : (b : List ℕ) → IsIn b zs
-        → IsAmong new b = λ b l. counted low new b c (all_in (IsAmong low) zs b all l) in
-    let first_among : IsAmong new first = record { packet = a.packet; read = a.read; place = a.place; few = a.few;
-        sequence = a.sequence ∙ again low new a.place c } in
+    → IsAmong new b = λ b l. counted low new b c (all_in (IsAmong low) zs b all l) in
+    let first_among : IsAmong new first = record {
+      packet = a.packet;
+      read = a.read;
+      place = a.place;
+      few = a.few;
+      sequence = a.sequence ∙ again low new a.place c;
+    } in
     let number : first_among.packet.sequence + 65536 ≡ new + first_among.place = omega (arith, a.few) in
     let high : 65536 ≤ new + 63 = omega (arith, a.few) in
     let r = all_ran format new xs first first_among number high among distinct in
     let q = all_ran format new ys first first_among number high
-        (λ b l. among b (in_moved ws zs b (IsPermutation-sym zs ws same) l))
+    (λ b l. among b (in_moved ws zs b (IsPermutation-sym zs ws same) l))
     (IsDistinct-IsPermutation nat_eq eqb_flips (map sequence_of zs) (map sequence_of ws)
-        (IsPermutation-map sequence_of zs ws same) distinct) in
+    (IsPermutation-map sequence_of zs ws same) distinct) in
     let held : packet_at (joined_by zs).held ≡ packet_at (joined_by ws).held =
     λ i n. option_same (packet_at (joined_by zs).held n) (packet_at (joined_by ws).held n)
     (found_again new zs ws (joined_by zs) (joined_by ws) r.ran.run q.ran.run (λ b. in_moved zs ws b same) n)
     (found_again new ws zs (joined_by ws) (joined_by zs) q.ran.run r.ran.run
-        (λ b. in_moved ws zs b (IsPermutation-sym zs ws same)) n) i
+    (λ b. in_moved ws zs b (IsPermutation-sym zs ws same)) n) i
     in
     IsPermutation-trans (join_run format zs) (made_from format nothing (packet_at (joined_by ws).held) (new - 63) 127)
-        (join_run format ws)
+    (join_run format ws)
     (subst (λ (at : At). IsPermutation (join_run format zs) (made_from format nothing at (new - 63) 127)) held
-        r.ran.out)
+    r.ran.out)
     (IsPermutation-sym (join_run format ws) _ q.ran.out)

@@ -27,9 +27,9 @@ pub between_after : (room front : List ℕ) (p from to : ℕ) → p + length fro
 between_after room front p from to order end =
     let l : length (take p room) ≡ p = length-take-le p room (omega arith) in
     let m : length (take p room ++ front) ≡ p + length front = length-append (take p room) front
-        ∙ ap (λ (k : ℕ). k + length front) l in
+    ∙ ap (λ (k : ℕ). k + length front) l in
     ap (λ (r : List ℕ). take (to - from) (drop from r))
-        (sym (append_assoc (take p room) front (drop (p + length front) room)))
+    (sym (append_assoc (take p room) front (drop (p + length front) room)))
     ∙ ap (take (to - from)) (drop-append-drop (p + length front) room (take p room ++ front) from order m)
 
 pub between_take : (room : List ℕ) (at to n : ℕ) → at + n ≤ to → take n (bytes_between room at to)
@@ -54,13 +54,13 @@ between_grown room ws from at order end =
     let rest : List ℕ = ws ++ drop (at + length ws) room in
     let front : drop from (take at room) ≡ bytes_between room from at =
     (let e : at ≡ from + (at - from) = omega arith in ap (λ (k : ℕ). drop from (take k room)) e)
-        ∙ drop-take from (at - from) room in
+    ∙ drop-take from (at - from) room in
     let d : length (drop from room) ≡ length room - from = length-drop from room in
     let many : length (bytes_between room from at) ≡ at - from = length-take-le (at - from) (drop from room)
-        (omega arith) in
+    (omega arith) in
     let e : at + length ws - from ≡ length (bytes_between room from at) + length ws = omega arith in
     ap (take (at + length ws - from)) (drop-append-le from (take at room) rest (omega arith)
-        ∙ ap (λ (x : List ℕ). x ++ rest) front)
+    ∙ ap (λ (x : List ℕ). x ++ rest) front)
     ∙ ap (λ (k : ℕ). take k (bytes_between room from at ++ rest)) e
     ∙ take_over (bytes_between room from at) rest (length ws)
     ∙ ap (λ (x : List ℕ). bytes_between room from at ++ x) (take_at ws (drop (at + length ws) room) (length ws) refl)

@@ -18,8 +18,10 @@ event_left : (levels : List ℤ) (p : Placed) → 6 ≤ turn_to 6 (λ _. 6) (aft
 event_left levels p = at p.last
   where
     at : (t : Bool) → 6 ≤ turn_to {S = Events} {A = List ℤ} 6 (λ _. 6)
-        (cond t (finally (slice_set levels p.place p.level)) (again (record { place = p.place + 1;
-        levels = slice_set levels p.place p.level })))
+        (cond t (finally (slice_set levels p.place p.level)) (again (record {
+          place = p.place + 1;
+          levels = slice_set levels p.place p.level;
+        })))
     at true = omega arith
     at false = omega arith
 
@@ -47,7 +49,7 @@ unfolding intra_block
 intra_block_keeps coded =
     keeps_part intra_dc any _ 6 (λ _. 6) (λ _. 6) intra_dc_keeps (λ levels.
     keeps_either coded (events 1 levels) (done levels) 6 (λ _. 6) (events_keep 1 levels)
-        (keeps_done levels 6 (λ _. 6) (omega arith)))
+    (keeps_done levels 6 (λ _. 6) (omega arith)))
 
 pub inter_block_keeps : Keeps inter_block 6 (λ _. 6)
 unfolding inter_block

@@ -91,7 +91,7 @@ whole_bytes coded n text rest e len whole =
 byte_parts : (b r t : ℕ) → r + t ≡ 8 → spelled 8 b ≡ spelled r (b / 2 ^ t) ++ spelled t (b % 2 ^ t)
 byte_parts b r t e =
     ap (λ (v : ℕ). spelled 8 v) (sym (div-add-mod' b (2 ^ t)))
-        ∙ ap (λ (k : ℕ). spelled k (b / 2 ^ t * 2 ^ t + b % 2 ^ t)) (sym e)
+    ∙ ap (λ (k : ℕ). spelled k (b / 2 ^ t * 2 ^ t + b % 2 ^ t)) (sym e)
     ∙ spelled-append r t (b / 2 ^ t) (b % 2 ^ t) (mod-lt b (pow_pos t))
 
 -- the other bits are cleared
@@ -99,7 +99,7 @@ cleared_parts : (b r t : ℕ) → r + t ≡ 8 → spelled 8 (b / 2 ^ t * 2 ^ t) 
 cleared_parts b r t e =
     let zero : b / 2 ^ t * 2 ^ t ≡ b / 2 ^ t * 2 ^ t + 0 = omega arith in
     ap (λ (v : ℕ). spelled 8 v) zero ∙ ap (λ (k : ℕ). spelled k (b / 2 ^ t * 2 ^ t + 0)) (sym e)
-        ∙ spelled-append r t (b / 2 ^ t) 0 (pow_pos t)
+    ∙ spelled-append r t (b / 2 ^ t) 0 (pow_pos t)
 
 part_bytes : (coded : List ℕ) (n : ℕ) (text rest : List Bool) → bits_of coded ≡ text ++ rest → length text ≡ n
     → 0 < n % 8 → IsPadded (padded_bytes n coded) text n
@@ -116,26 +116,31 @@ part_bytes coded n text rest e len part =
     let many : length (take q coded) ≡ q = length-take-le q coded (omega arith) in
     let after : List Bool = spelled t (b % 2 ^ t) ++ bits_of (drop (suc q) coded) in
     let cut : coded ≡ take q coded ++ (b ∷ drop (suc q) coded) = sym (take-append-drop q coded)
-        ∙ ap (λ (l : List ℕ). take q coded ++ l) (drop-cons coded q 0 there) in
+    ∙ ap (λ (l : List ℕ). take q coded ++ l) (drop-cons coded q 0 there) in
     let spelt : bits_of coded ≡ front ++ (spelled 8 b ++ bits_of (drop (suc q) coded)) = ap bits_of cut
-        ∙ bits_of-append (take q coded) (b ∷ drop (suc q) coded) in
+    ∙ bits_of-append (take q coded) (b ∷ drop (suc q) coded) in
     let parted : bits_of coded ≡ (front ++ spelled r (b / 2 ^ t)) ++ after =
     spelt ∙ ap (λ (x : List Bool). front ++ (x ++ bits_of (drop (suc q) coded))) (byte_parts b r t eight)
     ∙ regroup front (spelled r (b / 2 ^ t)) (spelled t (b % 2 ^ t)) (bits_of (drop (suc q) coded)) in
-    let long : length (front ++ spelled r (b / 2 ^ t)) ≡ n = omega (arith, length-append front (spelled r (b / 2 ^ t)),
-        length-bits_of (take q coded), many, length-spelled r (b / 2 ^ t)) in
+    let long : length (front ++ spelled r (b / 2 ^ t)) ≡ n = omega (
+      arith,
+      length-append front (spelled r (b / 2 ^ t)),
+      length-bits_of (take q coded),
+      many,
+      length-spelled r (b / 2 ^ t),
+    ) in
     let text_is : front ++ spelled r (b / 2 ^ t) ≡ text =
     sym (take_at (front ++ spelled r (b / 2 ^ t)) after n long) ∙ ap (take n) (sym parted ∙ e)
-        ∙ take_at text rest n len in
+    ∙ take_at text rest n len in
     let bytes : (padded_bytes n coded).bytes ≡ take q coded ++ (b / 2 ^ t * 2 ^ t ∷ []) = rw some refl in
     let filled : bits_of (padded_bytes n coded).bytes ≡ front ++ (spelled 8 (b / 2 ^ t * 2 ^ t) ++ []) =
-        ap bits_of bytes ∙ bits_of-append (take q coded) (b / 2 ^ t * 2 ^ t ∷ []) in
+    ap bits_of bytes ∙ bits_of-append (take q coded) (b / 2 ^ t * 2 ^ t ∷ []) in
     record {
       padding = spelled t 0;
       whole = filled ∙ ap (λ (x : List Bool). front ++ x) (append-nil (spelled 8 (b / 2 ^ t * 2 ^ t))
           ∙ cleared_parts b r t eight)
           ∙ sym (append_assoc front (spelled r (b / 2 ^ t)) (spelled t 0))
-              ∙ ap (λ (x : List Bool). x ++ spelled t 0) text_is;
+          ∙ ap (λ (x : List Bool). x ++ spelled t 0) text_is;
       count = length-spelled t 0;
       pebit = omega arith;
       bytes = omega (arith, ap length bytes, length-append (take q coded) (b / 2 ^ t * 2 ^ t ∷ []), many, eight);
@@ -173,15 +178,22 @@ is_copy laws format h coded text rest is e short =
     let p = is_padded coded text rest e in
     let read : reading (header format) (from_byte 0 coded) ≡ Ok (h, record { at = 0 + length text; bits = rest }) =
     ap (λ (t : List Bool). reading (header format) (record { at = 0; bits = t })) e
-        ∙ complete (header format) h text rest 0 (laws.productive format) is in
+    ∙ complete (header format) h text rest 0 (laws.productive format) is in
     let fits : nat_le (0 + length text) (8 * 63) ≡ true = le-leb (0 + length text) (8 * 63) (omega arith) in
     let taken : copied coded (Ok (h, record { at = 0 + length text; bits = rest }))
-        ≡ some_extra (padded_bytes (0 + length text) coded) = rw fits refl in
+    ≡ some_extra (padded_bytes (0 + length text) coded) = rw fits refl in
     let at : 0 + length text ≡ length text = omega arith in
     record {
       found = ap (copied coded) read ∙ taken ∙ ap (λ (n : ℕ). some_extra (padded_bytes n coded)) at;
-      is = (text, p.padding, p.whole, omega (arith, p.bytes, some),
-          length-bits_of (padded_bytes (length text) coded).bytes, p.count, is);
+      is = (
+        text,
+        p.padding,
+        p.whole,
+        omega (arith, p.bytes, some),
+        length-bits_of (padded_bytes (length text) coded).bytes,
+        p.count,
+        is,
+      );
       few = omega (arith, p.bytes, p.pebit);
       bits = p.pebit;
     }

@@ -94,7 +94,7 @@ made_few format before now x (suc count) =
     let one = one_few format now x (unit_at now x) (unit_at before x) in
     let more = made_few format before now (x + 1) count in
     let all = length-append (made_one format now x (unit_at now x) (unit_at before x))
-        (made_from format before now (x + 1) count) in
+    (made_from format before now (x + 1) count) in
     omega arith
 
 up_to_few : (format : Format) (before now : At) (top : Option ℕ) → length (made_up_to format before now top) ≤ 2 ^ 22

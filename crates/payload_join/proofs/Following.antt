@@ -19,14 +19,22 @@ pub record IsOpen (at : At) (x k : ℕ) : Type 0 where
 
 -- it ends with a marker
 pub ends_marked : (at : At) (x k : ℕ) → IsOpen at x k → k < 64 → marked_at at (x + k) ≡ true → unit_at at x ≡ Some k
-ends_marked at x k o few m = unit_there at x k few (record { begins = o.begins; follow = o.follow;
-    unmarked = o.unmarked; ends = inl m })
+ends_marked at x k o few m = unit_there at x k few (record {
+  begins = o.begins;
+  follow = o.follow;
+  unmarked = o.unmarked;
+  ends = inl m;
+})
 
 -- it ends before the next unit
 pub ends_begun : (at : At) (x k : ℕ) → IsOpen at x k → k < 64 → marked_at at (x + k) ≡ false
     → begins_at at (x + (k + 1)) ≡ true → unit_at at x ≡ Some k
-ends_begun at x k o few m b = unit_there at x k few (record { begins = o.begins; follow = o.follow;
-    unmarked = o.unmarked; ends = inr (m, b) })
+ends_begun at x k o few m b = unit_there at x k few (record {
+  begins = o.begins;
+  follow = o.follow;
+  unmarked = o.unmarked;
+  ends = inr (m, b);
+})
 
 -- it doesn't end
 pub ends_not : (at : At) (x k : ℕ) → IsOpen at x k → marked_at at (x + k) ≡ false → begins_at at (x + (k + 1)) ≡ false
@@ -114,13 +122,13 @@ pub finds_begun : (packets : List (Option Packet)) (first last k : ℕ) → firs
 finds_begun packets first last k le few o m b =
     let e : first + (k + 1) ≡ first + k + 1 = omega arith in
     sym (ends_begun (window packets last) first k o (omega arith)
-        (ap is_marked (inside packets last (first + k) (omega arith)) ∙ m)
+    (ap is_marked (inside packets last (first + k) (omega arith)) ∙ m)
     (ap (begins_at (window packets last)) e ∙ ap begins_one (inside packets last (first + k + 1) le) ∙ b))
 
 pub finds_end : (packets : List (Option Packet)) (first last k : ℕ) → first + k + 1 ≤ last
     → IsOpen (window packets last) first k → is_marked (place_at packets (first + k)) ≡ false
     → begins_one (place_at packets (first + k + 1)) ≡ false → follows_one (place_at packets (first + k + 1)) ≡ false
-        → None ≡ unit_at (window packets last) first
+    → None ≡ unit_at (window packets last) first
 finds_end packets first last k le o m b f =
     let e : first + (k + 1) ≡ first + k + 1 = omega arith in
     sym (ends_not (window packets last) first k o (ap is_marked (inside packets last (first + k) (omega arith)) ∙ m)
@@ -134,7 +142,7 @@ pub last_marked : (packets : List (Option Packet)) (first last k : ℕ) → firs
 last_marked packets first last k le few e o m =
     let f : first + k ≡ last = omega arith in
     ap (λ (n : ℕ). Some n) (sym e)
-        ∙ finds_marked packets first last k (omega arith) few o (ap (λ (n : ℕ). is_marked (place_at packets n)) f ∙ m)
+    ∙ finds_marked packets first last k (omega arith) few o (ap (λ (n : ℕ). is_marked (place_at packets n)) f ∙ m)
 
 pub last_open : (packets : List (Option Packet)) (first last k : ℕ) → first ≤ last → k ≡ last - first
     → IsOpen (window packets last) first k → is_marked (place_at packets last) ≡ false
@@ -143,7 +151,7 @@ last_open packets first last k le e o m =
     let f : first + k ≡ last = omega arith in
     let none : window packets last (first + (k + 1)) ≡ None = outside packets last (first + (k + 1)) (omega arith) in
     sym (ends_not (window packets last) first k o (ap is_marked (inside packets last (first + k) (omega arith))
-        ∙ ap (λ (n : ℕ). is_marked (place_at packets n)) f ∙ m)
+    ∙ ap (λ (n : ℕ). is_marked (place_at packets n)) f ∙ m)
     (ap begins_one none) (ap follows_one none))
 
 -- ---- what the backward loop finds
@@ -172,7 +180,7 @@ both (Some p) q r = at p.begins q r
 pub not_before : (packets : List (Option Packet)) (low number back : ℕ) → back < number - low
     → ((j : ℕ) → j < back → follows_one (place_at packets (number - 1 - j)) ≡ true)
     → begins_one (place_at packets (number - 1 - back)) ≡ false → follows_one (place_at packets (number - 1 - back))
-        ≡ false → (x : ℕ) → IsBefore packets low number x → ⊥
+    ≡ false → (x : ℕ) → IsBefore packets low number x → ⊥
 not_before packets low number back lt follow b f x h =
     let below = h.below in
     elim (cases_lt (number - 1 - back) x) [
@@ -190,7 +198,7 @@ pub none_before : (packets : List (Option Packet)) (low number back : ℕ) → n
 none_before packets low number back ge follow x h =
     let below = h.below in let from = h.from in
     both (place_at packets x) h.begins (ap (λ (n : ℕ). follows_one (place_at packets n)) (let e : x
-        ≡ number - 1 - (number - 1 - x) = omega arith in e) ∙ follow (number - 1 - x) (omega arith))
+    ≡ number - 1 - (number - 1 - x) = omega arith in e) ∙ follow (number - 1 - x) (omega arith))
 
 -- ---- a unit that was found
 
@@ -210,8 +218,8 @@ too_long format at x k long = of (at x)
 
 made_in : (packets : List (Option Packet)) (number first last k : ℕ) → first + k ≤ last
     → is_made (window packets last) number first k
-        ≡ (nat_le number (first + k) || (nat_eq number (first + k + 1) && not
-        (is_marked (place_at packets (first + k)))))
+    ≡ (nat_le number (first + k) || (nat_eq number (first + k + 1) && not
+    (is_marked (place_at packets (first + k)))))
 made_in packets number first last k le = λ i. nat_le number (first + k) || (nat_eq number (first + k + 1) && not
     (is_marked (inside packets last (first + k) le i)))
 
@@ -219,11 +227,11 @@ out_some : (format : Format) (packets : List (Option Packet)) (number first last
     → (nat_le number (first + k) || (nat_eq number (first + k + 1) && not (is_marked (place_at packets (first + k)))))
     ≡ t → Some k ≡ unit_at (window packets last) first
     → out_made format (window packets last) number first (unit_at (window packets last) first)
-        ≡ cond t (outgoing_of format (window packets last) first k) []
+    ≡ cond t (outgoing_of format (window packets last) first k) []
 out_some format packets number first last k le t made e =
     ap (out_made format (window packets last) number first) (sym e)
     ∙ ap (λ (b : Bool). cond b (outgoing_of format (window packets last) first k) [])
-        (made_in packets number first last k le ∙ made)
+    (made_in packets number first last k le ∙ made)
 
 pub out_not : (format : Format) (packets : List (Option Packet)) (number first last k : ℕ) → first + k ≤ last
     → (nat_le number (first + k) || (nat_eq number (first + k + 1) && not (is_marked (place_at packets (first + k)))))
@@ -235,19 +243,19 @@ pub out_long : (format : Format) (packets : List (Option Packet)) (number first 
     → (nat_le number (first + k) || (nat_eq number (first + k + 1) && not (is_marked (place_at packets (first + k)))))
     ≡ true → Some k ≡ unit_at (window packets last) first
     → 65400 < length (coded_from (place_at packets) first (k + 1))
-        → [] ≡ out_made format (window packets last) number first (unit_at (window packets last) first)
+    → [] ≡ out_made format (window packets last) number first (unit_at (window packets last) first)
 out_long format packets number first last k le made e long =
     let f : length (coded_from (window packets last) first (k + 1))
-        ≡ length (coded_from (place_at packets) first (k + 1)) =
-        ap (length {A = ℕ}) (window_coded packets first last (k + 1) (omega arith)) in
+    ≡ length (coded_from (place_at packets) first (k + 1)) =
+    ap (length {A = ℕ}) (window_coded packets first last (k + 1) (omega arith)) in
     sym (out_some format packets number first last k le true made e
-        ∙ too_long format (window packets last) first k (omega arith))
+    ∙ too_long format (window packets last) first k (omega arith))
 
 pub out_whole : (format : Format) (packets : List (Option Packet)) (number first last k : ℕ) → first + k ≤ last
     → (nat_le number (first + k) || (nat_eq number (first + k + 1) && not (is_marked (place_at packets (first + k)))))
     ≡ true → Some k ≡ unit_at (window packets last) first
     → outgoing_of format (place_at packets) first k ≡ out_made format (window packets last) number first
-        (unit_at (window packets last) first)
+    (unit_at (window packets last) first)
 unfolding outgoing_of
 out_whole format packets number first last k le made e =
     let coded = window_coded packets first last (k + 1) (omega arith) in
@@ -275,12 +283,12 @@ is_whole packets first last k le fits e short =
     at zero upto u =
         let f : first ≡ first + 0 = omega arith in
         some_of (place_at packets (first + 0)) (inl (ap begins_one (sym (inside packets last (first + 0) (omega arith))
-            ∙ ap (window packets last) (sym f)) ∙ u.begins))
+        ∙ ap (window packets last) (sym f)) ∙ u.begins))
     at (suc j) upto u =
         let f : first + suc j ≡ first + (j + 1) = omega arith in
         some_of (place_at packets (first + suc j))
-            (inr (ap follows_one (sym (inside packets last (first + suc j) (omega arith)) ∙ ap (window packets last) f)
-            ∙ u.follow j (omega arith)))
+        (inr (ap follows_one (sym (inside packets last (first + suc j) (omega arith)) ∙ ap (window packets last) f)
+        ∙ u.follow j (omega arith)))
 
 -- so many packets have no more coded bytes than more of them
 pub coded_within : (at : At) (x k count : ℕ) → k ≤ count → length (coded_from at x k) ≤ length (coded_from at x count)

@@ -31,9 +31,9 @@ unfolding bytes_in bits_of
 bytes_again again many [] fits = refl
 bytes_again again many (b ∷ bytes) fits =
     let first : number (take 8 (spelled 8 b ++ bits_of bytes))
-        ≡ b = ap number (take_at (spelled 8 b) (bits_of bytes) 8 (many 8 b)) ∙ again 8 b (fits 0) in
+    ≡ b = ap number (take_at (spelled 8 b) (bits_of bytes) 8 (many 8 b)) ∙ again 8 b (fits 0) in
     let rest : drop 8 (spelled 8 b ++ bits_of bytes) ≡ bits_of bytes = drop_at (spelled 8 b) (bits_of bytes) 8
-        (many 8 b) in
+    (many 8 b) in
     let more = ap (bytes_in (length bytes)) rest ∙ bytes_again again many bytes (λ k. fits (suc k)) in
     λ i. first i ∷ more i
 
@@ -76,7 +76,7 @@ unfolding is_opening opening_bytes
 opening_is plen pebit few less =
     same_list_is (bits_of (opening_bytes plen pebit)) (fields (opening_fields plen pebit))
     (each_at 8 (λ b. is_opening plen b) pebit (each_at 64 (λ l. each_below 8 (λ b. is_opening l b)) plen tried few)
-        less)
+    less)
 
 -- ---- a whole front
 
@@ -96,9 +96,9 @@ written_is zeros rtp opening extra l0 l1 l2 few =
     let la : length a ≡ 77 = put_length zeros 0 rtp (omega arith) ∙ l0 in
     let lb : length b ≡ 77 = put_length a 12 opening (omega arith) ∙ la in
     let first : take 12 a ≡ rtp = (let e : 12 ≡ 0 + length rtp = omega arith in ap (λ (k : ℕ). take k a) e)
-        ∙ take_put zeros rtp 0 (omega arith) in
+    ∙ take_put zeros rtp 0 (omega arith) in
     let second : take 14 b ≡ rtp ++ opening = (let e : 14 ≡ 12 + length opening = omega arith in
-        ap (λ (k : ℕ). take k b) e) ∙ take_put a opening 12 (omega arith) ∙ ap (λ (l : List ℕ). l ++ opening) first in
+    ap (λ (k : ℕ). take k b) e) ∙ take_put a opening 12 (omega arith) ∙ ap (λ (l : List ℕ). l ++ opening) first in
     take_put b extra 14 (omega arith) ∙ ap (λ (l : List ℕ). l ++ extra) second
 
 pub front_is : ((n value : ℕ) → value < 2 ^ n → number (spelled n value) ≡ value)
@@ -106,15 +106,15 @@ pub front_is : ((n value : ℕ) → value < 2 ^ n → number (spelled n value) �
     → (rtp opening extra : List ℕ) (sequence timestamp pebit : ℕ) → length rtp ≡ 12 → length opening ≡ 2
     → ((k : ℕ) → get_or rtp k 0 < 2 ^ 8) → ((k : ℕ) → get_or opening k 0 < 2 ^ 8)
     → bits_of rtp ≡ fields (rtp_fields false sequence timestamp)
-        → bits_of opening ≡ fields (opening_fields (length extra) pebit)
+    → bits_of opening ≡ fields (opening_fields (length extra) pebit)
     → (rtp ++ opening) ++ extra ≡ front_by sequence timestamp (record { bytes = extra; pebit = pebit })
 front_is again many rtp opening extra sequence timestamp pebit l1 l2 f1 f2 is_rtp is_opening =
     let heads : bytes_in 14 (fields (rtp_fields false sequence timestamp)
-        ++ fields (opening_fields (length extra) pebit)) ≡ rtp ++ opening =
+    ++ fields (opening_fields (length extra) pebit)) ≡ rtp ++ opening =
     (λ i. bytes_in 14 (sym is_rtp i ++ sym is_opening i))
     ∙ ap (bytes_in 14) (sym (bits_of-append rtp opening))
     ∙ (let e : 14 ≡ length (rtp ++ opening) = omega (arith, length-append rtp opening) in
-        ap (λ (k : ℕ). bytes_in k (bits_of (rtp ++ opening))) e)
+    ap (λ (k : ℕ). bytes_in k (bits_of (rtp ++ opening))) e)
     ∙ bytes_again again many (rtp ++ opening) (both_fit rtp opening f1 f2) in
     ap (λ (l : List ℕ). l ++ extra) (sym heads)
 

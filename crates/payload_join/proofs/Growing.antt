@@ -69,9 +69,9 @@ unit_of : (at : At) (x k : ℕ) → IsUnit at x k → is_unit at x k ≡ true
 unfolding is_unit
 unit_of at x k u =
     let f : each_below k (λ j. follows_at at (x + (j + 1)))
-        ≡ true = each_all k (λ j. follows_at at (x + (j + 1))) u.follow in
+    ≡ true = each_all k (λ j. follows_at at (x + (j + 1))) u.follow in
     let m : each_below k (λ j. not (marked_at at (x + j))) ≡ true = each_all k (λ j. not (marked_at at (x + j)))
-        (λ j lt. ap not (u.unmarked j lt)) in
+    (λ j lt. ap not (u.unmarked j lt)) in
     rw (u.begins, f, m, ends_of (marked_at at (x + k)) (begins_at at (x + (k + 1))) u.ends) refl
 
 -- ---- there is one at most
@@ -102,9 +102,12 @@ least_is (suc n) from k test e = at (test from) refl e (λ f. least_is n (from +
   where
     at : (t : Bool) → test from ≡ t → cond t (Some from) (least_from n (from + 1) test) ≡ Some k
         → (least_from n (from + 1) test ≡ Some k → (test k ≡ true) × (from + 1 ≤ k) × (k < from + 1 + n))
-            → (test k ≡ true) × (from ≤ k) × (k < from + suc n)
-    at true is f more = let same : from ≡ k = cc in (subst (λ (m : ℕ). test m ≡ true) same is, omega (arith, same),
-        omega (arith, same))
+        → (test k ≡ true) × (from ≤ k) × (k < from + suc n)
+    at true is f more = let same : from ≡ k = cc in (
+      subst (λ (m : ℕ). test m ≡ true) same is,
+      omega (arith, same),
+      omega (arith, same),
+    )
     at false is f more = let m = more f in (m.0, omega (arith, m.1), omega (arith, m.2))
 
 least_of : (n from k : ℕ) (test : ℕ → Bool) → test k ≡ true → ((j : ℕ) → test j ≡ true → j ≡ k) → from ≤ k
@@ -117,8 +120,11 @@ least_of (suc n) from k test good one le lt = at (test from) refl (λ le. least_
     at : (t : Bool) → test from ≡ t → (from + 1 ≤ k → least_from n (from + 1) test ≡ Some k)
         → cond t (Some from) (least_from n (from + 1) test) ≡ Some k
     at true is more = ap (λ (m : ℕ). Some m) (one from is)
-    at false is more = more (elim (cases_lt from k) [ inl lt ↦ omega arith | inr ge ↦ let same : from
-        ≡ k = omega arith in absurd (let e : test k ≡ false = subst (λ (m : ℕ). test m ≡ false) same is in cc) ])
+    at false is more = more (elim (cases_lt from k) [
+      | inl lt ↦ omega arith
+      | inr ge ↦ let same : from
+          ≡ k = omega arith in absurd (let e : test k ≡ false = subst (λ (m : ℕ). test m ≡ false) same is in cc)
+    ])
 
 least_none : (n from : ℕ) (test : ℕ → Bool) → ((k : ℕ) → test k ≡ false) → least_from n from test ≡ None
 unfolding least_from
@@ -157,7 +163,7 @@ in_unit before now x k zero grows u le = stays_at before now (x + 0) grows (inl 
     subst (λ (n : ℕ). begins_at before n ≡ true) e u.begins))
 in_unit before now x k (suc j) grows u le =
     stays_at before now (x + suc j) grows (inr (let e : x + (j + 1) ≡ x + suc j = omega arith in
-        subst (λ (n : ℕ). follows_at before n ≡ true) e (u.follow j (omega arith))))
+    subst (λ (n : ℕ). follows_at before n ≡ true) e (u.follow j (omega arith))))
 
 unit_grows : (before now : At) (x k : ℕ) → Grows before now → IsUnit before x k → IsUnit now x k
 unit_grows before now x k grows u =
@@ -172,8 +178,11 @@ unit_grows before now x k grows u =
         × (begins_at before (x + (k + 1)) ≡ true))
         → (marked_at now (x + k) ≡ true) ⊎ ((marked_at now (x + k) ≡ false) × (begins_at now (x + (k + 1)) ≡ true))
     at_end (inl m) = inl (ap is_marked (in_unit before now x k k grows u (omega arith)) ∙ m)
-    at_end (inr b) = inr (ap is_marked (in_unit before now x k k grows u (omega arith))
-        ∙ b.0, begins_grows before now (x + (k + 1)) grows b.1)
+    at_end (inr b) = inr (
+      ap is_marked (in_unit before now x k k grows u (omega arith))
+          ∙ b.0,
+      begins_grows before now (x + (k + 1)) grows b.1,
+    )
 
 -- a unit that is whole stays so
 pub at_grows : (before now : At) (x k : ℕ) → Grows before now → unit_at before x ≡ Some k → unit_at now x ≡ Some k
@@ -182,7 +191,7 @@ at_grows before now x k grows e =
     let l = least_is 64 0 k (is_unit before x) e in
     let u = unit_grows before now x k grows (unit_is before x k l.0) in
     least_of 64 0 k (is_unit now x) (unit_of now x k u) (λ j t. one_unit now x j k (unit_is now x j t) u) (omega arith)
-        (omega (arith, l.2))
+    (omega (arith, l.2))
 
 pub coded_same : (before now : At) (x count : ℕ) → ((j : ℕ) → j < count → now (x + j) ≡ before (x + j))
     → coded_from now x count ≡ coded_from before x count
@@ -190,9 +199,9 @@ unfolding coded_from
 coded_same before now x zero same = refl
 coded_same before now x (suc count) same =
     let first : now x ≡ before x = let e : x + 0 ≡ x = omega arith in
-        subst (λ (n : ℕ). now n ≡ before n) e (same 0 (omega arith)) in
+    subst (λ (n : ℕ). now n ≡ before n) e (same 0 (omega arith)) in
     let more = coded_same before now (x + 1) count (λ j lt. let e : x + suc j ≡ x + 1 + j = omega arith in
-        subst (λ (n : ℕ). now n ≡ before n) e (same (suc j) (omega arith))) in
+    subst (λ (n : ℕ). now n ≡ before n) e (same (suc j) (omega arith))) in
     λ i. coded_one (first i) ++ more i
 
 outgoing_same : (format : Format) (before now : At) (x k : ℕ) → Grows before now → IsUnit before x k
@@ -232,7 +241,7 @@ few_follow at x k e = omega (arith, (least_is 64 0 k (is_unit at x) e).2)
 one_more : (format : Format) (before now : At) (x : ℕ) → Grows before now
     → made_one format now x (unit_at now x) (unit_at nothing x)
     ≡ made_one format before x (unit_at before x) (unit_at nothing x)
-        ++ made_one format now x (unit_at now x) (unit_at before x)
+    ++ made_one format now x (unit_at now x) (unit_at before x)
 one_more format before now x grows = rw (none_at nothing x refl) (at (unit_at before x) refl (unit_at now x) refl)
   where
     at : (b : Option ℕ) → unit_at before x ≡ b → (n : Option ℕ) → unit_at now x ≡ n → made_one format now x n None
@@ -244,22 +253,22 @@ one_more format before now x grows = rw (none_at nothing x refl) (at (unit_at be
         let same : Some j ≡ Some k = sym was ∙ at_grows before now x k grows is in
         let u = unit_is before x k (unit_found before x k is) in
         ap (λ (m : ℕ). outgoing_of format now x m) (some_is j k same) ∙ outgoing_same format before now x k grows u
-            ∙ sym (append-nil (outgoing_of format before x k))
+        ∙ sym (append-nil (outgoing_of format before x k))
 
 crossed : {X : Type 0} (a b ads bs : List X) → IsPermutation ((a ++ b) ++ (ads ++ bs)) ((a ++ ads) ++ (b ++ bs))
 crossed {X} a b ads bs =
     let left : (a ++ b) ++ (ads ++ bs) ≡ a ++ ((b ++ ads) ++ bs) = append_assoc a b (ads ++ bs)
-        ∙ ap (λ (t : List X). a ++ t) (sym (append_assoc b ads bs)) in
+    ∙ ap (λ (t : List X). a ++ t) (sym (append_assoc b ads bs)) in
     let right : a ++ ((ads ++ b) ++ bs) ≡ (a ++ ads) ++ (b ++ bs) = ap (λ (t : List X). a ++ t) (append_assoc ads b bs)
-        ∙ sym (append_assoc a ads (b ++ bs)) in
+    ∙ sym (append_assoc a ads (b ++ bs)) in
     subst (λ (t : List X). IsPermutation t ((a ++ ads) ++ (b ++ bs))) (sym left)
     (subst (λ (t : List X). IsPermutation (a ++ ((b ++ ads) ++ bs)) t) right
     (IsPermutation-append_right a ((b ++ ads) ++ bs) ((ads ++ b) ++ bs) (IsPermutation-append_left bs (b ++ ads) (ads
-        ++ b) (IsPermutation-append_comm b ads))))
+    ++ b) (IsPermutation-append_comm b ads))))
 
 pub more_out : (format : Format) (before now : At) (x count : ℕ) → Grows before now
     → IsPermutation (made_from format nothing now x count) (made_from format nothing before x count
-        ++ made_from format before now x count)
+    ++ made_from format before now x count)
 unfolding made_from
 more_out format before now x zero grows = IsPermutation-refl []
 more_out format before now x (suc count) grows =
@@ -269,9 +278,9 @@ more_out format before now x (suc count) grows =
     let bs = made_from format before now (x + 1) count in
     let rest = more_out format before now (x + 1) count grows in
     subst (λ (first : List (List ℕ)). IsPermutation (first ++ made_from format nothing now (x + 1) count) ((a ++ ads)
-        ++ (b ++ bs))) (sym (one_more format before now x grows))
+    ++ (b ++ bs))) (sym (one_more format before now x grows))
     (IsPermutation-trans _ ((a ++ b) ++ (ads ++ bs)) _ (IsPermutation-append_right (a ++ b) _ (ads ++ bs) rest)
-        (crossed a b ads bs))
+    (crossed a b ads bs))
 
 -- a unit of fewer than 64 packets after its first is found
 pub unit_laws : UnitLaws

@@ -148,7 +148,7 @@ bci_keeps =
     keeps_tried 1 any _ 10 (λ more. cond (more == 0) 11 0) (λ _. 0) more_tried (λ more free.
     keeps_chosen (more == 0) _ (done 1) 11 0 (λ _. 0)
     (keeps_tried 1 (only 1 faults.Bci) _ 11 (λ _. 0) (λ _. 0) one_tried (λ end free. keeps_done 0 0 (λ _. 0)
-        (omega arith)))
+    (omega arith)))
     (keeps_done 1 0 (λ _. 0) (omega arith)))
 
 -- a message, or the end
@@ -162,7 +162,7 @@ next_keeps clock used =
     keeps_element bci (has_room used) _ 10 (λ _. 0) after_next_bit bci_keeps (λ more.
     keeps_either (more == 0) (done None) _ 0 after_next_bit (keeps_done None 0 after_next_bit (omega arith))
     (keeps_part (message clock) any _ 0 (λ _. 10) after_next_bit (message_keeps clock)
-        (λ m. keeps_done (Some m) 10 after_next_bit (omega arith))))
+    (λ m. keeps_done (Some m) 10 after_next_bit (omega arith))))
 
 next_left : (messages : List Message) (next : Option Message)
     → after_next_bit next ≤ turn_to 10 (λ _. 0) (after_message messages next)
@@ -173,7 +173,7 @@ back_turn_keeps : (clock : Clock) (messages : List Message) → Keeps (back_turn
 unfolding back_turn
 back_turn_keeps clock messages =
     keeps_part (next_message clock (length messages)) any _ 10 after_next_bit (turn_to 10 (λ _. 0))
-        (next_keeps clock (length messages)) (λ next.
+    (next_keeps clock (length messages)) (λ next.
     keeps_done (after_message messages next) (after_next_bit next) (turn_to 10 (λ _. 0)) (next_left messages next))
 
 back_keeps : (clock : Clock) → Keeps (back clock) 10 (λ _. 0)

@@ -48,16 +48,16 @@ pub packet_changed : (region new : Slots) (slots : List ℕ) (parts : List (Opti
     → k < length parts → length parts ≤ length slots
     → ((j : ℕ) → j < length parts → (j ≡ k → ⊥) → bytes_in new (get_or slots j 0) ≡ bytes_in region (get_or slots j 0))
     → packets_of new slots (set parts k p)
-        ≡ set (packets_of region slots parts) k (in_slot (bytes_in new (get_or slots k 0)) p)
+    ≡ set (packets_of region slots parts) k (in_slot (bytes_in new (get_or slots k 0)) p)
 packet_changed region new slots [] k p lt le same = absurd (omega arith)
 packet_changed region new [] (q ∷ parts) k p lt le same = absurd (omega arith)
 packet_changed region new (slot ∷ slots) (q ∷ parts) zero p lt le same =
     ap (λ (l : List (Option Packet)). in_slot (bytes_in new slot) p ∷ l) (packets_same region new slots parts
-        (λ j less. same (suc j) (omega arith) (λ e. absurd (omega arith))))
+    (λ j less. same (suc j) (omega arith) (λ e. absurd (omega arith))))
 packet_changed region new (slot ∷ slots) (q ∷ parts) (suc k) p lt le same =
     let first : bytes_in new slot ≡ bytes_in region slot = same 0 (omega arith) (λ e. absurd (omega arith)) in
     let more = packet_changed region new slots parts k p (omega arith) (omega arith)
-        (λ j less ne. same (suc j) (omega arith) (λ e. ne (omega arith))) in
+    (λ j less ne. same (suc j) (omega arith) (λ e. ne (omega arith))) in
     λ i. in_slot (first i) q ∷ more i
 
 -- a place is cleared
@@ -83,7 +83,7 @@ forgotten_are region slots parts from (suc count) places le =
     let less : (from + count) % 64 < 64 = omega arith in
     cleared region slots (forgotten parts from count) ((from + count) % 64) (omega arith) (omega arith)
     ∙ ap (λ (l : List (Option Packet)). set l ((from + count) % 64) None)
-        (forgotten_are region slots parts from count places le)
+    (forgotten_are region slots parts from count places le)
 
 pub left_are : (region : Slots) (slots : List ℕ) (parts : List (Option Parts)) (top : Option ℕ) (sequence : ℕ)
     → length parts ≡ 64 → 64 ≤ length slots
@@ -125,8 +125,14 @@ placed_left parts None sequence placed = placed
 placed_left parts (Some top) sequence placed = placed_forgotten parts (top + 1) (passed top sequence) placed
 
 pub is_placed : (bytes : List ℕ) (p : Parts) → IsInside bytes p → IsPlaced p
-is_placed bytes p h = record { few = h.few; bits = h.bits; extra = h.extra; order = h.order; end = let a = h.end in
-    let b = h.short in omega arith }
+is_placed bytes p h = record {
+  few = h.few;
+  bits = h.bits;
+  extra = h.extra;
+  order = h.order;
+  end = let a = h.end in
+      let b = h.short in omega arith;
+}
 
 pub wrote_same : (region : Slots) (slots : List ℕ) (parts : List (Option Parts)) (k j : ℕ) (ws : List ℕ)
     → IsRing region slots parts → k < 65 → j < 65 → (j ≡ k → ⊥)
@@ -134,7 +140,7 @@ pub wrote_same : (region : Slots) (slots : List ℕ) (parts : List (Option Parts
 wrote_same region slots parts k j ws r lk lj ne =
     let c = r.count in
     get_or-set_other region.bytes (get_or slots k 0) (get_or slots j 0) ws []
-        (λ e. ne (r.held.once j k (omega arith) (omega arith) e))
+    (λ e. ne (r.held.once j k (omega arith) (omega arith) e))
 
 pub wrote_here : (region : Slots) (slots : List ℕ) (parts : List (Option Parts)) (k : ℕ) (ws : List ℕ)
     → IsRing region slots parts → k < 65
@@ -167,15 +173,15 @@ ring_wrote region slots parts k ws r lk long =
 pub ring_held : (region : Slots) (slots : List ℕ) (parts : List (Option Parts)) (bytes : List ℕ) (top : Option ℕ)
     (sequence : ℕ) (p : Parts) → IsRing region slots parts → IsInside bytes p
     → IsRing (with_slot region (get_or slots (sequence % 64) 0)
-        (put_at (bytes_in region (get_or slots (sequence % 64) 0)) 0 bytes)) slots
-        (set (left_at top parts sequence) (sequence % 64) (Some p))
+    (put_at (bytes_in region (get_or slots (sequence % 64) 0)) 0 bytes)) slots
+    (set (left_at top parts sequence) (sequence % 64) (Some p))
 ring_held region slots parts bytes top sequence p r is =
     let k : ℕ = sequence % 64 in
     let old : List ℕ = bytes_in region (get_or slots k 0) in
     let long : length old ≡ 65535 = r.sized k (omega arith) in
     let short = is.short in
     let w = ring_wrote region slots parts k (put_at old 0 bytes) r (omega arith) (put_length old 0 bytes (omega arith)
-        ∙ long) in
+    ∙ long) in
     record {
       held = w.held;
       count = w.count;
@@ -202,9 +208,9 @@ packet_front : (bytes rest : List ℕ) (p : Parts) → IsInside bytes p → pack
 packet_front bytes rest p h =
     let a = h.extra in let b = h.order in let c = h.end in
     let e : bytes_between (bytes ++ rest) p.extra_from p.coded_from ≡ bytes_between bytes p.extra_from p.coded_from =
-        between_front bytes rest p.extra_from p.coded_from (omega arith) (omega arith) in
+    between_front bytes rest p.extra_from p.coded_from (omega arith) (omega arith) in
     let f : bytes_between (bytes ++ rest) p.coded_from p.to ≡ bytes_between bytes p.coded_from p.to =
-        between_front bytes rest p.coded_from p.to b c in
+    between_front bytes rest p.coded_from p.to b c in
     λ i. record {
       begins = p.begins;
       marker = p.marker;
@@ -218,8 +224,8 @@ packet_front bytes rest p h =
 pub held_is : (region : Slots) (slots : List ℕ) (parts : List (Option Parts)) (top : Option ℕ) (bytes : List ℕ)
     (sequence : ℕ) (p : Parts) → IsRing region slots parts → IsInside bytes p
     → seen (Some (top_after top sequence)) (with_slot region (get_or slots (sequence % 64) 0)
-        (put_at (bytes_in region (get_or slots (sequence % 64) 0)) 0 bytes)) slots
-        (set (left_at top parts sequence) (sequence % 64) (Some p))
+    (put_at (bytes_in region (get_or slots (sequence % 64) 0)) 0 bytes)) slots
+    (set (left_at top parts sequence) (sequence % 64) (Some p))
     ≡ holding (seen top region slots parts) sequence (packet_of bytes p)
 held_is region slots parts top bytes sequence p r h =
     let k : ℕ = sequence % 64 in
@@ -230,18 +236,18 @@ held_is region slots parts top bytes sequence p r h =
     let less : k < 64 = omega arith in
     let many : length (left_at top parts sequence) ≡ length parts = many_left top parts sequence in
     let there : bytes_in new slot ≡ bytes ++ drop (length bytes) (bytes_in region slot) =
-        wrote_here region slots parts k ws r (omega arith) ∙ (let z : 0 + length bytes ≡ length bytes = omega arith in
-        ap (λ (n : ℕ). bytes ++ drop n (bytes_in region slot)) z) in
+    wrote_here region slots parts k ws r (omega arith) ∙ (let z : 0 + length bytes ≡ length bytes = omega arith in
+    ap (λ (n : ℕ). bytes ++ drop n (bytes_in region slot)) z) in
     let packet : in_slot (bytes_in new slot) (Some p) ≡ Some (packet_of bytes p) =
-        ap (λ (b : List ℕ). in_slot b (Some p)) there
-        ∙ ap (λ (q : Packet). Some q) (packet_front bytes (drop (length bytes) (bytes_in region slot)) p h) in
+    ap (λ (b : List ℕ). in_slot b (Some p)) there
+    ∙ ap (λ (q : Packet). Some q) (packet_front bytes (drop (length bytes) (bytes_in region slot)) p h) in
     let packets : packets_of new slots (set (left_at top parts sequence) k (Some p))
-        ≡ set (left_at top (packets_of region slots parts) sequence) k (Some (packet_of bytes p)) =
+    ≡ set (left_at top (packets_of region slots parts) sequence) k (Some (packet_of bytes p)) =
     packet_changed region new slots (left_at top parts sequence) k (Some p) (omega arith) (omega arith)
-        (λ j lj ne. wrote_same region slots parts k j ws r (omega arith) (omega arith) ne)
+    (λ j lj ne. wrote_same region slots parts k j ws r (omega arith) (omega arith) ne)
     ∙ (λ i. set (left_are region slots parts top sequence pl (omega arith) i) k (packet i)) in
     let room : room_of new slots ≡ room_of region slots = wrote_same region slots parts k 64 ws r (omega arith)
-        (omega arith) (λ e. absurd (omega arith)) in
+    (omega arith) (λ e. absurd (omega arith)) in
     λ i. record { top = Some (top_after top sequence); packets = packets i; room = room i }
 
 -- ---- a ring that is empty
@@ -281,7 +287,7 @@ pub seen_at : (region : Slots) (slots : List ℕ) (parts : List (Option Parts)) 
     (r o : Option Parts) {top : Option ℕ} {packets : Packets} → IsRing region slots parts
     → r ≡ get_or parts (number % 64) r → r ≡ o
     → seen top region slots parts ≡ packets → in_slot (bytes_in region (get_or slots (number % 64) 0)) o
-        ≡ place_at packets.packets number
+    ≡ place_at packets.packets number
 seen_at region slots parts number r o ring e is view =
     ap (in_slot (bytes_in region (get_or slots (number % 64) 0))) (sym is)
     ∙ sym (read_is region slots parts number r ring e)
@@ -320,7 +326,7 @@ pub coded_is : (region : Slots) (slots : List ℕ) (parts : List (Option Parts))
 coded_is region slots parts number r p ring e is =
     let placed = placed_at region slots parts number r p ring e is in
     between_len (bytes_in region (get_or slots (number % 64) 0)) p.coded_from p.to
-        (ring.sized (number % 64) (omega arith)) placed.order placed.end
+    (ring.sized (number % 64) (omega arith)) placed.order placed.end
 
 pub described : (region : Slots) (slots : List ℕ) (parts : List (Option Parts)) (number : ℕ) (r : Option Parts)
     (p : Parts) → IsRing region slots parts → r ≡ get_or parts (number % 64) r → r ≡ Some p
@@ -345,9 +351,11 @@ seen_is region slots parts number r top packets ring e view = at r refl
   where
     at : (o : Option Parts) → r ≡ o → IsSeen o (place_at packets.packets number)
     at None is = sym (seen_at region slots parts number r None ring e is view)
-    at (Some q) is = (packet_of (bytes_in region (get_or slots (number % 64) 0)) q,
-        sym (seen_at region slots parts number r (Some q) ring e is view),
-        described region slots parts number r q ring e is)
+    at (Some q) is = (
+      packet_of (bytes_in region (get_or slots (number % 64) 0)) q,
+      sym (seen_at region slots parts number r (Some q) ring e is view),
+      described region slots parts number r q ring e is,
+    )
 
 -- there is a place for each rest
 pub many_places : (region : Slots) (slots : List ℕ) (parts : List (Option Parts)) (top : Option ℕ) (packets : Packets)
@@ -379,7 +387,7 @@ room_seen top region slots parts at ws r =
     let pl = r.places in
     let new : List ℕ = put_at (bytes_in region (get_or slots 64 0)) at ws in
     let packets = packets_same region (with_slot region (get_or slots 64 0) new) slots parts
-        (λ j lt. wrote_same region slots parts 64 j new r (omega arith) (omega arith) (λ e. absurd (omega arith))) in
+    (λ j lt. wrote_same region slots parts 64 j new r (omega arith) (omega arith) (λ e. absurd (omega arith))) in
     let room = wrote_here region slots parts 64 new r (omega arith) in
     λ i. record { top = top; packets = packets i; room = room i }
 
@@ -420,9 +428,9 @@ claimed n m before region slots z held all size bytes count parts none n_is m_is
       whole = omega arith;
       sized = λ k lt.
           let o : get_or slots k 0 < length region.outs = out_inside region (get_or slots k 0)
-              (held.out k (omega arith)) in
+          (held.out k (omega arith)) in
           ap (λ (b : List (List ℕ)). length {A = ℕ} (get_or b (get_or slots k 0) [])) (bytes
-              ∙ ap (λ (s : Slots). s.bytes) z)
+          ∙ ap (λ (s : Slots). s.bytes) z)
           ∙ zeros_sized n m (get_or slots k 0) (omega arith) ∙ m_is;
       places = ap (length {A = Option Parts}) none ∙ length-replicate 64 nothing;
       placed = λ k. subst (λ (l : List (Option Parts)). IsPlacedIf (get_or l k None)) (sym none) (none_placed 64 k);

@@ -71,8 +71,8 @@ was_not before now n last y k step inside le u made = at (unit_at before y) refl
               let a : nat_le n (y + k) ≡ false = lt-leb n (y + k) past in
               let same : now (y + k) ≡ before (y + k) = step.same (y + k) (omega arith) (λ e. absurd (omega arith)) in
               let b : (nat_eq n (y + k + 1) && not (marked_at now (y + k)))
-                  ≡ true = (let e : is_made now n y k ≡ (nat_eq n (y + k + 1) && not (marked_at now (y + k))) =
-                  rw a refl in sym e ∙ made) in
+              ≡ true = (let e : is_made now n y k ≡ (nat_eq n (y + k + 1) && not (marked_at now (y + k))) =
+              rw a refl in sym e ∙ made) in
               ended v same b
         ]
       where
@@ -86,7 +86,7 @@ was_not before now n last y k step inside le u made = at (unit_at before y) refl
                 | inl marked ↦
                     let m : marked_at now (y + k) ≡ true = ap is_marked same ∙ marked in
                     let f : (nat_eq n (y + k + 1) && not (marked_at now (y + k)))
-                        ≡ false = (rw (eq-eqb n (y + k + 1) e, m) refl) in cc
+                    ≡ false = (rw (eq-eqb n (y + k + 1) e, m) refl) in cc
                 | inr begun ↦ held_is before n (y + (k + 1)) step.fresh (inl begun.1) (omega arith)
               ]
             ]
@@ -96,8 +96,8 @@ was_not before now n last y k step inside le u made = at (unit_at before y) refl
     at (Some j) is =
         let v = unit_laws.only before y j is in
         let grown : IsUnit now y j = same_unit before now y j
-            (λ i less. sym (step.same (y + i) (omega arith) (λ e. in_it before n y j i step.fresh v less e)))
-            (next v) v in
+        (λ i less. sym (step.same (y + i) (omega arith) (λ e. in_it before n y j i step.fresh v less e)))
+        (next v) v in
         let e : j ≡ k = one_unit now y j k grown u in
         absurd (apart (subst (λ (i : ℕ). IsUnit before y i) e v))
       where
@@ -112,14 +112,14 @@ was : (before now : At) (n last y k : ℕ) → IsStep before now n last → last
     → (n < y) ⊎ ((y + k < n) × ((n ≡ y + k + 1) → marked_at now (y + k) ≡ true)) → unit_at before y ≡ Some k
 was before now n last y k step inside few u (inl under) =
     unit_there before y k few
-        (same_unit now before y k (λ j le. step.same (y + j) (omega arith) (λ e. absurd (omega arith)))
-        (λ m. step.same (y + (k + 1)) (omega arith) (λ e. absurd (omega arith))) u)
+    (same_unit now before y k (λ j le. step.same (y + j) (omega arith) (λ e. absurd (omega arith)))
+    (λ m. step.same (y + (k + 1)) (omega arith) (λ e. absurd (omega arith))) u)
 was before now n last y k step inside few u (inr past) =
     let over = past.0 in
     unit_there before y k few
-        (same_unit now before y k (λ j le. step.same (y + j) (omega arith) (λ e. absurd (omega arith)))
+    (same_unit now before y k (λ j le. step.same (y + j) (omega arith) (λ e. absurd (omega arith)))
     (λ m. step.same (y + (k + 1)) (omega arith) (λ e. let marked = past.1 (omega arith) in
-        let f : true ≡ false = sym marked ∙ m in absurd cc)) u)
+    let f : true ≡ false = sym marked ∙ m in absurd cc)) u)
 
 -- so what goes out is what the packet made whole
 one_made : (format : Format) (before now : At) (n last y : ℕ) → IsStep before now n last → last < y + 64 → y ≤ n
@@ -139,8 +139,11 @@ one_made format before now n last y step inside le = at (unit_at now y) refl
         ]
       where
         over : is_made now n y k ≡ false → y + k < n
-        over f = elim (cases_lt (y + k) n) [ inl lt ↦ lt | inr ge ↦ let e : is_made now n y k
-            ≡ true = (rw (le-leb n (y + k) ge) refl) in absurd cc ]
+        over f = elim (cases_lt (y + k) n) [
+          | inl lt ↦ lt
+          | inr ge ↦ let e : is_made now n y k
+              ≡ true = (rw (le-leb n (y + k) ge) refl) in absurd cc
+        ]
 
         marked : is_made now n y k ≡ false → n ≡ y + k + 1 → marked_at now (y + k) ≡ true
         marked f e = elim (cases_Bool (marked_at now (y + k))) [
@@ -181,17 +184,22 @@ one_apart format now low n y from lt apart = at (unit_at now y) refl
         ]
       where
         up : is_made now n y k ≡ true → n ≤ y + k + 1
-        up made = elim (cases_lt (y + k + 1) n) [ inr le ↦ le | inl over ↦ let f : is_made now n y k
-            ≡ false = (rw (lt-leb n (y + k) (omega arith), ne_eqb n (y + k + 1) (λ e. absurd (omega arith))) refl) in
-            absurd cc ]
+        up made = elim (cases_lt (y + k + 1) n) [
+          | inr le ↦ le
+          | inl over ↦ let f : is_made now n y k
+              ≡ false = (rw (lt-leb n (y + k) (omega arith), ne_eqb n (y + k + 1) (λ e. absurd (omega arith))) refl) in
+              absurd cc
+        ]
 
 -- there is one such packet at most
 one_from : (at : At) (low n x y : ℕ) → IsFrom at low n x → IsFrom at low n y → x ≡ y
 one_from at low n x y f g =
     elim (cases_lt x y) [
       | inl lt ↦ absurd (either_one (at y) g.begins (f.follow y lt g.below))
-      | inr ge ↦ elim (cases_lt y x) [ inl lt ↦ absurd (either_one (at x) f.begins (g.follow x lt f.below))
-          | inr le ↦ omega arith ]
+      | inr ge ↦ elim (cases_lt y x) [
+        | inl lt ↦ absurd (either_one (at x) f.begins (g.follow x lt f.below))
+        | inr le ↦ omega arith
+      ]
     ]
 
 none_made : (format : Format) (before now : At) (x count : ℕ)
@@ -201,22 +209,22 @@ unfolding made_from
 none_made format before now x zero none = refl
 none_made format before now x (suc count) none =
     let first : made_one format now x (unit_at now x) (unit_at before x) ≡ [] = let e : x + 0 ≡ x = omega arith in
-        subst (λ (n : ℕ). made_one format now n (unit_at now n) (unit_at before n) ≡ []) e (none 0 (omega arith)) in
+    subst (λ (n : ℕ). made_one format now n (unit_at now n) (unit_at before n) ≡ []) e (none 0 (omega arith)) in
     let more = none_made format before now (x + 1) count (λ j lt. let e : x + suc j ≡ x + 1 + j = omega arith in
-        subst (λ (n : ℕ). made_one format now n (unit_at now n) (unit_at before n) ≡ []) e (none (suc j) (omega arith)))
-        in
+    subst (λ (n : ℕ). made_one format now n (unit_at now n) (unit_at before n) ≡ []) e (none (suc j) (omega arith)))
+    in
     ap (λ (l : List (List ℕ)). l ++ made_from format before now (x + 1) count) first ∙ more
 
 -- of so many numbers one alone gives something
 one_only : (format : Format) (before now : At) (x a c y : ℕ) → x + a ≡ y
     → ((j : ℕ) → j < a → made_one format now (x + j) (unit_at now (x + j)) (unit_at before (x + j)) ≡ [])
     → made_from format before now x (a + suc c) ≡ made_one format now y (unit_at now y) (unit_at before y)
-        ++ made_from format before now (y + 1) c
+    ++ made_from format before now (y + 1) c
 unfolding made_from
 one_only format before now x a c y e none =
     made_parts format before now x a (suc c)
     ∙ ap (λ (l : List (List ℕ)). l ++ made_from format before now (x + a) (suc c))
-        (none_made format before now x a none)
+    (none_made format before now x a none)
     ∙ ap (λ (k : ℕ). made_from format before now k (suc c)) e
 
 -- the unit that begins with the new packet
@@ -226,8 +234,8 @@ at_new : (format : Format) (before now : At) (n last x a : ℕ) → IsStep befor
 at_new format before now n last x a step e inside none =
     one_only format before now x a (last - n) n e (λ j lt. none (x + j) (omega arith) (omega arith))
     ∙ ap (λ (l : List (List ℕ)). made_one format now n (unit_at now n) (unit_at before n)
-        ++ l) (none_made format before now (n + 1) (last - n) (λ j lt. one_above format before now n last
-        (n + 1 + j) step (omega arith) (omega arith)))
+    ++ l) (none_made format before now (n + 1) (last - n) (λ j lt. one_above format before now n last
+    (n + 1 + j) step (omega arith) (omega arith)))
     ∙ append-nil (made_one format now n (unit_at now n) (unit_at before n))
     ∙ one_made format before now n last n step (omega (arith, step.young)) (omega arith)
 
@@ -242,25 +250,25 @@ made_alone format before now n last step none =
     ap (made_from format before now (last - 63)) e
     ∙ at_new format before now n last (last - 63) a step (omega arith) (omega arith)
     (λ y from lt. one_made format before now n last y step (omega arith) (omega arith)
-        ∙ one_apart format now (last - 63) n y from lt (none y))
+    ∙ one_apart format now (last - 63) n y from lt (none y))
 
 -- where packet x begins the unit that they are in
 pub made_two : (format : Format) (before now : At) (n last x : ℕ) → IsStep before now n last
     → IsFrom now (last - 63) n x
     → made_from format before now (last - 63) 64 ≡ out_made format now n x (unit_at now x)
-        ++ out_made format now n n (unit_at now n)
+    ++ out_made format now n n (unit_at now n)
 made_two format before now n last x step first =
     let a : ℕ = x - (last - 63) in
     let a' : ℕ = n - (x + 1) in
     let b = step.low in let c = step.upto in let d = step.young in let f = first.from in let g = first.below in
     let e : 64 ≡ a + suc (a' + suc (last - n)) = omega arith in
     let apart : (y : ℕ) → last - 63 ≤ y → y < n → (y ≡ x → ⊥) → made_one format now y (unit_at now y) (unit_at before y)
-        ≡ [] =
+    ≡ [] =
     λ y from lt ne. one_made format before now n last y step (omega arith) (omega arith)
     ∙ one_apart format now (last - 63) n y from lt (λ h. ne (one_from now (last - 63) n y x h first)) in
     ap (made_from format before now (last - 63)) e
     ∙ one_only format before now (last - 63) a (a' + suc (last - n)) x (omega arith)
-        (λ j lt. apart (last - 63 + j) (omega arith) (omega arith) (λ h. absurd (omega arith)))
+    (λ j lt. apart (last - 63 + j) (omega arith) (omega arith) (λ h. absurd (omega arith)))
     ∙ (λ i. one_made format before now n last x step (omega arith) (omega arith) i
     ++ at_new format before now n last (x + 1) a' step (omega arith) (omega arith)
-        (λ y from lt. apart y (omega arith) lt (λ h. absurd (omega arith))) i)
+    (λ y from lt. apart y (omega arith) lt (λ h. absurd (omega arith))) i)

@@ -31,8 +31,11 @@ unfolding spelled
 first_bits n high marker =
     let len : length (take 12 (spelled 23 n)) ≡ 12 = refl in
     zeros_then 0 0 10 (is_set n 23 ∷ []) (spelled 23 n) (after_one [] 0 (is_set n 23) (omega arith) high)
-    (zeros_then 0 12 10 (take 12 (spelled 23 n)) (spelled 11 n) (omega (arith, zeros_add 0 (take 12 (spelled 23 n)),
-        len))
+    (zeros_then 0 12 10 (take 12 (spelled 23 n)) (spelled 11 n) (omega (
+      arith,
+      zeros_add 0 (take 12 (spelled 23 n)),
+      len,
+    ))
     (omega (arith, after_one (spelled 10 n) 12 (is_set n 10) (omega arith) marker, length-spelled 10 n)))
 
 -- those of its flags: a 1, 7 bits, a 1, 7 bits
@@ -63,7 +66,7 @@ facts : (clock : Clock) (long : Bool) (n : ℕ) → n < 2 ^ 24 → message_fault
 unfolding message_fault
 facts clock long n lt e =
     let f = fields_have clock long (n / 2 ^ 22) (n / 2 ^ 21 % 2) (n / 2 ^ 11 % 2 ^ 10) (n / 2 ^ 10 % 2)
-        (n % 2 ^ 10) e in
+    (n % 2 ^ 10) e in
     (eq-eqb (n / 2 ^ 23 % 2) 1 (omega (arith, f.0)), eq-eqb (n / 2 ^ 10 % 2) 1 (omega (arith, f.1)))
 
 message_first : (clock : Clock) (n : ℕ) → n < 2 ^ 24 → allowed_message clock n ≡ None → zeros 0 (spelled 24 n) ≤ 10

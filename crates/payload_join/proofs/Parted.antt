@@ -44,7 +44,7 @@ some_part (a ∷ b ∷ c ∷ xs) = at (starts a b c) refl
 short_out : (format : Format) (p : Packet) (coded : List ℕ) → length coded ≤ 65400
     → unit_out format p coded ≡ (cond (nat_lt 0 (length p.extra.bytes)) (each_out p p.extra p.extra (split_of coded))
     (cond (begins_picture coded) (begun_out format p coded (split_of coded))
-        (each_out p no_extra no_extra (split_of coded))))
+    (each_out p no_extra no_extra (split_of coded))))
 unfolding unit_out
 short_out format p coded le = rw (le-ltb 65400 (length coded) le) refl
 
@@ -54,18 +54,18 @@ pub with_extra : (format : Format) (p : Packet) (coded : List ℕ) → length co
 with_extra format p coded le some =
     short_out format p coded le
     ∙ ap (λ (t : Bool). cond t (each_out p p.extra p.extra (split_of coded))
-        (cond (begins_picture coded) (begun_out format p coded (split_of coded))
-        (each_out p no_extra no_extra (split_of coded)))) (lt-ltb 0 (length p.extra.bytes) some)
+    (cond (begins_picture coded) (begun_out format p coded (split_of coded))
+    (each_out p no_extra no_extra (split_of coded)))) (lt-ltb 0 (length p.extra.bytes) some)
     ∙ each_is p p.extra p.extra (split_of coded)
 
 without : (format : Format) (p : Packet) (coded : List ℕ) → length coded ≤ 65400 → length p.extra.bytes ≡ 0
     → unit_out format p coded ≡ cond (begins_picture coded) (begun_out format p coded (split_of coded))
-        (each_out p no_extra no_extra (split_of coded))
+    (each_out p no_extra no_extra (split_of coded))
 without format p coded le none =
     short_out format p coded le
     ∙ ap (λ (t : Bool). cond t (each_out p p.extra p.extra (split_of coded))
-        (cond (begins_picture coded) (begun_out format p coded (split_of coded))
-        (each_out p no_extra no_extra (split_of coded)))) (le-ltb 0 (length p.extra.bytes) (omega arith))
+    (cond (begins_picture coded) (begun_out format p coded (split_of coded))
+    (each_out p no_extra no_extra (split_of coded)))) (le-ltb 0 (length p.extra.bytes) (omega arith))
 
 -- no part has one
 pub with_none : (format : Format) (p : Packet) (coded : List ℕ) → length coded ≤ 65400 → length p.extra.bytes ≡ 0
@@ -74,7 +74,7 @@ pub with_none : (format : Format) (p : Packet) (coded : List ℕ) → length cod
 with_none format p coded le none begins =
     without format p coded le none
     ∙ ap (λ (t : Bool). cond t (begun_out format p coded (split_of coded))
-        (each_out p no_extra no_extra (split_of coded))) begins
+    (each_out p no_extra no_extra (split_of coded))) begins
     ∙ each_is p no_extra no_extra (split_of coded)
 
 begun : (format : Format) (p : Packet) (coded : List ℕ) → length coded ≤ 65400 → length p.extra.bytes ≡ 0
@@ -82,7 +82,7 @@ begun : (format : Format) (p : Packet) (coded : List ℕ) → length coded ≤ 6
 begun format p coded le none begins =
     without format p coded le none
     ∙ ap (λ (t : Bool). cond t (begun_out format p coded (split_of coded))
-        (each_out p no_extra no_extra (split_of coded))) begins
+    (each_out p no_extra no_extra (split_of coded))) begins
 
 -- a picture of one part
 pub with_one : (format : Format) (p : Packet) (coded : List ℕ) → length coded ≤ 65400 → length p.extra.bytes ≡ 0
@@ -90,7 +90,7 @@ pub with_one : (format : Format) (p : Packet) (coded : List ℕ) → length code
     → unit_out format p coded ≡ fronted (front_of p no_extra) (front_of p no_extra) (split_of coded)
 with_one format p coded le none begins one =
     begun format p coded le none begins ∙ ap (begun_out format p coded) one
-        ∙ ap (fronted (front_of p no_extra) (front_of p no_extra)) (sym one)
+    ∙ ap (fronted (front_of p no_extra) (front_of p no_extra)) (sym one)
 
 several : (format : Format) (p : Packet) (coded part rest : List ℕ) → split_of coded ≡ part ∷ split_of rest
     → begun_out format p coded (split_of coded) ≡ picture_out p coded (header_of format coded)
@@ -160,16 +160,16 @@ front_same q p extra d = λ i. front_by (sym d.sequence i) (sym d.timestamp i) e
 pub by_extra : (format : Format) (coded : List ℕ) (o : Option Packet) (q : Parts) (front : Front) {extra : List ℕ}
     → (p : Packet) → o ≡ Some p → Describes q p → length coded ≤ 65400 → 0 < q.plen → extra ≡ extra_one o
     → front_bytes front ≡ front_by q.sequence q.timestamp (record { bytes = extra; pebit = q.pebit })
-        → fronted (front_bytes front) (front_bytes front) (split_of coded) ≡ out_by format coded o
+    → fronted (front_bytes front) (front_bytes front) (split_of coded) ≡ out_by format coded o
 by_extra format coded o q front {extra} p is d le some extra_is front_is =
     let bytes : extra ≡ p.extra.bytes = extra_is ∙ ap extra_one is in
     let pebit = d.pebit some in
     let whole : front_bytes front ≡ front_of p p.extra = front_is
-        ∙ (λ i. front_by q.sequence q.timestamp (record { bytes = bytes i; pebit = sym pebit i }))
-        ∙ front_same q p p.extra d in
+    ∙ (λ i. front_by q.sequence q.timestamp (record { bytes = bytes i; pebit = sym pebit i }))
+    ∙ front_same q p p.extra d in
     let plen = d.plen in
     (λ i. fronted (whole i) (whole i) (split_of coded)) ∙ sym (with_extra format p coded le (omega arith))
-        ∙ ap (out_by format coded) (sym is)
+    ∙ ap (out_by format coded) (sym is)
 
 plain_is : (q : Parts) (p : Packet) (front : Front) → Describes q p
     → front_bytes front ≡ front_by q.sequence q.timestamp (record { bytes = []; pebit = 0 })
@@ -180,46 +180,46 @@ pub by_none : (format : Format) (coded : List ℕ) (o : Option Packet) (q : Part
     → o ≡ Some p → Describes q p → length coded ≤ 65400 → q.plen ≤ 0
     → front_bytes front ≡ front_by q.sequence q.timestamp (record { bytes = []; pebit = 0 })
     → begins_picture coded ≡ false → fronted (front_bytes front) (front_bytes front) (split_of coded)
-        ≡ out_by format coded o
+    ≡ out_by format coded o
 by_none format coded o q front p is d le none front_is begins =
     let whole = plain_is q p front d front_is in let plen = d.plen in
     (λ i. fronted (whole i) (whole i) (split_of coded)) ∙ sym (with_none format p coded le (omega arith) begins)
-        ∙ ap (out_by format coded) (sym is)
+    ∙ ap (out_by format coded) (sym is)
 
 pub by_one : (format : Format) (coded : List ℕ) (o : Option Packet) (q : Parts) (front : Front) {now : List ℕ}
     → (p : Packet) → o ≡ Some p → Describes q p → length coded ≤ 65400 → q.plen ≤ 0
     → front_bytes front ≡ front_by q.sequence q.timestamp (record { bytes = []; pebit = 0 })
     → begins_picture coded ≡ true → now ≡ coded → split_of now ≡ now ∷ []
-        → fronted (front_bytes front) (front_bytes front) (split_of coded) ≡ out_by format coded o
+    → fronted (front_bytes front) (front_bytes front) (split_of coded) ≡ out_by format coded o
 by_one format coded o q front p is d le none front_is begins same one =
     let whole = plain_is q p front d front_is in let plen = d.plen in
     let one' = subst (λ (l : List ℕ). split_of l ≡ l ∷ []) same one in
     (λ i. fronted (whole i) (whole i) (split_of coded)) ∙ sym (with_one format p coded le (omega arith) begins one')
-        ∙ ap (out_by format coded) (sym is)
+    ∙ ap (out_by format coded) (sym is)
 
 pub by_header : (format : Format) (coded : List ℕ) (o : Option Packet) (q : Parts) (front other : Front)
     (bits : ℕ) {now : List ℕ} → (p : Packet) → o ≡ Some p → Describes q p → length coded ≤ 65400 → q.plen ≤ 0
     → front_bytes front ≡ front_by q.sequence q.timestamp (record { bytes = []; pebit = 0 })
     → begins_picture coded ≡ true → now ≡ coded → IsCut now → Some bits ≡ header_end format now
-        → front_bytes other ≡ front_by q.sequence q.timestamp (padded_bytes bits now)
-        → fronted (front_bytes front) (front_bytes other) (split_of coded) ≡ out_by format coded o
+    → front_bytes other ≡ front_by q.sequence q.timestamp (padded_bytes bits now)
+    → fronted (front_bytes front) (front_bytes other) (split_of coded) ≡ out_by format coded o
 by_header format coded o q front other bits {now} p is d le none front_is begins same cut ends other_is =
     let whole = plain_is q p front d front_is in let plen = d.plen in
     let others : front_bytes other ≡ front_of p (padded_bytes bits coded) = other_is
-        ∙ ap (λ (l : List ℕ). front_by q.sequence q.timestamp (padded_bytes bits l)) same
-        ∙ front_same q p (padded_bytes bits coded) d in
+    ∙ ap (λ (l : List ℕ). front_by q.sequence q.timestamp (padded_bytes bits l)) same
+    ∙ front_same q p (padded_bytes bits coded) d in
     let cut' : split_of coded ≡ cut.0 ∷ split_of cut.1 = ap split_of (sym same) ∙ cut.2 in
     (λ i. fronted (whole i) (others i) (split_of coded))
-        ∙ sym (with_header format p coded cut.0 cut.1 bits le (omega arith) begins cut' (ends
-        ∙ ap (header_end format) same)) ∙ ap (out_by format coded) (sym is)
+    ∙ sym (with_header format p coded cut.0 cut.1 bits le (omega arith) begins cut' (ends
+    ∙ ap (header_end format) same)) ∙ ap (out_by format coded) (sym is)
 
 pub by_no_header : (format : Format) (coded : List ℕ) (o : Option Packet) (q : Parts) (front : Front) {now : List ℕ}
     → (p : Packet) → o ≡ Some p → Describes q p → length coded ≤ 65400 → q.plen ≤ 0
     → front_bytes front ≡ front_by q.sequence q.timestamp (record { bytes = []; pebit = 0 })
     → begins_picture coded ≡ true → now ≡ coded → IsCut now → None ≡ header_end format now
-        → (front_bytes front ++ coded) ∷ [] ≡ out_by format coded o
+    → (front_bytes front ++ coded) ∷ [] ≡ out_by format coded o
 by_no_header format coded o q front p is d le none front_is begins same cut ends =
     let whole = plain_is q p front d front_is in let plen = d.plen in
     let cut' : split_of coded ≡ cut.0 ∷ split_of cut.1 = ap split_of (sym same) ∙ cut.2 in
     (λ i. (whole i ++ coded) ∷ []) ∙ sym (with_no_header format p coded cut.0 cut.1 le (omega arith) begins cut' (ends
-        ∙ ap (header_end format) same)) ∙ ap (out_by format coded) (sym is)
+    ∙ ap (header_end format) same)) ∙ ap (out_by format coded) (sym is)

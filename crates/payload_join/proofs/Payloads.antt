@@ -47,11 +47,11 @@ bits_of_bytes zero (b ∷ text) e = absurd (omega arith)
 bits_of_bytes (suc count) text e =
     let long : length (take 8 text) ≡ 8 = length-take-le 8 text (omega arith) in
     let one : spelled 8 (number (take 8 text)) ≡ take 8 text = ap (λ (n : ℕ). spelled n (number (take 8 text)))
-        (sym long) ∙ spelled-number (take 8 text) in
+    (sym long) ∙ spelled-number (take 8 text) in
     let rest : bits_of (bytes_in count (drop 8 text)) ≡ drop 8 text = bits_of_bytes count (drop 8 text)
-        (omega (arith, length-drop 8 text)) in
+    (omega (arith, length-drop 8 text)) in
     ap (λ (t : List Bool). t ++ bits_of (bytes_in count (drop 8 text))) one
-        ∙ ap (λ (t : List Bool). take 8 text ++ t) rest ∙ take-append-drop 8 text
+    ∙ ap (λ (t : List Bool). take 8 text ++ t) rest ∙ take-append-drop 8 text
 
 length-rtp : (sequence timestamp : ℕ) → length (fields (rtp_fields false sequence timestamp)) ≡ 96
 unfolding spelled
@@ -65,11 +65,15 @@ length-opening plen pebit = refl
 after_text : (bytes : List ℕ) (front rest : List Bool) (at : ℕ) → bits_of bytes ≡ front ++ rest → length front ≡ at
     → bits_between bytes at (8 * length bytes) ≡ record { at = at; bits = rest }
 after_text bytes front rest at e len =
-    let room : length rest ≤ 8 * length bytes - at = omega (arith, length-bits_of bytes, ap length e,
-        length-append front rest) in
+    let room : length rest ≤ 8 * length bytes - at = omega (
+      arith,
+      length-bits_of bytes,
+      ap length e,
+      length-append front rest,
+    ) in
     let there : drop at (bits_of bytes) ≡ rest = ap (drop at) e ∙ drop_at front rest at len in
     ap (λ (t : List Bool). record { at = at; bits = t }) (ap (take (8 * length bytes - at)) there
-        ∙ take_all (8 * length bytes - at) rest room)
+    ∙ take_all (8 * length bytes - at) rest room)
 
 -- ---- RTP's header
 
@@ -78,19 +82,24 @@ ok_rtp r = Ok r
 
 -- all bytes after the header are its payload
 abbrev rtp_of : ℕ → ℕ → ℕ → Rtp
-rtp_of sequence timestamp bytes = record { marker = false; sequence = sequence; timestamp = timestamp; from = 12;
-    to = bytes }
+rtp_of sequence timestamp bytes = record {
+  marker = false;
+  sequence = sequence;
+  timestamp = timestamp;
+  from = 12;
+  to = bytes;
+}
 
 is_rtp : AreRead → (sequence timestamp : ℕ) (bytes : List ℕ) (rest : List Bool) → sequence < 65536
     → timestamp < 4294967296
     → bits_of bytes ≡ fields (rtp_fields false sequence timestamp) ++ rest → length bytes ≤ 65535
-        → IsRtp (rtp_of sequence timestamp (length bytes)) bytes
+    → IsRtp (rtp_of sequence timestamp (length bytes)) bytes
 is_rtp below sequence timestamp bytes rest small few e short =
     let text = fields (rtp_fields false sequence timestamp) in
     let len : length text ≡ 96 = length-rtp sequence timestamp in
     let long : 12 ≤ length bytes = omega (arith, length-bits_of bytes, ap length e, length-append text rest, len) in
     let front : bits_of (take 12 bytes) ≡ text = bits_of-take 12 bytes long ∙ ap (take 96) e
-        ∙ take_at text rest 96 len in
+    ∙ take_at text rest 96 len in
     let fits : length (drop 12 bytes) ≤ 65523 = omega (arith, length-drop 12 bytes) in
     let read = below.rtp_again (take 12 bytes) (drop 12 bytes) false sequence timestamp small few front fits in
     let end : 12 + length (drop 12 bytes) ≡ length bytes = omega (arith, length-drop 12 bytes) in
@@ -158,19 +167,23 @@ front_bits : (first : Packet) (e : Extra) → bits_of (front_of first e)
 front_bits first e =
     let rtp = fields (rtp_fields false first.sequence first.timestamp) in
     let written = fields (opening_fields (length e.bytes) e.pebit) in
-    let len : length (rtp ++ written) ≡ 8 * 14 = omega (arith, length-append rtp written,
-        length-rtp first.sequence first.timestamp, length-opening (length e.bytes) e.pebit) in
+    let len : length (rtp ++ written) ≡ 8 * 14 = omega (
+      arith,
+      length-append rtp written,
+      length-rtp first.sequence first.timestamp,
+      length-opening (length e.bytes) e.pebit,
+    ) in
     bits_of-append (bytes_in 14 (rtp ++ written)) e.bytes
-        ∙ ap (λ (t : List Bool). t ++ bits_of e.bytes) (bits_of_bytes 14 (rtp ++ written) len)
+    ∙ ap (λ (t : List Bool). t ++ bits_of e.bytes) (bits_of_bytes 14 (rtp ++ written) len)
 
 packet_bits : (first : Packet) (e : Extra) (part : List ℕ)
     → bits_of (outgoing first e part) ≡ fields (rtp_fields false first.sequence first.timestamp)
-        ++ (fields (opening_fields (length e.bytes) e.pebit) ++ (bits_of e.bytes ++ bits_of part))
+    ++ (fields (opening_fields (length e.bytes) e.pebit) ++ (bits_of e.bytes ++ bits_of part))
 packet_bits first e part =
     let rtp = fields (rtp_fields false first.sequence first.timestamp) in
     let written = fields (opening_fields (length e.bytes) e.pebit) in
     bits_of-append (front_of first e) part ∙ ap (λ (t : List Bool). t ++ bits_of part) (front_bits first e)
-        ∙ regroup rtp written (bits_of e.bytes) (bits_of part)
+    ∙ regroup rtp written (bits_of e.bytes) (bits_of part)
   where
     regroup : (a b c d : List Bool) → ((a ++ b) ++ c) ++ d ≡ a ++ (b ++ (c ++ d))
     regroup a b c d = simp append_assoc
@@ -179,16 +192,20 @@ packet_length : (first : Packet) (e : Extra) (part : List ℕ) → length (outgo
     ≡ 14 + length e.bytes + length part
 packet_length first e part =
     let text = fields (rtp_fields false first.sequence first.timestamp)
-        ++ fields (opening_fields (length e.bytes) e.pebit) in
-    omega (arith, length-append (front_of first e) part, length-append (bytes_in 14 text) e.bytes,
-        length-bytes_in 14 text)
+    ++ fields (opening_fields (length e.bytes) e.pebit) in
+    omega (
+      arith,
+      length-append (front_of first e) part,
+      length-append (bytes_in 14 text) e.bytes,
+      length-bytes_in 14 text,
+    )
 
 pub is_packet : AreRead → (format : Format) (first : Packet) (e : Extra) (part : List ℕ) (s : Slice)
     (extra : Option Header) (begins : Bool) (front after : List Bool) → Fits first e part
     → IsExtra format (length e.bytes) e.pebit extra (bits_of e.bytes) → IsBegun begins (bits_of part)
-        → begins ≡ is_none extra
+    → begins ≡ is_none extra
     → bits_of part ≡ front ++ after → IsHeaded format extra s.header front
-        → IsSliceText s.header begins s.first s.mbs after
+    → IsSliceText s.header begins s.first s.mbs after
     → IsPacket format s (outgoing first e part)
 is_packet below format first e part s extra begins front after fits is begun alone parts headed text =
     let bytes = outgoing first e part in
@@ -201,11 +218,17 @@ is_packet below format first e part s extra begins front after fits is begun alo
     let short : length bytes ≤ 65535 = omega (arith, packet_length first e part, fits.few, fits.short) in
     let there = after_text bytes rtp (written ++ (bits_of e.bytes ++ bits_of part)) 96 whole l1 in
     let before : bits_of bytes ≡ (rtp ++ (written ++ bits_of e.bytes)) ++ bits_of part = whole
-        ∙ regroup rtp written (bits_of e.bytes) (bits_of part) in
-    let len : length (rtp ++ (written ++ bits_of e.bytes)) ≡ 112 + 8 * length e.bytes = omega (arith,
-        length-append rtp (written ++ bits_of e.bytes), length-append written (bits_of e.bytes), l1, l2, l3) in
+    ∙ regroup rtp written (bits_of e.bytes) (bits_of part) in
+    let len : length (rtp ++ (written ++ bits_of e.bytes)) ≡ 112 + 8 * length e.bytes = omega (
+      arith,
+      length-append rtp (written ++ bits_of e.bytes),
+      length-append written (bits_of e.bytes),
+      l1,
+      l2,
+      l3,
+    ) in
     let left = after_text bytes (rtp ++ (written ++ bits_of e.bytes)) (bits_of part) (112 + 8 * length e.bytes) before
-        len in
+    len in
     let payload : Payload = record { extra = extra; begins = begins; from = 112 + 8 * length e.bytes } in
     record {
       rtp = rtp_of first.sequence first.timestamp (length bytes);

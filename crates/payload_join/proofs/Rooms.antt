@@ -24,15 +24,15 @@ built_last g room p left at order end last =
     (ap (λ (b : Bool). cond b (left_of_unit g (bytes_between room g.at g.to)) []) left)
     ∙ last
     ∙ ap (λ (l : List ℕ). l ∷ []) (ap (λ (k : ℕ). f ++ bytes_between room k g.to) (sym at)
-        ∙ sym (between_put room f p g.to (omega arith) end))
+    ∙ sym (between_put room f p g.to (omega arith) end))
 
 -- a part is given, and others are left
 pub built_cut : (g : Giving) (room : List ℕ) (p len : ℕ) → g.is_left ≡ true → g.splits ≡ true
     → p + length (front_bytes g.front) ≡ g.at → g.at + len + 2 < g.to → g.to ≤ length room
     → split_of (bytes_between room g.at g.to) ≡ take len (bytes_between room g.at g.to) ∷ split_of
-        (drop (len + 2) (bytes_between room g.at g.to))
+    (drop (len + 2) (bytes_between room g.at g.to))
     → left_in g room ≡ bytes_between (put_at room p (front_bytes g.front)) p (g.at + len) ∷ left_in
-        (record g { at = g.at + len + 2; front = g.other }) (put_at room p (front_bytes g.front))
+    (record g { at = g.at + len + 2; front = g.other }) (put_at room p (front_bytes g.front))
 built_cut g room p len left splits at order end cut =
     let f : List ℕ = front_bytes g.front in
     let o : List ℕ = front_bytes g.other in
@@ -48,9 +48,9 @@ built_cut g room p len left splits at order end cut =
     ∙ sym (between_put room f p (g.at + len) (omega arith) (omega arith)) in
     let was : left_in g room ≡ fronted f o (split_of coded) = rw (left, splits) refl in
     let then_left : fronted o o (split_of (bytes_between new (g.at + len + 2) g.to))
-        ≡ left_in (record g { at = g.at + len + 2; front = g.other }) new = rw (left, splits) refl in
+    ≡ left_in (record g { at = g.at + len + 2; front = g.other }) new = rw (left, splits) refl in
     was
     ∙ ap (fronted f o) cut
     ∙ (λ i. part i ∷ map (λ q. o ++ q) (split_of (rest i)))
     ∙ ap (λ (l : List (List ℕ)). bytes_between new p (g.at + len) ∷ l)
-        (sym (fronted_same o (split_of (bytes_between new (g.at + len + 2) g.to))) ∙ then_left)
+    (sym (fronted_same o (split_of (bytes_between new (g.at + len + 2) g.to))) ∙ then_left)

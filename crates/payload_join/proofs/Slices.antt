@@ -100,7 +100,7 @@ unfolding AreTexts zeros
 texts_keep a quant before [] text h = rw h (omega arith)
 texts_keep a quant before (m ∷ mbs) text h =
     rw h.2 (zeros_then 6 6 6 h.0 h.1 (mb_keeps a.kind quant (a.reaches (a.first + length before))
-        (a.predictor before) m h.0 h.3) (texts_keep a (quant_after quant m) (before ++ m ∷ []) mbs h.1 h.4))
+    (a.predictor before) m h.0 h.3) (texts_keep a (quant_after quant m) (before ++ m ∷ []) mbs h.1 h.4))
 
 -- a slice after its header
 first_keeps : (h : Header) (first quant : ℕ) (mbs : List Mb) (front held_after : List Bool)
@@ -108,14 +108,14 @@ first_keeps : (h : Header) (first quant : ℕ) (mbs : List Mb) (front held_after
     → zeros 9 (front ++ held_after) ≤ 6
 first_keeps h first quant mbs front held_after opened each =
     zeros_then 9 6 6 front held_after (omega (arith, first_head_keeps h (first, quant) front opened))
-        (texts_keep (around h first) quant [] mbs held_after each)
+    (texts_keep (around h first) quant [] mbs held_after each)
 
 later_keeps : (h : Header) (first quant : ℕ) (mbs : List Mb) (front held_after : List Bool)
     → Spells (head h false) (first, quant) front → AreTexts (around h first) quant [] mbs held_after
     → zeros 15 (front ++ held_after) ≤ 6
 later_keeps h first quant mbs front held_after opened each =
     zeros_then 15 6 6 front held_after (omega (arith, later_head_keeps h (first, quant) front opened))
-        (texts_keep (around h first) quant [] mbs held_after each)
+    (texts_keep (around h first) quant [] mbs held_after each)
 
 -- sixteen after the first bit are sixteen
 none_in : (text : List Bool) → zeros 15 text < 16 → HasZeros (drop 1 text) → ⊥
@@ -133,29 +133,32 @@ padding_few bits e = ltb-true (length bits) 8 (and_both (nat_lt (length bits) 8)
 -- with the padding there are at most thirteen at the end
 padded_keeps : (from : ℕ) (text padding : List Bool) → zeros from text ≤ 6 → is_padding padding ≡ true
     → zeros from (text ++ padding) ≤ 13
-padded_keeps from text padding le e = zeros_then from 6 13 text padding le (omega (arith, zeros_add 6 padding,
-    padding_few padding e))
+padded_keeps from text padding le e = zeros_then from 6 13 text padding le (omega (
+  arith,
+  zeros_add 6 padding,
+  padding_few padding e,
+))
 
 whole_slice : (from : ℕ) (h : Header) (begins : Bool) (first : ℕ) (mbs : List Mb) (bits : List Bool)
     → (is : IsSliceText h begins first mbs bits)
     → ((text : List Bool) → AreTexts (around h first) is.quant [] mbs text → zeros from (is.front ++ text) ≤ 6)
-        → zeros from bits ≤ 13
+    → zeros from bits ≤ 13
 whole_slice from h begins first mbs bits is each =
     rw (is.parts, is.body.whole, sym (append_assoc is.front is.body.text is.body.padding)) (padded_keeps from (is.front
-        ++ is.body.text) is.body.padding (each is.body.text is.body.each) is.body.zeros)
+    ++ is.body.text) is.body.padding (each is.body.text is.body.each) is.body.zeros)
 
 begun_quiet : (format : Format) (h : Header) (first : ℕ) (mbs : List Mb) (text slice : List Bool)
     → IsHeaderText format h text → IsSliceText h true first mbs slice → zeros 15 (text ++ slice) ≤ 13
 begun_quiet format h first mbs text slice spelt is =
     zeros_then 15 9 13 text slice (header_keeps format h text spelt)
     (whole_slice 9 h true first mbs slice is (λ held_after each. first_keeps h first is.quant mbs is.front held_after
-        is.opened each))
+    is.opened each))
 
 later_quiet : (h : Header) (first : ℕ) (mbs : List Mb) (slice : List Bool) → IsSliceText h false first mbs slice
     → zeros 15 slice ≤ 13
 later_quiet h first mbs slice is =
     whole_slice 15 h false first mbs slice is (λ held_after each. later_keeps h first is.quant mbs is.front held_after
-        is.opened each)
+    is.opened each)
 
 pub no_starts : NoStart
 no_starts = record {

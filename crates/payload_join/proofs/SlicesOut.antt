@@ -45,9 +45,9 @@ rtp_fits r bytes is =
     let value = timestamp.5.5.0 in
     let same : is.fields ≡ h = is.text.6.6.0 in
     let a : r.sequence ≡ sequence.0 = ap (λ (x : Rtp). x.sequence) is.value ∙ ap (λ (x : Head). x.sequence) (same
-        ∙ value) in
+    ∙ value) in
     let b : r.timestamp ≡ timestamp.0 = ap (λ (x : Rtp). x.timestamp) is.value ∙ ap (λ (x : Head). x.timestamp) (same
-        ∙ value) in
+    ∙ value) in
     (omega (arith, a, sequence.2), omega (arith, b, timestamp.2))
 
 opening_fits : (o : Opening) (text : List Bool) → Spells (opening true) o text → (o.plen < 64) × (o.pebit < 8)
@@ -75,7 +75,7 @@ in_fields below bytes p e =
     let read = reading (opening true) (payload_bits_of bytes r.0) in
     let o = bind_ok (standing_at (8 * r.0.from) read) (λ x. opened_as bytes r.0 x.0) p r.2 in
     let spelt = sound (opening true) (payload_bits_of bytes r.0) o.0.1 o.0.0 (standing_read (8 * r.0.from) read o.0 o.1)
-        in
+    in
     let rtp = rtp_fits r.0 bytes (below.rtp_read r.0 bytes r.1) in
     let fits = opening_fits o.0.0 spelt.0 spelt.2 in
     let extra = bytes_between bytes (extra_from r.0 o.0.0) (coded_from r.0 o.0.0) in
@@ -87,13 +87,22 @@ in_fields below bytes p e =
       extra = extra_of o.0.0.plen o.0.0.pebit extra;
       coded = bytes_between bytes (coded_from r.0 o.0.0) r.0.to;
     } in
-    let passed = passed_if (nat_lt r.0.to (coded_from r.0 o.0.0)) (record { kind = faults.Ended;
-        at = 8 * extra_from r.0 o.0.0 }) (Ok found) p o.2 in
+    let passed = passed_if (nat_lt r.0.to (coded_from r.0 o.0.0)) (record {
+      kind = faults.Ended;
+      at = 8 * extra_from r.0 o.0.0;
+    }) (Ok found) p o.2 in
     let same : found ≡ p = ok_is found p passed.1 in
-    let few : length extra ≤ o.0.0.plen = omega (arith, length-take (coded_from r.0 o.0.0 - extra_from r.0 o.0.0)
-        (drop (extra_from r.0 o.0.0) bytes)) in
-    subst IsInFields same (record { sequence = rtp.0; timestamp = rtp.1; few = omega (arith, few, fits.0);
-        bits = extra_bits (nat_lt 0 o.0.0.plen) o.0.0.pebit fits.1 })
+    let few : length extra ≤ o.0.0.plen = omega (
+      arith,
+      length-take (coded_from r.0 o.0.0 - extra_from r.0 o.0.0)
+          (drop (extra_from r.0 o.0.0) bytes),
+    ) in
+    subst IsInFields same (record {
+      sequence = rtp.0;
+      timestamp = rtp.1;
+      few = omega (arith, few, fits.0);
+      bits = extra_bits (nat_lt 0 o.0.0.plen) o.0.0.pebit fits.1;
+    })
 
 -- ---- one packet each
 
@@ -102,18 +111,22 @@ later_packets : AreRead → (format : Format) (first : Packet) (e : Extra) (h : 
     (parts : List (List ℕ))
     → first.sequence < 65536 → first.timestamp < 4294967296 → length e.bytes < 64 → e.pebit < 8
     → IsExtra format (length e.bytes) e.pebit (Some h) (bits_of e.bytes) → ((part : List ℕ) → IsIn part parts
-        → length part ≤ 65400) → EachIs (IsLaterOf h) slices parts
+    → length part ≤ 65400) → EachIs (IsLaterOf h) slices parts
     → EachIs (IsPacket format) slices (map (outgoing first e) parts)
 later_packets below format first e h [] [] s t few bits is short each = tt
 later_packets below format first e h [] (part ∷ parts) s t few bits is short each = absurd each
 later_packets below format first e h (slice ∷ slices) [] s t few bits is short each = absurd each
 later_packets below format first e h (slice ∷ slices) (part ∷ parts) s t few bits is short each =
     let text = each.0.1 in
-    let fits : Fits first e part = record { sequence = s; timestamp = t; few = few; bits = bits;
-        short = short part (inl refl) } in
+    let fits : Fits first e part = record {
+      sequence = s;
+      timestamp = t;
+      few = few;
+      bits = bits;
+      short = short part (inl refl);
+    } in
     let extra : IsExtra format (length e.bytes) e.pebit (Some slice.header) (bits_of e.bytes) =
-        subst (λ (g : Header). IsExtra format (length e.bytes) e.pebit (Some g) (bits_of e.bytes)) (sym each.0.0) is in
-        (
+    subst (λ (g : Header). IsExtra format (length e.bytes) e.pebit (Some g) (bits_of e.bytes)) (sym each.0.0) is in (
       is_packet below format first e part slice (Some slice.header) false [] (bits_of part) fits extra
           (later_begun slice.header slice.first slice.mbs (bits_of part) text) refl refl (refl, refl) text,
       later_packets below format first e h slices parts s t few bits is (λ p there. short p (inr there)) each.1,
@@ -122,14 +135,19 @@ later_packets below format first e h (slice ∷ slices) (part ∷ parts) s t few
 -- a picture's first slice, with the picture header before it
 first_packet : AreRead → (format : Format) (first : Packet) (s : Slice) (part : List ℕ)
     → first.sequence < 65536 → first.timestamp < 4294967296 → length part ≤ 65400 → IsFirstPart format s part
-        → IsPacket format s (outgoing first no_extra part)
+    → IsPacket format s (outgoing first no_extra part)
 unfolding bits_of
 first_packet below format first s part a b short is =
     let begun = header_begun format s.header is.text is.spelt in
-    is_packet below format first no_extra part s None true is.text is.slice (record { sequence = a; timestamp = b;
-        few = omega arith; bits = omega arith; short = short })
+    is_packet below format first no_extra part s None true is.text is.slice (record {
+      sequence = a;
+      timestamp = b;
+      few = omega arith;
+      bits = omega arith;
+      short = short;
+    })
     (refl, refl) (begun.0 ++ is.slice, is.parts ∙ ap (λ (t : List Bool). t ++ is.slice) begun.1)
-        refl is.parts is.spelt is.is
+    refl is.parts is.spelt is.is
 
 -- ---- the parts of a unit
 
@@ -138,10 +156,16 @@ part_short : (parts : List (List ℕ)) (part : List ℕ) → IsIn part parts →
 part_short [] part there = absurd there
 part_short (p ∷ []) part (inl same) = omega (arith, ap (λ (l : List ℕ). length l) same)
 part_short (p ∷ []) part (inr there) = absurd there
-part_short (p ∷ q ∷ parts) part (inl same) = omega (arith, ap (λ (l : List ℕ). length l) same,
-    length-append p (0 ∷ 0 ∷ joined (q ∷ parts)))
-part_short (p ∷ q ∷ parts) part (inr there) = omega (arith, part_short (q ∷ parts) part there,
-    length-append p (0 ∷ 0 ∷ joined (q ∷ parts)))
+part_short (p ∷ q ∷ parts) part (inl same) = omega (
+  arith,
+  ap (λ (l : List ℕ). length l) same,
+  length-append p (0 ∷ 0 ∷ joined (q ∷ parts)),
+)
+part_short (p ∷ q ∷ parts) part (inr there) = omega (
+  arith,
+  part_short (q ∷ parts) part there,
+  length-append p (0 ∷ 0 ∷ joined (q ∷ parts)),
+)
 
 -- the first stands at the front
 joined_more : (part : List ℕ) (parts : List (List ℕ)) → (more : List ℕ) × (joined (part ∷ parts) ≡ part ++ more)
@@ -167,7 +191,7 @@ each_alike first e (part ∷ parts) = refl
 going_on : AreRead → (format : Format) (first : Packet) (slices : List Slice) (parts : List (List ℕ)) → IsInFields first
     → length (joined parts) ≤ 65400
     → All (λ part. All (λ byte. byte < 256) part) parts → GoOn format first.extra slices parts
-        → EachIs (IsPacket format) slices (unit_out format first (joined parts))
+    → EachIs (IsPacket format) slices (unit_out format first (joined parts))
 unfolding unit_out
 going_on below format first slices parts f short bytes is =
     let coded = joined parts in
@@ -175,11 +199,11 @@ going_on below format first slices parts f short bytes is =
     let fits : nat_lt 65400 (length coded) ≡ false = le-ltb 65400 (length coded) short in
     let some : nat_lt 0 (length e.bytes) ≡ true = lt-ltb 0 (length e.bytes) is.is.3 in
     let cut : split_of coded
-        ≡ parts = is_split parts is.some bytes (λ k d lt. are_parts is.header slices parts is.each k d lt) in
+    ≡ parts = is_split parts is.some bytes (λ k d lt. are_parts is.header slices parts is.each k d lt) in
     let out : unit_out format first coded ≡ each_out first e e (split_of coded) = rw (fits, some) refl in
     subst (EachIs (IsPacket format) slices) (sym (out ∙ ap (each_out first e e) cut ∙ each_alike first e parts))
     (later_packets below format first e is.header slices parts f.sequence f.timestamp f.few f.bits is.is
-        (λ part there. omega (arith, part_short parts part there)) is.each)
+    (λ part there. omega (arith, part_short parts part there)) is.each)
 
 -- a unit that begins a picture is not one with an extra header
 begun_is : (format : Format) (first : Packet) (coded : List ℕ) → first.extra.bytes ≡ [] → length coded ≤ 65400
@@ -201,9 +225,9 @@ begin_parts format s slices part parts is each (suc k) d lt = are_parts s.header
 begun_packets : AreRead → (format : Format) (first : Packet) (s : Slice) (slices : List Slice) (part : List ℕ)
     (parts : List (List ℕ)) (coded : List ℕ) (rest : List Bool) → IsInFields first
     → (is : IsFirstPart format s part) → (parts ≡ []) ⊎ (length is.text ≤ 8 * 63) → bits_of coded ≡ is.text ++ rest
-        → split_of coded ≡ part ∷ parts
+    → split_of coded ≡ part ∷ parts
     → EachIs (IsLaterOf s.header) slices parts → ((p : List ℕ) → IsIn p parts → length p ≤ 65400)
-        → IsPacket format s (outgoing first no_extra part)
+    → IsPacket format s (outgoing first no_extra part)
     → EachIs (IsPacket format) (s ∷ slices) (begun_out format first coded (part ∷ parts))
 begun_packets below format first s [] part [] coded rest f is few whole cut each short head = (head, tt)
 begun_packets below format first s (t ∷ slices) part [] coded rest f is few whole cut each short head = absurd each
@@ -213,38 +237,40 @@ begun_packets below format first s slices part (next ∷ parts) coded rest f is 
     let e = padded_bytes (length is.text) coded in
     let copy = is_copy below.headers format s.header coded is.text rest is.spelt whole few in
     let out : picture_out first coded (header_of format coded) ≡ outgoing first no_extra part ∷ map (outgoing first e)
-        (next ∷ parts) =
+    (next ∷ parts) =
     ap (picture_out first coded) copy.found ∙ ap (each_out first no_extra e) cut in
-    subst (EachIs (IsPacket format) (s ∷ slices)) (sym out)
-    (head, later_packets below format first e s.header slices (next ∷ parts) f.sequence f.timestamp copy.few copy.bits
-        copy.is short each)
+    subst (EachIs (IsPacket format) (s ∷ slices)) (sym out) (
+      head,
+      later_packets below format first e s.header slices (next ∷ parts) f.sequence f.timestamp copy.few copy.bits
+          copy.is short each,
+    )
 
 beginning : AreRead → (format : Format) (first : Packet) (s : Slice) (slices : List Slice) (part : List ℕ)
     (parts : List (List ℕ)) → IsInFields first → length (joined (part ∷ parts)) ≤ 65400
     → All (λ part. All (λ byte. byte < 256) part) (part ∷ parts) → first.extra.bytes ≡ []
-        → (is : IsFirstPart format s part) → (parts ≡ []) ⊎ (length is.text ≤ 8 * 63)
+    → (is : IsFirstPart format s part) → (parts ≡ []) ⊎ (length is.text ≤ 8 * 63)
     → EachIs (IsLaterOf s.header) slices parts
-        → EachIs (IsPacket format) (s ∷ slices) (unit_out format first (joined (part ∷ parts)))
+    → EachIs (IsPacket format) (s ∷ slices) (unit_out format first (joined (part ∷ parts)))
 beginning below format first s slices part parts f short bytes none is few each =
     let coded = joined (part ∷ parts) in
     let more = joined_more part parts in
     let begun = header_begun format s.header is.text is.spelt in
     let bits : bits_of part ≡ true ∷ false ∷ (begun.0 ++ is.slice) = is.parts
-        ∙ ap (λ (t : List Bool). t ++ is.slice) begun.1 in
+    ∙ ap (λ (t : List Bool). t ++ is.slice) begun.1 in
     let picture : begins_picture coded ≡ true = ap begins_picture more.1
-        ∙ begins_is part more.0 (begun.0 ++ is.slice) (bytes 0 part (omega arith)) bits in
+    ∙ begins_is part more.0 (begun.0 ++ is.slice) (bytes 0 part (omega arith)) bits in
     let cut : split_of coded ≡ part ∷ parts = is_split (part ∷ parts) (omega arith) bytes
-        (begin_parts format s slices part parts is each) in
+    (begin_parts format s slices part parts is each) in
     let whole : bits_of coded ≡ is.text ++ (is.slice ++ bits_of more.0) =
     ap bits_of more.1 ∙ bits_of-append part more.0 ∙ ap (λ (t : List Bool). t ++ bits_of more.0) is.parts
-        ∙ append_assoc is.text is.slice (bits_of more.0) in
+    ∙ append_assoc is.text is.slice (bits_of more.0) in
     let out : unit_out format first coded ≡ begun_out format first coded (part ∷ parts) =
-        begun_is format first coded none short picture ∙ ap (begun_out format first coded) cut in
+    begun_is format first coded none short picture ∙ ap (begun_out format first coded) cut in
     let each_short : (p : List ℕ) → IsIn p (part ∷ parts)
-        → length p ≤ 65400 = λ p there. omega (arith, part_short (part ∷ parts) p there) in
+    → length p ≤ 65400 = λ p there. omega (arith, part_short (part ∷ parts) p there) in
     subst (EachIs (IsPacket format) (s ∷ slices)) (sym out)
     (begun_packets below format first s slices part parts coded (is.slice ++ bits_of more.0) f is few whole cut each
-        (λ p there. each_short p (inr there))
+    (λ p there. each_short p (inr there))
     (first_packet below format first s part f.sequence f.timestamp (each_short part (inl refl)) is))
 
 -- ---- a whole unit
@@ -254,18 +280,18 @@ unfolding outgoing_of
 of_slices below format at x k bytes first slices parts read there coded short small (inl is) =
     let f = in_fields below bytes first read in
     let out : outgoing_of format at x k ≡ unit_out format first (joined parts) =
-        ap (out_by format (unit_bytes at x (k + 1))) there ∙ ap (unit_out format first) coded in
+    ap (out_by format (unit_bytes at x (k + 1))) there ∙ ap (unit_out format first) coded in
     let short_is : length (joined (is.part ∷ is.after)) ≤ 65400 =
-        subst (λ (p : List (List ℕ)). length (joined p) ≤ 65400) is.parts_are short in
+    subst (λ (p : List (List ℕ)). length (joined p) ≤ 65400) is.parts_are short in
     let small_are = subst (λ (p : List (List ℕ)). All (λ part. All (λ byte. byte < 256) part) p) is.parts_are small in
     subst (EachIs (IsPacket format) slices) (sym out)
     (subst (λ (l : List Slice). EachIs (IsPacket format) l (unit_out format first (joined parts))) (sym is.slices_are)
     (subst (λ (p : List (List ℕ)). EachIs (IsPacket format) (is.first ∷ is.others) (unit_out format first (joined p)))
-        (sym is.parts_are)
+    (sym is.parts_are)
     (beginning below format first is.first is.others is.part is.after f short_is small_are is.none is.begun is.short
-        is.each)))
+    is.each)))
 of_slices below format at x k bytes first slices parts read there coded short small (inr is) =
     let f = in_fields below bytes first read in
     let out : outgoing_of format at x k ≡ unit_out format first (joined parts) =
-        ap (out_by format (unit_bytes at x (k + 1))) there ∙ ap (unit_out format first) coded in
+    ap (out_by format (unit_bytes at x (k + 1))) there ∙ ap (unit_out format first) coded in
     subst (EachIs (IsPacket format) slices) (sym out) (going_on below format first slices parts f short small is)

@@ -16,13 +16,13 @@ released {region} {new} {slots} {rest} slot held is back counted =
     let h : IsHeld region (rest ++ slot ∷ []) = subst (IsHeld region) is held in
     let long : length (rest ++ slot ∷ []) ≡ length rest + 1 = length-append rest (slot ∷ []) in
     let at : (k : ℕ) → k < length rest → get_or (rest ++ slot ∷ []) k 0
-        ≡ get_or rest k 0 = λ k l. get_or_append_left rest (slot ∷ []) 0 k l in
+    ≡ get_or rest k 0 = λ k l. get_or_append_left rest (slot ∷ []) 0 k l in
     let last : get_or (rest ++ slot ∷ []) (length rest) 0 ≡ slot = get_or-append_seam rest slot [] 0 in
     record {
       out = λ k l. subst (λ (s : Slots). IsOut s (get_or rest k 0)) (sym back)
           (get_or-set_other region.outs slot (get_or rest k 0) false false (λ e. let same : k
-              ≡ length rest = h.once k (length rest) (omega arith) (omega arith) (at k l ∙ e ∙ sym last) in
-              absurd (omega arith))
+          ≡ length rest = h.once k (length rest) (omega arith) (omega arith) (at k l ∙ e ∙ sym last) in
+          absurd (omega arith))
           ∙ subst (IsOut region) (at k l) (h.out k (omega arith)));
       once = λ j k lj lk e. h.once j k (omega arith) (omega arith) (at j lj ∙ e ∙ sym (at k lk));
       all = let a : out_of region ≡ length (rest ++ slot ∷ []) = h.all in omega arith;
@@ -33,8 +33,10 @@ abbrev pub with_slot : Slots → ℕ → List ℕ → Slots
 with_slot region slot ws = record region { bytes = set region.bytes slot ws }
 
 pub out_inside : (region : Slots) (slot : ℕ) → IsOut region slot → slot < length region.outs
-out_inside region slot h = elim (cases_lt slot (length region.outs)) [ inl l ↦ l
-    | inr l ↦ absurd (true≢false (sym h ∙ get_or-eq_default region.outs false l)) ]
+out_inside region slot h = elim (cases_lt slot (length region.outs)) [
+  | inl l ↦ l
+  | inr l ↦ absurd (true≢false (sym h ∙ get_or-eq_default region.outs false l))
+]
 
 -- as many bytes as before
 pub put_length : (xs : List ℕ) (at : ℕ) (ws : List ℕ) → at + length ws ≤ length xs → length (put_at xs at ws)
@@ -43,9 +45,9 @@ put_length xs at ws le =
     let a : length (take at xs) ≡ at = length-take-le at xs (omega arith) in
     let b : length (drop (at + length ws) xs) ≡ length xs - (at + length ws) = length-drop (at + length ws) xs in
     let c : length (put_at xs at ws) ≡ length (take at xs) + length (ws ++ drop (at + length ws) xs) =
-        length-append (take at xs) (ws ++ drop (at + length ws) xs) in
+    length-append (take at xs) (ws ++ drop (at + length ws) xs) in
     let d : length (ws ++ drop (at + length ws) xs) ≡ length ws + length (drop (at + length ws) xs) =
-        length-append ws (drop (at + length ws) xs) in
+    length-append ws (drop (at + length ws) xs) in
     omega arith
 
 -- the bytes of a slot of zeros

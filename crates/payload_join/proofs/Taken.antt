@@ -27,7 +27,7 @@ module _ (at bt : At) (x y : ℕ) (same : (j : ℕ) → at (x + j) ≡ bt (y + j
   unfolding unit_at is_unit
   unit_moved = λ i. least_from 64 0 (λ k.
       begins_one (first_same i) && each_below k (λ j. follows_one (same (j + 1) i)) && each_below k
-          (λ j. not (is_marked (same j i)))
+      (λ j. not (is_marked (same j i)))
       && (is_marked (same k i) || begins_one (same (k + 1) i)))
 
 coded_moved : (at bt : At) (x y count : ℕ) → ((j : ℕ) → at (x + j) ≡ bt (y + j)) → coded_from at x count
@@ -37,7 +37,7 @@ coded_moved at bt x y zero same = refl
 coded_moved at bt x y (suc count) same =
     let first = first_same at bt x y same in
     let more = coded_moved at bt (x + 1) (y + 1) count (λ j. let e : x + 1 + j ≡ x + (j + 1) = omega arith in
-        let f : y + (j + 1) ≡ y + 1 + j = omega arith in ap at e ∙ same (j + 1) ∙ ap bt f) in
+    let f : y + (j + 1) ≡ y + 1 + j = omega arith in ap at e ∙ same (j + 1) ∙ ap bt f) in
     λ i. coded_one (first i) ++ more i
 
 outgoing_moved : (format : Format) (at bt : At) (x y k : ℕ) → ((j : ℕ) → at (x + j) ≡ bt (y + j))
@@ -102,7 +102,7 @@ from_is now packets last d top n y m le b =
       follow = λ k lt less.
           let f : k - d + d ≡ k = omega arith in
           ap follows_one (sym (ap now f) ∙ m.same (k - d) (omega arith) ∙ inside packets last (k - d) (omega arith))
-              ∙ b.follow (k - d) (omega arith) (omega arith);
+          ∙ b.follow (k - d) (omega arith) (omega arith);
     }
 
 before_is : (now : At) (packets : List (Option Packet)) (last d top n y : ℕ) → IsMoved now packets last d top → n ≤ last
@@ -123,7 +123,7 @@ before_is now packets last d top n y m le b =
 both_made : (format : Format) (before now : At) (packets : List (Option Packet)) (last d top n : ℕ) (u v : Option Span)
     → IsMoved now packets last d top → IsStep before now (n + d) top
     → IsFirst format packets last n u → unit_left format packets v
-        ≡ out_made format (window packets last) n n (unit_at (window packets last) n)
+    ≡ out_made format (window packets last) n n (unit_at (window packets last) n)
     → unit_left format packets u ++ unit_left format packets v ≡ made_from format before now (top - 63) 64
 both_made format before now packets last d top n u v m step (inl first) second =
     let y : ℕ = first.0 in
@@ -131,19 +131,19 @@ both_made format before now packets last d top n u v m step (inl first) second =
     let from = first.1.from in let below = first.1.below in
     let le : n ≤ last = omega arith in
     let one = first.2 ∙ sym (out_moved format now (window packets last) n y d
-        (along now packets last d top y m (omega arith))) in
+    (along now packets last d top y m (omega arith))) in
     let two = second ∙ sym (out_moved format now (window packets last) n n d
-        (along now packets last d top n m (omega arith))) in
+    (along now packets last d top n m (omega arith))) in
     (λ i. one i ++ two i) ∙ sym (made_two format before now (n + d) top (y + d) step
-        (from_is now packets last d top n y m le first.1))
+    (from_is now packets last d top n y m le first.1))
 both_made format before now packets last d top n u v m step (inr none) second =
     let upto = step.upto in let young = step.young in let e = m.top_is in
     let le : n ≤ last = omega arith in
     let two = second ∙ sym (out_moved format now (window packets last) n n d
-        (along now packets last d top n m (omega arith))) in
+    (along now packets last d top n m (omega arith))) in
     ap (λ (l : List (List ℕ)). l ++ unit_left format packets v) none.1 ∙ two
     ∙ sym (made_alone format before now (n + d) top step
-        (λ y from. none.0 (y - d) (before_is now packets last d top n y m le from)))
+    (λ y from. none.0 (y - d) (before_is now packets last d top n y m le from)))
 
 fresh_of : (s : Joined) (x : ℕ) → took_as s x ≡ tooks.Held → packet_at s.held x ≡ None
 fresh_of s x held = at (packet_at s.held x) refl
@@ -161,15 +161,15 @@ pub goes_out : (format : Format) (top : Option ℕ) (packets : List (Option Pack
     (p : Packet) (u v : Option Span) → Shows top packets s → IsWindow s → sequence < 65536 → length packets ≡ 64
     → took_as s (number_of s.top sequence) ≡ tooks.Held
     → IsFirst format (set (left_at top packets sequence) (sequence % 64) (Some p)) (top_after top sequence + 65536)
-        (number_by (top_after top sequence + 65536) sequence) u
+    (number_by (top_after top sequence + 65536) sequence) u
     → unit_left format (set (left_at top packets sequence) (sequence % 64) (Some p)) v
     ≡ out_made format (window (set (left_at top packets sequence) (sequence % 64) (Some p))
-        (top_after top sequence + 65536)) (number_by (top_after top sequence + 65536) sequence)
-        (number_by (top_after top sequence + 65536) sequence)
+    (top_after top sequence + 65536)) (number_by (top_after top sequence + 65536) sequence)
+    (number_by (top_after top sequence + 65536) sequence)
     (unit_at (window (set (left_at top packets sequence) (sequence % 64) (Some p)) (top_after top sequence + 65536))
-        (number_by (top_after top sequence + 65536) sequence))
+    (number_by (top_after top sequence + 65536) sequence))
     → unit_left format (set (left_at top packets sequence) (sequence % 64) (Some p)) u
-        ++ unit_left format (set (left_at top packets sequence) (sequence % 64) (Some p)) v
+    ++ unit_left format (set (left_at top packets sequence) (sequence % 64) (Some p)) v
     ≡ made format s.held (with_packet s (number_of s.top sequence) p)
 unfolding packet_at
 goes_out format top packets s sequence p u v shows w small long held first second =
@@ -191,7 +191,7 @@ goes_out format top packets s sequence p u v shows w small long held first secon
         | inr le ↦
             let place : (m + d) % 64 ≡ m % 64 = omega arith in
             sym (h.shows.packet t (m + d) refl (omega arith) (omega arith)) ∙ ap (λ (k : ℕ). get_or new k None) place
-                ∙ sym (inside new last m le)
+            ∙ sym (inside new last m le)
       ];
     } in
     let step : IsStep (packet_at s.held) (packet_at (with_packet s x p).held) (n + d) t = record {

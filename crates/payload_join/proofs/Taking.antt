@@ -104,7 +104,7 @@ module _ (top : Option ℕ) (packets : List (Option Packet)) (bytes : List ℕ) 
   unfolding joined_by
   held_stands e =
       subst (Shows (Some (top_after top p.sequence)) (holding_at top packets p.sequence p))
-          (sym (ap (held_after_as (joined_by past) p) (held_as t e)) ∙ after_is)
+      (sym (ap (held_after_as (joined_by past) p) (held_as t e)) ∙ after_is)
       (holds top packets (joined_by past) p.sequence p shows (is_window past) c.small c.many (is_taken e))
 
   pub held_left : (format : Format) (left : List (List ℕ)) → is_held t ≡ true
@@ -112,5 +112,5 @@ module _ (top : Option ℕ) (packets : List (Option Packet)) (bytes : List ℕ) 
   held_left format left e m =
       m.left_is
       ∙ goes_out format top packets (joined_by past) p.sequence p m.first m.second shows (is_window past) c.small c.many
-          (is_taken e) m.first_is m.second_is
+      (is_taken e) m.first_is m.second_is
       ∙ sym (ap (given_as format (joined_by past) p) (held_as t e)) ∙ given_is format

@@ -67,9 +67,9 @@ judged_some packets s sequence t x is shows w at place =
             | inr upto ↦
                 let c : nat_lt 32768 r ≡ false = le-ltb 32768 r upto in
                 let same : place_at packets sequence ≡ packet_at s.held x = ap (λ (k : ℕ). get_or packets k None)
-                    (sym place) ∙ shows.packet t x is (omega arith) (omega arith) in
+                (sym place) ∙ shows.packet t x is (omega arith) (omega arith) in
                 let left : judged (Some (t % 65536)) packets sequence
-                    ≡ cond (is_some (place_at packets sequence)) tooks.Again tooks.Held = rw (a, c) refl in
+                ≡ cond (is_some (place_at packets sequence)) tooks.Again tooks.Held = rw (a, c) refl in
                 left ∙ ap (λ (o : Option Packet). cond (is_some o) tooks.Again tooks.Held) same ∙ sym right
           ]
     ]
@@ -91,8 +91,8 @@ judged_is top packets s sequence shows w small = at s.top refl
         let big = w.big t is in
         ap (λ (o : Option ℕ). judged o packets sequence) e
         ∙ judged_some packets s sequence t (near (t - 32768) sequence) is
-            (subst (λ (o : Option ℕ). Shows o packets s) e shows) w (near_reach t sequence big small)
-            (same_place t sequence big small)
+        (subst (λ (o : Option ℕ). Shows o packets s) e shows) w (near_reach t sequence big small)
+        (same_place t sequence big small)
         ∙ ap (λ (o : Option ℕ). took_as s (number_of o sequence)) (sym is)
 
 -- ---- what is held then
@@ -108,8 +108,11 @@ forgotten_none {X} held from (suc count) n j long lt e =
       | inl same ↦ ap (λ (k : ℕ). get_or (set rest ((from + count) % 64) None) k None) same
           ∙ get_or-set_same rest ((from + count) % 64) None None (omega arith)
       | inr ne ↦ get_or-set_other rest ((from + count) % 64) (n % 64) None None ne
-          ∙ forgotten_none held from count n j long (elim (cases_lt j count) [ inl less ↦ less | inr ge ↦ let here : j
-              ≡ count = omega arith in absurd (ne (sym e ∙ ap (λ (k : ℕ). (from + k) % 64) here)) ]) e
+          ∙ forgotten_none held from count n j long (elim (cases_lt j count) [
+            | inl less ↦ less
+            | inr ge ↦ let here : j
+                ≡ count = omega arith in absurd (ne (sym e ∙ ap (λ (k : ℕ). (from + k) % 64) here))
+          ]) e
     ]
 
 forgotten_same : {X : Type 0} (held : List (Option X)) (from count n : ℕ)
@@ -119,7 +122,7 @@ unfolding forgotten
 forgotten_same held from zero n apart = refl
 forgotten_same held from (suc count) n apart =
     get_or-set_other (forgotten held from count) ((from + count) % 64) (n % 64) None None
-        (λ e. apart count (omega arith) (sym e))
+    (λ e. apart count (omega arith) (sym e))
     ∙ forgotten_same held from count n (λ j lt. apart j (omega arith))
 
 -- without what is forgotten
@@ -137,7 +140,7 @@ left_shows packets s sequence t x n is shows w long at le lt =
           forgotten_none packets (t % 65536 + 1) c n j long (omega arith) (omega arith) ∙ sym (w.over t n is above)
       | inr upto ↦
           forgotten_same packets (t % 65536 + 1) c n (λ j less e. absurd (omega arith))
-              ∙ shows.packet t n is upto (omega arith)
+          ∙ shows.packet t n is upto (omega arith)
     ]
 
 pub upto_top : (o : Option ℕ) (x : ℕ) → x ≤ top_with o x
@@ -170,11 +173,14 @@ more_is top packets s sequence shows w small long young = at s.top refl
     more_some t x is e young =
         let big = w.big t is in
         let shown : Shows (Some (t % 65536)) packets s = subst (λ (o : Option ℕ). Shows o packets s) (shows.top_is
-            ∙ ap rest_of is) shows in
+        ∙ ap rest_of is) shows in
         let at : x ≡ t - 32768 + reach (t % 65536) sequence = e ∙ near_reach t sequence big small in
         let top_is : top_with s.top x ≡ max t x = ap (λ (o : Option ℕ). top_with o x) is in
-        let near_top : t < x + 64 = elim (cases_lt t (x + 64)) [ inl lt ↦ lt | inr le ↦ let f : nat_le (x + 64) t
-            ≡ true = le-leb (x + 64) t le in absurd cc ] in
+        let near_top : t < x + 64 = elim (cases_lt t (x + 64)) [
+          | inl lt ↦ lt
+          | inr le ↦ let f : nat_le (x + 64) t
+              ≡ true = le-leb (x + 64) t le in absurd cc
+        ] in
         record {
           place = ap (λ (k : ℕ). k % 64) e ∙ same_place t sequence big small;
           young = omega arith;
@@ -192,11 +198,11 @@ more_is top packets s sequence shows w small long young = at s.top refl
             elim (cases_lt 32768 (reach (t % 65536) sequence)) [
               | inl above ↦
                   let left : top_after (Some (t % 65536)) sequence
-                      ≡ sequence = rw (lt-ltb 32768 (reach (t % 65536) sequence) above) refl in
+                  ≡ sequence = rw (lt-ltb 32768 (reach (t % 65536) sequence) above) refl in
                   left ∙ sym same ∙ (let m : x ≡ max t x = omega arith in ap (λ (k : ℕ). k % 65536) m)
               | inr upto ↦
                   let left : top_after (Some (t % 65536)) sequence
-                      ≡ t % 65536 = rw (le-ltb 32768 (reach (t % 65536) sequence) upto) refl in
+                  ≡ t % 65536 = rw (le-ltb 32768 (reach (t % 65536) sequence) upto) refl in
                   left ∙ (let m : t ≡ max t x = omega arith in ap (λ (k : ℕ). k % 65536) m)
             ]
 
@@ -205,7 +211,7 @@ more_is top packets s sequence shows w small long young = at s.top refl
         let e : top ≡ None = shows.top_is ∙ ap rest_of is in
         let x_is : number_of s.top sequence ≡ sequence + 65536 = ap (λ (o : Option ℕ). number_of o sequence) is in
         let t_is : top_with s.top (number_of s.top sequence) ≡ number_of s.top sequence =
-            ap (λ (o : Option ℕ). top_with o (number_of s.top sequence)) is in
+        ap (λ (o : Option ℕ). top_with o (number_of s.top sequence)) is in
         record {
           place = omega (arith, x_is);
           young = omega (arith, t_is);
@@ -216,16 +222,16 @@ more_is top packets s sequence shows w small long young = at s.top refl
         }
     at (Some t) is =
         let x_is : number_of s.top sequence ≡ near (t - 32768) sequence =
-            ap (λ (o : Option ℕ). number_of o sequence) is in
+        ap (λ (o : Option ℕ). number_of o sequence) is in
         subst (λ (o : Option ℕ). IsMore o packets s sequence (number_of s.top sequence)) (sym (shows.top_is
-            ∙ ap rest_of is))
+        ∙ ap rest_of is))
         (more_some t (number_of s.top sequence) is x_is (sym (old_some s t (number_of s.top sequence) is) ∙ young))
 
 pub holds : (top : Option ℕ) (packets : List (Option Packet)) (s : Joined) (sequence : ℕ) (p : Packet)
     → Shows top packets s → IsWindow s → sequence < 65536 → length packets ≡ 64
     → took_as s (number_of s.top sequence) ≡ tooks.Held
     → Shows (Some (top_after top sequence)) (set (left_at top packets sequence) (sequence % 64) (Some p))
-        (with_packet s (number_of s.top sequence) p)
+    (with_packet s (number_of s.top sequence) p)
 unfolding packet_at
 holds top packets s sequence p shows w small long held =
     let x : ℕ = number_of s.top sequence in
@@ -241,8 +247,8 @@ holds top packets s sequence p shows w small long held =
       packet = λ t n e le lt.
           let same : last ≡ t = some_same last t e in
           let right : packet_at (kept_from last (one_held x p ∷ s.held)) n
-              ≡ cond (x == n) (Some p) (packet_at s.held n) = kept_at last n (one_held x p ∷ s.held)
-              (omega (arith, same)) in
+          ≡ cond (x == n) (Some p) (packet_at s.held n) = kept_at last n (one_held x p ∷ s.held)
+          (omega (arith, same)) in
           elim (cases_eq n x) [
             | inl here ↦
                 let at : n % 64 ≡ k = ap (λ (j : ℕ). j % 64) here ∙ m.place in
@@ -283,7 +289,7 @@ window_with s sequence p w =
           let same : last ≡ t = some_same last t e in
           let a = upto_top s.top x in
           kept_at last n (one_held x p ∷ s.held) (omega (arith, same))
-              ∙ (rw (ne_eqb x n (λ f. absurd (omega (arith, same, f)))) (none_over n (omega (arith, same))));
+          ∙ (rw (ne_eqb x n (λ f. absurd (omega (arith, same, f)))) (none_over n (omega (arith, same))));
       nothing = λ e. absurd (no_some last (sym e));
     }
   where
@@ -308,8 +314,12 @@ window_after s (Ok p) w = at (took s (Ok p))
 -- what is held after any packets lies within 64 numbers
 pub is_window : (past : List (List ℕ)) → IsWindow (joined_by past)
 unfolding joined_by packet_at
-is_window [] = record { big = λ t e. absurd (no_some t e); under = λ t n e le. refl; over = λ t n e lt. refl;
-    nothing = λ e n. refl }
+is_window [] = record {
+  big = λ t e. absurd (no_some t e);
+  under = λ t n e le. refl;
+  over = λ t n e lt. refl;
+  nothing = λ e n. refl;
+}
 is_window (bytes ∷ past) = window_after (joined_by past) (packet_in bytes) (is_window past)
 
 -- ---- a packet that is held, as a whole

@@ -38,7 +38,7 @@ sign_keeps size =
     keeps_either (size == 0) (done (pos 0)) (field 1 any (λ sign. done (signed sign size))) 4 (λ _. 5)
     (keeps_done (pos 0) 4 (λ _. 5) (omega arith))
     (keeps_any 1 any (λ sign. done (signed sign size)) 4 (λ _. 5) (λ v. keeps_done (signed v size) 5 (λ _. 5)
-        (omega arith)))
+    (omega arith)))
 
 mvd_parts_keep : Keeps mvd_parts 5 (λ _. 5)
 unfolding mvd_parts magnitude_table magnitude_words magnitude_texts zeros
@@ -65,7 +65,7 @@ after_keeps (Some e) = keeps_any 1 any _ 5 (λ _. 6) (λ v. keeps_done _ 6 (λ _
 after_keeps None =
     keeps_any 1 any _ 0 (λ _. 6) (λ last. keeps_any 6 any _ 1 (λ _. 6) (λ run.
     keeps_tried 8 allowed_level _ 7 (λ _. 6) (λ _. 6) levels_tried (λ level free. keeps_done _ 6 (λ _. 6)
-        (omega arith))))
+    (omega arith))))
 
 event_parts_keep : Keeps event_parts 6 (λ _. 6)
 unfolding event_parts event_table tcoef_words last_0_texts last_1_texts zeros

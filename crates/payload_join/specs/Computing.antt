@@ -26,23 +26,23 @@ unfolding answers join_run joined_by packet_in packet_after made_from each_below
     extended channel reference back back_turn next_message bci extra extra_turn header message message_fault
     message_value marks_in flags bytes_from hex
     follow_on_0 follow_on_1 two_slices_0 header_of_63_bytes_0 header_of_64_bytes_0 window_ends_0 window_ends_1
-        window_ends_2 window_ends_3 window_ends_4 window_ends_5 closed_by_the_next_0 closed_by_the_next_1
-        closed_by_the_next_2 extra_headers_0 extra_headers_1 extra_headers_2 extra_headers_3 extra_headers_4
-        sources_and_extension_0 sources_and_extension_1 sources_and_extension_2 sources_and_extension_3
-        sources_and_extension_4 sources_and_extension_5 copies_0 copies_1 copies_2 copies_3 copies_4 copies_5 copies_6
-        copies_7 copies_8 copies_9 copies_10 copies_11 copies_12 copies_13 cut_packet_0 cut_packet_1 cut_packet_2
-        cut_packet_3 cut_packet_4 cut_packet_5 start_code_across_packets_0 start_code_across_packets_1
-        start_code_across_packets_2 start_code_across_packets_3 start_code_across_packets_4 start_code_across_packets_5
-        start_code_across_packets_6 start_code_across_packets_7 start_code_across_packets_8 start_code_across_packets_9
-        start_code_across_packets_10 start_code_across_packets_11 start_code_across_packets_12
-        start_code_across_packets_13 two_pictures_0 two_pictures_1 out_of_order_0 out_of_order_1 out_of_order_2
-        out_of_order_3 out_of_order_4 out_of_order_5 out_of_order_6 out_of_order_7 out_of_order_8 out_of_order_9
-        out_of_order_10 out_of_order_11 out_of_order_12 out_of_order_13 out_of_order_14 out_of_order_15
-        slices_after_a_picture_0 slices_after_a_picture_1 slices_after_a_picture_2 slices_after_a_picture_3
-        slices_after_a_picture_4 slices_after_a_picture_5 slices_after_a_picture_6 slices_after_a_picture_7
-        slices_after_a_picture_8 slices_after_a_picture_9 slices_after_a_picture_10 no_end_0 no_end_1 no_end_2 no_end_3
-        no_end_4 no_end_5
+    window_ends_2 window_ends_3 window_ends_4 window_ends_5 closed_by_the_next_0 closed_by_the_next_1
+    closed_by_the_next_2 extra_headers_0 extra_headers_1 extra_headers_2 extra_headers_3 extra_headers_4
+    sources_and_extension_0 sources_and_extension_1 sources_and_extension_2 sources_and_extension_3
+    sources_and_extension_4 sources_and_extension_5 copies_0 copies_1 copies_2 copies_3 copies_4 copies_5 copies_6
+    copies_7 copies_8 copies_9 copies_10 copies_11 copies_12 copies_13 cut_packet_0 cut_packet_1 cut_packet_2
+    cut_packet_3 cut_packet_4 cut_packet_5 start_code_across_packets_0 start_code_across_packets_1
+    start_code_across_packets_2 start_code_across_packets_3 start_code_across_packets_4 start_code_across_packets_5
+    start_code_across_packets_6 start_code_across_packets_7 start_code_across_packets_8 start_code_across_packets_9
+    start_code_across_packets_10 start_code_across_packets_11 start_code_across_packets_12
+    start_code_across_packets_13 two_pictures_0 two_pictures_1 out_of_order_0 out_of_order_1 out_of_order_2
+    out_of_order_3 out_of_order_4 out_of_order_5 out_of_order_6 out_of_order_7 out_of_order_8 out_of_order_9
+    out_of_order_10 out_of_order_11 out_of_order_12 out_of_order_13 out_of_order_14 out_of_order_15
+    slices_after_a_picture_0 slices_after_a_picture_1 slices_after_a_picture_2 slices_after_a_picture_3
+    slices_after_a_picture_4 slices_after_a_picture_5 slices_after_a_picture_6 slices_after_a_picture_7
+    slices_after_a_picture_8 slices_after_a_picture_9 slices_after_a_picture_10 no_end_0 no_end_1 no_end_2 no_end_3
+    no_end_4 no_end_5
     follow_on two_slices header_of_63_bytes header_of_64_bytes window_ends closed_by_the_next extra_headers
-        sources_and_extension copies cut_packet start_code_across_packets two_pictures out_of_order
-        slices_after_a_picture no_end
+    sources_and_extension copies cut_packet start_code_across_packets two_pictures out_of_order
+    slices_after_a_picture no_end
 whole_runs = tt

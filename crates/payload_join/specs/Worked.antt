@@ -97,8 +97,10 @@ extra_headers =
     record {
       format = SubQcif;
       packets = p.extra_headers_0 ∷ p.extra_headers_1 ∷ p.extra_headers_2 ∷ p.extra_headers_3 ∷ p.extra_headers_4 ∷ [];
-      each = Held ∷ Held ∷ Refused (record { kind = Ended; at = 120 }) ∷ Refused (record { kind = Ended;
-          at = 96 }) ∷ Refused (record { kind = Ended; at = 120 }) ∷ [];
+      each = Held ∷ Held ∷ Refused (record { kind = Ended; at = 120 }) ∷ Refused (record {
+        kind = Ended;
+        at = 96;
+      }) ∷ Refused (record { kind = Ended; at = 120 }) ∷ [];
       out = (hex 14 (0x8060000900000009483236330400 ∷ [])) ∷ (hex 14 (0x8060000900000009483236330400 ∷ [])
           ++ hex 2 (0x8001 ∷ [])) ∷ (hex 14 (0x806000080000000948323633040b ∷ []) ++ hex 3 (0xdec708 ∷ [])) ∷
           (hex 14 (0x806000080000000948323633040b ∷ []) ++ hex 2 (0xde80 ∷ [])) ∷ [];
@@ -161,7 +163,7 @@ start_code_across_packets =
           ++ (bytes_between l.start_code_across_packets_2 14 61
           ++ (bytes_between l.start_code_across_packets_3 14 282
           ++ (bytes_between l.start_code_across_packets_4 14 26
-              ++ bytes_between l.start_code_across_packets_5 14 46)))))) ∷ [];
+          ++ bytes_between l.start_code_across_packets_5 14 46)))))) ∷ [];
     }
 
 unfoldable pub two_pictures : Call
@@ -188,13 +190,13 @@ out_of_order =
           ++ (bytes_between l.out_of_order_13 14 433
           ++ (bytes_between l.out_of_order_0 35 536
           ++ (bytes_between l.out_of_order_1 66 197 ++ bytes_between l.out_of_order_2 66 220)))) ∷
-              (hex 14 (0x806000000000000048323633044d ∷ [])
+          (hex 14 (0x806000000000000048323633044d ∷ [])
           ++ (bytes_between l.out_of_order_13 14 22
           ++ (hex 1 (0xc0 ∷ [])
           ++ (bytes_between l.out_of_order_3 17 134
           ++ (bytes_between l.out_of_order_12 14 215 ++ bytes_between l.out_of_order_9 22 607))))) ∷
-              (hex 14 (0x8060001300002331483236330400 ∷ []) ++ bytes_between l.out_of_order_15 55 333) ∷
-              (hex 14 (0x806000130000233148323633044d ∷ [])
+          (hex 14 (0x8060001300002331483236330400 ∷ []) ++ bytes_between l.out_of_order_15 55 333) ∷
+          (hex 14 (0x806000130000233148323633044d ∷ [])
           ++ (bytes_between l.out_of_order_15 55 63
           ++ (hex 1 (0xc0 ∷ []) ++ bytes_between l.out_of_order_15 335 573))) ∷ [];
     }
@@ -212,13 +214,13 @@ slices_after_a_picture =
           ++ (bytes_between l.slices_after_a_picture_0 34 126
           ++ (bytes_between l.slices_after_a_picture_1 26 222
           ++ (bytes_between l.slices_after_a_picture_2 14 75 ++ bytes_between l.slices_after_a_picture_3 14 122)))) ∷
-              (hex 14 (0x8060ffdc0000000048323633044d ∷ [])
+          (hex 14 (0x8060ffdc0000000048323633044d ∷ [])
           ++ (bytes_between l.slices_after_a_picture_0 34 42 ++ bytes_between l.slices_after_a_picture_4 15 57)) ∷
-              (hex 14 (0x8060ffe20000000048323633044d ∷ [])
+          (hex 14 (0x8060ffe20000000048323633044d ∷ [])
           ++ (bytes_between l.slices_after_a_picture_6 14 190
           ++ (bytes_between l.slices_after_a_picture_7 14 731
           ++ (bytes_between l.slices_after_a_picture_9 42 825 ++ bytes_between l.slices_after_a_picture_8 14 49)))) ∷
-              [];
+          [];
     }
 
 unfoldable pub no_end : Call
@@ -232,6 +234,6 @@ no_end =
       out = (hex 14 (0x8060ffdc00000000483236330400 ∷ [])
           ++ (bytes_between l.slices_after_a_picture_0 34 126
           ++ (bytes_between l.no_end_1 26 283 ++ bytes_between l.no_end_0 14 122))) ∷
-              (hex 14 (0x8060ffdc0000000048323633044d ∷ [])
+          (hex 14 (0x8060ffdc0000000048323633044d ∷ [])
           ++ (bytes_between l.slices_after_a_picture_0 34 42 ++ bytes_between l.no_end_2 13 55)) ∷ [];
     }

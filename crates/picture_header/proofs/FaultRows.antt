@@ -35,7 +35,7 @@ opening_type : (tr n : ℕ) → tr < 256 → n < 4 → (n ≡ 2 → ⊥)
 unfolding opening
 opening_type tr n t lt other =
     fault_after_field 6 (only 32 faults.NoStart) _ 32 (fields ((8, tr) ∷ (2, n) ∷ [])) faults.PictureType 8
-        (omega arith) refl
+    (omega arith) refl
     (fault_after_field 8 any _ tr (fields ((2, n) ∷ [])) faults.PictureType 0 t refl
     (fault_here 2 (only 2 faults.PictureType) _ n [] faults.PictureType lt (only_other 2 n faults.PictureType other)))
 
@@ -44,10 +44,10 @@ opening_extended : (tr shown n : ℕ) → tr < 256 → shown < 8 → n < 8 → (
 unfolding opening
 opening_extended tr shown n t s lt other =
     fault_after_field 6 (only 32 faults.NoStart) _ 32 (fields ((8, tr) ∷ (2, 2) ∷ (3, shown) ∷ (3, n) ∷ []))
-        faults.PictureType 13 (omega arith) refl
+    faults.PictureType 13 (omega arith) refl
     (fault_after_field 8 any _ tr (fields ((2, 2) ∷ (3, shown) ∷ (3, n) ∷ [])) faults.PictureType 5 t refl
     (fault_after_field 2 (only 2 faults.PictureType) _ 2 (fields ((3, shown) ∷ (3, n) ∷ [])) faults.PictureType 3
-        (omega arith) refl
+    (omega arith) refl
     (fault_after_field 3 any _ shown (fields ((3, n) ∷ [])) faults.PictureType 0 s refl
     (fault_here 3 (only 7 faults.PictureType) _ n [] faults.PictureType lt (only_other 7 n faults.PictureType other)))))
 
@@ -126,9 +126,9 @@ type_other_source : (format other : Format) → (other ≡ format → ⊥)
 unfolding plus_type
 type_other_source format other unlike =
     fault_after_field 3 (only 1 faults.Ufep) _ 1 (fields ((3, (format_code other)) ∷ [])) faults.OtherFormat 0
-        (omega arith) refl
+    (omega arith) refl
     (fault_here 3 (allowed_format format) _ (format_code other) [] faults.OtherFormat (format_small other)
-        (other_format format other unlike))
+    (other_format format other unlike))
 
 type_modes : (format : Format) (clock n : ℕ) → clock < 2 → n < 1024 → (n ≡ 24 → ⊥)
     → HasFault (plus_type format) (fields ((3, 1) ∷ (3, (format_code format)) ∷ (1, clock) ∷ (10, n) ∷ [])) faults.Modes
@@ -136,9 +136,9 @@ type_modes : (format : Format) (clock n : ℕ) → clock < 2 → n < 1024 → (n
 unfolding plus_type
 type_modes format clock n c lt other =
     fault_after_field 3 (only 1 faults.Ufep) _ 1 (fields ((3, (format_code format)) ∷ (1, clock) ∷ (10, n) ∷ []))
-        faults.Modes 4 (omega arith) refl
+    faults.Modes 4 (omega arith) refl
     (fault_after_field 3 (allowed_format format) _ (format_code format) (fields ((1, clock) ∷ (10, n) ∷ []))
-        faults.Modes 1 (format_small format) (same_format format)
+    faults.Modes 1 (format_small format) (same_format format)
     (fault_after_field 1 any _ clock (fields ((10, n) ∷ [])) faults.Modes 0 c refl
     (fault_here 10 (only 24 faults.Modes) _ n [] faults.Modes lt (only_other 24 n faults.Modes other))))
 
@@ -147,69 +147,83 @@ type_tail : (format : Format) (clock n : ℕ) → clock < 2 → n < 16 → (n �
     faults.Marker 17
 unfolding plus_type
 type_tail format clock n c lt other =
-    fault_after_field 3 (only 1 faults.Ufep) _ 1 (fields ((3, (format_code format)) ∷ (1, clock) ∷ (10, 24) ∷ (4,
-        n) ∷ [])) faults.Marker 14 (omega arith) refl
+    fault_after_field 3 (only 1 faults.Ufep) _ 1 (fields ((3, (format_code format)) ∷ (1, clock) ∷ (10, 24) ∷ (
+      4,
+      n,
+    ) ∷ [])) faults.Marker 14 (omega arith) refl
     (fault_after_field 3 (allowed_format format) _ (format_code format) (fields ((1, clock) ∷ (10, 24) ∷ (4, n) ∷ []))
-        faults.Marker 11 (format_small format) (same_format format)
+    faults.Marker 11 (format_small format) (same_format format)
     (fault_after_field 1 any _ clock (fields ((10, 24) ∷ (4, n) ∷ [])) faults.Marker 10 c refl
     (fault_after_field 10 (only 24 faults.Modes) _ 24 (fields ((4, n) ∷ [])) faults.Marker 0 (omega arith) refl
     (fault_here 4 (only 8 faults.Marker) _ n [] faults.Marker lt (only_other 8 n faults.Marker other)))))
 
 type_kind : (format : Format) (clock n : ℕ) → clock < 2 → 2 ≤ n → n < 8
-    → HasFault (plus_type format) (fields ((3, 1) ∷ (3, (format_code format)) ∷ (1, clock) ∷ (10, 24) ∷ (4, 8) ∷ (3,
-    n) ∷ [])) faults.PictureKind 21
+    → HasFault (plus_type format) (fields ((3, 1) ∷ (3, (format_code format)) ∷ (1, clock) ∷ (10, 24) ∷ (4, 8) ∷ (
+      3,
+      n,
+    ) ∷ [])) faults.PictureKind 21
 unfolding plus_type
 type_kind format clock n c le lt =
-    fault_after_field 3 (only 1 faults.Ufep) _ 1 (fields ((3, (format_code format)) ∷ (1, clock) ∷ (10, 24) ∷ (4,
-        8) ∷ (3, n) ∷ [])) faults.PictureKind 18 (omega arith) refl
+    fault_after_field 3 (only 1 faults.Ufep) _ 1 (fields ((3, (format_code format)) ∷ (1, clock) ∷ (10, 24) ∷ (
+      4,
+      8,
+    ) ∷ (3, n) ∷ [])) faults.PictureKind 18 (omega arith) refl
     (fault_after_field 3 (allowed_format format) _ (format_code format)
-        (fields ((1, clock) ∷ (10, 24) ∷ (4, 8) ∷ (3, n) ∷ [])) faults.PictureKind 15 (format_small format)
-        (same_format format)
+    (fields ((1, clock) ∷ (10, 24) ∷ (4, 8) ∷ (3, n) ∷ [])) faults.PictureKind 15 (format_small format)
+    (same_format format)
     (fault_after_field 1 any _ clock (fields ((10, 24) ∷ (4, 8) ∷ (3, n) ∷ [])) faults.PictureKind 14 c refl
     (fault_after_field 10 (only 24 faults.Modes) _ 24 (fields ((4, 8) ∷ (3, n) ∷ [])) faults.PictureKind 4 (omega arith)
-        refl
+    refl
     (fault_after_field 4 (only 8 faults.Marker) _ 8 (fields ((3, n) ∷ [])) faults.PictureKind 0 (omega arith) refl
     (fault_here 3 allowed_kind _ n [] faults.PictureKind lt (high_kind n le))))))
 
 type_resampling : (format : Format) (clock kind n : ℕ) → clock < 2 → kind < 2 → n < 4 → (n ≡ 0 → ⊥)
-    → HasFault (plus_type format) (fields ((3, 1) ∷ (3, (format_code format)) ∷ (1, clock) ∷ (10, 24) ∷ (4, 8) ∷ (3,
-    kind) ∷ (2, n) ∷ [])) faults.Resampling 24
+    → HasFault (plus_type format) (fields ((3, 1) ∷ (3, (format_code format)) ∷ (1, clock) ∷ (10, 24) ∷ (4, 8) ∷ (
+      3,
+      kind,
+    ) ∷ (2, n) ∷ [])) faults.Resampling 24
 unfolding plus_type
 type_resampling format clock kind n c k lt other =
-    fault_after_field 3 (only 1 faults.Ufep) _ 1 (fields ((3, (format_code format)) ∷ (1, clock) ∷ (10, 24) ∷ (4,
-        8) ∷ (3, kind) ∷ (2, n) ∷ [])) faults.Resampling 21 (omega arith) refl
+    fault_after_field 3 (only 1 faults.Ufep) _ 1 (fields ((3, (format_code format)) ∷ (1, clock) ∷ (10, 24) ∷ (
+      4,
+      8,
+    ) ∷ (3, kind) ∷ (2, n) ∷ [])) faults.Resampling 21 (omega arith) refl
     (fault_after_field 3 (allowed_format format) _ (format_code format)
-        (fields ((1, clock) ∷ (10, 24) ∷ (4, 8) ∷ (3, kind) ∷ (2, n) ∷ [])) faults.Resampling 18 (format_small format)
-        (same_format format)
+    (fields ((1, clock) ∷ (10, 24) ∷ (4, 8) ∷ (3, kind) ∷ (2, n) ∷ [])) faults.Resampling 18 (format_small format)
+    (same_format format)
     (fault_after_field 1 any _ clock (fields ((10, 24) ∷ (4, 8) ∷ (3, kind) ∷ (2, n) ∷ [])) faults.Resampling 17 c refl
     (fault_after_field 10 (only 24 faults.Modes) _ 24 (fields ((4, 8) ∷ (3, kind) ∷ (2, n) ∷ [])) faults.Resampling 7
-        (omega arith) refl
+    (omega arith) refl
     (fault_after_field 4 (only 8 faults.Marker) _ 8 (fields ((3, kind) ∷ (2, n) ∷ [])) faults.Resampling 3 (omega arith)
-        refl
+    refl
     (fault_after_field 3 allowed_kind _ kind (fields ((2, n) ∷ [])) faults.Resampling 0 (omega (arith, k))
-        (low_kind kind k)
+    (low_kind kind k)
     (fault_here 2 (only 0 faults.Resampling) _ n [] faults.Resampling lt (only_other 0 n faults.Resampling other)))))))
 
 type_end : (format : Format) (clock kind rounding n : ℕ) → clock < 2 → kind < 2 → rounding < 2 → n < 8 → (n ≡ 1 → ⊥)
-    → HasFault (plus_type format) (fields ((3, 1) ∷ (3, (format_code format)) ∷ (1, clock) ∷ (10, 24) ∷ (4, 8) ∷ (3,
-    kind) ∷ (2, 0) ∷ (1, rounding) ∷ (3, n) ∷ [])) faults.Marker 27
+    → HasFault (plus_type format) (fields ((3, 1) ∷ (3, (format_code format)) ∷ (1, clock) ∷ (10, 24) ∷ (4, 8) ∷ (
+      3,
+      kind,
+    ) ∷ (2, 0) ∷ (1, rounding) ∷ (3, n) ∷ [])) faults.Marker 27
 unfolding plus_type
 type_end format clock kind rounding n c k r lt other =
-    fault_after_field 3 (only 1 faults.Ufep) _ 1 (fields ((3, (format_code format)) ∷ (1, clock) ∷ (10, 24) ∷ (4,
-        8) ∷ (3, kind) ∷ (2, 0) ∷ (1, rounding) ∷ (3, n) ∷ [])) faults.Marker 24 (omega arith) refl
+    fault_after_field 3 (only 1 faults.Ufep) _ 1 (fields ((3, (format_code format)) ∷ (1, clock) ∷ (10, 24) ∷ (
+      4,
+      8,
+    ) ∷ (3, kind) ∷ (2, 0) ∷ (1, rounding) ∷ (3, n) ∷ [])) faults.Marker 24 (omega arith) refl
     (fault_after_field 3 (allowed_format format) _ (format_code format)
-        (fields ((1, clock) ∷ (10, 24) ∷ (4, 8) ∷ (3, kind) ∷ (2, 0) ∷ (1, rounding) ∷ (3, n) ∷ [])) faults.Marker 21
-        (format_small format) (same_format format)
+    (fields ((1, clock) ∷ (10, 24) ∷ (4, 8) ∷ (3, kind) ∷ (2, 0) ∷ (1, rounding) ∷ (3, n) ∷ [])) faults.Marker 21
+    (format_small format) (same_format format)
     (fault_after_field 1 any _ clock (fields ((10, 24) ∷ (4, 8) ∷ (3, kind) ∷ (2, 0) ∷ (1, rounding) ∷ (3, n) ∷ []))
-        faults.Marker 20 c refl
+    faults.Marker 20 c refl
     (fault_after_field 10 (only 24 faults.Modes) _ 24
-        (fields ((4, 8) ∷ (3, kind) ∷ (2, 0) ∷ (1, rounding) ∷ (3, n) ∷ [])) faults.Marker 10 (omega arith) refl
+    (fields ((4, 8) ∷ (3, kind) ∷ (2, 0) ∷ (1, rounding) ∷ (3, n) ∷ [])) faults.Marker 10 (omega arith) refl
     (fault_after_field 4 (only 8 faults.Marker) _ 8 (fields ((3, kind) ∷ (2, 0) ∷ (1, rounding) ∷ (3, n) ∷ []))
-        faults.Marker 6 (omega arith) refl
+    faults.Marker 6 (omega arith) refl
     (fault_after_field 3 allowed_kind _ kind (fields ((2, 0) ∷ (1, rounding) ∷ (3, n) ∷ [])) faults.Marker 3
-        (omega (arith, k)) (low_kind kind k)
+    (omega (arith, k)) (low_kind kind k)
     (fault_after_field 2 (only 0 faults.Resampling) _ 0 (fields ((1, rounding) ∷ (3, n) ∷ [])) faults.Marker 1
-        (omega arith) refl
+    (omega arith) refl
     (fault_after_field 1 any _ rounding (fields ((3, n) ∷ [])) faults.Marker 0 r refl
     (fault_here 3 (only 1 faults.Marker) _ n [] faults.Marker lt (only_other 1 n faults.Marker other)))))))))
 
@@ -330,7 +344,7 @@ after_bci : (clock : Clock) (used : ℕ) (text : List Bool) (kind : FaultKind) (
 unfolding next_message spelled
 after_bci clock used text kind place lt h =
     fault_after_element bci (has_room used) _ 1 (fields ((1, 1) ∷ [])) text kind place bci_productive bci_more
-        (room used lt)
+    (room used lt)
     (fault_in_part (message clock) any (λ m. done (Some m)) text kind place h)
 
 message_row : (clock : Clock) (used n : ℕ) (fault : MessageFault) → used < 4 → n < 2 ^ 24
@@ -365,9 +379,9 @@ unfolding message
 long_message_row clock n marks lt small e long bad =
     let inner : HasFault (after_24 n (is_long n)) (fields ((16, marks) ∷ [])) faults.Messages 0 =
     subst (λ (t : Bool). HasFault (after_24 n t) (fields ((16, marks) ∷ [])) faults.Messages 0) (sym long)
-        (flags_part n marks small bad) in
+    (flags_part n marks small bad) in
     fault_after_field 24 (allowed_message clock) (λ m. after_24 m (is_long m)) n (fields ((16, marks) ∷ []))
-        faults.Messages 0 lt (good_message clock n e) inner
+    faults.Messages 0 lt (good_message clock n e) inner
 
 flags_row : (clock : Clock) (used n marks : ℕ) → used < 4 → n < 2 ^ 24 → marks < 2 ^ 16
     → message_fault clock (is_long n) n ≡ None → is_long n ≡ true → has_markers marks ≡ false
@@ -396,10 +410,10 @@ turn_spelt clock messages m front h = (Some m, front, [], sym (append-nil front)
 turn_after : MessageLaws → (clock : Clock) (messages : List Message) (m : Message) (front text : List Bool)
     (kind : FaultKind) (place : ℕ) → Spells (next_message clock (length messages)) (Some m) front
     → HasFault (repeat (messages ++ m ∷ []) (back_turn clock)) text kind place
-        → HasFault (repeat messages (back_turn clock)) (front ++ text) kind (length front + place)
+    → HasFault (repeat messages (back_turn clock)) (front ++ text) kind (length front + place)
 turn_after laws clock messages m front text kind place spelt h =
     fault_after_turn messages (messages ++ m ∷ []) (back_turn clock) front text kind place
-        (turn_productive laws clock messages) (back_some clock) (turn_spelt clock messages m front spelt) h
+    (turn_productive laws clock messages) (back_some clock) (turn_spelt clock messages m front spelt) h
 
 message_faults : MessageLaws → (clock : Clock) → MessageFaults clock
 message_faults laws clock = record {
@@ -430,7 +444,7 @@ part_plus_type laws format low a text kind place sa h =
 part_multipoint : MessageLaws → (format : Format) (low : ℕ) (type : Clock × Kind × ℕ) (a b text : List Bool)
     (kind : FaultKind) (place : ℕ) → Spells opening low a → Spells (plus_type format) type b
     → HasFault multipoint text kind place
-        → HasFault (header format) (a ++ (b ++ text)) kind (length a + (length b + place))
+    → HasFault (header format) (a ++ (b ++ text)) kind (length a + (length b + place))
 unfolding header
 part_multipoint laws format low type a b text kind place sa sb h =
     let simple = simple_productive format in
@@ -441,7 +455,7 @@ part_multipoint laws format low type a b text kind place sa sb h =
 part_extended : MessageLaws → (format : Format) (low : ℕ) (type : Clock × Kind × ℕ) (a b c text : List Bool)
     (kind : FaultKind) (place : ℕ) → Spells opening low a → Spells (plus_type format) type b → Spells multipoint tt c
     → HasFault (extended type.0 low) text kind place
-        → HasFault (header format) (a ++ (b ++ (c ++ text))) kind (length a + (length b + (length c + place)))
+    → HasFault (header format) (a ++ (b ++ (c ++ text))) kind (length a + (length b + (length c + place)))
 unfolding header
 part_extended laws format low type a b c text kind place sa sb sc h =
     let simple = simple_productive format in
@@ -454,15 +468,15 @@ part_channel : MessageLaws → (format : Format) (low tr : ℕ) (type : Clock ×
     (kind : FaultKind) (place : ℕ) → Spells opening low a → Spells (plus_type format) type b → Spells multipoint tt c
     → Spells (extended type.0 low) tr d
     → HasFault channel text kind place
-        → HasFault (header format) (a ++ (b ++ (c ++ (d ++ text)))) kind
-        (length a + (length b + (length c + (length d + place))))
+    → HasFault (header format) (a ++ (b ++ (c ++ (d ++ text)))) kind
+    (length a + (length b + (length c + (length d + place))))
 unfolding header
 part_channel laws format low tr type a b c d text kind place sa sb sc sd h =
     let simple = simple_productive format in
     fault_after_part opening any _ low a (b ++ (c ++ (d ++ text))) kind (length b + (length c + (length d + place)))
-        simple.0 sa refl
+    simple.0 sa refl
     (fault_after_part (plus_type format) any _ type b (c ++ (d ++ text)) kind (length c + (length d + place)) simple.1
-        sb refl
+    sb refl
     (fault_after_part multipoint any _ tt c (d ++ text) kind (length d + place) simple.2 sc refl
     (fault_after_part (extended type.0 low) any _ tr d text kind place (extended_productive type.0 low) sd refl
     (fault_in_part channel any _ text kind place h))))
@@ -471,18 +485,18 @@ part_reference : MessageLaws → (format : Format) (low tr n : ℕ) (type : Cloc
     (kind : FaultKind) (place : ℕ) → Spells opening low a → Spells (plus_type format) type b → Spells multipoint tt c
     → Spells (extended type.0 low) tr d → Spells channel n e
     → HasFault (reference type.0 type.1) text kind place
-        → HasFault (header format) (a ++ (b ++ (c ++ (d ++ (e ++ text))))) kind
-        (length a + (length b + (length c + (length d + (length e + place)))))
+    → HasFault (header format) (a ++ (b ++ (c ++ (d ++ (e ++ text))))) kind
+    (length a + (length b + (length c + (length d + (length e + place)))))
 unfolding header
 part_reference laws format low tr n type a b c d e text kind place sa sb sc sd se h =
     let simple = simple_productive format in
     fault_after_part opening any _ low a (b ++ (c ++ (d ++ (e ++ text)))) kind
-        (length b + (length c + (length d + (length e + place)))) simple.0 sa refl
+    (length b + (length c + (length d + (length e + place)))) simple.0 sa refl
     (fault_after_part (plus_type format) any _ type b (c ++ (d ++ (e ++ text))) kind
-        (length c + (length d + (length e + place))) simple.1 sb refl
+    (length c + (length d + (length e + place))) simple.1 sb refl
     (fault_after_part multipoint any _ tt c (d ++ (e ++ text)) kind (length d + (length e + place)) simple.2 sc refl
     (fault_after_part (extended type.0 low) any _ tr d (e ++ text) kind (length e + place)
-        (extended_productive type.0 low) sd refl
+    (extended_productive type.0 low) sd refl
     (fault_after_part channel any _ n e text kind place simple.3 se refl
     (fault_in_part (reference type.0 type.1) any _ text kind place h)))))
 
@@ -491,19 +505,19 @@ part_back : MessageLaws → (format : Format) (low tr n : ℕ) (type : Clock × 
     → Spells (plus_type format) type b → Spells multipoint tt c → Spells (extended type.0 low) tr d → Spells channel n e
     → Spells (reference type.0 type.1) trp f
     → HasFault (back type.0) text kind place
-        → HasFault (header format) (a ++ (b ++ (c ++ (d ++ (e ++ (f ++ text)))))) kind
-        (length a + (length b + (length c + (length d + (length e + (length f + place))))))
+    → HasFault (header format) (a ++ (b ++ (c ++ (d ++ (e ++ (f ++ text)))))) kind
+    (length a + (length b + (length c + (length d + (length e + (length f + place))))))
 unfolding header
 part_back laws format low tr n type trp a b c d e f text kind place sa sb sc sd se sf h =
     let simple = simple_productive format in
     fault_after_part opening any _ low a (b ++ (c ++ (d ++ (e ++ (f ++ text))))) kind
-        (length b + (length c + (length d + (length e + (length f + place))))) simple.0 sa refl
+    (length b + (length c + (length d + (length e + (length f + place))))) simple.0 sa refl
     (fault_after_part (plus_type format) any _ type b (c ++ (d ++ (e ++ (f ++ text)))) kind
-        (length c + (length d + (length e + (length f + place)))) simple.1 sb refl
+    (length c + (length d + (length e + (length f + place)))) simple.1 sb refl
     (fault_after_part multipoint any _ tt c (d ++ (e ++ (f ++ text))) kind (length d + (length e + (length f + place)))
-        simple.2 sc refl
+    simple.2 sc refl
     (fault_after_part (extended type.0 low) any _ tr d (e ++ (f ++ text)) kind (length e + (length f + place))
-        (extended_productive type.0 low) sd refl
+    (extended_productive type.0 low) sd refl
     (fault_after_part channel any _ n e (f ++ text) kind (length f + place) simple.3 se refl
     (fault_after_part (reference type.0 type.1) any _ trp f text kind place (reference_productive type.0 type.1) sf refl
     (fault_in_part (back type.0) any _ text kind place h))))))
@@ -513,24 +527,24 @@ part_quant : MessageLaws → (format : Format) (low tr n : ℕ) (type : Clock ×
     → Spells multipoint tt c → Spells (extended type.0 low) tr d → Spells channel n e
     → Spells (reference type.0 type.1) trp f → Spells (back type.0) messages g
     → HasFault (header format) (a ++ (b ++ (c ++ (d ++ (e ++ (f ++ (g ++ fields ((5, 0) ∷ [])))))))) faults.Quant
-        (length a + (length b + (length c + (length d + (length e + (length f + (length g + 0)))))))
+    (length a + (length b + (length c + (length d + (length e + (length f + (length g + 0)))))))
 unfolding header
 part_quant laws format low tr n type trp messages a b c d e f g sa sb sc sd se sf sg =
     let simple = simple_productive format in
     fault_after_part opening any _ low a (b ++ (c ++ (d ++ (e ++ (f ++ (g ++ fields ((5, 0) ∷ []))))))) faults.Quant
-        (length b + (length c + (length d + (length e + (length f + (length g + 0)))))) simple.0 sa refl
+    (length b + (length c + (length d + (length e + (length f + (length g + 0)))))) simple.0 sa refl
     (fault_after_part (plus_type format) any _ type b (c ++ (d ++ (e ++ (f ++ (g ++ fields ((5, 0) ∷ []))))))
-        faults.Quant (length c + (length d + (length e + (length f + (length g + 0))))) simple.1 sb refl
+    faults.Quant (length c + (length d + (length e + (length f + (length g + 0))))) simple.1 sb refl
     (fault_after_part multipoint any _ tt c (d ++ (e ++ (f ++ (g ++ fields ((5, 0) ∷ []))))) faults.Quant
-        (length d + (length e + (length f + (length g + 0)))) simple.2 sc refl
+    (length d + (length e + (length f + (length g + 0)))) simple.2 sc refl
     (fault_after_part (extended type.0 low) any _ tr d (e ++ (f ++ (g ++ fields ((5, 0) ∷ [])))) faults.Quant
-        (length e + (length f + (length g + 0))) (extended_productive type.0 low) sd refl
+    (length e + (length f + (length g + 0))) (extended_productive type.0 low) sd refl
     (fault_after_part channel any _ n e (f ++ (g ++ fields ((5, 0) ∷ []))) faults.Quant (length f + (length g + 0))
-        simple.3 se refl
+    simple.3 se refl
     (fault_after_part (reference type.0 type.1) any _ trp f (g ++ fields ((5, 0) ∷ [])) faults.Quant (length g + 0)
-        (reference_productive type.0 type.1) sf refl
+    (reference_productive type.0 type.1) sf refl
     (fault_after_part (back type.0) any _ messages g (fields ((5, 0) ∷ [])) faults.Quant 0 (back_productive laws type.0)
-        sg refl
+    sg refl
     (fault_here 5 allowed_quant _ 0 [] faults.Quant (omega arith) refl)))))))
 
 part_faults : MessageLaws → (format : Format) → PartFaults format

@@ -87,9 +87,11 @@ bci_productive v = either_productive (v == 0) (field 1 (only 1 faults.Bci) (λ e
 
 pub next_productive : MessageLaws → (clock : Clock) (used : ℕ) → IsProductive (next_message clock used)
 unfolding next_message IsProductive
-next_productive laws clock used = (bci_productive,
-    λ v. either_productive (v == 0) (done None) (part (message clock) any (λ m. done (Some m))) nothing
-    (laws.productive clock, one))
+next_productive laws clock used = (
+  bci_productive,
+  λ v. either_productive (v == 0) (done None) (part (message clock) any (λ m. done (Some m))) nothing
+      (laws.productive clock, one),
+)
   where
     nothing : IsProductive (done {A = Option Message} None)
     nothing = tt
@@ -122,7 +124,23 @@ unfolding header IsProductive
 header_productive laws format =
     let simple = simple_productive format in (
       simple.0,
-      λ low. (simple.1, λ type. (simple.2, λ cpm. (extended_productive type.0 low,
-          λ tr. (simple.3, λ channel. (reference_productive type.0 type.1, λ trp. (back_productive laws type.0,
-          λ messages quant. (extra_productive, λ end. tt))))))),
+      λ low. (
+        simple.1,
+        λ type. (
+          simple.2,
+          λ cpm. (
+            extended_productive type.0 low,
+            λ tr. (
+              simple.3,
+              λ channel. (
+                reference_productive type.0 type.1,
+                λ trp. (
+                  back_productive laws type.0,
+                  λ messages quant. (extra_productive, λ end. tt),
+                ),
+              ),
+            ),
+          ),
+        ),
+      ),
     )

@@ -143,8 +143,8 @@ next_spelt : MessageLaws → (clock : Clock) (used : ℕ) (m : Message) → used
 unfolding next_message
 next_spelt laws clock used m room h =
     spells_element bci (has_room used) _ (Some m) 1 (spelled 1 1) (message_text m ++ []) bci_more
-        (rw (lt-ltb used 4 room) refl) (spells_part (message clock) any _ (Some m) m (message_text m) []
-        (laws.spelt clock m h) refl (spells_done _))
+    (rw (lt-ltb used 4 room) refl) (spells_part (message clock) any _ (Some m) m (message_text m) []
+    (laws.spelt clock m h) refl (spells_done _))
 
 turn_spelt : (clock : Clock) (messages : List Message) (next : Option Message) (bits : List Bool)
     → Spells (next_message clock (length messages)) next bits
@@ -157,19 +157,19 @@ messages_spelt : MessageLaws → (clock : Clock) (before messages : List Message
     → AreMessages clock messages → Spells (repeat before (back_turn clock)) (before ++ messages) (back_text messages)
 messages_spelt laws clock before [] few each =
     subst (λ (all : List Message). Spells (repeat before (back_turn clock)) all (back_text []))
-        (sym (append-nil before)) (spells_last before (back_turn clock) before _
-        (turn_spelt clock before None _ (end_spelt clock (length before))))
+    (sym (append-nil before)) (spells_last before (back_turn clock) before _
+    (turn_spelt clock before None _ (end_spelt clock (length before))))
 messages_spelt laws clock before (m ∷ messages) few each =
     let front = spelled 1 1 ++ (message_text m ++ []) in
     let more = messages_spelt laws clock (before ++ m ∷ []) messages (omega (arith, length-append before (m ∷ [])))
-        each.1 in
+    each.1 in
     let one = turn_spelt clock before (Some m) front (next_spelt laws clock (length before) m (omega arith) each.0) in
     let all : (before ++ m ∷ []) ++ messages ≡ before ++ m ∷ messages = append_assoc before (m ∷ []) messages in
     let text : front ++ back_text messages ≡ back_text (m ∷ messages) =
     append_assoc (spelled 1 1) (message_text m ++ []) (back_text messages)
-        ∙ ap (λ (t : List Bool). spelled 1 1 ++ (t ++ back_text messages)) (append-nil (message_text m)) in
+    ∙ ap (λ (t : List Bool). spelled 1 1 ++ (t ++ back_text messages)) (append-nil (message_text m)) in
     spells_whole _ _ _ _ text (subst (λ (list : List Message). Spells (repeat before (back_turn clock)) list (front
-        ++ back_text messages)) all (spells_turn before (before ++ m ∷ []) (back_turn clock) _ front _ one more))
+    ++ back_text messages)) all (spells_turn before (before ++ m ∷ []) (back_turn clock) _ front _ one more))
 
 back_spelt : MessageLaws → (clock : Clock) (messages : List Message) → length messages ≤ 4 → AreMessages clock messages
     → Spells (back clock) messages (back_text messages)
@@ -208,16 +208,16 @@ header_spelt laws h ok =
     spells_whole _ h _ _ (front_then h)
     (spells_part opening any _ h (h.tr % 256) _ _ (opening_spelt h.tr) refl
     (spells_part (plus_type h.format) any _ h (h.clock, h.kind, h.rounding) _ _
-        (plus_spelt h.format h.clock h.kind h.rounding ok.rounding) refl
+    (plus_spelt h.format h.clock h.kind h.rounding ok.rounding) refl
     (spells_part multipoint any _ h tt _ _ multipoint_spelt refl
     (spells_part (extended h.clock (h.tr % 256)) any _ h h.tr _ _ (extended_spelt h.clock h.tr ok.tr) refl
     (spells_part channel any _ h h.channel _ _ (channel_spelt h.channel ok.channel) refl
     (spells_part (reference h.clock h.kind) any _ h h.trp _ _ (reference_spelt h.clock h.kind h.trp ok.trp) refl
     (spells_part (back h.clock) any _ h (messages_in h.back) _ _
-        (back_spelt laws h.clock (messages_in h.back) ok.back.few ok.back.each) refl
+    (back_spelt laws h.clock (messages_in h.back) ok.back.few ok.back.each) refl
     (spells_whole _ h _ _ (ap (λ (t : List Bool). spelled 5 h.quant ++ t) (append-nil (spelled 1 0)) ∙ end_text h.quant)
     (spells_field 5 allowed_quant _ h h.quant (spelled 1 0 ++ []) (omega (arith, ok.quant_low))
-        (quant_allowed h.quant ok.quant_some)
+    (quant_allowed h.quant ok.quant_some)
     (spells_part extra any _ h tt (spelled 1 0) [] extra_spelt refl
     (done_header h (in_places (messages_in h.back)) ok.back.first)))))))))))
 
@@ -226,9 +226,14 @@ header_spelt laws h ok =
 length-back_text : MessageLaws → (messages : List Message) → length (back_text messages) ≡ 2 + back_bits messages
 length-back_text laws [] = length-fields ((1, 0) ∷ (1, 1) ∷ [])
 length-back_text laws (m ∷ messages) =
-    omega (arith, length-append (spelled 1 1) (message_text m ++ back_text messages),
-        length-append (message_text m) (back_text messages), length-spelled 1 1, laws.length m,
-        length-back_text laws messages)
+    omega (
+      arith,
+      length-append (spelled 1 1) (message_text m ++ back_text messages),
+      length-append (message_text m) (back_text messages),
+      length-spelled 1 1,
+      laws.length m,
+      length-back_text laws messages,
+    )
 
 length-reference_fields : (trp : Option ℕ) → length (fields (reference_fields trp)) ≡ 1 + reference_bits trp
 length-reference_fields None = length-fields ((1, 0) ∷ [])
@@ -278,8 +283,12 @@ length-rest laws h =
 
 -- it has as many bits as are counted
 pub length-written_header : MessageLaws → (h : Header) → length (written_header h) ≡ written_bits h
-length-written_header laws h = omega (arith, length-append (written_front h) (written_rest h), length-front h,
-    length-rest laws h)
+length-written_header laws h = omega (
+  arith,
+  length-append (written_front h) (written_rest h),
+  length-front h,
+  length-rest laws h,
+)
 
 -- ---- how long it is at most
 
@@ -300,8 +309,13 @@ back_short [] = omega arith
 back_short (m ∷ messages) = omega (arith, with_short (marks_of m), back_short messages)
 
 pub header_short : (h : Header) → IsHeader h → written_bits h ≤ 251
-header_short h ok = omega (arith, clock_short h.clock, reference_short h.trp, back_short (messages_in h.back),
-    ok.back.few)
+header_short h ok = omega (
+  arith,
+  clock_short h.clock,
+  reference_short h.trp,
+  back_short (messages_in h.back),
+  ok.back.few,
+)
 
 pub is_short : (h : Header) → IsHeader h → IsShort h
 is_short h ok =

@@ -36,7 +36,7 @@ none = record { levels = [] }
 pub same_bytes : (f g : ℕ → ℕ) → ((k : ℕ) → k < 64 → f k ≡ g k) → block_of_bytes f ≡ block_of_bytes g
 same_bytes f g same =
     ap block (same_map (λ k. level_by_byte k (f k)) (λ k. level_by_byte k (g k)) 64 (pos 0)
-        (λ k h. ap (level_by_byte k) (same k h)))
+    (λ k h. ap (level_by_byte k) (same k h)))
 
 pub block_by_all : (b : Block) (f : ℕ → ℕ) → length b.levels ≡ 64
     → ((k : ℕ) → k < 64 → level_at b k ≡ level_by_byte k (f k)) → b ≡ block_of_bytes f
@@ -80,12 +80,33 @@ record IsAt (f : Format) (at : ℕ) : Type 0 where
   pub half_height : height_of f / 2 ≡ 8 * rows_of f
 
 is_at : (f : Format) (at : ℕ) → at < mbs_of f → IsAt f at
-is_at SubQcif at h = record { column = omega (arith, h); row = omega (arith, h); same = omega (arith, h); width = refl;
-    height = refl; half_width = refl; half_height = refl }
-is_at Qcif at h = record { column = omega (arith, h); row = omega (arith, h); same = omega (arith, h); width = refl;
-    height = refl; half_width = refl; half_height = refl }
-is_at Cif at h = record { column = omega (arith, h); row = omega (arith, h); same = omega (arith, h); width = refl;
-    height = refl; half_width = refl; half_height = refl }
+is_at SubQcif at h = record {
+  column = omega (arith, h);
+  row = omega (arith, h);
+  same = omega (arith, h);
+  width = refl;
+  height = refl;
+  half_width = refl;
+  half_height = refl;
+}
+is_at Qcif at h = record {
+  column = omega (arith, h);
+  row = omega (arith, h);
+  same = omega (arith, h);
+  width = refl;
+  height = refl;
+  half_width = refl;
+  half_height = refl;
+}
+is_at Cif at h = record {
+  column = omega (arith, h);
+  row = omega (arith, h);
+  same = omega (arith, h);
+  width = refl;
+  height = refl;
+  half_width = refl;
+  half_height = refl;
+}
 
 -- the place of the byte of a level
 pub record IsPlaced (f : Format) (plane : Plane) (x y at b k : ℕ) : Type 0 where
@@ -119,13 +140,15 @@ numbered c r m y x at ey ex e = ap (λ (n : ℕ). c * n + x) ey ∙ ap (λ (n : 
 
 luma : (f : Format) (at b k : ℕ) → IsAt f at → b < 4 → k < 64 →
     IsPlaced f Y (16 * (at % columns_of f) + 8 * (b % 2) + k % 8) (16 * (at / columns_of f) + 8 * (b / 2) + k / 8) at b
-        k
+    k
 luma f at b k is hb hk =
     let m = at % columns_of f in
     let r = at / columns_of f in
     record {
-      inside = record { in_row = across_16 m (columns_of f) (width_of f) b k is.column is.width;
-          in_plane = down_16 r (rows_of f) (height_of f) b k is.row is.height hb hk };
+      inside = record {
+        in_row = across_16 m (columns_of f) (width_of f) b k is.column is.width;
+        in_plane = down_16 r (rows_of f) (height_of f) b k is.row is.height hb hk;
+      };
       mb = numbered (columns_of f) r m _ _ at (row_16 r b k hb hk) (column_16 m b k hb hk) is.same;
       block = block_16 m r b k hb hk;
       place = place_16 m r b k hb hk;
@@ -152,8 +175,10 @@ cb f at k is hk =
     let m = at % columns_of f in
     let r = at / columns_of f in
     record {
-      inside = record { in_row = across_8 m (columns_of f) (width_of f / 2) k is.column is.half_width;
-          in_plane = down_8 r (rows_of f) (height_of f / 2) k is.row is.half_height hk };
+      inside = record {
+        in_row = across_8 m (columns_of f) (width_of f / 2) k is.column is.half_width;
+        in_plane = down_8 r (rows_of f) (height_of f / 2) k is.row is.half_height hk;
+      };
       mb = numbered (columns_of f) r m _ _ at (row_8 r k hk) (column_8 m k) is.same;
       block = refl;
       place = place_8 m r k hk;
@@ -165,8 +190,10 @@ cr f at k is hk =
     let m = at % columns_of f in
     let r = at / columns_of f in
     record {
-      inside = record { in_row = across_8 m (columns_of f) (width_of f / 2) k is.column is.half_width;
-          in_plane = down_8 r (rows_of f) (height_of f / 2) k is.row is.half_height hk };
+      inside = record {
+        in_row = across_8 m (columns_of f) (width_of f / 2) k is.column is.half_width;
+        in_plane = down_8 r (rows_of f) (height_of f / 2) k is.row is.half_height hk;
+      };
       mb = numbered (columns_of f) r m _ _ at (row_8 r k hk) (column_8 m k) is.same;
       block = refl;
       place = place_8 m r k hk;
@@ -208,7 +235,7 @@ module _ (f : Format) (at : ℕ) (blocks : List Block) (p q : Picture)
       let x = corner.x + k % 8 in
       let y = corner.y + k / 8 in
       written (mb_of f corner.plane x y) at (block_of corner.plane x y) _ _ _ (sets corner.plane x y here.inside)
-          here.mb (omega (arith, here.block, hb))
+      here.mb (omega (arith, here.block, hb))
       ∙ ap (λ (n : ℕ). byte_of (level_at (block_in blocks n) (8 * (y % 8) + x % 8))) here.block
       ∙ ap (λ (n : ℕ). byte_of (level_at (block_in blocks b) n)) here.place
 
@@ -220,7 +247,7 @@ module _ (f : Format) (at : ℕ) (blocks : List Block) (p q : Picture)
       let x = corner.x + k % 8 in
       let y = corner.y + k / 8 in
       kept (mb_of f corner.plane x y) at (block_of corner.plane x y) _ _ _ (sets corner.plane x y here.inside)
-          (λ e. apart (sym here.mb ∙ e))
+      (λ e. apart (sym here.mb ∙ e))
 
   put_block : (b : ℕ) → q.format ≡ f → at < mbs_of f → b < 6 → IsIntraBlock (block_in blocks b)
       → length (block_in blocks b).levels ≡ 64 →
@@ -229,7 +256,7 @@ module _ (f : Format) (at : ℕ) (blocks : List Block) (p q : Picture)
   put_block b e h hb is long =
       block_by_all (block_in blocks b) (byte_in_block q at b) long
       (λ k hk. again (block_in blocks b) k is hk
-          ∙ ap (level_by_byte k) (sym (by_format f q at b k e ∙ put_byte b k h hb hk)))
+      ∙ ap (level_by_byte k) (sym (by_format f q at b k e ∙ put_byte b k h hb hk)))
 
   other_block : (other b : ℕ) → p.format ≡ f → q.format ≡ f → other < mbs_of f → other ≢ at → b < 6
       → undrawn_block q other b ≡ undrawn_block p other b
@@ -250,4 +277,4 @@ module _ (f : Format) (at : ℕ) (blocks : List Block) (p q : Picture)
   unfolding undrawn_mb
   other_mb quant other ep eq h apart =
       ap (Intra quant) (same_map (undrawn_block q other) (undrawn_block p other) 6 none
-          (λ b hb. other_block other b ep eq h apart hb))
+      (λ b hb. other_block other b ep eq h apart hb))

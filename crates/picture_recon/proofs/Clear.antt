@@ -81,7 +81,7 @@ past_four_rows at from less = outside (nat_lt at 32) _ (not_below at 32 from)
 no_bit : (marks places k : ℕ) → bit_and marks places ≡ 0 → bit_at places k ≡ 1 → bit_at marks k ≡ 0
 no_bit marks places k none has =
     let both : min (bit_at marks k) (bit_at places k) ≡ 0 = sym (bit_at_and marks places k)
-        ∙ ap (λ (n : ℕ). bit_at n k) none ∙ bit_at-zero k in
+    ∙ ap (λ (n : ℕ). bit_at n k) none ∙ bit_at-zero k in
     let small : bit_at marks k < 2 = bit_at-lt marks k in
     omega (arith, both, has, small)
 
@@ -99,7 +99,7 @@ module _ (marks : ℕ) (values : List ℤ) (marked : HasMarkedValues marks value
       let less : 8 * y + x < 64 = omega (arith, hy, hx) in
       let column : 1 ≤ (8 * y + x) % 8 = omega (arith, some, hx) in
       marked (8 * y + x) (omega (arith, some)) less (no_bit marks 18446744039346665970 (zigzag_place_of (8 * y + x))
-          none (past_column (8 * y + x) column less))
+      none (past_column (8 * y + x) column less))
 
   -- in the first two rows
   pub two_rows : bit_and marks 18446739674656284424 ≡ 0 → (at : ℕ) → 16 ≤ at → at < 64 → get_or values at (pos 0)

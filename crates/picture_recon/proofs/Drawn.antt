@@ -24,9 +24,9 @@ same_drawn f r at mb other reference old new same sets = subst (λ (m : Mb). Set
 by_reference : (kind : Kind) (f : Format) (r at quant : ℕ) (v : Vector) (blocks : List Block)
     (reference : Option Picture) (samples : Predicted) (old new : Picture) →
     HasReference kind f reference → IsOfKind kind (Inter quant v blocks)
-        → IsPredictionOf r reference at (Inter quant v blocks) samples →
+    → IsPredictionOf r reference at (Inter quant v blocks) samples →
     ((p : Picture) (w : Vector) (b : ℕ) → p.format ≡ f → IsPredicted p at w b samples
-        → SetsMb f b (Some p) at (Inter quant w blocks) old new) →
+    → SetsMb f b (Some p) at (Inter quant w blocks) old new) →
     SetsMb f r reference at (Inter quant v blocks) old new
 by_reference I f r at quant v blocks reference samples old new has kind is sets = absurd kind
 by_reference P f r at quant v blocks None samples old new has kind is sets = absurd has
@@ -35,15 +35,15 @@ by_reference P f r at quant v blocks (Some p) samples old new has kind is sets =
 pub prediction_drawn : (kind : Kind) (f : Format) (r at quant : ℕ) (v : Vector) (blocks : List Block) (mb : Mb)
     (reference : Option Picture) (samples : Predicted) (old new : Picture) →
     mb ≡ Inter quant v blocks → HasReference kind f reference → IsOfKind kind mb
-        → IsPredictionOf r reference at mb samples →
+    → IsPredictionOf r reference at mb samples →
     ((p : Picture) (w : Vector) (b : ℕ) → p.format ≡ f → IsPredicted p at w b samples
-        → SetsMb f b (Some p) at (Inter quant w blocks) old new) →
+    → SetsMb f b (Some p) at (Inter quant w blocks) old new) →
     SetsMb f r reference at mb old new
 prediction_drawn kind f r at quant v blocks mb reference samples old new inter has of_kind is sets =
     same_drawn f r at mb (Inter quant v blocks) reference old new inter
     (by_reference kind f r at quant v blocks reference samples old new has
     (subst (λ (m : Mb). IsOfKind kind m) inter of_kind) (subst (λ (m : Mb). IsPredictionOf r reference at m samples)
-        inter is) sets)
+    inter is) sets)
 
 -- the prediction is made from the reference itself
 pub reference_drawn : (f : Format) (r at : ℕ) (mb other : Mb) (reference : Option Picture) (p old new : Picture)
@@ -64,4 +64,4 @@ pub reference_format : (kind : Kind) (f : Format) (quant : ℕ) (v : Vector) (bl
     HasReference kind f reference → IsOfKind kind mb → p.format ≡ f
 reference_format kind f quant v blocks mb reference p inter seen has of_kind =
     format_of_reference kind f quant v blocks p (subst (λ (q : Option Picture). HasReference kind f q) seen has)
-        (subst (λ (m : Mb). IsOfKind kind m) inter of_kind)
+    (subst (λ (m : Mb). IsOfKind kind m) inter of_kind)

@@ -47,12 +47,12 @@ inverse_of_first : (values : List ℤ) → ((at : ℕ) → 1 ≤ at → at < 64 
 inverse_of_first values h y x hy hx =
     let terms = λ (u v : ℕ). basis u x *ℤ basis v y *ℤ entry values v u in
     let zeros = λ (u v : ℕ) (some : 1 ≤ 8 * v + u) (less : 8 * v + u < 64). times_zero (basis u x *ℤ basis v y)
-        (entry values v u) (h (8 * v + u) some less) in
+    (entry values v u) (h (8 * v + u) some less) in
     let outer : sum_below 8 (λ u. sum_below 8 (terms u)) ≡ sum_below 8 (terms 0) =
     first_alone 7 (λ u. sum_below 8 (terms u)) (λ u some less. none_at_all 8 (terms u)
-        (λ v lv. zeros u v (omega arith) (omega arith))) in
+    (λ v lv. zeros u v (omega arith) (omega arith))) in
     let inner : sum_below 8 (terms 0)
-        ≡ terms 0 0 = first_alone 7 (terms 0) (λ v some less. zeros 0 v (omega arith) (omega arith)) in
+    ≡ terms 0 0 = first_alone 7 (terms 0) (λ v some less. zeros 0 v (omega arith) (omega arith)) in
     ap rounded (outer ∙ inner
     ∙ ap (λ (k : ℤ). k *ℤ basis 0 y *ℤ get_or values 0 (pos 0)) (first_basis x hx)
     ∙ ap (λ (k : ℤ). pos 2048 *ℤ k *ℤ get_or values 0 (pos 0)) (first_basis y hy))
@@ -85,7 +85,7 @@ unfolding inter_values
 no_values_inter one quant b none at some less =
     get_or-map-range_with_len (inter_value quant b) 0 64 at at (pos 0) less (omega arith)
     ∙ ap (value_of quant) (none (zigzag_place_of at) (later (zigzag_place_of at) at (one.from_block at less) some)
-        (within (zigzag_place_of at) at (one.from_block at less) some))
+    (within (zigzag_place_of at) at (one.from_block at less) some))
 
 first_value_inter : (quant : ℕ) (b : Block) → get_or (inter_values quant b) 0 (pos 0) ≡ value_of quant (level_at b 0)
 unfolding inter_values zigzag_place_of
@@ -93,7 +93,7 @@ first_value_inter quant b = get_or-map-range_with_len (inter_value quant b) 0 64
 
 pub number_of_first : (one : IsOneOrder) (quant : ℕ) (b : Block) → ((k : ℕ) → 1 ≤ k → k < 64 → level_at b k ≡ pos 0) →
     (y x : ℕ) → y < 8 → x < 8 → inverse_at (inter_values quant b) y x
-        ≡ rounded (pos 2048 *ℤ pos 2048 *ℤ value_of quant (level_at b 0))
+    ≡ rounded (pos 2048 *ℤ pos 2048 *ℤ value_of quant (level_at b 0))
 number_of_first one quant b none y x hy hx =
     inverse_of_first (inter_values quant b) (no_values_inter one quant b none) y x hy hx
     ∙ ap (λ (k : ℤ). rounded (pos 2048 *ℤ pos 2048 *ℤ k)) (first_value_inter quant b)

@@ -16,7 +16,7 @@ use Rattle.half_sample.specs.Prediction.{ArePredicted, predicted_sample}
 in_square : (p : Picture) (plane : Plane) (at n : ℕ) (v : Vector) (r : ℕ) (samples : List ℕ) (left top x y : ℕ)
     → ArePredicted n p plane at v r samples →
     left ≡ n * (at % columns_of p.format) → top ≡ n * (at / columns_of p.format) → left ≤ x → x < left + n → top ≤ y
-        → y < top + n →
+    → y < top + n →
     get_or samples (n * (y - top) + (x - left)) 0 ≡ predicted_sample p plane x y v r
 in_square p plane at n v r samples left top x y h column row hx lx hy ly =
     let ex : n * (at % columns_of p.format) + (x - left) ≡ x = omega (arith, column, hx) in
@@ -47,8 +47,13 @@ pub record IsIn (s : Bool) (x y n i j : ℕ) : Type 0 where
 
 is_in_rows : (x y n i j : ℕ) → ((nat_le y j && nat_lt j (y + n)) && (nat_le x i && nat_lt i (x + n))) ≡ true
     → IsIn true x y n i j
-is_in_rows x y n i j h = record { same = refl; from = grind (arith, nat_tests); to = grind (arith, nat_tests);
-    below = grind (arith, nat_tests); above = grind (arith, nat_tests) }
+is_in_rows x y n i j h = record {
+  same = refl;
+  from = grind (arith, nat_tests);
+  to = grind (arith, nat_tests);
+  below = grind (arith, nat_tests);
+  above = grind (arith, nat_tests);
+}
 
 pub is_in : (s : Bool) (x y n i j : ℕ) → (s && ((nat_le y j && nat_lt j (y + n)) && (nat_le x i && nat_lt i (x + n))))
     ≡ true → IsIn s x y n i j
@@ -70,7 +75,7 @@ predicted_put f p plane other at n v r samples left top x y now old e h column r
     other_test (in_block plane left top n n other x y) _ now _ _ old put same
     (λ t. let here = is_in (same_plane plane other) left top n x y t in
     in_square p plane at n v r samples left top x y h (column ∙ ap (λ (g : Format). n * (at % columns_of g)) (sym e))
-        (row ∙ ap (λ (g : Format). n * (at / columns_of g)) (sym e)) here.from here.to here.below here.above
+    (row ∙ ap (λ (g : Format). n * (at / columns_of g)) (sym e)) here.from here.to here.below here.above
     ∙ same_predicted p plane other x y v r here.same)
 
 -- what is put into one plane after the other

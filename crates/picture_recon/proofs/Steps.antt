@@ -15,7 +15,7 @@ use Rattle.picture_recon.proofs.InSquare.{is_in, other_test}
 -- a block whose first value is put in last
 with_first : (f : ℕ → ℤ) (xs : List ℤ) (v : ℤ) → length xs ≡ 64 → v ≡ f 0 →
     ((k : ℕ) → 1 ≤ k → k < 64 → get_or xs k (pos 0) ≡ f k) → (k : ℕ) → k < 64 → get_or (slice_set xs 0 v) k (pos 0)
-        ≡ f k
+    ≡ f k
 with_first f xs v long first others zero h = get_or-set_same xs 0 v (pos 0) (omega arith) ∙ first
 with_first f xs v long first others (suc k) h =
     let other : suc k ≢ 0 = omega arith in
@@ -45,12 +45,12 @@ not_yet m at bl b before val old h e = grind (arith, nat_tests)
 
 one_more : (m at bl b now old before : ℕ) (value : ℕ → ℕ → ℕ) →
     now ≡ cond (nat_eq m at && nat_eq bl b) (value b before) before
-        → before ≡ cond (nat_eq m at && nat_lt bl b) (value bl old) old →
+    → before ≡ cond (nat_eq m at && nat_lt bl b) (value bl old) old →
     now ≡ cond (nat_eq m at && nat_lt bl (b + 1)) (value bl old) old
 one_more m at bl b now old before value h1 h2 =
     let same : bl ≡ b → value b before
-        ≡ value bl old = λ e. ap (value b) (not_yet m at bl b before (value bl old) old h2 e)
-        ∙ ap (λ (k : ℕ). value k old) (sym e) in
+    ≡ value bl old = λ e. ap (value b) (not_yet m at bl b before (value bl old) old h2 e)
+    ∙ ap (λ (k : ℕ). value k old) (sym e) in
     grind (arith, nat_tests)
 
 -- one more block of a macroblock
@@ -58,7 +58,7 @@ pub more_blocks : (f : Format) (at b : ℕ) (value : ℕ → ℕ → ℕ → ℕ
     SetsBlocks f at b value old p → SetsBlock f at b (value b) p q → SetsBlocks f at (b + 1) value old q
 more_blocks f at b value old p q before now plane x y h =
     one_more (mb_of f plane x y) at (block_of plane x y) b (sample_at q plane x y) (sample_at old plane x y)
-        (sample_at p plane x y)
+    (sample_at p plane x y)
     (λ (k n : ℕ). value k n (y % 8) (x % 8)) (now plane x y h) (before plane x y h)
 
 -- a block whose samples are these numbers
@@ -76,10 +76,10 @@ within_macroblock m at init predicted old h e = grind (arith, nat_tests)
 -- the samples of a macroblock, where all of them were predicted first
 pub over_predicted : (m at now first predicted old : ℕ) (value : ℕ → ℕ) →
     now ≡ cond (nat_eq m at) (value first) first → first ≡ cond (nat_eq m at) predicted old
-        → now ≡ cond (nat_eq m at) (value predicted) old
+    → now ≡ cond (nat_eq m at) (value predicted) old
 over_predicted m at now first predicted old value h1 h2 =
     let same : m ≡ at → value first ≡ value predicted = λ e. ap value (within_macroblock m at first predicted old h2 e)
-        in
+    in
     grind (arith, nat_tests)
 
 -- a block to which nothing is added
@@ -104,7 +104,7 @@ pub block_put : (p q : Picture) (plane other : Plane) (left top x y : ℕ) (befo
     ((j i : ℕ) → j < 8 → i < 8 → get_or before (8 * j + i) 0 ≡ sample_at p plane (left + i) (top + j)) →
     ((j i : ℕ) → j < 8 → i < 8 → get_or samples (8 * j + i) 0 ≡ value (get_or before (8 * j + i) 0) j i) →
     now ≡ cond (in_block plane left top 8 8 other x y) (get_or samples (8 * (y % 8) + x % 8) 0)
-        (sample_at q other x y) →
+    (sample_at q other x y) →
     in_block plane left top 8 8 other x y ≡ test →
     now ≡ cond test (value (sample_at q other x y) (y % 8) (x % 8)) (sample_at q other x y)
 block_put p q plane other left top x y before samples value now test seen column row stood given put same =

@@ -62,8 +62,8 @@ starts one quant b marks rest marked others = record {
       let first : z ≢ 0 = let h = later z at e some in omega arith in
       get_or-replicate 64 at (pos 0) (pos 0) less
       ∙ none_marked (bit_at rest z) (inter_value quant b at)
-          (λ none. ap (value_of quant) (marked z (within z at e some) (sym (others z (within z at e some) first)
-          ∙ none)));
+      (λ none. ap (value_of quant) (marked z (within z at e some) (sym (others z (within z at e some) first)
+      ∙ none)));
   range = All-replicate IsValue 64 (pos 0) zero_value;
 }
 
@@ -89,11 +89,11 @@ put one quant b k rest values v mark past room value range before = record {
       (λ same. let here : block_place_of k ≡ at = ap block_place_of (sym same) ∙ e in (
         subst (λ (j : ℕ). get_or (slice_set values (block_place_of k) v) j (pos 0) ≡ inter_value quant b at) here
             (get_or-set_same values (block_place_of k) v (pos 0) (omega (arith, before.long)) ∙ value
-                ∙ ap (λ (j : ℕ). value_of quant (level_at b j)) (sym same)),
+            ∙ ap (λ (j : ℕ). value_of quant (level_at b j)) (sym same)),
         ap (bit_at (without rest k)) same ∙ mark.gone,
       ))
       (λ differs. let other : at ≢ block_place_of k = λ here. differs (ap zigzag_place_of here
-          ∙ one.from_order k mark.below) in
+      ∙ one.from_order k mark.below) in
       (get_or-set_other values (block_place_of k) at v (pos 0) other, mark.others z (within z at e some) differs));
   range = All-set IsValue values (block_place_of k) v range before.range;
 }
@@ -103,7 +103,7 @@ pub ends : (one : IsOneOrder) (quant : ℕ) (b : Block) (rest : ℕ) (values : L
     (at : ℕ) → 1 ≤ at → at < 64 → get_or values at (pos 0) ≡ inter_value quant b at
 ends one quant b rest values none before at some less =
     no_mark (bit_at rest (zigzag_place_of at)) _ _ (ap (λ (n : ℕ). bit_at n (zigzag_place_of at)) none
-        ∙ bit_at-zero (zigzag_place_of at)) (before.stand at less some)
+    ∙ bit_at-zero (zigzag_place_of at)) (before.stand at less some)
 
 -- which levels are 0, where no mark is set, and where only the first is
 pub none_at_all : (b : Block) (marks : ℕ) → AreMarked b.levels marks → marks ≡ 0 → (k : ℕ) → k < 64

@@ -74,8 +74,10 @@ same_steps m n d some e = sym (limited m d some) ∙ ap (λ (k : ℕ). k / d) e 
 product_of : (q k : ℕ) → 0 < q → (32768 * k + (q - 1)) / q * (2 * q)
     ≡ 65536 * k + 2 * (q - 1 - (32768 * k + (q - 1)) % q)
 product_of q k some =
-    let whole : q * ((32768 * k + (q - 1)) / q) + (32768 * k + (q - 1)) % q ≡ 32768 * k + (q - 1) = omega (arith,
-        some) in
+    let whole : q * ((32768 * k + (q - 1)) / q) + (32768 * k + (q - 1)) % q ≡ 32768 * k + (q - 1) = omega (
+      arith,
+      some,
+    ) in
     let rest : (32768 * k + (q - 1)) % q < q = omega (arith, some) in
     omega (arith, whole, rest)
 
@@ -90,10 +92,10 @@ exact_beyond q size f h is few =
     let reaches : q ≤ k = is.shift.reaches in
     let number : f.number * (2 * q) ≡ 65536 * k + e = ap (λ (m : ℕ). m * (2 * q)) is.number ∙ product_of q k some in
     let small : size * e ≤ 32774 * (2 * (q - 1)) = mul-le-mul few (let added : e ≤ 2 * (q - 1) = omega arith in
-        added) in
+    added) in
     let less : size * e < 65536 * k = omega (arith, small, reaches, h.low, h.high) in
     div-div-eq-div-mul (size * f.number) 65536 k
-        ∙ by_product (65536 * k) size (2 * q) f.number e (omega (arith, some)) number less
+    ∙ by_product (65536 * k) size (2 * q) f.number e (omega (arith, some)) number less
 
 pub exact : (q size : ℕ) (f : Factor) → IsQuant q → IsFactor q f → size ≤ 32768 → size * f.number / 2 ^ 16 / 2 ^ f.shift
     ≡ size / (2 * q)
@@ -129,7 +131,7 @@ pub product_steps : (q size a b n : ℕ) (f : Factor) → IsQuant q → IsFactor
     a * b / 65536 / 2 ^ (f.shift + 4) * (32 * n) ≡ size / (32 * q) * (32 * q)
 product_steps q size a b n f h is few first second third =
     ap (λ (k : ℕ). k * (32 * n)) (product_quotient q size a b f h is few first second)
-        ∙ ap (λ (k : ℕ). size / (32 * q) * (32 * k)) third
+    ∙ ap (λ (k : ℕ). size / (32 * q) * (32 * k)) third
 
 pub rest_after : (n d : ℕ) → 0 < d → n - n / d * d ≡ n % d
 rest_after n d some =
@@ -141,7 +143,7 @@ shift_by : (b : Bool) (q shift : ℕ) → nat_lt shift 6 ≡ b → IsQuant q →
 shift_by true q shift test h least = ltb-true _ _ test
 shift_by false q shift test h least =
     let large : 2 ^ 6 ≤ 2 ^ shift = pow-le-pow_right {n = 2} (let two : 0 < 2 = omega arith in
-        two) (not_less shift 6 test) in
+    two) (not_less shift 6 test) in
     absurd (omega (arith, large, least, h.high))
 
 pub shift_small : (q shift : ℕ) → IsQuant q → 2 ^ shift < 2 * q → shift < 6

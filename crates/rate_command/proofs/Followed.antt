@@ -64,11 +64,11 @@ module _ (b : Bucket) where
   texts_are [] packets plays = refl
   texts_are (x ∷ more) packets plays =
       ap (λ (s : RateState). text_with rate_rules (state packets plays) x.entry x.bytes Report
-          ++ text_after rate_rules s more Report) (mind_is packets plays x.entry x.bytes)
+      ++ text_after rate_rules s more Report) (mind_is packets plays x.entry x.bytes)
       ∙ ap (λ (l : List ℕ). l ++ text_after rate_rules (state (packets_with packets x.entry x.bytes)
-          (plays_with plays x.entry)) more Report) (text_is packets plays x.entry x.bytes)
+      (plays_with plays x.entry)) more Report) (text_is packets plays x.entry x.bytes)
       ∙ ap (λ (l : List ℕ). answer_line b.target packets x.entry x.bytes
-          ++ l) (texts_are more (packets_with packets x.entry x.bytes) (plays_with plays x.entry))
+      ++ l) (texts_are more (packets_with packets x.entry x.bytes) (plays_with plays x.entry))
 
   turn_count : (found : List Found) (s : RateState) → length (turns_over rate_rules s found) ≡ length found
   turn_count [] s = refl
@@ -90,12 +90,12 @@ module _ (b : Bucket) where
       report =
           f.texts Report
           ∙ ap (λ (l : List ℕ). l ++ told run.last.status
-              (rate_rules.end_text (mind_after rate_rules (nothing_measured b) f.accepted) Report))
-              (texts_are f.accepted [] 0)
+          (rate_rules.end_text (mind_after rate_rules (nothing_measured b) f.accepted) Report))
+          (texts_are f.accepted [] 0)
           ∙ ap (λ (s : RateState). answer_lines b.target [] f.accepted
-              ++ told run.last.status (rate_rules.end_text s Report)) minds
+          ++ told run.last.status (rate_rules.end_text s Report)) minds
           ∙ ap (λ (l : List ℕ). answer_lines b.target [] f.accepted ++ told run.last.status l)
-              (closes (totals_of b.target b.bucket (measured_packets [] f.accepted)));
+          (closes (totals_of b.target b.bucket (measured_packets [] f.accepted)));
       end = subst (λ (s : RateState). IsEnd (log_fault OfReceiver (inputs Events)) (rate_rules.plays s) f.refused
           run.last.status) minds f.end;
     }

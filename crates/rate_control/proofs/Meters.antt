@@ -68,8 +68,16 @@ sizes_push past p = map_push (λ (q : Picture). q.size) past p
 
 -- ---- an accepted packet
 
-pub new_stands : (target bucket : ℕ) → MeterStands (record { target = target; bucket = bucket; picture = None;
-    pictures = 0; level = 0; greatest = 0; over = 0; refused = 0 }) []
+pub new_stands : (target bucket : ℕ) → MeterStands (record {
+  target = target;
+  bucket = bucket;
+  picture = None;
+  pictures = 0;
+  level = 0;
+  greatest = 0;
+  over = 0;
+  refused = 0;
+}) []
 unfolding pictures_of
 new_stands target bucket =
     record {
@@ -192,7 +200,7 @@ tells m packets p x false e = ap (λ (l : ℕ × ℕ × ℕ). ended l) (sym e)
 
 answer_at : (m : Meter) (packets : List (List ℕ)) (r : Rtp) (o : Option ℕ) → last_time (accepted packets) ≡ o
     → cond (differs o r.timestamp) (ended (last_of m.target (sizes_of packets))) Same
-        ≡ answer_of m.target packets (Ok r)
+    ≡ answer_of m.target packets (Ok r)
 answer_at m packets r o e =
     ap (λ (t : Option ℕ). cond (differs t r.timestamp) (ended (last_of m.target (sizes_of packets))) Same) (sym e)
 
@@ -328,29 +336,54 @@ closed_empty m packets none s =
     let k = subst (λ (l : List ℕ). Counts m l) past (counts_of m packets s) in
     same_totals
     (record { last = None; pictures = m.pictures; greatest = m.greatest; over = m.over; refused = m.refused })
-    (record { last = None; pictures = 0; greatest = greatest_level m.target []; over = over_in m.target m.bucket [];
-        refused = refused_in packets })
+    (record {
+      last = None;
+      pictures = 0;
+      greatest = greatest_level m.target [];
+      over = over_in m.target m.bucket [];
+      refused = refused_in packets;
+    })
     refl k.count k.greatest k.over s.refused
     ∙ sym (totals_by m.target m.bucket packets [] (no_sizes packets g.1))
 
 pub closed_with : (m : Meter) (packets : List (List ℕ)) (p : Picture) → m.picture ≡ Some p → MeterStands m packets
     → (n : Meter) → n ≡ after_picture m p.size
-    → record { last = Some (m.pictures, p.size, n.level); pictures = n.pictures; greatest = n.greatest; over = n.over;
-        refused = n.refused }
+    → record {
+      last = Some (m.pictures, p.size, n.level);
+      pictures = n.pictures;
+      greatest = n.greatest;
+      over = n.over;
+      refused = n.refused;
+    }
     ≡ totals_of m.target m.bucket packets
 closed_with m packets p is s n e =
     let sizes = sizes_in s.past ++ p.size ∷ [] in
     let k = counts_after m (sizes_in s.past) p.size (counts_of m packets s) in
     let c = counts_of m packets s in
-    ap (λ (w : Meter). record { last = Some (m.pictures, p.size, w.level); pictures = w.pictures; greatest = w.greatest;
-        over = w.over; refused = w.refused }) e
+    ap (λ (w : Meter). record {
+      last = Some (m.pictures, p.size, w.level);
+      pictures = w.pictures;
+      greatest = w.greatest;
+      over = w.over;
+      refused = w.refused;
+    }) e
     ∙ same_totals
-    (record { last = Some (m.pictures, p.size, m.level + p.size - m.target); pictures = m.pictures + 1;
-        greatest = (after_picture m p.size).greatest; over = (after_picture m p.size).over; refused = m.refused })
-    (record { last = going_on m.target sizes; pictures = length sizes; greatest = greatest_level m.target sizes;
-        over = over_in m.target m.bucket sizes; refused = refused_in packets })
+    (record {
+      last = Some (m.pictures, p.size, m.level + p.size - m.target);
+      pictures = m.pictures + 1;
+      greatest = (after_picture m p.size).greatest;
+      over = (after_picture m p.size).over;
+      refused = m.refused;
+    })
+    (record {
+      last = going_on m.target sizes;
+      pictures = length sizes;
+      greatest = greatest_level m.target sizes;
+      over = over_in m.target m.bucket sizes;
+      refused = refused_in packets;
+    })
     (ap (λ (x : ℕ × ℕ × ℕ). Some x) (sym (last_at m packets p is s)
-        ∙ ap (λ (l : List ℕ). last_of m.target l) (sizes_at packets s.past p (going_at m packets p is s)))
+    ∙ ap (λ (l : List ℕ). last_of m.target l) (sizes_at packets s.past p (going_at m packets p is s)))
     ∙ sym (going_push m.target (sizes_in s.past) p.size))
     k.count k.greatest k.over s.refused
     ∙ sym (totals_by m.target m.bucket packets sizes (sizes_at packets s.past p (going_at m packets p is s)))

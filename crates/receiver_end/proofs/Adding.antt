@@ -12,7 +12,7 @@ use Rattle.receiver_end.proofs.Marked.{taken_more, taken_other}
 module _ (f : Format) (old new : Collector) (first : ℕ) (taken : List Taken) (t : Taken)
     (collects : Collects old first taken)
     (after : Collects new first (t ∷ taken)) (same : IsRowFrom (first_of old) old new) (format : format_of old
-        ≡ f) where
+    ≡ f) where
   row : (m : ℕ) → IsInRow old m → IsInRow new m
   row m is = record { low = omega (arith, is.low, same.begins); high = omega (arith, is.high, same.begins, same.many) }
 
@@ -29,12 +29,12 @@ module _ (f : Format) (old new : Collector) (first : ℕ) (taken : List Taken) (
       → has_in new n k ≡ (has_piece t.piece.head k || has_in old n k)
   has_now n k at is lt =
       after.marks n k (row n is) (below_new k lt) ∙ taken_more t taken n k at
-          ∙ ap (λ (b : Bool). has_piece t.piece.head k || b) (sym (collects.marks n k is (below k lt)))
+      ∙ ap (λ (b : Bool). has_piece t.piece.head k || b) (sym (collects.marks n k is (below k lt)))
 
   pub header_still : (m : ℕ) → (t.number ≡ m → ⊥) → IsInRow old m → header_in new m ≡ header_in old m
   header_still m other is =
       one_kept taken m (header_in new m) (header_in old m) (kept_before t taken m (header_in new m) other
-          (after.headers m (row m is))) (collects.headers m is)
+      (after.headers m (row m is))) (collects.headers m is)
 
   pub has_still : (m k : ℕ) → (t.number ≡ m → ⊥) → IsInRow old m → k < mbs_of f → has_in new m k ≡ has_in old m k
   has_still m k other is lt = after.marks m k (row m is) (below_new k lt) ∙ taken_other t taken m k other

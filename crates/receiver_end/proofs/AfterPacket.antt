@@ -23,8 +23,11 @@ use Rattle.receiver_end.proofs.AfterSlice.{run_long}
 
 pub spelled : (piece : Piece) (mbs : List Mb) → piece.head.first + piece.head.count ≤ length mbs
     → Spells piece (piece_in piece mbs)
-spelled piece mbs inside = record { header = refl; first = refl;
-    count = run_long mbs piece.head.first piece.head.count inside }
+spelled piece mbs inside = record {
+  header = refl;
+  first = refl;
+  count = run_long mbs piece.head.first piece.head.count inside;
+}
 
 -- an answer takes a packet where the run's does
 pub takes_same : (clock : Clock) (h : Heard) (x : runs.Heard Fault) → IsHeard clock h x → takes h ≡ is_taking x
@@ -48,7 +51,7 @@ module _ (r : Kept) (past : List runs.ReceiverEntry) (bytes : List ℕ) (p : cal
   stays law h is none =
       law (seen r) past bytes stands
       (ap (λ (x : Result (call.Piece Style Mb) Fault). is_taking (heard_by_kept (decoding r.params.format)
-          (rules_of r.params) (seen r) x)) read
+      (rules_of r.params) (seen r) x)) read
       ∙ sym (takes_same r.params.clock h _ is) ∙ none)
 
   -- one that is
@@ -56,12 +59,12 @@ module _ (r : Kept) (past : List runs.ReceiverEntry) (bytes : List ℕ) (p : cal
       → nearest (rules_of r.params) r.played p.header.number ≡ Some n
       → heard_by_kept (decoding r.params.format) (rules_of r.params) (seen r) (Ok p) ≡ taking r n p
       → IsAfterSlice (decoding r.params.format) (rules_of r.params) (seen r) (seen t) n p
-          → Stands t (runs.Packet bytes ∷ past)
+      → Stands t (runs.Packet bytes ∷ past)
   moves law t n same near is after =
       subst (λ (q : Params). ReceiverStands (decoding q.format) (rules_of q) (seen t) (runs.Packet bytes ∷ past))
-          (sym same)
+      (sym same)
       (law (seen r) (seen t) past bytes p n stands read near (ap is_taking is
-          ∙ always (completes (decoding r.params.format) (rules_of r.params) (seen r) n p)) after)
+      ∙ always (completes (decoding r.params.format) (rules_of r.params) (seen r) n p)) after)
     where
       always : (b : Bool) → is_taking {Fault = Fault}
           (if b then runs.Completed (ack_of r.params r.store n) else runs.Taken) ≡ true

@@ -33,7 +33,7 @@ one_round n d m e = let one : m ≡ n + d * 1 = omega (arith, e) in ap (λ (k : 
 module _ (far : OneRestIsFar) (spots : AreSpots) (by : ArePicturesBySamples) (r : Kept) (c : Collector) (s : Pictures)
     (ok : Fits r)
     (shown : IsShownIn r (holds r.params r.store r.played) s) (collects : Collects c (r.played + 1) ok.taken)
-        (same : IsRowFrom (first_of r.collector + 1) r.collector c) (few : r.played < 2 ^ 20) where
+    (same : IsRowFrom (first_of r.collector + 1) r.collector c) (few : r.played < 2 ^ 20) where
   abbrev after : Kept
   after = record r { played = r.played + 1; exact = holds r.params r.store r.played; collector = c; store = s }
 
@@ -73,7 +73,7 @@ module _ (far : OneRestIsFar) (spots : AreSpots) (by : ArePicturesBySamples) (r 
   kept_then : holds r.params r.store r.played ≡ true → IsKept s r.played
   kept_then held =
       let there : number_in r.store (r.played % r.params.slots)
-          ≡ Some r.played = at (number_in r.store (r.played % r.params.slots)) held in
+      ≡ Some r.played = at (number_in r.store (r.played % r.params.slots)) held in
       subst (λ (l : List (Option ℕ)). get_or l (r.played % length l) None ≡ Some r.played) (sym numbers_are)
       (subst (λ (k : ℕ). number_in r.store (r.played % k) ≡ Some r.played) (sym ok.slots) there)
     where
@@ -90,8 +90,11 @@ module _ (far : OneRestIsFar) (spots : AreSpots) (by : ArePicturesBySamples) (r 
     collected = same.format ∙ ok.collected;
     row = same.many ∙ ok.row;
     few = omega (arith, few);
-    exact = λ e. (omega arith, let back : r.played + 1 - 1 ≡ r.played = omega arith in
-        subst (IsKept s) (sym back) (kept_then e));
+    exact = λ e. (
+      omega arith,
+      let back : r.played + 1 - 1 ≡ r.played = omega arith in
+          subst (IsKept s) (sym back) (kept_then e),
+    );
     taken = ok.taken;
     collects = collects;
   }
@@ -106,7 +109,7 @@ module _ (far : OneRestIsFar) (spots : AreSpots) (by : ArePicturesBySamples) (r 
   abbrev over : ℕ → ℕ
   over i =
       if has_in r.collector r.played (owner_of r.params.format i) then sample_of (picture_at r.params r.store r.played)
-          (spot r.params.format i)
+      (spot r.params.format i)
       else sample_of (screen_in r.params r.store r.exact r.played) (spot r.params.format i)
 
   abbrev the_picture : Bool → Picture
@@ -127,15 +130,15 @@ module _ (far : OneRestIsFar) (spots : AreSpots) (by : ArePicturesBySamples) (r 
   screen_is true held is =
       let back : r.played + 1 - 1 ≡ r.played = omega arith in
       ap (λ (k : ℕ). picture_in s (k % r.params.slots)) back
-          ∙ ap (λ (t : Pictures). picture_in t (r.played % r.params.slots)) is ∙ picture_is true held
+      ∙ ap (λ (t : Pictures). picture_in t (r.played % r.params.slots)) is ∙ picture_is true held
   screen_is false held is =
       ap (work_in s) last_is
       ∙ by.only r.params.format (work_in s (work_of r.params r.played)) over is.whole.0 is.whole.1.whole
       (λ i inside. is.patches (spot r.params.format i).plane (spot r.params.format i).x (spot r.params.format i).y
-          (spots.inside r.params.format i inside)
+      (spots.inside r.params.format i inside)
       ∙ ap (λ (q : Picture). if has_in r.collector r.played (owner_of r.params.format i) then sample_of q
-          (spot r.params.format i) else sample_of (screen_in r.params r.store r.exact r.played)
-          (spot r.params.format i)) (sym (at_work held)))
+      (spot r.params.format i) else sample_of (screen_in r.params r.store r.exact r.played)
+      (spot r.params.format i)) (sym (at_work held)))
       ∙ picture_is false held
 
   -- as it would be seen if the row of the picture that was played were still there
@@ -147,12 +150,16 @@ module _ (far : OneRestIsFar) (spots : AreSpots) (by : ArePicturesBySamples) (r 
   }
 
   in_row : (m : ℕ) → r.played ≤ m → m ≤ r.played + r.params.lead → IsInRow r.collector m
-  in_row m low high = record { low = omega (arith, low, ok.collects.begins);
-      high = omega (arith, high, ok.collects.begins, ok.row) }
+  in_row m low high = record {
+    low = omega (arith, low, ok.collects.begins);
+    high = omega (arith, high, ok.collects.begins, ok.row);
+  }
 
   in_new_row : (m : ℕ) → r.played < m → m ≤ r.played + r.params.lead + 1 → IsInRow c m
-  in_new_row m low high = record { low = omega (arith, low, collects.begins);
-      high = omega (arith, high, collects.begins, same.many, ok.row) }
+  in_new_row m low high = record {
+    low = omega (arith, low, collects.begins);
+    high = omega (arith, high, collects.begins, same.many, ok.row);
+  }
 
   header_same : (m : ℕ) → r.played < m → m ≤ r.played + r.params.lead → header_in c m ≡ header_in r.collector m
   header_same m low high = one_kept ok.taken m (header_in c m) (header_in r.collector m)
@@ -163,9 +170,9 @@ module _ (far : OneRestIsFar) (spots : AreSpots) (by : ArePicturesBySamples) (r 
       → has_in c m k ≡ has_in r.collector m k
   has_same m k low high lt =
       collects.marks m k (in_new_row m low (omega (arith, high))) (subst (λ (f : Format). k < mbs_of f)
-          (sym (same.format ∙ ok.collected)) lt)
+      (sym (same.format ∙ ok.collected)) lt)
       ∙ sym (ok.collects.marks m k (in_row m (omega (arith, low)) high) (subst (λ (f : Format). k < mbs_of f)
-          (sym ok.collected) lt))
+      (sym ok.collected) lt))
 
   new_number : IsInRow c (r.played + r.params.lead + 1)
   new_number = in_new_row (r.played + r.params.lead + 1) (omega arith) (omega arith)
@@ -180,33 +187,38 @@ module _ (far : OneRestIsFar) (spots : AreSpots) (by : ArePicturesBySamples) (r 
     screen = screen_is (holds r.params r.store r.played) refl shown;
     new_header = let other : r.played + r.params.lead + 1 ≡ r.played → ⊥ = λ e. omega (arith, e) in
         rw (ne_eqb (r.played + r.params.lead + 1) r.played other)
-            (ap (option_map header_of) (kept_none ok.taken (r.played + r.params.lead + 1)
-            (header_in c (r.played + r.params.lead + 1)) none_new
-            (collects.headers (r.played + r.params.lead + 1) new_number)));
+        (ap (option_map header_of) (kept_none ok.taken (r.played + r.params.lead + 1)
+        (header_in c (r.played + r.params.lead + 1)) none_new
+        (collects.headers (r.played + r.params.lead + 1) new_number)));
     new_has = λ k lt. let other : r.played + r.params.lead + 1 ≡ r.played → ⊥ = λ e. omega (arith, e) in
         rw (ne_eqb (r.played + r.params.lead + 1) r.played other)
         (collects.marks (r.played + r.params.lead + 1) k new_number (subst (λ (f : Format). k < mbs_of f)
-            (sym (same.format ∙ ok.collected)) lt) ∙ untaken ok.taken (r.played + r.params.lead + 1) k none_new);
+        (sym (same.format ∙ ok.collected)) lt) ∙ untaken ok.taken (r.played + r.params.lead + 1) k none_new);
     rows = λ m row. row_at m row.0 row.1 (eqb m r.played) refl;
-    slots = λ rest lt. (ap (λ (l : List (Option ℕ)). get_or l rest None) numbers_are,
-        slot_same (holds r.params r.store r.played) shown rest lt);
+    slots = λ rest lt. (
+      ap (λ (l : List (Option ℕ)). get_or l rest None) numbers_are,
+      slot_same (holds r.params r.store r.played) shown rest lt,
+    );
   }
     where
       row_at : (m : ℕ) → r.played ≤ m → m ≤ r.played + r.params.lead → (b : Bool) → eqb m r.played ≡ b
           → (before.header m ≡ (seen r).header m) × ((k : ℕ) → k < mbs_of r.params.format
-              → before.has m k ≡ (seen r).has m k) × (before.work m ≡ (seen r).work m)
+          → before.has m k ≡ (seen r).has m k) × (before.work m ≡ (seen r).work m)
       row_at m low high true e = rw e (refl, λ k lt. refl, refl)
       row_at m low high false e =
           let gt : r.played < m = let ne = eqb-false m r.played e in omega (arith, low, ne) in
-          rw e (ap (option_map header_of) (header_same m gt high), λ k lt. has_same m k gt high lt,
-              at_still (holds r.params r.store r.played) shown m gt high)
+          rw e (
+            ap (option_map header_of) (header_same m gt high),
+            λ k lt. has_same m k gt high lt,
+            at_still (holds r.params r.store r.played) shown m gt high,
+          )
 
   pub stands_after : (past : List ReceiverEntry) → PlayStands (decoding r.params.format) (rules_of r.params)
       → Stands r past → Stands after (PlayNext ∷ past)
   stands_after past law stands =
       let k = law (seen r) before past stands is_after in
       let open_at : (n : ℕ) → (receiver_run (decoding r.params.format) (rules_of r.params) past).played + 1 ≤ n
-          → eqb n r.played ≡ false =
+      → eqb n r.played ≡ false =
       λ n low. ne_eqb n r.played (λ e. omega (arith, e, low, stands.played)) in
       record {
         played = k.played;

@@ -40,7 +40,7 @@ pub run_long : (out : List Mb) (first count : ℕ) → first + count ≤ length 
     ≡ count
 run_long out first count fits =
     let whole : length (take count (drop first out)) ≡ min count (length (drop first out)) =
-        length-take count (drop first out) in
+    length-take count (drop first out) in
     omega (arith, whole, length-drop first out)
 
 mb_same : (out : List Mb) (first count k : ℕ) → first ≤ k → k < first + count
@@ -48,7 +48,7 @@ mb_same : (out : List Mb) (first count k : ℕ) → first ≤ k → k < first + 
 mb_same out first count k low high =
     let e : first + (k - first) ≡ k = omega (arith, low) in
     get_or-take count (drop first out) (k - first) Skip (omega (arith, low, high))
-        ∙ get_or-drop first out (k - first) Skip ∙ ap (λ (i : ℕ). get_or out i Skip) e
+    ∙ get_or-drop first out (k - first) Skip ∙ ap (λ (i : ℕ). get_or out i Skip) e
 
 module _ (p : Params) (some : 0 < p.slots) where
   pub held_same : (s t : Pictures) (m : ℕ) → t.numbers ≡ s.numbers → holds p t m ≡ holds p s m
@@ -62,22 +62,22 @@ module _ (p : Params) (some : 0 < p.slots) where
       let lt : m % p.slots < p.slots = mod-lt m some in
       let test = held_same s t m same.numbers in
       let kept : picture_in t (m % p.slots) ≡ picture_in s (m % p.slots) = same.others (m % p.slots)
-          (λ e. omega (arith, lt, e, slots)) in
+      (λ e. omega (arith, lt, e, slots)) in
       let count : slots_of t ≡ slots_of s = ap length same.numbers in
       let work : work_in t (work_of p m) ≡ work_in s (work_of p m) =
-          ap (λ (k : ℕ). picture_in t (k + work_of p m)) count
-          ∙ same.others (slots_of s + work_of p m) (λ e. differ (omega (arith, e))) in
+      ap (λ (k : ℕ). picture_in t (k + work_of p m)) count
+      ∙ same.others (slots_of s + work_of p m) (λ e. differ (omega (arith, e))) in
       λ i. if test i then kept i else work i
 
   pub screen_still : (s t : Pictures) (played w : ℕ) (exact : Bool) → slots_of s ≡ p.slots → IsSameBut s t w
       → (last_work p played ≡ w → ⊥) → screen_in p t exact played ≡ screen_in p s exact played
   screen_still s t played w true slots same differ =
       same.others ((played - 1) % p.slots) (λ e. let lt : (played - 1) % p.slots < p.slots = mod-lt (played - 1) some in
-          omega (arith, lt, e, slots))
+      omega (arith, lt, e, slots))
   screen_still s t played w false slots same differ =
       let count : slots_of t ≡ slots_of s = ap length same.numbers in
       ap (λ (k : ℕ). picture_in t (k + last_work p played)) count
-          ∙ same.others (slots_of s + last_work p played) (λ e. differ (omega (arith, e)))
+      ∙ same.others (slots_of s + last_work p played) (λ e. differ (omega (arith, e)))
 
 module _ (r : Kept) (c : Collector) (s : Pictures) (mbs : List Mb) (piece : Piece) (f : Fresh)
     (d : IsDrawn r c s mbs piece f) (inside-mbs : piece.head.first + piece.head.count ≤ length mbs) where
@@ -112,8 +112,8 @@ module _ (r : Kept) (c : Collector) (s : Pictures) (mbs : List Mb) (piece : Piec
 module _ (far : OneRestIsFar) (spots : AreSpots) (by : ArePicturesBySamples) (r : Kept) (c : Collector) (s : Pictures)
     (mbs : List Mb) (piece : Piece) (f : Fresh)
     (ok : Fits r) (fresh : IsFresh r piece f) (d : IsDrawn r c s mbs piece f)
-        (inside-mbs : piece.head.first + piece.head.count ≤ length mbs) (unheld : holds r.params r.store f.number
-        ≡ false) where
+    (inside-mbs : piece.head.first + piece.head.count ≤ length mbs) (unheld : holds r.params r.store f.number
+    ≡ false) where
   abbrev n : ℕ
   n = f.number
 
@@ -154,8 +154,8 @@ module _ (far : OneRestIsFar) (spots : AreSpots) (by : ArePicturesBySamples) (r 
   abbrev Here : ℕ → Bool → Type 0
   Here i b = sample_of (work_in s (work_of r.params n)) (spot r.params.format i)
       ≡ (if b then sample_in piece.header.rounding (picture_of_reference r.store f.reference)
-          (mb_in mbs (owner_of r.params.format i)) (spot r.params.format i).plane (spot r.params.format i).x
-          (spot r.params.format i).y
+      (mb_in mbs (owner_of r.params.format i)) (spot r.params.format i).plane (spot r.params.format i).x
+      (spot r.params.format i).y
       else sample_of (work_in r.store (work_of r.params n)) (spot r.params.format i))
 
   here : (i : ℕ) (b : Bool) → owner_of r.params.format i < mbs_of r.params.format
@@ -168,26 +168,26 @@ module _ (far : OneRestIsFar) (spots : AreSpots) (by : ArePicturesBySamples) (r 
       → call.has_mb p.slice (owner_of r.params.format i) ≡ true
       → sample_of (picture_at r.params s n) (spot r.params.format i)
       ≡ sample_in piece.header.rounding (reference_picture (decoding r.params.format) (rules_of r.params)
-          (seen r) n p.header) (call.mb_at Skip p.slice (owner_of r.params.format i)) (spot r.params.format i).plane
-          (spot r.params.format i).x (spot r.params.format i).y
+      (seen r) n p.header) (call.mb_at Skip p.slice (owner_of r.params.format i)) (spot r.params.format i).plane
+      (spot r.params.format i).x (spot r.params.format i).y
   drawn i inside has =
       let test : has_piece piece.head (owner_of r.params.format i) ≡ true = sym (has_is (owner_of r.params.format i))
-          ∙ has in
+      ∙ has in
       let parts = and_parts _ _ test in
       ap (λ (q : Picture). sample_of q (spot r.params.format i)) (at_work s d.store.numbers) ∙ here i true inside has
       ∙ ap (λ (o : Option Picture). sample_in piece.header.rounding o (mb_in mbs (owner_of r.params.format i))
-          (spot r.params.format i).plane (spot r.params.format i).x (spot r.params.format i).y)
-          (reference_is f.reference fresh.1.named)
+      (spot r.params.format i).plane (spot r.params.format i).x (spot r.params.format i).y)
+      (reference_is f.reference fresh.1.named)
       ∙ ap (λ (m : Mb). sample_in piece.header.rounding (reference_picture (decoding r.params.format)
-          (rules_of r.params) (seen r) n p.header) m (spot r.params.format i).plane (spot r.params.format i).x
-          (spot r.params.format i).y)
+      (rules_of r.params) (seen r) n p.header) m (spot r.params.format i).plane (spot r.params.format i).x
+      (spot r.params.format i).y)
       (sym (mb_same mbs piece.head.first piece.head.count (owner_of r.params.format i) (leb-true _ _ parts.0)
-          (ltb-true _ _ parts.1)))
+      (ltb-true _ _ parts.1)))
 
   left : (i : ℕ) → owner_of r.params.format i < mbs_of r.params.format
       → call.has_mb p.slice (owner_of r.params.format i) ≡ false
       → sample_of (picture_at r.params s n) (spot r.params.format i)
-          ≡ sample_of (picture_at r.params r.store n) (spot r.params.format i)
+      ≡ sample_of (picture_at r.params r.store n) (spot r.params.format i)
   left i inside has =
       ap (λ (q : Picture). sample_of q (spot r.params.format i)) (at_work s d.store.numbers) ∙ here i false inside has
       ∙ ap (λ (q : Picture). sample_of q (spot r.params.format i)) (sym (at_work r.store refl))
@@ -207,8 +207,10 @@ module _ (far : OneRestIsFar) (spots : AreSpots) (by : ArePicturesBySamples) (r 
       (omega (arith, low, high', ok.params.lead)) e
 
   row_of_number : (m : ℕ) → r.played ≤ m → m ≤ r.played + r.params.lead → IsInRow r.collector m
-  row_of_number m low' high' = record { low = omega (arith, low', ok.collects.begins);
-      high = omega (arith, high', ok.collects.begins, ok.row) }
+  row_of_number m low' high' = record {
+    low = omega (arith, low', ok.collects.begins);
+    high = omega (arith, high', ok.collects.begins, ok.row);
+  }
 
   abbrev with_part : Kept
   with_part = record r { collector = c; store = s }
@@ -228,10 +230,12 @@ module _ (far : OneRestIsFar) (spots : AreSpots) (by : ArePicturesBySamples) (r 
     has = has_after;
     drawn = drawn;
     left = left;
-    rows = λ m row ne. let kept = d.rows m (row_of_number m row.0 row.1) ne in
-        (ap (option_map header_of) kept.0, kept.1,
-            picture_still r.params some r.store s m (work_of r.params n) ok.slots d.store
-            (work_differs m row.0 row.1 ne));
+    rows = λ m row ne. let kept = d.rows m (row_of_number m row.0 row.1) ne in (
+      ap (option_map header_of) kept.0,
+      kept.1,
+      picture_still r.params some r.store s m (work_of r.params n) ok.slots d.store
+          (work_differs m row.0 row.1 ne),
+    );
     part = λ e. (number_same (n % r.params.slots), slot_same (n % r.params.slots) (mod-lt n some));
     whole = λ e. absurd (both _ e (all_is ∙ none));
     slots = λ rest lt ne. (number_same rest, slot_same rest lt);
@@ -263,15 +267,20 @@ module _ (far : OneRestIsFar) (spots : AreSpots) (by : ArePicturesBySamples) (r 
     other_work w lt ne =
         let small : n % r.params.slots < r.params.slots = mod-lt n some in
         ap (λ (i : ℕ). picture_in u (i + w)) slots_kept
-        ∙ k.others (slots_of s + w) (omega (arith, lt, long, slots_are)) (λ e. omega (arith, e, slot_is, small,
-            slots_are)) (λ e. ne (omega (arith, e)))
+        ∙ k.others (slots_of s + w) (omega (arith, lt, long, slots_are)) (λ e. omega (
+          arith,
+          e,
+          slot_is,
+          small,
+          slots_are,
+        )) (λ e. ne (omega (arith, e)))
 
     own_number : number_in u (n % r.params.slots) ≡ Some n
     own_number =
         ap (λ (l : List (Option ℕ)). get_or l (n % r.params.slots) None) k.numbers
         ∙ ap (λ (i : ℕ). get_or (set s.numbers (slot_of s n) (Some n)) i None) (sym slot_is)
         ∙ get_or-set_same s.numbers (slot_of s n) (Some n) None (subst (λ (i : ℕ). i < slots_of s) (sym slot_is)
-            (let lt : n % r.params.slots < r.params.slots = mod-lt n some in omega (arith, lt, slots_are)))
+        (let lt : n % r.params.slots < r.params.slots = mod-lt n some in omega (arith, lt, slots_are)))
 
     own_picture : picture_in u (n % r.params.slots) ≡ work_in s (work_of r.params n)
     own_picture = ap (picture_in u) (sym slot_is) ∙ k.kept
@@ -279,9 +288,9 @@ module _ (far : OneRestIsFar) (spots : AreSpots) (by : ArePicturesBySamples) (r 
     own_at : picture_at r.params u n ≡ picture_at r.params s n
     own_at =
         ap (λ (o : Option ℕ). if option_map_or (λ i. eqb i n) o false then picture_in u
-            (n % r.params.slots) else work_in u (work_of r.params n)) own_number
+        (n % r.params.slots) else work_in u (work_of r.params n)) own_number
         ∙ ap (λ (b : Bool). if b then picture_in u (n % r.params.slots) else work_in u (work_of r.params n))
-            (eq-eqb n n refl)
+        (eq-eqb n n refl)
         ∙ own_picture ∙ sym (at_work s d.store.numbers)
 
     screen_kept : (exact : Bool) → (exact ≡ true → 1 ≤ r.played) → screen_in r.params u exact r.played
@@ -289,8 +298,12 @@ module _ (far : OneRestIsFar) (spots : AreSpots) (by : ArePicturesBySamples) (r 
     screen_kept true first =
         (other_slot ((r.played - 1) % r.params.slots) (mod-lt (r.played - 1) some)
         (λ e. let one = first refl in
-            apart far r.params.slots (r.played - 1) n (omega (arith, low, one)) (omega (arith, high, one,
-            ok.params.lead)) e)).1
+        apart far r.params.slots (r.played - 1) n (omega (arith, low, one)) (omega (
+          arith,
+          high,
+          one,
+          ok.params.lead,
+        )) e)).1
     screen_kept false first = other_work (last_work r.params r.played) (mod-lt (r.played + r.params.lead + 1)
         (omega arith)) last_differs
 
@@ -333,5 +346,5 @@ module _ (far : OneRestIsFar) (spots : AreSpots) (by : ArePicturesBySamples) (r 
         made =
             own_picture
             ∙ by.only r.params.format (work_in s (work_of r.params n)) (λ i. sample_of (picture_at r.params u n)
-                (spot r.params.format i)) d.whole.0 d.whole.1.whole
+            (spot r.params.format i)) d.whole.0 d.whole.1.whole
             (λ i inside. ap (λ (q : Picture). sample_of q (spot r.params.format i)) (sym is_at))

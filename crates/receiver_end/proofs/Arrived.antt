@@ -23,7 +23,7 @@ module _ (r : Kept) (piece : Piece) (p : call.Piece Style Mb) (spells : p.header
   unfolding piece_number
   of_other_clock differ =
       let ne : p.header.half ≡ half_of r.params.clock
-          → ⊥ = λ e. differ (halves _ _ (sym (ap (λ (h : call.Header Style). h.half) spells) ∙ e)) in
+      → ⊥ = λ e. differ (halves _ _ (sym (ap (λ (h : call.Header Style). h.half) spells) ∙ e)) in
       rw (ne_eqb p.header.half (half_of r.params.clock) ne) refl
 
   pub of_this_clock : piece.header.clock ≡ r.params.clock → nearest (rules_of r.params) r.played piece.header.tr
@@ -31,7 +31,7 @@ module _ (r : Kept) (piece : Piece) (p : call.Piece Style Mb) (spells : p.header
   unfolding piece_number
   of_this_clock same =
       rw (eq-eqb p.header.half (half_of r.params.clock) (ap (λ (h : call.Header Style). h.half) spells
-          ∙ ap half_of same))
+      ∙ ap half_of same))
       (ap (λ (h : call.Header Style). nearest (rules_of r.params) r.played h.number) (sym spells))
 
 -- a packet with a fault is of none
@@ -39,7 +39,7 @@ pub number_err : (r : Kept) (past : List ReceiverEntry) (bytes : List ℕ) (faul
     → packet_at r.params.format bytes ≡ Err fault → None ≡ number_after r.params past bytes
 number_err r past bytes fault read =
     ap (λ (x : Result Slice Fault). option_and_then (piece_number (rules_of r.params) (run_of r.params past).played)
-        (result_ok (with_piece x))) (sym read)
+    (result_ok (with_piece x))) (sym read)
 
 -- one that is read is of the picture that its slice is of
 pub number_ok : (r : Kept) (past : List ReceiverEntry) → Stands r past → (bytes : List ℕ) (p : call.Piece Style Mb)
@@ -48,4 +48,4 @@ pub number_ok : (r : Kept) (past : List ReceiverEntry) → Stands r past → (by
 number_ok r past stands bytes p read =
     ap (λ (n : ℕ). piece_number (rules_of r.params) n p) stands.played
     ∙ ap (λ (x : Result (call.Piece Style Mb) Fault). option_and_then (piece_number (rules_of r.params)
-        (run_of r.params past).played) (result_ok x)) (sym read)
+    (run_of r.params past).played) (result_ok x)) (sym read)

@@ -17,7 +17,7 @@ pub all_marked : (r : Kept) (n : ℕ) (ok : Fits r) → IsInRow r.collector n
 all_marked r n ok row =
     ap (λ (f : Format). all_below (mbs_of f) (has_in r.collector n)) (sym ok.collected)
     ∙ all_same (mbs_of (format_of r.collector)) (has_in r.collector n) (has_taken ok.taken n)
-        (λ k lt. ok.collects.marks n k row lt)
+    (λ k lt. ok.collects.marks n k row lt)
 
 pub fits_whole : OneRestIsFar → (r : Kept) (u : Pictures) (n : ℕ) → Fits r → IsInRow r.collector n
     → Keeps r.store u n (work_of r.params n) → Fits (record r { store = u })

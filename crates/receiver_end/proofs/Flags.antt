@@ -28,7 +28,7 @@ later : (m k : ℕ) (test : Bool) → 0 < k → is_flagged (2 * m + cond test 1 
 later m k test some =
     let e : k + 1 - 1 ≡ suc (k - 1) = omega (arith, some) in
     ap (λ (i : ℕ). eqb i 1) (ap (bit_at (2 * m + cond test 1 0)) e ∙ bit_at-suc (2 * m + cond test 1 0) (k - 1)
-        ∙ ap (λ (i : ℕ). bit_at i (k - 1)) (half m test))
+    ∙ ap (λ (i : ℕ). bit_at i (k - 1)) (half m test))
 
 pub one_more : (c n m : ℕ) (test : ℕ → Bool) → flags_of c (is_flagged m) 0 ≡ flags_of c test (n + 1)
     → flags_of (c + 1) (is_flagged (2 * m + cond (test (n + 1)) 1 0)) 0 ≡ flags_of (c + 1) test n
@@ -36,7 +36,7 @@ one_more c n m test so_far = subst (λ (k : ℕ). flags_of k (is_flagged (2 * m 
     ≡ flags_of k test n) (sym (add-one c))
     (ap (λ (b : Bool). b ∷ flags_of c (is_flagged (2 * m + cond (test (n + 1)) 1 0)) 1) (first m (test (n + 1)))
     ∙ ap (λ (l : List Bool). test (n + 1) ∷ l) (shifted c 0 (is_flagged (2 * m + cond (test (n + 1)) 1 0))
-        ∙ flags_same c 0 _ (is_flagged m) (λ k some. later m k (test (n + 1)) some) ∙ so_far))
+    ∙ flags_same c 0 _ (is_flagged m) (λ k some. later m k (test (n + 1)) some) ∙ so_far))
 
 pub one_more_at : (j top m b : ℕ) (test : ℕ → Bool) → j < top → b ≡ cond (test (top - j)) 1 0
     → flags_of j (is_flagged m) 0 ≡ flags_of j test (top - j)

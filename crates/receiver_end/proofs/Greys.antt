@@ -25,8 +25,8 @@ of_three : (v : ℕ) (a b c : List ℕ) → map (λ k. v) a ++ map (λ k. v) b +
 of_three v a b c =
     let e : map (λ k. v) a ++ map (λ k. v) b ++ map (λ k. v) c ≡ replicate (length a + length b + length c) v =
     (λ i. constant v a i ++ constant v b i ++ constant v c i)
-        ∙ ap (λ (l : List ℕ). l ++ replicate (length c) v) (joined v (length a) (length b))
-        ∙ joined v (length a + length b) (length c) in
+    ∙ ap (λ (l : List ℕ). l ++ replicate (length c) v) (joined v (length a) (length b))
+    ∙ joined v (length a + length b) (length c) in
     e ∙ ap (λ (k : ℕ). replicate k v) (sym (ap length e ∙ length-replicate (length a + length b + length c) v))
 
 -- the bytes of a picture all of whose samples are one number
@@ -37,9 +37,9 @@ flat v f = of_three v _ _ _
 pub grey_is : ((p : Picture) → IsWhole p → picture_of p.format (bytes_of p) ≡ p)
     → ((p : Picture) → IsWhole p → length (bytes_of p) ≡ size_of_picture p.format)
     → ((f : Format) (sample : Plane → ℕ → ℕ → ℕ) → IsWhole (picture_with f sample))
-        → ((f : Format) (sample : Plane → ℕ → ℕ → ℕ) → (picture_with f sample).format ≡ f)
+    → ((f : Format) (sample : Plane → ℕ → ℕ → ℕ) → (picture_with f sample).format ≡ f)
     → (f : Format) (bytes : List ℕ) → bytes ≡ replicate (size_of_picture f) 128
-        → picture_of f bytes ≡ picture_by f (λ s. 128)
+    → picture_of f bytes ≡ picture_by f (λ s. 128)
 grey_is picture size whole format f bytes is =
     let p : Picture = picture_by f (λ s. 128) in
     let ok : IsWhole p = whole f (λ plane x y. 128) in

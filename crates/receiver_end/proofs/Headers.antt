@@ -43,7 +43,7 @@ header_self : (f : Format) (a : call.Header Style) → call.same_header (decodin
 unfolding call.same_header
 header_self f a =
     and_from _ _ (eq-eqb a.number a.number refl) (and_from _ _ (reference_self a.reference)
-        (and_from _ _ (eq-eqb a.half a.half refl) (style_self a.style)))
+    (and_from _ _ (eq-eqb a.half a.half refl) (style_self a.style)))
 
 -- one of the slices that were taken of a picture
 pub record Member (taken : List Taken) (n : ℕ) : Type 0 where
@@ -81,7 +81,7 @@ module _ (f : Format) (whole : (h : Header) → header_from (header_of h) ≡ h)
       let m = member taken n kept.0 in
       let same : k ≡ h = sym (kept.1 m.one m.in_list m.number) ∙ none m.one m.in_list m.number in
       subst (λ (x : Header). call.same_header (decoding f) (header_of x) (header_of h) ≡ true) (sym same)
-          (header_self f (header_of h))
+      (header_self f (header_of h))
 
   pub differs : (taken : List Taken) (n : ℕ) (h : Header) (o : Option Header) → IsKept taken n o → HasOther taken n h
       → fits_kept (decoding f) (option_map header_of o) (header_of h) ≡ false
@@ -97,7 +97,7 @@ one_kept taken n None (Some k) p q = absurd (both _ q.0 p)
 one_kept taken n (Some h) None p q = absurd (both _ p.0 q)
 one_kept taken n (Some h) (Some k) p q =
     let m = member taken n p.0 in ap (λ (x : Header). Some x) (sym (p.1 m.one m.in_list m.number)
-        ∙ q.1 m.one m.in_list m.number)
+    ∙ q.1 m.one m.in_list m.number)
 
 -- a slice of another picture changes nothing
 pub kept_before : (t : Taken) (taken : List Taken) (m : ℕ) (o : Option Header) → (t.number ≡ m → ⊥)
@@ -108,8 +108,10 @@ kept_before t taken m None other is = rest (eqb t.number m) (has_any taken m) is
     rest : (a b : Bool) → (a || b) ≡ false → b ≡ false
     rest true b e = absurd cc
     rest false b e = e
-kept_before t taken m (Some h) other is = (rest (ne_eqb t.number m other) is.0,
-    λ u in-list same. is.1 u (inr in-list) same)
+kept_before t taken m (Some h) other is = (
+  rest (ne_eqb t.number m other) is.0,
+  λ u in-list same. is.1 u (inr in-list) same,
+)
   where
     rest : eqb t.number m ≡ false → (eqb t.number m || has_any taken m) ≡ true → has_any taken m ≡ true
     rest e got = subst (λ (b : Bool). (b || has_any taken m) ≡ true) e got

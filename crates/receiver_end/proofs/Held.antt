@@ -38,7 +38,7 @@ falls false e = refl
 pub unheld : (r : Kept) (past : List ReceiverEntry) (n : ℕ) (piece : Piece)
     → ViewTells (decoding r.params.format) (rules_of r.params) → Fits r → Stands r past
     → IsInRow r.collector n → IsHeadOf r.params.format piece.head → none_in piece.head (has_in r.collector n) ≡ true
-        → holds r.params r.store n ≡ false
+    → holds r.params r.store n ≡ false
 unfolding is_complete
 unheld r past n piece view ok stands row head none =
     let low : r.played ≤ n = omega (arith, row.low, ok.collects.begins) in
@@ -47,17 +47,17 @@ unheld r past n piece view ok stands row head none =
     let k : ℕ = piece.head.first in
     let inside : k < mbs_of r.params.format = omega (arith, head.some, head.within) in
     let free : has_in r.collector n (piece.head.first + 0)
-        ≡ false = falls _ (all_at piece.head.count (λ i. not (has_in r.collector n (piece.head.first + i))) 0 none
-        (omega (arith, head.some))) in
+    ≡ false = falls _ (all_at piece.head.count (λ i. not (has_in r.collector n (piece.head.first + i))) 0 none
+    (omega (arith, head.some))) in
     let first : piece.head.first + 0 ≡ piece.head.first = omega arith in
     let missing : has_taken (run_of r.params past).taken n k ≡ false =
     sym (stands.taken n k (omega (arith, low, same), omega (arith, high, same)) inside)
-        ∙ ap (has_in r.collector n) (sym first) ∙ free in
+    ∙ ap (has_in r.collector n) (sym first) ∙ free in
     let slot : option_map_or (λ i. eqb i n) (number_in r.store (n % r.params.slots)) false
-        ≡ all_below (mbs_of r.params.format) (has_taken (run_of r.params past).taken n) =
+    ≡ all_below (mbs_of r.params.format) (has_taken (run_of r.params past).taken n) =
     ap (λ (o : Option ℕ). option_map_or (λ i. eqb i n) o false)
-        (stands.slots (n % r.params.slots) (mod-lt n (omega (arith, ok.params.slots_low))))
+    (stands.slots (n % r.params.slots) (mod-lt n (omega (arith, ok.params.slots_low))))
     ∙ view past n n (omega (arith, low, same)) (omega arith) in
     slot ∙ false_from_ne_true _
-        (λ all. both _ (all_at (mbs_of r.params.format) (has_taken (run_of r.params past).taken n) k all inside)
-        missing)
+    (λ all. both _ (all_at (mbs_of r.params.format) (has_taken (run_of r.params past).taken n) k all inside)
+    missing)

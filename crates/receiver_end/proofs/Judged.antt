@@ -29,12 +29,12 @@ use Rattle.receiver_end.proofs.Marked.{all_same}
 abbrev chosen : Bool → Bool → Bool → Bool → Kept → ℕ → call.Piece Style Mb → Heard Fault
 chosen fitting there every none r n p =
     if not fitting then HeaderDiffers else if not there then MissingReference else if every then Repeat else if not
-        none then Overlap else taking r n p
+    none then Overlap else taking r n p
 
 module _ (whole : (h : Header) → header_from (header_of h) ≡ h) (r : Kept) (n : ℕ) (piece : Piece)
     (p : call.Piece Style Mb) (ok : Fits r)
     (low : r.played ≤ n) (high : n ≤ r.played + r.params.lead) (head : IsHeadOf r.params.format piece.head)
-        (spells : Spells piece p) where
+    (spells : Spells piece p) where
   abbrev the_header : Bool
   the_header = fits_kept (decoding r.params.format) ((seen r).header n) p.header
 
@@ -48,8 +48,10 @@ module _ (whole : (h : Header) → header_from (header_of h) ≡ h) (r : Kept) (
   chain a b c d e f g h = λ i. chosen (e i) (f i) (g i) (h i) r n p
 
   in_row : IsInRow r.collector n
-  in_row = record { low = omega (arith, low, ok.collects.begins);
-      high = omega (arith, high, ok.collects.begins, ok.row) }
+  in_row = record {
+    low = omega (arith, low, ok.collects.begins);
+    high = omega (arith, high, ok.collects.begins, ok.row);
+  }
 
   marked : (k : ℕ) → k < mbs_of r.params.format → has_in r.collector n k ≡ kept.has_taken ok.taken n k
   marked k lt = ok.collects.marks n k in_row (subst (λ (f : Format). k < mbs_of f) (sym ok.collected) lt)
@@ -76,8 +78,8 @@ module _ (whole : (h : Header) → header_from (header_of h) ≡ h) (r : Kept) (
       → judged (decoding r.params.format) (rules_of r.params) (seen r) n p ≡ HeaderDiffers
   other_header is =
       chain false _ _ _ (ap (fits_kept (decoding r.params.format) ((seen r).header n)) spells.header
-          ∙ differs r.params.format whole ok.taken n piece.header (header_in r.collector n)
-          (ok.collects.headers n in_row) is) refl refl refl
+      ∙ differs r.params.format whole ok.taken n piece.header (header_in r.collector n)
+      (ok.collects.headers n in_row) is) refl refl refl
 
   no_other : (place : Place) → IsPlace ok.taken n piece place → (place ≡ places.HeaderDiffers → ⊥)
       → HasNoOther ok.taken n piece.header

@@ -9,7 +9,7 @@ pub all_same : (n : ℕ) (f g : ℕ → Bool) → ((k : ℕ) → k < n → f k �
 all_same zero f g same = refl
 all_same (suc n) f g same =
     ap (λ (b : Bool). b && all_below n f) (same n (omega arith))
-        ∙ ap (λ (b : Bool). g n && b) (all_same n f g (λ k lt. same k (omega (arith, lt))))
+    ∙ ap (λ (b : Bool). g n && b) (all_same n f g (λ k lt. same k (omega (arith, lt))))
 
 -- of a picture's slices one more was taken
 pub taken_more : (t : Taken) (taken : List Taken) (n k : ℕ) → t.number ≡ n → has_taken (t ∷ taken) n k

@@ -65,8 +65,13 @@ module _ {Style Mb Picture Fault : Type 0} (decoding : Decoding Style Mb Picture
   shows n = lawful.pictures.picture_same _ _ (λ s inside. lawful.pictures.sample_is (λ (k : ℕ). 128) s inside)
 
   stood : (n : ℕ) → ReceiverStands decoding rules (alone n) (plays_alone n)
-  stood zero = new (alone zero) (record { played = refl; screen = refl; headers = λ n low. refl;
-      has = λ n k low lt. refl; slots = λ rest lt. refl })
+  stood zero = new (alone zero) (record {
+    played = refl;
+    screen = refl;
+    headers = λ n low. refl;
+    has = λ n k low lt. refl;
+    slots = λ rest lt. refl;
+  })
   stood (suc n) =
       play (alone n) (alone (suc n)) (plays_alone n) (stood n)
       (record {
@@ -121,7 +126,7 @@ pub last_inside : (p : Params) (n : ℕ) (s : Pictures) → IsEmpty p.format p.s
     → last_work p n < works_of s
 last_inside p n s empty =
     let slots : length s.numbers ≡ p.slots = ap (λ (l : List (Option ℕ)). length l) empty.numbers
-        ∙ length-replicate p.slots None in
+    ∙ length-replicate p.slots None in
     let below : last_work p n < p.lead + 2 = mod-lt (n + p.lead + 1) (omega arith) in
     omega (arith, below, slots, empty.pictures)
 
@@ -132,8 +137,10 @@ module _ (p : Params) (is : IsParams p) (n : ℕ) (c : Collector) (s t : Picture
   new_at = record { params = p; played = n; exact = false; collector = c; store = t }
 
   row : (m : ℕ) → n ≤ m → m ≤ n + p.lead → IsInRow c m
-  row m low high = record { low = omega (arith, low, collects.begins);
-      high = omega (arith, high, collects.begins, many) }
+  row m low high = record {
+    low = omega (arith, low, collects.begins);
+    high = omega (arith, high, collects.begins, many);
+  }
 
   pub is_alone : IsDecoding (decoding p.format) (rules_of p) → NewReceiverStands (decoding p.format) (rules_of p)
       → PlayStands (decoding p.format) (rules_of p)
@@ -141,11 +148,11 @@ module _ (p : Params) (is : IsParams p) (n : ℕ) (c : Collector) (s t : Picture
   is_alone lawful law_new law_play grey_there =
       stands_alone (decoding p.format) (rules_of p) lawful law_new law_play n (seen new_at) refl grey_there
       (λ m low high. ap (option_map header_of) (kept_none [] m (header_in c m) (nothing m)
-          (collects.headers m (row m low high))))
+      (collects.headers m (row m low high))))
       (λ m k low high lt. collects.marks m k (row m low high) (subst (λ (f : Format). k < mbs_of f) (sym format) lt)
-          ∙ untaken [] m k (nothing m))
+      ∙ untaken [] m k (nothing m))
       (λ rest lt. ap (λ (l : List (Option ℕ)). get_or l rest None) (same.numbers ∙ empty.numbers)
-          ∙ none_in p.slots rest)
+      ∙ none_in p.slots rest)
 
   pub fits_alone : n ≤ 2 ^ 20 → Fits new_at
   fits_alone few = record {

@@ -36,7 +36,7 @@ module _ (r : Kept) (piece : Piece) (p : call.Piece Style Mb) (spells : Spells p
   unfolding heard_by_kept
   other_clock differ =
       let ne : p.header.half ≡ half_of r.params.clock
-          → ⊥ = λ e. differ (halves _ _ (sym (ap (λ (h : call.Header Style). h.half) spells.header) ∙ e)) in
+      → ⊥ = λ e. differ (halves _ _ (sym (ap (λ (h : call.Header Style). h.half) spells.header) ∙ e)) in
       rw (ne_eqb p.header.half (half_of r.params.clock) ne) refl
 
   module _ (same : piece.header.clock ≡ r.params.clock) where
@@ -58,11 +58,19 @@ module _ (r : Kept) (piece : Piece) (p : call.Piece Style Mb) (spells : Spells p
 
       pub too_early : r.played ≤ n → r.played + r.params.lead < n → Answers Early
       unfolding heard_by_kept
-      too_early low gt = rw (halved, numbered (Some n) near, le-ltb n r.played low,
-          lt-ltb (r.played + r.params.lead) n gt) refl
+      too_early low gt = rw (
+        halved,
+        numbered (Some n) near,
+        le-ltb n r.played low,
+        lt-ltb (r.played + r.params.lead) n gt,
+      ) refl
 
       pub is_open : r.played ≤ n → n ≤ r.played + r.params.lead
           → Answers (judged (decoding r.params.format) (rules_of r.params) (seen r) n p)
       unfolding heard_by_kept
-      is_open low high = rw (halved, numbered (Some n) near, le-ltb n r.played low,
-          le-ltb (r.played + r.params.lead) n high) refl
+      is_open low high = rw (
+        halved,
+        numbered (Some n) near,
+        le-ltb n r.played low,
+        le-ltb (r.played + r.params.lead) n high,
+      ) refl

@@ -14,5 +14,5 @@ pub offers : GreatestIs → (r : Kept) (m : ℕ) → holds r.params r.store m �
     → Some m ≡ offer_by_kept (decoding r.params.format) (rules_of r.params) (seen r)
 offers greatest r m held near below above =
     sym ((greatest (λ k. holds r.params r.store k && ltb r.played (k + r.params.slots)) (r.played + r.params.lead + 1)
-        m).1
+    m).1
     (and_from _ _ held (lt-ltb r.played (m + r.params.slots) near), below, λ k more lt. and_left _ _ (above k more lt)))

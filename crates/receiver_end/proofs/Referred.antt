@@ -60,15 +60,15 @@ module _ {Style Mb Picture Fault : Type 0} (codec : Decoding Style Mb Picture Fa
     where
       go : (b : Bool) → (if b then Some t.piece.header else header_taken ts n) ≡ Some first
           → ((not b || same_header codec t.piece.header h) && list_all
-              (λ x. not (eqb x.number n) || same_header codec x.piece.header h) ts) ≡ true
+          (λ x. not (eqb x.number n) || same_header codec x.piece.header h) ts) ≡ true
           → (header_taken ts n ≡ Some first
-              → list_all (λ x. not (eqb x.number n) || same_header codec x.piece.header h) ts ≡ true
-              → same_header codec first h ≡ true)
+          → list_all (λ x. not (eqb x.number n) || same_header codec x.piece.header h) ts ≡ true
+          → same_header codec first h ≡ true)
           → same_header codec first h ≡ true
       go true here fits rest =
           let e : t.piece.header ≡ first = cc in
           subst (λ (g : Header Style). same_header codec g h ≡ true) e (and_parts (same_header codec t.piece.header h)
-              _ fits).0
+          _ fits).0
       go false there fits rest = rest there fits
 
   -- where nothing was taken of a picture any header fits
@@ -80,9 +80,9 @@ module _ {Style Mb Picture Fault : Type 0} (codec : Decoding Style Mb Picture Fa
     where
       go : (b : Bool) → (if b then Some t.piece.header else header_taken ts n) ≡ None
           → (header_taken ts n ≡ None → list_all (λ x. not (eqb x.number n) || same_header codec x.piece.header h) ts
-              ≡ true)
+          ≡ true)
           → ((not b || same_header codec t.piece.header h) && list_all
-              (λ x. not (eqb x.number n) || same_header codec x.piece.header h) ts) ≡ true
+          (λ x. not (eqb x.number n) || same_header codec x.piece.header h) ts) ≡ true
       go true is rest = cc
       go false is rest = rest is
 
@@ -90,7 +90,7 @@ module _ {Style Mb Picture Fault : Type 0} (codec : Decoding Style Mb Picture Fa
   pub same_name : (ts : List (TakenSlice Style Mb)) (n : ℕ) (kept : Option (Header Style))
       → ((h : Header Style) → header_fits codec rules ts n h ≡ fits_kept codec kept h)
       → option_and_then (reference_in codec rules n) kept
-          ≡ option_and_then (reference_in codec rules n) (header_taken ts n)
+      ≡ option_and_then (reference_in codec rules n) (header_taken ts n)
   same_name ts n kept each = go kept (header_taken ts n) refl each
     where
       go : (kept first : Option (Header Style)) → header_taken ts n ≡ first
@@ -99,10 +99,10 @@ module _ {Style Mb Picture Fault : Type 0} (codec : Decoding Style Mb Picture Fa
       go None None is each = refl
       go None (Some first) is each =
           absurd (false≢true (sym (not_same first)
-              ∙ fits_first ts n first (other_header first) is (each (other_header first))))
+          ∙ fits_first ts n first (other_header first) is (each (other_header first))))
       go (Some mine) None is each =
           absurd (false≢true (sym (not_same mine) ∙ sym (each (other_header mine))
-              ∙ fits_nothing ts n (other_header mine) is))
+          ∙ fits_nothing ts n (other_header mine) is))
       go (Some mine) (Some first) is each =
           let same = fits_first ts n first mine is (each mine ∙ same_header_self mine) in
           ap (option_and_then (nearest_below rules n)) (sym (names_same first mine same))

@@ -24,6 +24,6 @@ module _ (far : OneRestIsFar) where
       let xs = s.numbers in
       subst (λ (l : List (Option ℕ)). get_or l (m % length l) None ≡ Some m) (sym e)
       (subst (λ (k : ℕ). get_or (set s.numbers (n % length s.numbers) (Some n)) (m % k) None
-          ≡ Some m) (sym (length-set s.numbers (n % length s.numbers) (Some n)))
+      ≡ Some m) (sym (length-set s.numbers (n % length s.numbers) (Some n)))
       (get_or-set_other s.numbers (n % length s.numbers) (m % length s.numbers) (Some n) None
-          (apart (length s.numbers) m n less near) ∙ kept))
+      (apart (length s.numbers) m n less near) ∙ kept))

@@ -22,10 +22,10 @@ module _ (r : Kept) (past : List runs.ReceiverEntry) (stands : Stands r past) wh
       → (decoding r.params.format).read bytes ≡ Ok p → (h : Heard)
       → IsHeard r.params.clock h (heard_by_kept (decoding r.params.format) (rules_of r.params) (seen r) (Ok p))
       → IsHeard r.params.clock h (runs.heard (decoding r.params.format) (rules_of r.params) (run_of r.params past)
-          ((decoding r.params.format).read bytes))
+      ((decoding r.params.format).read bytes))
   heard_ok law bytes p read h is =
       subst (IsHeard r.params.clock h) (ap (heard_by_kept (decoding r.params.format) (rules_of r.params) (seen r))
-          (sym read) ∙ law (seen r) past bytes stands) is
+      (sym read) ∙ law (seen r) past bytes stands) is
 
   refused : (fault : Fault) → runs.heard (decoding r.params.format) (rules_of r.params) (run_of r.params past)
       (Err fault) ≡ runs.Refused fault
@@ -34,11 +34,11 @@ module _ (r : Kept) (past : List runs.ReceiverEntry) (stands : Stands r past) wh
 
   pub heard_err : (bytes : List ℕ) (fault : Fault) → packet_at r.params.format bytes ≡ Err fault
       → IsHeard r.params.clock (heards.Refused (faults.Bytes fault)) (runs.heard (decoding r.params.format)
-          (rules_of r.params) (run_of r.params past) ((decoding r.params.format).read bytes))
+      (rules_of r.params) (run_of r.params past) ((decoding r.params.format).read bytes))
   heard_err bytes fault read =
       subst (IsHeard r.params.clock (heards.Refused (faults.Bytes fault)))
       (sym (ap (λ (x : Result Slice Fault). runs.heard (decoding r.params.format) (rules_of r.params)
-          (run_of r.params past) (with_piece x)) read ∙ refused fault)) refl
+      (run_of r.params past) (with_piece x)) read ∙ refused fault)) refl
 
   untaken : (fault : Fault)
       → is_taking (heard_by_kept (decoding r.params.format) (rules_of r.params) (seen r) (Err fault)) ≡ false
@@ -49,18 +49,18 @@ module _ (r : Kept) (past : List runs.ReceiverEntry) (stands : Stands r past) wh
       → packet_at r.params.format bytes ≡ Err fault → Stands r (runs.Packet bytes ∷ past)
   stays_err law bytes fault read =
       law (seen r) past bytes stands
-          (ap (λ (x : Result Slice Fault). is_taking (heard_by_kept (decoding r.params.format) (rules_of r.params)
-          (seen r) (with_piece x))) read ∙ untaken fault)
+      (ap (λ (x : Result Slice Fault). is_taking (heard_by_kept (decoding r.params.format) (rules_of r.params)
+      (seen r) (with_piece x))) read ∙ untaken fault)
 
   pub played_so : PlayByKept (decoding r.params.format) (rules_of r.params) → (played : Played)
       → IsPlayed r.params.clock played (mark_by_kept (decoding r.params.format) (rules_of r.params) (seen r))
-          (message_by_kept (decoding r.params.format) (rules_of r.params) (seen r))
+      (message_by_kept (decoding r.params.format) (rules_of r.params) (seen r))
       → IsPlayed r.params.clock played (runs.played_mark (decoding r.params.format) (rules_of r.params)
-          (run_of r.params past)) (runs.played_message (decoding r.params.format) (rules_of r.params)
-          (run_of r.params past))
+      (run_of r.params past)) (runs.played_message (decoding r.params.format) (rules_of r.params)
+      (run_of r.params past))
   played_so law played is =
       let same = law (seen r) past stands in
       subst (λ (m : call.Mark). IsPlayed r.params.clock played m (runs.played_message (decoding r.params.format)
-          (rules_of r.params) (run_of r.params past))) same.0
+      (rules_of r.params) (run_of r.params past))) same.0
       (subst (λ (o : Option call.Message). IsPlayed r.params.clock played (mark_by_kept (decoding r.params.format)
-          (rules_of r.params) (seen r)) o) same.2 is)
+      (rules_of r.params) (seen r)) o) same.2 is)

@@ -88,22 +88,28 @@ pub styles_are : (a b : Style) → same_style a b ≡ true → a ≡ b
 unfolding same_style
 styles_are a b e =
     let p = and_parts _ _ e in let q = and_parts _ _ p.1 in let r = and_parts _ _ q.1 in let s = and_parts _ _ r.1 in
-        let t = and_parts _ _ s.1 in
+    let t = and_parts _ _ s.1 in
     joined a b (formats_are _ _ p.0) (kinds_are _ _ q.0) (eqb-true _ _ r.0) (eqb-true _ _ s.0) (eqb-true _ _ t.0)
-        (messages_are _ _ t.1)
+    (messages_are _ _ t.1)
   where
     joined : (a b : Style) → a.format ≡ b.format → a.kind ≡ b.kind → a.rounding ≡ b.rounding → a.channel ≡ b.channel
         → a.quant ≡ b.quant → a.back ≡ b.back → a ≡ b
-    joined a b p q r s t u = λ i. record { format = p i; kind = q i; rounding = r i; channel = s i; quant = t i;
-        back = u i }
+    joined a b p q r s t u = λ i. record {
+      format = p i;
+      kind = q i;
+      rounding = r i;
+      channel = s i;
+      quant = t i;
+      back = u i;
+    }
 
 pub style_self : (a : Style) → same_style a a ≡ true
 unfolding same_style
 style_self a =
     and_from _ _ (format_self a.format)
-        (and_from _ _ (kind_self a.kind) (and_from _ _ (eq-eqb a.rounding a.rounding refl)
+    (and_from _ _ (kind_self a.kind) (and_from _ _ (eq-eqb a.rounding a.rounding refl)
     (and_from _ _ (eq-eqb a.channel a.channel refl) (and_from _ _ (eq-eqb a.quant a.quant refl)
-        (messages_self a.back)))))
+    (messages_self a.back)))))
 
 pub same_style_is : (a b : Style) → (same_style a b ≡ true) ↔ (a ≡ b)
 same_style_is a b = (styles_are a b, λ e. ap (same_style a) (sym e) ∙ style_self a)

@@ -25,7 +25,7 @@ module _ (r : Kept) (b : Bool) (held : holds r.params r.store r.played ≡ b) wh
   the_message b =
       if b then None
       else Some (nack (rules_of r.params) r.played (offer_by_kept (decoding r.params.format) (rules_of r.params)
-          (seen r)) (flags_of (call.Rules.flags (rules_of r.params)) (holds r.params r.store) r.played))
+      (seen r)) (flags_of (call.Rules.flags (rules_of r.params)) (holds r.params r.store) r.played))
 
   pub mark_is : mark_by_kept (decoding r.params.format) (rules_of r.params) (seen r) ≡ the_mark b
   unfolding mark_by_kept

@@ -57,7 +57,7 @@ one_turn_each n = omega arith
 
 module _ {State : Type 0} (rules : LogRules State) (at : List ReceiverEntry → State)
     (mind_is : (past : List ReceiverEntry) (e : Entry) (bytes : List ℕ) → mind_with rules (at past) e bytes
-        ≡ at (heard_as e bytes ∷ past)) where
+    ≡ at (heard_as e bytes ∷ past)) where
   pub minds_are : (found : List Found) (past : List ReceiverEntry) → mind_after rules (at past) found
       ≡ at (with_entries past found)
   minds_are [] past = refl
@@ -67,17 +67,17 @@ module _ {State : Type 0} (rules : LogRules State) (at : List ReceiverEntry → 
   -- a text that grows with each entry by what is written then
   module _ (r : Role) (text : List ReceiverEntry → List ℕ)
       (grows : (past : List ReceiverEntry) (e : Entry) (bytes : List ℕ)
-          → text past ++ text_with rules (at past) e bytes r ≡ text (heard_as e bytes ∷ past)) where
+      → text past ++ text_with rules (at past) e bytes r ≡ text (heard_as e bytes ∷ past)) where
     pub texts_are : (found : List Found) (past : List ReceiverEntry) → text past ++ text_after rules (at past) found r
         ≡ text (with_entries past found)
     texts_are [] past = append-nil (text past)
     texts_are (x ∷ more) past =
         ap (λ (s : State). text past ++ (text_with rules (at past) x.entry x.bytes r ++ text_after rules s more r))
-            (mind_is past x.entry x.bytes)
+        (mind_is past x.entry x.bytes)
         ∙ sym (append_assoc (text past) (text_with rules (at past) x.entry x.bytes r)
-            (text_after rules (at (heard_as x.entry x.bytes ∷ past)) more r))
+        (text_after rules (at (heard_as x.entry x.bytes ∷ past)) more r))
         ∙ ap (λ (l : List ℕ). l ++ text_after rules (at (heard_as x.entry x.bytes ∷ past)) more r)
-            (grows past x.entry x.bytes)
+        (grows past x.entry x.bytes)
         ∙ texts_are more (heard_as x.entry x.bytes ∷ past)
 
   turn_count : (found : List Found) (s : State) → length (turns_over rules s found) ≡ length found
@@ -111,7 +111,7 @@ module _ {State : Type 0} (rules : LogRules State) (at : List ReceiverEntry → 
         → text past ++ end_text (at past) r ≡ text past
     quiet_end r text none =
         ap (λ (l : List ℕ). text past ++ told run.last.status l) none
-            ∙ ap (λ (l : List ℕ). text past ++ l) (told_nothing run.last.status) ∙ append-nil (text past)
+        ∙ ap (λ (l : List ℕ). text past ++ l) (told_nothing run.last.status) ∙ append-nil (text past)
 
 module _ (p : Params) where
   -- what the command keeps in mind after these packets and plays
@@ -144,7 +144,7 @@ module _ (p : Params) where
       ≡ pictures_text p (heard_as e bytes ∷ past)
   pictures_grow past (log_entry.Packet len) bytes =
       ap (λ (l : List ℕ). pictures_text p past ++ l) (no_picture_said (said_by (answer_after p past bytes)))
-          ∙ append-nil (pictures_text p past)
+      ∙ append-nil (pictures_text p past)
   pictures_grow past log_entry.Capture bytes = played_picture past
   pictures_grow past (log_entry.Back len) bytes = played_picture past
   pictures_grow past log_entry.Play bytes = played_picture past
@@ -173,7 +173,7 @@ module _ (p : Params) where
       ≡ played_lines p (heard_as e bytes ∷ past)
   lines_grow past (log_entry.Packet len) bytes =
       ap (λ (l : List ℕ). played_lines p past ++ l) (no_line_said (said_by (answer_after p past bytes)))
-          ∙ append-nil (played_lines p past)
+      ∙ append-nil (played_lines p past)
   lines_grow past log_entry.Capture bytes = played_line past
   lines_grow past (log_entry.Back len) bytes = played_line past
   lines_grow past log_entry.Play bytes = played_line past
@@ -188,7 +188,7 @@ module _ (p : Params) where
     text_at : (r : Role) (text : List ReceiverEntry → List ℕ) → text_after recv_rules (nothing_heard p) f.accepted r
         ≡ text (with_entries [] f.accepted)
         → text_of run r ≡ head r ++ (text (with_entries [] f.accepted)
-            ++ told run.last.status (recv_rules.end_text (state (with_entries [] f.accepted)) r))
+        ++ told run.last.status (recv_rules.end_text (state (with_entries [] f.accepted)) r))
     text_at r text is = texts_at recv_rules state mind_is [] head inputs run f r text is
 
     pub receives : ReceivesItsLog p inputs run
@@ -200,12 +200,12 @@ module _ (p : Params) where
       is_run = record {
         pictures =
             text_at Pictures (pictures_text p) (texts_are recv_rules state mind_is Pictures
-                (pictures_text p) pictures_grow f.accepted [])
+            (pictures_text p) pictures_grow f.accepted [])
             ∙ ap (λ (l : List ℕ). head_text p.format
-                ++ l) (quiet_end recv_rules state mind_is [] head inputs run f Pictures (pictures_text p) refl);
+            ++ l) (quiet_end recv_rules state mind_is [] head inputs run f Pictures (pictures_text p) refl);
         wire =
             text_at Wire (messages_text p) (texts_are recv_rules state mind_is Wire (messages_text p) messages_grow
-                f.accepted [])
+            f.accepted [])
             ∙ quiet_end recv_rules state mind_is [] head inputs run f Wire (messages_text p) refl;
         report = text_at Report (played_lines p) (texts_are recv_rules state mind_is Report (played_lines p) lines_grow
             f.accepted []);

@@ -31,12 +31,12 @@ module _ (p : Params) where
   delivered [] past texts = refl
   delivered (bytes ∷ packets) past texts =
       delivered packets (Packet bytes ∷ past) (then_also texts (recv_rules.packet_text (state p past) bytes))
-          ∙ ap (state p) (reversed (Packet bytes) (map Packet packets) past)
+      ∙ ap (state p) (reversed (Packet bytes) (map Packet packets) past)
 
   -- a text of the receiver grows with each of them
   module _ (r : Role) (text : List ReceiverEntry → List ℕ)
       (grows : (past : List ReceiverEntry) (e : Entry) (bytes : List ℕ)
-          → text past ++ text_with recv_rules (state p past) e bytes r ≡ text (heard_as e bytes ∷ past)) where
+      → text past ++ text_with recv_rules (state p past) e bytes r ≡ text (heard_as e bytes ∷ past)) where
     said : (packets : List (List ℕ)) (past : List ReceiverEntry) (texts : Role → List ℕ) (before : List ℕ)
         → text past ≡ before ++ texts r
         → text (reverse (map Packet packets) ++ past) ≡ before ++ (delivers_next (having past texts) packets).texts r
@@ -46,14 +46,17 @@ module _ (p : Params) where
         ap text (sym (reversed (Packet bytes) (map Packet packets) past))
         ∙ said packets (Packet bytes ∷ past) (then_also texts now) before
         (sym (grows past (log_entry.Packet 0) bytes) ∙ ap (λ (l : List ℕ). l ++ now r) is
-            ∙ append_assoc before (texts r) (now r))
+        ∙ append_assoc before (texts r) (now r))
 
   -- ---- what the command keeps in mind
 
   abbrev joined : List ReceiverEntry → JoinState
   joined past =
-      record { packets = packets_in past; took = joins_counted p.format (packets_in past);
-          receiver = state p (through p.format past) }
+      record {
+        packets = packets_in past;
+        took = joins_counted p.format (packets_in past);
+        receiver = state p (through p.format past);
+      }
 
   abbrev given : List ReceiverEntry → List ℕ → List (List ℕ)
   given past bytes = given_next p.format (packets_in past) bytes
@@ -62,8 +65,11 @@ module _ (p : Params) where
       ≡ joined (heard_as e bytes ∷ past)
   unfolding packets_in through
   mind_is past (log_entry.Packet len) bytes =
-      ap (λ s. let j : JoinState = record { packets = bytes ∷ packets_in past;
-          took = joins_counted p.format (bytes ∷ packets_in past); receiver = s } in j)
+      ap (λ s. let j : JoinState = record {
+        packets = bytes ∷ packets_in past;
+        took = joins_counted p.format (bytes ∷ packets_in past);
+        receiver = s;
+      } in j)
       (delivered (given past bytes) (through p.format past) no_texts)
   mind_is past log_entry.Capture bytes = refl
   mind_is past (log_entry.Back len) bytes = refl
@@ -72,7 +78,7 @@ module _ (p : Params) where
   -- a text of the receiver over what it gets
   module _ (r : Role) (text : List ReceiverEntry → List ℕ)
       (grows : (past : List ReceiverEntry) (e : Entry) (bytes : List ℕ)
-          → text past ++ text_with recv_rules (state p past) e bytes r ≡ text (heard_as e bytes ∷ past)) where
+      → text past ++ text_with recv_rules (state p past) e bytes r ≡ text (heard_as e bytes ∷ past)) where
     abbrev over : List ReceiverEntry → List ℕ
     over past = text (through p.format past)
 
@@ -110,17 +116,17 @@ module _ (p : Params) where
       taken = turns_are join_rules joined mind_is [] head inputs run f;
       pictures =
           text_at Pictures (over Pictures (pictures_text p) (pictures_grow p))
-              (texts_are join_rules joined mind_is Pictures (over Pictures (pictures_text p) (pictures_grow p))
-              (grows_joined Pictures (pictures_text p) (pictures_grow p)) f.accepted [])
+          (texts_are join_rules joined mind_is Pictures (over Pictures (pictures_text p) (pictures_grow p))
+          (grows_joined Pictures (pictures_text p) (pictures_grow p)) f.accepted [])
           ∙ ap (λ (l : List ℕ). head_text p.format
-              ++ l) (quiet_end join_rules joined mind_is [] head inputs run f Pictures
-              (over Pictures (pictures_text p) (pictures_grow p)) refl);
+          ++ l) (quiet_end join_rules joined mind_is [] head inputs run f Pictures
+          (over Pictures (pictures_text p) (pictures_grow p)) refl);
       wire =
           text_at Wire (over Wire (messages_text p) (messages_grow p)) (texts_are join_rules joined mind_is Wire
-              (over Wire (messages_text p) (messages_grow p)) (grows_joined Wire (messages_text p) (messages_grow p))
-              f.accepted [])
+          (over Wire (messages_text p) (messages_grow p)) (grows_joined Wire (messages_text p) (messages_grow p))
+          f.accepted [])
           ∙ quiet_end join_rules joined mind_is [] head inputs run f Wire
-              (over Wire (messages_text p) (messages_grow p)) refl;
+          (over Wire (messages_text p) (messages_grow p)) refl;
       report = text_at Report (over Report (played_lines p) (lines_grow p)) (texts_are join_rules joined mind_is Report
           (over Report (played_lines p) (lines_grow p)) (grows_joined Report (played_lines p) (lines_grow p)) f.accepted
           []);

@@ -50,10 +50,10 @@ past_is p [] = refl
 past_is p (PlayNext ∷ past) = ap (λ (l : List ReceiverEntry). PlayNext ∷ l) (past_is p past)
 past_is p (Packet bytes ∷ past) =
     let given : given_next (joined_state p past).receiver.params.format (joined_state p past).packets bytes
-        ≡ given_next p.format (packets_in past) bytes =
+    ≡ given_next p.format (packets_in past) bytes =
     λ i. given_next (params_are p past i).format (packets_are p past i) bytes in
     entries_are (given_to (joined_state p past) bytes) (begun (joined_state p past))
-        ∙ (λ i. reverse (map Packet (given i)) ++ past_is p past i)
+    ∙ (λ i. reverse (map Packet (given i)) ++ past_is p past i)
 
 -- ---- the joiner, after what was left is given
 

@@ -50,4 +50,4 @@ said_text law clock o said None is fit none = absurd (cc (none, is))
 said_text law clock o said (Some message) is fit m =
     let same : m.0 ≡ said = some_is m.0 said o m.1 is in
     ap (λ (bytes : List ℕ). on Wire (entry_text 66 bytes))
-        (law clock said message fit (subst (λ (x : Said). IsSaid clock x message) same m.2))
+    (law clock said message fit (subst (λ (x : Said). IsSaid clock x message) same m.2))

@@ -22,14 +22,14 @@ module _ (laws : TurnLaws) (number : ℕ) (mark : Mark) (picture : Picture) (mes
       → GainsFronts (shown_text number mark picture message) old a
   cut_picture old a p =
       laws.front_of_first (on Pictures (frame_text mark picture))
-          (then_also (on Report (picture_text number (Some mark) None None)) (back_text message)) old a p
+      (then_also (on Report (picture_text number (Some mark) None None)) (back_text message)) old a p
 
   module _ (old a b : Role → Option (List ℕ)) (shown : Gains (on Pictures (frame_text mark picture)) old a)
       (text : List ℕ) (is : text ≡ picture_text number (Some mark) None None) where
     pub cut_line : GainsFronts (on Report text) a b → GainsFronts (shown_text number mark picture message) old b
     cut_line p =
         laws.front_of_second (on Pictures (frame_text mark picture))
-            (then_also (on Report (picture_text number (Some mark) None None)) (back_text message)) old a b shown
+        (then_also (on Report (picture_text number (Some mark) None None)) (back_text message)) old a b shown
         (laws.front_of_first (on Report (picture_text number (Some mark) None None)) (back_text message) a b
         (subst (λ (l : List ℕ). GainsFronts (on Report l) a b) is p))
 
@@ -37,7 +37,7 @@ module _ (laws : TurnLaws) (number : ℕ) (mark : Mark) (picture : Picture) (mes
         → GainsFronts (shown_text number mark picture message) old c
     cut_message c p q =
         laws.front_of_second (on Pictures (frame_text mark picture))
-            (then_also (on Report (picture_text number (Some mark) None None)) (back_text message)) old a c shown
+        (then_also (on Report (picture_text number (Some mark) None None)) (back_text message)) old a c shown
         (laws.front_of_second (on Report (picture_text number (Some mark) None None)) (back_text message) a b c
         (subst (λ (l : List ℕ). Gains (on Report l) a b) is p) q)
 

@@ -19,17 +19,25 @@ WritesOn = (a b c : Outside) → OnlyWrites a b → OnlyWrites b c → OnlyWrite
 -- a write after others
 pub written_more : RoseSince → WritesOn → (r : Result (Unit {0}) Status) (old mid new : Outside) → OnlyWrites old mid
     → IfErr r (λ status. status ≡ WriteFault) → OnErr r (Rose mid.faults.write new.faults.write) → OnlyWrites mid new
-        → HasWritten r old new
-written_more since on (Ok done) old mid new before kind cause rest = record { kind = tt; cause = tt;
-    rest = on old mid new before rest }
+    → HasWritten r old new
+written_more since on (Ok done) old mid new before kind cause rest = record {
+  kind = tt;
+  cause = tt;
+  rest = on old mid new before rest;
+}
 written_more since on (Err status) old mid new before kind cause rest =
-    record { kind = kind; cause = since old.faults.write mid.faults.write new.faults.write before.faults.write cause;
-        rest = on old mid new before rest }
+    record {
+      kind = kind;
+      cause = since old.faults.write mid.faults.write new.faults.write before.faults.write cause;
+      rest = on old mid new before rest;
+    }
 
 pub text_more : TurnLaws → (texts more : Role → List ℕ) (r : Result (Unit {0}) Status) (old mid new : Role
     → Option (List ℕ)) → Gains texts old mid
     → OnOk r (Gains more mid new) → OnErr r (GainsFronts more mid new) → Wrote (then_also texts more) r old new
 text_more laws texts more (Ok done) old mid new before ok err =
     record { ok = laws.both_texts texts more old mid new before ok; err = tt }
-text_more laws texts more (Err status) old mid new before ok err = record { ok = tt;
-    err = laws.front_of_second texts more old mid new before err }
+text_more laws texts more (Err status) old mid new before ok err = record {
+  ok = tt;
+  err = laws.front_of_second texts more old mid new before err;
+}

@@ -12,9 +12,9 @@ pub one_rest : OneInAPeriod → (slots sent m n : ℕ) → 0 < slots → m < sen
     → sent ≤ n + slots → m % slots ≡ n % slots → m ≡ n
 one_rest one slots sent m n pos m_below m_last n_below n_last same =
     let a : first_from slots (sent - slots) (m % slots) ≡ m = one slots (sent - slots) m pos (omega arith)
-        (omega arith) in
+    (omega arith) in
     let b : first_from slots (sent - slots) (n % slots) ≡ n = one slots (sent - slots) n pos (omega arith)
-        (omega arith) in
+    (omega arith) in
     sym a ∙ ap (first_from slots (sent - slots)) same ∙ b
 
 pub greatest_found : (test : ℕ → Bool) (n m : ℕ) → test m ≡ true → m < n → ((k : ℕ) → m < k → k < n → test k ≡ false)
@@ -40,8 +40,8 @@ pub reference_found : (rules : Rules) (depth : ℕ → ℕ) (known : ℕ → Boo
 unfolding reference_for
 reference_found rules depth known n m below close is_known newer =
     rw (greatest_found (λ k. known k && leb n (k + window rules)) n m
-        (and_from _ _ is_known (le-leb n (m + window rules) close)) below
-        (λ k low high. and_left _ _ (newer k low high))) refl
+    (and_from _ _ is_known (le-leb n (m + window rules) close)) below
+    (λ k low high. and_left _ _ (newer k low high))) refl
 
 pub reference_none : (rules : Rules) (depth : ℕ → ℕ) (known : ℕ → Bool) (n : ℕ)
     → ((k : ℕ) → k < n → n ≤ k + window rules → known k ≡ false) → reference_for rules depth known n ≡ None

@@ -18,7 +18,7 @@ none_yet t sent false m = grind (arith, nat_tests)
 step : (t c sent m : ℕ) (b x y now rest : Bool)
     → rest ≡ (nat_lt (t + 1) m && (nat_le m (t + 1 + c) && (nat_lt m sent && x)))
     → now ≡ cond b (cond (nat_lt (t + 1) sent) (nat_eq (t + 1) m || rest) rest) rest → (m ≡ t + 1 → y ≡ b)
-        → (t + 1 < m → y ≡ x)
+    → (t + 1 < m → y ≡ x)
     → now ≡ (nat_lt t m && (nat_le m (t + suc c) && (nat_lt m sent && y)))
 step t c sent m true true true now rest h e here later = grind (arith, nat_tests)
 step t c sent m true true false now rest h e here later = grind (arith, nat_tests)
@@ -63,7 +63,7 @@ none_named t sent m flag known = sym (ap (λ (b : Bool). b || known) (none_yet t
 
 marks_one : (t j sent m : ℕ) (x k : Bool) → t + 1 + j < sent → (m ≡ t + 1 + j → x ≡ true) →
     (nat_eq (t + 1 + j) m || ((nat_lt t m && (nat_le m (t + j) && (nat_lt m sent && x))) || k))
-        ≡ ((nat_lt t m && (nat_le m (t + (j + 1)) && (nat_lt m sent && x))) || k)
+    ≡ ((nat_lt t m && (nat_le m (t + (j + 1)) && (nat_lt m sent && x))) || k)
 marks_one t j sent m true true below set = grind (arith, nat_tests)
 marks_one t j sent m true false below set = grind (arith, nat_tests)
 marks_one t j sent m false true below set = grind (arith, nat_tests)
@@ -77,7 +77,7 @@ one_marked t j sent m flag k below set =
 
 passes_one : (t j sent m : ℕ) (x : Bool) → (m ≡ t + 1 + j → m < sent → x ≡ false) →
     (nat_lt t m && (nat_le m (t + j) && (nat_lt m sent && x)))
-        ≡ (nat_lt t m && (nat_le m (t + (j + 1)) && (nat_lt m sent && x)))
+    ≡ (nat_lt t m && (nat_le m (t + (j + 1)) && (nat_lt m sent && x)))
 passes_one t j sent m true unset = grind (arith, nat_tests)
 passes_one t j sent m false unset = grind (arith, nat_tests)
 
@@ -86,7 +86,7 @@ pub one_passed : (t j sent m : ℕ) (flag : ℕ → Bool) (k : Bool) → (t + 1 
     → (is_named t sent flag j m || k) ≡ (is_named t sent flag (j + 1) m || k)
 one_passed t j sent m flag k unset =
     ap (λ (b : Bool). b || k) (passes_one t j sent m (flag (m - t)) (λ e below. let n : m - t
-        ≡ j + 1 = omega (arith, e) in ap flag n ∙ unset (omega (arith, e, below))))
+    ≡ j + 1 = omega (arith, e) in ap flag n ∙ unset (omega (arith, e, below))))
 
 pub among_both : (xs ys : List ℕ) (m : ℕ) → is_among (xs ++ ys) m ≡ (is_among xs m || is_among ys m)
 among_both [] ys m = refl
@@ -121,7 +121,7 @@ among_one q m = at (nat_eq q m)
 -- what a message makes known: what it calls complete, and what it flags
 pub known_both : (called flagged : List ℕ) (made : Option (List ℕ)) (m : ℕ) (k : Bool) → Some (called ++ flagged) ≡ made
     → (is_among flagged m || (is_among called m || k))
-        ≡ (is_among (option_map_or (λ (numbers : List ℕ). numbers) made []) m || k)
+    ≡ (is_among (option_map_or (λ (numbers : List ℕ). numbers) made []) m || k)
 known_both called flagged made m k is =
     regroup (is_among called m) (is_among flagged m) k
     ∙ ap (λ (b : Bool). b || k) (sym (among_both called flagged m))

@@ -19,7 +19,7 @@ pub known_here : (rules : Rules) (s : Selector) (n back : ℕ) (depth : ℕ → 
 known_here rules s n back depth known stands below within =
     let e : s.slots ≡ rules.slots = stands.slots in
     ap (λ (k : ℕ). get_or s.known ((n - back - 1) % k) false) e
-        ∙ stands.known_is (n - back - 1) (omega arith) (omega (arith, e))
+    ∙ stands.known_is (n - back - 1) (omega arith) (omega (arith, e))
 
 pub depth_here : (rules : Rules) (s : Selector) (n back : ℕ) (depth : ℕ → ℕ) (known : ℕ → Bool)
     → SelectorStands rules s n depth known → back < n → back < s.slots - s.lead - 1
@@ -27,7 +27,7 @@ pub depth_here : (rules : Rules) (s : Selector) (n back : ℕ) (depth : ℕ → 
 depth_here rules s n back depth known stands below within =
     let e : s.slots ≡ rules.slots = stands.slots in
     ap (λ (k : ℕ). get_or s.depths ((n - back - 1) % k) 0) e
-        ∙ stands.depth_is (n - back - 1) (omega arith) (omega (arith, e))
+    ∙ stands.depth_is (n - back - 1) (omega arith) (omega (arith, e))
 
 -- one number more was looked at
 pub looked_more : (known : ℕ → Bool) (n back : ℕ) → back < n → ((m : ℕ) → m < n → n ≤ m + back → known m ≡ false)
@@ -46,11 +46,14 @@ pub chosen_here : (rules : Rules) (s : Selector) (n back : ℕ) (depth : ℕ →
     ≡ (if ltb (get_or s.depths ((n - back - 1) % s.slots) 0) 131 then Some (n - back - 1) else None)
 chosen_here rules s n back depth known stands below within newer flag =
     let is_known : known (n - back - 1) ≡ true = sym (known_here rules s n back depth known stands below within)
-        ∙ flag in
-    let found = reference_found rules depth known n (n - back - 1) (omega arith) (omega (arith, stands.slots,
-        stands.lead)) is_known (λ k low high. newer k high (omega arith)) in
+    ∙ flag in
+    let found = reference_found rules depth known n (n - back - 1) (omega arith) (omega (
+      arith,
+      stands.slots,
+      stands.lead,
+    )) is_known (λ k low high. newer k high (omega arith)) in
     rw (depth_here rules s n back depth known stands below within) (found
-        ∙ ap (λ (c : ℕ). if ltb (depth (n - back - 1)) c then Some (n - back - 1) else None) stands.chain)
+    ∙ ap (λ (c : ℕ). if ltb (depth (n - back - 1)) c then Some (n - back - 1) else None) stands.chain)
 
 pub none_here : (rules : Rules) (s : Selector) (n back : ℕ) (depth : ℕ → ℕ) (known : ℕ → Bool)
     → SelectorStands rules s n depth known → ((n ≤ back) ⊎ (s.slots - s.lead - 1 ≤ back))
@@ -82,15 +85,15 @@ marked one rules s t sent number depth known pos room below last slots lead cloc
         → get_or t.known (m % rules.slots) false ≡ (eqb number m || known m)
     each e m m_below m_last (inl same) =
         let at : m % rules.slots ≡ number % s.slots = ap (λ (k : ℕ). m % k) (sym e)
-            ∙ ap (λ (i : ℕ). i % s.slots) (sym same) in
+        ∙ ap (λ (i : ℕ). i % s.slots) (sym same) in
         let small : number % s.slots < length s.known = omega (arith, mod-lt number pos, room) in
         rw (eq-eqb number m same, flags, at) (get_or-set_same s.known (number % s.slots) true false small)
     each e m m_below m_last (inr differ) =
         let apart : m % s.slots ≢ number % s.slots =
-            λ same. differ (sym (one_rest one s.slots sent m number pos m_below (omega (arith, e)) below last same)) in
+        λ same. differ (sym (one_rest one s.slots sent m number pos m_below (omega (arith, e)) below last same)) in
         let at : m % rules.slots ≡ m % s.slots = ap (λ (k : ℕ). m % k) (sym e) in
         rw (ne_eqb number m differ, flags, at) (get_or-set_other s.known (number % s.slots) (m % s.slots) true false
-            apart ∙ ap (λ (k : ℕ). get_or s.known (m % k) false) e ∙ stands.known_is m m_below m_last)
+        apart ∙ ap (λ (k : ℕ). get_or s.known (m % k) false) e ∙ stands.known_is m m_below m_last)
 
 pub chosen_some : (rules : Rules) (s : Selector) (n back : ℕ) (depth : ℕ → ℕ) (known : ℕ → Bool)
     → SelectorStands rules s n depth known → back < n → back < s.slots - s.lead - 1
@@ -157,21 +160,21 @@ coded_more one rules s t number d depth known pos room_known room_depths depth_i
         → get_or t.depths (m % rules.slots) 0 ≡ depth m
     at_depth m m_below m_last (inl same) =
         rw (depths, rest m, sym same) (get_or-set_same s.depths (number % s.slots) d 0 (omega (arith, small))
-            ∙ sym depth_is)
+        ∙ sym depth_is)
     at_depth m m_below m_last (inr differ) =
         rw (depths, rest m) (get_or-set_other s.depths (number % s.slots) (m % s.slots) d 0
-            (apart m m_below m_last differ) ∙ ap (λ (k : ℕ). get_or s.depths (m % k) 0) e
-            ∙ stands.depth_is m (omega arith) (omega arith))
+        (apart m m_below m_last differ) ∙ ap (λ (k : ℕ). get_or s.depths (m % k) 0) e
+        ∙ stands.depth_is m (omega arith) (omega arith))
 
     at_known : (m : ℕ) → m < number + 1 → number + 1 ≤ m + rules.slots → ((number ≡ m) ⊎ (number ≡ m → ⊥))
         → get_or t.known (m % rules.slots) false ≡ known m
     at_known m m_below m_last (inl same) =
         rw (flags, rest m, sym same) (get_or-set_same s.known (number % s.slots) false false (omega (arith, small))
-            ∙ sym known_is)
+        ∙ sym known_is)
     at_known m m_below m_last (inr differ) =
         rw (flags, rest m) (get_or-set_other s.known (number % s.slots) (m % s.slots) false false
-            (apart m m_below m_last differ) ∙ ap (λ (k : ℕ). get_or s.known (m % k) false) e
-            ∙ stands.known_is m (omega arith) (omega arith))
+        (apart m m_below m_last differ) ∙ ap (λ (k : ℕ). get_or s.known (m % k) false) e
+        ∙ stands.known_is m (omega arith) (omega arith))
 
 -- a selector stands for the same known pictures, however they are told
 pub same_known : (rules : Rules) (s : Selector) (sent : ℕ) (depth : ℕ → ℕ) (f g : ℕ → Bool) → ((m : ℕ) → f m ≡ g m)

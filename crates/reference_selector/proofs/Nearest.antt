@@ -30,7 +30,7 @@ pub nearest_some : (rules : Rules) (n rest r p : ℕ) → p ≡ period rules →
     → Some (first p n r - p) ≡ nearest_below rules n rest
 nearest_some rules n rest r p is same more =
     subst (λ (k : ℕ). Some (first p n r - p) ≡ nearest_below rules n k) same (sym (code rules n r p is
-        ∙ rw (le-ltb _ p more) refl))
+    ∙ rw (le-ltb _ p more) refl))
 
 -- what a message about t makes known
 abbrev pub known_from : Rules → ℕ → Message → ℕ → List ℕ
@@ -57,11 +57,11 @@ made_some rules sent t h message rest half same some new = sym (rw (sym same, sy
 pub called_other : (rules : Rules) (sent t number offered h : ℕ) (flags : List Bool) (o : Option ℕ) → rules.half ≡ h
     → (number ≡ offered → ⊥) → o ≡ nearest_below rules (t + h) offered
     → called_complete rules sent t (Nack number offered flags)
-        ≡ option_map_or (λ q. if ltb q sent then q ∷ [] else []) o []
+    ≡ option_map_or (λ q. if ltb q sent then q ∷ [] else []) o []
 unfolding called_complete nearest
 called_other rules sent t number offered h flags o half differ is =
     let there : nearest_below rules (t + rules.half) offered
-        ≡ o = ap (λ (k : ℕ). nearest_below rules (t + k) offered) half ∙ sym is in
+    ≡ o = ap (λ (k : ℕ). nearest_below rules (t + k) offered) half ∙ sym is in
     rw (ne_eqb number offered differ, there) refl
 
 pub called_none : (rules : Rules) (sent t number offered : ℕ) (flags : List Bool) → number ≡ offered

@@ -19,7 +19,7 @@ use Rattle.rtp_header.proofs.Heads.{head_length, after_fixed_length, head_produc
 
 head_ok : (bytes : List ℕ) (r : Rtp) (read : Result (Head × Bits) Fault) → with_head bytes read ≡ Ok r
     → (x : Head × Bits) × (read ≡ Ok x) × (x.0.version ≡ 2)
-        × (with_end bytes x.0 (end_of (reading (after_fixed x.0) x.1)) ≡ Ok r)
+    × (with_end bytes x.0 (end_of (reading (after_fixed x.0) x.1)) ≡ Ok r)
 head_ok bytes r (Ok x) e =
     let p = passed_unless (x.0.version == 2) _ (with_end bytes x.0 (end_of (reading (after_fixed x.0) x.1))) r e in
     (x, refl, eqb-true x.0.version 2 p.0, p.1)
@@ -38,8 +38,13 @@ payload_ok bytes h from r None e = absurd (err_not_ok _ r e)
 
 -- the value of a header whose payload is from one byte to another
 abbrev value_of : Head → ℕ → ℕ → Rtp
-value_of h from to = record { marker = h.marker == 1; sequence = h.sequence; timestamp = h.timestamp; from = from;
-    to = to }
+value_of h from to = record {
+  marker = h.marker == 1;
+  sequence = h.sequence;
+  timestamp = h.timestamp;
+  from = from;
+  to = to;
+}
 
 record IsAccepted (h : Head) (from to : ℕ) (r : Rtp) : Type 0 where
   type : h.type ≡ 96
@@ -50,8 +55,11 @@ accepted_ok : (h : Head) (from to : ℕ) (r : Rtp) → accepted_of h from to ≡
 accepted_ok h from to r e =
     let p = passed_unless (h.type == 96) _ (cond (h.source == 1211250227) (ok (value_of h from to)) (err _)) r e in
     let q = passed_unless (h.source == 1211250227) _ (ok (value_of h from to)) r p.1 in
-    record { type = eqb-true h.type 96 p.0; source = eqb-true h.source 1211250227 q.0;
-        value = sym (ok_is (value_of h from to) r q.1) }
+    record {
+      type = eqb-true h.type 96 p.0;
+      source = eqb-true h.source 1211250227 q.0;
+      value = sym (ok_is (value_of h from to) r q.1);
+    }
 
 -- the payload and its padding
 pub record Parts (padded : ℕ) (rest : List ℕ) (from to : ℕ) : Type 0 where
@@ -96,21 +104,30 @@ counted p bytes from to count fits last e =
     let len : length padding ≡ suc (count - 1) = omega (arith, length-drop size rest) in
     let byte : get_or padding (count - 1) 0 ≡ count =
     get_or-drop size rest (count - 1) 0 ∙ get_or-drop from bytes (size + (count - 1)) 0
-        ∙ ap (λ (i : ℕ). get_or bytes i 0) (omega arith) ∙ last in
+    ∙ ap (λ (i : ℕ). get_or bytes i 0) (omega arith) ∙ last in
     let others = take (count - 1) padding in
     let len_others : length others + 1 ≡ count = omega (arith, length-take (count - 1) padding) in
     let text : padding ≡ others ++ (length others + 1) ∷ [] =
     sym (take-append-drop (count - 1) padding) ∙ ap (λ (t : List ℕ). others ++ t) (last_is padding (count - 1) len
-        ∙ ap (λ (v : ℕ). v ∷ []) (byte ∙ sym len_others)) in
-    record { payload = take size rest; padding = padding; parts = sym (take-append-drop size rest);
-        text = (others, text); end = omega (arith, t.2, length-take size rest) }
+    ∙ ap (λ (v : ℕ). v ∷ []) (byte ∙ sym len_others)) in
+    record {
+      payload = take size rest;
+      padding = padding;
+      parts = sym (take-append-drop size rest);
+      text = (others, text);
+      end = omega (arith, t.2, length-take size rest);
+    }
 
 pub padding_ok : (padded : ℕ) (bytes : List ℕ) (from to : ℕ) → from ≤ length bytes
     → cond (padded == 0) (Some (length bytes)) (counted_end bytes from (get_or bytes (length bytes - 1) 0)) ≡ Some to
     → Parts padded (drop from bytes) from to
-padding_ok zero bytes from to fits e = record { payload = drop from bytes; padding = [];
-    parts = sym (append-nil (drop from bytes)); text = refl;
-    end = omega (arith, some_is (length bytes) to e, length-drop from bytes) }
+padding_ok zero bytes from to fits e = record {
+  payload = drop from bytes;
+  padding = [];
+  parts = sym (append-nil (drop from bytes));
+  text = refl;
+  end = omega (arith, some_is (length bytes) to e, length-drop from bytes);
+}
 padding_ok (suc p) bytes from to fits e = counted p bytes from to (get_or bytes (length bytes - 1) 0) fits refl
     (rw (ne_eqb (suc p) 0 (λ same. omega (arith, same))) at e)
 
@@ -128,19 +145,33 @@ front_is h bytes b c e f =
     let m = after_fixed_length h two.0 two.2 in
     let text = one.0 ++ two.0 in
     let k = c.at / 8 in
-    let size : length text ≡ 8 * k = omega (arith, length-append one.0 two.0, head_length h one.0 one.2, m.1, one.1.at,
-        two.1.at) in
+    let size : length text ≡ 8 * k = omega (
+      arith,
+      length-append one.0 two.0,
+      head_length h one.0 one.2,
+      m.1,
+      one.1.at,
+      two.1.at,
+    ) in
     let whole : bits_of bytes ≡ text ++ c.bits = one.1.parts ∙ ap (λ (t : List Bool). one.0 ++ t) two.1.parts
-        ∙ sym (append_assoc one.0 two.0 c.bits) in
-    let fits : k ≤ length bytes = omega (arith, length-bits_of bytes, ap length whole, length-append text c.bits,
-        size) in
+    ∙ sym (append_assoc one.0 two.0 c.bits) in
+    let fits : k ≤ length bytes = omega (
+      arith,
+      length-bits_of bytes,
+      ap length whole,
+      length-append text c.bits,
+      size,
+    ) in
     let front : bits_of (take k bytes) ≡ text = bits_of-take k bytes fits ∙ ap (take (8 * k)) whole
-        ∙ take_at text c.bits (8 * k) size in
+    ∙ take_at text c.bits (8 * k) size in
     let end : Spells (after_fixed h) tt two.0 = two.2 in
     let spelt : Spells header h (one.0 ++ (two.0 ++ [])) = spells_part head any _ h h one.0 (two.0 ++ []) one.2 refl
-        (spells_part (after_fixed h) any _ h tt two.0 [] end refl (spells_done h)) in
-    record { fits = fits; text = spells_whole header h (one.0 ++ (two.0 ++ [])) (bits_of (take k bytes))
-        (ap (λ (t : List Bool). one.0 ++ t) (append-nil two.0) ∙ sym front) spelt }
+    (spells_part (after_fixed h) any _ h tt two.0 [] end refl (spells_done h)) in
+    record {
+      fits = fits;
+      text = spells_whole header h (one.0 ++ (two.0 ++ [])) (bits_of (take k bytes))
+          (ap (λ (t : List Bool). one.0 ++ t) (append-nil two.0) ∙ sym front) spelt;
+    }
 
 -- what is read as a header is one
 pub read_text : (r : Rtp) (bytes : List ℕ) → rtp_in bytes ≡ Ok r → IsRtp r bytes
@@ -212,26 +243,35 @@ last_byte (x ∷ xs) v = last_byte xs v
 pub payload_is : (padded : ℕ) (bytes front payload padding : List ℕ) → bytes ≡ front ++ (payload ++ padding)
     → IsPadding padded padding
     → cond (padded == 0) (Some (length bytes)) (counted_end bytes (length front) (get_or bytes (length bytes - 1) 0))
-        ≡ Some (length front + length payload)
-payload_is zero bytes front payload padding e none = ap (λ (n : ℕ). Some n) (omega (arith, ap length e,
-    length-append front (payload ++ padding), length-append payload padding, ap length none))
+    ≡ Some (length front + length payload)
+payload_is zero bytes front payload padding e none = ap (λ (n : ℕ). Some n) (omega (
+  arith,
+  ap length e,
+  length-append front (payload ++ padding),
+  length-append payload padding,
+  ap length none,
+))
 payload_is (suc p) bytes front payload padding e text =
     let others = text.0 in
     let count = length others + 1 in
     let before = front ++ (payload ++ others) in
     let whole : bytes ≡ before ++ count ∷ [] =
     e ∙ ap (λ (t : List ℕ). front ++ (payload ++ t)) text.1
-        ∙ ap (λ (t : List ℕ). front ++ t) (sym (append_assoc payload others (count ∷ [])))
-        ∙ sym (append_assoc front (payload ++ others) (count ∷ [])) in
+    ∙ ap (λ (t : List ℕ). front ++ t) (sym (append_assoc payload others (count ∷ [])))
+    ∙ sym (append_assoc front (payload ++ others) (count ∷ [])) in
     let len_before : length before ≡ length front + (length payload + length others) = length-append front (payload
-        ++ others) ∙ ap (λ (n : ℕ). length front + n) (length-append payload others) in
+    ++ others) ∙ ap (λ (n : ℕ). length front + n) (length-append payload others) in
     let len : length bytes ≡ length before + 1 = ap length whole ∙ length-append before (count ∷ []) in
     let last : get_or bytes (length bytes - 1) 0 ≡ count = ap (λ (i : ℕ). get_or bytes i 0) (omega (arith, len))
-        ∙ ap (λ (t : List ℕ). get_or t (length before) 0) whole ∙ last_byte before count in
+    ∙ ap (λ (t : List ℕ). get_or t (length before) 0) whole ∙ last_byte before count in
     let some : (count == 0) ≡ false = ne_eqb count 0 (λ same. omega (arith, same)) in
-    rw (ne_eqb (suc p) 0 (λ same. omega (arith, same)), last, some,
-        le-ltb (length bytes - length front) count (omega (arith, len, len_before)))
-        (ap (λ (n : ℕ). Some n) (omega (arith, len, len_before)))
+    rw (
+      ne_eqb (suc p) 0 (λ same. omega (arith, same)),
+      last,
+      some,
+      le-ltb (length bytes - length front) count (omega (arith, len, len_before)),
+    )
+    (ap (λ (n : ℕ). Some n) (omega (arith, len, len_before)))
 
 -- what is looked for after a whole header of version 2
 pub opened : (bytes front rest : List ℕ) (h : Head) → length bytes ≤ 65535 → bytes ≡ front ++ rest
@@ -243,17 +283,26 @@ opened bytes front rest h few parts text two =
     let tail = bits_of rest in
     let whole : bits_of bytes ≡ halves.fixed ++ (halves.more ++ tail) =
     ap bits_of parts ∙ bits_of-append front rest ∙ ap (λ (t : List Bool). t ++ tail) halves.parts
-        ∙ append_assoc halves.fixed halves.more tail in
-    let size : 0 + length halves.fixed + length halves.more ≡ 8 * length front = omega (arith, length-bits_of front,
-        ap length halves.parts, length-append halves.fixed halves.more) in
-    let one : reading head (from_byte 0 bytes) ≡ Ok (h, record { at = 0 + length halves.fixed;
-        bits = halves.more ++ tail }) =
+    ∙ append_assoc halves.fixed halves.more tail in
+    let size : 0 + length halves.fixed + length halves.more ≡ 8 * length front = omega (
+      arith,
+      length-bits_of front,
+      ap length halves.parts,
+      length-append halves.fixed halves.more,
+    ) in
+    let one : reading head (from_byte 0 bytes) ≡ Ok (
+      h,
+      record {
+        at = 0 + length halves.fixed;
+        bits = halves.more ++ tail;
+      },
+    ) =
     ap (λ (t : List Bool). reading head (record { at = 0; bits = t })) whole
-        ∙ complete head h halves.fixed (halves.more ++ tail) 0 head_productive halves.head in
+    ∙ complete head h halves.fixed (halves.more ++ tail) 0 head_productive halves.head in
     let end : end_of (reading (after_fixed h) (record { at = 0 + length halves.fixed; bits = halves.more ++ tail }))
-        ≡ Some (length front) =
+    ≡ Some (length front) =
     ap end_of (complete (after_fixed h) tt halves.more tail (0 + length halves.fixed) (after_fixed_productive h)
-        halves.after_fixed) ∙ ap (λ (n : ℕ). Some n) (ap (λ (n : ℕ). n / 8) size ∙ omega arith) in
+    halves.after_fixed) ∙ ap (λ (n : ℕ). Some n) (ap (λ (n : ℕ). n / 8) size ∙ omega arith) in
     rw (le-ltb 65535 (length bytes) few, one, eq-eqb h.version 2 two, end) refl
 
 -- what is a header is read
@@ -261,12 +310,12 @@ pub text_read : (r : Rtp) (bytes : List ℕ) → IsRtp r bytes → rtp_in bytes 
 text_read r bytes s =
     let h = s.fields in
     let end : payload_end_of h bytes (length s.front) ≡ Some (length s.front + length s.payload) =
-        payload_is h.padding bytes s.front s.payload s.padding s.parts s.padded in
+    payload_is h.padding bytes s.front s.payload s.padding s.parts s.padded in
     let accepted : accepted_of h (length s.front) (length s.front + length s.payload)
-        ≡ Ok r = rw (eq-eqb h.type 96 s.type, eq-eqb h.source 1211250227 s.source)
-        (ap (λ (v : Rtp). Ok v) (sym s.value)) in
+    ≡ Ok r = rw (eq-eqb h.type 96 s.type, eq-eqb h.source 1211250227 s.source)
+    (ap (λ (v : Rtp). Ok v) (sym s.value)) in
     opened bytes s.front (s.payload ++ s.padding) h s.short s.parts s.text s.version
-        ∙ ap (with_payload bytes h (length s.front)) end ∙ accepted
+    ∙ ap (with_payload bytes h (length s.front)) end ∙ accepted
 
 -- the payload lies in the packet
 pub text_within : (r : Rtp) (bytes : List ℕ) → IsRtp r bytes → IsWithin r bytes
@@ -274,10 +323,19 @@ text_within r bytes s =
     let halves = halves_of s.fields (bits_of s.front) s.text in
     let from : r.from ≡ length s.front = ap (λ (v : Rtp). v.from) s.value in
     let to : r.to ≡ length s.front + length s.payload = ap (λ (v : Rtp). v.to) s.value in
-    let long : 12 ≤ length s.front = omega (arith, length-bits_of s.front, ap length halves.parts,
-        length-append halves.fixed halves.more, head_length s.fields halves.fixed halves.head) in
+    let long : 12 ≤ length s.front = omega (
+      arith,
+      length-bits_of s.front,
+      ap length halves.parts,
+      length-append halves.fixed halves.more,
+      head_length s.fields halves.fixed halves.head,
+    ) in
     let whole : length bytes ≡ length s.front + (length s.payload + length s.padding) = ap length s.parts
-        ∙ length-append s.front (s.payload ++ s.padding)
-        ∙ ap (λ (n : ℕ). length s.front + n) (length-append s.payload s.padding) in
-    record { fixed = omega (arith, from, long); order = omega (arith, from, to); end = omega (arith, to, whole);
-        short = s.short }
+    ∙ length-append s.front (s.payload ++ s.padding)
+    ∙ ap (λ (n : ℕ). length s.front + n) (length-append s.payload s.padding) in
+    record {
+      fixed = omega (arith, from, long);
+      order = omega (arith, from, to);
+      end = omega (arith, to, whole);
+      short = s.short;
+    }

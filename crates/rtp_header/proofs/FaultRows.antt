@@ -36,8 +36,13 @@ short_row bytes lt = few_is bytes (omega arith) ∙ at_head (reading head (from_
     at_head (Err e) is = refl
     at_head (Ok x) is =
         let t = sound head (from_byte 0 bytes) x.1 x.0 is in
-        absurd (omega (arith, head_length x.0 t.0 t.2, ap length t.1.parts, length-append t.0 x.1.bits,
-            length-bits_of bytes))
+        absurd (omega (
+          arith,
+          head_length x.0 t.0 t.2,
+          ap length t.1.parts,
+          length-append t.0 x.1.bits,
+          length-bits_of bytes,
+        ))
 
 -- the bits after the fixed header
 abbrev after : List Bool → Bits
@@ -47,7 +52,7 @@ begun : (bytes : List ℕ) (h : Head) (left : List Bool) → Begins bytes h left
     ≡ Ok (h, after left)
 begun bytes h left b =
     ap (λ (t : List Bool). reading head (record { at = 0; bits = t })) b.parts
-        ∙ complete head h b.fixed left 0 head_productive b.text
+    ∙ complete head h b.fixed left 0 head_productive b.text
     ∙ ap (λ (n : ℕ). Ok (h, record { at = n; bits = left })) (omega (arith, head_length h b.fixed b.text))
 
 version_row : (bytes : List ℕ) (h : Head) (left : List Bool) → Begins bytes h left → (h.version ≡ 2 → ⊥)
@@ -68,9 +73,13 @@ first_field n left fits =
     let len : length front ≡ n = omega (arith, length-take n left, fits) in
     let small : number front < 2 ^ n = subst (λ (k : ℕ). number front < 2 ^ k) len (number-lt front) in
     let text : spelled n (number front) ≡ front = subst (λ (k : ℕ). spelled k (number front) ≡ front) len
-        (spelled-number front) in
-    (number front, drop n left, small, sym (take-append-drop n left)
-        ∙ ap (λ (t : List Bool). t ++ drop n left) (sym text))
+    (spelled-number front) in (
+      number front,
+      drop n left,
+      small,
+      sym (take-append-drop n left)
+          ∙ ap (λ (t : List Bool). t ++ drop n left) (sym text),
+    )
 
 -- a list of bits in which a syntax is cut
 abbrev IsCutIn : {A : Type 0} → Syntax A → List Bool → Type 0
@@ -85,15 +94,28 @@ cut_extension left (inl lt) =
       | inr enough ↦
           let f = first_field 16 left enough in
           let len : length left ≡ 16 + length f.1 = ap length f.3 ∙ length-append (spelled 16 f.0) f.1
-              ∙ ap (λ (n : ℕ). n + length f.1) (length-spelled 16 f.0) in
+          ∙ ap (λ (n : ℕ). n + length f.1) (length-spelled 16 f.0) in
           let parts : left ≡ (spelled 16 f.0 ++ []) ++ f.1 = f.3
-              ∙ ap (λ (t : List Bool). t ++ f.1) (sym (append-nil (spelled 16 f.0))) in
-          (spelled 16 f.0 ++ [], f.1, parts,
-              inr (f.0, [], f.2, refl, refl, inl (refl, inl (omega (arith, len, lt), refl))))
+          ∙ ap (λ (t : List Bool). t ++ f.1) (sym (append-nil (spelled 16 f.0))) in (
+            spelled 16 f.0 ++ [],
+            f.1,
+            parts,
+            inr (f.0, [], f.2, refl, refl, inl (refl, inl (omega (arith, len, lt), refl))),
+          )
     ]
-cut_extension left (inr e) =
-    (fields ((16, e.0) ∷ (16, e.1) ∷ []), e.2, e.5, inr (e.0, fields ((16, e.1) ∷ []), e.3, refl, refl,
-        inr (e.1, [], e.4, refl, refl, inl (refl, inl (omega (arith, e.6), refl)))))
+cut_extension left (inr e) = (
+  fields ((16, e.0) ∷ (16, e.1) ∷ []),
+  e.2,
+  e.5,
+  inr (
+    e.0,
+    fields ((16, e.1) ∷ []),
+    e.3,
+    refl,
+    refl,
+    inr (e.1, [], e.4, refl, refl, inl (refl, inl (omega (arith, e.6), refl))),
+  ),
+)
 
 cut_after : (h : Head) (left : List Bool) → EndsInside h left → IsCutIn (after_fixed h) left
 unfolding after_fixed Faults
@@ -104,12 +126,12 @@ cut_after h left (inr e) =
     let len : length e.1 ≡ n = omega (arith, e.3) in
     let small : number e.1 < 2 ^ n = subst (λ (k : ℕ). number e.1 < 2 ^ k) len (number-lt e.1) in
     let text : spelled n (number e.1) ≡ e.1 = subst (λ (k : ℕ). spelled k (number e.1)
-        ≡ e.1) len (spelled-number e.1) in
+    ≡ e.1) len (spelled-number e.1) in
     let more : Faults (either (h.extension == 0) (done tt) extension) c.0 c.1 faults.Ended =
     subst (λ (t : Bool). Faults (either t (done tt) extension) c.0 c.1 faults.Ended) (sym (ne_eqb h.extension 0 e.0))
-        c.3 in
+    c.3 in
     let parts : left ≡ (e.1 ++ c.0) ++ c.1 = e.4 ∙ ap (λ (t : List Bool). e.1 ++ t) c.2
-        ∙ sym (append_assoc e.1 c.0 c.1) in
+    ∙ sym (append_assoc e.1 c.0 c.1) in
     (e.1 ++ c.0, c.1, parts, inr (number e.1, c.0, small, refl, ap (λ (t : List Bool). t ++ c.0) (sym text), more))
 
 short_after_fixed_row : (bytes : List ℕ) (h : Head) (left : List Bool) → Begins bytes h left → h.version ≡ 2
@@ -117,9 +139,9 @@ short_after_fixed_row : (bytes : List ℕ) (h : Head) (left : List Bool) → Beg
 short_after_fixed_row bytes h left b two cut =
     let c = cut_after h left cut in
     versioned bytes h left b two
-        ∙ ap (λ (t : List Bool). with_end bytes h (end_of (reading (after_fixed h) (after t)))) c.2
+    ∙ ap (λ (t : List Bool). with_end bytes h (end_of (reading (after_fixed h) (after t)))) c.2
     ∙ ap (λ (r : Result (Unit {0} × Bits) Fault). with_end bytes h (end_of r))
-        (fault_again (after_fixed h) 96 c.0 c.1 faults.Ended (after_fixed_productive h) c.3)
+    (fault_again (after_fixed h) 96 c.0 c.1 faults.Ended (after_fixed_productive h) c.3)
 
 carried : (bytes : List ℕ) (h : Head) (rest : List ℕ) (c : Carries bytes h rest)
     → rtp_in bytes ≡ with_payload bytes h (length c.front) (payload_end_of h bytes (length c.front))
@@ -130,8 +152,10 @@ no_end : (h : Head) (bytes : List ℕ) (from : ℕ) → (h.padding ≡ 0 → ⊥
     ⊎ (length bytes - from < slice_index bytes (length bytes - 1)) → payload_end_of h bytes from ≡ None
 no_end h bytes from padded (inl z) = rw (ne_eqb h.padding 0 padded, eq-eqb (slice_index bytes (length bytes - 1)) 0 z)
     refl
-no_end h bytes from padded (inr lt) = rw (ne_eqb h.padding 0 padded,
-    lt-ltb (length bytes - from) (slice_index bytes (length bytes - 1)) lt)
+no_end h bytes from padded (inr lt) = rw (
+  ne_eqb h.padding 0 padded,
+  lt-ltb (length bytes - from) (slice_index bytes (length bytes - 1)) lt,
+)
     (either_way (slice_index bytes (length bytes - 1) == 0))
   where
     either_way : (t : Bool) → cond (t || true) None (Some (length bytes - slice_index bytes (length bytes - 1))) ≡ None
@@ -149,14 +173,14 @@ padding_row : (bytes : List ℕ) (h : Head) (rest : List ℕ) → Carries bytes 
 padding_row bytes h rest c padded bad =
     let last = slice_index bytes (length bytes - 1) in
     carried bytes h rest c ∙ ap (with_payload bytes h (length c.front)) (no_end h bytes (length c.front) padded
-        (subst (λ (n : ℕ). (last ≡ 0) ⊎ (n < last)) (rest_is bytes h rest c) bad))
+    (subst (λ (n : ℕ). (last ≡ 0) ⊎ (n < last)) (rest_is bytes h rest c) bad))
 
 whole : (bytes : List ℕ) (h : Head) (w : IsWhole bytes h)
     → rtp_in bytes ≡ accepted_of h (length w.carries.front) (length w.carries.front + length w.payload)
 whole bytes h w =
     let front = w.carries.front in
     let end : payload_end_of h bytes (length front) ≡ Some (length front + length w.payload) =
-        payload_is h.padding bytes front w.payload w.padding w.carries.parts w.padded in
+    payload_is h.padding bytes front w.payload w.padding w.carries.parts w.padded in
     carried bytes h (w.payload ++ w.padding) w.carries ∙ ap (with_payload bytes h (length front)) end
 
 type_row : (bytes : List ℕ) (h : Head) → IsWhole bytes h → (h.type ≡ 96 → ⊥)
@@ -189,7 +213,7 @@ nothing_left x front left kind f = f
 any_step : {A : Type 0} (n m : ℕ) (next : ℕ → Syntax A) (front left : List Bool) (kind : FaultKind)
     → Faults (field n any next) front left kind
     → ((v : ℕ) (rest : List Bool) → Faults (next v) rest left kind → length rest + length left < m)
-        → length front + length left < n + m
+    → length front + length left < n + m
 unfolding Faults
 any_step n m next front left kind (inl (none, inl cut)) more = omega (arith, ap length none, cut.0)
 any_step n m next front left kind (inl (none, inr refused)) more = absurd (no_fault kind refused.4)
@@ -201,40 +225,67 @@ cut_head : (front left : List Bool) (kind : FaultKind) → Faults head front lef
 unfolding head
 cut_head front left kind f =
     any_step 2 94 _ front left kind f λ version r f. any_step 1 93 _ r left kind f λ padding r f. any_step 1 92
-        _ r left kind f λ extension r f.
+    _ r left kind f λ extension r f.
     any_step 4 88 _ r left kind f λ sources r f. any_step 1 87 _ r left kind f λ marker r f. any_step 7 80
-        _ r left kind f λ type r f.
+    _ r left kind f λ type r f.
     any_step 16 64 _ r left kind f λ sequence r f. any_step 32 32 _ r left kind f λ timestamp r f. any_step 32 0
-        _ r left kind f λ source r f. absurd (nothing_left _ r left kind f)
+    _ r left kind f λ source r f. absurd (nothing_left _ r left kind f)
 
 -- what an extension that has a fault ends inside of
 extension_found : (front left : List Bool) (kind : FaultKind) → Faults extension front left kind
     → EndsInExtension (front ++ left)
 unfolding extension Faults
-extension_found front left kind (inl (none, inl cut)) = inl (omega (arith, length-append front left, ap length none,
-    cut.0))
+extension_found front left kind (inl (none, inl cut)) = inl (omega (
+  arith,
+  length-append front left,
+  ap length none,
+  cut.0,
+))
 extension_found front left kind (inl (none, inr refused)) = absurd (no_fault kind refused.4)
 extension_found front left kind (inr (profile, rest, p, ok, parts, inl (none, inl cut))) =
-    inl (omega (arith, length-append front left, ap length parts, length-append (spelled 16 profile) rest,
-        length-spelled 16 profile, ap length none, cut.0))
+    inl (omega (
+      arith,
+      length-append front left,
+      ap length parts,
+      length-append (spelled 16 profile) rest,
+      length-spelled 16 profile,
+      ap length none,
+      cut.0,
+    ))
 extension_found front left kind (inr (profile, rest, p, ok, parts, inl (none, inr refused))) =
     absurd (no_fault kind refused.4)
-extension_found front left kind (inr (profile, rest, p, ok, parts,
-    inr (words, rest2, w, ok2, parts2, inl (none, inl cut)))) =
+extension_found front left kind (inr (
+  profile,
+  rest,
+  p,
+  ok,
+  parts,
+  inr (words, rest2, w, ok2, parts2, inl (none, inl cut)),
+)) =
     let text : front ≡ fields ((16, profile) ∷ (16, words) ∷ []) =
     parts ∙ ap (λ (t : List Bool). spelled 16 profile ++ t) (parts2
-        ∙ ap (λ (t : List Bool). spelled 16 words ++ t) none) in
+    ∙ ap (λ (t : List Bool). spelled 16 words ++ t) none) in
     inr (profile, words, left, p, w, ap (λ (t : List Bool). t ++ left) text, omega (arith, cut.0))
-extension_found front left kind (inr (profile, rest, p, ok, parts,
-    inr (words, rest2, w, ok2, parts2, inl (none, inr refused)))) = absurd (no_fault kind refused.4)
+extension_found front left kind (inr (
+  profile,
+  rest,
+  p,
+  ok,
+  parts,
+  inr (words, rest2, w, ok2, parts2, inl (none, inr refused)),
+)) = absurd (no_fault kind refused.4)
 extension_found front left kind (inr (profile, rest, p, ok, parts, inr (words, rest2, w, ok2, parts2, inr f))) =
     absurd f.5
 
 after_fixed_found : (h : Head) (front left : List Bool) (kind : FaultKind) → Faults (after_fixed h) front left kind
     → EndsInside h (front ++ left)
 unfolding after_fixed Faults
-after_fixed_found h front left kind (inl (none, inl cut)) = inl (omega (arith, length-append front left, ap length none,
-    cut.0))
+after_fixed_found h front left kind (inl (none, inl cut)) = inl (omega (
+  arith,
+  length-append front left,
+  ap length none,
+  cut.0,
+))
 after_fixed_found h front left kind (inl (none, inr refused)) = absurd (no_fault kind refused.4)
 after_fixed_found h front left kind (inr (v, rest, small, ok, parts, f)) = at_extension (h.extension == 0) refl f
   where
@@ -246,9 +297,15 @@ after_fixed_found h front left kind (inr (v, rest, small, ok, parts, f)) = at_ex
     at_extension true e g = absurd g
     at_extension false e g =
         let text : front ++ left ≡ spelled n v ++ (rest ++ left) = ap (λ (t : List Bool). t ++ left) parts
-            ∙ append_assoc (spelled n v) rest left in
-        inr (eqb-false h.extension 0 e, spelled n v, rest ++ left, omega (arith, length-spelled n v), text,
-            extension_found rest left kind g)
+        ∙ append_assoc (spelled n v) rest left in
+        inr (
+          eqb-false h.extension 0 e,
+          spelled n v,
+          rest ++ left,
+          omega (arith, length-spelled n v),
+          text,
+          extension_found rest left kind g,
+        )
 
 -- the bytes are in a row of the table, or spell a header
 abbrev Stands : List ℕ → Type 0
@@ -299,7 +356,7 @@ at_end bytes h from fits c = by (payload_end_of h bytes from) refl
     by : (o : Option ℕ) → payload_end_of h bytes from ≡ o → Stands bytes
     by None e =
         let n = none_is (h.padding == 0) (last == 0) (nat_lt (length bytes - from) last) (length bytes)
-            (length bytes - last) e in
+        (length bytes - last) e in
         let bad : (last ≡ 0) ⊎ (length (drop from bytes) < last) =
         elim n.1 [
           | inl zero ↦ inl (eqb-true last 0 zero)
@@ -308,8 +365,12 @@ at_end bytes h from fits c = by (payload_end_of h bytes from) refl
         row faults.Padding (8 * length bytes - 8) (padding h (drop from bytes) c (eqb-false h.padding 0 n.0) bad)
     by (Some to) e =
         let p = padding_ok h.padding bytes from to fits e in
-        at_type bytes h (record { payload = p.payload; padding = p.padding;
-            carries = subst (λ (t : List ℕ). Carries bytes h t) p.parts c; padded = p.text })
+        at_type bytes h (record {
+          payload = p.payload;
+          padding = p.padding;
+          carries = subst (λ (t : List ℕ). Carries bytes h t) p.parts c;
+          padded = p.text;
+        })
 
 at_after_fixed : (bytes : List ℕ) (h : Head) (b : Bits) → length bytes ≤ 65535 → reading head (from_byte 0 bytes)
     ≡ Ok (h, b) → h.version ≡ 2 → Begins bytes h b.bits → Stands bytes
@@ -319,13 +380,18 @@ at_after_fixed bytes h b few is two begins = by (reading (after_fixed h) b) refl
     by (Err d) e =
         let f = fault_found (after_fixed h) b d (after_fixed_productive h) e in
         let cut : EndsInside h b.bits = subst (λ (t : List Bool). EndsInside h t) (sym f.2)
-            (after_fixed_found h f.0 f.1 d.kind f.4) in
+        (after_fixed_found h f.0 f.1 d.kind f.4) in
         row faults.Short (8 * length bytes) (short_after_fixed h b.bits begins two cut)
     by (Ok x) e =
         let from = x.1.at / 8 in
         let front = front_is h bytes b x.1 is e in
-        at_end bytes h from front.fits (record { few = few; version = two; front = take from bytes; text = front.text;
-            parts = sym (take-append-drop from bytes) })
+        at_end bytes h from front.fits (record {
+          few = few;
+          version = two;
+          front = take from bytes;
+          text = front.text;
+          parts = sym (take-append-drop from bytes);
+        })
 
 at_head : (bytes : List ℕ) → length bytes ≤ 65535 → 12 ≤ length bytes → Stands bytes
 at_head bytes few enough = by (reading head (from_byte 0 bytes)) refl
@@ -348,8 +414,10 @@ each_stands : (bytes : List ℕ) → Stands bytes
 each_stands bytes =
     elim (cases_lt 65535 (length bytes)) [
       | inl lt ↦ row faults.Long 0 (long lt)
-      | inr few ↦ elim (cases_lt (length bytes) 12) [ inl lt ↦ row faults.Short (8 * length bytes) (short lt)
-          | inr enough ↦ at_head bytes few enough ]
+      | inr few ↦ elim (cases_lt (length bytes) 12) [
+        | inl lt ↦ row faults.Short (8 * length bytes) (short lt)
+        | inr enough ↦ at_head bytes few enough
+      ]
     ]
 
 to_row : (bytes : List ℕ) (fault : Fault) → Stands bytes → rtp_in bytes ≡ Err fault

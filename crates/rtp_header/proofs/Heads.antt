@@ -30,8 +30,10 @@ head_of bytes = record {
 
 abbrev pub head_fields : Head → List (ℕ × ℕ)
 head_fields h =
-    (2, h.version) ∷ (1, h.padding) ∷ (1, h.extension) ∷ (4, h.sources) ∷ (1, h.marker) ∷ (7, h.type) ∷ (16,
-        h.sequence) ∷ (32, h.timestamp) ∷ (32, h.source) ∷ []
+    (2, h.version) ∷ (1, h.padding) ∷ (1, h.extension) ∷ (4, h.sources) ∷ (1, h.marker) ∷ (7, h.type) ∷ (
+      16,
+      h.sequence,
+    ) ∷ (32, h.timestamp) ∷ (32, h.source) ∷ []
 
 pub record IsHead (h : Head) : Type 0 where
   pub version : h.version < 4
@@ -48,10 +50,10 @@ pub head_spelt : (h : Head) → IsHead h → Spells head h (fields (head_fields 
 unfolding head
 head_spelt h ok =
     spells_field 2 _ _ _ h.version _ (omega arith) refl (spells_field 1 _ _ _ h.padding _ (omega arith) refl
-        (spells_field 1 _ _ _ h.extension _ (omega arith) refl (spells_field 4 _ _ _ h.sources _ (omega arith) refl
+    (spells_field 1 _ _ _ h.extension _ (omega arith) refl (spells_field 4 _ _ _ h.sources _ (omega arith) refl
     (spells_field 1 _ _ _ h.marker _ (omega arith) refl (spells_field 7 _ _ _ h.type _ (omega arith) refl
     (spells_field 16 _ _ _ h.sequence _ (omega arith) refl (spells_field 32 _ _ _ h.timestamp _ (omega arith) refl
-        (spells_field 32 _ _ _ h.source _ (omega arith) refl (spells_done _)))))))))
+    (spells_field 32 _ _ _ h.source _ (omega arith) refl (spells_done _)))))))))
 
 pub head_productive : IsProductive head
 unfolding head IsProductive
@@ -72,7 +74,7 @@ first_byte b =
     let whole : b ≡ b / 64 * 2 ^ 6 + (p * 2 ^ 5 + low) = omega arith in
     ap (spelled 8) whole ∙ spelled-append 2 6 (b / 64) (p * 2 ^ 5 + low) (omega arith)
     ∙ ap (λ (t : List Bool). spelled 2 (b / 64) ++ t) (spelled-append 1 5 p low (omega arith)
-        ∙ ap (λ (t : List Bool). spelled 1 p ++ t) (spelled-append 1 4 x (b % 16) (omega arith)))
+    ∙ ap (λ (t : List Bool). spelled 1 p ++ t) (spelled-append 1 4 x (b % 16) (omega arith)))
 
 pub second_byte : (b : ℕ) → spelled 8 b ≡ spelled 1 (b / 128) ++ spelled 7 (b % 128)
 second_byte b =
@@ -89,7 +91,7 @@ four_bytes a b c d hb hc hd =
     let whole : a * 16777216 + b * 65536 + c * 256 + d ≡ a * 2 ^ 24 + (b * 2 ^ 16 + low) = omega arith in
     ap (spelled 32) whole ∙ spelled-append 8 24 a (b * 2 ^ 16 + low) (omega arith)
     ∙ ap (λ (t : List Bool). spelled 8 a ++ t) (spelled-append 8 16 b low (omega arith)
-        ∙ ap (λ (t : List Bool). spelled 8 b ++ t) (spelled-append 8 8 c d hd))
+    ∙ ap (λ (t : List Bool). spelled 8 b ++ t) (spelled-append 8 8 c d hd))
 
 -- the fixed header of bytes, of which there are twelve at least
 pub head_is : (bytes : List ℕ) → 12 ≤ length bytes → ((i : ℕ) → get_or bytes i 0 < 256)
@@ -121,17 +123,22 @@ head_is (b0 ∷ b1 ∷ b2 ∷ b3 ∷ b4 ∷ b5 ∷ b6 ∷ b7 ∷ b8 ∷ b9 ∷ b
       source = omega (arith, small 8, small 9, small 10, small 11);
     } in
     let sequence : spelled 16 (big_number 2 (drop 2 bytes)) ≡ spelled 8 b2
-        ++ spelled 8 b3 = ap (spelled 16) (omega arith) ∙ two_bytes b2 b3 (small 3) in
+    ++ spelled 8 b3 = ap (spelled 16) (omega arith) ∙ two_bytes b2 b3 (small 3) in
     let timestamp : spelled 32 (big_number 4 (drop 4 bytes)) ≡ spelled 8 b4
-        ++ (spelled 8 b5 ++ (spelled 8 b6 ++ spelled 8 b7)) = ap (spelled 32) (omega arith)
-        ∙ four_bytes b4 b5 b6 b7 (small 5) (small 6) (small 7) in
+    ++ (spelled 8 b5 ++ (spelled 8 b6 ++ spelled 8 b7)) = ap (spelled 32) (omega arith)
+    ∙ four_bytes b4 b5 b6 b7 (small 5) (small 6) (small 7) in
     let source : spelled 32 (big_number 4 (drop 8 bytes)) ≡ spelled 8 b8
-        ++ (spelled 8 b9 ++ (spelled 8 b10 ++ spelled 8 b11)) = ap (spelled 32) (omega arith)
-        ∙ four_bytes b8 b9 b10 b11 (small 9) (small 10) (small 11) in
-    let text : bits_of bytes ≡ fields (head_fields (head_of bytes)) ++ bits_of rest = rw (first_byte b0, second_byte b1,
-        sequence, timestamp, source) (simp append_assoc) in
+    ++ (spelled 8 b9 ++ (spelled 8 b10 ++ spelled 8 b11)) = ap (spelled 32) (omega arith)
+    ∙ four_bytes b8 b9 b10 b11 (small 9) (small 10) (small 11) in
+    let text : bits_of bytes ≡ fields (head_fields (head_of bytes)) ++ bits_of rest = rw (
+      first_byte b0,
+      second_byte b1,
+      sequence,
+      timestamp,
+      source,
+    ) (simp append_assoc) in
     ap (λ (t : List Bool). reading head (record { at = 0; bits = t })) text
-        ∙ head_read (head_of bytes) (bits_of rest) ok
+    ∙ head_read (head_of bytes) (bits_of rest) ok
 
 -- ---- its length
 
@@ -149,13 +156,13 @@ head_length h bits spelt =
     let j = field_length 32 _ _ h i.1 i.2 in
     let end : length bits ≡ 2 + (1 + (1 + (4 + (1 + (7 + (16 + (32 + (32 + 0)))))))) =
     a.3 ∙ ap (λ (n : ℕ). 2 + n) (b.3
-        ∙ ap (λ (n : ℕ). 1 + n) (c.3
-        ∙ ap (λ (n : ℕ). 1 + n) (d.3
-        ∙ ap (λ (n : ℕ). 4 + n) (e.3
-        ∙ ap (λ (n : ℕ). 1 + n) (f.3
-        ∙ ap (λ (n : ℕ). 7 + n) (g.3
-        ∙ ap (λ (n : ℕ). 16 + n) (i.3
-        ∙ ap (λ (n : ℕ). 32 + n) (j.3 ∙ ap (λ (n : ℕ). 32 + n) (done_length _ h j.1 j.2))))))))) in
+    ∙ ap (λ (n : ℕ). 1 + n) (c.3
+    ∙ ap (λ (n : ℕ). 1 + n) (d.3
+    ∙ ap (λ (n : ℕ). 4 + n) (e.3
+    ∙ ap (λ (n : ℕ). 1 + n) (f.3
+    ∙ ap (λ (n : ℕ). 7 + n) (g.3
+    ∙ ap (λ (n : ℕ). 16 + n) (i.3
+    ∙ ap (λ (n : ℕ). 32 + n) (j.3 ∙ ap (λ (n : ℕ). 32 + n) (done_length _ h j.1 j.2))))))))) in
     end
 
 -- fewer bytes hold no fixed header
@@ -182,12 +189,15 @@ bytes_of-take : (k m : ℕ) (bytes : List ℕ) → k + m ≤ length bytes → nu
 unfolding number_at
 bytes_of-take k m bytes h =
     let rest = drop k bytes in
-    let len : length (bits_of rest) ≡ 8 * (length bytes - k) = omega (arith, length-bits_of rest,
-        length-drop k bytes) in
+    let len : length (bits_of rest) ≡ 8 * (length bytes - k) = omega (
+      arith,
+      length-bits_of rest,
+      length-drop k bytes,
+    ) in
     let front : take (8 * m) (bits_of rest) ≡ bits_of (take m rest) =
-        sym (bits_of-take m rest (omega (arith, length-drop k bytes))) in
+    sym (bits_of-take m rest (omega (arith, length-drop k bytes))) in
     let after_fixed : drop (8 * m) (bits_of rest) ≡ bits_of (drop (k + m) bytes) = sym (bits_of-drop m rest)
-        ∙ ap bits_of (drop-drop m k bytes) in
+    ∙ ap bits_of (drop-drop m k bytes) in
     let place : 8 * k + 8 * m ≡ 8 * (k + m) = omega arith in
     rw (le-ltb (length (bits_of rest)) (8 * m) (omega (arith, len)), front, after_fixed, place) refl
 
@@ -196,8 +206,11 @@ bytes_of-cut : (k m : ℕ) (bytes : List ℕ) → k ≤ length bytes → length 
 unfolding number_at
 bytes_of-cut k m bytes low h =
     let rest = drop k bytes in
-    let len : length (bits_of rest) ≡ 8 * (length bytes - k) = omega (arith, length-bits_of rest,
-        length-drop k bytes) in
+    let len : length (bits_of rest) ≡ 8 * (length bytes - k) = omega (
+      arith,
+      length-bits_of rest,
+      length-drop k bytes,
+    ) in
     rw (lt-ltb (length (bits_of rest)) (8 * m) (omega (arith, len))) refl
 
 nothing : number (bits_of []) ≡ 0
@@ -249,11 +262,14 @@ words_is k bytes fits small = two_is (drop (k + 2) bytes) (omega (arith, length-
 
 extension_words : (k : ℕ) (bytes : List ℕ) → k + 4 ≤ length bytes → ((i : ℕ) → get_or bytes i 0 < 256)
     → reading extension (from_byte k bytes)
-        ≡ reading (field (8 * (4 * big_number 2 (drop (k + 2) bytes))) any (λ contents. done tt))
-        (from_byte (k + 2 + 2) bytes)
+    ≡ reading (field (8 * (4 * big_number 2 (drop (k + 2) bytes))) any (λ contents. done tt))
+    (from_byte (k + 2 + 2) bytes)
 unfolding reading extension
-extension_words k bytes fits small = rw (bytes_of-take k 2 bytes (omega arith),
-    bytes_of-take (k + 2) 2 bytes (omega arith), words_is k bytes fits small) refl
+extension_words k bytes fits small = rw (
+  bytes_of-take k 2 bytes (omega arith),
+  bytes_of-take (k + 2) 2 bytes (omega arith),
+  words_is k bytes fits small,
+) refl
 
 words_cut : (k m : ℕ) (bytes : List ℕ) → k ≤ length bytes → length bytes < k + m
     → end_of (reading (field (8 * m) any (λ contents. done tt)) (from_byte k bytes)) ≡ None
@@ -279,20 +295,20 @@ words_of h bytes = big_number 2 (drop (12 + 4 * h.sources + 2) bytes)
 pub after_fixed_words_cut : (h : Head) (bytes : List ℕ) → 12 + 4 * h.sources + 4 ≤ length bytes
     → (h.extension == 0) ≡ false → ((i : ℕ) → get_or bytes i 0 < 256)
     → length bytes < 12 + 4 * h.sources + 4 + 4 * words_of h bytes
-        → end_of (reading (after_fixed h) (from_byte 12 bytes)) ≡ None
+    → end_of (reading (after_fixed h) (from_byte 12 bytes)) ≡ None
 after_fixed_words_cut h bytes fits some small cut =
     let k = 12 + 4 * h.sources in
     ap end_of (extension_is h bytes (omega arith) some ∙ extension_words k bytes fits small)
-        ∙ words_cut (k + 2 + 2) (4 * words_of h bytes) bytes (omega arith) (omega arith)
+    ∙ words_cut (k + 2 + 2) (4 * words_of h bytes) bytes (omega arith) (omega arith)
 
 pub after_fixed_words : (h : Head) (bytes : List ℕ) → 12 + 4 * h.sources + 4 ≤ length bytes → (h.extension == 0) ≡ false
     → ((i : ℕ) → get_or bytes i 0 < 256)
     → 12 + 4 * h.sources + 4 + 4 * words_of h bytes ≤ length bytes
-        → end_of (reading (after_fixed h) (from_byte 12 bytes)) ≡ Some (12 + 4 * h.sources + 4 + 4 * words_of h bytes)
+    → end_of (reading (after_fixed h) (from_byte 12 bytes)) ≡ Some (12 + 4 * h.sources + 4 + 4 * words_of h bytes)
 after_fixed_words h bytes fits some small whole =
     let k = 12 + 4 * h.sources in
     ap end_of (extension_is h bytes (omega arith) some ∙ extension_words k bytes fits small)
-        ∙ words_fit (k + 2 + 2) (4 * words_of h bytes) bytes (omega arith) ∙ ap (λ (n : ℕ). Some n) (omega arith)
+    ∙ words_fit (k + 2 + 2) (4 * words_of h bytes) bytes (omega arith) ∙ ap (λ (n : ℕ). Some n) (omega arith)
 
 -- ---- the length of what stands after the fixed header
 

@@ -29,18 +29,27 @@ pub written_text : (marker : Bool) (sequence timestamp : ℕ) → sequence < 655
 unfolding bits_of
 written_text marker s t hs ht =
     let number : spelled 16 s ≡ spelled 8 (s / 256 % 256) ++ spelled 8 (s % 256) = ap (spelled 16) (omega arith)
-        ∙ two_bytes (s / 256 % 256) (s % 256) (omega arith) in
+    ∙ two_bytes (s / 256 % 256) (s % 256) (omega arith) in
     let time : spelled 32 t ≡ spelled 8 (t / 16777216 % 256)
-        ++ (spelled 8 (t / 65536 % 256) ++ (spelled 8 (t / 256 % 256) ++ spelled 8 (t % 256))) =
+    ++ (spelled 8 (t / 65536 % 256) ++ (spelled 8 (t / 256 % 256) ++ spelled 8 (t % 256))) =
     ap (spelled 32) (omega arith) ∙ four_bytes (t / 16777216 % 256) (t / 65536 % 256) (t / 256 % 256) (t % 256)
-        (omega arith) (omega arith) (omega arith) in
+    (omega arith) (omega arith) (omega arith) in
     let source : spelled 32 1211250227 ≡ spelled 8 72 ++ (spelled 8 50 ++ (spelled 8 54 ++ spelled 8 51)) =
-        four_bytes 72 50 54 51 (omega arith) (omega arith) (omega arith) in
+    four_bytes 72 50 54 51 (omega arith) (omega arith) (omega arith) in
     rw (first_byte 128, marker_byte marker, number, time, source) (simp append_assoc)
 
 abbrev head_written : Bool → ℕ → ℕ → Head
-head_written marker sequence timestamp = record { version = 2; padding = 0; extension = 0; sources = 0;
-    marker = marker_bit marker; type = 96; sequence = sequence; timestamp = timestamp; source = 1211250227 }
+head_written marker sequence timestamp = record {
+  version = 2;
+  padding = 0;
+  extension = 0;
+  sources = 0;
+  marker = marker_bit marker;
+  type = 96;
+  sequence = sequence;
+  timestamp = timestamp;
+  source = 1211250227;
+}
 
 marker_low : (marker : Bool) → marker_bit marker < 2
 marker_low true = omega arith
@@ -68,19 +77,28 @@ header_written marker s t hs ht =
       source = omega arith;
     } in
     let none : Spells (after_fixed h) tt (spelled 0 0 ++ []) = spells_field 0 any _ tt 0 [] (omega arith) refl
-        (spells_done tt) in
+    (spells_done tt) in
     spells_whole header h (text ++ ((spelled 0 0 ++ []) ++ [])) text (append-nil text)
-        (spells_part head any _ h h text ((spelled 0 0 ++ []) ++ []) (head_spelt h ok) refl
-        (spells_part (after_fixed h) any _ h tt (spelled 0 0 ++ []) [] none refl (spells_done h)))
+    (spells_part head any _ h h text ((spelled 0 0 ++ []) ++ []) (head_spelt h ok) refl
+    (spells_part (after_fixed h) any _ h tt (spelled 0 0 ++ []) [] none refl (spells_done h)))
 
 -- a written header is read again, whatever payload follows
 pub written_again : (front payload : List ℕ) (marker : Bool) (sequence timestamp : ℕ) → sequence < 65536
     → timestamp < 4294967296 → bits_of front ≡ fields (rtp_fields marker sequence timestamp) → length payload ≤ 65523
-    → rtp_in (front ++ payload) ≡ Ok (record { marker = marker; sequence = sequence; timestamp = timestamp; from = 12;
-        to = 12 + length payload })
+    → rtp_in (front ++ payload) ≡ Ok (record {
+      marker = marker;
+      sequence = sequence;
+      timestamp = timestamp;
+      from = 12;
+      to = 12 + length payload;
+    })
 written_again front payload marker s t hs ht text few =
-    let len : length front ≡ 12 = omega (arith, length-bits_of front, ap length text,
-        length-fields (rtp_fields marker s t)) in
+    let len : length front ≡ 12 = omega (
+      arith,
+      length-bits_of front,
+      ap length text,
+      length-fields (rtp_fields marker s t),
+    ) in
     text_read _ (front ++ payload) (record {
       fields = head_written marker s t;
       front = front;

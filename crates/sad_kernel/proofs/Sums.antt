@@ -58,20 +58,22 @@ differences-append (x ∷ xs) (u ∷ us) ys vs h = omega (arith, differences-app
 -- the differences of a part from place i on
 pub differences-drop : (xs ys : List ℕ) (i n : ℕ) → i + n ≤ length xs → i + n ≤ length ys →
     differences (drop i xs) (drop i ys) ≡ differences (chunk i n xs) (chunk i n ys) + differences (drop (i + n) xs)
-        (drop (i + n) ys)
+    (drop (i + n) ys)
 differences-drop xs ys i n hx hy =
     let e : differences (drop i xs) (drop i ys) ≡ differences (chunk i n xs ++ drop (i + n) xs) (chunk i n ys
-        ++ drop (i + n) ys) = cc (chunk-drop i n xs, chunk-drop i n ys) in
+    ++ drop (i + n) ys) = cc (chunk-drop i n xs, chunk-drop i n ys) in
     e ∙ differences-append (chunk i n xs) (chunk i n ys) (drop (i + n) xs) (drop (i + n) ys) (length-chunk i n xs hx
-        ∙ sym (length-chunk i n ys hy))
+    ∙ sym (length-chunk i n ys hy))
 
 pub differences-one : (xs ys : List ℕ) (i : ℕ) → i < length xs → i < length ys →
     differences (drop i xs) (drop i ys) ≡ abs_diff (get_or xs i 0) (get_or ys i 0) + differences (drop (i + 1) xs)
-        (drop (i + 1) ys)
+    (drop (i + 1) ys)
 differences-one xs ys i hx hy =
     let e : differences (drop i xs) (drop i ys)
-        ≡ differences (get_or xs i 0 ∷ drop (suc i) xs) (get_or ys i 0 ∷ drop (suc i) ys) = cc (drop-cons xs i 0 hx,
-        drop-cons ys i 0 hy) in
+    ≡ differences (get_or xs i 0 ∷ drop (suc i) xs) (get_or ys i 0 ∷ drop (suc i) ys) = cc (
+      drop-cons xs i 0 hx,
+      drop-cons ys i 0 hy,
+    ) in
     rw add-one e
 
 pub bytes : (xs : List ℕ) → ((i : ℕ) → Fits w8 (get_or xs i 0)) → Each1 (λ x. x < 256) xs
@@ -81,8 +83,11 @@ bytes xs h = Each1-from_get_or (λ x. x < 256) xs 0 (λ i hi. (h i).fits)
 pub whole_small : (xs ys : List ℕ) → length xs ≡ length ys → length xs ≤ 65536 → ((i : ℕ) → Fits w8 (get_or xs i 0))
     → ((i : ℕ) → Fits w8 (get_or ys i 0)) →
     differences xs ys ≤ 16711680
-whole_small xs ys e h hx hy = omega (arith, differences_small xs ys (length xs) refl (sym e) (bytes xs hx)
-    (bytes ys hy))
+whole_small xs ys e h hx hy = omega (
+  arith,
+  differences_small xs ys (length xs) refl (sym e) (bytes xs hx)
+      (bytes ys hy),
+)
 
 -- a slice from i to the end is the rest of the list
 take_rest : (xs : List ℕ) (i : ℕ) → take (length xs - i) (drop i xs) ≡ drop i xs
@@ -91,7 +96,7 @@ take_rest xs i = subst (λ (n : ℕ). take n (drop i xs) ≡ drop i xs) (length-
 -- the differences of what lies after place i
 pub differences-rest : (xs ys : List ℕ) (i : ℕ) →
     differences (take (length xs - i) (drop i xs)) (take (length ys - i) (drop i ys))
-        ≡ differences (drop i xs) (drop i ys)
+    ≡ differences (drop i xs) (drop i ys)
 differences-rest xs ys i = cc (take_rest xs i, take_rest ys i)
 
 -- ---- sixty-four samples, sixteen at a time
@@ -106,8 +111,10 @@ part_and_rest : (xs ys : List ℕ) (k : ℕ) → k + 16 ≤ length xs → k + 16
     → rest_of xs ys k ≡ part_of xs ys k + rest_of xs ys (k + 16)
 part_and_rest xs ys k hx hy =
     let n : k + 16 - k ≡ 16 = omega arith in
-    let same : part_of xs ys k ≡ differences (chunk k 16 xs) (chunk k 16 ys) = cc (ap (λ (m : ℕ). take m (drop k xs)) n,
-        ap (λ (m : ℕ). take m (drop k ys)) n) in
+    let same : part_of xs ys k ≡ differences (chunk k 16 xs) (chunk k 16 ys) = cc (
+      ap (λ (m : ℕ). take m (drop k xs)) n,
+      ap (λ (m : ℕ). take m (drop k ys)) n,
+    ) in
     differences-drop xs ys k 16 hx hy ∙ ap (λ (d : ℕ). d + rest_of xs ys (k + 16)) (sym same)
 
 sums_of : (d e f g h p q r s all : ℕ) → d ≡ p + e → e ≡ q + f → f ≡ r + g → g ≡ s + h → d ≡ all + h
@@ -116,25 +123,25 @@ sums_of d e f g h p q r s all ed ee ef eg ea = omega (arith, ed, ee, ef, eg, ea)
 
 pub four_parts : (xs ys : List ℕ) (at : ℕ) → at + 64 ≤ length xs → at + 64 ≤ length ys →
     part_of xs ys at + part_of xs ys (at + 16) + part_of xs ys (at + 32) + part_of xs ys (at + 48)
-        ≡ differences (chunk at 64 xs) (chunk at 64 ys)
+    ≡ differences (chunk at 64 xs) (chunk at 64 ys)
 four_parts xs ys at hx hy =
     let second : rest_of xs ys (at + 16 + 16) ≡ rest_of xs ys (at + 32) = (let e : at + 16 + 16
-        ≡ at + 32 = omega arith in ap (rest_of xs ys) e) in
+    ≡ at + 32 = omega arith in ap (rest_of xs ys) e) in
     let third : rest_of xs ys (at + 32 + 16) ≡ rest_of xs ys (at + 48) = (let e : at + 32 + 16
-        ≡ at + 48 = omega arith in ap (rest_of xs ys) e) in
+    ≡ at + 48 = omega arith in ap (rest_of xs ys) e) in
     let fourth : rest_of xs ys (at + 48 + 16) ≡ rest_of xs ys (at + 64) = (let e : at + 48 + 16
-        ≡ at + 64 = omega arith in ap (rest_of xs ys) e) in
+    ≡ at + 64 = omega arith in ap (rest_of xs ys) e) in
     sums_of (rest_of xs ys at) (rest_of xs ys (at + 16)) (rest_of xs ys (at + 32)) (rest_of xs ys (at + 48))
-        (rest_of xs ys (at + 64))
+    (rest_of xs ys (at + 64))
     (part_of xs ys at) (part_of xs ys (at + 16)) (part_of xs ys (at + 32)) (part_of xs ys (at + 48))
-        (differences (chunk at 64 xs) (chunk at 64 ys))
+    (differences (chunk at 64 xs) (chunk at 64 ys))
     (part_and_rest xs ys at (omega (arith, hx)) (omega (arith, hy)))
     (part_and_rest xs ys (at + 16) (omega (arith, hx)) (omega (arith, hy))
-        ∙ ap (λ (r : ℕ). part_of xs ys (at + 16) + r) second)
+    ∙ ap (λ (r : ℕ). part_of xs ys (at + 16) + r) second)
     (part_and_rest xs ys (at + 32) (omega (arith, hx)) (omega (arith, hy))
-        ∙ ap (λ (r : ℕ). part_of xs ys (at + 32) + r) third)
+    ∙ ap (λ (r : ℕ). part_of xs ys (at + 32) + r) third)
     (part_and_rest xs ys (at + 48) (omega (arith, hx)) (omega (arith, hy))
-        ∙ ap (λ (r : ℕ). part_of xs ys (at + 48) + r) fourth)
+    ∙ ap (λ (r : ℕ). part_of xs ys (at + 48) + r) fourth)
     (differences-drop xs ys at 64 hx hy)
 
 -- ---- four rows of sixteen
@@ -157,5 +164,9 @@ pub sum_of_four : (us vs xs ys : List ℕ) → length us ≡ 16 → length vs �
 sum_of_four us vs xs ys hu hv hx hy =
     let upper = length-zip2 (λ (a b : ℕ). a + b) us vs (hu ∙ sym hv) in
     let lower = length-zip2 (λ (a b : ℕ). a + b) xs ys (hx ∙ sym hy) in
-    omega (arith, sum-zip2 (sums us vs) (sums xs ys) (upper ∙ hu ∙ sym (lower ∙ hx)), sum-zip2 us vs (hu ∙ sym hv),
-        sum-zip2 xs ys (hx ∙ sym hy))
+    omega (
+      arith,
+      sum-zip2 (sums us vs) (sums xs ys) (upper ∙ hu ∙ sym (lower ∙ hx)),
+      sum-zip2 us vs (hu ∙ sym hv),
+      sum-zip2 xs ys (hx ∙ sym hy),
+    )

@@ -43,7 +43,7 @@ if_err Q (Err e) s gave q = subst Q (sym gave) q
 pub turn_err : (r : Result Bool Status) (s : Status) (step : Step SendState) (after : SendState → (Role → List ℕ)
     → Type 0) (inputs : Role → List ℕ) (old new : Outside)
     → IsErrAnd r (λ x. x ≡ s) → GivesUp (phase s) s step true inputs old new
-        → TurnGives r step after (λ _. true) true inputs old new
+    → TurnGives r step after (λ _. true) true inputs old new
 turn_err (Ok b) s step after inputs old new gave gives = absurd gave
 turn_err (Err x) s step after inputs old new gave gives =
     subst (λ (x : Status). GivesUp (phase x) x step true inputs old new) (sym gave) gives
@@ -52,10 +52,10 @@ turn_err (Err x) s step after inputs old new gave gives =
 pub turn_cut : (r : Result Bool Status) (s : Status) (step : Step SendState) (after : SendState → (Role → List ℕ)
     → Type 0) (inputs : Role → List ℕ) (old new : Outside)
     → IsErrAnd r (λ x. x ≡ s) → s ≡ WriteFault → GainsFronts (step_texts step) old.written new.written
-        → TurnGives r step after (λ _. true) true inputs old new
+    → TurnGives r step after (λ _. true) true inputs old new
 turn_cut r s step after inputs old new gave is fronts =
     turn_err r s step after inputs old new gave (subst (λ (x : Status). GivesUp (phase x) x step true inputs old new)
-        (sym is) fronts)
+    (sym is) fronts)
 
 -- a start for which there was no memory, where no call had failed
 pub starved_cause : {Machine : Type 0} (r : Result Machine Status) (old new : Faults)

@@ -25,7 +25,7 @@ not_events r is same =
 pub refused_by : TurnLaws → (input : Role) (before : Role → ℕ) (status : Status) (inputs : Role
     → List ℕ) (old new : Outside)
     → ((r : Role) → IsInput r → is_role input r ≡ false → new.left r ≡ Some (left_after inputs before r))
-        → new.written ≡ old.written
+    → new.written ≡ old.written
     → EndsBy (refusal_at input before status) status inputs old new
 refused_by turns input before status inputs old new left same = record {
   known = refl;
@@ -38,7 +38,7 @@ refused_by turns input before status inputs old new left same = record {
 
     at_role : (b : Bool) (r : Role) → (b ≡ false → new.left r ≡ Some (left_after inputs before r))
         → (k : ℕ) → (if b then None else Some (before r)) ≡ Some k
-            → new.left r ≡ Some (left_after inputs (λ _. 0 + k) r)
+        → new.left r ≡ Some (left_after inputs (λ _. 0 + k) r)
     at_role true r left k said = absurd (cc said)
     at_role false r left k said = left refl ∙ ap (λ (n : ℕ). Some (drop n (inputs r))) (so_many (before r) k (cc said))
 
@@ -48,4 +48,4 @@ pub log_refused : TurnLaws → (status : Status) (inputs : Role → List ℕ) (o
     → EndsBy (refusal_at Events no_bytes status) status inputs old new
 log_refused turns status inputs old new told others same =
     refused_by turns Events no_bytes status inputs old new (λ r is_input other. others r (not_events r other)
-        ∙ told r is_input) same
+    ∙ told r is_input) same

@@ -20,7 +20,7 @@ packets_are p state run same h =
 
 module _ (p : Params) (run : Run) (aim : Aim) (kind : Kind) (pace : SendPace) (kind_is : kind ≡ next_kind p run)
     (target_is : target_of pace ≡ target_by aim.target aim.fit) (first_is : first_of pace
-        ≡ first_by aim.quant kind aim.fit) where
+    ≡ first_by aim.quant kind aim.fit) where
   abbrev sent : Sent
   sent = record { run = run; aim = aim }
 
@@ -36,7 +36,7 @@ module _ (p : Params) (run : Run) (aim : Aim) (kind : Kind) (pace : SendPace) (k
       → after ≡ aim_after kind (counted_bytes new.packets) aim → IsCaptured frame p sent new after answer
   is_captured frame new after answer same holds tells told =
       let held : Holds new (after_code p (pace_by p sent) frame run) =
-          subst (λ (f : List ℕ → ℕ). Holds new (after_code p f frame run)) pace_is holds in
+      subst (λ (f : List ℕ → ℕ). Holds new (after_code p f frame run)) pace_is holds in
       let says : Describes (length run.run.coded) (next_in p (pace_by p sent) frame run) answer =
       subst (λ (f : List ℕ → ℕ). Describes (length run.run.coded) (next_in p f frame run) answer) pace_is tells
       in

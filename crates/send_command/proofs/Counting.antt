@@ -29,12 +29,24 @@ one_reply_more n reply old new some of is = subst (IsOf n) (sym is) (counted rep
     packets_below n packets some below = omega (arith, some, below)
 
     counted : (reply : Reply MessageFault) → IsOf n (with_reply reply old)
-    counted Noted = record { sent = omega (arith, some, of.sent); packets = packets_below n old.packets some of.packets;
-        noted = omega (arith, some, of.noted); outdated = omega (arith, some, of.outdated);
-        refused = omega (arith, some, of.refused) }
-    counted Old = record { sent = omega (arith, some, of.sent); packets = packets_below n old.packets some of.packets;
-        noted = omega (arith, some, of.noted); outdated = omega (arith, some, of.outdated);
-        refused = omega (arith, some, of.refused) }
-    counted (RefusedMessage fault) = record { sent = omega (arith, some, of.sent);
-        packets = packets_below n old.packets some of.packets; noted = omega (arith, some, of.noted);
-        outdated = omega (arith, some, of.outdated); refused = omega (arith, some, of.refused) }
+    counted Noted = record {
+      sent = omega (arith, some, of.sent);
+      packets = packets_below n old.packets some of.packets;
+      noted = omega (arith, some, of.noted);
+      outdated = omega (arith, some, of.outdated);
+      refused = omega (arith, some, of.refused);
+    }
+    counted Old = record {
+      sent = omega (arith, some, of.sent);
+      packets = packets_below n old.packets some of.packets;
+      noted = omega (arith, some, of.noted);
+      outdated = omega (arith, some, of.outdated);
+      refused = omega (arith, some, of.refused);
+    }
+    counted (RefusedMessage fault) = record {
+      sent = omega (arith, some, of.sent);
+      packets = packets_below n old.packets some of.packets;
+      noted = omega (arith, some, of.noted);
+      outdated = omega (arith, some, of.outdated);
+      refused = omega (arith, some, of.refused);
+    }

@@ -35,8 +35,11 @@ use Rattle.send_command.proofs.Held.{no_entry_held, not_none}
 part_of_frame : (s : SendState) (size : ℕ) (r : Result (List ℕ) Y4mFault) (k : Role → ℕ) → (3 ≤ k Events → ⊥)
     → IsPart (step_turns (frame_step s size r)) k
 part_of_frame s size (Ok frame) k few =
-    no_entry_held (record { taken = and_of (of Events 3) (of Video size); whole = true;
-        texts = capture_texts s.params (captured s.params.format frame) s.sent }) k few
+    no_entry_held (record {
+      taken = and_of (of Events 3) (of Video size);
+      whole = true;
+      texts = capture_texts s.params (captured s.params.format frame) s.sent;
+    }) k few
 part_of_frame s size (Err fault) k few = tt
 
 part_of_capture : (s : SendState) (video : List ℕ) (k : Role → ℕ) → (3 ≤ k Events → ⊥)
@@ -50,8 +53,11 @@ part_of_entry : (s : SendState) (inputs : Role → List ℕ) (e : Option Entry) 
 part_of_entry s inputs None k few = tt
 part_of_entry s inputs (Some log_entry.Capture) k few = part_of_capture s (inputs Video) (of Events k)
     (few log_entry.Capture refl)
-part_of_entry s inputs (Some (log_entry.Back len)) k few = no_entry_held (record { taken = of Events (3 + len);
-    whole = true; texts = no_texts }) (of Events k) (few (log_entry.Back len) refl)
+part_of_entry s inputs (Some (log_entry.Back len)) k few = no_entry_held (record {
+  taken = of Events (3 + len);
+  whole = true;
+  texts = no_texts;
+}) (of Events k) (few (log_entry.Back len) refl)
 part_of_entry s inputs (Some (log_entry.Packet len)) k few = tt
 part_of_entry s inputs (Some log_entry.Play) k few = tt
 
@@ -83,7 +89,7 @@ entry_is : (s : SendState) (inputs : Role → List ℕ) (log : List ℕ) (e : Op
 entry_is s inputs [] e some few is = absurd (omega arith)
 entry_is s inputs (b ∷ log) e some few is =
     ap (λ (t : Bool). chosen t s inputs (entry_in sides.Send (b ∷ log))) (lt-ltb s.read most_entries few)
-        ∙ ap (entry_step s inputs) is
+    ∙ ap (entry_step s inputs) is
 
 some_entry : (log : List ℕ) (entry : Entry) → entry_in sides.Send log ≡ Some entry → 0 < length log
 some_entry [] entry is = absurd (cc is)
@@ -94,7 +100,7 @@ many_is : (s : SendState) (inputs : Role → List ℕ) (log : List ℕ) → 0 < 
 many_is s inputs [] some many = absurd (omega arith)
 many_is s inputs (b ∷ log) some many =
     ap (λ (t : Bool). chosen t s inputs (entry_in sides.Send (b ∷ log)))
-        (le-ltb s.read most_entries (omega (arith, many)))
+    (le-ltb s.read most_entries (omega (arith, many)))
 
 -- ---- the turn
 
@@ -117,8 +123,11 @@ module _ (laws : TurnLaws) (cut : CutAfter) (s : SendState) (inputs : Role
 
   refused : (fault : LogFault) → send_step s inputs ≡ no_step (bad_entry fault)
       → Ended (send_step s inputs) (LogRefused fault) inputs old mid
-  refused fault is = record { last = bad_entry fault; is = is;
-      by = log_refused laws (LogRefused fault) inputs old mid told others same }
+  refused fault is = record {
+    last = bad_entry fault;
+    is = is;
+    by = log_refused laws (LogRefused fault) inputs old mid told others same;
+  }
 
   pub log_stops : (stop : LogStop) → EntryGives (Err stop) reader (inputs Events) bytes (mid.left Events)
       → Moves (Err stop) reader after
@@ -133,7 +142,7 @@ module _ (laws : TurnLaws) (cut : CutAfter) (s : SendState) (inputs : Role
   log_stops (stops.BadRecord place) e moves =
       refused (BadRecord place)
       (entry_is s inputs (inputs Events) None e.0 (omega (arith, moves.0, at.read_is))
-          (sent_in (inputs Events) None e.1)
+      (sent_in (inputs Events) None e.1)
       ∙ ap (λ (n : ℕ). no_step (bad_entry (BadRecord n))) (at.at_is ∙ sym moves.1))
   log_stops (stops.TooMany place) e moves =
       refused (TooMany place)
@@ -159,7 +168,7 @@ module _ (laws : TurnLaws) (cut : CutAfter) (s : SendState) (inputs : Role
       by =
           laws.ends Fine no_bytes (on Report (count_text s.tally)) inputs old new
           (laws.none_read Events old new inputs told e.0 (ap (λ (l : Role → Option (List ℕ)). l Events) still
-              ∙ e.1) (λ r other. ap (λ (l : Role → Option (List ℕ)). l r) still ∙ others r other))
+          ∙ e.1) (λ r other. ap (λ (l : Role → Option (List ℕ)). l r) still ∙ others r other))
           (subst (λ (w : Role → Option (List ℕ)). Gains (on Report (count_text s.tally)) w new.written) same g);
     }
 
@@ -170,7 +179,7 @@ module _ (laws : TurnLaws) (cut : CutAfter) (s : SendState) (inputs : Role
     found_is =
         let is : entry_in sides.Send (inputs Events) ≡ Some found.1 = sent_in (inputs Events) (Some found.1) e.0 in
         entry_is s inputs (inputs Events) (Some found.1) (some_entry (inputs Events) found.1 is)
-            (omega (arith, few, at.read_is)) is
+        (omega (arith, few, at.read_is)) is
 
     pub found_told : Tells mid (left_after inputs (of Events (3 + bytes_of found.1)))
     found_told = laws.one_read Events (3 + bytes_of found.1) old mid inputs told e.2 others
@@ -191,6 +200,6 @@ pub other_entry : (s : SendState) (inputs : Role → List ℕ) (place : ℕ) (en
     → entry_step s inputs (Some entry) ≡ no_step (bad_entry (BadRecord place))
 other_entry s inputs place entry (inl packet) at =
     ap (λ (e : Entry). entry_step s inputs (Some e)) packet.1
-        ∙ ap (λ (n : ℕ). no_step (bad_entry (BadRecord n))) (sym at)
+    ∙ ap (λ (n : ℕ). no_step (bad_entry (BadRecord n))) (sym at)
 other_entry s inputs place entry (inr play) at =
     ap (λ (e : Entry). entry_step s inputs (Some e)) play ∙ ap (λ (n : ℕ). no_step (bad_entry (BadRecord n))) (sym at)

@@ -53,8 +53,8 @@ frame_part : CutFrames → (s : SendState) (video : List ℕ) (n : ℕ) (r : Res
     → IsPart (step_turns (frame_step s (frame_size s.params.format video) r)) (some_of n)
 frame_part cut s video n (Ok frame) is lost =
     frame_held (capture_texts s.params (captured s.params.format frame) s.sent) (frame_size s.params.format video) n
-        (λ whole. not_an_err _ frame (cut s.params.format s.video_at n video frame
-        (next_is s.more s.params.format s.video_at video frame is) whole).0 lost)
+    (λ whole. not_an_err _ frame (cut s.params.format s.video_at n video frame
+    (next_is s.more s.params.format s.video_at video frame is) whole).0 lost)
 frame_part cut s video n (Err fault) is lost = tt
 
 video_part : CutFrames → (s : SendState) (video : List ℕ) (n : ℕ)
@@ -123,7 +123,7 @@ module _ (laws : TurnLaws) (cut : CutFrames) (s : SendState) (inputs : Role → 
         subst (λ (n : ℕ). EndsBy (no_frame s.at) (LogRefused (NoFrame n)) inputs before mid) (sym is)
         (laws.ends (LogRefused (NoFrame s.at)) (of Events 3) no_texts inputs before mid
         (laws.none_read Video old mid (left_after inputs (of Events 3)) taken.left e.0 e.1 others)
-            (laws.no_text before.written mid.written (same ∙ taken.written)));
+        (laws.no_text before.written mid.written (same ∙ taken.written)));
   }
 
   -- after a frame
@@ -158,8 +158,11 @@ module _ (laws : TurnLaws) (cut : CutFrames) (s : SendState) (inputs : Role → 
         → Went (capture_step s (inputs Video)) stands (λ _. true) true inputs before new
     captures stands kept still g = record {
       next = after_capture s size (captured s.params.format out);
-      turn = record { taken = and_of (of Events 3) (of Video size); whole = true;
-          texts = capture_texts s.params (captured s.params.format out) s.sent };
+      turn = record {
+        taken = and_of (of Events 3) (of Video size);
+        whole = true;
+        texts = capture_texts s.params (captured s.params.format out) s.sent;
+      };
       could = refl;
       is = frame_is;
       kept = kept;

@@ -22,17 +22,17 @@ not_held size k few = at_test (nat_le size k) refl
 pub no_entry_held : (t : Turn) (k : Role → ℕ) → (t.taken Events ≤ k Events → ⊥) → holds t k ≡ false
 no_entry_held t k few =
     ap (λ (b : Bool). t.whole && nat_le (t.taken Video) (k Video) && b && nat_le (t.taken Video2) (k Video2))
-        (not_held (t.taken Events) (k Events) few)
+    (not_held (t.taken Events) (k Events) few)
     ∙ ap (λ (b : Bool). b && nat_le (t.taken Video2) (k Video2))
-        (and_false (t.whole && nat_le (t.taken Video) (k Video)))
+    (and_false (t.whole && nat_le (t.taken Video) (k Video)))
 
 -- bytes that do not hold the frame do not hold the turn
 pub no_frame_held : (t : Turn) (k : Role → ℕ) → (t.taken Video ≤ k Video → ⊥) → holds t k ≡ false
 no_frame_held t k few =
     ap (λ (b : Bool). t.whole && b && nat_le (t.taken Events) (k Events) && nat_le (t.taken Video2) (k Video2))
-        (not_held (t.taken Video) (k Video) few)
+    (not_held (t.taken Video) (k Video) few)
     ∙ ap (λ (b : Bool). b && nat_le (t.taken Events) (k Events) && nat_le (t.taken Video2) (k Video2))
-        (and_false t.whole)
+    (and_false t.whole)
 
 -- a value is no error
 pub not_an_err : {T E : Type 0} (r : Result T E) (x : T) → r ≡ Ok x → IsErr r → ⊥

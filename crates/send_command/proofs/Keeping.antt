@@ -74,7 +74,7 @@ module _ (m : Send) (s : SendState) (size : ℕ) (stood : StoodBefore m s size) 
   pub keeps_capture : (new : Send) (frame out : Frame) (answer : Coded) (size_of_frame : ℕ) (inputs : Role → List ℕ)
       → size ≡ 3 → frame ≡ out → IsCaptured frame m.sender.params here new.sender new.aim answer
       → answer.packets ≡ length new.sender.packets → new.sender.params ≡ m.sender.params → new.log ≡ m.log
-          → new.tally ≡ with_picture answer.packets m.tally
+      → new.tally ≡ with_picture answer.packets m.tally
       → new.video.at ≡ s.video_at + size_of_frame → new.video.more + 1 ≡ m.video.more
       → SendStands new (after_capture s size_of_frame out) inputs
   keeps_capture new frame out answer n inputs three same cap count params log tally place more =
@@ -87,18 +87,18 @@ module _ (m : Send) (s : SendState) (size : ℕ) (stood : StoodBefore m s size) 
       ∙ ap (λ (l : List (List ℕ)). length l) (sym cap.packets) ∙ sym count
       in
       let tally_is : with_picture (length (packets_after s.params (after_sent s.params out s.sent).run)) s.tally
-          ≡ new.tally =
+      ≡ new.tally =
       (λ i. with_picture (counted i) (old i)) ∙ sym tally
       in
       let params_is : s.params ≡ new.sender.params = params_are ∙ sym params in
       let aim_now : (after_sent s.params out s.sent).aim ≡ new.aim = ap (λ (x : Sent). x.aim) after_is
-          ∙ sym cap.follows in
+      ∙ sym cap.follows in
       let fewer : s.more ≡ m.video.more = ap (λ (x : SendState). x.more) stood.is in
       let more_is : s.more - 1 ≡ new.video.more = omega (arith, more, fewer) in
       let at_is : s.at + 3 ≡ new.log.at = ap (λ (k : ℕ). s.at + k) (sym three) ∙ ap (λ (x : SendState). x.at) stood.is
-          ∙ ap (λ (l : LogPlace). l.at) (sym log) in
+      ∙ ap (λ (l : LogPlace). l.at) (sym log) in
       let read_is : s.read + 1 ≡ new.log.entries = ap (λ (x : SendState). x.read) stood.is
-          ∙ ap (λ (l : LogPlace). l.entries) (sym log) in
+      ∙ ap (λ (l : LogPlace). l.entries) (sym log) in
       record {
         is = λ i. record {
           params = params_is i;
@@ -117,9 +117,9 @@ pub keeps_feedback : (m : Send) (s : SendState) (len : ℕ) (bytes : List ℕ) (
     (new : Send) (reply : Reply MessageFault) (inputs : Role → List ℕ) → length bytes ≡ len
     → Holds new.sender (after_message m.sender.params bytes s.sent.run)
     → reply ≡ feedback_answer (rules_of m.sender.params) (length s.sent.run.run.coded)
-        (read_message m.sender.params.clock bytes)
+    (read_message m.sender.params.clock bytes)
     → new.sender.params ≡ m.sender.params → new.aim ≡ m.aim → new.log ≡ m.log → new.tally ≡ with_reply reply m.tally
-        → new.video ≡ m.video
+    → new.video ≡ m.video
     → SendStands new (after_feedback s bytes) inputs
 keeps_feedback m s len bytes stood new reply inputs long holds answer params aim log tally video =
     let was : s.params ≡ m.sender.params = params_are m s (3 + len) stood in
@@ -127,22 +127,22 @@ keeps_feedback m s len bytes stood new reply inputs long holds answer params aim
     let aim_now : s.sent.aim ≡ new.aim = aim_is m s (3 + len) stood ∙ sym aim in
     let old : s.tally ≡ m.tally = ap (λ (x : SendState). x.tally) stood.is in
     let answer_is : feedback_answer (rules_of s.params) (length s.sent.run.run.coded)
-        (read_message s.params.clock bytes) ≡ reply =
+    (read_message s.params.clock bytes) ≡ reply =
     (λ i. feedback_answer (rules_of (was i)) (length s.sent.run.run.coded) (read_message (was i).clock bytes))
-        ∙ sym answer
+    ∙ sym answer
     in
     let tally_is : with_reply (feedback_answer (rules_of s.params) (length s.sent.run.run.coded)
-        (read_message s.params.clock bytes)) s.tally ≡ new.tally =
+    (read_message s.params.clock bytes)) s.tally ≡ new.tally =
     (λ i. with_reply (answer_is i) (old i)) ∙ sym tally
     in
     let at_is : s.at + (3 + length bytes) ≡ new.log.at = ap (λ (k : ℕ). s.at + (3 + k)) long
-        ∙ ap (λ (x : SendState). x.at) stood.is ∙ ap (λ (l : LogPlace). l.at) (sym log) in
+    ∙ ap (λ (x : SendState). x.at) stood.is ∙ ap (λ (l : LogPlace). l.at) (sym log) in
     let read_is : s.read + 1 ≡ new.log.entries = ap (λ (x : SendState). x.read) stood.is
-        ∙ ap (λ (l : LogPlace). l.entries) (sym log) in
+    ∙ ap (λ (l : LogPlace). l.entries) (sym log) in
     let place_is : s.video_at ≡ new.video.at = ap (λ (x : SendState). x.video_at) stood.is
-        ∙ ap (λ (v : Y4mPlace). v.at) (sym video) in
+    ∙ ap (λ (v : Y4mPlace). v.at) (sym video) in
     let more_is : s.more ≡ new.video.more = ap (λ (x : SendState). x.more) stood.is
-        ∙ ap (λ (v : Y4mPlace). v.more) (sym video) in
+    ∙ ap (λ (v : Y4mPlace). v.more) (sym video) in
     record {
       is = λ i. record {
         params = params_is i;
@@ -218,9 +218,9 @@ pub is_after : (laws : TurnLaws) (cut : CutAfter) (m : Send) (s : SendState) (in
     → List ℕ) (stands : SendStands m s inputs) (old mid : Outside) (told : Tells old inputs) (others : (r : Role)
     → r ≢ Events → mid.left r ≡ old.left r) (same : mid.written ≡ old.written)
     (side : m.log.side ≡ sides.Send) (log : LogPlace) (within : IsInLog log) (bytes : Vec ℕ Global) (buf : List ℕ)
-        (place : ℕ) (entry : Entry)
+    (place : ℕ) (entry : Entry)
     → EntryGives (Ok (Some (place, entry))) m.log (inputs Events) buf (mid.left Events)
-        → Moves (Ok (Some (place, entry))) m.log log
+    → Moves (Ok (Some (place, entry))) m.log log
     → IsAfter m s inputs old mid log bytes buf place entry
 is_after laws cut m s inputs stands old mid told others same side log within bytes buf place entry e moves =
     let at = read_at m s inputs stands side in
@@ -228,8 +228,13 @@ is_after laws cut m s inputs stands old mid told others same side log within byt
     record {
       step_is = found_is laws cut s inputs old mid told others same m.log log at buf (place, entry) e few;
       stood = stood_before m s inputs stands log bytes (3 + bytes_of entry) moves.3 moves.2;
-      taken = record { left = found_told laws cut s inputs old mid told others same m.log log at buf (place,
-          entry) e few; written = same };
+      taken = record {
+        left = found_told laws cut s inputs old mid told others same m.log log at buf (
+          place,
+          entry,
+        ) e few;
+        written = same;
+      };
       place_is = moves.0 ∙ sym at.at_is;
       bytes_are = e.1;
       whole = entry_whole m.log.side (inputs Events) entry e.0;
@@ -253,15 +258,20 @@ fit_after m log bytes old now fit side long attached = record {
 
 pub few_bytes : (len : ℕ) (buf bytes : List ℕ) → take len buf ≡ bytes → length bytes ≡ len → length buf ≡ 65535
     → len ≤ 65535
-few_bytes len buf bytes is whole long = omega (arith, whole, long, ap (λ (l : List ℕ). length l) is,
-    length-take len buf)
+few_bytes len buf bytes is whole long = omega (
+  arith,
+  whole,
+  long,
+  ap (λ (l : List ℕ). length l) is,
+  length-take len buf,
+)
 
 -- feedback is taken
 pub takes_feedback : (laws : TurnLaws) (s : SendState) (inputs : Role → List ℕ) (old mid : Outside) (len : ℕ)
     → send_step s inputs ≡ entry_step s inputs (Some (Back len)) → Tells mid (left_after inputs (of Events (3 + len)))
     → mid.written ≡ old.written
     → (stands : SendState → (Role → List ℕ) → Type 0)
-        → stands (after_feedback s (take len (drop 3 (inputs Events)))) (left_after inputs (of Events (3 + len)))
+    → stands (after_feedback s (take len (drop 3 (inputs Events)))) (left_after inputs (of Events (3 + len)))
     → Went (send_step s inputs) stands (λ _. true) true inputs old mid
 takes_feedback laws s inputs old mid len is left same stands kept = record {
   next = after_feedback s (take len (drop 3 (inputs Events)));

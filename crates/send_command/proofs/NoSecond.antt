@@ -51,7 +51,7 @@ module _ (fault : Y4mFault) where
       (inputs Events) ends
   run_refuses_none (suc n) s inputs ends =
       at_log s inputs (λ next taken. run_of send_step n next (left_after inputs taken))
-          (λ next taken is. run_refuses_none n next (left_after inputs taken) is) (inputs Events) ends
+      (λ next taken is. run_refuses_none n next (left_after inputs taken) is) (inputs Events) ends
 
   pub none_refused : (setup : Sending) (inputs : Role → List ℕ)
       → (run_from (send_begin setup inputs) send_step 16777216 inputs).last.status ≡ Video2Refused fault → ⊥
@@ -59,6 +59,6 @@ module _ (fault : Y4mFault) where
     where
       by_head : (r : Result Format Y4mFault)
           → (follow (head_step setup (head_size (inputs Video)) r) (λ next taken. run_of send_step 16777216 next
-              (left_after inputs taken))).last.status ≡ Video2Refused fault → ⊥
+          (left_after inputs taken))).last.status ≡ Video2Refused fault → ⊥
       by_head (Ok f) ends = run_refuses_none 16777216 _ _ ends
       by_head (Err broken) ends = absurd (cc ends)

@@ -18,8 +18,10 @@ with_known p target frame entries known =
     let run = senders.run_of p (pace_of target p) entries in
     record {
       run = record {
-        run = record run { coded = run.coded ++ call.next_coded (pictures p.format) (encoding p) (rules_of p)
-            (pace_of target p) frame run.coded known ∷ [] };
+        run = record run {
+          coded = run.coded ++ call.next_coded (pictures p.format) (encoding p) (rules_of p)
+              (pace_of target p) frame run.coded known ∷ [];
+        };
         since = 0;
       };
       aim = plain_aim p target;
@@ -30,6 +32,6 @@ plain_is_run nothing p target [] = refl
 plain_is_run nothing p target (call.Capture frame ∷ entries) =
     ap (after_sent p frame) (plain_is_run nothing p target entries)
     ∙ ap (λ (known : List ℕ). with_known p target frame entries known)
-        (nothing (senders.run_of p (pace_of target p) entries).known)
+    (nothing (senders.run_of p (pace_of target p) entries).known)
 plain_is_run nothing p target (call.Feedback bytes ∷ entries) = ap (after_heard p bytes)
     (plain_is_run nothing p target entries)

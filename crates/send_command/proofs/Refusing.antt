@@ -35,12 +35,12 @@ module _ (frame_laws : FrameLaws) (fault : Y4mFault) where
     at_frame : (b : ℕ) (v : List ℕ) → inputs Video ≡ b ∷ v → (r : Result (List ℕ) Y4mFault)
         → next_frame s.more s.params.format s.video_at (b ∷ v) ≡ r
         → (follow (frame_step s (frame_size s.params.format (b ∷ v)) r) rest).last.status ≡ VideoRefused fault
-            → faulty (b ∷ v)
+        → faulty (b ∷ v)
     at_frame b v video (Ok planes) is ends =
         let f = s.params.format in
         let size = frame_size f (b ∷ v) in
         let e = frame_laws.next f s.more (s.more - 1) s.video_at (b ∷ v) planes
-            (some_left s.more s.video_at f (b ∷ v) planes is) (omega arith) is in
+        (some_left s.more s.video_at f (b ∷ v) planes is) (omega arith) is in
         let taken : 0 + size ≡ size = omega arith in
         e.fault
         ∙ sym (λ i. fault_of f (s.more - 1) (s.video_at + size) (drop (taken i) (video i)))
@@ -80,7 +80,7 @@ module _ (frame_laws : FrameLaws) (fault : Y4mFault) where
       (inputs Events) ends
   run_refused (suc n) s inputs ends =
       at_log s inputs (λ next taken. run_of send_step n next (left_after inputs taken))
-          (λ next taken is. run_refused n next (left_after inputs taken) is) (inputs Events) ends
+      (λ next taken is. run_refused n next (left_after inputs taken) is) (inputs Events) ends
 
   pub video_refused : (setup : Sending) (inputs : Role → List ℕ)
       → (run_from (send_begin setup inputs) send_step 16777216 inputs).last.status ≡ VideoRefused fault
@@ -90,7 +90,7 @@ module _ (frame_laws : FrameLaws) (fault : Y4mFault) where
     where
       by_head : (r : Result Format Y4mFault) → head_of (inputs Video) ≡ r
           → (follow (head_step setup (head_size (inputs Video)) r) (λ next taken. run_of send_step 16777216 next
-              (left_after inputs taken))).last.status ≡ VideoRefused fault
+          (left_after inputs taken))).last.status ≡ VideoRefused fault
           → fault_after_head r (head_size (inputs Video)) (drop (head_size (inputs Video)) (inputs Video)) ≡ Some fault
       by_head (Ok f) is ends = run_refused 16777216 (first_state setup f (head_size (inputs Video)))
           (left_after inputs (of Video (head_size (inputs Video)))) ends

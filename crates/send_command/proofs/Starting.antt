@@ -27,8 +27,11 @@ CutHeads = (video : List ℕ) (f : Format) (k : ℕ) → head_of video ≡ Ok f 
 
 head_part : CutHeads → (setup : Sending) (video : List ℕ) (k : ℕ) (r : Result Format Y4mFault) → head_of video ≡ r
     → IsErr (head_of (take k video)) → IsPart (step_turns (head_step setup (head_size video) r)) (of Video k)
-head_part cut setup video k (Ok f) is lost = no_frame_held (record { taken = of Video (head_size video); whole = true;
-    texts = no_texts }) (of Video k) (λ whole. not_an_err _ f (cut video f k is whole).0 lost)
+head_part cut setup video k (Ok f) is lost = no_frame_held (record {
+  taken = of Video (head_size video);
+  whole = true;
+  texts = no_texts;
+}) (of Video k) (λ whole. not_an_err _ f (cut video f k is whole).0 lost)
 head_part cut setup video k (Err fault) is lost = tt
 
 module _ (laws : TurnLaws) (setup : Sending) (inputs : Role → List ℕ) (old mid : Outside) (told : Tells old inputs)

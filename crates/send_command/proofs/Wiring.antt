@@ -60,4 +60,4 @@ module _ (laws : TurnLaws) (packets : List (List ℕ)) (old mid new : Role → O
       whole r =
           ap (λ (l : List ℕ). l ++ rest r) (joined (is_role Wire r) _ _ _ (next_text packets i packet below is))
           ∙ joined (is_role Wire r) (packets_text (take (i + 1) packets)) (packets_text (drop (i + 1) packets))
-              (packets_text packets) all
+          (packets_text packets) all

@@ -71,7 +71,7 @@ module _ {P : Type 0} (state : SenderState P) (new : IsNew state) where
 pub ready_new : {P : Type 0} (s : Inside P) → 0 ≡ s.sent → IsParams s.params → format_of s.cutter ≡ s.params.format
     → limit_of s.cutter ≡ s.params.limit
     → packets_of s.cutter ≡ [] → s.store.store.format ≡ s.params.format → slots_of s.store.store ≡ s.params.slots
-        → length s.store.store.pictures ≡ s.params.slots + 1
+    → length s.store.store.pictures ≡ s.params.slots + 1
     → SelectorStands (rules_of s.params) s.selector s.sent (λ m. 0) (λ m. false) → IsReady s
 ready_new s none params cutter_format cutter_limit packets store_format slots works selects = record {
   params = params;

@@ -33,22 +33,27 @@ abbrev pub made : Params → Frame → Option ℕ → ℕ → ℕ → Option Pic
 made p frame reference depth quant before =
     let style = style_with p frame.messages (is_some reference) depth quant in
     let mbs = (encoding p).choice frame before style in
-    record { reference = reference; depth = depth; style = style; slices = (encoding p).cut style mbs;
-        picture = reconstruction (pictures p.format) style before mbs }
+    record {
+      reference = reference;
+      depth = depth;
+      style = style;
+      slices = (encoding p).cut style mbs;
+      picture = reconstruction (pictures p.format) style before mbs;
+    }
 
 -- it is made by what is kept, if all these are so
 pub made_is_kept : (p : Params) (kept : ℕ) (frame : Frame) (s : Sender Picture) (reference : Option ℕ) (depth quant : ℕ)
     (before : Option Picture)
     → depth ≡ option_map_or (λ m. s.depth (m % p.slots) + 1) reference 0 → quant ≡ kept
     → before ≡ option_map (λ m. s.picture (m % p.slots)) reference → made p frame reference depth quant before
-        ≡ with_kept p kept frame s reference
+    ≡ with_kept p kept frame s reference
 unfolding made_by_kept
 made_is_kept p kept frame s reference depth quant before depth_is quant_is before_is =
     ap (λ (d : ℕ). made p frame reference d quant before) depth_is
     ∙ ap (λ (q : ℕ). made p frame reference (option_map_or (λ m. s.depth (m % p.slots) + 1) reference 0) q before)
-        quant_is
+    quant_is
     ∙ ap (λ (b : Option Picture). made p frame reference (option_map_or (λ m. s.depth (m % p.slots) + 1) reference 0)
-        kept b) before_is
+    kept b) before_is
 
 -- the packets of the next picture
 pub packets_are : (p : Params) (s : Sender Picture) (n sequence : ℕ) (x : Coded Style Mb Picture)
@@ -60,4 +65,4 @@ packets_are p s n sequence x packets sent sequence_is are =
     are
     ∙ ap (λ (k : ℕ). (encoding p).packets k sequence (numbered p.clock k x.reference x.style) x.slices) (sym sent)
     ∙ ap (λ (k : ℕ). (encoding p).packets s.sent k (numbered p.clock s.sent x.reference x.style) x.slices)
-        (sym sequence_is)
+    (sym sequence_is)

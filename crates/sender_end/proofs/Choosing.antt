@@ -39,8 +39,11 @@ reference_parts greatest_is rules depth known n m found = go (greatest test n) r
         let parts = (greatest_is test n k).0 is in
         let both = and_parts (known k) (leb n (k + window rules)) parts.0 in
         let e : k ≡ m = cc in
-        subst (λ (i : ℕ). (i < n) × (n ≤ i + window rules) × (depth i < rules.chain)) e (parts.1,
-            leb-true n (k + window rules) both.1, ltb-true (depth k) rules.chain low)
+        subst (λ (i : ℕ). (i < n) × (n ≤ i + window rules) × (depth i < rules.chain)) e (
+          parts.1,
+          leb-true n (k + window rules) both.1,
+          ltb-true (depth k) rules.chain low,
+        )
 
     go : (o : Option ℕ) → greatest test n ≡ o → Some m ≡ option_and_then kept o → (m < n) × (n ≤ m + window rules)
         × (depth m < rules.chain)

@@ -30,7 +30,7 @@ one_more n count f b is so =
     let next : suc n ≡ n + 1 = omega arith in
     let here : (if b then count + 1 else count) ≡ count_below (suc n) f =
     ap (λ (k : ℕ). if b then k + 1 else k) so
-        ∙ ap (λ (x : Bool). if x then count_below n f + 1 else count_below n f) (sym is)
+    ∙ ap (λ (x : Bool). if x then count_below n f + 1 else count_below n f) (sym is)
     in
     subst (λ (k : ℕ). (if b then count + 1 else count) ≡ count_below k f) next here
 
@@ -51,7 +51,7 @@ at_most count n more false few is = omega (arith, few, is)
 pub none_yet : (first : ℕ) (test : ℕ → Bool) → 0 ≡ count_below first (λ m. leb first m && test m)
 none_yet first test =
     sym (none_count first (λ m. leb first m && test m) (λ m below. ap (λ (b : Bool). b && test m)
-        (lt-leb first m below)))
+    (lt-leb first m below)))
 
 -- a picture that is known, by what is kept of the last ones
 pub serves_as : (sent window first m since : ℕ) (kept known : Bool) → first ≡ sent - window
@@ -73,7 +73,7 @@ pub counted_is : {P : Type 0} (state : SenderState P) (run : Run) (first count :
     → first ≡ state.sent - (state.params.slots - state.params.lead - 1)
     → ((depth : ℕ → ℕ) (known : ℕ → Bool) → SelectorStands (rules_of state.params) state.selector state.sent depth known
     → state.sent ≤ first + state.params.slots
-        → count ≡ count_below state.sent (λ m. leb first m && (leb state.since m && known m)))
+    → count ≡ count_below state.sent (λ m. leb first m && (leb state.since m && known m)))
     → count ≡ known_in state.params run
 counted_is state run first count it begins counts =
     let p = state.params in
@@ -81,7 +81,7 @@ counted_is state run first count it begins counts =
     let window = p.slots - p.lead - 1 in
     let all : state.sent ≡ length run.run.coded = sym it.seen.sent ∙ it.holds.keeps.sent in
     let of : ℕ → ℕ → ℕ = λ sent since. count_below sent
-        (λ m. leb sent (m + window) && (leb since m && is_among known m)) in
+    (λ m. leb sent (m + window) && (leb since m && is_among known m)) in
     counts (λ m. it.s.depth (m % p.slots)) (λ m. it.s.known (m % p.slots)) it.seen.selects (omega (arith, begins))
     ∙ same_count state.sent _ _
     (λ m below.

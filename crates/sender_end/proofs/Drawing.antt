@@ -35,7 +35,7 @@ pub seen_at : (quants : List ℕ) (store : Pictures) (k : ℕ) → k < length st
 unfolding pictures_once_drawn
 seen_at quants store k below =
     get_or-map-range_with_len (λ k. once_drawn (quant_at quants k) (picture_in store k)) 0 (length store.pictures) k k
-        _ below (omega arith)
+    _ below (omega arith)
 
 -- one that is drawn
 pub seen_drawn : (quants : List ℕ) (store : Pictures) (k : ℕ) → k < length store.pictures → quant_at quants k ≡ 0
@@ -52,7 +52,7 @@ pub kept_as : (quants more : List ℕ) (old new : Pictures) → length old.pictu
     → new.format ≡ old.format → new.numbers ≡ old.numbers
     → length new.pictures ≡ length old.pictures → new.room ≡ old.room
     → ((k : ℕ) → k < slots_of old → once_drawn (quant_at more k) (picture_in new k)
-        ≡ once_drawn (quant_at quants k) (picture_in old k))
+    ≡ once_drawn (quant_at quants k) (picture_in old k))
     → AreKeptAs (store_once_drawn quants old) (store_once_drawn more new)
 kept_as quants more old new works format numbers pictures room each = record {
   format = format;
@@ -61,7 +61,7 @@ kept_as quants more old new works format numbers pictures room each = record {
   room = room;
   others = λ k below.
       seen_at more new k (omega (arith, below, works, pictures)) ∙ each k below
-          ∙ sym (seen_at quants old k (omega (arith, below, works)));
+      ∙ sym (seen_at quants old k (omega (arith, below, works)));
 }
 
 pub kept_itself : (store : Pictures) → AreKeptAs store store
@@ -104,13 +104,13 @@ late_with quants q old new are numbers pictures others work =
         | inl here ↦
             let at : k ≡ slots_of new + 0 = omega (arith, here, same) in
             let is : quant_at (set quants slots q) k ≡ q = ap (quant_at (set quants slots q)) here
-                ∙ quant_set quants slots q (omega (arith, are.count, are.works)) in
+            ∙ quant_set quants slots q (omega (arith, are.count, are.works)) in
             can_as (sym is) (ap (λ (n : ℕ). picture_in new n) (sym at)) (work (omega (arith, some, is)))
         | inr differ ↦
             let is : quant_at (set quants slots q) k ≡ quant_at quants k = quant_other quants slots k q differ in
             let inside : k < slots = omega (arith, below, differ, pictures, are.works) in
             can_as (sym is) (sym (others k inside)) (are.late k (omega (arith, inside, are.works))
-                (omega (arith, some, is)))
+            (omega (arith, some, is)))
       ];
     }
 
@@ -133,9 +133,9 @@ coded_as start quants q old new raw picture are kept coded is =
       work =
           let at : slots_of new + 0 ≡ slots = omega (arith, same) in
           let has : quant_at more (slots_of new + 0) ≡ q = ap (quant_at more) at
-              ∙ quant_set quants slots q (omega (arith, are.count, are.works)) in
+          ∙ quant_set quants slots q (omega (arith, are.count, are.works)) in
           seen_at more new (slots_of new + 0) (omega (arith, same, coded.pictures, are.works))
-              ∙ same_drawn has coded.work ∙ is;
+          ∙ same_drawn has coded.work ∙ is;
       others = λ k below.
           let inside : k < slots = omega (arith, below, first) in
           seen_at more new k (omega (arith, inside, coded.pictures, are.works))
@@ -162,7 +162,7 @@ kept_without_work quants store are =
 module _ (quants : List ℕ) (old new : Pictures) (slot : ℕ) (are : AreLate quants old) (below : slot < slots_of old)
     (free : quant_at quants (slots_of old) ≡ 0)
     (format : new.format ≡ old.format) (numbers : new.numbers ≡ old.numbers) (pictures : length new.pictures
-        ≡ length old.pictures) (room : new.room ≡ old.room)
+    ≡ length old.pictures) (room : new.room ≡ old.room)
     (drawn : picture_in new slot ≡ once_drawn (quant_at quants slot) (picture_in old slot))
     (others : (k : ℕ) → k < slots_of old → (k ≡ slot → ⊥) → picture_in new k ≡ picture_in old k) where
   slot_inside : slot < length quants
@@ -178,7 +178,7 @@ module _ (quants : List ℕ) (old new : Pictures) (slot : ℕ) (are : AreLate qu
         late = λ k inside some. elim (cases_eq k slot) [
           | inl here ↦
               let none : quant_at (set quants slot 0) k ≡ 0 = ap (quant_at (set quants slot 0)) here
-                  ∙ quant_set quants slot 0 slot_inside in
+              ∙ quant_set quants slot 0 slot_inside in
               absurd (omega (arith, some, none))
           | inr differ ↦
               let is : quant_at (set quants slot 0) k ≡ quant_at quants k = quant_other quants slot k 0 differ in
@@ -189,7 +189,7 @@ module _ (quants : List ℕ) (old new : Pictures) (slot : ℕ) (are : AreLate qu
                 | inr earlier ↦
                     let kept : k < slots_of old = omega (arith, inside, earlier, pictures, are.works) in
                     can_as (sym is) (sym (others k kept differ)) (are.late k (omega (arith, inside, pictures))
-                        (omega (arith, some, is)))
+                    (omega (arith, some, is)))
               ]
         ];
       }
@@ -200,9 +200,9 @@ module _ (quants : List ℕ) (old new : Pictures) (slot : ℕ) (are : AreLate qu
       (λ k kept. elim (cases_eq k slot) [
         | inl here ↦
             subst (λ (n : ℕ). once_drawn (quant_at (set quants slot 0) n) (picture_in new n)
-                ≡ once_drawn (quant_at quants n) (picture_in old n)) (sym here)
+            ≡ once_drawn (quant_at quants n) (picture_in old n)) (sym here)
             (drawn_already (quant_at (set quants slot 0) slot) (picture_in new slot)
-                (quant_set quants slot 0 slot_inside) ∙ drawn)
+            (quant_set quants slot 0 slot_inside) ∙ drawn)
         | inr differ ↦ same_drawn (quant_other quants slot k 0 differ) (others k kept differ)
       ])
 
@@ -214,7 +214,7 @@ kept_twice first second = record {
   room = second.room ∙ first.room;
   others = λ k below.
       second.others k (omega (arith, below, ap (λ (l : List (Option ℕ)). length l) first.numbers))
-          ∙ first.others k below;
+      ∙ first.others k below;
 }
 
 -- ---- the work picture is kept
@@ -237,8 +237,12 @@ module _ (quants : List ℕ) (old new : Pictures) (number : ℕ) (are : AreLate 
   at_slot : quant_at afterwards (slot_of old number) ≡ quant_at quants (slots_of old)
   at_slot =
       quant_other (moved quants old number) (slots_of old) (slot_of old number) 0 (λ e. omega (arith, slot_low, e))
-      ∙ quant_set quants (slot_of old number) (quant_at quants (slots_of old)) (omega (arith, slot_low, are.count,
-          are.works))
+      ∙ quant_set quants (slot_of old number) (quant_at quants (slots_of old)) (omega (
+        arith,
+        slot_low,
+        are.count,
+        are.works,
+      ))
 
   elsewhere : (k : ℕ) → (k ≡ slot_of old number → ⊥) → (k ≡ slots_of old → ⊥) → quant_at afterwards k
       ≡ quant_at quants k
@@ -267,7 +271,7 @@ module _ (quants : List ℕ) (old new : Pictures) (number : ℕ) (are : AreLate 
           let is : quant_at afterwards k ≡ quant_at quants (slots_of old) = ap (quant_at afterwards) here ∙ at_slot in
           let from : work_in old 0 ≡ picture_in new k = sym (ap (λ (n : ℕ). picture_in new n) here ∙ keeps.kept) in
           let there : picture_in old (slots_of old) ≡ picture_in new k = ap (λ (n : ℕ). picture_in old n) (sym last_is)
-              ∙ from in
+          ∙ from in
           can_as (sym is) there (are.late (slots_of old) (omega (arith, are.works)) (omega (arith, some, is)))
       | inr differ ↦ elim (cases_eq k (slots_of old)) [
         | inl last ↦
@@ -277,7 +281,7 @@ module _ (quants : List ℕ) (old new : Pictures) (number : ℕ) (are : AreLate 
             let is : quant_at afterwards k ≡ quant_at quants k = elsewhere k differ earlier in
             let before : k < length old.pictures = omega (arith, inside, keeps.works) in
             can_as (sym is) (sym (keeps.others k before differ (λ e. earlier (e ∙ last_is))))
-                (are.late k before (omega (arith, some, is)))
+            (are.late k before (omega (arith, some, is)))
       ]
     ];
   }
@@ -308,8 +312,12 @@ kept_drawn quants old number are drawn =
     (λ k. elim (cases_eq k (slot_of old number)) [
       | inl here ↦
           ap (quant_at (moved quants old number)) here
-          ∙ quant_set quants (slot_of old number) (quant_at quants (slots_of old)) (omega (arith, low, are.count,
-              are.works)) ∙ drawn (slots_of old)
+          ∙ quant_set quants (slot_of old number) (quant_at quants (slots_of old)) (omega (
+            arith,
+            low,
+            are.count,
+            are.works,
+          )) ∙ drawn (slots_of old)
       | inr differ ↦ quant_other quants (slot_of old number) k (quant_at quants (slots_of old)) differ ∙ drawn k
     ])
 

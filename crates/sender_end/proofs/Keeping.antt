@@ -28,7 +28,7 @@ at_other n m v f differ = rw (ne_eqb m n differ) refl
 
 pub stands_same : (rules : Rules) (selector : Selector) (n : ℕ) (depth depth' : ℕ → ℕ) (known known' : ℕ → Bool)
     → ((m : ℕ) → m < n → n ≤ m + rules.slots → depth m ≡ depth' m) → ((m : ℕ) → m < n → n ≤ m + rules.slots
-        → known m ≡ known' m)
+    → known m ≡ known' m)
     → SelectorStands rules selector n depth known → SelectorStands rules selector n depth' known'
 stands_same rules selector n depth depth' known known' depths flags stands = record {
   slots = stands.slots;
@@ -43,7 +43,7 @@ stands_same rules selector n depth depth' known known' depths flags stands = rec
 pub own_numbers : (rules : Rules) (selector : Selector) (n : ℕ) (depth : ℕ → ℕ) (known : ℕ → Bool)
     → SelectorStands rules selector n depth known
     → SelectorStands rules selector n (λ m. get_or selector.depths (m % rules.slots) 0)
-        (λ m. get_or selector.known (m % rules.slots) false)
+    (λ m. get_or selector.known (m % rules.slots) false)
 own_numbers rules selector n depth known stands = record {
   slots = stands.slots;
   lead = stands.lead;
@@ -70,12 +70,12 @@ own_known rules selector n depth known stands = record {
 abbrev pub Codes : Selector → Selector → ℕ → ℕ → Type 0
 Codes old new n d =
     (rules : Rules) (depths : ℕ → ℕ) (known : ℕ → Bool) → depths n ≡ d → known n ≡ false
-        → SelectorStands rules old n depths known → SelectorStands rules new (n + 1) depths known
+    → SelectorStands rules old n depths known → SelectorStands rules new (n + 1) depths known
 
 pub coded_numbers : (rules : Rules) (old new : Selector) (n d : ℕ) (depth : ℕ → ℕ) (known : ℕ → Bool)
     → Codes old new n d
     → SelectorStands rules old n depth known
-        → SelectorStands rules new (n + 1) (at_new n d depth) (at_new n false known)
+    → SelectorStands rules new (n + 1) (at_new n d depth) (at_new n false known)
 coded_numbers rules old new n d depth known codes stands =
     codes rules (at_new n d depth) (at_new n false known) (at_same n d depth) (at_same n false known)
     (stands_same rules old n depth (at_new n d depth) known (at_new n false known)
@@ -101,10 +101,10 @@ pub coded_rests : OneRestIsFar → (rules : Rules) (old new : Selector) (n d : �
     → 0 < rules.slots → Codes old new n d
     → SelectorStands rules old n (λ m. depth (m % rules.slots)) (λ m. known (m % rules.slots))
     → SelectorStands rules new (n + 1) (λ m. at_new (n % rules.slots) d depth (m % rules.slots))
-        (λ m. at_new (n % rules.slots) false known (m % rules.slots))
+    (λ m. at_new (n % rules.slots) false known (m % rules.slots))
 coded_rests far rules old new n d depth known some codes stands =
     stands_same rules new (n + 1) (at_new n d (λ m. depth (m % rules.slots))) (λ m. at_new (n % rules.slots) d depth
-        (m % rules.slots))
+    (m % rules.slots))
     (at_new n false (λ m. known (m % rules.slots))) (λ m. at_new (n % rules.slots) false known (m % rules.slots))
     (λ m below last. by_rest far rules.slots n m d depth some below last)
     (λ m below last. by_rest far rules.slots n m false known some below last)
@@ -123,7 +123,7 @@ number_kept far numbers slots n long some kept m below last =
           (get_or-set_same numbers (n % slots) (Some n) None (omega (arith, mod-lt n some, long)))
       | inr differ ↦
           get_or-set_other numbers (n % slots) (m % slots) (Some n) None (apart differ)
-              ∙ kept m (omega (arith, below, differ)) (omega (arith, last))
+          ∙ kept m (omega (arith, below, differ)) (omega (arith, last))
     ]
   where
     apart : (m ≡ n → ⊥) → m % slots ≡ n % slots → ⊥
@@ -135,11 +135,11 @@ pub still_kept : OneRestIsFar → (old new : Pictures) (slots n : ℕ) → slots
     → (m : ℕ) → m < n + 1 → n + 1 ≤ m + slots → IsKept new m
 still_kept far old new slots n long some kept numbers m below last =
     let before : (k : ℕ) → k < n → n ≤ k + slots → get_or old.numbers (k % slots) None
-        ≡ Some k = λ k low high. subst (λ (l : ℕ). get_or old.numbers (k % l) None ≡ Some k) long (kept k low high) in
+    ≡ Some k = λ k low high. subst (λ (l : ℕ). get_or old.numbers (k % l) None ≡ Some k) long (kept k low high) in
     let is : new.numbers ≡ set old.numbers (n % slots) (Some n) = numbers
-        ∙ ap (λ (l : ℕ). set old.numbers (n % l) (Some n)) long in
+    ∙ ap (λ (l : ℕ). set old.numbers (n % l) (Some n)) long in
     let count : length (set old.numbers (n % slots) (Some n)) ≡ slots = length-set old.numbers (n % slots) (Some n)
-        ∙ long in
+    ∙ long in
     subst (λ (l : List (Option ℕ)). get_or l (m % length l) None ≡ Some m) (sym is)
     (subst (λ (l : ℕ). get_or (set old.numbers (n % slots) (Some n)) (m % l) None ≡ Some m) (sym count)
     (number_kept far old.numbers slots n long some before m below last))
@@ -154,7 +154,7 @@ has_kept store (Some m) kept = kept
 pub same_picture : (store : Pictures) (slots : ℕ) (picture : ℕ → Picture) (reference : Option ℕ) → 0 < slots
     → slots_of store ≡ slots
     → ((rest : ℕ) → rest < slots → picture rest ≡ picture_in store rest) → kept_picture store reference
-        ≡ option_map (λ m. picture (m % slots)) reference
+    ≡ option_map (λ m. picture (m % slots)) reference
 same_picture store slots picture None some long same = refl
 same_picture store slots picture (Some m) some long same =
     ap (λ (p : Picture). let o : Option Picture = Some p in o)

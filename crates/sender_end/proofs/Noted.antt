@@ -27,13 +27,13 @@ pub noted : {P : Type 0} (old : SenderState P) (bytes : List ℕ) (s : Sender Pi
     → (message : call.Message) → read_message old.params.clock bytes ≡ Ok message → (selector : Selector)
     → ((depth : ℕ → ℕ) (known : ℕ → Bool) → SelectorStands (rules_of old.params) old.selector old.sent depth known
     → SelectorStands (rules_of old.params) selector old.sent depth
-        (λ m. is_among (known_by_feedback (rules_of old.params) old.sent (Some message)) m || known m))
+    (λ m. is_among (known_by_feedback (rules_of old.params) old.sent (Some message)) m || known m))
     → IsNoted old bytes selector s
 noted old bytes s seen message read selector notes =
     let p = old.params in
     let stands = notes (λ m. s.depth (m % p.slots)) (λ m. s.known (m % p.slots)) seen.selects in
     let numbers : known_by_feedback (rules_of p) s.sent (result_ok (read_message p.clock bytes))
-        ≡ known_by_feedback (rules_of p) old.sent (Some message) =
+    ≡ known_by_feedback (rules_of p) old.sent (Some message) =
     (λ i. known_by_feedback (rules_of p) (seen.sent i) (result_ok (read i)))
     in
     record {
@@ -55,7 +55,7 @@ noted old bytes s seen message read selector notes =
         depth = λ rest below. refl;
         known = λ m below last.
             stands.known_is m (subst (λ (n : ℕ). m < n) seen.sent below)
-                (subst (λ (n : ℕ). n ≤ m + p.slots) seen.sent last)
+            (subst (λ (n : ℕ). n ≤ m + p.slots) seen.sent last)
             ∙ ap (λ (l : List ℕ). is_among l m || s.known (m % p.slots)) (sym numbers);
       };
     }

@@ -34,7 +34,7 @@ pub stands_as : {P : Type 0} (p : Params) (pace : List ℕ
     → ℕ) (state : SenderState P) (entries : List (SenderEntry Frame)) (t : Sender Picture) → state.params ≡ p
     → IsSeen state t
     → state.since ≡ 0 → SenderStands (pictures p.format) (encoding p) (rules_of p) pace t entries
-        → Stands pace state entries
+    → Stands pace state entries
 stands_as p pace state entries t same seen since stands = record {
   s = t;
   seen = seen;
@@ -56,13 +56,16 @@ module _ (p : Params) (s : Sender Picture) (run : SenderRun Style Mb Picture)
   -- one of the last pictures
   kept_at : (m : ℕ) → m < s.sent → s.sent ≤ m + p.slots
       → (x : CodedPicture Style Mb Picture) × (slice_get run.coded m ≡ Some x) × (s.depth (m % p.slots) ≡ x.depth)
-          × (s.picture (m % p.slots) ≡ x.picture)
+      × (s.picture (m % p.slots) ≡ x.picture)
   kept_at m below last =
       let long : m < length run.coded = subst (λ (n : ℕ). m < n) holds.keeps.sent below in
       let late : length run.coded ≤ m + p.slots = subst (λ (n : ℕ). n ≤ m + p.slots) holds.keeps.sent last in
-      let found = slice_found run.coded m long in
-      (found.0, found.1, holds.keeps.depths m found.0 (long, late) found.1,
-          holds.keeps.kept m found.0 (long, late) found.1)
+      let found = slice_found run.coded m long in (
+        found.0,
+        found.1,
+        holds.keeps.depths m found.0 (long, late) found.1,
+        holds.keeps.kept m found.0 (long, late) found.1,
+      )
 
   depth_kept : (m : ℕ) → m < s.sent → s.sent ≤ m + p.slots → s.depth (m % p.slots) ≡ depth_at run.coded m
   depth_kept m below last =
@@ -73,11 +76,11 @@ module _ (p : Params) (s : Sender Picture) (run : SenderRun Style Mb Picture)
   picture_kept m below last =
       let at = kept_at m below last in
       ap (λ (q : Picture). let o : Option Picture = Some q in o) at.3
-          ∙ sym (ap (λ (o : Option (CodedPicture Style Mb Picture)). option_map (λ x. x.picture) o) at.1)
+      ∙ sym (ap (λ (o : Option (CodedPicture Style Mb Picture)). option_map (λ x. x.picture) o) at.1)
 
   pub chain_kept : (reference : Option ℕ) → IfSome reference (λ m. (m < s.sent) × (s.sent ≤ m + p.slots))
       → within_chain (rules_of p) (λ m. s.depth (m % p.slots)) reference
-          ≡ within_chain (rules_of p) (depth_at run.coded) reference
+      ≡ within_chain (rules_of p) (depth_at run.coded) reference
   chain_kept None recent = refl
   chain_kept (Some m) recent = ap (λ (d : ℕ). if ltb d 131 then Some m else None) (depth_kept m recent.0 recent.1)
 
@@ -89,6 +92,6 @@ module _ (p : Params) (s : Sender Picture) (run : SenderRun Style Mb Picture)
   kept_is_capture quant frame None recent = refl
   kept_is_capture quant frame (Some m) recent =
       ap (λ (d : ℕ). made p frame (Some m) (d + 1) quant (Some (s.picture (m % p.slots))))
-          (depth_kept m recent.0 recent.1)
+      (depth_kept m recent.0 recent.1)
       ∙ ap (λ (o : Option Picture). made p frame (Some m) (depth_at run.coded m + 1) quant o)
-          (picture_kept m recent.0 recent.1)
+      (picture_kept m recent.0 recent.1)

@@ -16,7 +16,7 @@ coded_into store bytes picture long some is =
     let at = slots_of store + 0 in
     let changed : Pictures = record store { pictures = set store.pictures at (picture_of store.format bytes) } in
     let same : with_work store 0 bytes ≡ changed = ap (λ (t : Bool). if t then changed else store)
-        (eq-eqb (length bytes) (size_of_picture store.format) long) in
+    (eq-eqb (length bytes) (size_of_picture store.format) long) in
     subst (λ (s : Pictures). IsCodedInto store s picture) (sym same)
     (record {
       format = refl;

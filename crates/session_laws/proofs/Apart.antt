@@ -200,7 +200,7 @@ turn c source before now es owns i j k =
           ∙ sym (own.by_turn c (at now b));
       source_is = ap (λ (v : Followed). is_of v.stream source) (own.by_turn c (at now a))
           ∙ ap (λ (o : Option Stream). is_of o source) (own.of_turn c (time_of a.now now) (followed_in a))
-              ∙ k.source_is;
+          ∙ k.source_is;
       now = to_most (time_of a.now now) now now f refl;
       own_now = to_most (time_of b.now now) now now g refl;
     }

@@ -115,7 +115,7 @@ packet : (r : Result Seen Cause) (c : Config) (source : ℕ) (bytes : List ℕ) 
     → IsBeside r now (session.session_run c (own_of c source es ++ before)).follows.streams.followed
     (session.session_run c (es ++ before)).follows.streams.former)
     × ((session.after_reading c r bytes (session.at now (session.session_run c (es ++ before)))).follows.streams.former
-        ≡ None)
+    ≡ None)
 packet r c source bytes now before es h i j o k l =
     let a = session.session_run c (es ++ before) in
     let b = session.session_run c (own_of c source es ++ before) in

@@ -96,7 +96,7 @@ here : (b d : Bool) (first : ℕ) (bytes : List ℕ) (a : Arrival) (past : List 
 here true d first bytes a past e f g = absurd cc
 here false d first bytes a past e f g =
     subst (λ (x : Bool). HasPacket bytes (cond x (timed.entries_of first past)
-        (Packet bytes ∷ timed.entries_of first past)))
+    (Packet bytes ∷ timed.entries_of first past)))
     (sym f ∙ g) (inl refl)
 
 placed : (o : Option Place) (place : Place) (first lead : ℕ) (bytes : List ℕ) (now : ℕ) (past : List timed.Entry)
@@ -104,12 +104,12 @@ placed : (o : Option Place) (place : Place) (first lead : ℕ) (bytes : List ℕ
     → HasPacket bytes (timed.entries_of first (run.with_place first lead o bytes now past))
 placed o place first lead bytes now past e h i =
     subst (λ (x : Option Place). HasPacket bytes (timed.entries_of first (run.with_place first lead x bytes now past)))
-        (sym e)
+    (sym e)
     (here (ltb (timed.next_after first past + lead) place.number) (ltb place.number (timed.next_after first past)) first
-        bytes
+    bytes
     (record { picture = place.number; captured = place.captured; at = now }) past
     (le-ltb (timed.next_after first past + lead) place.number h) (le-ltb place.number (timed.next_after first past) i)
-        refl)
+    refl)
 
 pub given_in_time : (c : Config) (h : History) (later earlier : List run.Entry) (packet : Told) (bytes : List ℕ)
     (at : ℕ)
@@ -125,7 +125,7 @@ given_in_time c h later earlier packet bytes at place e f g i =
     let l = grows c.rate h.first c.lead later (run.Came packet bytes at ∷ earlier) in
     let m = next_by (place_of c.rate (run.heard_of earlier) packet at) h.first c.lead bytes at before in
     subst (λ (l : List run.Entry). HasPacket bytes (timed.entries_of h.first (run.timed_of c.rate h.first c.lead l)))
-        (sym e)
+    (sym e)
     (stays c.rate h.first c.lead bytes later (run.Came packet bytes at ∷ earlier)
     (placed (place_of c.rate (run.heard_of earlier) packet at) place h.first c.lead bytes at before f i
     (below (timed.next_after h.first before)

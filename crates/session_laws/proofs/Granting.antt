@@ -67,7 +67,7 @@ by_taker : (t : Taker) (p : ℕ → Bool) (c : Config) (seen : Seen) (own : List
     (asked_for t st).asked
 by_taker takers.Followed p c seen own st ts h =
     let f = by_grant (is_looked_at takers.Followed st) takers.Followed p c seen own st ts
-        (granted 12000 st.asked.followed)
+    (granted 12000 st.asked.followed)
     (few p st.asked.former + few p st.asked.others) (omega (arith, h)) in
     omega (arith, f)
 by_taker takers.Former p c seen own st ts h =
@@ -110,10 +110,10 @@ bound : (p : ℕ → Bool) (c : Config) (past : List Entry) → Bound p (taken c
 bound p c [] = omega arith
 bound p c (Datagram bytes now ∷ past) =
     by_reading (seen_in c.params bytes) p c (renamed bytes) (at now (session_run c past)) (taken c past)
-        (bound p c past)
+    (bound p c past)
 bound p c (DatagramOf only bytes now ∷ past) =
     by_reading (seen_of_one c only bytes) p c (renamed bytes) (at now (session_run c past)) (taken c past)
-        (bound p c past)
+    (bound p c past)
 bound p c (Turn now ∷ past) = bound p c past
 bound p c (Asked round_trip now ∷ past) = bound p c past
 bound p c (Ended source now ∷ past) = bound p c past

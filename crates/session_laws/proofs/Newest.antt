@@ -226,7 +226,7 @@ after_later r [] before after x z e f = ap (λ (y : Newest). after_all r y after
 after_later r (h ∷ later) before after x z e f =
     let k = still_some r later before x e in
     let g = ap (λ (o : Option Newest). kept (step_of r o h.0 h.1) o) k.1
-        ∙ kept_some (step_of r (Some k.0) h.0 h.1) k.0 in
+    ∙ kept_some (step_of r (Some k.0) h.0 h.1) k.0 in
     after_later r later before (h ∷ after) x k.0 e k.1
     ∙ ap (λ (y : Newest). after_all r y after)
     (some_same (newest_of (step_of r (Some k.0) h.0 h.1) k.0) z (newest_after r (h ∷ (later ++ before))) g f)

@@ -55,7 +55,7 @@ stays_other false t l h = refl
 
 tried_case : (st : Streams) (l : Lines) (o : Option Trial) (now : ℕ) → choice.is_live_one st.followed now ≡ true
     → ((choice.with_tried st o now).followed ≡ st.followed) × ((turned (choice.tried_turn st o now) l).followed
-        ≡ l.followed)
+    ≡ l.followed)
 tried_case st l None now h = (refl, refl)
 tried_case st l (Some t) now h = (
   pick (choice.is_live_one st.followed now)
@@ -75,7 +75,7 @@ overtaken None g now h i = absurd cc
 overtaken (Some f) g now h i =
     ap (λ (b : Bool). cond b (ltb f.pictures (min (g.pictures + 1) 4294967295)) true) h
     ∙ le-ltb f.pictures (min (g.pictures + 1) 4294967295)
-        (bound g.pictures f.pictures (ltb-true g.pictures f.pictures i))
+    (bound g.pictures f.pictures (ltb-true g.pictures f.pictures i))
   where
     bound : (g f : ℕ) → g < f → min (g + 1) 4294967295 ≤ f
     bound g f h = omega arith

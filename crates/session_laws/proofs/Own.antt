@@ -28,8 +28,14 @@ use Rattle.session_laws.proofs.Others.{same_parts}
 
 abbrev with_asked : ℕ → Followed → Followed
 with_asked now v =
-    record { stream = v.stream; line = v.line; asked = now ∷ v.asked; exact = v.exact; patched = v.patched;
-        held = v.held }
+    record {
+      stream = v.stream;
+      line = v.line;
+      asked = now ∷ v.asked;
+      exact = v.exact;
+      patched = v.patched;
+      held = v.held;
+    }
 
 abbrev heard : Bool → ℕ → History → Followed → Followed
 heard k now line v =
@@ -150,14 +156,32 @@ due c now v = cond (is_some (option_map (λ s. s.source) v.stream)) (is_due_in c
 
 abbrev marked : Mark → Followed → Followed
 marked marks.Exact v =
-    record { stream = v.stream; line = v.line; asked = v.asked; exact = counting.one_more v.exact; patched = v.patched;
-        held = v.held }
+    record {
+      stream = v.stream;
+      line = v.line;
+      asked = v.asked;
+      exact = counting.one_more v.exact;
+      patched = v.patched;
+      held = v.held;
+    }
 marked marks.Patched v =
-    record { stream = v.stream; line = v.line; asked = v.asked; exact = v.exact; patched = counting.one_more v.patched;
-        held = v.held }
+    record {
+      stream = v.stream;
+      line = v.line;
+      asked = v.asked;
+      exact = v.exact;
+      patched = counting.one_more v.patched;
+      held = v.held;
+    }
 marked marks.Held v =
-    record { stream = v.stream; line = v.line; asked = v.asked; exact = v.exact; patched = v.patched;
-        held = counting.one_more v.held }
+    record {
+      stream = v.stream;
+      line = v.line;
+      asked = v.asked;
+      exact = v.exact;
+      patched = v.patched;
+      held = counting.one_more v.held;
+    }
 
 abbrev with_line : History → Followed → Followed
 with_line line v =

@@ -127,7 +127,7 @@ until_place : (c : Config) (before : Option Newest) (s : Option Step) (first : â
 until_place c before None first bytes now past m until g f l = f l
 until_place c before (Some s) first bytes now past m until g f l =
     until_if (ltb (timed.next_after first past + c.lead) s.place.number)
-        (ltb s.place.number (timed.next_after first past))
+    (ltb s.place.number (timed.next_after first past))
     s.place.number receiving.Late (answer_after c.params (timed.entries_of first past) bytes) m until c.lead
     (number_of before) s.newest.number f g.old g.place l
 

@@ -81,7 +81,7 @@ shows_in seen st =
 module _ {P : Stream → Type 0} {Q : Trial → Type 0} where
   granted_each : (g : Bool) (c : Config) (seen : Seen) (own : List ℕ) (st : session.State) (t : Taker)
       → Shows (choice.is_of st.follows.streams.followed seen.source)
-          (choice.is_of st.follows.streams.former seen.source)
+      (choice.is_of st.follows.streams.former seen.source)
       (choice.is_tried st.follows.streams.tried seen.source st.now) t
       → Keeps P Q seen.source st.now → Each P Q st.follows.streams → Each P Q (streams_by g c seen t own st)
   granted_each false c seen own st t e k x = x
@@ -438,14 +438,14 @@ followed_by : (t : Taker) (g : Bool) (c : Config) (seen : Seen) (own : List ℕ)
 followed_by t false c seen own st s l e = absurd cc
 followed_by takers.Followed true c seen own st s l e =
     complete_true (completes_by c (Some runs.Followed) seen own st.now (lines_for c seen takers.Followed st))
-        runs.Followed
+    runs.Followed
     (noted_by takers.Followed seen.source st.now st.follows.streams) seen.source st.now e
     (counted_of st.follows.streams.followed seen.source st.now s)
 followed_by takers.Former true c seen own st s l e =
     complete_true (completes_by c (Some runs.Former) seen own st.now (lines_for c seen takers.Former st)) runs.Former
     (noted_by takers.Former seen.source st.now st.follows.streams) seen.source st.now e
     (former_followed st.follows.streams.former (noted_by takers.Former seen.source st.now st.follows.streams)
-        seen.source
+    seen.source
     st.now s.1 (l s.0))
 followed_by takers.Tried true c seen own st s l e =
     complete_true (completes_by c (Some runs.Tried) seen own st.now (lines_for c seen takers.Tried st)) runs.Tried
@@ -475,7 +475,7 @@ by_reading (Ok seen) c source then now own st f n i x e =
     ∙ followed_by t g c seen own st (shows_in seen st)
     (λ h. not_live st.follows.streams.followed source then st.now
     (ap (λ (k : ℕ). choice.is_of st.follows.streams.followed k) (sym same)
-        ∙ h) x.followed (later now st.now then (sym n) i)) e
+    ∙ h) x.followed (later now st.now then (sym n) i)) e
   where
     later : (a b then : ℕ) → a ≡ b → then + 500000000 ≤ a → then + 500000000 ≤ b
     later a b then e h = omega arith

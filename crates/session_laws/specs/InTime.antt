@@ -33,7 +33,7 @@ HasPacket bytes (PlayNext ∷ past) = HasPacket bytes past
 abbrev pub GivenInTime : Type 0
 GivenInTime =
     (c : Config) (h : History) (later earlier : List run.Entry) (packet : Told) (bytes : List ℕ) (at : ℕ)
-        (place : Place)
+    (place : Place)
     → h.past ≡ later ++ (run.Came packet bytes at ∷ earlier)
     → place_of c.rate (run.heard_of earlier) packet at ≡ Some place
     → place.number ≡ next_in c h

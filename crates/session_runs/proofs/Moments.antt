@@ -15,5 +15,5 @@ made c round_trip now next number due period o e f n g =
     ap (λ (k : ℕ). Some (at now round_trip k due period)) e
     ∙ ap (λ (k : ℕ). Some (at now round_trip number due k)) f
     ∙ sym (ap (λ (b : Bool). cond b None (Some (at now round_trip number due (picture_period c.rate))))
-        (ne_eqb due 0 n))
+    (ne_eqb due 0 n))
     ∙ ap (moment_at c round_trip now number) g

@@ -27,11 +27,11 @@ pub vectors_of-append : (first : ℕ) (mbs : List Mb) (m : Mb) → vectors_of fi
     ++ vector_of m ∷ []
 vectors_of-append first mbs m =
     ap (λ (t : List Vector). replicate first no_vector ++ t) (map-append vector_of mbs (m ∷ []))
-        ∙ sym (append_assoc (replicate first no_vector) (map vector_of mbs) (vector_of m ∷ []))
+    ∙ sym (append_assoc (replicate first no_vector) (map vector_of mbs) (vector_of m ∷ []))
 
 pub mbs_text-append : (a : Around) (quant : ℕ) (before mbs : List Mb) (m : Mb)
     → mbs_text a quant before (mbs ++ m ∷ []) ≡ mbs_text a quant before mbs
-        ++ mb_text a.kind (quant_after_all quant mbs) (a.predictor (before ++ mbs)) m
+    ++ mb_text a.kind (quant_after_all quant mbs) (a.predictor (before ++ mbs)) m
 unfolding mbs_text
 mbs_text-append a quant before [] m =
     let e : before ++ [] ≡ before = append-nil before in
@@ -43,7 +43,7 @@ mbs_text-append a quant before (n ∷ mbs) m =
     let last = λ (l : List Mb). mb_text a.kind (quant_after_all (quant_after quant n) mbs) (a.predictor l) m in
     let after = mbs_text a (quant_after quant n) (before ++ n ∷ []) mbs in
     ap (λ (t : List Bool). front ++ t) (more ∙ ap (λ (l : List Mb). after ++ last l) e)
-        ∙ sym (append_assoc front after (last (before ++ n ∷ mbs)))
+    ∙ sym (append_assoc front after (last (before ++ n ∷ mbs)))
 
 -- the text of the next macroblock
 abbrev pub next_text : Header → ℕ → List Mb → Mb → List Bool
@@ -55,7 +55,7 @@ slice_text-append h begins first mbs m =
     let opening = opening_text h begins first in
     let text = mbs_text (around h first) h.quant [] mbs in
     ap (λ (t : List Bool). opening ++ t) (mbs_text-append (around h first) h.quant [] mbs m)
-        ∙ sym (append_assoc opening text (next_text h first mbs m))
+    ∙ sym (append_assoc opening text (next_text h first mbs m))
 
 -- a slice without macroblocks is what it opens with
 pub no_text : (h : Header) (begins : Bool) (first : ℕ) → slice_text h begins first [] ≡ opening_text h begins first
@@ -94,5 +94,9 @@ one_short laws of_mbs h begins first m is whole =
 
 -- how many bits the text of a slice has at most
 pub are_short : HeaderLaws → MbLaws → AreShort
-are_short laws of_mbs = record { begins = length-begins laws; later = length-later; opening = opening_short laws;
-    one = one_short laws of_mbs }
+are_short laws of_mbs = record {
+  begins = length-begins laws;
+  later = length-later;
+  opening = opening_short laws;
+  one = one_short laws of_mbs;
+}

@@ -43,8 +43,17 @@ ended : (a : Around) (quant room : ℕ) (before mbs : List Mb) (b : Bits) → is
 unfolding AreTexts
 ended a quant room before mbs b z e =
     let s = stops_ok before mbs b e in
-    record { new = []; text = []; padding = b.bits; all = s.0 ∙ sym (append-nil before); within = omega arith;
-        whole = refl; each = refl; zeros = z; some = s.1 }
+    record {
+      new = [];
+      text = [];
+      padding = b.bits;
+      all = s.0 ∙ sym (append-nil before);
+      within = omega arith;
+      whole = refl;
+      each = refl;
+      zeros = z;
+      some = s.1;
+    }
 
 mbs_sound : (a : Around) (room quant : ℕ) (before mbs : List Mb) (b : Bits) → mbs_at a room quant before b ≡ Ok mbs
     → IsRead a quant room before mbs b.bits
@@ -63,12 +72,12 @@ mbs_sound a (suc room) quant before mbs b e = at_end (is_padding b.bits) refl e
         → cond t (stops before b) (reading (next_mb a quant before) b >>= λ x. mbs_at a room (quant_after quant x.0)
         (before ++ x.0 ∷ []) x.1) ≡ Ok mbs
         → ((m : Mb) (c : Bits) → mbs_at a room (quant_after quant m) (before ++ m ∷ []) c ≡ Ok mbs
-            → IsRead a (quant_after quant m) room (before ++ m ∷ []) mbs c.bits)
-            → IsRead a quant (suc room) before mbs b.bits
+        → IsRead a (quant_after quant m) room (before ++ m ∷ []) mbs c.bits)
+        → IsRead a quant (suc room) before mbs b.bits
     at_end true z e more = ended a quant (suc room) before mbs b z e
     at_end false z e more =
         let one = bind_ok (reading (next_mb a quant before) b) (λ x. mbs_at a room (quant_after quant x.0) (before
-            ++ x.0 ∷ []) x.1) mbs e in
+        ++ x.0 ∷ []) x.1) mbs e in
         let m = one.0.0 in
         let t = sound (next_mb a quant before) b one.0.1 m one.1 in
         let r = more m one.0.1 one.2 in
@@ -106,14 +115,14 @@ mbs_complete laws a (m ∷ new) (suc room) quant at before text padding le some 
     let tail = h.1 in
     let reach = a.reaches (a.first + length before) in
     let e : text ++ padding ≡ front ++ (tail ++ padding) = ap (λ (x : List Bool). x ++ padding) h.2
-        ∙ append_assoc front tail padding in
+    ∙ append_assoc front tail padding in
     let marked = mb_marked a.kind quant reach (a.predictor before) m front (tail ++ padding) h.3 in
     let one = complete (next_mb a quant before) m front (tail ++ padding) at
-        (laws.productive a.kind quant reach (a.predictor before)) h.3 in
+    (laws.productive a.kind quant reach (a.predictor before)) h.3 in
     let all : (before ++ m ∷ []) ++ new ≡ before ++ (m ∷ new) = append_assoc before (m ∷ []) new in
     let more = mbs_complete laws a new room (quant_after quant m) (at + length front) (before ++ m ∷ []) tail padding
-        (omega (arith, le)) (omega (arith, length-append (before ++ m ∷ []) new, length-append before (m ∷ []))) z h.4
-        in
+    (omega (arith, le)) (omega (arith, length-append (before ++ m ∷ []) new, length-append before (m ∷ []))) z h.4
+    in
     rw (e, marked, one, more) (ap Ok all)
 
 -- ---- a whole slice
@@ -160,16 +169,23 @@ pub slice_complete : MbLaws → (h : Header) (begins : Bool) (first : ℕ) (mbs 
 unfolding slice_at
 slice_complete laws h begins first mbs b is =
     let one = complete (head h begins) (first, is.quant) is.front is.after b.at (head_productive h begins) is.opened in
-    let opened : reading (head h begins) b ≡ Ok ((first, is.quant), record { at = b.at + length is.front;
-        bits = is.after }) = ap (λ (t : List Bool). reading (head h begins) (record { at = b.at; bits = t })) is.parts
-        ∙ one in
+    let opened : reading (head h begins) b ≡ Ok (
+      (first, is.quant),
+      record {
+        at = b.at + length is.front;
+        bits = is.after;
+      },
+    ) = ap (λ (t : List Bool). reading (head h begins) (record { at = b.at; bits = t })) is.parts
+    ∙ one in
     let body = is.body in
     let all = mbs_complete laws (around h first) mbs (mbs_of h.format - first) is.quant (b.at + length is.front) []
-        body.text body.padding body.within body.some body.zeros body.each in
-    let found : mbs_at (around h first) (mbs_of h.format - first) is.quant [] (record { at = b.at + length is.front;
-        bits = is.after }) ≡ Ok mbs =
+    body.text body.padding body.within body.some body.zeros body.each in
+    let found : mbs_at (around h first) (mbs_of h.format - first) is.quant [] (record {
+      at = b.at + length is.front;
+      bits = is.after;
+    }) ≡ Ok mbs =
     ap (λ (t : List Bool). mbs_at (around h first) (mbs_of h.format - first) is.quant []
-        (record { at = b.at + length is.front; bits = t })) body.whole ∙ all in
+    (record { at = b.at + length is.front; bits = t })) body.whole ∙ all in
     rw (opened, found) refl
 
 -- bits are read as a slice exactly where they are its text
@@ -187,15 +203,18 @@ fills_texts (Err fault) out h begins b g = tt
 pub texts_fill : MbLaws → (r : Result SliceHead Fault) (out : List Mb) (h : Header) (begins : Bool) (b : Bits)
     → IfOk r (IsSliceIn h out) → length out ≡ mbs_of h.format → Fills r out (slice_at h begins b)
     → (first : ℕ) (mbs : List Mb) → IsSliceText h begins first mbs b.bits
-        → IsOkAnd r (λ head. (head.first ≡ first) × (head.count ≡ length mbs) × (mbs_from head.first head.count out
-        ≡ mbs))
+    → IsOkAnd r (λ head. (head.first ≡ first) × (head.count ≡ length mbs) × (mbs_from head.first head.count out
+    ≡ mbs))
 texts_fill laws (Ok slice) out h begins b range size g first mbs is =
     let f = ok_is (slice.first, mbs_from slice.first slice.count out) (first, mbs) (sym g
-        ∙ slice_complete laws h begins first mbs b is) in
+    ∙ slice_complete laws h begins first mbs b is) in
     let same : mbs_from slice.first slice.count out ≡ mbs = ap (λ (p : ℕ × List Mb). p.1) f in
     let long : length (mbs_from slice.first slice.count out)
-        ≡ slice.count = length-take-le slice.count (drop slice.first out) (omega (arith, length-drop slice.first out,
-        range.head.within)) in
+    ≡ slice.count = length-take-le slice.count (drop slice.first out) (omega (
+      arith,
+      length-drop slice.first out,
+      range.head.within,
+    )) in
     (ap (λ (p : ℕ × List Mb). p.0) f, sym long ∙ ap length same, same)
 texts_fill laws (Err fault) out h begins b range size g first mbs is = err_not_ok fault (first, mbs) (sym g
     ∙ slice_complete laws h begins first mbs b is)
@@ -216,5 +235,5 @@ pub one_slice : MbLaws → (h : Header) (begins : Bool) (first other : ℕ) (mbs
 one_slice laws h begins first other mbs others bits p q =
     let b : Bits = record { at = 0; bits = bits } in
     let f = ok_is (first, mbs) (other, others) (sym (slice_complete laws h begins first mbs b p)
-        ∙ slice_complete laws h begins other others b q) in
+    ∙ slice_complete laws h begins other others b q) in
     (ap (λ (x : ℕ × List Mb). x.0) f, ap (λ (x : ℕ × List Mb). x.1) f)

@@ -43,9 +43,9 @@ first_address : (h : Header) (n : ℕ) → n < 2 ^ address_bits h.format → (n 
 unfolding first_head
 first_address h n lt other =
     fault_after_field 1 (only 1 faults.Marker) _ 1 (fields (((address_bits h.format), n) ∷ [])) faults.Address 0
-        (omega arith) refl
+    (omega arith) refl
     (fault_here (address_bits h.format) (only 0 faults.Address) _ n [] faults.Address lt
-        (only_other 0 n faults.Address other))
+    (only_other 0 n faults.Address other))
 
 first_end : (h : Header)
     → HasFault (first_head h) (fields ((1, 1) ∷ (address_bits h.format, 0) ∷ (1, 0) ∷ [])) faults.Marker
@@ -53,9 +53,9 @@ first_end : (h : Header)
 unfolding first_head
 first_end h =
     fault_after_field 1 (only 1 faults.Marker) _ 1 (fields (((address_bits h.format), 0) ∷ (1, 0) ∷ [])) faults.Marker
-        ((address_bits h.format) + 0) (omega arith) refl
+    ((address_bits h.format) + 0) (omega arith) refl
     (fault_after_field (address_bits h.format) (only 0 faults.Address) _ 0 (fields ((1, 0) ∷ [])) faults.Marker 0
-        (zero_fits h.format) refl
+    (zero_fits h.format) refl
     (fault_here 1 (only 1 faults.Marker) _ 0 [] faults.Marker (omega arith) refl))
 
 -- ---- a later slice
@@ -89,9 +89,9 @@ place_first : (f : Format) → HasFault (place f) (fields ((1, 1) ∷ (1, 1) ∷
 unfolding place
 place_first f =
     fault_after_field 1 (only 1 faults.NoStart) _ 1 (fields ((1, 1) ∷ ((address_bits f), 0) ∷ [])) faults.Address 1
-        (omega arith) refl
+    (omega arith) refl
     (fault_after_field 1 (only 1 faults.Marker) _ 1 (fields (((address_bits f), 0) ∷ [])) faults.Address 0 (omega arith)
-        refl
+    refl
     (fault_here (address_bits f) (allowed_first f) _ 0 [] faults.Address (zero_fits f) refl))
 
 place_past : (f : Format) (n : ℕ) → mbs_of f ≤ n → n < 2 ^ address_bits f
@@ -99,11 +99,11 @@ place_past : (f : Format) (n : ℕ) → mbs_of f ≤ n → n < 2 ^ address_bits 
 unfolding place
 place_past f n le lt =
     fault_after_field 1 (only 1 faults.NoStart) _ 1 (fields ((1, 1) ∷ ((address_bits f), n) ∷ [])) faults.Address 1
-        (omega arith) refl
+    (omega arith) refl
     (fault_after_field 1 (only 1 faults.Marker) _ 1 (fields (((address_bits f), n) ∷ [])) faults.Address 0 (omega arith)
-        refl
+    refl
     (fault_here (address_bits f) (allowed_first f) _ n [] faults.Address lt
-        (past_later f n le (omega (arith, some_mbs f, le)))))
+    (past_later f n le (omega (arith, some_mbs f, le)))))
 
 place_quant : (f : Format) (n : ℕ) → 0 < n → n < mbs_of f → n < 2 ^ address_bits f
     → HasFault (place f) (fields ((1, 1) ∷ (1, 1) ∷ (address_bits f, n) ∷ (5, 0) ∷ [])) faults.Quant
@@ -111,11 +111,11 @@ place_quant : (f : Format) (n : ℕ) → 0 < n → n < mbs_of f → n < 2 ^ addr
 unfolding place
 place_quant f n some lt fits =
     fault_after_field 1 (only 1 faults.NoStart) _ 1 (fields ((1, 1) ∷ ((address_bits f), n) ∷ (5, 0) ∷ [])) faults.Quant
-        (1 + ((address_bits f) + 0)) (omega arith) refl
+    (1 + ((address_bits f) + 0)) (omega arith) refl
     (fault_after_field 1 (only 1 faults.Marker) _ 1 (fields (((address_bits f), n) ∷ (5, 0) ∷ [])) faults.Quant
-        ((address_bits f) + 0) (omega arith) refl
+    ((address_bits f) + 0) (omega arith) refl
     (fault_after_field (address_bits f) (allowed_first f) _ n (fields ((5, 0) ∷ [])) faults.Quant 0 fits
-        (good_later f n some lt)
+    (good_later f n some lt)
     (fault_here 5 allowed_quant _ 0 [] faults.Quant (omega arith) refl)))
 
 place_end : (f : Format) (n q : ℕ) → 0 < n → n < mbs_of f → n < 2 ^ address_bits f → 0 < q → q < 32
@@ -124,11 +124,11 @@ place_end : (f : Format) (n q : ℕ) → 0 < n → n < mbs_of f → n < 2 ^ addr
 unfolding place
 place_end f n q some lt fits more small =
     fault_after_field 1 (only 1 faults.NoStart) _ 1 (fields ((1, 1) ∷ ((address_bits f), n) ∷ (5, q) ∷ (1, 0) ∷ []))
-        faults.Marker (1 + ((address_bits f) + 5)) (omega arith) refl
+    faults.Marker (1 + ((address_bits f) + 5)) (omega arith) refl
     (fault_after_field 1 (only 1 faults.Marker) _ 1 (fields (((address_bits f), n) ∷ (5, q) ∷ (1, 0) ∷ []))
-        faults.Marker ((address_bits f) + 5) (omega arith) refl
+    faults.Marker ((address_bits f) + 5) (omega arith) refl
     (fault_after_field (address_bits f) (allowed_first f) _ n (fields ((5, q) ∷ (1, 0) ∷ [])) faults.Marker 5 fits
-        (good_later f n some lt)
+    (good_later f n some lt)
     (fault_after_field 5 allowed_quant _ q (fields ((1, 0) ∷ [])) faults.Marker 0 small (good_quant q more)
     (fault_here 1 (only 1 faults.Marker) _ 0 [] faults.Marker (omega arith) refl))))
 
@@ -156,9 +156,9 @@ refers_other : (trp n : ℕ) → n < 1024 → (n ≡ trp → ⊥)
 unfolding reference
 refers_other trp n lt other =
     fault_after_field 1 (only 1 faults.SliceReference) _ 1 (fields ((10, n) ∷ [])) faults.SliceReference 0 (omega arith)
-        refl
+    refl
     (fault_here 10 (only trp faults.SliceReference) _ n [] faults.SliceReference lt
-        (only_other trp n faults.SliceReference other))
+    (only_other trp n faults.SliceReference other))
 
 -- one field as a text of its own
 one_field : (n v : ℕ) (text : List Bool) → fields ((n, v) ∷ []) ++ text ≡ spelled n v ++ text
@@ -175,11 +175,11 @@ unfolding tail
 after_tri trp gfid text kind place lt h =
     let same : spelled 2 gfid ++ (spelled 1 0 ++ text) ≡ fields ((2, gfid) ∷ []) ++ (fields ((1, 0) ∷ []) ++ text) =
     sym (one_field 2 gfid (fields ((1, 0) ∷ []) ++ text)
-        ∙ ap (λ (t : List Bool). spelled 2 gfid ++ t) (one_field 1 0 text)) in
+    ∙ ap (λ (t : List Bool). spelled 2 gfid ++ t) (one_field 1 0 text)) in
     fault_of_text (tail trp) (spelled 2 gfid ++ (spelled 1 0 ++ text)) (fields ((2, gfid) ∷ [])
-        ++ (fields ((1, 0) ∷ []) ++ text)) kind (2 + (1 + place)) same
+    ++ (fields ((1, 0) ∷ []) ++ text)) kind (2 + (1 + place)) same
     (fault_after_field 2 any _ gfid (spelled 1 0 ++ text) kind (1 + place) lt refl
-        (fault_after_field 1 (only 0 faults.SliceReference) _ 0 text kind place (omega arith) refl h))
+    (fault_after_field 1 (only 0 faults.SliceReference) _ 0 text kind place (omega arith) refl h))
 
 tail_reference : (trp : Option ℕ) (gfid : ℕ) (text : List Bool) (kind : FaultKind) (place : ℕ) → gfid < 4
     → HasFault (reference trp) text kind place
@@ -189,16 +189,22 @@ tail_reference trp gfid text kind place lt h = after_tri trp gfid text kind plac
 
 tail_bci : (trp : Option ℕ) (gfid n : ℕ) (a : List Bool) → gfid < 4 → n < 4 → (n ≡ 1 → ⊥) → Spells (reference trp) tt a
     → HasFault (tail trp) (fields ((2, gfid) ∷ []) ++ (fields ((1, 0) ∷ []) ++ (a ++ fields ((2, n) ∷ [])))) faults.Bci
-        (2 + (1 + (length a + 0)))
+    (2 + (1 + (length a + 0)))
 tail_bci trp gfid n a lt small other spelt =
     after_tri trp gfid (a ++ fields ((2, n) ∷ [])) faults.Bci (length a + 0) lt
     (fault_after_part (reference trp) any _ tt a (fields ((2, n) ∷ [])) faults.Bci 0 (reference_productive trp) spelt
-        refl
+    refl
     (fault_here 2 (only 1 faults.Bci) _ n [] faults.Bci small (only_other 1 n faults.Bci other)))
 
 tail_faults : TailFaults
-tail_faults = record { tri = tail_tri; intra = refers_intra; inter = refers_inter; other = refers_other;
-    of_reference = tail_reference; bci = tail_bci }
+tail_faults = record {
+  tri = tail_tri;
+  intra = refers_intra;
+  inter = refers_inter;
+  other = refers_other;
+  of_reference = tail_reference;
+  bci = tail_bci;
+}
 
 later_place : (h : Header) (text : List Bool) (kind : FaultKind) (at : ℕ) → HasFault (place h.format) text kind at
     → HasFault (later_head h) text kind at
@@ -211,7 +217,7 @@ later_tail : (h : Header) (first quant : ℕ) (a text : List Bool) (kind : Fault
 unfolding later_head
 later_tail h first quant a text kind at spelt e =
     fault_after_part (place h.format) any _ (first, quant) a text kind at (place_productive h.format) spelt refl
-        (fault_in_part (tail h.trp) any _ text kind at e)
+    (fault_in_part (tail h.trp) any _ text kind at e)
 
 -- ---- the macroblocks
 
@@ -219,7 +225,7 @@ later_tail h first quant a text kind at spelt e =
 mbs_after : MbLaws → (a : Around) (new : List Mb) (room quant at : ℕ) (before : List Mb) (text rest : List Bool)
     → AreTexts a quant before new text
     → mbs_at a (length new + room) quant before (record { at = at; bits = text ++ rest })
-        ≡ mbs_at a room (quant_after_all quant new) (before ++ new) (record { at = at + length text; bits = rest })
+    ≡ mbs_at a room (quant_after_all quant new) (before ++ new) (record { at = at + length text; bits = rest })
 unfolding mbs_at AreTexts
 mbs_after laws a [] room quant at before text rest h =
     let none : 0 + room ≡ room = omega arith in
@@ -229,11 +235,11 @@ mbs_after laws a (m ∷ new) room quant at before text rest h =
     let tail = h.1 in
     let reach = a.reaches (a.first + length before) in
     let e : text ++ rest ≡ front ++ (tail ++ rest) = ap (λ (x : List Bool). x ++ rest) h.2
-        ∙ append_assoc front tail rest in
+    ∙ append_assoc front tail rest in
     let len : length text ≡ length front + length tail = ap length h.2 ∙ length-append front tail in
     let marked = mb_marked a.kind quant reach (a.predictor before) m front (tail ++ rest) h.3 in
     let one = complete (next_mb a quant before) m front (tail ++ rest) at
-        (laws.productive a.kind quant reach (a.predictor before)) h.3 in
+    (laws.productive a.kind quant reach (a.predictor before)) h.3 in
     let all : (before ++ m ∷ []) ++ new ≡ before ++ (m ∷ new) = append_assoc before (m ∷ []) new in
     let more = mbs_after laws a new room (quant_after quant m) (at + length front) (before ++ m ∷ []) tail rest h.4 in
     let rooms : length (m ∷ new) + room ≡ suc (length new + room) = omega arith in
@@ -280,7 +286,7 @@ head_row h begins text kind place e = λ at rest. rw (e at rest) refl
 after_head : (h : Header) (begins : Bool) (first quant at : ℕ) (front rest : List Bool) (kind : FaultKind) (place : ℕ)
     → Spells (head h begins) (first, quant) front
     → mbs_at (around h first) (mbs_of h.format - first) quant [] (record { at = at + length front; bits = rest })
-        ≡ Err (record { kind = kind; at = place })
+    ≡ Err (record { kind = kind; at = place })
     → slice_at h begins (record { at = at; bits = front ++ rest }) ≡ Err (record { kind = kind; at = place })
 unfolding slice_at
 after_head h begins first quant at front rest kind place spelt e =
@@ -289,7 +295,7 @@ after_head h begins first quant at front rest kind place spelt e =
 empty_row : (h : Header) (begins : Bool) (first quant at : ℕ) (front padding : List Bool)
     → Spells (head h begins) (first, quant) front → is_padding padding ≡ true
     → slice_at h begins (record { at = at; bits = front ++ padding })
-        ≡ Err (record { kind = faults.Empty; at = at + length front })
+    ≡ Err (record { kind = faults.Empty; at = at + length front })
 empty_row h begins first quant at front padding spelt z = after_head h begins first quant at front padding faults.Empty
     (at + length front) spelt (stops_empty (around h first) (mbs_of h.format - first) quant (at + length front) padding
     z)
@@ -298,24 +304,24 @@ trailing_row : MbLaws → (h : Header) (begins : Bool) (first quant at : ℕ) (m
     → Spells (head h begins) (first, quant) front → AreTexts (around h first) quant [] mbs texts
     → length mbs ≡ mbs_of h.format - first → is_padding rest ≡ false
     → slice_at h begins (record { at = at; bits = front ++ (texts ++ rest) })
-        ≡ Err (record { kind = faults.Trailing; at = at + length front + length texts })
+    ≡ Err (record { kind = faults.Trailing; at = at + length front + length texts })
 trailing_row laws h begins first quant at mbs front texts rest spelt each full z =
     let a = around h first in
     let on = mbs_after laws a mbs 0 quant (at + length front) [] texts rest each in
     let room : mbs_of h.format - first ≡ length mbs + 0 = omega (arith, full) in
     let found : mbs_at a (mbs_of h.format - first) quant [] (record { at = at + length front; bits = texts ++ rest })
-        ≡ Err (record { kind = faults.Trailing; at = at + length front + length texts }) =
+    ≡ Err (record { kind = faults.Trailing; at = at + length front + length texts }) =
     ap (λ (n : ℕ). mbs_at a n quant [] (record { at = at + length front; bits = texts ++ rest })) room ∙ on
-        ∙ stops_full a (quant_after_all quant mbs) (at + length front + length texts) mbs rest z in
+    ∙ stops_full a (quant_after_all quant mbs) (at + length front + length texts) mbs rest z in
     after_head h begins first quant at front (texts ++ rest) faults.Trailing (at + length front + length texts) spelt
-        found
+    found
 
 mb_row : MbLaws → (h : Header) (begins : Bool) (first quant : ℕ) (mbs : List Mb) (front texts text : List Bool)
     (kind : FaultKind) (place : ℕ) → Spells (head h begins) (first, quant) front
     → AreTexts (around h first) quant [] mbs texts
     → length mbs < mbs_of h.format - first
-        → HasFault (next_mb (around h first) (quant_after_all quant mbs) mbs) text kind place
-        → ((rest : List Bool) → is_padding (text ++ rest) ≡ false)
+    → HasFault (next_mb (around h first) (quant_after_all quant mbs) mbs) text kind place
+    → ((rest : List Bool) → is_padding (text ++ rest) ≡ false)
     → HasSliceFault h begins (front ++ (texts ++ text)) kind (length front + (length texts + place))
 mb_row laws h begins first quant mbs front texts text kind place spelt each lt e some = λ at rest.
     let a = around h first in
@@ -323,18 +329,20 @@ mb_row laws h begins first quant mbs front texts text kind place spelt each lt e
     let on = mbs_after laws a mbs (suc left) quant (at + length front) [] texts (text ++ rest) each in
     let room : mbs_of h.format - first ≡ length mbs + suc left = omega (arith, lt) in
     let there : at + length front + length texts + place ≡ at + (length front + (length texts + place)) = omega arith in
-    let found : mbs_at a (mbs_of h.format - first) quant [] (record { at = at + length front;
-        bits = texts ++ (text ++ rest) }) ≡ Err (record { kind = kind; at = at + length front + length texts + place })
-        =
+    let found : mbs_at a (mbs_of h.format - first) quant [] (record {
+      at = at + length front;
+      bits = texts ++ (text ++ rest);
+    }) ≡ Err (record { kind = kind; at = at + length front + length texts + place })
+    =
     ap (λ (n : ℕ). mbs_at a n quant [] (record { at = at + length front; bits = texts ++ (text ++ rest) })) room ∙ on
     ∙ stops_in_mb a left (quant_after_all quant mbs) (at + length front + length texts)
-        (at + length front + length texts + place) mbs (text ++ rest) kind (some rest)
-        (e (at + length front + length texts) rest) in
+    (at + length front + length texts + place) mbs (text ++ rest) kind (some rest)
+    (e (at + length front + length texts) rest) in
     let parts : (front ++ (texts ++ text)) ++ rest ≡ front ++ (texts ++ (text ++ rest)) = append_assoc front (texts
-        ++ text) rest ∙ ap (λ (t : List Bool). front ++ t) (append_assoc texts text rest) in
+    ++ text) rest ∙ ap (λ (t : List Bool). front ++ t) (append_assoc texts text rest) in
     ap (λ (t : List Bool). slice_at h begins (record { at = at; bits = t })) parts
     ∙ after_head h begins first quant at front (texts ++ (text ++ rest)) kind (at + length front + length texts + place)
-        spelt found
+    spelt found
     ∙ ap (λ (k : ℕ). err (stands kind k)) there
 
 -- ---- the first fault of a slice, said of its elements
@@ -382,15 +390,15 @@ mbs_fault laws a (suc room) quant before b d e = at_end (is_padding b.bits) refl
         → cond t (stops before b) (reading (next_mb a quant before) b >>= λ x. mbs_at a room (quant_after quant x.0)
         (before ++ x.0 ∷ []) x.1) ≡ err d
         → ((m : Mb) (c : Bits) → mbs_at a room (quant_after quant m) (before ++ m ∷ []) c ≡ Err d
-            → IsBodyFault a (quant_after quant m) room (before ++ m ∷ []) c d)
-            → IsBodyFault a quant (suc room) before b d
+        → IsBodyFault a (quant_after quant m) room (before ++ m ∷ []) c d)
+        → IsBodyFault a quant (suc room) before b d
     at_end true z e more = let f = empty_is before b d e in stops_here a quant (suc room) before b d (inl (f.0, z, f.1))
     at_end false z e more =
         elim (bind_err (reading (next_mb a quant before) b) (λ x. mbs_at a room (quant_after quant x.0) (before
-            ++ x.0 ∷ []) x.1) d e) [
+        ++ x.0 ∷ []) x.1) d e) [
           | inl h ↦
               let first = fault_found (next_mb a quant before) b d
-                  (laws.productive a.kind quant (a.reaches (a.first + length before)) (a.predictor before)) h in
+              (laws.productive a.kind quant (a.reaches (a.first + length before)) (a.predictor before)) h in
               stops_here a quant (suc room) before b d (inr (inr (omega arith, z, first)))
           | inr h ↦
               let m = h.0.0 in
@@ -398,13 +406,16 @@ mbs_fault laws a (suc room) quant before b d e = at_end (is_padding b.bits) refl
               let t = sound (next_mb a quant before) b c m h.1 in
               let r = more m c h.2 in
               let all : (before ++ m ∷ []) ++ r.mbs ≡ before ++ (m ∷ r.mbs) = append_assoc before (m ∷ []) r.mbs in
-              let place : c.at + length r.texts ≡ b.at + length (t.0 ++ r.texts) = omega (arith, t.1.at,
-                  length-append t.0 r.texts) in
+              let place : c.at + length r.texts ≡ b.at + length (t.0 ++ r.texts) = omega (
+                arith,
+                t.1.at,
+                length-append t.0 r.texts,
+              ) in
               let q = quant_after_all (quant_after quant m) r.mbs in
               let on = stop_again a q (length r.mbs) room ((before ++ m ∷ [])
-                  ++ r.mbs) (record { at = c.at + length r.texts; bits = r.left }) d r.stops in
+              ++ r.mbs) (record { at = c.at + length r.texts; bits = r.left }) d r.stops in
               let moved = subst (λ (l : List Mb). StopsAt a q (suc (length r.mbs)) (suc room) l
-                  (record { at = c.at + length r.texts; bits = r.left }) d) all on in
+              (record { at = c.at + length r.texts; bits = r.left }) d) all on in
               record {
                 mbs = m ∷ r.mbs;
                 texts = t.0 ++ r.texts;
@@ -429,7 +440,7 @@ mbs_fault_again laws a room quant b d is = whole ∙ at_stop is.stops
         ≡ mbs_at a more (quant_after_all quant is.mbs) is.mbs (record { at = b.at + length is.texts; bits = is.left })
     after more e =
         ap (λ (n : ℕ). mbs_at a n quant [] (record { at = b.at; bits = is.texts ++ is.left })) (sym e)
-            ∙ mbs_after laws a is.mbs more quant b.at [] is.texts is.left is.each
+        ∙ mbs_after laws a is.mbs more quant b.at [] is.texts is.left is.each
 
     none : is.mbs ≡ [] → is.texts ≡ []
     none e = no_texts a quant is.mbs is.texts e is.each
@@ -441,9 +452,9 @@ mbs_fault_again laws a room quant b d is = whole ∙ at_stop is.stops
         let texts = none h.0 in
         let bits : is.texts ++ is.left ≡ is.left = ap (λ (t : List Bool). t ++ is.left) texts in
         let place : b.at ≡ b.at + length is.texts = sym (add-zero b.at)
-            ∙ ap (λ (t : List Bool). b.at + length t) (sym texts) in
+        ∙ ap (λ (t : List Bool). b.at + length t) (sym texts) in
         ap (λ (t : List Bool). mbs_at a room quant [] (record { at = b.at; bits = t })) bits
-            ∙ stops_empty a room quant b.at is.left h.1
+        ∙ stops_empty a room quant b.at is.left h.1
         ∙ ap (λ (k : ℕ). err (stands faults.Empty k)) place ∙ ap (λ (f : Fault). err f) (sym h.2)
     at_stop (inr (inl h)) = after 0 (omega (arith, h.0))
         ∙ stops_full a (quant_after_all quant is.mbs) (b.at + length is.texts) is.mbs is.left h.1
@@ -452,10 +463,10 @@ mbs_fault_again laws a room quant b d is = whole ∙ at_stop is.stops
         let q = quant_after_all quant is.mbs in
         let c : Bits = record { at = b.at + length is.texts; bits = is.left } in
         let read = (first_fault_is (next_mb a q is.mbs) c d
-            (laws.productive a.kind q (a.reaches (a.first + length is.mbs)) (a.predictor is.mbs))).1 h.2 in
+        (laws.productive a.kind q (a.reaches (a.first + length is.mbs)) (a.predictor is.mbs))).1 h.2 in
         let left = room - length is.mbs - 1 in
         after (suc left) (omega (arith, h.0))
-            ∙ stops_in_mb a left q (b.at + length is.texts) d.at is.mbs is.left d.kind h.1 read
+        ∙ stops_in_mb a left q (b.at + length is.texts) d.at is.mbs is.left d.kind h.1 read
 
 numbered_err : (first : ℕ) (r : Result (List Mb) Fault) (d : Fault) → numbered first r ≡ Err d → r ≡ Err d
 numbered_err first (Ok mbs) d e = absurd (err_not_ok d (first, mbs) (sym e))
@@ -473,10 +484,19 @@ slice_fault_found laws h begins b d e =
           let c = f.0.1 in
           let t = sound (head h begins) b c (first, quant) f.1 in
           let body = mbs_fault laws (around h first) (mbs_of h.format - first) quant [] c d
-              (numbered_err first (mbs_at (around h first) (mbs_of h.format - first) quant [] c) d f.2) in
-          inr (first, quant, t.0, c.bits, t.2, t.1.parts,
-              subst (λ (k : ℕ). IsBodyFault (around h first) quant (mbs_of h.format - first) [] (record { at = k;
-              bits = c.bits }) d) t.1.at body)
+          (numbered_err first (mbs_at (around h first) (mbs_of h.format - first) quant [] c) d f.2) in
+          inr (
+            first,
+            quant,
+            t.0,
+            c.bits,
+            t.2,
+            t.1.parts,
+            subst (λ (k : ℕ). IsBodyFault (around h first) quant (mbs_of h.format - first) [] (record {
+              at = k;
+              bits = c.bits;
+            }) d) t.1.at body,
+          )
     ]
 
 slice_fault_again : MbLaws → (h : Header) (begins : Bool) (b : Bits) (d : Fault) → IsSliceFault h begins b d
@@ -488,17 +508,27 @@ slice_fault_again laws h begins b d (inr f) =
     let quant = f.1 in
     ap (λ (t : List Bool). slice_at h begins (record { at = b.at; bits = t })) f.5
     ∙ after_head h begins first quant b.at f.2 f.3 d.kind d.at f.4 (mbs_fault_again laws (around h first)
-        (mbs_of h.format - first) quant (record { at = b.at + length f.2; bits = f.3 }) d f.6)
+    (mbs_of h.format - first) quant (record { at = b.at + length f.2; bits = f.3 }) d f.6)
 
 pub slice_faults : MbLaws → SliceFaults
 slice_faults laws = record {
   whole = λ h begins b fault. (slice_fault_found laws h begins b fault, slice_fault_again laws h begins b fault);
   head = λ h begins b fault. first_fault_is (head h begins) b fault (head_productive h begins);
   first_head = λ h. record { marker = first_marker h; address = first_address h; end = first_end h };
-  places = λ f. record { start = place_start f; marker = place_marker f; first = place_first f; past = place_past f;
-      quant = place_quant f; end = place_end f };
+  places = λ f. record {
+    start = place_start f;
+    marker = place_marker f;
+    first = place_first f;
+    past = place_past f;
+    quant = place_quant f;
+    end = place_end f;
+  };
   tails = tail_faults;
   later_head = λ h. record { of_place = later_place h; of_tail = later_tail h };
-  body = λ h begins. record { of_head = head_row h begins; empty = empty_row h begins;
-      trailing = trailing_row laws h begins; of_mb = mb_row laws h begins };
+  body = λ h begins. record {
+    of_head = head_row h begins;
+    empty = empty_row h begins;
+    trailing = trailing_row laws h begins;
+    of_mb = mb_row laws h begins;
+  };
 }

@@ -36,14 +36,18 @@ last_again bytes len last within e =
     let size : len - (len - n) ≡ n = omega arith in
     let whole : at + n ≡ len = omega arith in
     let rest : List Bool = take n (drop at bits) in
-    let long : n ≤ length rest = omega (arith, length-take n (drop at bits), length-drop at bits,
-        length-bits_of bytes) in
+    let long : n ≤ length rest = omega (
+      arith,
+      length-take n (drop at bits),
+      length-drop at bits,
+      length-bits_of bytes,
+    ) in
     let window : take n (take (len - (len - n)) (drop (len - n) bits))
-        ≡ take n rest = ap (λ (k : ℕ). take n (take k (drop (len - n) bits))) size
-        ∙ ap (λ (k : ℕ). take n (take n (drop k bits))) from in
+    ≡ take n rest = ap (λ (k : ℕ). take n (take k (drop (len - n) bits))) size
+    ∙ ap (λ (k : ℕ). take n (take n (drop k bits))) from in
     let same : take n rest ≡ rest = take_all n rest (omega (arith, length-take n (drop at bits))) in
     let spelt : spelled n last ≡ rest = ap (λ (k : ℕ). spelled n k) (e ∙ ap number window) ∙ spelled_first n rest long
-        ∙ same in
+    ∙ same in
     ap (λ (t : List Bool). take at bits ++ t) spelt ∙ sym (take-add at n bits) ∙ ap (λ (k : ℕ). take k bits) whole
 
 -- the bits of a text stand at the start of the bytes
@@ -54,9 +58,9 @@ text_there text bytes h within =
     let whole : 8 * bytes_of text ≡ n + to_byte n = whole_bytes n in
     let room : bytes_of text ≤ length bytes = omega arith in
     let shown : take (8 * bytes_of text) (bits_of bytes) ≡ padded text = sym (bits_of-take (bytes_of text) bytes room)
-        ∙ h in
+    ∙ h in
     sym (take-take n (8 * bytes_of text) (bits_of bytes) (omega arith) (omega (arith, length-bits_of bytes)))
-        ∙ ap (take n) shown ∙ take_at text (spelled (to_byte n) 0) n refl
+    ∙ ap (take n) shown ∙ take_at text (spelled (to_byte n) 0) n refl
 
 -- after a text of n bits the bytes were written again, from its last whole byte on
 pub grown : (old new apart : List ℕ) (text front more : List Bool) (n size : ℕ) → n ≡ length text → n ≤ 8 * length old
@@ -72,11 +76,11 @@ grown old new apart text front more n size is within h few last fits g e =
     let zeros : to_byte (length (front ++ more)) ≡ to_byte (length (text ++ more)) = omega (arith, long, longer) in
     let whole : bytes_of (text ++ more) ≡ at + size = omega (arith, long, longer, fits) in
     let bits : bits_of (take (at + size) new) ≡ bits_of (take at old) ++ bits_of (take size apart) = ap bits_of e
-        ∙ bits_of-append (take at old) (take size apart) in
+    ∙ bits_of-append (take at old) (take size apart) in
     let first : bits_of (take at old) ≡ take (8 * at) (bits_of old) = bits_of-take at old (omega arith) in
     let again : bits_of (take size apart) ≡ padded (front ++ more) = ap (λ (k : ℕ). bits_of (take k apart)) fits ∙ g in
     let there : take (8 * at) (bits_of old) ++ front ≡ text = last ∙ ap (λ (k : ℕ). take k (bits_of old)) is
-        ∙ text_there text old h (omega (arith, is, within)) in
+    ∙ text_there text old h (omega (arith, is, within)) in
     ap (λ (k : ℕ). bits_of (take k new)) whole
     ∙ bits
     ∙ ap (λ (t : List Bool). t ++ bits_of (take size apart)) first

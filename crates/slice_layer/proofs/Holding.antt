@@ -22,7 +22,7 @@ no_step quant = refl
 pub begun : (w : SliceWriter) (h : Header) (begins : Bool) (first : ℕ)
     → IsFront (opening_text h begins first) (bytes_in w) → w.len ≡ length (opening_text h begins first)
     → kind_of w ≡ h.kind → format_of w ≡ h.format → first_of w ≡ first → next_of w ≡ first → quant_of w ≡ h.quant
-        → w.vectors ≡ replicate 396 no_vector → HoldsSlice w h begins first []
+    → w.vectors ≡ replicate 396 no_vector → HoldsSlice w h begins first []
 begun w h begins first text len kind format from next quant vectors = record {
   text = subst (λ (t : List Bool). IsFront t (bytes_in w)) (sym (no_text h begins first)) text;
   len = len ∙ ap length (sym (no_text h begins first));
@@ -66,13 +66,13 @@ pub next_is : (w : SliceWriter) (h : Header) (begins : Bool) (first : ℕ) (mbs 
 next_is w h begins first mbs m v holds serves =
     let p : prediction w ≡ next_predictor h.format first mbs =
     ap (λ (l : List Vector). predictor_of l (first_of w) (next_of w) (columns_of (format_of w))) holds.vectors
-        ∙ ap (λ (k : ℕ). predictor_of (vectors_of first mbs) k (next_of w) (columns_of (format_of w))) holds.from
+    ∙ ap (λ (k : ℕ). predictor_of (vectors_of first mbs) k (next_of w) (columns_of (format_of w))) holds.from
     ∙ ap (λ (k : ℕ). predictor_of (vectors_of first mbs) first k (columns_of (format_of w))) holds.next
-        ∙ ap (λ (f : Format). predictor_of (vectors_of first mbs) first (first + length mbs) (columns_of f))
-        holds.format in
+    ∙ ap (λ (f : Format). predictor_of (vectors_of first mbs) first (first + length mbs) (columns_of f))
+    holds.format in
     serves ∙ ap (λ (k : Kind). mb_text k (quant_of w) (prediction w) m) holds.kind
-        ∙ ap (λ (q : ℕ). mb_text h.kind q (prediction w) m) holds.quant
-        ∙ ap (λ (u : Vector). mb_text h.kind (quant_after_all h.quant mbs) u m) p
+    ∙ ap (λ (q : ℕ). mb_text h.kind q (prediction w) m) holds.quant
+    ∙ ap (λ (u : Vector). mb_text h.kind (quant_after_all h.quant mbs) u m) p
 
 pub next_length : (w : SliceWriter) (h : Header) (begins : Bool) (first : ℕ) (mbs : List Mb) (m : Mb) (v : Vector)
     → HoldsSlice w h begins first mbs → Serves w m v
@@ -98,14 +98,19 @@ pub record Keeps (old new : SliceWriter) (m : Mb) : Type 0 where
 pub held : (old new : SliceWriter) (h : Header) (begins : Bool) (first : ℕ) (mbs : List Mb) (m : Mb)
     → HoldsSlice old h begins first mbs
     → IsFront (slice_text h begins first mbs ++ next_text h first mbs m) (bytes_in new)
-        → new.len ≡ old.len + length (next_text h first mbs m) → Keeps old new m
+    → new.len ≡ old.len + length (next_text h first mbs m) → Keeps old new m
     → HoldsSlice new h begins first (mbs ++ m ∷ [])
 held old new h begins first mbs m holds text len keeps =
     let e = slice_text-append h begins first mbs m in
     record {
       text = subst (λ (t : List Bool). IsFront t (bytes_in new)) (sym e) text;
-      len = omega (arith, len, holds.len, ap length e,
-          length-append (slice_text h begins first mbs) (next_text h first mbs m));
+      len = omega (
+        arith,
+        len,
+        holds.len,
+        ap length e,
+        length-append (slice_text h begins first mbs) (next_text h first mbs m),
+      );
       kind = keeps.kind ∙ holds.kind;
       format = keeps.format ∙ holds.format;
       from = keeps.from ∙ holds.from;

@@ -54,8 +54,10 @@ marked_word (v ∷ words) w e (inr later) =
 
 word_marked : (kind : Kind) (m : Mcbpc) (text : List Bool) → Spells (mcbpc kind) m text → HasOne text
 unfolding Spells mcbpc
-word_marked kind m text h = whole_one h.0 h.2 text h.4 (marked_word (mcbpc_table kind).list (h.0,
-    h.1) (words_marked kind) h.3)
+word_marked kind m text h = whole_one h.0 h.2 text h.4 (marked_word (mcbpc_table kind).list (
+  h.0,
+  h.1,
+) (words_marked kind) h.3)
 
 class_marked : (kind : Kind) (t : Turn (Unit {0}) Lead) (text : List Bool) → Spells (class_turn kind) t text
     → HasOne text

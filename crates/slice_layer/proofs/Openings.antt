@@ -48,14 +48,22 @@ length-place h first = omega (arith, length-fields (place_fields h first))
 -- how long the opening is after a picture header
 pub length-begins : HeaderLaws → (h : Header) (first : ℕ) → length (opening_text h true first)
     ≡ written_bits h + (2 + address_bits h.format)
-length-begins laws h first = omega (arith, length-append (written_header h) (fields (first_fields h)), laws.length h,
-    length-first h)
+length-begins laws h first = omega (
+  arith,
+  length-append (written_header h) (fields (first_fields h)),
+  laws.length h,
+  length-first h,
+)
 
 -- how long that of a later slice is
 pub length-later : (h : Header) (first : ℕ) → length (opening_text h false first)
     ≡ 14 + address_bits h.format + reference_bits h.trp
-length-later h first = omega (arith, length-append (fields (place_fields h first)) (tail_text h), length-place h first,
-    length-tail h)
+length-later h first = omega (
+  arith,
+  length-append (fields (place_fields h first)) (tail_text h),
+  length-place h first,
+  length-tail h,
+)
 
 -- it has 262 bits at most
 pub opening_short : HeaderLaws → (h : Header) (begins : Bool) (first : ℕ) → IsHeader h

@@ -76,9 +76,12 @@ inside h k reach (mbs.Inter quant v blocks) same is = (same v.x v.y).1 is
 pub next_within : {X : Type 0} (r : Result X Fault) (old new : Bits) (h : Header) (k quant : ℕ) (reach : Reach)
     (predictor : Vector) (m : Mb) → ((x y : ℤ) → InReach h.format k x y ↔ IsWithin reach x y)
     → IfOk r (λ _. Takes old new (IsMbText h.kind quant reach predictor m)) → IfOk r (λ _. IsMb m × IsOfKind h.kind m)
-        → IfOk r (λ _. IsMbAt h k m)
-next_within (Ok x) old new h k quant reach predictor m same p q = record { in_range = q.0; of_kind = q.1;
-    reach = inside h k reach m same (mb_reached h.kind quant reach predictor m p.0 p.3) }
+    → IfOk r (λ _. IsMbAt h k m)
+next_within (Ok x) old new h k quant reach predictor m same p q = record {
+  in_range = q.0;
+  of_kind = q.1;
+  reach = inside h k reach m same (mb_reached h.kind quant reach predictor m p.0 p.3);
+}
 next_within (Err e) old new h k quant reach predictor m same p q = tt
 
 no_vector : (h : Header) (k : ℕ) (m : Mb) → IsOfKind kinds.I m → ReachesInside h.format k m
@@ -89,6 +92,9 @@ no_vector h k (mbs.Inter quant v blocks) is = absurd is
 -- and in an I picture, where it has no vector
 pub next_in_i : {X : Type 0} (r : Result X Fault) (h : Header) (k : ℕ) (m : Mb) → h.kind ≡ kinds.I
     → IfOk r (λ _. IsMb m × IsOfKind kinds.I m) → IfOk r (λ _. IsMbAt h k m)
-next_in_i (Ok x) h k m is q = record { in_range = q.0; of_kind = subst (λ (kind : Kind). IsOfKind kind m) (sym is) q.1;
-    reach = no_vector h k m q.1 }
+next_in_i (Ok x) h k m is q = record {
+  in_range = q.0;
+  of_kind = subst (λ (kind : Kind). IsOfKind kind m) (sym is) q.1;
+  reach = no_vector h k m q.1;
+}
 next_in_i (Err e) h k m is q = tt

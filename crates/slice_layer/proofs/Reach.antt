@@ -45,17 +45,22 @@ Between low high v = (low ≤ℤ v) × (v ≤ℤ high)
 part_between : (at size : ℕ) (v : ℤ) → at + 16 ≤ size → InPart at size v → Between (least at) (most at size) v
 part_between at size v fits h =
     let p = halves v in
-    let w = inside_within at size (unsigned_abs v % 2) v (int_shr v 1) p.whole p.bit fits h.2.0 h.2.1 in
-    (omega (arith, ints, h.0, w.0, int_max_is (neg_ℤ (pos 32)) (neg_ℤ (pos (2 * at)))),
-        omega (arith, ints, h.1, w.1, int_min_is (pos 31) (pos (2 * (size - (at + 16))))))
+    let w = inside_within at size (unsigned_abs v % 2) v (int_shr v 1) p.whole p.bit fits h.2.0 h.2.1 in (
+      omega (arith, ints, h.0, w.0, int_max_is (neg_ℤ (pos 32)) (neg_ℤ (pos (2 * at)))),
+      omega (arith, ints, h.1, w.1, int_min_is (pos 31) (pos (2 * (size - (at + 16))))),
+    )
 
 between_part : (at size : ℕ) (v : ℤ) → at + 16 ≤ size → Between (least at) (most at size) v → InPart at size v
 between_part at size v fits h =
     let p = halves v in
     let low : neg_ℤ (pos (2 * at)) ≤ℤ v = omega (arith, ints, h.0, int_max_is (neg_ℤ (pos 32)) (neg_ℤ (pos (2 * at))))
-        in
-    let high : v ≤ℤ pos (2 * (size - (at + 16))) = omega (arith, ints, h.1,
-        int_min_is (pos 31) (pos (2 * (size - (at + 16))))) in
+    in
+    let high : v ≤ℤ pos (2 * (size - (at + 16))) = omega (
+      arith,
+      ints,
+      h.1,
+      int_min_is (pos 31) (pos (2 * (size - (at + 16)))),
+    ) in
     let w = within_inside at size (unsigned_abs v % 2) v (int_shr v 1) p.whole p.bit fits low high in (
       omega (arith, ints, h.0, int_max_is (neg_ℤ (pos 32)) (neg_ℤ (pos (2 * at)))),
       omega (arith, ints, h.1, int_min_is (pos 31) (pos (2 * (size - (at + 16))))),
@@ -63,8 +68,10 @@ between_part at size v fits h =
     )
 
 none_between : (at size : ℕ) → Between (least at) (most at size) (pos 0)
-none_between at size = (omega (arith, ints, int_max_is (neg_ℤ (pos 32)) (neg_ℤ (pos (2 * at)))),
-    omega (arith, ints, int_min_is (pos 31) (pos (2 * (size - (at + 16))))))
+none_between at size = (
+  omega (arith, ints, int_max_is (neg_ℤ (pos 32)) (neg_ℤ (pos (2 * at)))),
+  omega (arith, ints, int_min_is (pos 31) (pos (2 * (size - (at + 16))))),
+)
 
 -- ---- both
 
@@ -83,10 +90,14 @@ pub reach_within : AreReached
 reach_within f k x y lt =
     let a = across_fits f k in
     let b = along_fits f k lt in (
-      λ h. (part_between (16 * (k % columns_of f)) (width_of f) x a h.0,
-          part_between (16 * (k / columns_of f)) (height_of f) y b h.1),
-      λ h. (between_part (16 * (k % columns_of f)) (width_of f) x a h.0,
-          between_part (16 * (k / columns_of f)) (height_of f) y b h.1),
+      λ h. (
+        part_between (16 * (k % columns_of f)) (width_of f) x a h.0,
+        part_between (16 * (k / columns_of f)) (height_of f) y b h.1,
+      ),
+      λ h. (
+        between_part (16 * (k % columns_of f)) (width_of f) x a h.0,
+        between_part (16 * (k / columns_of f)) (height_of f) y b h.1,
+      ),
     )
 
 equal : (a b : ℤ) → a ≤ℤ b → b ≤ℤ a → a ≡ b
@@ -104,17 +115,21 @@ same_reach : (r s : Reach) → ((x y : ℤ) → IsWithin r x y → IsWithin s x 
 same_reach r s to back none =
     let own = back (pos 0) (pos 0) none in
     let left : r.left ≡ s.left =
-        equal r.left s.left (back s.left (pos 0) ((≤ℤ_refl s.left, none_wide s.left s.right none.0), none.1)).0.0
-        (to r.left (pos 0) ((≤ℤ_refl r.left, none_wide r.left r.right own.0), own.1)).0.0 in
+    equal r.left s.left (back s.left (pos 0) ((≤ℤ_refl s.left, none_wide s.left s.right none.0), none.1)).0.0
+    (to r.left (pos 0) ((≤ℤ_refl r.left, none_wide r.left r.right own.0), own.1)).0.0 in
     let right : r.right ≡ s.right =
-        equal r.right s.right (to r.right (pos 0) ((none_wide r.left r.right own.0, ≤ℤ_refl r.right), own.1)).0.1
-        (back s.right (pos 0) ((none_wide s.left s.right none.0, ≤ℤ_refl s.right), none.1)).0.1 in
-    let up : r.up ≡ s.up = equal r.up s.up (back (pos 0) s.up (none.0,
-        (≤ℤ_refl s.up, none_wide s.up s.down none.1))).1.0 (to (pos 0) r.up (own.0,
-        (≤ℤ_refl r.up, none_wide r.up r.down own.1))).1.0 in
+    equal r.right s.right (to r.right (pos 0) ((none_wide r.left r.right own.0, ≤ℤ_refl r.right), own.1)).0.1
+    (back s.right (pos 0) ((none_wide s.left s.right none.0, ≤ℤ_refl s.right), none.1)).0.1 in
+    let up : r.up ≡ s.up = equal r.up s.up (back (pos 0) s.up (
+      none.0,
+      (≤ℤ_refl s.up, none_wide s.up s.down none.1),
+    )).1.0 (to (pos 0) r.up (
+      own.0,
+      (≤ℤ_refl r.up, none_wide r.up r.down own.1),
+    )).1.0 in
     let down : r.down ≡ s.down =
-        equal r.down s.down (to (pos 0) r.down (own.0, (none_wide r.up r.down own.1, ≤ℤ_refl r.down))).1.1
-        (back (pos 0) s.down (none.0, (none_wide s.up s.down none.1, ≤ℤ_refl s.down))).1.1 in
+    equal r.down s.down (to (pos 0) r.down (own.0, (none_wide r.up r.down own.1, ≤ℤ_refl r.down))).1.1
+    (back (pos 0) s.down (none.0, (none_wide s.up s.down none.1, ≤ℤ_refl s.down))).1.1 in
     same_made r.left r.right r.up r.down s.left s.right s.up s.down left right up down
   where
     none_wide : (a b : ℤ) → Between a b (pos 0) → a ≤ℤ b
@@ -125,5 +140,5 @@ pub reach_is : (f : Format) (k : ℕ) (r : Reach) → k < mbs_of f → ((x y : �
     → r ≡ reach_of f k
 reach_is f k r lt h =
     same_reach r (reach_of f k) (λ x y w. (reach_within f k x y lt).0 ((h x y).1 w))
-        (λ x y w. (h x y).0 ((reach_within f k x y lt).1 w))
+    (λ x y w. (h x y).0 ((reach_within f k x y lt).1 w))
     (none_between (16 * (k % columns_of f)) (width_of f), none_between (16 * (k / columns_of f)) (height_of f))

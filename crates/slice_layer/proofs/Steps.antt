@@ -42,7 +42,7 @@ pub record IsSoFar (h : Header) (first : ℕ) (old : List Mb) (whole : Result (L
 pub none_yet : (h : Header) (first quant : ℕ) (old : List Mb) (b : Bits) → first < mbs_of h.format
     → length old ≡ mbs_of h.format → IsQuant quant
     → IsSoFar h first old (mbs_at (around h first) (mbs_of h.format - first) quant [] b) first quant
-        (replicate 396 no_vector) old b
+    (replicate 396 no_vector) old b
 none_yet h first quant old b inside size is = record {
   mbs = [];
   at-is = omega arith;
@@ -87,7 +87,7 @@ none_more a room quant mbs fault b z e = rw (z, e) refl
 next_as : (h : Header) (first at quant : ℕ) (vectors : List Vector) (mbs : List Mb) → at ≡ first + length mbs
     → take at vectors ≡ vectors_of first mbs
     → mb h.kind quant (reach_of h.format at) (predictor_of (take at vectors) first at (columns_of h.format))
-        ≡ next_mb (around h first) quant mbs
+    ≡ next_mb (around h first) quant mbs
 next_as h first at quant vectors mbs e same = rw (same, e) refl
 
 quant_within : (quant : ℕ) (m : Mb) → IsQuant quant → IsMb m → IsQuant (quant_after quant m)
@@ -106,8 +106,8 @@ placed : (front mbs : List Mb) (old out : List Mb) (m : Mb) (at : ℕ) → at < 
 placed front mbs old out m at inside len filled =
     let more : drop at old ≡ get_or old at m ∷ drop (at + 1) old = rw add-one (drop-cons old at m inside) in
     let whole : out ≡ (front ++ mbs) ++ get_or old at m ∷ drop (at + 1) old = filled
-        ∙ ap (λ (l : List Mb). front ++ (mbs ++ l)) more
-        ∙ sym (append_assoc front mbs (get_or old at m ∷ drop (at + 1) old)) in
+    ∙ ap (λ (l : List Mb). front ++ (mbs ++ l)) more
+    ∙ sym (append_assoc front mbs (get_or old at m ∷ drop (at + 1) old)) in
     ap (λ (l : List Mb). set l at m) whole
     ∙ set_at (front ++ mbs) (get_or old at m) (drop (at + 1) old) m at (length-append front mbs ∙ sym len)
     ∙ append_assoc front mbs (m ∷ drop (at + 1) old)
@@ -123,29 +123,34 @@ each_more h first mbs m each one k lt =
       | inr past ↦
           let e : k ≡ length mbs + 0 = omega (arith, length-append mbs (m ∷ [])) in
           let same : mb_in (mbs ++ m ∷ []) k ≡ m = ap (λ (j : ℕ). mb_in (mbs ++ m ∷ []) j) e
-              ∙ get_or-append-add mbs (m ∷ []) 0 Skip in
+          ∙ get_or-append-add mbs (m ∷ []) 0 Skip in
           subst (λ (x : Mb). IsMbAt h (first + k) x) (sym same) (subst (λ (j : ℕ). IsMbAt h (first + j) m)
-              (omega (arith, e)) one)
+          (omega (arith, e)) one)
     ]
 
 pub with_next : (h : Header) (first : ℕ) (old : List Mb) (whole : Result (List Mb) Fault) (at quant : ℕ)
     (vectors : List Vector) (out : List Mb) (b c : Bits) (m : Mb) → IsSoFar h first old whole at quant vectors out b
     → at < mbs_of h.format → is_padding b.bits ≡ false
-        → reading (mb h.kind quant (reach_of h.format at) (predictor_of (take at vectors) first at
-        (columns_of h.format))) b ≡ Ok (m, c) → IsMbAt h at m
+    → reading (mb h.kind quant (reach_of h.format at) (predictor_of (take at vectors) first at
+    (columns_of h.format))) b ≡ Ok (m, c) → IsMbAt h at m
     → IsSoFar h first old whole (at + 1) (quant_after quant m) (set vectors at (vector_of m)) (set out at m) c
 with_next h first old whole at quant vectors out b c m so inside z e is =
     let syntax = next_as h first at quant vectors so.mbs so.at-is so.vectors-are in
     let read : reading (next_mb (around h first) quant so.mbs) b ≡ Ok (m, c) = ap (λ (s : Syntax Mb). reading s b)
-        (sym syntax) ∙ e in
+    (sym syntax) ∙ e in
     let room : mbs_of h.format - at ≡ suc (mbs_of h.format - (at + 1)) = omega arith in
     record {
       mbs = so.mbs ++ m ∷ [];
       at-is = omega (arith, so.at-is, length-append so.mbs (m ∷ []));
       within = omega arith;
       size = so.size;
-      filled = placed (take first old) so.mbs old out m at (omega (arith, so.size)) (omega (arith, so.at-is, so.size,
-          so.within, length-take-le first old (omega (arith, so.at-is, so.size, so.within)))) so.filled;
+      filled = placed (take first old) so.mbs old out m at (omega (arith, so.size)) (omega (
+        arith,
+        so.at-is,
+        so.size,
+        so.within,
+        length-take-le first old (omega (arith, so.at-is, so.size, so.within)),
+      )) so.filled;
       many = length-set vectors at (vector_of m) ∙ so.many;
       vectors-are = take_more_set vectors at (vector_of m) (omega (arith, so.many, mbs_few h.format))
           ∙ ap (λ (l : List Vector). l ++ vector_of m ∷ []) so.vectors-are ∙ vectors_more first so.mbs m;
@@ -159,15 +164,15 @@ pub with_none : (h : Header) (first : ℕ) (old : List Mb) (whole : Result (List
     (vectors : List Vector) (out : List Mb) (b : Bits) (fault : Fault)
     → IsSoFar h first old whole at quant vectors out b
     → at < mbs_of h.format → is_padding b.bits ≡ false
-        → reading (mb h.kind quant (reach_of h.format at) (predictor_of (take at vectors) first at
-        (columns_of h.format))) b ≡ Err fault → whole ≡ Err fault
+    → reading (mb h.kind quant (reach_of h.format at) (predictor_of (take at vectors) first at
+    (columns_of h.format))) b ≡ Err fault → whole ≡ Err fault
 with_none h first old whole at quant vectors out b fault so inside z e =
     let syntax = next_as h first at quant vectors so.mbs so.at-is so.vectors-are in
     let read : reading (next_mb (around h first) quant so.mbs) b ≡ Err fault = ap (λ (s : Syntax Mb). reading s b)
-        (sym syntax) ∙ e in
+    (sym syntax) ∙ e in
     let room : mbs_of h.format - at ≡ suc (mbs_of h.format - (at + 1)) = omega arith in
     sym so.reads ∙ ap (λ (n : ℕ). mbs_at (around h first) n quant so.mbs b) room
-        ∙ none_more (around h first) (mbs_of h.format - (at + 1)) quant so.mbs fault b z read
+    ∙ none_more (around h first) (mbs_of h.format - (at + 1)) quant so.mbs fault b z read
 
 pub past_last : (h : Header) (first : ℕ) (old : List Mb) (whole : Result (List Mb) Fault) (at quant : ℕ)
     (vectors : List Vector) (out : List Mb) (b : Bits) → IsSoFar h first old whole at quant vectors out b
@@ -175,7 +180,7 @@ pub past_last : (h : Header) (first : ℕ) (old : List Mb) (whole : Result (List
 past_last h first old whole at quant vectors out b so last z =
     let room : mbs_of h.format - at ≡ 0 = omega arith in
     sym so.reads ∙ ap (λ (n : ℕ). mbs_at (around h first) n quant so.mbs b) room
-        ∙ no_room (around h first) quant so.mbs b z
+    ∙ no_room (around h first) quant so.mbs b z
 
 none_of : (mbs : List Mb) (b : Bits) → length mbs ≡ 0 → stops mbs b ≡ Err (record { kind = faults.Empty; at = b.at })
 none_of [] b e = refl
@@ -190,7 +195,7 @@ pub none_there : (h : Header) (first : ℕ) (old : List Mb) (whole : Result (Lis
     → at ≡ first → is_padding b.bits ≡ true → whole ≡ Err (record { kind = faults.Empty; at = b.at })
 none_there h first old whole at quant vectors out b so same z =
     sym so.reads ∙ at_end (around h first) (mbs_of h.format - at) quant so.mbs b z
-        ∙ none_of so.mbs b (omega (arith, so.at-is))
+    ∙ none_of so.mbs b (omega (arith, so.at-is))
 
 -- ---- where the slice ends
 
@@ -208,7 +213,7 @@ module _ (h : Header) (first : ℕ) (old : List Mb) (whole : Result (List Mb) Fa
   pub found : at ≢ first → is_padding b.bits ≡ true → whole ≡ Ok (mbs_from first (at - first) out)
   found some z =
       sym so.reads ∙ at_end (around h first) (mbs_of h.format - at) quant so.mbs b z
-          ∙ some_of so.mbs b (omega (arith, so.at-is)) ∙ ap (λ (l : List Mb). Ok l) (sym taken)
+      ∙ some_of so.mbs b (omega (arith, so.at-is)) ∙ ap (λ (l : List Mb). Ok l) (sym taken)
 
   there : (k : ℕ) → first ≤ k → k < at → mb_in out k ≡ mb_in so.mbs (k - first)
   there k low high =
@@ -223,17 +228,17 @@ module _ (h : Header) (first : ℕ) (old : List Mb) (whole : Result (List Mb) Fa
         let inside : k < at = omega (arith, so.at-is) in
         let e : first + (k - first) ≡ k = omega arith in
         subst (λ (m : Mb). IsMbAt h k m) (sym (there k low inside))
-            (subst (λ (j : ℕ). IsMbAt h j (mb_in so.mbs (k - first))) e
-            (so.each (k - first) (omega (arith, so.at-is))));
+        (subst (λ (j : ℕ). IsMbAt h j (mb_in so.mbs (k - first))) e
+        (so.each (k - first) (omega (arith, so.at-is))));
   }
 
   pub others : AreOthersSame old out (record { first = first; count = at - first })
   others =
       let place : first + (at - first) ≡ at = omega (arith, so.at-is) in
       let all : out ≡ (take first old ++ so.mbs) ++ drop at old = so.filled
-          ∙ sym (append_assoc (take first old) so.mbs (drop at old)) in
+      ∙ sym (append_assoc (take first old) so.mbs (drop at old)) in
       let len : length (take first old ++ so.mbs)
-          ≡ at = omega (arith, front-length, length-append (take first old) so.mbs, so.at-is) in
+      ≡ at = omega (arith, front-length, length-append (take first old) so.mbs, so.at-is) in
       record {
         before = ap (λ (l : List Mb). take first l) so.filled
             ∙ take_at (take first old) (so.mbs ++ drop at old) first front-length;

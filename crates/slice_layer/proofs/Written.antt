@@ -67,7 +67,7 @@ place_spelt h first is later lt =
     spells_field 1 (only 1 faults.NoStart) _ _ 1 _ (omega arith) refl
     (spells_field 1 (only 1 faults.Marker) _ _ 1 _ (omega arith) refl
     (spells_field (address_bits h.format) (allowed_first h.format) _ _ first _
-        (omega (arith, lt, address_fits h.format)) (later_allowed h.format first later lt)
+    (omega (arith, lt, address_fits h.format)) (later_allowed h.format first later lt)
     (spells_field 5 allowed_quant _ _ h.quant _ (omega (arith, is.quant_low)) (quant_allowed h.quant is.quant_some)
     (spells_field 1 (only 1 faults.Marker) _ _ 1 _ (omega arith) refl (spells_done (first, h.quant))))))
 
@@ -96,11 +96,11 @@ tail_spelt : (h : Header) → IsHeader h → Spells (tail h.trp) tt (tail_text h
 unfolding tail
 tail_spelt h is =
     spells_whole (tail h.trp) tt _ (tail_text h) (regroup (spelled 2 (gfid h)) (spelled 1 0)
-        (fields (reference_fields h.trp) ++ fields ((2, 1) ∷ [])))
+    (fields (reference_fields h.trp) ++ fields ((2, 1) ∷ [])))
     (spells_field 2 any _ _ (gfid h) _ (omega (arith, is.rounding, code_low h.kind)) refl
     (spells_field 1 (only 0 faults.SliceReference) _ _ 0 _ (omega arith) refl
     (spells_part (reference h.trp) any _ tt tt (fields (reference_fields h.trp)) _
-        (reference_spelt h.trp (ten_bits h.clock h.kind h.trp is.trp)) refl
+    (reference_spelt h.trp (ten_bits h.clock h.kind h.trp is.trp)) refl
     (spells_field 2 (only 1 faults.Bci) _ _ 1 _ (omega arith) refl (spells_done tt)))))
   where
     regroup : (a b c : List Bool) → a ++ (b ++ c) ≡ (a ++ (b ++ [])) ++ c
@@ -111,11 +111,11 @@ later_spelt : (h : Header) (first : ℕ) → IsHeader h → (first == 0) ≡ fal
 unfolding later_head
 later_spelt h first is later lt =
     spells_whole (later_head h) (first, h.quant) _ (head_text h false first)
-        (ap (λ (t : List Bool). fields (place_fields h first) ++ t) (append-nil (tail_text h)))
+    (ap (λ (t : List Bool). fields (place_fields h first) ++ t) (append-nil (tail_text h)))
     (spells_part (place h.format) any _ (first, h.quant) (first, h.quant) (fields (place_fields h first)) _
-        (place_spelt h first is later lt) refl
+    (place_spelt h first is later lt) refl
     (spells_part (tail h.trp) any _ (first, h.quant) tt (tail_text h) [] (tail_spelt h is) refl
-        (spells_done (first, h.quant))))
+    (spells_done (first, h.quant))))
 
 head_spelt : (h : Header) (begins : Bool) (first : ℕ) → IsHeader h → IsPlace h begins first
     → Spells (head h begins) (first, h.quant) (head_text h begins first)
@@ -132,17 +132,21 @@ unfolding AreWritable AreTexts mbs_text
 texts_spelt laws a quant before [] w = refl
 texts_spelt laws a quant before (m ∷ mbs) w =
     let one = laws.spelt a.kind quant (a.reaches (a.first + length before)) (a.predictor before) m w.0.in_range
-        w.0.of_kind w.0.step w.0.whole w.0.reached in
-    let more = texts_spelt laws a (quant_after quant m) (before ++ m ∷ []) mbs w.1 in
-    (mb_text a.kind quant (a.predictor before) m, mbs_text a (quant_after quant m) (before ++ m ∷ []) mbs, refl, one,
-        more)
+    w.0.of_kind w.0.step w.0.whole w.0.reached in
+    let more = texts_spelt laws a (quant_after quant m) (before ++ m ∷ []) mbs w.1 in (
+      mb_text a.kind quant (a.predictor before) m,
+      mbs_text a (quant_after quant m) (before ++ m ∷ []) mbs,
+      refl,
+      one,
+      more,
+    )
 
 -- ---- the slice
 
 slice_spelt : MbLaws → (h : Header) (begins : Bool) (first : ℕ) (mbs : List Mb) (padding : List Bool) → IsHeader h
     → IsPlace h begins first
     → 0 < length mbs → first + length mbs ≤ mbs_of h.format → AreWritable (around h first) h.quant [] mbs
-        → is_padding padding ≡ true
+    → is_padding padding ≡ true
     → IsSliceText h begins first mbs (head_text h begins first ++ (mbs_text (around h first) h.quant [] mbs ++ padding))
 slice_spelt laws h begins first mbs padding is at some within each zeros = record {
   front = head_text h begins first;
@@ -174,8 +178,10 @@ all_zero zero = refl
 all_zero (suc n) = rw (zero_bit n, all_zero n) refl
 
 zeros_are_padding : (n : ℕ) → is_padding (spelled (to_byte n) 0) ≡ true
-zeros_are_padding n = rw (lt-ltb (length (spelled (to_byte n) 0)) 8 (omega (arith, length-spelled (to_byte n) 0)),
-    all_zero (to_byte n)) refl
+zeros_are_padding n = rw (
+  lt-ltb (length (spelled (to_byte n) 0)) 8 (omega (arith, length-spelled (to_byte n) 0)),
+  all_zero (to_byte n),
+) refl
 
 -- ---- as a writer leaves it
 
@@ -192,21 +198,27 @@ later_padded laws h first mbs is at some within each =
 first_padded : MbLaws → (h : Header) (first : ℕ) (mbs : List Mb) → IsHeader h → IsPlace h true first
     → 0 < length mbs → first + length mbs ≤ mbs_of h.format → AreWritable (around h first) h.quant [] mbs
     → (text : List Bool) × (padded (slice_text h true first mbs) ≡ written_header h ++ text)
-        × IsSliceText h true first mbs text
+    × IsSliceText h true first mbs text
 first_padded laws h first mbs is at some within each =
     let n = length (slice_text h true first mbs) in
     let zeros : List Bool = spelled (to_byte n) 0 in
-    let text = mbs_text (around h first) h.quant [] mbs in
-    (head_text h true first ++ (text ++ zeros), regroup (written_header h) (head_text h true first) text zeros,
-        slice_spelt laws h true first mbs zeros is at some within each (zeros_are_padding n))
+    let text = mbs_text (around h first) h.quant [] mbs in (
+      head_text h true first ++ (text ++ zeros),
+      regroup (written_header h) (head_text h true first) text zeros,
+      slice_spelt laws h true first mbs zeros is at some within each (zeros_are_padding n),
+    )
   where
     regroup : (a b c d : List Bool) → ((a ++ b) ++ c) ++ d ≡ a ++ (b ++ (c ++ d))
     regroup a b c d = simp (append_assoc)
 
 -- the text that is written of a slice is one of its texts
 pub are_spelt : MbLaws → AreSpelt
-are_spelt laws = record { text = slice_spelt laws; later = later_padded laws; first = first_padded laws;
-    padding = zeros_are_padding }
+are_spelt laws = record {
+  text = slice_spelt laws;
+  later = later_padded laws;
+  first = first_padded laws;
+  padding = zeros_are_padding;
+}
 
 -- ---- one macroblock more
 
@@ -216,19 +228,19 @@ none_writable h first = tt
 
 more_writable : (a : Around) (quant : ℕ) (before mbs : List Mb) (m : Mb) → AreWritable a quant before mbs
     → IsWritable a.kind (quant_after_all quant mbs) (a.reaches (a.first + length (before ++ mbs))) m
-        → AreWritable a quant before (mbs ++ m ∷ [])
+    → AreWritable a quant before (mbs ++ m ∷ [])
 unfolding AreWritable
 more_writable a quant before [] m w one =
     (subst (λ (l : List Mb). IsWritable a.kind quant (a.reaches (a.first + length l)) m) (append-nil before) one, tt)
 more_writable a quant before (n ∷ mbs) m w one =
     let e : before ++ n ∷ mbs ≡ (before ++ n ∷ []) ++ mbs = sym (append_assoc before (n ∷ []) mbs) in
     let next = subst (λ (l : List Mb). IsWritable a.kind (quant_after_all (quant_after quant n) mbs)
-        (a.reaches (a.first + length l)) m) e one in
+    (a.reaches (a.first + length l)) m) e one in
     (w.0, more_writable a (quant_after quant n) (before ++ n ∷ []) mbs m w.1 next)
 
 one_more : (h : Header) (first : ℕ) (mbs : List Mb) (m : Mb) → AreWritable (around h first) h.quant [] mbs
     → IsWritable h.kind (quant_after_all h.quant mbs) (reach_of h.format (first + length mbs)) m
-        → AreWritable (around h first) h.quant [] (mbs ++ m ∷ [])
+    → AreWritable (around h first) h.quant [] (mbs ++ m ∷ [])
 one_more h first mbs m w one = more_writable (around h first) h.quant [] mbs m w one
 
 -- a text with one macroblock more

@@ -43,9 +43,9 @@ known_stays read rules [] part = refl
 known_stays read rules (Picture p ∷ items) part = refl
 known_stays read rules (Feedback bytes ∷ items) part =
     ap (λ (n : ℕ). known_by_feedback rules n (result_ok (read bytes)) ++ known_of read rules (with_part items part))
-        (count_stays items part)
+    (count_stays items part)
     ∙ ap (λ (l : List ℕ). known_by_feedback rules (pictures_in items) (result_ok (read bytes))
-        ++ l) (known_stays read rules items part)
+    ++ l) (known_stays read rules items part)
 
 -- a macroblock is in the piece's slice where it is in the packet's
 held : (piece : Piece) (q : call.Piece Style Mb) (m : ℕ) → Spells piece q → call.has_mb q.slice m ≡ holds piece.head m
@@ -66,7 +66,7 @@ module _ (laws : TakenLaws) (k : Kept) (items : List (Item Style Mb)) (part : Pa
     (keeps : Keeps k items) (spells : Spells piece part.piece) where
   pub added : (c : Collector) (p : StreamPicture Style Mb) → last_picture items ≡ Some p → part.piece.header ≡ p.header
       → Collects c (k.pictures - 1) (record { number = k.pictures - 1; piece = piece } ∷ keeps.taken)
-          → Keeps (record k { collector = c }) (with_part items part)
+      → Keeps (record k { collector = c }) (with_part items part)
   added c p is header collects = record {
     count = keeps.count ∙ sym (count_stays items part);
     tr = keeps.tr ∙ same_number (last_picture items)
@@ -97,11 +97,11 @@ module _ (laws : TakenLaws) (k : Kept) (items : List (Item Style Mb)) (part : Pa
           elim (cases_Bool (holds piece.head m)) [
             | inl in_it ↦
                 let more : has (with_more p part) m ≡ true = one_more p part m
-                    ∙ or_right _ _ (held piece part.piece m spells ∙ in_it) in
+                ∙ or_right _ _ (held piece part.piece m spells ∙ in_it) in
                 laws.held t keeps.taken m in_it ∙ sym more
             | inr out ↦
                 let same : has (with_more p part) m ≡ has p m = one_more p part m
-                    ∙ ap (λ (b : Bool). has p m || b) (held piece part.piece m spells ∙ out) ∙ or_false (has p m) in
+                ∙ ap (λ (b : Bool). has p m || b) (held piece part.piece m spells ∙ out) ∙ or_false (has p m) in
                 laws.not_held t keeps.taken (k.pictures - 1) m out ∙ of_last.marks m lt ∙ sym same
           ]
 
@@ -118,9 +118,9 @@ module _ (laws : TakenLaws) (k : Kept) (items : List (Item Style Mb)) (part : Pa
   pub begun : (c : Collector) (s : Selector) → has_any keeps.taken k.pictures ≡ false
       → Collects c k.pictures (record { number = k.pictures; piece = piece } ∷ keeps.taken)
       → SelectorStands (rules_of k.params) s (k.pictures + 1) (λ m. 0)
-          (is_among (known_of (read_message k.params.clock) (rules_of k.params) items))
+      (is_among (known_of (read_message k.params.clock) (rules_of k.params) items))
       → Keeps (record k { pictures = k.pictures + 1; tr = Some piece.header.tr; collector = c; selector = s })
-          (Picture (begun_by part) ∷ items)
+      (Picture (begun_by part) ∷ items)
   begun c s absent collects stands = record {
     count = ap (λ (n : ℕ). n + 1) keeps.count;
     tr = ap (λ (h : call.Header Style). Some h.number) (sym spells.header);
@@ -161,7 +161,7 @@ pub none_at_first : (k : Kept) (items : List (Item Style Mb)) (keeps : Keeps k i
 none_at_first k items keeps first =
     subst (λ (n : ℕ). has_any keeps.taken n ≡ false) (let z : k.pictures - 1 ≡ 0 = omega arith in z)
     (subst (λ (o : Option (StreamPicture Style Mb)). IsLast o (k.pictures - 1) (mbs_of k.params.format) keeps.taken)
-        (none items (sym keeps.count ∙ first)) keeps.last)
+    (none items (sym keeps.count ∙ first)) keeps.last)
   where
     none : (items : List (Item Style Mb)) → pictures_in items ≡ 0 → last_picture items ≡ None
     none [] e = refl

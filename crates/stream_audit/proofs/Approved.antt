@@ -40,7 +40,7 @@ module _ {Style Mb P Fault MessageFault : Type 0} (decoding : Decoding Style Mb 
       → slice_get (slices_of p) j ≡ Some part.piece.slice
   slice_at p j part at =
       slice_get-map (λ (x : Part Style Mb). x.piece.slice) p.parts j
-          ∙ ap (option_map (λ (x : Part Style Mb). x.piece.slice)) at
+      ∙ ap (option_map (λ (x : Part Style Mb). x.piece.slice)) at
 
   -- the place of the only packet that has a macroblock
   one_place : (p : StreamPicture Style Mb) (covers : Covers rules.mbs (slices_of p)) (j k : ℕ) (part : Part Style Mb)
@@ -76,10 +76,10 @@ module _ {Style Mb P Fault MessageFault : Type 0} (decoding : Decoding Style Mb 
             let there = slice_at p (covers.place_of k) h.0 h.2 in
             any_at (λ (x : Part Style Mb). has_mb x.piece.slice k) p.parts (covers.place_of k) h.0 h.2
             (covers.has (covers.place_of k) k h.0.piece.slice lt there
-                ∙ eq-eqb (covers.place_of k) (covers.place_of k) refl)
+            ∙ eq-eqb (covers.place_of k) (covers.place_of k) refl)
         | inr h ↦
             let same : length (slices_of p) ≡ length p.parts = length_map (λ (x : Part Style Mb). x.piece.slice) p.parts
-                in
+            in
             absurd (omega (arith, far, h.0, same))
       ]
 
@@ -99,7 +99,7 @@ module _ {Style Mb P Fault MessageFault : Type 0} (decoding : Decoding Style Mb 
     reference = going.reference;
     apart = λ i j k a b at_i at_j in_a in_b.
         going.apart i j k a b (slice_get_left p.parts (part ∷ []) i a at_i)
-            (slice_get_left p.parts (part ∷ []) j b at_j) in_a in_b;
+        (slice_get_left p.parts (part ∷ []) j b at_j) in_a in_b;
   }
 
   fresh_before : (items : List (Item Style Mb)) (p : StreamPicture Style Mb) (part : Part Style Mb)
@@ -107,9 +107,9 @@ module _ {Style Mb P Fault MessageFault : Type 0} (decoding : Decoding Style Mb 
   fresh_before items p part going k held = false_from_ne_true _ (λ (old : has p k ≡ true).
       let first = first_part p.parts k old in
       let at : slice_get (p.parts ++ part ∷ []) (place_in p.parts k) ≡ Some first.0 = slice_get_left p.parts (part ∷ [])
-          (place_in p.parts k) first.0 first.1 in
+      (place_in p.parts k) first.0 first.1 in
       let same : place_in p.parts k ≡ length p.parts = going.apart (place_in p.parts k) (length p.parts) k first.0 part
-          at (slice_get_last p.parts part) first.2 held in
+      at (slice_get_last p.parts part) first.2 held in
       let near = slice_get_within p.parts (place_in p.parts k) first.0 first.1 in
       absurd (omega (arith, same, near)))
 
@@ -118,12 +118,12 @@ module _ {Style Mb P Fault MessageFault : Type 0} (decoding : Decoding Style Mb 
   own_before items p part going =
       let header = (going.packets (length p.parts) part (slice_get_last p.parts part)).1 in
       let same : same_header decoding p.header part.piece.header
-          ≡ true = subst (λ (h : Header Style). same_header decoding p.header h ≡ true) (sym header)
-          (header_self decoding rules lawful p.header) in
+      ≡ true = subst (λ (h : Header Style). same_header decoding p.header h ≡ true) (sym header)
+      (header_self decoding rules lawful p.header) in
       let none : none_in part.piece.slice (has p)
-          ≡ true = (below (length part.piece.slice.mbs) (λ i. not (has p (part.piece.slice.first + i)))).1
+      ≡ true = (below (length part.piece.slice.mbs) (λ i. not (has p (part.piece.slice.first + i)))).1
       (λ i lt. ap not (fresh_before items p part going (part.piece.slice.first + i) (in_slice part.piece.slice i lt)))
-          in
+      in
       rw (same, none) refl
 
   part_last : (items : List (Item Style Mb)) (part : Part Style Mb) → Clean (with_part items part)
@@ -139,7 +139,7 @@ module _ {Style Mb P Fault MessageFault : Type 0} (decoding : Decoding Style Mb 
       → ((rest : ℕ) → o ≡ Some rest → (m : ℕ) × (nearest_below rules (pictures_in items) rest ≡ Some m)
       × (pictures_in items ≤ m + window rules) × (is_among (known_of read rules items) m ≡ true))
       → option_map_or (λ rest. option_map_or (may_refer rules (known_of read rules items) (pictures_in items))
-          (nearest_below rules (pictures_in items) rest) false) o true ≡ true
+      (nearest_below rules (pictures_in items) rest) false) o true ≡ true
   refers items None there = refl
   refers items (Some rest) there =
       let r = there rest refl in
@@ -151,9 +151,9 @@ module _ {Style Mb P Fault MessageFault : Type 0} (decoding : Decoding Style Mb 
   next_before items part clean =
       let whole = whole_of items clean.1 in
       let right : eqb part.piece.header.number (pictures_in items % period rules)
-          ≡ true = eq-eqb part.piece.header.number (pictures_in items % period rules) clean.0.number in
+      ≡ true = eq-eqb part.piece.header.number (pictures_in items % period rules) clean.0.number in
       let there : has_reference decoding read rules items part.piece.header
-          ≡ true = refers items part.piece.header.reference clean.0.reference in
+      ≡ true = refers items part.piece.header.reference clean.0.reference in
       (clean_of items clean.1, rw (whole, right, there) refl)
 
   -- ---- a log
@@ -165,13 +165,13 @@ module _ {Style Mb P Fault MessageFault : Type 0} (decoding : Decoding Style Mb 
       elim (cases_Bool (is_of (last_picture items) part.piece)) [
         | inl own ↦
             let r = part_last items part
-                (subst (λ (b : Bool). Clean (if b then with_part items part else Picture (begun_by part) ∷ items)) own
-                clean) in
+            (subst (λ (b : Bool). Clean (if b then with_part items part else Picture (begun_by part) ∷ items)) own
+            clean) in
             (r.0, rw (clock, own) (ap (option_map (broken_at (present items))) r.1))
         | inr next ↦
             let r = next_before items part
-                (subst (λ (b : Bool). Clean (if b then with_part items part else Picture (begun_by part) ∷ items)) next
-                clean) in
+            (subst (λ (b : Bool). Clean (if b then with_part items part else Picture (begun_by part) ∷ items)) next
+            clean) in
             (r.0, rw (clock, next) r.1)
       ]
 
@@ -186,9 +186,9 @@ module _ {Style Mb P Fault MessageFault : Type 0} (decoding : Decoding Style Mb 
       let part : Part Style Mb = record { bytes = bytes; piece = piece } in
       let r = packet_before (stream_of decoding past) part readable.0.2
       (subst (λ (x : Result (Piece Style Mb) Fault). Clean (with_bytes decoding (stream_of decoding past) bytes x))
-          reads clean) in
+      reads clean) in
       ap (λ (o : Option Broken). first_of o (broken_by decoding read rules (stream_of decoding past)
-          (decoding.read bytes))) (unbroken past readable.1 r.0)
+      (decoding.read bytes))) (unbroken past readable.1 r.0)
       ∙ ap (broken_by decoding read rules (stream_of decoding past)) reads
       ∙ r.1
 
@@ -197,6 +197,6 @@ module _ {Style Mb P Fault MessageFault : Type 0} (decoding : Decoding Style Mb 
       ≡ Yes (pictures_in (stream_of decoding past))
   sound_is_yes past readable sound =
       ap (λ (o : Option Broken). verdict_by decoding read rules o (stream_of decoding past))
-          (unbroken past readable (clean_of (stream_of decoding past) sound))
+      (unbroken past readable (clean_of (stream_of decoding past) sound))
       ∙ ap (λ (b : Bool). if b then Yes (pictures_in (stream_of decoding past)) else No
-          (present (stream_of decoding past)) rule.Gap) (whole_of (stream_of decoding past) sound)
+      (present (stream_of decoding past)) rule.Gap) (whole_of (stream_of decoding past) sound)

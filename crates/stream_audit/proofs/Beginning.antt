@@ -26,7 +26,7 @@ module _ (laws : TakenLaws) (below : AllBelowIs) (c : Collector) (n : ℕ) (take
     none = (below piece.head.count (λ i. not (has_in c n (piece.head.first + i)))).1 (λ i lt.
         let inside : piece.head.first + i < mbs_of (format_of c) = omega (arith, lt, head.within) in
         ap not (collects.marks n (piece.head.first + i) in_row inside
-            ∙ laws.never taken n (piece.head.first + i) absent));
+        ∙ laws.never taken n (piece.head.first + i) absent));
   }
 
 -- after the row's end nothing was taken

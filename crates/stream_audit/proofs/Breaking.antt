@@ -49,7 +49,7 @@ all_new : AllBelowIs → {Mb : Type 0} (slice : Slice Mb) (test : ℕ → Bool)
     → ((k : ℕ) → has_mb slice k ≡ true → test k ≡ false) → none_in slice test ≡ true
 all_new below slice test fresh =
     (below (length slice.mbs) (λ i. not (test (slice.first + i)))).1 (λ i lt. opposite (test (slice.first + i))
-        (fresh (slice.first + i) (held_at slice i lt)))
+    (fresh (slice.first + i) (held_at slice i lt)))
 
 module _ {Style Mb P Fault MessageFault : Type 0} (decoding : Decoding Style Mb P Fault) (read : List ℕ
     → Result Message MessageFault) (rules : Rules) (lawful : IsDecoding decoding rules) (below : AllBelowIs) where
@@ -58,7 +58,7 @@ module _ {Style Mb P Fault MessageFault : Type 0} (decoding : Decoding Style Mb 
   whole_told : (items : List (Item Style Mb)) → last_is_whole rules items ≡ true → LastIsWhole rules items
   whole_told items is p last k lt =
       (below rules.mbs (has p)).0 (ap (λ (o : Option (StreamPicture Style Mb)). option_map_or (is_whole rules) o true)
-          (sym last) ∙ is) k lt
+      (sym last) ∙ is) k lt
 
   whole_tested : (items : List (Item Style Mb)) (o : Option (StreamPicture Style Mb)) → last_picture items ≡ o
       → LastIsWhole rules items → option_map_or (is_whole rules) o true ≡ true
@@ -119,8 +119,11 @@ module _ {Style Mb P Fault MessageFault : Type 0} (decoding : Decoding Style Mb 
           )
 
           taken_twice : none_in piece.slice (has p) ≡ false → B (present items) rule.Overlap
-          taken_twice some = (refl, own,
-              λ fresh. clash (none_in piece.slice (has p)) (all_new below piece.slice (has p) fresh) some)
+          taken_twice some = (
+            refl,
+            own,
+            λ fresh. clash (none_in piece.slice (has p)) (all_new below piece.slice (has p) fresh) some,
+          )
 
           sound_there : same_header decoding p.header piece.header ≡ true → none_in piece.slice (has p) ≡ true
               → (n : ℕ) (r : Rule) → B n r → ⊥
@@ -135,7 +138,7 @@ module _ {Style Mb P Fault MessageFault : Type 0} (decoding : Decoding Style Mb 
               (λ k held.
               subst (λ (q : StreamPicture Style Mb). has q k ≡ false) (sym (same_picture h.1))
               (none_of below piece.slice (has p) k fresh (subst (λ (q : Piece Style Mb). has_mb q.slice k
-                  ≡ true) (same_piece h.1.piece h.1.read_as) held)))
+              ≡ true) (same_piece h.1.piece h.1.read_as) held)))
           sound_there same fresh n rule.Gap h = not_next h.1
           sound_there same fresh n rule.Number h = not_next h.1
           sound_there same fresh n rule.Reference h = not_next h.1
@@ -143,9 +146,9 @@ module _ {Style Mb P Fault MessageFault : Type 0} (decoding : Decoding Style Mb 
           own_holds : Holds (at_present (broken_within decoding read rules (Some p) piece))
           own_holds =
               holds_at (not (same_header decoding p.header piece.header)) (Some rule.Header) _
-                  (λ t. other_header (turned _ t))
+              (λ t. other_header (turned _ t))
               (λ t. holds_at (not (none_in piece.slice (has p))) (Some rule.Overlap) None
-                  (λ u. taken_twice (turned _ u)) (λ u. sound_there (kept _ t) (kept _ u)))
+              (λ u. taken_twice (turned _ u)) (λ u. sound_there (kept _ t) (kept _ u)))
 
         -- ---- a packet of the next picture
 
@@ -174,7 +177,7 @@ module _ {Style Mb P Fault MessageFault : Type 0} (decoding : Decoding Style Mb 
           referred rest None there e = absurd (false≢true e)
           referred rest (Some m) there e =
               let parts = and_parts (is_among known m) (leb count (m + window rules)) e in
-                  (m, (there, leb-true _ _ parts.1, parts.0))
+              (m, (there, leb-true _ _ parts.1, parts.0))
 
           tested : (rest m : ℕ) → MayRefer rest m
               → option_map_or (may_refer rules known count) (nearest_below rules count rest) false ≡ true
@@ -190,12 +193,19 @@ module _ {Style Mb P Fault MessageFault : Type 0} (decoding : Decoding Style Mb 
               (refl, next, rest, there, λ m near close is_known. clash _ (tested rest m (near, close, is_known)) e)
 
           no_gap : last_is_whole rules items ≡ false → B (present items) rule.Gap
-          no_gap lacks = (refl, next,
-              λ whole. clash (last_is_whole rules items) (whole_tested items (last_picture items) refl whole) lacks)
+          no_gap lacks = (
+            refl,
+            next,
+            λ whole. clash (last_is_whole rules items) (whole_tested items (last_picture items) refl whole) lacks,
+          )
 
           other_number : eqb piece.header.number (count % period rules) ≡ false → B count rule.Number
-          other_number differ = (refl, next, λ (e : piece.header.number ≡ count % period rules). clash _
-              (eq-eqb piece.header.number (count % period rules) e) differ)
+          other_number differ = (
+            refl,
+            next,
+            λ (e : piece.header.number ≡ count % period rules). clash _
+                (eq-eqb piece.header.number (count % period rules) e) differ,
+          )
 
           sound_next : last_is_whole rules items ≡ true → eqb piece.header.number (count % period rules) ≡ true
               → has_reference decoding read rules items piece.header ≡ true → (n : ℕ) (r : Rule) → B n r → ⊥
@@ -210,23 +220,23 @@ module _ {Style Mb P Fault MessageFault : Type 0} (decoding : Decoding Style Mb 
               ∙ ap (λ (k : ℕ). k % period rules) (sym h.0))
           sound_next whole number reference n rule.Reference h =
               let named : piece.header.reference ≡ Some h.2 = ap (λ (q : Piece Style Mb). q.header.reference)
-                  (sym (same_piece h.1.piece h.1.read_as)) ∙ h.3 in
+              (sym (same_piece h.1.piece h.1.read_as)) ∙ h.3 in
               let r = referred h.2 (nearest_below rules count h.2) refl
               (ap (λ (o : Option ℕ). option_map_or (λ rest. option_map_or (may_refer rules known count)
-                  (nearest_below rules count rest) false) o true) (sym named) ∙ reference)
+              (nearest_below rules count rest) false) o true) (sym named) ∙ reference)
               in
               h.4 r.0 (ap (λ (k : ℕ). nearest_below rules k h.2) h.0 ∙ r.1.0) (omega (arith, h.0, r.1.1)) r.1.2
 
           next_holds : Holds (broken_next decoding read rules items piece)
           next_holds =
               holds_if (not (last_is_whole rules items)) (Some (broken_at (present items) rule.Gap)) _
-                  (λ t. no_gap (turned _ t))
+              (λ t. no_gap (turned _ t))
               (λ t. holds_if (not (eqb piece.header.number (count % period rules))) (Some (broken_at count rule.Number))
-                  _ (λ u. other_number (turned _ u))
+              _ (λ u. other_number (turned _ u))
               (λ u. holds_if (not (has_reference decoding read rules items piece.header))
-                  (Some (broken_at count rule.Reference)) None
+              (Some (broken_at count rule.Reference)) None
               (λ v. none_known piece.header.reference refl (turned _ v)) (λ v. sound_next (kept _ t) (kept _ u)
-                  (kept _ v))))
+              (kept _ v))))
 
         by_last : (o : Option (StreamPicture Style Mb)) → last_picture items ≡ o → is_of o piece ≡ true
             → Holds (at_present (broken_within decoding read rules o piece))
@@ -237,7 +247,7 @@ module _ {Style Mb P Fault MessageFault : Type 0} (decoding : Decoding Style Mb 
             → last_picture items ≡ Some p → p.header.number ≡ piece.header.number → ⊥
         apart_from t p last number =
             clash (is_of (last_picture items) piece) (ap (λ (o : Option (StreamPicture Style Mb)). is_of o piece) last
-                ∙ eq-eqb p.header.number piece.header.number number) t
+            ∙ eq-eqb p.header.number piece.header.number number) t
 
       other_clock : eqb piece.header.half rules.half ≡ false → B (present items) rule.Packet
       other_clock differ = (
@@ -245,7 +255,7 @@ module _ {Style Mb P Fault MessageFault : Type 0} (decoding : Decoding Style Mb 
         λ fits.
             clash (eqb piece.header.half rules.half)
             (eq-eqb piece.header.half rules.half (ap (λ (q : Piece Style Mb). q.header.half)
-                (sym (same_piece fits.0 fits.1)) ∙ fits.2)) differ,
+            (sym (same_piece fits.0 fits.1)) ∙ fits.2)) differ,
       )
 
     packet_holds : (r : Result (Piece Style Mb) Fault) → decoding.read bytes ≡ r
@@ -253,11 +263,11 @@ module _ {Style Mb P Fault MessageFault : Type 0} (decoding : Decoding Style Mb 
     packet_holds (Err fault) is = (refl, λ fits. let e : Err fault ≡ Ok fits.0 = sym is ∙ fits.1 in absurd (cc e))
     packet_holds (Ok piece) is =
         holds_if (not (eqb piece.header.half rules.half)) (Some (broken_at (present items) rule.Packet)) _
-            (λ t. other_clock piece is (turned _ t))
+        (λ t. other_clock piece is (turned _ t))
         (λ t.
         let half = eqb-true piece.header.half rules.half (kept _ t) in
         holds_if (is_of (last_picture items) piece) _ _ (by_last piece is half (last_picture items) refl)
-            (λ u. next_holds piece is half (apart_from piece is half u)))
+        (λ u. next_holds piece is half (apart_from piece is half u)))
 
   -- ---- a log
 
@@ -337,7 +347,7 @@ module _ {Style Mb P Fault MessageFault : Type 0} (decoding : Decoding Style Mb 
       at_end : (t : Bool) → last_is_whole rules (stream_of decoding log) ≡ t → first_broken decoding read rules log
           ≡ None
           → (if t then Yes (pictures_in (stream_of decoding log)) else No (present (stream_of decoding log)) rule.Gap)
-              ≡ No n r → LacksAtEnd decoding read rules log n r
+          ≡ No n r → LacksAtEnd decoding read rules log n r
       at_end true is none e = absurd (cc e)
       at_end false is none e =
           let told = verdict_no (present (stream_of decoding log)) n rule.Gap r e in

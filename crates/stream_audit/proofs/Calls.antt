@@ -84,16 +84,25 @@ pub says : {Style Mb P : Type 0} (Fault : Type 0) (rules : Rules) (c : Call Styl
     → j < length (slices_at c.coded n)
     → said_to {Fault = Fault} n (delivery_answer rules c n j)
     ≡ map (told_of rules) (if delivery_counts rules c n j && is_full c.coded (with_arrival c.arrivals n j) n then Got n
-        (full_flags rules c.coded (with_arrival c.arrivals n j) n) ∷ [] else [])
+    (full_flags rules c.coded (with_arrival c.arrivals n j) n) ∷ [] else [])
 unfolding delivery_answer delivery_counts is_open
 says Fault rules c n j lt =
     elim (cases_lt n c.played) [
       | inl late ↦ rw (lt-ltb n c.played late, lt-leb c.played n late) refl
       | inr low ↦ elim (cases_lt (c.played + rules.lead) n) [
-        | inl early ↦ rw (le-ltb n c.played low, lt-ltb (c.played + rules.lead) n early, le-leb c.played n low,
-            lt-leb n (c.played + rules.lead) early) refl
-        | inr high ↦ rw (le-ltb n c.played low, le-ltb (c.played + rules.lead) n high, le-leb c.played n low,
-            le-leb n (c.played + rules.lead) high, lt-ltb j (length (slices_at c.coded n)) lt)
+        | inl early ↦ rw (
+          le-ltb n c.played low,
+          lt-ltb (c.played + rules.lead) n early,
+          le-leb c.played n low,
+          lt-leb n (c.played + rules.lead) early,
+        ) refl
+        | inr high ↦ rw (
+          le-ltb n c.played low,
+          le-ltb (c.played + rules.lead) n high,
+          le-leb c.played n low,
+          le-leb n (c.played + rules.lead) high,
+          lt-ltb j (length (slices_at c.coded n)) lt,
+        )
             (go (has_arrived c.arrivals n j) (is_full c.coded (with_arrival c.arrivals n j) n))
       ]
     ]
@@ -101,7 +110,7 @@ says Fault rules c n j lt =
     go : (came full : Bool) → said_to {Fault = Fault} n (if came then Repeat else if full then Completed
         (Ack (n % period rules) (full_flags rules c.coded (with_arrival c.arrivals n j) n)) else Taken)
         ≡ map (told_of rules) (if not came && full then Got n
-            (full_flags rules c.coded (with_arrival c.arrivals n j) n) ∷ [] else [])
+        (full_flags rules c.coded (with_arrival c.arrivals n j) n) ∷ [] else [])
     go true full = refl
     go false true = refl
     go false false = refl
@@ -162,15 +171,31 @@ pub header_is : {Style : Type 0} (h : Header Style) (number : ℕ) (reference : 
     → reference ≡ h.reference → h.half ≡ half
     → h ≡ (let g : Header Style = record { number = number; reference = reference; half = half; style = h.style } in g)
 header_is {Style} h number reference half a b c =
-    ap (λ (k : ℕ). let g : Header Style = record { number = k; reference = h.reference; half = h.half;
-        style = h.style } in g) a
-    ∙ ap (λ (o : Option ℕ). let g : Header Style = record { number = number; reference = o; half = h.half;
-        style = h.style } in g) (sym b)
-    ∙ ap (λ (k : ℕ). let g : Header Style = record { number = number; reference = reference; half = k;
-        style = h.style } in g) c
+    ap (λ (k : ℕ). let g : Header Style = record {
+      number = k;
+      reference = h.reference;
+      half = h.half;
+      style = h.style;
+    } in g) a
+    ∙ ap (λ (o : Option ℕ). let g : Header Style = record {
+      number = number;
+      reference = o;
+      half = h.half;
+      style = h.style;
+    } in g) (sym b)
+    ∙ ap (λ (k : ℕ). let g : Header Style = record {
+      number = number;
+      reference = reference;
+      half = k;
+      style = h.style;
+    } in g) c
 
 pub header_of_is : {Style Mb P : Type 0} (rules : Rules) (n : ℕ) (x : Coded Style Mb P)
-    → header_of rules n x ≡ (let g : Header Style = record { number = n % period rules;
-    reference = option_map (λ m. m % period rules) x.reference; half = rules.half; style = x.style } in g)
+    → header_of rules n x ≡ (let g : Header Style = record {
+      number = n % period rules;
+      reference = option_map (λ m. m % period rules) x.reference;
+      half = rules.half;
+      style = x.style;
+    } in g)
 unfolding header_of
 header_of_is rules n x = refl

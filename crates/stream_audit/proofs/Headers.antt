@@ -26,14 +26,30 @@ module _ {Style Mb P Fault : Type 0} (decoding : Decoding Style Mb P Fault) (rul
       let number = eqb-true a.number b.number one.0 in
       let half = eqb-true a.half b.half three.0 in
       let reference = same_reference_is a.reference b.reference two.0 in
-      ap (λ (n : ℕ). let g : Header Style = record { number = n; reference = a.reference; half = a.half;
-          style = a.style } in g) number
-      ∙ ap (λ (o : Option ℕ). let g : Header Style = record { number = b.number; reference = o; half = a.half;
-          style = a.style } in g) reference
-      ∙ ap (λ (n : ℕ). let g : Header Style = record { number = b.number; reference = b.reference; half = n;
-          style = a.style } in g) half
-      ∙ ap (λ (s : Style). let g : Header Style = record { number = b.number; reference = b.reference; half = b.half;
-          style = s } in g) style
+      ap (λ (n : ℕ). let g : Header Style = record {
+        number = n;
+        reference = a.reference;
+        half = a.half;
+        style = a.style;
+      } in g) number
+      ∙ ap (λ (o : Option ℕ). let g : Header Style = record {
+        number = b.number;
+        reference = o;
+        half = a.half;
+        style = a.style;
+      } in g) reference
+      ∙ ap (λ (n : ℕ). let g : Header Style = record {
+        number = b.number;
+        reference = b.reference;
+        half = n;
+        style = a.style;
+      } in g) half
+      ∙ ap (λ (s : Style). let g : Header Style = record {
+        number = b.number;
+        reference = b.reference;
+        half = b.half;
+        style = s;
+      } in g) style
 
   pub header_self : (h : Header Style) → same_header decoding h h ≡ true
   unfolding same_header

@@ -30,7 +30,7 @@ pub some_before : (k : Kept) → Fits k → (number : ℕ) → option_map_or (λ
     → 0 < k.pictures
 some_before k fits number is =
     positive k.pictures (λ first. false≢true (ap (λ (o : Option ℕ). option_map_or (λ n. eqb n number) o false)
-        (sym (fits.before_first first).0) ∙ is))
+    (sym (fits.before_first first).0) ∙ is))
 
 -- a packet is of the last picture where it has that one's temporal reference
 pub last_own : (k : Kept) (items : List (Item Style Mb)) (piece : Piece) (q : call.Piece Style Mb) → Keeps k items
@@ -73,13 +73,13 @@ module _ (k : Kept) (items : List (Item Style Mb)) (part : Part Style Mb) (piece
   pub at_own : piece.header.clock ≡ k.params.clock → is_of (last_picture items) part.piece ≡ true
       → (p : StreamPicture Style Mb) → last_picture items ≡ Some p
       → (o : Option Rule) → o ≡ broken_within (decoding k.params.format) (read_message k.params.clock)
-          (rules_of k.params) (Some p) part.piece
+      (rules_of k.params) (Some p) part.piece
       → option_map (broken_at (k.pictures - 1)) o ≡ By
   at_own same own p is o at =
       ap (λ (n : ℕ). option_map (broken_at n) o) (sym here)
       ∙ ap (option_map (broken_at (present items))) (at
-          ∙ ap (λ (x : Option (StreamPicture Style Mb)). broken_within (decoding k.params.format)
-          (read_message k.params.clock) (rules_of k.params) x part.piece) (sym is))
+      ∙ ap (λ (x : Option (StreamPicture Style Mb)). broken_within (decoding k.params.format)
+      (read_message k.params.clock) (rules_of k.params) x part.piece) (sym is))
       ∙ sym (rw (same_half same, own) refl)
 
   pub kept_own : (new : Kept) → is_of (last_picture items) part.piece ≡ true → Keeps new (with_part items part)

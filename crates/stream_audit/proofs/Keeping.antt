@@ -67,17 +67,17 @@ module _ (laws : TakenLaws) (whole : (h : Header) → header_from (header_of h) 
     same_from no_other =
         let m = laws.member keeps.taken (k.pictures - 1) of_last.some in
         let equal : p.header ≡ q.header = sym (of_last.header m.0 m.1 m.2) ∙ ap header_of (no_other m.0 m.1 m.2)
-            ∙ sym spells.header in
+        ∙ sym spells.header in
         subst (λ (h : call.Header Style). call.same_header (decoding k.params.format) p.header h ≡ true) equal
-            (header_self (decoding k.params.format) (rules_of k.params) lawful p.header)
+        (header_self (decoding k.params.format) (rules_of k.params) lawful p.header)
 
     other_from : HasOther keeps.taken (k.pictures - 1) piece.header
         → call.same_header (decoding k.params.format) p.header q.header ≡ false
     other_from other = false_from_ne_true _ (λ e.
         let equal : p.header ≡ q.header = same_header_is (decoding k.params.format) (rules_of k.params) lawful p.header
-            q.header e in
+        q.header e in
         let seen : header_of other.0.piece.header ≡ header_of piece.header = of_last.header other.0 other.1 other.2
-            ∙ equal ∙ spells.header in
+        ∙ equal ∙ spells.header in
         other.3 (sym (whole other.0.piece.header) ∙ ap header_from seen ∙ whole piece.header))
 
     marked : (i : ℕ) → i < piece.head.count → has p (q.slice.first + i)
@@ -93,7 +93,7 @@ module _ (laws : TakenLaws) (whole : (h : Header) → header_from (header_of h) 
     broken : (same none : Bool) → call.same_header (decoding k.params.format) p.header q.header ≡ same
         → none_in q.slice (has p) ≡ none
         → broken_within (decoding k.params.format) (read_message k.params.clock) (rules_of k.params) (Some p) q
-            ≡ (if not same then Some rule.Header else if not none then Some rule.Overlap else None)
+        ≡ (if not same then Some rule.Header else if not none then Some rule.Overlap else None)
     broken same none e f = λ i. if not (e i) then Some rule.Header else if not (f i) then Some rule.Overlap else None
 
     pub within_is : (place : Place) → IsPlace keeps.taken (k.pictures - 1) piece place
@@ -111,10 +111,10 @@ pub whole_is : (k : Kept) (items : List (Item Style Mb)) (keeps : Keeps k items)
     → is_whole k.params.format keeps.taken (k.pictures - 1) ≡ last_is_whole (rules_of k.params) items
 whole_is k items keeps p is =
     let last = subst (λ (o : Option (StreamPicture Style Mb)). IsLast o (k.pictures - 1) (mbs_of k.params.format)
-        keeps.taken) is keeps.last in
+    keeps.taken) is keeps.last in
     all_below_same (mbs_of k.params.format) _ _ (λ m lt. last.marks m lt)
     ∙ ap (λ (o : Option (StreamPicture Style Mb)). option_map_or (rules_for.is_whole (rules_of k.params)) o true)
-        (sym is)
+    (sym is)
 
 -- the last picture, if its number is kept
 last_is : (k : Kept) (items : List (Item Style Mb)) → Keeps k items → (o : Option (StreamPicture Style Mb))
@@ -155,7 +155,7 @@ module _ (k : Kept) (items : List (Item Style Mb)) (keeps : Keeps k items) (rest
       → Reference (nearest_below (rules_of k.params) (pictures_in items) rest) ≡ is_among known m
   near_named m e le =
       ap Reference (named (Some m) e)
-          ∙ near (rules_of k.params) known (pictures_in items) m (omega (arith, le, keeps.count))
+      ∙ near (rules_of k.params) known (pictures_in items) m (omega (arith, le, keeps.count))
 
 -- the last picture is whole where all its macroblocks are taken, or there is none
 pub whole_where : (k : Kept) (items : List (Item Style Mb)) (keeps : Keeps k items) (tr : ℕ) → k.tr ≡ Some tr
@@ -172,14 +172,14 @@ pub whole_none : (k : Kept) (items : List (Item Style Mb)) → Keeps k items →
     → true ≡ last_is_whole (rules_of k.params) items
 whole_none k items keeps none =
     ap (λ (o : Option (StreamPicture Style Mb)). option_map_or (rules_for.is_whole (rules_of k.params)) o true)
-        (sym (last_is k items keeps (last_picture items) refl none))
+    (sym (last_is k items keeps (last_picture items) refl none))
 
 -- what feedback makes known is known after it
 pub noted : (k : Kept) (s : Selector) (items : List (Item Style Mb)) (bytes : List ℕ) (message : call.Message)
     → Keeps k items
     → SelectorStands (rules_of k.params) s k.pictures (λ m. 0)
-        (λ m. is_among (known_by_feedback (rules_of k.params) k.pictures (Some message)) m || is_among
-        (known_of (read_message k.params.clock) (rules_of k.params) items) m)
+    (λ m. is_among (known_by_feedback (rules_of k.params) k.pictures (Some message)) m || is_among
+    (known_of (read_message k.params.clock) (rules_of k.params) items) m)
     → read_message k.params.clock bytes ≡ Ok message → Keeps (record k { selector = s }) (Feedback bytes ∷ items)
 noted k s items bytes message keeps stands read = record {
   count = keeps.count;
@@ -196,11 +196,11 @@ noted k s items bytes message keeps stands read = record {
     known_is = λ m low high.
         stands.known_is m low high
         ∙ sym (any_append (λ (q : ℕ). q == m) (known_by_feedback (rules_of k.params) k.pictures (Some message))
-            (known_of (read_message k.params.clock) (rules_of k.params) items))
+        (known_of (read_message k.params.clock) (rules_of k.params) items))
         ∙ ap (λ (n : ℕ). is_among (known_by_feedback (rules_of k.params) n (Some message)
-            ++ known_of (read_message k.params.clock) (rules_of k.params) items) m) keeps.count
+        ++ known_of (read_message k.params.clock) (rules_of k.params) items) m) keeps.count
         ∙ ap (λ (r : Result call.Message MessageFault). is_among (known_by_feedback (rules_of k.params)
-            (pictures_in items) (result_ok r) ++ known_of (read_message k.params.clock) (rules_of k.params) items) m)
-            (sym read);
+        (pictures_in items) (result_ok r) ++ known_of (read_message k.params.clock) (rules_of k.params) items) m)
+        (sym read);
   };
 }

@@ -38,14 +38,14 @@ module _ {Style Mb P MessageFault : Type 0} (pictures : Pictures Style Mb P) (re
       let before = as_run items in
       let run = run_of items in
       let more = length-append run.coded (next_coded pictures reading rules (λ sizes. 1) p.header.style run.coded
-          run.known ∷ []) in
+      run.known ∷ []) in
       (omega (arith, before.0, more), before.1)
   as_run (Feedback bytes ∷ items) =
       let before = as_run items in (
         before.0,
         ap (λ (n : ℕ). known_by_feedback rules n (result_ok (read bytes)) ++ known_of read rules items) before.0
             ∙ ap (λ (l : List ℕ). known_by_feedback rules (length (run_of items).coded) (result_ok (read bytes))
-                ++ l) before.1,
+            ++ l) before.1,
       )
 
   pub known_below : KnownWereSent pictures reading rules → (items : List (Item Style Mb)) (m : ℕ)

@@ -52,7 +52,7 @@ no_space d = ne_eqb (48 + d) 32 (λ (e : 48 + d ≡ 32). omega (arith, e))
 digits_alone : (n : ℕ) → n < 2 ^ 64 → LacksByte 32 (decimal n)
 digits_alone n small =
     decimal_by_steps (λ n ds. LacksByte 32 ds) (λ n one. (no_space n, tt)) (λ n ds more lacks. lacks_push 32 ds
-        (48 + n % 10) lacks (no_space (n % 10))) n small
+    (48 + n % 10) lacks (no_space (n % 10))) n small
 
 -- ---- a line
 
@@ -92,23 +92,23 @@ pub lines_tell : (v w : Verdict) → number_told v < 2 ^ 64 → number_told w < 
     → v ≡ w
 lines_tell (Yes n) (Yes m) small also e =
     let rests = append_cancel_left (codes "yes pictures ") (decimal n ++ newline) (decimal m ++ newline)
-        (sym (yes_line n) ∙ e ∙ yes_line m) in
+    (sym (yes_line n) ∙ e ∙ yes_line m) in
     ap Yes (decimal_injective n m small also (append_cancel_right (decimal n) (decimal m) newline rests))
 lines_tell (Yes n) (No m r) small also e = absurd (other_line n m r e)
 lines_tell (No n r) (Yes m) small also e = absurd (other_line m n r (sym e))
 lines_tell (No n r) (No m s) small also e =
     let rests = append_cancel_left (codes "no ") (decimal n ++ (32 ∷ (word_of r ++ newline))) (decimal m
-        ++ (32 ∷ (word_of s ++ newline))) (sym (no_line n r) ∙ e ∙ no_line m s) in
+    ++ (32 ∷ (word_of s ++ newline))) (sym (no_line n r) ∙ e ∙ no_line m s) in
     let numbers : decimal n ≡ decimal m =
     sym (before_is 32 (decimal n) (word_of r ++ newline) (digits_alone n small)) ∙ ap (before 32) rests
-        ∙ before_is 32 (decimal m) (word_of s ++ newline) (digits_alone m also)
+    ∙ before_is 32 (decimal m) (word_of s ++ newline) (digits_alone m also)
     in
     let words : word_of r ++ newline ≡ word_of s ++ newline =
     sym (after_is 32 (decimal n) (word_of r ++ newline) (digits_alone n small)) ∙ ap (after 32) rests
-        ∙ after_is 32 (decimal m) (word_of s ++ newline) (digits_alone m also)
+    ∙ after_is 32 (decimal m) (word_of s ++ newline) (digits_alone m also)
     in
     let same : r ≡ s = sym (rule_again r) ∙ ap rule_by (append_cancel_right (word_of r) (word_of s) newline words)
-        ∙ rule_again s in
+    ∙ rule_again s in
     ap (λ (k : ℕ). No k r) (decimal_injective n m small also numbers) ∙ ap (No m) same
 
 -- ---- the number in the verdict on a log
@@ -149,16 +149,16 @@ module _ {Style Mb P Fault MessageFault : Type 0} (decoding : Decoding Style Mb 
       let most = pictures_in items in
       let n : most ≤ most = omega arith in
       within_if most (not (eqb piece.header.half rules.half)) (Some (broken_at (present items) rule.Packet)) _
-          (within_some most (broken_at (present items) rule.Packet) (going items))
+      (within_some most (broken_at (present items) rule.Packet) (going items))
       (within_if most (is_of (last_picture items) piece) _ _
       (within_at most (present items) (broken_within decoding read rules (last_picture items) piece) (going items))
       (within_if most (not (last_is_whole rules items)) (Some (broken_at (present items) rule.Gap)) _
-          (within_some most (broken_at (present items) rule.Gap) (going items))
+      (within_some most (broken_at (present items) rule.Gap) (going items))
       (within_if most (not (eqb piece.header.number (pictures_in items % period rules)))
-          (Some (broken_at most rule.Number)) _ (within_some most (broken_at most rule.Number) n)
+      (Some (broken_at most rule.Number)) _ (within_some most (broken_at most rule.Number) n)
       (within_if most (not (has_reference decoding read rules items piece.header))
-          (Some (broken_at most rule.Reference)) None (within_some most (broken_at most rule.Reference) n)
-          (within_none most)))))
+      (Some (broken_at most rule.Reference)) None (within_some most (broken_at most rule.Reference) n)
+      (within_none most)))))
 
   count_stays : (items : List (Item Style Mb)) (part : Part Style Mb) → pictures_in (with_part items part)
       ≡ pictures_in items
@@ -195,12 +195,12 @@ module _ {Style Mb P Fault MessageFault : Type 0} (decoding : Decoding Style Mb 
   first_within [] = within_none 0
   first_within (e ∷ past) =
       within_first (suc (length past)) (first_broken decoding read rules past)
-          (broken_in decoding read rules (stream_of decoding past) e)
+      (broken_in decoding read rules (stream_of decoding past) e)
       (widen (length past) (suc (length past)) (first_broken decoding read rules past) (omega arith)
-          (first_within past))
+      (first_within past))
       (widen (pictures_in (stream_of decoding past)) (suc (length past))
-          (broken_in decoding read rules (stream_of decoding past) e) (omega (arith, few_pictures past))
-          (entry_within (stream_of decoding past) e))
+      (broken_in decoding read rules (stream_of decoding past) e) (omega (arith, few_pictures past))
+      (entry_within (stream_of decoding past) e))
 
   closing_within : (items : List (Item Style Mb)) (t : Bool)
       → number_told (if t then Yes (pictures_in items) else No (present items) rule.Gap) ≤ pictures_in items

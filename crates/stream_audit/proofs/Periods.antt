@@ -54,7 +54,7 @@ in_text format h bits text rest is =
     let same : h.trp ≡ trp.0 = ap (λ (x : Header). x.trp) end.0 in
     let clock : h.clock ≡ type.0.0 = ap (λ (x : Header). x.clock) end.0 in
     subst (λ (c : Clock). rest < period_of c) (sym clock) (named type.0.0 type.0.1 trp.0 trp.1 trp.4 rest (sym same
-        ∙ is))
+    ∙ is))
 
 in_packet : (format : Format) (o : Option Header) (h : Header) (plen pebit : ℕ) (front middle : List Bool)
     → IsHeaded format o h front → IsExtra format plen pebit o middle → (rest : ℕ) → h.trp ≡ Some rest
@@ -62,7 +62,7 @@ in_packet : (format : Format) (o : Option Header) (h : Header) (plen pebit : ℕ
 in_packet format None h plen pebit front middle headed extra rest is = in_text format h front headed rest is
 in_packet format (Some x) h plen pebit front middle headed extra rest is =
     subst (λ (y : Header). y.trp ≡ Some rest → rest < period_of y.clock) headed.0
-        (in_text format x extra.0 extra.6 rest) is
+    (in_text format x extra.0 extra.6 rest) is
 
 pub reads_in_period : (p : Params) → ((s : Slice) (bytes : List ℕ) → (packet_at p.format bytes ≡ Ok s)
     ↔ IsPacket p.format s bytes) → ReadsInPeriod (decoding p.format) (rules_of p)
@@ -75,8 +75,8 @@ reads_in_period p exact bytes piece rest reads half is = go (packet_at p.format 
         let packet = (exact s bytes).0 at in
         let trp : s.header.trp ≡ Some rest = ap (λ (x : call.Piece Style Mb). x.header.reference) one ∙ is in
         let clock : half_of s.header.clock ≡ half_of p.clock = ap (λ (x : call.Piece Style Mb). x.header.half) one
-            ∙ half in
+        ∙ half in
         let low : rest < period_of s.header.clock = in_packet p.format packet.payload.extra s.header
-            packet.is_payload.opening.plen packet.is_payload.opening.pebit packet.front packet.is_payload.middle
-            packet.headed packet.is_payload.extra rest trp in
+        packet.is_payload.opening.plen packet.is_payload.opening.pebit packet.front packet.is_payload.middle
+        packet.headed packet.is_payload.extra rest trp in
         omega (arith, low, clock)

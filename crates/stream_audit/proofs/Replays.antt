@@ -62,7 +62,7 @@ module _ {Style Mb P Fault MessageFault : Type 0} (decoding : Decoding Style Mb 
       named m (Some rest) header is =
           let r = placed.reference rest header in
           let there : nearest_below rules (length (cl past).coded) rest
-              ≡ Some r.0 = ap (λ (k : ℕ). nearest_below rules k rest) (sym at.pictures) ∙ r.1 in
+          ≡ Some r.0 = ap (λ (k : ℕ). nearest_below rules k rest) (sym at.pictures) ∙ r.1 in
           let same : Some r.0 ≡ Some m = sym there ∙ is in
           let equal : r.0 ≡ m = cc in (
             omega (arith, r.2, equal, at.pictures),
@@ -79,7 +79,7 @@ module _ {Style Mb P Fault MessageFault : Type 0} (decoding : Decoding Style Mb 
   reference_again n (Some rest) small there =
       let r = there rest refl in
       ap (λ (o : Option ℕ). option_map (λ m. m % period rules) o) r.1
-          ∙ ap Some (((laws.nearest rules n rest r.0 (small rest refl)).0 r.1).2)
+      ∙ ap Some (((laws.nearest rules n rest r.0 (small rest refl)).0 r.1).2)
 
   packet_is : (n j : ℕ) (x : Coded Style Mb P) → IsOf decoding read rules stream n x
       → IsPacket decoding rules (packets_in stream n) n j x
@@ -107,19 +107,25 @@ module _ {Style Mb P Fault MessageFault : Type 0} (decoding : Decoding Style Mb 
           ap (λ (o : Option ℕ). option_map (λ m. m % period rules) o) is_of.reference
           ∙ reference_again n p.header.reference
           (λ rest is. in_period part.bytes part.piece rest got.0 (ap (λ (h : Header Style). h.half) got.1
-              ∙ placed.2.half) (ap (λ (h : Header Style). h.reference) got.1 ∙ is))
+          ∙ placed.2.half) (ap (λ (h : Header Style). h.reference) got.1 ∙ is))
           (λ rest is. let r = placed.2.reference rest is in
-              (r.0, ap (λ (k : ℕ). nearest_below rules k rest) (sym placed.1) ∙ r.1)) in
+          (r.0, ap (λ (k : ℕ). nearest_below rules k rest) (sym placed.1) ∙ r.1)) in
           let number : p.header.number ≡ n % period rules = placed.2.number
-              ∙ ap (λ (k : ℕ). k % period rules) placed.1 in
+          ∙ ap (λ (k : ℕ). k % period rules) placed.1 in
           let whole = header_is p.header (n % period rules) (option_map (λ m. m % period rules) x.reference) rules.half
-              number reference placed.2.half in
+          number reference placed.2.half in
           let styled : p.header ≡ header_of rules n x =
-          whole ∙ ap (λ (s : Style). let g : Header Style = record { number = n % period rules;
-              reference = option_map (λ m. m % period rules) x.reference; half = rules.half; style = s } in
-              g) (sym is_of.style) ∙ sym (header_of_is rules n x) in
-          got.0 ∙ ap (λ (h : Header Style). let r : Result (Piece Style Mb) Fault = Ok (record { header = h;
-              slice = part.piece.slice }) in r) (got.1 ∙ styled)
+          whole ∙ ap (λ (s : Style). let g : Header Style = record {
+            number = n % period rules;
+            reference = option_map (λ m. m % period rules) x.reference;
+            half = rules.half;
+            style = s;
+          } in
+          g) (sym is_of.style) ∙ sym (header_of_is rules n x) in
+          got.0 ∙ ap (λ (h : Header Style). let r : Result (Piece Style Mb) Fault = Ok (record {
+            header = h;
+            slice = part.piece.slice;
+          }) in r) (got.1 ∙ styled)
 
       read_as : (slice : Slice Mb) → slice_get x.slices j ≡ Some slice
           → (bytes : List ℕ) × (slice_get (packets_in stream n) j ≡ Some bytes)
@@ -129,7 +135,7 @@ module _ {Style Mb P Fault MessageFault : Type 0} (decoding : Decoding Style Mb 
             | inl h ↦
                 let here : slice_get p.parts j ≡ Some h.0 = h.2 in
                 let same : Some h.0.piece.slice ≡ Some slice = sym (slice_at
-                    ∙ ap (λ (o : Option (Part Style Mb)). option_map (λ part. part.piece.slice) o) here) ∙ e in
+                ∙ ap (λ (o : Option (Part Style Mb)). option_map (λ part. part.piece.slice) o) here) ∙ e in
                 let equal : h.0.piece.slice ≡ slice = cc in (
                   h.0.bytes,
                   bytes_at ∙ ap (λ (o : Option (Part Style Mb)). option_map (λ part. part.bytes) o) here,
@@ -138,7 +144,7 @@ module _ {Style Mb P Fault MessageFault : Type 0} (decoding : Decoding Style Mb 
                 )
             | inr h ↦
                 let none : None ≡ Some slice = sym (slice_at
-                    ∙ ap (λ (o : Option (Part Style Mb)). option_map (λ part. part.piece.slice) o) h.1) ∙ e in
+                ∙ ap (λ (o : Option (Part Style Mb)). option_map (λ part. part.piece.slice) o) h.1) ∙ e in
                 absurd (not_none slice (sym none))
           ]
 
@@ -147,7 +153,7 @@ module _ {Style Mb P Fault MessageFault : Type 0} (decoding : Decoding Style Mb 
           elim (slice_get_cases p.parts j).1 [
             | inl h ↦
                 let some : Some h.0.piece.slice ≡ None = sym (slice_at
-                    ∙ ap (λ (o : Option (Part Style Mb)). option_map (λ part. part.piece.slice) o) h.2) ∙ e in
+                ∙ ap (λ (o : Option (Part Style Mb)). option_map (λ part. part.piece.slice) o) h.2) ∙ e in
                 absurd (not_none h.0.piece.slice some)
             | inr h ↦ bytes_at ∙ ap (λ (o : Option (Part Style Mb)). option_map (λ part. part.bytes) o) h.1
           ]
@@ -180,11 +186,11 @@ module _ {Style Mb P Fault MessageFault : Type 0} (decoding : Decoding Style Mb 
       ≡ decoded_next decoding rules (map (λ x. x.picture) coded) p
   new_decoded coded p =
       ap (λ (o : Option P). reconstruction_of_slices decoding.pictures p.header.style o (slices_of p))
-          (picture_before coded (option_and_then (nearest_below rules (length coded)) p.header.reference))
+      (picture_before coded (option_and_then (nearest_below rules (length coded)) p.header.reference))
       ∙ ap (λ (k : ℕ). reconstruction_of_slices decoding.pictures p.header.style
-          (option_and_then (slice_get (map (λ x. x.picture) coded))
-          (option_and_then (nearest_below rules k) p.header.reference)) (slices_of p))
-          (sym (length_map (λ (x : Coded Style Mb P). x.picture) coded))
+      (option_and_then (slice_get (map (λ x. x.picture) coded))
+      (option_and_then (nearest_below rules k) p.header.reference)) (slices_of p))
+      (sym (length_map (λ (x : Coded Style Mb P). x.picture) coded))
 
   -- later items change none of them
   decoded_more : (more done : List (Item Style Mb)) → (rest : List P) × (decoded_in decoding rules (more ++ done)
@@ -192,9 +198,11 @@ module _ {Style Mb P Fault MessageFault : Type 0} (decoding : Decoding Style Mb 
   decoded_more [] done = ([], sym (append-nil (decoded_in decoding rules done)))
   decoded_more (Picture p ∷ more) done =
       let r = decoded_more more done in
-      let next = decoded_next decoding rules (decoded_in decoding rules (more ++ done)) p in
-      (r.0 ++ next ∷ [], ap (λ (l : List P). l ++ next ∷ []) r.1
-          ∙ append_assoc (decoded_in decoding rules done) r.0 (next ∷ []))
+      let next = decoded_next decoding rules (decoded_in decoding rules (more ++ done)) p in (
+        r.0 ++ next ∷ [],
+        ap (λ (l : List P). l ++ next ∷ []) r.1
+            ∙ append_assoc (decoded_in decoding rules done) r.0 (next ∷ []),
+      )
   decoded_more (Feedback bytes ∷ more) done = decoded_more more done
 
   -- the picture of number n is that of the call
@@ -205,16 +213,16 @@ module _ {Style Mb P Fault MessageFault : Type 0} (decoding : Decoding Style Mb 
         | inl h ↦
             let there : slice_get (map (λ x. x.picture) (cl past).coded) n ≡ Some h.0.picture =
             slice_get-map (λ (x : Coded Style Mb P). x.picture) (cl past).coded n
-                ∙ ap (λ (o : Option (Coded Style Mb P)). option_map (λ x. x.picture) o) h.2
+            ∙ ap (λ (o : Option (Coded Style Mb P)). option_map (λ x. x.picture) o) h.2
             in
             let early : slice_get (decoded_in decoding rules at.done) n
-                ≡ Some h.0.picture = ap (λ (l : List P). slice_get l n) (sym at.decoded) ∙ there in
+            ≡ Some h.0.picture = ap (λ (l : List P). slice_get l n) (sym at.decoded) ∙ there in
             let more = decoded_more at.more at.done in
             ap (λ (l : List (Item Style Mb)). slice_get (decoded_in decoding rules l) n) at.split
             ∙ ap (λ (l : List P). slice_get l n) more.1
             ∙ slice_get_left (decoded_in decoding rules at.done) more.0 n h.0.picture early
             ∙ ap (λ (o : Option (Coded Style Mb P)). let q : Option P =
-                Some (option_map_or (λ x. x.picture) o (grey decoding.pictures)) in q) (sym h.2)
+            Some (option_map_or (λ x. x.picture) o (grey decoding.pictures)) in q) (sym h.2)
         | inr h ↦ absurd (omega (arith, h.0, sent))
       ]
 
@@ -225,8 +233,11 @@ module _ {Style Mb P Fault MessageFault : Type 0} (decoding : Decoding Style Mb 
       → At decoding read rules stream (Happens Send ∷ past)
   send past at near = record {
     near = ((omega (arith, count, at.pictures), omega (arith, near.2, at.sent, played_is past at)), at.near);
-    all_sound = (λ x is. subst (λ (y : Coded Style Mb P). IsSoundPicture decoding.pictures rules (cl past) y)
-        (one x (sym is_source ∙ is)) (sound_send past at p here_sound), at.all_sound);
+    all_sound = (
+      λ x is. subst (λ (y : Coded Style Mb P). IsSoundPicture decoding.pictures rules (cl past) y)
+          (one x (sym is_source ∙ is)) (sound_send past at p here_sound),
+      at.all_sound,
+    );
     more = next.0;
     done = Picture p ∷ at.done;
     split = split';
@@ -238,16 +249,16 @@ module _ {Style Mb P Fault MessageFault : Type 0} (decoding : Decoding Style Mb 
     said = at.said;
     coded = λ n x got. elim (slice_get_push (cl past).coded new n x
         (sym (ap (λ (l : List (Coded Style Mb P)). slice_get l n) coded') ∙ got)) [
-      | inl old ↦ at.coded n x old
-      | inr last ↦ record {
-        picture = p;
-        there = ap (λ (k : ℕ). picture_in stream k) last.0 ∙ here;
-        slices = ap (λ (y : Coded Style Mb P). y.slices) last.1;
-        style = ap (λ (y : Coded Style Mb P). y.style) last.1;
-        reference = ap (λ (y : Coded Style Mb P). y.reference) last.1
-            ∙ ap (λ (k : ℕ). option_and_then (nearest_below rules k) p.header.reference) (sym last.0);
-      }
-    ];
+          | inl old ↦ at.coded n x old
+          | inr last ↦ record {
+            picture = p;
+            there = ap (λ (k : ℕ). picture_in stream k) last.0 ∙ here;
+            slices = ap (λ (y : Coded Style Mb P). y.slices) last.1;
+            style = ap (λ (y : Coded Style Mb P). y.style) last.1;
+            reference = ap (λ (y : Coded Style Mb P). y.reference) last.1
+                ∙ ap (λ (k : ℕ). option_and_then (nearest_below rules k) p.header.reference) (sym last.0);
+          }
+        ];
     decoded =
         ap (λ (l : List (Coded Style Mb P)). map (λ x. x.picture) l) coded'
         ∙ sym (map_two (λ (x : Coded Style Mb P). x.picture) (cl past).coded (new ∷ []))
@@ -340,19 +351,22 @@ module _ {Style Mb P Fault MessageFault : Type 0} (decoding : Decoding Style Mb 
           → At decoding read rules stream (Happens (Deliver n j) ∷ past)
       of_packet bytes e =
           let answer : heard decoding rules (rp past).receiver (decoding.read bytes)
-              ≡ delivery_answer rules (cl past) n j =
-              ap (λ (r : ReceiverRun Style Mb P). heard decoding rules r (decoding.read bytes)) at.receiver
-              ∙ (follows_at past at).answers n j bytes near' sound' e in
+          ≡ delivery_answer rules (cl past) n j =
+          ap (λ (r : ReceiverRun Style Mb P). heard decoding rules r (decoding.read bytes)) at.receiver
+          ∙ (follows_at past at).answers n j bytes near' sound' e in
           let said' : (rp past).said ++ said_to n (heard decoding rules (rp past).receiver (decoding.read bytes))
-              ≡ map (told_of rules) (cl (Happens (Deliver n j) ∷ past)).said =
+          ≡ map (told_of rules) (cl (Happens (Deliver n j) ∷ past)).said =
           ap (λ (h : Heard Fault). (rp past).said ++ said_to n h) answer
           ∙ ap (λ (l : List MessageAbout). (rp past).said
-              ++ l) (says Fault rules (cl past) n j (omega (arith, slice_get_within (packets_in stream n) j bytes e,
-              slices_sent past at n near'.0)))
+          ++ l) (says Fault rules (cl past) n j (omega (
+            arith,
+            slice_get_within (packets_in stream n) j bytes e,
+            slices_sent past at n near'.0,
+          )))
           ∙ ap (λ (l : List MessageAbout). l
-              ++ map (told_of rules) (if delivery_counts rules (cl past) n j && is_full (cl past).coded
-              (with_arrival (cl past).arrivals n j) n then Got n
-              (full_flags rules (cl past).coded (with_arrival (cl past).arrivals n j) n) ∷ [] else [])) at.said
+          ++ map (told_of rules) (if delivery_counts rules (cl past) n j && is_full (cl past).coded
+          (with_arrival (cl past).arrivals n j) n then Got n
+          (full_flags rules (cl past).coded (with_arrival (cl past).arrivals n j) n) ∷ [] else [])) at.said
           ∙ map_two (told_of rules) (cl past).said _ in
           delivered_as (after_bytes decoding read rules stream (rp past) n bytes) (replay_is (Some bytes) e) refl refl
           (ap (after_packet decoding rules bytes) at.receiver ∙ sym (received_is (Some bytes) e)) said'
@@ -361,21 +375,25 @@ module _ {Style Mb P Fault MessageFault : Type 0} (decoding : Decoding Style Mb 
           → At decoding read rules stream (Happens (Deliver n j) ∷ past)
       of_none e far =
           let counts : delivery_counts rules (cl past) n j
-              ≡ false = no_count rules (cl past) n j (omega (arith, far, slices_sent past at n near'.0)) in
+          ≡ false = no_count rules (cl past) n j (omega (arith, far, slices_sent past at n near'.0)) in
           let same : (cl (Happens (Deliver n j) ∷ past)).said ≡ (cl past).said =
           ap (λ (b : Bool). (cl past).said
-              ++ (if b && is_full (cl past).coded (with_arrival (cl past).arrivals n j) n then Got n
-              (full_flags rules (cl past).coded (with_arrival (cl past).arrivals n j) n) ∷ [] else [])) counts
+          ++ (if b && is_full (cl past).coded (with_arrival (cl past).arrivals n j) n then Got n
+          (full_flags rules (cl past).coded (with_arrival (cl past).arrivals n j) n) ∷ [] else [])) counts
           ∙ append-nil (cl past).said in
           delivered_as (rp past) (replay_is None e) refl refl (at.receiver ∙ sym (received_is None e)) (at.said
-              ∙ ap (map (told_of rules)) (sym same))
+          ∙ ap (map (told_of rules)) (sym same))
 
   play : (past : List StreamEvent) → At decoding read rules stream past
       → MayHappenIn decoding read rules stream (rp past) (Happens Play)
       → At decoding read rules stream (Happens Play ∷ past)
   play past at near =
-      let near' : MayHappen rules (pictures_in stream) (cl past) Play = omega (arith, near, at.sent,
-          played_is past at) in
+      let near' : MayHappen rules (pictures_in stream) (cl past) Play = omega (
+        arith,
+        near,
+        at.sent,
+        played_is past at,
+      ) in
       let follows = follows_at past at in
       let says' = (follows.plays near').1 in
       record {
@@ -391,18 +409,20 @@ module _ {Style Mb P Fault MessageFault : Type 0} (decoding : Decoding Style Mb 
         receiver = ap (after_play decoding rules) at.receiver;
         said = ap (λ (r : ReceiverRun Style Mb P). (rp past).said ++ said_at_play decoding read rules stream r)
             at.receiver
-            ∙ ap (λ (k : ℕ). (rp past).said ++ option_map_or (λ m. let t : MessageAbout = record { about = k;
-                message = m } in t ∷ [])
-                (played_message decoding rules (received decoding rules src pks (events_in past))) [])
-                follows.state.played
+            ∙ ap (λ (k : ℕ). (rp past).said ++ option_map_or (λ m. let t : MessageAbout = record {
+              about = k;
+              message = m;
+            } in t ∷ [])
+            (played_message decoding rules (received decoding rules src pks (events_in past))) [])
+            follows.state.played
             ∙ ap (λ (o : Option Message). (rp past).said
-                ++ option_map_or (λ m. let t : MessageAbout = record { about = (cl past).played; message = m } in
-                t ∷ []) o []) says'
+            ++ option_map_or (λ m. let t : MessageAbout = record { about = (cl past).played; message = m } in
+            t ∷ []) o []) says'
             ∙ ap (λ (l : List MessageAbout). (rp past).said ++ l) (told_by_play rules (cl past))
             ∙ ap (λ (l : List MessageAbout). l
-                ++ map (told_of rules) (if is_full (cl past).coded (cl past).arrivals (cl past).played then [] else Lost
-                (cl past).played (newest_full rules (cl past).coded (cl past).arrivals (cl past).played)
-                (full_flags rules (cl past).coded (cl past).arrivals (cl past).played) ∷ [])) at.said
+            ++ map (told_of rules) (if is_full (cl past).coded (cl past).arrivals (cl past).played then [] else Lost
+            (cl past).played (newest_full rules (cl past).coded (cl past).arrivals (cl past).played)
+            (full_flags rules (cl past).coded (cl past).arrivals (cl past).played) ∷ [])) at.said
             ∙ map_two (told_of rules) (cl past).said _;
         coded = at.coded;
         decoded = at.decoded;
@@ -412,8 +432,10 @@ module _ {Style Mb P Fault MessageFault : Type 0} (decoding : Decoding Style Mb 
       → MayHappenIn decoding read rules stream (rp past) (Happens (Back k))
       → At decoding read rules stream (Happens (Back k) ∷ past)
   back past k at near =
-      elim (slice_get_cases (cl past).said k).1 [ inl h ↦ of_note h.0 h.2
-          | inr h ↦ absurd (not_none near.0 (sym (sym (told_there ∙ ap (option_map (told_of rules)) h.1) ∙ near.2))) ]
+      elim (slice_get_cases (cl past).said k).1 [
+        | inl h ↦ of_note h.0 h.2
+        | inr h ↦ absurd (not_none near.0 (sym (sym (told_there ∙ ap (option_map (told_of rules)) h.1) ∙ near.2)))
+      ]
     where
       told_there : slice_get (rp past).said k ≡ option_map (told_of rules) (slice_get (cl past).said k)
       told_there = ap (λ (l : List MessageAbout). slice_get l k) at.said
@@ -427,20 +449,24 @@ module _ {Style Mb P Fault MessageFault : Type 0} (decoding : Decoding Style Mb 
           → At decoding read rules stream (Happens (Back k) ∷ past)
       of_note note there =
           let same : Some (told_of rules note) ≡ Some near.0 = sym (told_there ∙ ap (option_map (told_of rules)) there)
-              ∙ near.2 in
+          ∙ near.2 in
           let told : told_of rules note ≡ near.0 = cc in
-          let close : length (cl past).coded < about note + rules.half = omega (arith, near.5, at.sent,
-              ap (λ (t : MessageAbout). t.about) told) in
+          let close : length (cl past).coded < about note + rules.half = omega (
+            arith,
+            near.5,
+            at.sent,
+            ap (λ (t : MessageAbout). t.about) told,
+          ) in
           let learned = ((follows_at past at).messages k note there).known close in
           let reads : read near.1 ≡ Ok (travelling rules note) = near.4
-              ∙ ap (λ (t : MessageAbout). let r : Result Message MessageFault = Ok t.message in r) (sym told) in
+          ∙ ap (λ (t : MessageAbout). let r : Result Message MessageFault = Ok t.message in r) (sym told) in
           let made : known_by_feedback rules (pictures_in at.done) (result_ok (read near.1)) ≡ told_full note =
           ap (λ (r : Result Message MessageFault). known_by_feedback rules (pictures_in at.done) (result_ok r)) reads
           ∙ ap (λ (n : ℕ). known_by_feedback rules n (Some (travelling rules note))) at.pictures
           ∙ ap (λ (o : Option (List ℕ)). option_map_or (λ numbers. numbers) o []) learned in
           let known' : (cl (Happens (Back k) ∷ past)).known ≡ told_full note
-              ++ (cl past).known = ap (λ (o : Option NumberedMessage). option_map_or told_full o []
-              ++ (cl past).known) there in
+          ++ (cl past).known = ap (λ (o : Option NumberedMessage). option_map_or told_full o []
+          ++ (cl past).known) there in
           record {
             near = ((note, there, close), at.near);
             all_sound = (tt, at.all_sound);
@@ -463,8 +489,8 @@ module _ {Style Mb P Fault MessageFault : Type 0} (decoding : Decoding Style Mb 
       → MayHappenIn decoding read rules stream (rp past) PassedOver → At decoding read rules stream (PassedOver ∷ past)
   passed past at near =
       let next = item_next at.more at.done (Feedback near.0)
-          (ap (λ (l : List (Item Style Mb)). item_at l (length at.done)) (sym at.split)
-          ∙ ap (item_at stream) (sym at.items) ∙ near.1) in
+      (ap (λ (l : List (Item Style Mb)). item_at l (length at.done)) (sym at.split)
+      ∙ ap (item_at stream) (sym at.items) ∙ near.1) in
       let none : known_by_feedback rules (pictures_in at.done) (result_ok (read near.0)) ≡ [] =
       ap (λ (n : ℕ). known_by_feedback rules n (result_ok (read near.0))) (at.pictures ∙ sym at.sent) ∙ near.2
       in
@@ -512,8 +538,10 @@ module _ {Style Mb P Fault MessageFault : Type 0} (decoding : Decoding Style Mb 
   pub none_is_refused : NoneIsRefused decoding read rules stream
   none_is_refused past n j bytes near e =
       let at = call_at past near.1 in
-      let near' : MayHappen rules (pictures_in stream) (cl past) (Deliver n j) = (omega (arith, near.0.0, at.sent),
-          omega (arith, near.0.1, played_is past at)) in
+      let near' : MayHappen rules (pictures_in stream) (cl past) (Deliver n j) = (
+        omega (arith, near.0.0, at.sent),
+        omega (arith, near.0.1, played_is past at),
+      ) in
       let answer = (follows_at past at).answers n j bytes near' (λ x at_n. packet_is n j x (at.coded n x at_n)) e in
       ap (λ (r : ReceiverRun Style Mb P). is_refused (heard decoding rules r (decoding.read bytes))) at.receiver
       ∙ ap is_refused answer
@@ -541,18 +569,22 @@ module _ {Style Mb P Fault MessageFault : Type 0} (decoding : Decoding Style Mb 
   pub exact_where_all_came : ExactWhereAllCame decoding read rules stream
   exact_where_all_came past near all =
       let at = call_at past near.1 in
-      let near' : MayHappen rules (pictures_in stream) (cl past) Play = omega (arith, near.0, at.sent,
-          played_is past at) in
+      let near' : MayHappen rules (pictures_in stream) (cl past) Play = omega (
+        arith,
+        near.0,
+        at.sent,
+        played_is past at,
+      ) in
       let each : (j : ℕ) → j < length (packets_in stream (cl past).played)
-          → CameInTime rules (events_in past) (cl past).played j =
+      → CameInTime rules (events_in past) (cl past).played j =
       subst (λ (k : ℕ). (j : ℕ) → j < length (packets_in stream k) → CameInTime rules (events_in past) k j)
-          (played_is past at) all in
+      (played_is past at) all in
       let slices = slices_sent past at (cl past).played near' in
       let full : is_full (cl past).coded (cl past).arrivals (cl past).played ≡ true =
       is_full_from laws.below (cl past).coded (cl past).arrivals (cl past).played near'
       (λ j lt. let fits : j < length (packets_in stream (cl past).played) = omega (arith, slices) in
-          (laws.arrived src (events_in past) (cl past).played j).1 (delivered past near.1 (cl past).played j fits
-          (each j fits))) in
+      (laws.arrived src (events_in past) (cl past).played j).1 (delivered past near.1 (cl past).played j fits
+      (each j fits))) in
       let shown = ((follows_at past at).plays near').0 in
       let mark : played_mark decoding rules (rp past).receiver ≡ Exact =
       ap (played_mark decoding rules) at.receiver
@@ -560,7 +592,7 @@ module _ {Style Mb P Fault MessageFault : Type 0} (decoding : Decoding Style Mb 
       ∙ exact_where_full decoding.pictures (cl past).coded (cl past).arrivals (cl past).plays (cl past).played full
       in
       let picture : played_picture decoding rules (rp past).receiver
-          ≡ reconstruction_at decoding.pictures (cl past).coded (cl past).played =
+      ≡ reconstruction_at decoding.pictures (cl past).coded (cl past).played =
       ap (played_picture decoding rules) at.receiver
       ∙ ap (λ (s : Shown P). s.picture) shown
       ∙ shown_where_full decoding.pictures (cl past).coded (cl past).arrivals (cl past).plays (cl past).played full

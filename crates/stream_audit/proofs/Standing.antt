@@ -24,7 +24,7 @@ stays_broken k past e b is stands = record {
   broken =
       is
       ∙ ap (λ (o : Option Broken). first_of o (broken_in_on k.params (stream_on k.params past) e)) (sym is
-          ∙ stands.broken);
+      ∙ stands.broken);
   keeps = λ none. absurd (none_left b k.broken is none);
 }
 
@@ -33,7 +33,7 @@ module _ (k : Kept) (past : List LogEntry) (stands : Stands k past) (going : k.b
   first_is : (e : LogEntry) → first_broken_on k.params (e ∷ past) ≡ broken_in_on k.params (stream_on k.params past) e
   first_is e =
       ap (λ (o : Option Broken). first_of o (broken_in_on k.params (stream_on k.params past) e)) (sym stands.broken
-          ∙ going)
+      ∙ going)
 
   pub judged : (new : Kept) (bytes : List ℕ) (q : call.Piece Style Mb) → new.params ≡ k.params
       → (decoding k.params.format).read bytes ≡ Ok q
@@ -46,7 +46,7 @@ module _ (k : Kept) (past : List LogEntry) (stands : Stands k past) (going : k.b
     keeps = λ none.
         subst (λ (p : Params). Keeps new (stream_on p (Sent bytes ∷ past))) (sym same)
         (subst (λ (r : Result (call.Piece Style Mb) Fault). Keeps new (with_bytes (decoding k.params.format)
-            (stream_on k.params past) bytes r)) (sym read) (is.keeps none));
+        (stream_on k.params past) bytes r)) (sym read) (is.keeps none));
   }
 
   pub fed : (new : Kept) (bytes : List ℕ) → new.params ≡ k.params → new.broken ≡ k.broken

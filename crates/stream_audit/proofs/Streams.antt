@@ -28,9 +28,9 @@ module _ {Style Mb : Type 0} where
   item_next (y ∷ z ∷ zs) done x e =
       let longer : length done < length (z ∷ zs ++ done) = long (z ∷ zs) done (omega arith) in
       let differ : eqb (length (z ∷ zs ++ done)) (length done)
-          ≡ false = ne_eqb _ _ (λ (s : length (z ∷ zs ++ done) ≡ length done). omega arith) in
+      ≡ false = ne_eqb _ _ (λ (s : length (z ∷ zs ++ done) ≡ length done). omega arith) in
       let r = item_next (z ∷ zs) done x
-          (sym (ap (λ (b : Bool). if b then Some y else item_at (z ∷ zs ++ done) (length done)) differ) ∙ e) in
+      (sym (ap (λ (b : Bool). if b then Some y else item_at (z ∷ zs ++ done) (length done)) differ) ∙ e) in
       (y ∷ r.0, ap (λ (l : List (Item Style Mb)). y ∷ l) r.1)
     where
       long : (xs ys : List (Item Style Mb)) → 0 < length xs → length ys < length (xs ++ ys)
@@ -53,9 +53,9 @@ module _ {Style Mb : Type 0} where
   picture_here [] items p = rw (eq-eqb (pictures_in items) (pictures_in items) refl) refl
   picture_here (Picture q ∷ before) items p =
       let more : pictures_in items + 1 ≤ pictures_in (before ++ Picture p ∷ items) =
-          pictures_more before (Picture p ∷ items) in
+      pictures_more before (Picture p ∷ items) in
       let differ : eqb (pictures_in (before ++ Picture p ∷ items)) (pictures_in items)
-          ≡ false = ne_eqb _ _ (λ (e : pictures_in (before ++ Picture p ∷ items) ≡ pictures_in items). omega arith) in
+      ≡ false = ne_eqb _ _ (λ (e : pictures_in (before ++ Picture p ∷ items) ≡ pictures_in items). omega arith) in
       rw differ (picture_here before items p)
   picture_here (Feedback bytes ∷ before) items p = picture_here before items p
 

@@ -37,8 +37,8 @@ none_of below slice test k none inside =
     let within = has_from slice k inside in
     let i = k - slice.first in
     let here : not (test (slice.first + (k - slice.first)))
-        ≡ true = (below (length slice.mbs) (λ i. not (test (slice.first + i)))).0 none (k - slice.first)
-        (omega (arith, within.0, within.1)) in
+    ≡ true = (below (length slice.mbs) (λ i. not (test (slice.first + i)))).0 none (k - slice.first)
+    (omega (arith, within.0, within.1)) in
     let is : slice.first + (k - slice.first) ≡ k = omega (arith, within.0) in
     turned (test k) (subst (λ (m : ℕ). not (test m) ≡ true) is here)
   where
@@ -110,15 +110,15 @@ module _ {Style Mb P Fault MessageFault : Type 0} (decoding : Decoding Style Mb 
     below = λ k lt.
         let r = first_part p.parts k ((below rules.mbs (has p)).0 whole k lt) in
         slice_get_within (slices_of p) (place_in p.parts k) r.0.piece.slice
-            (slice_get-map (λ (part : Part Style Mb). part.piece.slice) p.parts (place_in p.parts k)
-            ∙ ap (option_map (λ (part : Part Style Mb). part.piece.slice)) r.1);
+        (slice_get-map (λ (part : Part Style Mb). part.piece.slice) p.parts (place_in p.parts k)
+        ∙ ap (option_map (λ (part : Part Style Mb). part.piece.slice)) r.1);
     has = λ j k slice lt at_j.
         let r = first_part p.parts k ((below rules.mbs (has p)).0 whole k lt) in
         let part = of_slice j slice at_j in
         elim (cases_Bool (has_mb slice k)) [
           | inl held ↦
               let same : j ≡ place_in p.parts k = going.apart j (place_in p.parts k) k part.0 r.0 part.1 r.1
-                  (subst (λ (s : Slice Mb). has_mb s k ≡ true) (sym part.2) held) r.2 in
+              (subst (λ (s : Slice Mb). has_mb s k ≡ true) (sym part.2) held) r.2 in
               held ∙ sym (eq-eqb j (place_in p.parts k) same)
           | inr free ↦
               free ∙ sym (ne_eqb j (place_in p.parts k) (λ (e : j ≡ place_in p.parts k).
@@ -126,12 +126,12 @@ module _ {Style Mb P Fault MessageFault : Type 0} (decoding : Decoding Style Mb 
               let one : Some part.0 ≡ Some r.0 = sym part.1 ∙ here in
               let same : part.0 ≡ r.0 = cc in
               both_ways _ free (subst (λ (s : Slice Mb). has_mb s k ≡ true) (ap (λ (x : Part Style Mb). x.piece.slice)
-                  (sym same) ∙ part.2) r.2)))
+              (sym same) ∙ part.2) r.2)))
         ];
     inside = λ j slice at_j.
         let part = of_slice j slice at_j in
         subst (λ (s : Slice Mb). (0 < length s.mbs) × (s.first + length s.mbs ≤ rules.mbs)) part.2
-            (lawful.read_inside part.0.bytes part.0.piece (going.packets j part.0 part.1).0);
+        (lawful.read_inside part.0.bytes part.0.piece (going.packets j part.0 part.1).0);
   }
     where
       of_slice : (j : ℕ) (slice : Slice Mb) → slice_get (slices_of p) j ≡ Some slice → (part : Part Style Mb)
@@ -140,12 +140,12 @@ module _ {Style Mb P Fault MessageFault : Type 0} (decoding : Decoding Style Mb 
           elim (slice_get_cases p.parts j).1 [
             | inl h ↦
                 let same : Some h.0.piece.slice
-                    ≡ Some slice = sym (slice_get-map (λ (part : Part Style Mb). part.piece.slice) p.parts j
-                    ∙ ap (option_map (λ (part : Part Style Mb). part.piece.slice)) h.2) ∙ e in
+                ≡ Some slice = sym (slice_get-map (λ (part : Part Style Mb). part.piece.slice) p.parts j
+                ∙ ap (option_map (λ (part : Part Style Mb). part.piece.slice)) h.2) ∙ e in
                 (h.0, h.2, (let equal : h.0.piece.slice ≡ slice = cc in equal))
             | inr h ↦
                 let none : None ≡ Some slice = sym (slice_get-map (λ (part : Part Style Mb). part.piece.slice) p.parts j
-                    ∙ ap (option_map (λ (part : Part Style Mb). part.piece.slice)) h.1) ∙ e in
+                ∙ ap (option_map (λ (part : Part Style Mb). part.piece.slice)) h.1) ∙ e in
                 absurd (not_none slice (sym none))
           ]
 
@@ -154,9 +154,16 @@ module _ {Style Mb P Fault MessageFault : Type 0} (decoding : Decoding Style Mb 
   whole_is_sound [] clean whole = tt
   whole_is_sound (Feedback bytes ∷ items) clean whole = whole_is_sound items clean whole
   whole_is_sound (Picture p ∷ items) clean whole =
-      let going = clean.0 in
-      (record { number = going.number; half = going.half; packets = going.packets; covers = covered items p going whole;
-          reference = going.reference }, clean.1)
+      let going = clean.0 in (
+        record {
+          number = going.number;
+          half = going.half;
+          packets = going.packets;
+          covers = covered items p going whole;
+          reference = going.reference;
+        },
+        clean.1,
+      )
 
   -- ---- a packet of the last picture
 
@@ -199,7 +206,7 @@ module _ {Style Mb P Fault MessageFault : Type 0} (decoding : Decoding Style Mb 
               ≡ true → has_mb b.piece.slice k ≡ true → ⊥
           crossed k i a b old new in_a in_b =
               let outside : has p k ≡ false = none_of below part.piece.slice (has p) k none
-                  (subst (λ (y : Part Style Mb). has_mb y.piece.slice k ≡ true) new in_b) in
+              (subst (λ (y : Part Style Mb). has_mb y.piece.slice k ≡ true) new in_b) in
               both_ways _ (in_none p.parts k i a outside old) in_a
 
   clean_part : (items : List (Item Style Mb)) (part : Part Style Mb) → decoding.read part.bytes ≡ Ok part.piece
@@ -251,7 +258,7 @@ module _ {Style Mb P Fault MessageFault : Type 0} (decoding : Decoding Style Mb 
           found None e = absurd (false≢true e)
           found (Some m) e =
               let parts = and_parts (is_among (known_of read rules items) m)
-                  (leb (pictures_in items) (m + window rules)) e in
+              (leb (pictures_in items) (m + window rules)) e in
               (m, refl, leb-true _ _ parts.1, parts.0)
 
           named : (rest : ℕ) → option_map_or (may_refer rules (known_of read rules items) (pictures_in items))
@@ -272,15 +279,15 @@ module _ {Style Mb P Fault MessageFault : Type 0} (decoding : Decoding Style Mb 
         | inl half ↦ elim (cases_Bool (is_of (last_picture items) piece)) [
           | inl own ↦
               let unbroken' : option_map (broken_at (present items))
-                  (broken_within decoding read rules (last_picture items) piece) ≡ None = sym (rw (half, own) refl)
-                  ∙ unbroken in
+              (broken_within decoding read rules (last_picture items) piece) ≡ None = sym (rw (half, own) refl)
+              ∙ unbroken in
               rw own (clean_part items (record { bytes = bytes; piece = piece }) reads clean
-                  (within (broken_within decoding read rules (last_picture items) piece) unbroken'))
+              (within (broken_within decoding read rules (last_picture items) piece) unbroken'))
           | inr next ↦
               let unbroken' : broken_next decoding read rules items piece ≡ None = sym (rw (half, next) refl)
-                  ∙ unbroken in
+              ∙ unbroken in
               rw next (next_of items (record { bytes = bytes; piece = piece }) reads (eqb-true _ _ half) clean
-                  unbroken')
+              unbroken')
         ]
       ]
     where
@@ -298,7 +305,7 @@ module _ {Style Mb P Fault MessageFault : Type 0} (decoding : Decoding Style Mb 
       clean_log past (both_none (first_broken decoding read rules past) None unbroken).0
   clean_log (Sent bytes ∷ past) unbroken =
       let both = both_none (first_broken decoding read rules past)
-          (broken_in decoding read rules (stream_of decoding past) (Sent bytes)) unbroken in
+      (broken_in decoding read rules (stream_of decoding past) (Sent bytes)) unbroken in
       clean_packet (stream_of decoding past) bytes (decoding.read bytes) refl (clean_log past both.0) both.1
 
   readable_packet : (items : List (Item Style Mb)) (bytes : List ℕ) (r : Result (Piece Style Mb) Fault)
@@ -317,12 +324,12 @@ module _ {Style Mb P Fault MessageFault : Type 0} (decoding : Decoding Style Mb 
       readable_log past (both_none (first_broken decoding read rules past) None unbroken).0
   readable_log (Sent bytes ∷ past) unbroken =
       let both = both_none (first_broken decoding read rules past)
-          (broken_in decoding read rules (stream_of decoding past) (Sent bytes)) unbroken in
+      (broken_in decoding read rules (stream_of decoding past) (Sent bytes)) unbroken in
       (readable_packet (stream_of decoding past) bytes (decoding.read bytes) refl both.1, readable_log past both.0)
 
   pub yes_is_sound : (past : List LogEntry) (count : ℕ) → verdict_of decoding read rules past ≡ Yes count
       → AllReadable decoding rules past × (pictures_in (stream_of decoding past) ≡ count)
-          × IsSound decoding read rules (stream_of decoding past)
+      × IsSound decoding read rules (stream_of decoding past)
   yes_is_sound past count is = go (first_broken decoding read rules past) refl is
     where
       closed : (b : Bool) → (if b then Yes (pictures_in (stream_of decoding past)) else No

@@ -18,7 +18,7 @@ frames_step f (suc n) m at [] frame less some is = absurd (omega arith)
 frames_step f (suc n) m at (b ∷ rest) frame less some is =
     let same : n ≡ m = omega (arith, less) in
     ap (λ (r : Result (List ℕ) Y4mFault). frames_from r (frames_of f n (at + frame_size f (b ∷ rest))
-        (after_frame f (b ∷ rest)))) is
+    (after_frame f (b ∷ rest)))) is
     ∙ ap (λ (k : ℕ). frame ∷ frames_of f k (at + frame_size f (b ∷ rest)) (after_frame f (b ∷ rest))) same
 
 fault_step : (f : Format) (n m at : ℕ) (rest frame : List ℕ) → m + 1 ≡ n → 0 < length rest → next_frame n f at rest
@@ -29,7 +29,7 @@ fault_step f (suc n) m at [] frame less some is = absurd (omega arith)
 fault_step f (suc n) m at (b ∷ rest) frame less some is =
     let same : n ≡ m = omega (arith, less) in
     ap (λ (r : Result (List ℕ) Y4mFault). fault_from r (fault_of f n (at + frame_size f (b ∷ rest))
-        (after_frame f (b ∷ rest)))) is
+    (after_frame f (b ∷ rest)))) is
     ∙ ap (λ (k : ℕ). fault_of f k (at + frame_size f (b ∷ rest)) (after_frame f (b ∷ rest))) same
 
 pub frames_stop : (f : Format) (n at : ℕ) (rest : List ℕ) (fault : Y4mFault) → next_frame n f at rest ≡ Err fault
@@ -74,7 +74,7 @@ some_size Cif = omega arith
 frames_cut : (f : Format) (n m at k : ℕ) (rest frame : List ℕ) → m + 1 ≡ n → 0 < length rest → next_frame n f at rest
     ≡ Ok frame
     → frames_of f n at (take (frame_size f rest + k) rest) ≡ frame ∷ frames_of f m (at + frame_size f rest)
-        (take k (after_frame f rest))
+    (take k (after_frame f rest))
 frames_cut f zero m at k rest frame less some is = absurd (omega (arith, less))
 frames_cut f (suc n) m at k rest frame less some is =
     let size = frame_size f rest in

@@ -32,16 +32,24 @@ no_line n word xs none l =
 
 -- a whole line has its word and a newline
 pub line_least : (word line : List ℕ) → IsLine word line → length word < length line
-line_least word line l = omega (arith, ap (λ (x : List ℕ). length x) l.text, length-append (word ++ l.tail) (10 ∷ []),
-    length-append word l.tail)
+line_least word line l = omega (
+  arith,
+  ap (λ (x : List ℕ). length x) l.text,
+  length-append (word ++ l.tail) (10 ∷ []),
+  length-append word l.tail,
+)
 
 -- bytes that are cut, n of a text with this word
 cut_line : (n least k : ℕ) (word text : List ℕ) → least ≤ length word + 1 → (least ≤ k → NoNewline (take k text))
     → IsLine word (line_within n (take k text)) → ⊥
 cut_line n least k word text le free l =
     elim (cases_lt k least) [
-      | inl lt ↦ absurd (omega (arith, line_least word (line_within n (take k text)) l, line_fits n (take k text),
-          length-take k text))
+      | inl lt ↦ absurd (omega (
+        arith,
+        line_least word (line_within n (take k text)) l,
+        line_fits n (take k text),
+        length-take k text,
+      ))
       | inr ge ↦ no_line n word (take k text) (free (omega arith)) l
     ]
 
@@ -83,7 +91,7 @@ module _ (f : Format) (at j : ℕ) (rest : List ℕ) (whole : line_stop (frame_l
       let le : length (frame_line rest) ≤ 257 = omega (arith, spelled.short) in
       ap (λ (l : List ℕ). frame_line l) taken_is
       ∙ line_found 257 (codes "FRAME") (frame_line rest) (take j (drop (length (frame_line rest)) rest))
-          (free (codes "FRAME") refl) spelled le
+      (free (codes "FRAME") refl) spelled le
 
   too_short : (planes : List ℕ) → frame_of f at taken ≡ Ok planes → ⊥
   too_short planes is =
@@ -98,9 +106,9 @@ pub free_more : (left : List ℕ) (i b : ℕ) → NoNewline (take i left) → dr
     → NoNewline (take (i + 1) left)
 free_more left i b none there other =
     let more : take (i + 1) left ≡ take i left ++ b ∷ [] = take-add i 1 left
-        ∙ ap (λ (l : List ℕ). take i left ++ take 1 l) there in
+    ∙ ap (λ (l : List ℕ). take i left ++ take 1 l) there in
     subst NoNewline (sym more) (All-append Other (take i left) (b ∷ []) none
-        (All-cons Other b [] other (All-nil Other)))
+    (All-cons Other b [] other (All-nil Other)))
 
 -- a whole head or frame stays one where what follows is cut
 take_past : (xs ys : List ℕ) (k : ℕ) → length xs ≤ k → take k (xs ++ ys) ≡ xs ++ take (k - length xs) ys
@@ -115,7 +123,7 @@ head_stays video f k is le =
     let h : IsHead line f = head_is video f is in
     let more = take (k - length line) (drop (length line) video) in
     let text : take k video ≡ line ++ more = ap (λ (l : List ℕ). take k l) (line_front 256 video)
-        ∙ take_past line (drop (length line) video) k le in (
+    ∙ take_past line (drop (length line) video) k le in (
       ap (λ (l : List ℕ). head_of l) text ∙ head_found line more f h,
       ap (λ (l : List ℕ). head_size l) text
           ∙ ap (λ (l : List ℕ). length l) (line_found 256 (codes "YUV4MPEG2") line more (free (codes "YUV4MPEG2") refl)
@@ -132,10 +140,10 @@ frame_stays f at k rest planes is le =
     let whole : IsFrame f x = frame_is f at rest planes is in
     let more = drop (frame_size f rest) rest in
     let size : length (line ++ planes) ≡ frame_size f rest = length-append line planes
-        ∙ ap (λ (n : ℕ). length line + n) whole.size in
+    ∙ ap (λ (n : ℕ). length line + n) whole.size in
     let after = take (k - length (line ++ planes)) more in
     let text : take k rest ≡ (line ++ planes) ++ after = ap (λ (l : List ℕ). take k l) (frame_text f at rest planes is)
-        ∙ take_past (line ++ planes) more k (omega (arith, size, le)) in (
+    ∙ take_past (line ++ planes) more k (omega (arith, size, le)) in (
       ap (λ (l : List ℕ). frame_of f at l) text ∙ frame_found f at x after whole,
       ap (λ (l : List ℕ). frame_size f l) text
           ∙ size_is f at ((line ++ planes) ++ after) line (length line) (line_there f at x after whole) refl,

@@ -25,8 +25,11 @@ through_none [] none = refl
 through_none (b ∷ bytes) none = absurd (omega arith)
 
 pub no_line : (rest : List ℕ) → length (frame_line rest) ≡ 0 → rest ≡ []
-no_line rest none = nil_of rest (omega (arith, length-take 257 rest,
-    ap (λ (l : List ℕ). length l) (through_none (take 257 rest) none)))
+no_line rest none = nil_of rest (omega (
+  arith,
+  length-take 257 rest,
+  ap (λ (l : List ℕ). length l) (through_none (take 257 rest) none),
+))
 
 -- l is what there is of the line, n bytes
 module _ (f : Format) (at : ℕ) (rest l : List ℕ) (n : ℕ) (is : l ≡ frame_line rest) (size : length l ≡ n) where

@@ -18,7 +18,7 @@ pub no_word : (k : ℕ) (line : List ℕ) → k ≡ agreement (codes "YUV4MPEG2"
 unfolding format_of_line
 no_word k line is le =
     let tail = unless (tags_fault (tags_of line))
-        (cond (is_whole line) (sized (format_in (tags_of line)) (length line - 1)) (Err (NotY4m (length line)))) in
+    (cond (is_whole line) (sized (format_in (tags_of line)) (length line - 1)) (Err (NotY4m (length line)))) in
     (λ j. cond (nat_lt (sym is j) 10) (Err (NotY4m (sym is j))) tail)
     ∙ ap (λ (b : Bool). cond b (Err (NotY4m k)) tail) (below k le)
 

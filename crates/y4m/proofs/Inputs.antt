@@ -69,7 +69,7 @@ module _ (line left : List ℕ) (i : ℕ) (all : List ℕ) (so_far : take i line
     ends_here ten =
         take_more_set line i b lt
         ∙ ap (λ (l : List ℕ). take i line
-            ++ l) (sym (line_last (length line - i) b (drop i left) (omega arith) there ten))
+        ++ l) (sym (line_last (length line - i) b (drop i left) (omega arith) there ten))
         ∙ so_far
 
     pub goes_on : b ≢ 10 → take (i + 1) (set line i b) ++ line_within (length line - (i + 1)) (drop (i + 1) left) ≡ all
@@ -78,5 +78,5 @@ module _ (line left : List ℕ) (i : ℕ) (all : List ℕ) (so_far : take i line
         (λ j. take_more_set line i b lt j ++ line_within (size j) (sym (drop-drop 1 i left) j))
         ∙ append_assoc (take i line) (b ∷ []) (line_within (length line - i - 1) (drop 1 (drop i left)))
         ∙ ap (λ (l : List ℕ). take i line
-            ++ l) (sym (line_next (length line - i) b (drop i left) (omega arith) there other))
+        ++ l) (sym (line_next (length line - i) b (drop i left) (omega arith) there other))
         ∙ so_far

@@ -11,4 +11,4 @@ pub apart : (word line : List ℕ) (i : ℕ) → i < length word → i < length 
     → agreement (drop i word) (drop i line) ≡ 0
 apart word line i hw hl ne =
     (λ j. agreement (drop-cons word i 0 hw j) (drop-cons line i 0 hl j))
-        ∙ apart_heads (get_or word i 0) (get_or line i 0) (drop (suc i) word) (drop (suc i) line) ne
+    ∙ apart_heads (get_or word i 0) (get_or line i 0) (drop (suc i) word) (drop (suc i) line) ne

@@ -113,7 +113,7 @@ module _ (left came : List ℕ) (k n : ℕ) (same : came ≡ take k left) (le : 
       let nothing : drop k left ≡ [] = drop_of_length-le left (omega (arith, all)) in
       sym (append-nil came)
       ∙ ap (λ (l : List ℕ). came ++ l) (sym (ap (λ (l : List ℕ). line_within (n - k) l) nothing
-          ∙ ap through_newline (take-nil (n - k))))
+      ∙ ap through_newline (take-nil (n - k))))
       ∙ goes_past none
 
 -- the first k bytes of the buffer are the video's, and what followed was read after them
@@ -127,7 +127,7 @@ module _ (buf left : List ℕ) (k n : ℕ) (same : take k buf ≡ take k left) (
       ap (λ (i : ℕ). take (i + j) (take least buf ++ (more ++ after))) long
       ∙ take-append-add (take least buf) (more ++ after) j
       ∙ ap (λ (l : List ℕ). take least buf ++ l) (take-append-le j more after within ∙ rest
-          ∙ ap (λ (i : ℕ). line_within i (drop k left)) size)
+      ∙ ap (λ (i : ℕ). line_within i (drop k left)) size)
       ∙ ap (λ (i : ℕ). take i buf ++ line_within (n - k) (drop k left)) (sym is)
       ∙ goes_past left (take k buf) k n same le none
 

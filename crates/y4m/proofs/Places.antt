@@ -85,8 +85,10 @@ open_at k size whole is = elim (cases_lt k 6) [
 
 stops_open : (line : List ℕ) → line_stop line ≡ Some (length line) → (length line ≤ 256) × (last_of line ≢ 10)
 stops_open line is = elim (open_at (agreement (codes "FRAME") line) (length line) (is_whole line) is) [
-  | inl p ↦ (omega (arith, p.0, p.1),
-      free_last line (agreed_free (codes "FRAME") line (free (codes "FRAME") refl) p.1 (omega (arith, p.0, p.1))))
+  | inl p ↦ (
+    omega (arith, p.0, p.1),
+    free_last line (agreed_free (codes "FRAME") line (free (codes "FRAME") refl) p.1 (omega (arith, p.0, p.1))),
+  )
   | inr q ↦ (q.0, not_whole (length line) (last_of line) q.0 q.1)
 ]
 

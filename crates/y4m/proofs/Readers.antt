@@ -19,14 +19,14 @@ pub head_stopped : (video : List ℕ) (left : Option (List ℕ)) (r : Result Y4m
     → IsErrAnd r (λ x. x ≡ stop) → stop ≡ Read → IsCut 10 video left → HeadGives r video left
 head_stopped video left r stop is read cut =
     subst (λ (r : Result Y4mPlace VideoStop). HeadGives r video left) (sym (err_is r stop is
-        ∙ ap (λ (s : VideoStop). Err s) read)) (cut.taken, cut.gone, head_cut cut.taken video cut.free)
+    ∙ ap (λ (s : VideoStop). Err s) read)) (cut.taken, cut.gone, head_cut cut.taken video cut.free)
 
 pub frame_stopped : (old new : Y4mPlace) (rest out : List ℕ) (left : Option (List ℕ)) (r : Result Bool VideoStop)
     (stop : VideoStop) → IsErrAnd r (λ x. x ≡ stop) → stop ≡ Read → IsCut 6 rest left
     → FrameGives r old rest out new left
 frame_stopped old new rest out left r stop is read cut =
     subst (λ (r : Result Bool VideoStop). FrameGives r old rest out new left) (sym (err_is r stop is
-        ∙ ap (λ (s : VideoStop). Err s) read))
+    ∙ ap (λ (s : VideoStop). Err s) read))
     (cut.taken, cut.gone, frame_cut old.format old.at cut.taken rest cut.free)
 
 -- the video has a fault
@@ -39,8 +39,10 @@ pub frame_refused : (old new : Y4mPlace) (rest out : List ℕ) (left : Option (L
     (fault : Y4mFault) → IsErrAnd r (λ x. x ≡ Refused fault) → 0 < length rest
     → next_frame old.more old.format old.at rest ≡ Err fault → FrameGives r old rest out new left
 frame_refused old new rest out left r fault is some found =
-    subst (λ (r : Result Bool VideoStop). FrameGives r old rest out new left) (sym (err_is r (Refused fault) is)) (some,
-    found)
+    subst (λ (r : Result Bool VideoStop). FrameGives r old rest out new left) (sym (err_is r (Refused fault) is)) (
+      some,
+      found,
+    )
 
 -- the planes were short, which is what the frame says, or a read failed within them; n bytes of the rest are the line
 module _ (old new : Y4mPlace) (rest out : List ℕ) (n at : ℕ) (left : Option (List ℕ)) (some : 0 < length rest)

@@ -28,9 +28,9 @@ pub line_found : (n : ℕ) (word line more : List ℕ) → NoNewline word → Is
     → line_within n (line ++ more) ≡ line
 line_found n word line more none l le =
     let whole : line ++ more ≡ (word ++ l.tail) ++ 10 ∷ more = ap (λ (x : List ℕ). x ++ more) l.text
-        ∙ append_assoc (word ++ l.tail) (10 ∷ []) more in
+    ∙ append_assoc (word ++ l.tail) (10 ∷ []) more in
     let size : length line ≡ length (word ++ l.tail) + 1 = ap (λ (x : List ℕ). length x) l.text
-        ∙ length-append (word ++ l.tail) (10 ∷ []) in
+    ∙ length-append (word ++ l.tail) (10 ∷ []) in
     ap (λ (x : List ℕ). line_within n x) whole
     ∙ through_found n (word ++ l.tail) more (All-append Other word l.tail none l.one) (omega arith)
     ∙ sym l.text
@@ -58,11 +58,14 @@ whole_if n b le is = grind (arith, nat_tests)
 
 pub line_whole : (word line : List ℕ) → IsLine word line → is_whole line ≡ true
 line_whole word line l =
-    let size : length line - 1 ≡ length (word ++ l.tail) = omega (arith, ap (λ (x : List ℕ). length x) l.text,
-        length-append (word ++ l.tail) (10 ∷ [])) in
+    let size : length line - 1 ≡ length (word ++ l.tail) = omega (
+      arith,
+      ap (λ (x : List ℕ). length x) l.text,
+      length-append (word ++ l.tail) (10 ∷ []),
+    ) in
     whole_if (length line) (get_or line (length line - 1) 0) l.short
     (ap (λ (n : ℕ). get_or line n 0) size ∙ ap (λ (x : List ℕ). get_or x (length (word ++ l.tail)) 0) l.text
-        ∙ get_or-append_seam (word ++ l.tail) 10 [] 0)
+    ∙ get_or-append_seam (word ++ l.tail) 10 [] 0)
 
 -- what was found
 pub line_front : (n : ℕ) (bytes : List ℕ) → bytes ≡ line_within n bytes ++ drop (length (line_within n bytes)) bytes
@@ -99,8 +102,11 @@ last_cons b (y ∷ ys) some =
     ap (λ (n : ℕ). get_or (b ∷ y ∷ ys) n 0) one ∙ ap (λ (n : ℕ). get_or (y ∷ ys) n 0) (sym two)
 
 ended_cons : (b : ℕ) (line : List ℕ) → b ≢ 10 → Ended line → Ended (b ∷ line)
-ended_cons b line other e = record { front = b ∷ e.front; text = ap (λ (l : List ℕ). b ∷ l) e.text;
-    one = All-cons Other b e.front other e.one }
+ended_cons b line other e = record {
+  front = b ∷ e.front;
+  text = ap (λ (l : List ℕ). b ∷ l) e.text;
+  one = All-cons Other b e.front other e.one;
+}
 
 ended_at : (b : ℕ) (line : List ℕ) → b ≢ 10 → get_or (b ∷ line) (length (b ∷ line) - 1) 0 ≡ 10
     → (get_or line (length line - 1) 0 ≡ 10 → Ended line) → Ended (b ∷ line)
@@ -181,7 +187,7 @@ line_is n word bytes agrees whole =
     let e : Ended line = ended_through (take n bytes) (whole_ends (length line) last whole) in
     let gap = gap_at word line agrees in
     let size : length line ≡ length e.front + 1 = ap (λ (l : List ℕ). length l) e.text
-        ∙ length-append e.front (10 ∷ []) in
+    ∙ length-append e.front (10 ∷ []) in
     let tail = drop (length word) e.front in
     let le : length word ≤ length e.front = omega (arith, gap.0, size) in
     let front : take (length word) e.front ≡ word =
@@ -190,7 +196,7 @@ line_is n word bytes agrees whole =
     ∙ take-append_seam word (drop (length word) line) in
     let text : line ≡ (word ++ tail) ++ 10 ∷ [] =
     e.text ∙ ap (λ (l : List ℕ). l ++ 10 ∷ []) (sym (take-append-drop (length word) e.front)
-        ∙ ap (λ (l : List ℕ). l ++ tail) front) in
+    ∙ ap (λ (l : List ℕ). l ++ tail) front) in
     let there : get_or line (length word) 0 ≡ get_or (tail ++ 10 ∷ []) 0 0 =
     ap (λ (l : List ℕ). get_or l (length word) 0) (text ∙ append_assoc word tail (10 ∷ []))
     ∙ ap (λ (k : ℕ). get_or (word ++ (tail ++ 10 ∷ [])) k 0) (add-zero (length word))

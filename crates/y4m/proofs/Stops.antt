@@ -52,7 +52,7 @@ same_front (a ∷ word) (b ∷ line) le =
           let e : agreement (a ∷ word) (b ∷ line) ≡ suc k = same_heads_as a b word line same in
           let more : take k line ≡ take k word = same_front word line (omega (arith, le, e)) in
           ap (λ (n : ℕ). take n (b ∷ line)) e ∙ ap (λ (l : List ℕ). b ∷ l) more
-              ∙ ap (λ (x : ℕ). x ∷ take k word) (sym same) ∙ sym (ap (λ (n : ℕ). take n (a ∷ word)) e)
+          ∙ ap (λ (x : ℕ). x ∷ take k word) (sym same) ∙ sym (ap (λ (n : ℕ). take n (a ∷ word)) e)
       | inr other ↦
           let e : agreement (a ∷ word) (b ∷ line) ≡ 0 = other_heads a b word line other in
           ap (λ (n : ℕ). take n (b ∷ line)) e ∙ sym (ap (λ (n : ℕ). take n (a ∷ word)) e)
@@ -74,7 +74,7 @@ kept (a ∷ word) (b ∷ line) more lt =
       | inr other ↦
           let e : agreement (a ∷ word) (b ∷ line) ≡ 0 = other_heads a b word line other in
           ap (λ (n : ℕ). agreement (a ∷ word) (take (suc n) (b ∷ line) ++ more)) e
-              ∙ other_heads a b word (take 0 line ++ more) other ∙ sym e
+          ∙ other_heads a b word (take 0 line ++ more) other ∙ sym e
     ]
 
 -- a prefix of a line is a prefix of its bytes
@@ -106,7 +106,7 @@ all_there word m bytes none few le lt =
       | inr whole ↦
           let all : n ≡ length line = omega (arith, whole, agreed_within word line) in
           let open_end : line ≡ take m bytes = open_line (take m bytes)
-              (free_last line (agreed_free word line none all (omega (arith, le, all)))) in
+          (free_last line (agreed_free word line none all (omega (arith, le, all)))) in
           absurd (omega (arith, all, lt, le, few, ap length open_end, length-take m bytes))
     ]
 
@@ -115,9 +115,9 @@ begun : (word line rest : List ℕ) → IsLine word line → agreement word (lin
 begun word line rest l =
     let tail = l.tail ++ 10 ∷ [] in
     let parts : line ++ rest ≡ word ++ (tail ++ rest) = ap (λ (x : List ℕ). x ++ rest) (l.text
-        ∙ append_assoc word l.tail (10 ∷ [])) ∙ append_assoc word tail rest in
+    ∙ append_assoc word l.tail (10 ∷ [])) ∙ append_assoc word tail rest in
     ap (agreement word) parts ∙ agreement-append word (tail ++ rest)
-        ∙ ap (λ (n : ℕ). length word + n) (gap l.tail l.apart)
+    ∙ ap (λ (n : ℕ). length word + n) (gap l.tail l.apart)
   where
     gap : (t : List ℕ) → StandsApart t → agreement [] ((t ++ 10 ∷ []) ++ rest) ≡ 1
     gap [] apart = refl
@@ -129,14 +129,14 @@ no_line : (word bytes more line rest : List ℕ) (m n : ℕ) → n ≡ agreement
     ++ rest → ⊥
 no_line word bytes more line rest m n is lt inside l whole =
     let taken : take (suc n) (line_within m bytes) ≡ take (suc n) bytes = line_take m bytes (suc n)
-        (omega (arith, lt)) in
+    (omega (arith, lt)) in
     let here : agreement word (take (suc n) (line_within m bytes) ++ more) ≡ n =
     ap (λ (k : ℕ). agreement word (take (suc k) (line_within m bytes) ++ more)) is
-        ∙ kept word (line_within m bytes) more (omega (arith, is, lt)) ∙ sym is in
+    ∙ kept word (line_within m bytes) more (omega (arith, is, lt)) ∙ sym is in
     let there : agreement word (take (suc n) bytes ++ more) ≡ length word + 1 = ap (agreement word) whole
-        ∙ begun word line rest l in
+    ∙ begun word line rest l in
     let same : agreement word (take (suc n) (line_within m bytes) ++ more) ≡ agreement word (take (suc n) bytes
-        ++ more) = ap (λ (x : List ℕ). agreement word (x ++ more)) taken in
+    ++ more) = ap (λ (x : List ℕ). agreement word (x ++ more)) taken in
     omega (arith, here, there, same, inside)
 
 -- up to there they are a prefix of the word
@@ -146,7 +146,7 @@ word_front word bytes m n is le =
     let line = line_within m bytes in
     let some : n ≤ length line = omega (arith, is, agreed_within word line) in
     sym (line_take m bytes n some) ∙ ap (λ (k : ℕ). take k line) is ∙ same_front word line (omega (arith, is, le))
-        ∙ sym (ap (λ (k : ℕ). take k word) is)
+    ∙ sym (ap (λ (k : ℕ). take k word) is)
 
 -- ---- the head
 
@@ -193,15 +193,22 @@ head_agrees line n e lt =
         (bad_tag (agreement head_word line) line fault refl more p) e))
     at None false p q more =
         let same : length line ≡ n = not_y4m_is (length line) n (err_fault (NotY4m (length line)) (NotY4m n)
-            (format_of_line line) (not_whole (agreement head_word line) line refl more p q) e) in
+        (format_of_line line) (not_whole (agreement head_word line) line refl more p q) e) in
         absurd (omega (arith, same, lt, more, agreed_within head_word line))
     at None true p q more = not_of_size (format_in (tags_of line)) (length line - 1) n
         (sym (whole_head (agreement head_word line) line (format_in (tags_of line)) refl more p q refl) ∙ e)
 
 -- the text of a video with no frame
 blank_video : IsVideo (head_text SubQcif) SubQcif []
-blank_video = record { head = head_text SubQcif; frames = []; text = sym (append-nil (head_text SubQcif));
-    of_head = head_written SubQcif; of_frames = All-nil (IsFrame SubQcif); of_planes = refl; count = omega arith }
+blank_video = record {
+  head = head_text SubQcif;
+  frames = [];
+  text = sym (append-nil (head_text SubQcif));
+  of_head = head_written SubQcif;
+  of_frames = All-nil (IsFrame SubQcif);
+  of_planes = refl;
+  count = omega arith;
+}
 
 pub head_place : (video : List ℕ) (n : ℕ) → head_of video ≡ Err (NotY4m n) → n < length video → n < 10
     → BeginsVideo (take n video) × (BeginsVideo (take (suc n) video) → ⊥)
@@ -209,13 +216,13 @@ head_place video n e lt inside =
     let is : n ≡ agreement head_word (line_within 256 video) = head_agrees (head_line video) n e inside in
     let less : n < length (line_within 256 video) =
     (let there = all_there head_word 256 video (free head_word refl) (omega arith) (omega (arith, is, inside))
-        (omega (arith, is, lt)) in omega (arith, is, there)) in
+    (omega (arith, is, lt)) in omega (arith, is, there)) in
     let front : take n video ≡ take n head_word = word_front head_word video 256 n is (omega (arith, inside)) in
     let rest = codes " W128 H96 F30000:1001 Ip C420jpeg" ++ 10 ∷ [] in
     let whole : take n video ++ (drop n head_word ++ rest) ≡ head_text SubQcif =
     ap (λ (l : List ℕ). l ++ (drop n head_word ++ rest)) front
-        ∙ sym (append_assoc (take n head_word) (drop n head_word) rest)
-        ∙ ap (λ (l : List ℕ). l ++ rest) (take-append-drop n head_word) in (
+    ∙ sym (append_assoc (take n head_word) (drop n head_word) rest)
+    ∙ ap (λ (l : List ℕ). l ++ rest) (take-append-drop n head_word) in (
       (drop n head_word ++ rest, SubQcif, [], subst (λ (l : List ℕ). IsVideo l SubQcif []) (sym whole) blank_video),
       λ b. let v = b.3 in no_line head_word video b.0 v.head (flat_map (λ frame. frame.line ++ frame.planes) v.frames)
           256 n is less (omega (arith, inside)) v.of_head.spelled v.text,
@@ -277,17 +284,19 @@ frame_agrees f at n rest e lt = by (line_stop (frame_line rest)) refl e
     by (Some stop) is e =
         let fault : stop_fault at (length (frame_line rest)) stop ≡ NotY4m (at + n) = cc e in
         let here : line_stop (frame_line rest) ≡ Some n = is
-            ∙ ap (λ (k : ℕ). Some k) (stop_not at (length (frame_line rest)) stop n fault) in
+        ∙ ap (λ (k : ℕ). Some k) (stop_not at (length (frame_line rest)) stop n fault) in
         stop_agrees (agreement frame_word (frame_line rest)) (length (frame_line rest)) n (is_whole (frame_line rest))
-            (agreed_within frame_word (frame_line rest)) here lt
+        (agreed_within frame_word (frame_line rest)) here lt
 
 -- a frame with no tag and only zeros
 abbrev blank_frame : Format → Frame
 blank_frame f = record { line = frame_word ++ 10 ∷ []; planes = replicate (size_of_picture f) 0 }
 
 blank_is : (f : Format) → IsFrame f (blank_frame f)
-blank_is f = record { spelled = record { tail = []; text = refl; apart = tt; one = free [] refl; short = omega arith };
-    size = length-replicate (size_of_picture f) 0 }
+blank_is f = record {
+  spelled = record { tail = []; text = refl; apart = tt; one = free [] refl; short = omega arith };
+  size = length-replicate (size_of_picture f) 0;
+}
 
 pub frame_place : (f : Format) (at n : ℕ) (rest : List ℕ) → frame_of f at rest ≡ Err (NotY4m (at + n)) → n < length rest
     → n < 6 → BeginsFrame f (take n rest) × (BeginsFrame f (take (suc n) rest) → ⊥)
@@ -295,14 +304,14 @@ frame_place f at n rest e lt inside =
     let is : n ≡ agreement frame_word (line_within 257 rest) = frame_agrees f at n rest e inside in
     let less : n < length (line_within 257 rest) =
     (let there = all_there frame_word 257 rest (free frame_word refl) (omega arith) (omega (arith, is, inside))
-        (omega (arith, is, lt)) in omega (arith, is, there)) in
+    (omega (arith, is, lt)) in omega (arith, is, there)) in
     let front : take n rest ≡ take n frame_word = word_front frame_word rest 257 n is (omega (arith, inside)) in
     let frame = blank_frame f in
     let after = 10 ∷ frame.planes in
     let whole : take n rest ++ (drop n frame_word ++ after) ≡ frame.line ++ frame.planes =
     ap (λ (l : List ℕ). l ++ (drop n frame_word ++ after)) front
-        ∙ sym (append_assoc (take n frame_word) (drop n frame_word) after)
-        ∙ ap (λ (l : List ℕ). l ++ after) (take-append-drop n frame_word) in (
+    ∙ sym (append_assoc (take n frame_word) (drop n frame_word) after)
+    ∙ ap (λ (l : List ℕ). l ++ after) (take-append-drop n frame_word) in (
       (drop n frame_word ++ after, frame, blank_is f, whole),
       λ b. no_line frame_word rest b.0 b.1.line b.1.planes 257 n is less (omega (arith, inside)) b.2.spelled b.3,
     )

@@ -38,7 +38,7 @@ tags_next line at lt =
     let there : drop at line ≡ b ∷ drop (at + 1) line = rw (add-one) (drop-cons line at 0 lt) in
     ap (λ (l : List ℕ). tags_from at (get_or line (at - 1) 0) l) there
     ∙ (λ j. with_tag at (tag_after (get_or line (at - 1) 0) (sym there j))
-        (tags_from (at + 1) (get_or line (sym back j) 0) (drop (at + 1) line)))
+    (tags_from (at + 1) (get_or line (sym back j) 0) (drop (at + 1) line)))
 
 pub tags_none : (line : List ℕ) (at : ℕ) → at < length line → tag_after (get_or line (at - 1) 0) (drop at line) ≡ None
     → tags_at line at ≡ tags_at line (at + 1)

@@ -67,7 +67,7 @@ no_fault : (tags : List Tag) → All Accepted tags → tags_fault tags ≡ None
 no_fault [] all = refl
 no_fault (tag ∷ tags) all =
     ap (λ (o : Option Y4mFault). or_else o (tags_fault tags)) (All-head Accepted tag tags all)
-        ∙ no_fault tags (All-tail Accepted tag tags all)
+    ∙ no_fault tags (All-tail Accepted tag tags all)
 
 -- the head
 pub head_found : (line more : List ℕ) (f : Format) → IsHead line f → head_of (line ++ more) ≡ Ok f
@@ -76,12 +76,12 @@ head_found line more f h =
     let agrees : 10 ≡ agreement word line = sym (line_agrees word line h.spelled) in
     ap format_of_line (line_found 256 word line more word_head h.spelled h.spelled.short)
     ∙ whole_head 10 line (Some f) agrees (omega arith) (no_fault (tags_of line) h.accepted)
-        (line_whole word line h.spelled) h.sized
+    (line_whole word line h.spelled) h.sized
 
 head_ends : (line more : List ℕ) (f : Format) → IsHead line f → drop (head_size (line ++ more)) (line ++ more) ≡ more
 head_ends line more f h =
     ap (λ (l : List ℕ). drop (length l) (line ++ more))
-        (line_found 256 (codes "YUV4MPEG2") line more word_head h.spelled h.spelled.short)
+    (line_found 256 (codes "YUV4MPEG2") line more word_head h.spelled h.spelled.short)
     ∙ drop-append_seam line more
 
 head_parts : (k size : ℕ) (fault : Option Y4mFault) (whole : Bool) (format : Option Format) (f : Format)
@@ -119,7 +119,7 @@ unfolding format_of_line
 head_is video f is =
     let line = head_line video in
     let parts = head_parts (agreement (codes "YUV4MPEG2") line) (length line) (tags_fault (tags_of line))
-        (is_whole line) (format_in (tags_of line)) f is in
+    (is_whole line) (format_in (tags_of line)) f is in
     record {
       spelled = line_is 256 (codes "YUV4MPEG2") video parts.0 parts.2;
       accepted = tags_accepted (tags_of line) parts.1;
@@ -131,7 +131,7 @@ stop_found : (k size : ℕ) (whole : Bool) → 5 < k → whole ≡ true
     → cond (nat_lt k 6) (Some k) (cond whole None (Some size)) ≡ None
 stop_found k size whole lt is =
     ap (λ (b : Bool). cond b (Some k) (cond whole None (Some size))) (above k lt)
-        ∙ ap (λ (b : Bool). cond b None (Some size)) is
+    ∙ ap (λ (b : Bool). cond b None (Some size)) is
   where
     above : (k : ℕ) → 5 < k → nat_lt k 6 ≡ false
     above k lt = grind (arith, nat_tests)
@@ -140,8 +140,10 @@ stop_parts : (k size : ℕ) (whole : Bool) → cond (nat_lt k 6) (Some k) (cond 
     → (5 < k) × (whole ≡ true)
 stop_parts k size whole is = elim (cases_lt k 6) [
   | inl lt ↦ absurd (below k lt is)
-  | inr le ↦ (omega (arith, le),
-      by_whole whole (sym (ap (λ (b : Bool). cond b (Some k) (cond whole None (Some size))) (above k le)) ∙ is))
+  | inr le ↦ (
+    omega (arith, le),
+    by_whole whole (sym (ap (λ (b : Bool). cond b (Some k) (cond whole None (Some size))) (above k le)) ∙ is),
+  )
 ]
   where
     test : (k : ℕ) → k < 6 → nat_lt k 6 ≡ true
@@ -164,7 +166,7 @@ line_stops line is = stop_parts (agreement (codes "FRAME") line) (min (length li
 line_goes_on : (line : List ℕ) → IsLine (codes "FRAME") line → line_stop line ≡ None
 line_goes_on line l =
     stop_found (agreement (codes "FRAME") line) (min (length line) 256) (is_whole line)
-        (omega (arith, line_agrees (codes "FRAME") line l)) (line_whole (codes "FRAME") line l)
+    (omega (arith, line_agrees (codes "FRAME") line l)) (line_whole (codes "FRAME") line l)
 
 pub planes_parts : (f : Format) (at n : ℕ) (rest planes : List ℕ) → planes_of f at n rest ≡ Ok planes
     → (n + size_of_picture f ≤ length rest) × (planes ≡ take (size_of_picture f) (drop n rest))
@@ -210,8 +212,12 @@ frame_is f at rest planes is =
     record {
       spelled = line_is 257 (codes "FRAME") rest line.0 line.1;
       size = ap (λ (l : List ℕ). length l) there.1
-          ∙ (omega (arith, length-take (size_of_picture f) (drop (length (frame_line rest)) rest),
-          length-drop (length (frame_line rest)) rest, there.0));
+          ∙ (omega (
+            arith,
+            length-take (size_of_picture f) (drop (length (frame_line rest)) rest),
+            length-drop (length (frame_line rest)) rest,
+            there.0,
+          ));
     }
 
 pub frame_text : (f : Format) (at : ℕ) (rest planes : List ℕ) → frame_of f at rest ≡ Ok planes
@@ -223,7 +229,7 @@ frame_text f at rest planes is =
     sym (take-append-drop (size_of_picture f) (drop n rest))
     ∙ (λ j. sym there.1 j ++ drop-drop (size_of_picture f) n rest j) in
     line_front 257 rest ∙ ap (λ (l : List ℕ). frame_line rest ++ l) after
-        ∙ sym (append_assoc (frame_line rest) planes (drop (frame_size f rest) rest))
+    ∙ sym (append_assoc (frame_line rest) planes (drop (frame_size f rest) rest))
 
 module _ (f : Format) (at : ℕ) (x : Frame) (more : List ℕ) (is : IsFrame f x) where
   abbrev rest : List ℕ
@@ -233,7 +239,7 @@ module _ (f : Format) (at : ℕ) (x : Frame) (more : List ℕ) (is : IsFrame f x
   line_there =
       let short : length x.line ≤ 257 = omega (arith, is.spelled.short) in
       sym (ap (λ (l : List ℕ). frame_line l) (append_assoc x.line x.planes more)
-          ∙ line_found 257 (codes "FRAME") x.line (x.planes ++ more) word_frame is.spelled short)
+      ∙ line_found 257 (codes "FRAME") x.line (x.planes ++ more) word_frame is.spelled short)
 
   after_line : drop (length x.line) rest ≡ x.planes ++ more
   after_line = ap (λ (l : List ℕ). drop (length x.line) l) (append_assoc x.line x.planes more)
@@ -241,8 +247,12 @@ module _ (f : Format) (at : ℕ) (x : Frame) (more : List ℕ) (is : IsFrame f x
 
   pub frame_found : frame_of f at rest ≡ Ok x.planes
   frame_found =
-      let long : size_of_picture f ≤ length (drop (length x.line) rest) = omega (arith,
-          ap (λ (l : List ℕ). length l) after_line, length-append x.planes more, is.size) in
+      let long : size_of_picture f ≤ length (drop (length x.line) rest) = omega (
+        arith,
+        ap (λ (l : List ℕ). length l) after_line,
+        length-append x.planes more,
+        is.size,
+      ) in
       planes_there f at rest x.line (length x.line) line_there refl (line_goes_on x.line is.spelled) long
       ∙ (λ j. Ok (take (sym is.size j) (after_line j)))
       ∙ ap (λ (l : List ℕ). Ok l) (take-append_seam x.planes more)
@@ -291,8 +301,13 @@ record AreWhole (f : Format) (n : ℕ) (rest : List ℕ) (planes : List (List �
   pub count : length frames ≤ n
 
 none_whole : (f : Format) (n : ℕ) → AreWhole f n [] []
-none_whole f n = record { frames = []; text = refl; of_frames = All-nil (IsFrame f); of_planes = refl;
-    count = omega arith }
+none_whole f n = record {
+  frames = [];
+  text = refl;
+  of_frames = All-nil (IsFrame f);
+  of_planes = refl;
+  count = omega arith;
+}
 
 no_fault_after : (r : Result (List ℕ) Y4mFault) (more : Option Y4mFault) → fault_from r more ≡ None → more ≡ None
 no_fault_after (Ok planes) more none = none
@@ -322,14 +337,20 @@ frames_whole f (suc n) at (b ∷ rest) none =
     let size = frame_size f (b ∷ rest) in
     let faults = fault_of f n (at + size) (drop size (b ∷ rest)) in
     frames_split (frame_of f at (b ∷ rest)) f n at (b ∷ rest) (frames_of f n (at + size) (drop size (b ∷ rest))) faults
-        refl none
+    refl none
     (frames_whole f n (at + size) (drop size (b ∷ rest)) (no_fault_after (frame_of f at (b ∷ rest)) faults none))
 
 -- a frame, and what follows
 module _ (f : Format) (at : ℕ) (x : Frame) (more : List ℕ) (is : IsFrame f x) where
   there : 0 < length ((x.line ++ x.planes) ++ more)
-  there = omega (arith, ap (λ (l : List ℕ). length l) is.spelled.text, length-append (codes "FRAME" ++ is.spelled.tail)
-      (10 ∷ []), length-append (x.line ++ x.planes) more, length-append x.line x.planes)
+  there = omega (
+    arith,
+    ap (λ (l : List ℕ). length l) is.spelled.text,
+    length-append (codes "FRAME" ++ is.spelled.tail)
+        (10 ∷ []),
+    length-append (x.line ++ x.planes) more,
+    length-append x.line x.planes,
+  )
 
   one_frame : (n : ℕ) (planes : List (List ℕ)) → ((at : ℕ) → frames_of f n at more ≡ planes)
       → frames_of f (suc n) at ((x.line ++ x.planes) ++ more) ≡ x.planes ∷ planes
@@ -353,7 +374,7 @@ frames_found f n [] all count at = frames-nil f n at
 frames_found f zero (x ∷ frames) all count at = absurd (omega arith)
 frames_found f (suc n) (x ∷ frames) all count at =
     one_frame f at x (flat_map joined frames) (All-head (IsFrame f) x frames all) n (map (λ frame. frame.planes) frames)
-        (frames_found f n frames (All-tail (IsFrame f) x frames all) (omega arith))
+    (frames_found f n frames (All-tail (IsFrame f) x frames all) (omega arith))
 
 fault_found : (f : Format) (n : ℕ) (frames : List Frame) → All (IsFrame f) frames → length frames ≤ n → (at : ℕ)
     → fault_of f n at (flat_map joined frames) ≡ None
@@ -361,7 +382,7 @@ fault_found f n [] all count at = fault-nil f n at
 fault_found f zero (x ∷ frames) all count at = absurd (omega arith)
 fault_found f (suc n) (x ∷ frames) all count at =
     one_good f at x (flat_map joined frames) (All-head (IsFrame f) x frames all) n
-        (fault_found f n frames (All-tail (IsFrame f) x frames all) (omega arith))
+    (fault_found f n frames (All-tail (IsFrame f) x frames all) (omega arith))
 
 -- a whole video
 by_head : (head : Result Format Y4mFault) (video : List ℕ) → head_of video ≡ head
@@ -381,7 +402,7 @@ accepted_with : (head : Result Format Y4mFault) (video : List ℕ) → head_of v
 accepted_with (Err fault) video is none = absurd (cc (sym (by_head (Err fault) video is) ∙ none))
 accepted_with (Ok f) video is none =
     let w = frames_whole f 1048576 (head_size video) (drop (head_size video) video) (sym (by_head (Ok f) video is)
-        ∙ none) in (
+    ∙ none) in (
       f,
       record {
         head = head_line video;

@@ -57,9 +57,12 @@ gap_starts (w ∷ words) n = refl
 word_here : (at : ℕ) (word rest : List ℕ) → IsWord word → StartsWithGap rest → tag_after 32 (word ++ rest) ≡ Some word
 word_here at word rest is gap =
     let size : length word ≡ length (before_gap (word ++ rest)) = ap (λ (l : List ℕ). length l)
-        (sym (before_gap-append word rest is.gapless gap)) in
-    tag_found 32 (length word) (word ++ rest) refl size is.some (omega (arith, length-append word rest,
-        longer rest gap))
+    (sym (before_gap-append word rest is.gapless gap)) in
+    tag_found 32 (length word) (word ++ rest) refl size is.some (omega (
+      arith,
+      length-append word rest,
+      longer rest gap,
+    ))
     ∙ ap (λ (l : List ℕ). Some l) (take-append_seam word rest)
   where
     longer : (rest : List ℕ) → StartsWithGap rest → 0 < length rest
@@ -74,7 +77,7 @@ passed [] rest found all after at before other = after at before
 passed (b ∷ bytes) rest found all after at before other =
     ap texts (pass_other at before b (bytes ++ rest) other)
     ∙ passed bytes rest found (All-tail Gapless b bytes all) after (at + 1) b
-        (gapless_other b (All-head Gapless b bytes all))
+    (gapless_other b (All-head Gapless b bytes all))
 
 word_found : (word rest : List ℕ) (found : List (List ℕ)) → IsWord word → StartsWithGap rest
     → ((at before : ℕ) → texts (tags_from at before rest) ≡ found) → (at : ℕ) → texts (tags_from at 32 (word ++ rest))
@@ -82,9 +85,9 @@ word_found : (word rest : List ℕ) (found : List (List ℕ)) → IsWord word �
 word_found [] rest found is gap after at = absurd (omega (arith, is.some))
 word_found (b ∷ word) rest found is gap after at =
     ap (λ (o : Option (List ℕ)). texts (with_tag at o (tags_from (at + 1) b (word ++ rest))))
-        (word_here at (b ∷ word) rest is gap)
+    (word_here at (b ∷ word) rest is gap)
     ∙ ap (λ (l : List (List ℕ)). (b ∷ word) ∷ l) (passed word rest found (All-tail Gapless b word is.gapless) after
-        (at + 1) b (gapless_other b (All-head Gapless b word is.gapless)))
+    (at + 1) b (gapless_other b (All-head Gapless b word is.gapless)))
 
 spaces_passed : (n : ℕ) (rest : List ℕ) (found : List (List ℕ)) → ((at : ℕ) → texts (tags_from at 32 rest) ≡ found)
     → (at : ℕ) → texts (tags_from at 32 (spaces n ++ rest)) ≡ found
@@ -106,12 +109,12 @@ words_found (w ∷ words) n all at before =
     let rest = spaced words n ++ 10 ∷ [] in
     let text : (spaces w.more ++ (w.text ++ spaced words n)) ++ 10 ∷ [] ≡ spaces w.more ++ (w.text ++ rest) =
     append_assoc (spaces w.more) (w.text ++ spaced words n) (10 ∷ [])
-        ∙ ap (λ (l : List ℕ). spaces w.more ++ l) (append_assoc w.text (spaced words n) (10 ∷ [])) in
+    ∙ ap (λ (l : List ℕ). spaces w.more ++ l) (append_assoc w.text (spaced words n) (10 ∷ [])) in
     ap texts (pass_gap at before 32 ((spaces w.more ++ (w.text ++ spaced words n)) ++ 10 ∷ []) refl)
     ∙ ap (λ (l : List ℕ). texts (tags_from (at + 1) 32 l)) text
     ∙ spaces_passed w.more (w.text ++ rest) (w.text ∷ map (λ w. w.text) words)
     (word_found w.text rest (map (λ w. w.text) words) (All-head Good w words all) (gap_starts words n)
-        (words_found words n (All-tail Good w words all)))
+    (words_found words n (All-tail Good w words all)))
     (at + 1)
 
 pub tags_found : (word : List ℕ) (words : List Word) (n : ℕ) → IsWord word → All Good words

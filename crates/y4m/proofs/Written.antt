@@ -23,20 +23,44 @@ head_spelled Cif = let tail = codes " W352 H288 F30000:1001 Ip C420jpeg" in
     record { tail = tail; text = refl; apart = refl; one = free tail refl; short = omega arith }
 
 pub head_written : (f : Format) → IsHead (head_text f) f
-head_written SubQcif = record { spelled = head_spelled SubQcif;
-    accepted = tags_accepted (tags_of (head_text SubQcif)) refl; sized = refl }
-head_written Qcif = record { spelled = head_spelled Qcif; accepted = tags_accepted (tags_of (head_text Qcif)) refl;
-    sized = refl }
-head_written Cif = record { spelled = head_spelled Cif; accepted = tags_accepted (tags_of (head_text Cif)) refl;
-    sized = refl }
+head_written SubQcif = record {
+  spelled = head_spelled SubQcif;
+  accepted = tags_accepted (tags_of (head_text SubQcif)) refl;
+  sized = refl;
+}
+head_written Qcif = record {
+  spelled = head_spelled Qcif;
+  accepted = tags_accepted (tags_of (head_text Qcif)) refl;
+  sized = refl;
+}
+head_written Cif = record {
+  spelled = head_spelled Cif;
+  accepted = tags_accepted (tags_of (head_text Cif)) refl;
+  sized = refl;
+}
 
 mark_spelled : (mark : Mark) → IsLine (codes "FRAME") (mark_text mark)
-mark_spelled Exact = let tail = codes " XEXACT" in record { tail = tail; text = refl; apart = refl;
-    one = free tail refl; short = omega arith }
-mark_spelled Patched = let tail = codes " XPATCHED" in record { tail = tail; text = refl; apart = refl;
-    one = free tail refl; short = omega arith }
-mark_spelled Held = let tail = codes " XHELD" in record { tail = tail; text = refl; apart = refl; one = free tail refl;
-    short = omega arith }
+mark_spelled Exact = let tail = codes " XEXACT" in record {
+  tail = tail;
+  text = refl;
+  apart = refl;
+  one = free tail refl;
+  short = omega arith;
+}
+mark_spelled Patched = let tail = codes " XPATCHED" in record {
+  tail = tail;
+  text = refl;
+  apart = refl;
+  one = free tail refl;
+  short = omega arith;
+}
+mark_spelled Held = let tail = codes " XHELD" in record {
+  tail = tail;
+  text = refl;
+  apart = refl;
+  one = free tail refl;
+  short = omega arith;
+}
 
 abbrev frame_with : Mark × Picture → Frame
 frame_with s = record { line = mark_text s.0; planes = bytes_of s.1 }
@@ -52,7 +76,7 @@ module _ (f : Format) (size : (p : Picture) → IsWhole p → length (bytes_of p
   frames_written [] all = All-nil (IsFrame f)
   frames_written (s ∷ shown) all =
       All-cons (IsFrame f) (frame_with s) (map frame_with shown) (frame_written s (All-head OfFormat s shown all))
-          (frames_written shown (All-tail OfFormat s shown all))
+      (frames_written shown (All-tail OfFormat s shown all))
 
   texts_written : (shown : List (Mark × Picture)) → flat_map (λ s. frame_text s.0 s.1) shown
       ≡ flat_map (λ frame. frame.line ++ frame.planes) (map frame_with shown)

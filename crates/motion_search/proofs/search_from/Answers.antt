@@ -27,10 +27,10 @@ returns-clause-reach c =
     let block = c.samples-block.result in
     let p = picture c.args.reference in
     let is_whole = subst (IsCandidate block p c.args.mb c.args.rounding)
-        (sym (c.best_of_whole-whole.ensures.best c.args.rounding))
+    (sym (c.best_of_whole-whole.ensures.best c.args.rounding))
     (whole_is_candidate block p c.args.mb c.args.rounding c.args.radius c.requires.mb).candidate in
     subst (λ (d : Candidate). InReach p.format c.args.mb d.vector.x d.vector.y)
-        (sym c.best_of_neighbours-best.ensures.best)
+    (sym c.best_of_neighbours-best.ensures.best)
     (near_is_candidate block p c.args.mb c.args.rounding c.best_of_whole-whole.result is_whole).0.reach
 
 pub returns-clause-sums : goal.returns-clause-sums

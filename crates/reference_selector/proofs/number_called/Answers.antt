@@ -16,18 +16,18 @@ returns-then-tr-rtr-clause-value c rules half =
 pub returns-in_err-q-in-Nack-clause-value : goal.returns-in_err-q-in-Nack-clause-value
 returns-in_err-q-in-Nack-clause-value c rules half =
     rw (c.in-Nack.is, c.from_residual.ensures)
-        (sym (called_other rules c.args.sent c.args.t c.in-Nack.tr c.in-Nack.rtr c.half.result
-        (flags_in c.in-Nack.marks) None (half ∙ sym c.half.ensures) c.if-tr-rtr.false
-        (c.in_err-q-in-Nack.ensures.value rules half)))
+    (sym (called_other rules c.args.sent c.args.t c.in-Nack.tr c.in-Nack.rtr c.half.result
+    (flags_in c.in-Nack.marks) None (half ∙ sym c.half.ensures) c.if-tr-rtr.false
+    (c.in_err-q-in-Nack.ensures.value rules half)))
 
 pub returns-then-q-sent-clause-value : goal.returns-then-q-sent-clause-value
 returns-then-q-sent-clause-value c rules half =
     rw c.in-Nack.is (sym (called_other rules c.args.sent c.args.t c.in-Nack.tr c.in-Nack.rtr c.half.result
-        (flags_in c.in-Nack.marks) _ (half ∙ sym c.half.ensures) c.if-tr-rtr.false
-        (c.in_ok-q-in-Nack.ensures.value rules half) ∙ rw (lt-ltb _ _ c.if-q-sent.true) refl))
+    (flags_in c.in-Nack.marks) _ (half ∙ sym c.half.ensures) c.if-tr-rtr.false
+    (c.in_ok-q-in-Nack.ensures.value rules half) ∙ rw (lt-ltb _ _ c.if-q-sent.true) refl))
 
 pub returns-else-q-sent-clause-value : goal.returns-else-q-sent-clause-value
 returns-else-q-sent-clause-value c rules half =
     rw c.in-Nack.is (sym (called_other rules c.args.sent c.args.t c.in-Nack.tr c.in-Nack.rtr c.half.result
-        (flags_in c.in-Nack.marks) _ (half ∙ sym c.half.ensures) c.if-tr-rtr.false
-        (c.in_ok-q-in-Nack.ensures.value rules half) ∙ rw (le-ltb _ _ c.if-q-sent.false) refl))
+    (flags_in c.in-Nack.marks) _ (half ∙ sym c.half.ensures) c.if-tr-rtr.false
+    (c.in_ok-q-in-Nack.ensures.value rules half) ∙ rw (le-ltb _ _ c.if-q-sent.false) refl))

@@ -15,19 +15,28 @@ returns-then-read_u32-ne-SOURCE c = λ h b e.
     let bytes = c.args.bytes.now in
     let o = opened_is bytes h b c.requires (λ i. omega (arith, c.type_inv.bytes i)) e in
     let source : c.read_u32.result ≡ big_number 4 (drop 8 bytes) = c.read_u32.ensures
-        ∙ big_from-take 0 4 (length bytes - 8) (drop 8 bytes) (omega arith) in
-    rw (c.at-then-read_u32-ne-SOURCE.ensures, o.head, eq-eqb (get_or bytes 1 0 % 128) 96 (omega arith),
-        ne_eqb (big_number 4 (drop 8 bytes)) 1211250227 (λ same. omega (arith, source, same))) refl
+    ∙ big_from-take 0 4 (length bytes - 8) (drop 8 bytes) (omega arith) in
+    rw (
+      c.at-then-read_u32-ne-SOURCE.ensures,
+      o.head,
+      eq-eqb (get_or bytes 1 0 % 128) 96 (omega arith),
+      ne_eqb (big_number 4 (drop 8 bytes)) 1211250227 (λ same. omega (arith, source, same)),
+    ) refl
 
 pub returns : goal.returns
 returns c = λ h b e.
     let bytes = c.args.bytes.now in
     let o = opened_is bytes h b c.requires (λ i. omega (arith, c.type_inv.bytes i)) e in
     let source : c.read_u32.result ≡ big_number 4 (drop 8 bytes) = c.read_u32.ensures
-        ∙ big_from-take 0 4 (length bytes - 8) (drop 8 bytes) (omega arith) in
+    ∙ big_from-take 0 4 (length bytes - 8) (drop 8 bytes) (omega arith) in
     let sequence : c.read_u16.result ≡ big_number 2 (drop 2 bytes) = c.read_u16.ensures
-        ∙ big_from-take 0 2 (length bytes - 2) (drop 2 bytes) (omega arith) in
+    ∙ big_from-take 0 2 (length bytes - 2) (drop 2 bytes) (omega arith) in
     let timestamp : c.read_u32-2.result ≡ big_number 4 (drop 4 bytes) = c.read_u32-2.ensures
-        ∙ big_from-take 0 4 (length bytes - 4) (drop 4 bytes) (omega arith) in
-    rw (o.head, eq-eqb (get_or bytes 1 0 % 128) 96 (omega arith),
-        eq-eqb (big_number 4 (drop 8 bytes)) 1211250227 (omega (arith, source)), sequence, timestamp) refl
+    ∙ big_from-take 0 4 (length bytes - 4) (drop 4 bytes) (omega arith) in
+    rw (
+      o.head,
+      eq-eqb (get_or bytes 1 0 % 128) 96 (omega arith),
+      eq-eqb (big_number 4 (drop 8 bytes)) 1211250227 (omega (arith, source)),
+      sequence,
+      timestamp,
+    ) refl

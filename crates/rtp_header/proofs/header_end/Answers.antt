@@ -9,20 +9,20 @@ pub returns-then-bytes-sources_end-clause-end : goal.returns-then-bytes-sources_
 returns-then-bytes-sources_end-clause-end c = λ h b e.
     let o = opened_is c.args.bytes.now h b c.requires.fixed (λ i. omega (arith, c.type_inv.bytes i)) e in
     rw (o.head, o.rest) (sym (after_fixed_cut (head_of c.args.bytes.now) c.args.bytes.now c.requires.fixed
-        (omega arith)))
+    (omega arith)))
 
 pub returns-then-bytes-eq0-clause-end : goal.returns-then-bytes-eq0-clause-end
 returns-then-bytes-eq0-clause-end c = λ h b e.
     let o = opened_is c.args.bytes.now h b c.requires.fixed (λ i. omega (arith, c.type_inv.bytes i)) e in
     rw (o.head, o.rest) (sym (after_fixed_plain (head_of c.args.bytes.now) c.args.bytes.now (omega arith)
-        (omega arith)))
+    (omega arith)))
 
 pub returns-then-bytes-sources_end-2-clause-end : goal.returns-then-bytes-sources_end-2-clause-end
 returns-then-bytes-sources_end-2-clause-end c = λ h b e.
     let o = opened_is c.args.bytes.now h b c.requires.fixed (λ i. omega (arith, c.type_inv.bytes i)) e in
     let set = ne_eqb (get_or c.args.bytes.now 0 0 / 16 % 2) 0 (λ same. omega (arith, same)) in
     rw (o.head, o.rest) (sym (after_fixed_extended (head_of c.args.bytes.now) c.args.bytes.now (omega arith) set
-        (omega arith)))
+    (omega arith)))
 
 pub returns-then-bytes-end-clause-end : goal.returns-then-bytes-end-clause-end
 returns-then-bytes-end-clause-end c = λ h b e.
@@ -31,9 +31,9 @@ returns-then-bytes-end-clause-end c = λ h b e.
     let set = ne_eqb (get_or bytes 0 0 / 16 % 2) 0 (λ same. omega (arith, same)) in
     let k = 12 + 4 * (get_or bytes 0 0 % 16) + 2 in
     let words : c.read_u16-words.result ≡ big_number 2 (drop k bytes) = c.read_u16-words.ensures
-        ∙ big_from-take 0 2 (length bytes - k) (drop k bytes) (omega arith) in
+    ∙ big_from-take 0 2 (length bytes - k) (drop k bytes) (omega arith) in
     rw (o.head, o.rest) (sym (after_fixed_words_cut (head_of bytes) bytes (omega arith) set
-        (λ i. omega (arith, c.type_inv.bytes i)) (omega (arith, words))))
+    (λ i. omega (arith, c.type_inv.bytes i)) (omega (arith, words))))
 
 pub returns-clause-end : goal.returns-clause-end
 returns-clause-end c = λ h b e.
@@ -42,7 +42,7 @@ returns-clause-end c = λ h b e.
     let set = ne_eqb (get_or bytes 0 0 / 16 % 2) 0 (λ same. omega (arith, same)) in
     let k = 12 + 4 * (get_or bytes 0 0 % 16) + 2 in
     let words : c.read_u16-words.result ≡ big_number 2 (drop k bytes) = c.read_u16-words.ensures
-        ∙ big_from-take 0 2 (length bytes - k) (drop k bytes) (omega arith) in
+    ∙ big_from-take 0 2 (length bytes - k) (drop k bytes) (omega arith) in
     rw (o.head, o.rest) (ap (λ (n : ℕ). Some (12 + 4 * (get_or bytes 0 0 % 16) + 4 + 4 * n)) words
-        ∙ sym (after_fixed_words (head_of bytes) bytes (omega arith) set (λ i. omega (arith, c.type_inv.bytes i))
-        (omega (arith, words))))
+    ∙ sym (after_fixed_words (head_of bytes) bytes (omega arith) set (λ i. omega (arith, c.type_inv.bytes i))
+    (omega (arith, words))))

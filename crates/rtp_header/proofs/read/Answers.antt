@@ -32,10 +32,20 @@ every : (bytes : List ℕ) (r : Result Rtp Fault) → r ≡ rtp_in bytes → rec
 }
 every bytes (Ok x) e =
     let text = read_text x bytes (sym e) in
-    record { found = text; only = λ y spelt. e ∙ text_read y bytes spelt; fault = ap first_fault e; exact = e;
-        range = text_within x bytes text }
-every bytes (Err f) e = record { found = tt; only = λ y spelt. e ∙ text_read y bytes spelt; fault = ap first_fault e;
-    exact = e; range = tt }
+    record {
+      found = text;
+      only = λ y spelt. e ∙ text_read y bytes spelt;
+      fault = ap first_fault e;
+      exact = e;
+      range = text_within x bytes text;
+    }
+every bytes (Err f) e = record {
+  found = tt;
+  only = λ y spelt. e ∙ text_read y bytes spelt;
+  fault = ap first_fault e;
+  exact = e;
+  range = tt;
+}
 
 pub returns-then-bytes-gt65535 : goal.returns-then-bytes-gt65535
 unfolding rtp_in
@@ -44,15 +54,21 @@ returns-then-bytes-gt65535 c = every c.args.bytes.now _
 
 pub returns-then-bytes-lt12 : goal.returns-then-bytes-lt12
 unfolding rtp_in
-returns-then-bytes-lt12 c = every c.args.bytes.now _ (rw (c.at-short.ensures,
-    le-ltb 65535 (length c.args.bytes.now) (omega arith)) (sym (no_head c.args.bytes.now (omega arith))))
+returns-then-bytes-lt12 c = every c.args.bytes.now _ (rw (
+  c.at-short.ensures,
+  le-ltb 65535 (length c.args.bytes.now) (omega arith),
+) (sym (no_head c.args.bytes.now (omega arith))))
 
 pub returns-then-bytes-ne2 : goal.returns-then-bytes-ne2
 unfolding rtp_in
 returns-then-bytes-ne2 c =
     let e = head_is c.args.bytes.now (omega arith) (λ i. omega (arith, c.type_inv.bytes i)) in
-    every c.args.bytes.now _ (rw (c.at-then-bytes-ne2.ensures, le-ltb 65535 (length c.args.bytes.now) (omega arith), e,
-        ne_eqb (get_or c.args.bytes.now 0 0 / 64) 2 (λ same. omega (arith, same))) refl)
+    every c.args.bytes.now _ (rw (
+      c.at-then-bytes-ne2.ensures,
+      le-ltb 65535 (length c.args.bytes.now) (omega arith),
+      e,
+      ne_eqb (get_or c.args.bytes.now 0 0 / 64) 2 (λ same. omega (arith, same)),
+    ) refl)
 
 pub returns-in_default : goal.returns-in_default
 unfolding rtp_in
@@ -60,9 +76,14 @@ returns-in_default c =
     let bytes = c.args.bytes.now in
     let e = head_is bytes (omega arith) (λ i. omega (arith, c.type_inv.bytes i)) in
     let cut : end_of (reading (after_fixed (head_of bytes)) (from_byte 12 bytes))
-        ≡ None = sym (c.header_end.ensures.end (head_of bytes) (from_byte 12 bytes) e) ∙ c.in_default.is in
-    every bytes _ (rw (c.at-short.ensures, le-ltb 65535 (length bytes) (omega arith), e,
-        eq-eqb (get_or bytes 0 0 / 64) 2 (omega arith), cut) refl)
+    ≡ None = sym (c.header_end.ensures.end (head_of bytes) (from_byte 12 bytes) e) ∙ c.in_default.is in
+    every bytes _ (rw (
+      c.at-short.ensures,
+      le-ltb 65535 (length bytes) (omega arith),
+      e,
+      eq-eqb (get_or bytes 0 0 / 64) 2 (omega arith),
+      cut,
+    ) refl)
 
 pub payload_end-requires-clause-within : goal.payload_end-requires-clause-within
 payload_end-requires-clause-within c = rw c.in-Some.is at c.header_end.ensures.within
@@ -73,12 +94,16 @@ returns-in_default-payload_end c =
     let bytes = c.args.bytes.now in
     let e = head_is bytes (omega arith) (λ i. omega (arith, c.type_inv.bytes i)) in
     let from : end_of (reading (after_fixed (head_of bytes)) (from_byte 12 bytes))
-        ≡ Some c.in-Some.from = sym (c.header_end.ensures.end (head_of bytes) (from_byte 12 bytes) e) ∙ c.in-Some.is in
+    ≡ Some c.in-Some.from = sym (c.header_end.ensures.end (head_of bytes) (from_byte 12 bytes) e) ∙ c.in-Some.is in
     let none : payload_end_of (head_of bytes) bytes c.in-Some.from
-        ≡ None = sym (c.payload_end.ensures (head_of bytes) (from_byte 12 bytes) e) ∙ c.in_default-payload_end.is in
-    every bytes _ (rw (c.at-in_default-payload_end.ensures, le-ltb 65535 (length bytes) (omega arith), e,
-        eq-eqb (get_or bytes 0 0 / 64) 2 (omega arith),
-        from) (sym (ap (with_payload bytes (head_of bytes) c.in-Some.from) none)))
+    ≡ None = sym (c.payload_end.ensures (head_of bytes) (from_byte 12 bytes) e) ∙ c.in_default-payload_end.is in
+    every bytes _ (rw (
+      c.at-in_default-payload_end.ensures,
+      le-ltb 65535 (length bytes) (omega arith),
+      e,
+      eq-eqb (get_or bytes 0 0 / 64) 2 (omega arith),
+      from,
+    ) (sym (ap (with_payload bytes (head_of bytes) c.in-Some.from) none)))
 
 pub returns : goal.returns
 unfolding rtp_in
@@ -86,9 +111,13 @@ returns c =
     let bytes = c.args.bytes.now in
     let e = head_is bytes (omega arith) (λ i. omega (arith, c.type_inv.bytes i)) in
     let from : end_of (reading (after_fixed (head_of bytes)) (from_byte 12 bytes))
-        ≡ Some c.in-Some.from = sym (c.header_end.ensures.end (head_of bytes) (from_byte 12 bytes) e) ∙ c.in-Some.is in
+    ≡ Some c.in-Some.from = sym (c.header_end.ensures.end (head_of bytes) (from_byte 12 bytes) e) ∙ c.in-Some.is in
     let to : payload_end_of (head_of bytes) bytes c.in-Some.from ≡ Some c.in-Some-payload_end.to =
-        sym (c.payload_end.ensures (head_of bytes) (from_byte 12 bytes) e) ∙ c.in-Some-payload_end.is in
-    every bytes _ (rw (le-ltb 65535 (length bytes) (omega arith), e, eq-eqb (get_or bytes 0 0 / 64) 2 (omega arith),
-        from) (c.accepted.ensures (head_of bytes) (from_byte 12 bytes) e
-        ∙ sym (ap (with_payload bytes (head_of bytes) c.in-Some.from) to)))
+    sym (c.payload_end.ensures (head_of bytes) (from_byte 12 bytes) e) ∙ c.in-Some-payload_end.is in
+    every bytes _ (rw (
+      le-ltb 65535 (length bytes) (omega arith),
+      e,
+      eq-eqb (get_or bytes 0 0 / 64) 2 (omega arith),
+      from,
+    ) (c.accepted.ensures (head_of bytes) (from_byte 12 bytes) e
+    ∙ sym (ap (with_payload bytes (head_of bytes) c.in-Some.from) to)))

@@ -10,7 +10,7 @@ returns-clause-value c =
     let x = chunk c.args.at 16 c.args.a.now in
     let y = chunk c.args.at 16 c.args.b.now in
     lanes_differ x y (below_from_Fits w8 x (chunk-fits w8 c.args.at 16 c.args.a.now c.type_inv.a))
-        (below_from_Fits w8 y (chunk-fits w8 c.args.at 16 c.args.b.now c.type_inv.b))
+    (below_from_Fits w8 y (chunk-fits w8 c.args.at 16 c.args.b.now c.type_inv.b))
 
 pub returns-clause-length : goal.returns-clause-length
 returns-clause-length c =
@@ -18,7 +18,7 @@ returns-clause-length c =
     let y = chunk c.args.at 16 c.args.b.now in
     let long = length-chunk c.args.at 16 c.args.a.now c.requires.a in
     ap length (lanes_differ x y (below_from_Fits w8 x (chunk-fits w8 c.args.at 16 c.args.a.now c.type_inv.a))
-        (below_from_Fits w8 y (chunk-fits w8 c.args.at 16 c.args.b.now c.type_inv.b)))
+    (below_from_Fits w8 y (chunk-fits w8 c.args.at 16 c.args.b.now c.type_inv.b)))
     ∙ length-zip2 abs_diff x y (long ∙ sym (length-chunk c.args.at 16 c.args.b.now c.requires.b)) ∙ long
 
 pub returns-clause-most : goal.returns-clause-most

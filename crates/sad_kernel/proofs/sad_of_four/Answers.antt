@@ -7,14 +7,20 @@ use Rattle.sad_kernel.proofs.sad_of_four.Goals as goal
 pub overflow_add-upper : goal.overflow_add-upper
 overflow_add-upper c =
     adds_fit w32 c.lanes.result c.lanes-2.result
-    (omega (arith, sum_small c.lanes.result c.lanes.ensures.length c.lanes.ensures.most,
-        sum_small c.lanes-2.result c.lanes-2.ensures.length c.lanes-2.ensures.most))
+    (omega (
+      arith,
+      sum_small c.lanes.result c.lanes.ensures.length c.lanes.ensures.most,
+      sum_small c.lanes-2.result c.lanes-2.ensures.length c.lanes-2.ensures.most,
+    ))
 
 pub overflow_add-lower : goal.overflow_add-lower
 overflow_add-lower c =
     adds_fit w32 c.lanes-3.result c.lanes-4.result
-    (omega (arith, sum_small c.lanes-3.result c.lanes-3.ensures.length c.lanes-3.ensures.most,
-        sum_small c.lanes-4.result c.lanes-4.ensures.length c.lanes-4.ensures.most))
+    (omega (
+      arith,
+      sum_small c.lanes-3.result c.lanes-3.ensures.length c.lanes-3.ensures.most,
+      sum_small c.lanes-4.result c.lanes-4.ensures.length c.lanes-4.ensures.most,
+    ))
 
 pub overflow_add-result : goal.overflow_add-result
 overflow_add-result c =

@@ -5,7 +5,7 @@ use Rattle.sad_kernel.proofs.sad_until.Goals as goal
 pub overflow_add-so_far : goal.overflow_add-so_far
 overflow_add-so_far c =
     let most = whole_small c.args.a.now c.args.b.now c.requires.same_length c.requires.at_most c.type_inv.a c.type_inv.b
-        in
+    in
     let next = differences-drop c.args.a.now c.args.b.now c.loop-at.at 16 (omega arith) (omega arith) in
     record { fits = omega (arith, most, next, c.of_sixteen-so_far.ensures, c.loop-at.invariant.1) }
 
@@ -22,6 +22,6 @@ returns-then-so_far-stop-clause-none c =
 pub overflow_add-sum : goal.overflow_add-sum
 overflow_add-sum c =
     let most = whole_small c.args.a.now c.args.b.now c.requires.same_length c.requires.at_most c.type_inv.a c.type_inv.b
-        in
+    in
     let rest = differences-rest c.args.a.now c.args.b.now c.loop-at.at in
     record { fits = omega (arith, most, rest, c.one_by_one.ensures, c.loop-at.invariant.1) }

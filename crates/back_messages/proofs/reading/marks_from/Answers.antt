@@ -9,6 +9,10 @@ with_markers n high low = rw (eq-eqb (n / 2 ^ 15 % 2) 1 high, eq-eqb (n / 2 ^ 7 
 pub returns-clause-value : goal.returns-clause-value
 returns-clause-value c =
     let n = c.args.flags in
-    let value : c.turned.result + 128 * c.turned-2.result ≡ marks_in n = omega (arith, marks_parts n,
-        c.turned.ensures.value, c.turned-2.ensures.value) in
+    let value : c.turned.result + 128 * c.turned-2.result ≡ marks_in n = omega (
+      arith,
+      marks_parts n,
+      c.turned.ensures.value,
+      c.turned-2.ensures.value,
+    ) in
     ap Some value ∙ sym (with_markers n (omega arith) (omega arith))

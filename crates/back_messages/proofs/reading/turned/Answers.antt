@@ -17,5 +17,8 @@ places-preserved c =
     }
 
 pub overflow_mul-turned : goal.overflow_mul-turned
-overflow_mul-turned c = omega (arith, c.places.invariant.below,
-    pow-le-pow_right {n = 2} (omega arith) {i = c.places.place} {j = 7} c.places.invariant.places)
+overflow_mul-turned c = omega (
+  arith,
+  c.places.invariant.below,
+  pow-le-pow_right {n = 2} (omega arith) {i = c.places.place} {j = 7} c.places.invariant.places,
+)

@@ -13,7 +13,7 @@ pub returns-clause-text : goal.returns-clause-text
 returns-clause-text c =
     let u = urf_of c.args.marks in
     ap (spelled 24) (fits c.args.kind c.urf.result c.args.tr c.args.rtr u c.requires.kind
-        (urf_low c.args.marks) c.requires.tr c.urf.ensures)
+    (urf_low c.args.marks) c.requires.tr c.urf.ensures)
     ∙ code_text c.args.kind u c.args.tr c.args.rtr c.requires.kind (urf_low c.args.marks) c.requires.tr c.requires.rtr
 
 pub returns-clause-below : goal.returns-clause-below
@@ -21,5 +21,5 @@ returns-clause-below c =
     let u = urf_of c.args.marks in
     let P : ℕ → Type 0 = λ n. n < 2 ^ 24 in
     subst P (sym (fits c.args.kind c.urf.result c.args.tr c.args.rtr u c.requires.kind
-        (urf_low c.args.marks) c.requires.tr c.urf.ensures))
+    (urf_low c.args.marks) c.requires.tr c.urf.ensures))
     (code_below c.args.kind u c.args.tr c.args.rtr c.requires.kind (urf_low c.args.marks) c.requires.tr c.requires.rtr)

@@ -7,5 +7,10 @@ use Rattle.block_layer.proofs.laws.in_a_syntax.Goals as goal
 pub returns : goal.returns
 returns c =
     let tables = c.in_a_syntax.ensures in
-    record { productive = are_productive tables; spelt = are_spelt tables; in_range = are_in_range; empty = is_empty;
-        short = are_short }
+    record {
+      productive = are_productive tables;
+      spelt = are_spelt tables;
+      in_range = are_in_range;
+      empty = is_empty;
+      short = are_short;
+    }

@@ -14,13 +14,13 @@ use Rattle.block_layer.proofs.reading.read_intra.Goals as goal
 -- what is said of each return
 every : TableLaws → (coded : Bool) (r : Result (Unit {0}) Fault) (out : List ℤ) (old new : Bits)
     → Gives (λ u. out) r new (reading (intra_block coded) old) → record {
-  found : IfOk r (λ u. Takes old new (IsIntraText coded out));
-  only : (levels : List ℤ) (text rest : List Bool) → IsIntraText coded levels text → old.bits ≡ text ++ rest
-      → IsOkAnd r (λ u. (out ≡ levels) × (new.bits ≡ rest));
-  fault : first_fault r ≡ intra_block_fault coded old;
-  exact : Gives (λ u. out) r new (reading (intra_block coded) old);
-  range : IfOk r (λ u. IsIntraBlock (record { levels = out }));
-}
+      found : IfOk r (λ u. Takes old new (IsIntraText coded out));
+      only : (levels : List ℤ) (text rest : List Bool) → IsIntraText coded levels text → old.bits ≡ text ++ rest
+          → IsOkAnd r (λ u. (out ≡ levels) × (new.bits ≡ rest));
+      fault : first_fault r ≡ intra_block_fault coded old;
+      exact : Gives (λ u. out) r new (reading (intra_block coded) old);
+      range : IfOk r (λ u. IsIntraBlock (record { levels = out }));
+    }
 every laws coded r out old new e =
     let s = intra_block coded in
     record {

@@ -15,7 +15,7 @@ pub returns-then-count-lt32-clause-waiting : goal.returns-then-count-lt32-clause
 returns-then-count-lt32-clause-waiting c =
     let w = c.args.waiting in
     let is = all_are w.bits w.count c.args.number c.args.len c.from.result c.requires.waiting.fits
-        c.requires.waiting.few c.requires.few c.from.ensures in
+    c.requires.waiting.few c.requires.few c.from.ensures in
     record {
       few = c.if-count-lt32.true;
       fits = subst (λ (n : ℕ). n < 2 ^ (w.count + c.args.len)) (sym is)
@@ -26,7 +26,7 @@ pub returns-then-count-lt32-clause-text : goal.returns-then-count-lt32-clause-te
 returns-then-count-lt32-clause-text c =
     let w = c.args.waiting in
     let is = all_are w.bits w.count c.args.number c.args.len c.from.result c.requires.waiting.fits
-        c.requires.waiting.few c.requires.few c.from.ensures in
+    c.requires.waiting.few c.requires.few c.from.ensures in
     ap (λ (n : ℕ). written c.args.writer.now ++ spelled (w.count + c.args.len) n) is
     ∙ more_wait (written c.args.writer.now) w.bits c.args.number w.count c.args.len c.requires.fits
 
@@ -37,7 +37,7 @@ overflow_cast-bits-2 c = record {
       let rest : ℕ = w.count + c.args.len - 32 in
       let many : w.count + c.args.len ≡ 32 + rest = omega (arith, c.if-count-lt32.false) in
       let is = all_are w.bits w.count c.args.number c.args.len c.from.result c.requires.waiting.fits
-          c.requires.waiting.few c.requires.few c.from.ensures in
+      c.requires.waiting.few c.requires.few c.from.ensures in
       subst (λ (n : ℕ). n / 2 ^ rest < 2 ^ 32) (sym is)
       (first_below (w.bits * 2 ^ c.args.len + c.args.number) (w.count + c.args.len) rest many
       (both_fit w.bits c.args.number w.count c.args.len c.requires.waiting.fits c.requires.fits));
@@ -49,7 +49,7 @@ put-requires-clause-fits c =
     let rest : ℕ = w.count + c.args.len - 32 in
     let many : w.count + c.args.len ≡ 32 + rest = omega (arith, c.if-count-lt32.false) in
     let is = all_are w.bits w.count c.args.number c.args.len c.from.result c.requires.waiting.fits
-        c.requires.waiting.few c.requires.few c.from.ensures in
+    c.requires.waiting.few c.requires.few c.from.ensures in
     subst (λ (n : ℕ). n / 2 ^ rest < 2 ^ 32) (sym is)
     (first_below (w.bits * 2 ^ c.args.len + c.args.number) (w.count + c.args.len) rest many
     (both_fit w.bits c.args.number w.count c.args.len c.requires.waiting.fits c.requires.fits))
@@ -63,7 +63,7 @@ returns-clause-text c =
     let many : count ≡ 32 + rest = omega (arith, c.if-count-lt32.false) in
     let short : rest ≤ 22 = omega (arith, c.requires.waiting.few, c.requires.few) in
     let is = all_are w.bits w.count c.args.number c.args.len c.from.result c.requires.waiting.fits
-        c.requires.waiting.few c.requires.few c.from.ensures in
+    c.requires.waiting.few c.requires.few c.from.ensures in
     ap (λ (m : ℕ). written c.put.new.self ++ spelled rest (all % m)) (one_shifted rest short)
     ∙ some_written (written c.args.writer.now) (written c.put.new.self) all count rest many c.put.ensures.bits.text
     ∙ ap (λ (n : ℕ). written c.args.writer.now ++ spelled count n) is

@@ -16,8 +16,10 @@ nothing levels marks are zero = none_inter levels (sym (none_marked levels) ∙ 
     ∙ zero))
 
 pub write_levels-requires-clause-levels : goal.write_levels-requires-clause-levels
-write_levels-requires-clause-levels c = record { sizes = λ k after inside. size_is (level_at c.args.block.now.levels k)
-    (c.requires.block.levels k inside) }
+write_levels-requires-clause-levels c = record {
+  sizes = λ k after inside. size_is (level_at c.args.block.now.levels k)
+      (c.requires.block.levels k inside);
+}
 
 pub returns-then-marks-ne0-clause-spells : goal.returns-then-marks-ne0-clause-spells
 returns-then-marks-ne0-clause-spells c = inter_written c.in_a_syntax.ensures c.args.block.now c.requires.whole
@@ -31,7 +33,7 @@ pub returns-else-marks-ne0-clause-bits : goal.returns-else-marks-ne0-clause-bits
 returns-else-marks-ne0-clause-bits c =
     let zero : c.args.marks ≡ 0 = omega (arith, c.if-marks-ne0.false) in
     appends_none c.args.writer.now (inter_text c.args.block.now.levels)
-        (nothing c.args.block.now.levels c.args.marks c.requires.marks zero)
+    (nothing c.args.block.now.levels c.args.marks c.requires.marks zero)
 
 pub returns-else-marks-ne0-clause-spells : goal.returns-else-marks-ne0-clause-spells
 returns-else-marks-ne0-clause-spells c = inter_written c.in_a_syntax.ensures c.args.block.now c.requires.whole
@@ -41,5 +43,5 @@ pub returns-else-marks-ne0-clause-len : goal.returns-else-marks-ne0-clause-len
 returns-else-marks-ne0-clause-len c =
     let zero : c.args.marks ≡ 0 = omega (arith, c.if-marks-ne0.false) in
     let none : length (inter_text c.args.block.now.levels)
-        ≡ 0 = ap length (nothing c.args.block.now.levels c.args.marks c.requires.marks zero) in
+    ≡ 0 = ap length (nothing c.args.block.now.levels c.args.marks c.requires.marks zero) in
     omega (arith, none)

@@ -6,8 +6,10 @@ use Rattle.block_layer.proofs.Spelt.{size_is, intra_written}
 use Rattle.block_layer.proofs.writing.write_intra_marked.Goals as goal
 
 pub write_levels-requires-clause-levels : goal.write_levels-requires-clause-levels
-write_levels-requires-clause-levels c = record { sizes = λ k after inside. size_is (level_at c.args.block.now.levels k)
-    (c.requires.block.levels k after inside) }
+write_levels-requires-clause-levels c = record {
+  sizes = λ k after inside. size_is (level_at c.args.block.now.levels k)
+      (c.requires.block.levels k after inside);
+}
 
 pub write_levels-requires-clause-room : goal.write_levels-requires-clause-room
 write_levels-requires-clause-room c =
@@ -18,7 +20,7 @@ pub returns-clause-bits : goal.returns-clause-bits
 returns-clause-bits c =
     let levels = c.args.block.now.levels in
     subst (λ (t : List Bool). Appends c.args.writer.now c.write_levels.new.writer t)
-        (intra_is levels c.from.result (c.from.ensures ∙ c.dc_bits.ensures.code)) c.write_levels.ensures.bits
+    (intra_is levels c.from.result (c.from.ensures ∙ c.dc_bits.ensures.code)) c.write_levels.ensures.bits
 
 pub returns-clause-len : goal.returns-clause-len
 returns-clause-len c =

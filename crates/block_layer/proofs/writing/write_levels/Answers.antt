@@ -31,13 +31,13 @@ pub event_at-requires-clause-place : goal.event_at-requires-clause-place
 event_at-requires-clause-place c =
     let e = c.events in
     (next e.place (count_trailing_zeros 64 e.left) e.left c.args.block.now.levels c.requires.whole e.invariant.marked
-        c.events-test.true refl).inside
+    c.events-test.true refl).inside
 
 pub event_at-requires-clause-size : goal.event_at-requires-clause-size
 event_at-requires-clause-size c =
     let e = c.events in
     let n = next e.place (count_trailing_zeros 64 e.left) e.left c.args.block.now.levels c.requires.whole
-        e.invariant.marked c.events-test.true refl in
+    e.invariant.marked c.events-test.true refl in
     c.requires.levels.sizes (e.place + count_trailing_zeros 64 e.left) (omega arith) (omega (arith, n.inside))
 
 pub event_number-number-requires : goal.event_number-number-requires
@@ -104,5 +104,5 @@ returns-clause-len c =
     let e = c.events in
     let none = none_next e.place e.left c.args.block.now.levels e.invariant.marked c.events-test.false in
     let nothing : length (left_text 0 e.place c.args.block.now.levels)
-        ≡ 0 = ap length (none_text 0 e.place c.args.block.now.levels none) in
+    ≡ 0 = ap length (none_text 0 e.place c.args.block.now.levels none) in
     omega (arith, nothing, c.put.ensures.len, e.invariant.len)

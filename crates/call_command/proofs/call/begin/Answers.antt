@@ -23,9 +23,9 @@ returns-in_err-video-clause-gives g c = λ inputs told.
     let outside = g.D.Desk.outside in
     let t = c.args.setup.now in
     start_gives c.from_residual.result (video_stop c.in_err-video.field-0.0) (call_begin t inputs) begun_first may_read
-        inputs (outside c.args.desk.now) (outside c.head.new.desk) c.from_residual.ensures.1
+    inputs (outside c.args.desk.now) (outside c.head.new.desk) c.from_residual.ensures.1
     (head_stops c.turn_laws.ensures c.video_laws.ensures inputs (outside c.args.desk.now) (outside c.head.new.desk) told
-        c.head.ensures.others c.head.ensures.rest.written t c.in_err-video.field-0.0
+    c.head.ensures.others c.head.ensures.rest.written t c.in_err-video.field-0.0
     (c.in_err-video.ensures.gives (inputs Video) (told Video refl)))
 
 pub returns-in-Err-clause-gives : goal.returns-in-Err-clause-gives
@@ -35,27 +35,30 @@ returns-in-Err-clause-gives g c = λ inputs told.
     let video = c.in_ok-video.video in
     let e = c.in_ok-video.ensures.gives (inputs Video) (told Video refl) in
     cut_gives c.in-Err.status (call_begin t inputs) true inputs (outside c.args.desk.now) (outside c.put_head.new.desk)
-        c.in-Err.ensures.kind
+    c.in-Err.ensures.kind
     (head_cut c.turn_laws.ensures c.video_laws.ensures inputs (outside c.args.desk.now) (outside c.head.new.desk) told
-        c.head.ensures.others c.head.ensures.rest.written
+    c.head.ensures.others c.head.ensures.rest.written
     (outside c.put_head.new.desk) c.put_head.ensures.rest.left t video.format e.0 e.2
     (subst (λ (f : Format). GainsFronts (on Pictures (head_text f)) (outside c.head.new.desk).written
-        (outside c.put_head.new.desk).written) c.format.ensures c.in-Err.ensures.err))
+    (outside c.put_head.new.desk).written) c.format.ensures c.in-Err.ensures.err))
 
 pub returns-clause-gives : goal.returns-clause-gives
 returns-clause-gives g c = λ inputs told.
     let outside = g.D.Desk.outside in
     let t = c.args.setup.now in
     let video = c.in_ok-video.video in
-    let begun : Begun = record { terms = record t { params = record t.params { format = c.format.result } };
-        video = video; both = c.in_ok-both.both } in
+    let begun : Begun = record {
+      terms = record t { params = record t.params { format = c.format.result } };
+      video = video;
+      both = c.in_ok-both.both;
+    } in
     let e = c.in_ok-video.ensures.gives (inputs Video) (told Video refl) in
     head_goes c.turn_laws.ensures c.video_laws.ensures inputs (outside c.args.desk.now) (outside c.head.new.desk) told
-        c.head.ensures.others c.head.ensures.rest.written
+    c.head.ensures.others c.head.ensures.rest.written
     (outside c.put_head.new.desk) c.put_head.ensures.rest.left t video.format e.0 e.2 (begun_first begun)
     (λ i. first_state (with_format t (sym c.format.ensures i)) [] (sym e.1 i))
     (subst (λ (f : Format). Gains (on Pictures (head_text f)) (outside c.head.new.desk).written
-        (outside c.put_head.new.desk).written) c.format.ensures c.in_default.ensures.ok)
+    (outside c.put_head.new.desk).written) c.format.ensures c.in_default.ensures.ok)
 
 pub returns-clause-ready : goal.returns-clause-ready
 returns-clause-ready g c =
@@ -89,4 +92,4 @@ pub returns-in_err-both-clause-cause : goal.returns-in_err-both-clause-cause
 returns-in_err-both-clause-cause g c =
     let outside = g.D.Desk.outside in
     starved_cause c.from_residual-in_err-both.result (outside c.args.desk.now).faults (outside c.head.new.desk).faults
-        c.from_residual-in_err-both.ensures.1 c.in_ok-video.ensures.ok_faults
+    c.from_residual-in_err-both.ensures.1 c.in_ok-video.ensures.ok_faults

@@ -5,9 +5,9 @@ use Rattle.call_command.proofs.laws.a_call_shows_each_frame.Goals as goal
 pub returns-clause-frames : goal.returns-clause-frames
 returns-clause-frames c = λ p inputs f in_range head.
     each_frame p f (c.call_laws.ensures (record p { format = f }) (in_format p f in_range)) c.searches.ensures.all_below
-        c.frame_by_frame.ensures inputs head
+    c.frame_by_frame.ensures inputs head
 
 pub returns-clause-status : goal.returns-clause-status
 returns-clause-status c = λ p inputs in_range.
     status_is p inputs (λ f. c.call_laws.ensures (record p { format = f }) (in_format p f in_range))
-        c.searches.ensures.all_below c.frame_by_frame.ensures
+    c.searches.ensures.all_below c.frame_by_frame.ensures

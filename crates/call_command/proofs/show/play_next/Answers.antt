@@ -19,16 +19,16 @@ returns-clause-ok g c = λ p sender before frames past begun h may.
     let after = c.play-played.ensures.holds p sender before frames past h may in
     let ahead : was.played < sender.sent = omega (arith, may, played, sent) in
     let row = row_is p before frames past c.play-played.result.number c.play-played.result.mark
-        c.reference_of-reference.result (picture c.shown.result)
+    c.reference_of-reference.result (picture c.shown.result)
     c.play-played.ensures.number played (c.play-played.ensures.mark p sender before frames past h)
     (c.reference_of-reference.ensures p sender before frames past begun h ahead
-        ∙ ap (λ (n : ℕ). reference_in (both_after p (steady p) frames before past).sender.coded n)
-        (sym c.play-played.ensures.number))
+    ∙ ap (λ (n : ℕ). reference_in (both_after p (steady p) frames before past).sender.coded n)
+    (sym c.play-played.ensures.number))
     (laws.shown sender c.play-played.new.receiver before frames (Play ∷ past) (picture c.shown.result)
-        after.way_holds.joined c.shown.ensures.run)
+    after.way_holds.joined c.shown.ensures.run)
     in
     on_ok_weaker c.show.result (λ gains. subst (λ (t : Role → List ℕ). Gains t (outside c.args.desk.now).written
-        (outside c.show.new.desk).written) row gains) c.show.ensures.ok
+    (outside c.show.new.desk).written) row gains) c.show.ensures.ok
 
 pub returns-clause-err : goal.returns-clause-err
 returns-clause-err g c = λ p sender before frames past begun h may.
@@ -40,13 +40,13 @@ returns-clause-err g c = λ p sender before frames past begun h may.
     let after = c.play-played.ensures.holds p sender before frames past h may in
     let ahead : was.played < sender.sent = omega (arith, may, played, sent) in
     let row = row_is p before frames past c.play-played.result.number c.play-played.result.mark
-        c.reference_of-reference.result (picture c.shown.result)
+    c.reference_of-reference.result (picture c.shown.result)
     c.play-played.ensures.number played (c.play-played.ensures.mark p sender before frames past h)
     (c.reference_of-reference.ensures p sender before frames past begun h ahead
-        ∙ ap (λ (n : ℕ). reference_in (both_after p (steady p) frames before past).sender.coded n)
-        (sym c.play-played.ensures.number))
+    ∙ ap (λ (n : ℕ). reference_in (both_after p (steady p) frames before past).sender.coded n)
+    (sym c.play-played.ensures.number))
     (laws.shown sender c.play-played.new.receiver before frames (Play ∷ past) (picture c.shown.result)
-        after.way_holds.joined c.shown.ensures.run)
+    after.way_holds.joined c.shown.ensures.run)
     in
     on_err_weaker c.show.result (λ gains. subst (λ (t : Role → List ℕ). GainsFronts t (outside c.args.desk.now).written
-        (outside c.show.new.desk).written) row gains) c.show.ensures.err
+    (outside c.show.new.desk).written) row gains) c.show.ensures.err

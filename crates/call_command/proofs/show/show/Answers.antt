@@ -17,7 +17,7 @@ returns-clause-ok g c =
     on_ok_weaker c.put_line.result
     (both_gain c.turn_laws.ensures c.args.number c.args.mark c.args.reference (picture c.args.picture)
     (outside c.args.desk.now).written (outside c.put_picture.new.desk).written (outside c.put_line.new.desk).written
-        (text_of c.picture_line-line.result) c.picture_line-line.ensures c.in_ok-put_picture.ensures.ok)
+    (text_of c.picture_line-line.result) c.picture_line-line.ensures c.in_ok-put_picture.ensures.ok)
     c.put_line.ensures.ok
 
 pub returns-clause-err : goal.returns-clause-err
@@ -26,5 +26,5 @@ returns-clause-err g c =
     on_err_weaker c.put_line.result
     (second_front c.turn_laws.ensures c.args.number c.args.mark c.args.reference (picture c.args.picture)
     (outside c.args.desk.now).written (outside c.put_picture.new.desk).written (outside c.put_line.new.desk).written
-        (text_of c.picture_line-line.result) c.picture_line-line.ensures c.in_ok-put_picture.ensures.ok)
+    (text_of c.picture_line-line.result) c.picture_line-line.ensures c.in_ok-put_picture.ensures.ok)
     c.put_line.ensures.err

@@ -15,7 +15,7 @@ returns c p = record {
       let long : length mbs ≡ mbs_of p.format =
       ap (λ (l : List Mb). length l) chosen.mbs_are
       ∙ c.one_for_each_place.ensures.count (in_format p.format chosen.frame.picture) chosen.reference
-          (header_in p.clock style) p
+      (header_in p.clock style) p
       in
       subst (λ (n : ℕ). Divides Skip n ((encoding p).cut style mbs) mbs) long
       (c.cut_divides.ensures.divides (header_in p.clock style) p.limit mbs);

@@ -13,14 +13,14 @@ returns-clause-choice c p frame reference h format = choice_is p frame.picture r
 pub returns-clause-cut : goal.returns-clause-cut
 returns-clause-cut c p predicted h mbs fits kind =
     c.cut_divides.ensures.style (header_from h) (header_in p.clock h.style) p.limit mbs
-        (one_style p predicted h fits kind)
+    (one_style p predicted h fits kind)
 
 pub returns-clause-packets : goal.returns-clause-packets
 returns-clause-packets c p predicted number sequence h mbs packets fits kind written =
     c.by_functions.ensures.packets number sequence (header_from h) p.limit mbs packets written
     ∙ ap (λ (l : List (Slice Mb)). packets_of number sequence (header_from h) l)
     (c.cut_divides.ensures.style (header_from h) (header_in p.clock h.style) p.limit mbs
-        (one_style p predicted h fits kind))
+    (one_style p predicted h fits kind))
 
 pub returns-clause-count : goal.returns-clause-count
 returns-clause-count c p number sequence h slices = c.packet_of_each.ensures.count number sequence

@@ -17,7 +17,7 @@ pub returns-clause-fits : goal.returns-clause-fits
 returns-clause-fits c =
     let code = code_at c.args.codes.now c.args.place in
     signed_fits code.len code.bits c.args.minus (code_fits c.args.codes.now c.args.place none c.requires.codes
-        c.requires.there).1
+    c.requires.there).1
 
 pub returns-clause-few : goal.returns-clause-few
 returns-clause-few c = omega (arith, (code_fits c.args.codes.now c.args.place none c.requires.codes c.requires.there).0)

@@ -6,11 +6,11 @@ use Rattle.code_tables.proofs.code.write_code.Goals as goal
 pub put-requires-clause-room : goal.put-requires-clause-room
 put-requires-clause-room c =
     let many : length (word_of (code_at c.args.codes.now c.args.place)) ≡ (code_at c.args.codes.now c.args.place).len =
-        length-spelled _ _ in
+    length-spelled _ _ in
     omega (arith, c.requires.room)
 
 pub returns-clause-len : goal.returns-clause-len
 returns-clause-len c =
     let many : length (word_of (code_at c.args.codes.now c.args.place)) ≡ (code_at c.args.codes.now c.args.place).len =
-        length-spelled _ _ in
+    length-spelled _ _ in
     omega (arith, c.put.ensures.len)

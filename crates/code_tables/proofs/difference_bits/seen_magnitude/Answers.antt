@@ -22,7 +22,7 @@ returns c =
     let some : c.args.size ≡ 0 → ⊥ = λ e. omega (arith, e, c.if-size-eq0.false) in
     let sign = c.args.seen / 2 ^ (12 - c.args.len) % 2 in
     let fits : SFits w8 c.with_sign.result = subst (λ (z : ℤ). SFits w8 z) (sym c.with_sign.ensures)
-        (signed_fits sign c.args.size (omega (arith, c.requires.size))) in
+    (signed_fits sign c.args.size (omega (arith, c.requires.size))) in
     λ b enough is. record {
       few = omega (arith, c.requires.len);
       read = signed_read b c.args.seen c.args.size c.args.len _ c.requires.len c.requires.size some c.requires.word

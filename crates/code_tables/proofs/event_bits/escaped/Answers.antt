@@ -11,7 +11,7 @@ returns c =
     let some : c.args.seen % 256 ≡ 0 → ⊥ = λ e. omega (arith, e, c.if-level-eq0.false) in
     let great : c.args.seen % 256 ≡ 128 → ⊥ = λ e. omega (arith, e, c.if-level-eq128.false) in
     let fits : SFits w8 c.escape_level.result = subst (λ (z : ℤ). SFits w8 z) (sym c.escape_level.ensures)
-        (level_of_fits (c.args.seen % 256) (omega arith) great) in
+    (level_of_fits (c.args.seen % 256) (omega arith) great) in
     λ b enough is. record {
       few = omega arith;
       read = escape_read b c.args.seen _ c.requires some great enough is (to_z-of_z w8 c.escape_level.result fits

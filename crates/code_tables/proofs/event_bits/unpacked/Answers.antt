@@ -12,7 +12,7 @@ returns c =
     let packed = c.args.packed in
     let row = row_word c.args.seen packed c.requires.event in
     let fits : SFits w8 c.with_sign.result = subst (λ (z : ℤ). SFits w8 z) (sym c.with_sign.ensures)
-        (signed_fits (c.args.seen / 2 ^ (12 - packed % 16) % 2) (packed / 2048) (omega (arith, c.requires.small))) in
+    (signed_fits (c.args.seen / 2 ^ (12 - packed % 16) % 2) (packed / 2048) (omega (arith, c.requires.small))) in
     λ b enough is. record {
       few = omega (arith, row.short);
       read = word_read b (packed_event packed) (packed % 16) c.args.seen _ row.short row.word enough is

@@ -29,7 +29,7 @@ pub returns-in_err-place : goal.returns-in_err-place
 returns-in_err-place c =
     let p = err_from_is_err_and c.from_residual.result c.from_residual.ensures.1 in
     rw (p.1, p.2) (read_no_symbol symbol (mcbpc_words kinds.I) INTRA_MCBPC c.args.reader.now
-        _ same_words c.in_err-place.ensures.reads)
+    _ same_words c.in_err-place.ensures.reads)
 
 pub returns : goal.returns
 returns c = read_symbol symbol (mcbpc_words kinds.I) INTRA_MCBPC c.args.reader.now _ _

@@ -16,13 +16,13 @@ use Rattle.code_tables.proofs.macroblock.read_mcbpc.Goals as goal
 -- what is said of each return
 every : (kind : Kind) (r : Result Mcbpc Fault) (old new : Bits)
     → Gives (λ (m : Mcbpc). m) r new (reading (mcbpc kind) old) → record {
-  found : IfOk r (λ m. Takes old new (Spells (mcbpc kind) m));
-  only : (m : Mcbpc) (text rest : List Bool) → Spells (mcbpc kind) m text → old.bits ≡ text ++ rest
-      → IsOkAnd r (λ found. (found ≡ m) × (new.bits ≡ rest));
-  fault : IfErr r (λ d. (d.at ≡ old.at) × IsWordFault (λ w. IsWordOf (mcbpc_words kind) w) old.bits d.kind);
-  exact : Gives (λ (m : Mcbpc). m) r new (reading (mcbpc kind) old);
-  range : IfOk r (IsInTable kind);
-}
+      found : IfOk r (λ m. Takes old new (Spells (mcbpc kind) m));
+      only : (m : Mcbpc) (text rest : List Bool) → Spells (mcbpc kind) m text → old.bits ≡ text ++ rest
+          → IsOkAnd r (λ found. (found ≡ m) × (new.bits ≡ rest));
+      fault : IfErr r (λ d. (d.at ≡ old.at) × IsWordFault (λ w. IsWordOf (mcbpc_words kind) w) old.bits d.kind);
+      exact : Gives (λ (m : Mcbpc). m) r new (reading (mcbpc kind) old);
+      range : IfOk r (IsInTable kind);
+    }
 every kind r old new e =
     let view = λ (m : Mcbpc). m in
     let s = mcbpc kind in

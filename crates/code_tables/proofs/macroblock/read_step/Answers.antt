@@ -28,11 +28,11 @@ pub returns-in_err-place : goal.returns-in_err-place
 returns-in_err-place c =
     let p = err_from_is_err_and c.from_residual.result c.from_residual.ensures.1 in
     rw (p.1, p.2) (read_no_symbol symbol (dquant_words) STEPS c.args.reader.now
-        _ same_words c.in_err-place.ensures.reads)
+    _ same_words c.in_err-place.ensures.reads)
 
 pub returns : goal.returns
 returns c =
     let fits : SFits w8 c.step_at.result = omega (arith, ints) in
     rw (to_z-of_z w8 c.step_at.result fits) (read_symbol symbol dquant_words STEPS c.args.reader.now _ _
-        _ same_words c.in_ok-place.ensures.reads (get_or_from_slice_get STEP_SYMBOLS c.in_ok-place.place _
-        (pos 0) c.step_at.ensures))
+    _ same_words c.in_ok-place.ensures.reads (get_or_from_slice_get STEP_SYMBOLS c.in_ok-place.place _
+    (pos 0) c.step_at.ensures))

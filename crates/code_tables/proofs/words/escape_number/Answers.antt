@@ -11,7 +11,7 @@ pub returns-clause-text : goal.returns-clause-text
 returns-clause-text c =
     let e = coefficient_of c.args.event.now in
     let byte : c.level_byte.result ≡ byte_of e.level = c.level_byte.ensures.byte
-        ∙ ap byte_of (to_z-of_z w8 e.level (level_fits e.level c.requires.level)) in
+    ∙ ap byte_of (to_z-of_z w8 e.level (level_fits e.level c.requires.level)) in
     escape_is e.last e.run c.level_byte.result c.requires.run c.level_byte.ensures.below
     ∙ ap (λ (n : ℕ). fields ((7, 3) ∷ (1, bit_of e.last) ∷ (6, e.run) ∷ (8, n) ∷ [])) byte
 

@@ -20,11 +20,11 @@ returns-in-Some-clause-text c =
     let e = coefficient_of c.args.event.now in
     let back = to_z-of_z w8 e.level (level_fits e.level c.requires.level) in
     let text = signed_event e c.size.result c.in-Some.place (c.size.ensures
-        ∙ ap size_of back) c.requires.some (sym c.in-Some.ensures) in
+    ∙ ap size_of back) c.requires.some (sym c.in-Some.ensures) in
     let word : spelled c.signed_number.result.1 c.signed_number.result.0 ≡ word_of (code_at EVENTS c.in-Some.place)
-        ++ int_lt e.level (pos 0) ∷ [] =
+    ++ int_lt e.level (pos 0) ∷ [] =
     subst (λ (z : ℤ). spelled c.signed_number.result.1 c.signed_number.result.0
-        ≡ word_of (code_at EVENTS c.in-Some.place) ++ int_lt z (pos 0) ∷ []) back c.signed_number.ensures.text in
+    ≡ word_of (code_at EVENTS c.in-Some.place) ++ int_lt z (pos 0) ∷ []) back c.signed_number.ensures.text in
     word ∙ text
 
 pub returns-in-None-clause-text : goal.returns-in-None-clause-text

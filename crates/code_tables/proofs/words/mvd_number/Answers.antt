@@ -13,7 +13,7 @@ returns-then-size-eq0-clause-text c =
     let v = c.args.value in
     let none : c.size-size.result ≡ 0 = omega (arith, c.if-size-eq0.true) in
     c.code_number.ensures.text ∙ no_difference v c.size-size.result (c.size-size.ensures
-        ∙ ap size_of (to_z-of_z w8 v c.ranges.value)) none
+    ∙ ap size_of (to_z-of_z w8 v c.ranges.value)) none
 
 pub returns-else-size-eq0-clause-text : goal.returns-else-size-eq0-clause-text
 returns-else-size-eq0-clause-text c =
@@ -25,4 +25,4 @@ returns-else-size-eq0-clause-text c =
     let text = signed_difference v n same some (omega (arith, same, size_below v c.requires.low c.requires.high)) in
     let r = c.signed_number.result in
     subst (λ (z : ℤ). spelled r.1 r.0 ≡ word_of (code_at MAGNITUDES n)
-        ++ int_lt z (pos 0) ∷ []) back c.signed_number.ensures.text ∙ text
+    ++ int_lt z (pos 0) ∷ []) back c.signed_number.ensures.text ∙ text

@@ -14,13 +14,13 @@ use Rattle.code_tables.proofs.words.read_cbpy.Goals as goal
 -- what is said of each return
 every : (intra : Bool) (r : Result ℕ Fault) (old new : Bits) → Gives (λ (i : ℕ). i) r new (reading (cbpy intra) old)
     → record {
-  found : IfOk r (λ pattern. Takes old new (Spells (cbpy intra) pattern));
-  only : (pattern : ℕ) (text rest : List Bool) → Spells (cbpy intra) pattern text → old.bits ≡ text ++ rest
-      → IsOkAnd r (λ found. (found ≡ pattern) × (new.bits ≡ rest));
-  fault : IfErr r (λ d. (d.at ≡ old.at) × IsWordFault (λ w. IsWordOf cbpy_words w) old.bits d.kind);
-  exact : Gives (λ (i : ℕ). i) r new (reading (cbpy intra) old);
-  range : IfOk r (λ pattern. pattern < 16);
-}
+      found : IfOk r (λ pattern. Takes old new (Spells (cbpy intra) pattern));
+      only : (pattern : ℕ) (text rest : List Bool) → Spells (cbpy intra) pattern text → old.bits ≡ text ++ rest
+          → IsOkAnd r (λ found. (found ≡ pattern) × (new.bits ≡ rest));
+      fault : IfErr r (λ d. (d.at ≡ old.at) × IsWordFault (λ w. IsWordOf cbpy_words w) old.bits d.kind);
+      exact : Gives (λ (i : ℕ). i) r new (reading (cbpy intra) old);
+      range : IfOk r (λ pattern. pattern < 16);
+    }
 every intra r old new e =
     let view = λ (i : ℕ). i in
     let s = cbpy intra in

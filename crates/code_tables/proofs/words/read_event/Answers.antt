@@ -33,9 +33,9 @@ pub returns-in-Some : goal.returns-in-Some
 returns-in-Some c =
     let old = c.args.reader.now in
     let first = c.in-Some.ensures old (omega (arith, c.rest.ensures, c.if-rest-ge13.true))
-        (sym c.peek-seen.ensures.value) in
+    (sym c.peek-seen.ensures.value) in
     every (Ok _) old c.skip.new.self (event_read old (skip c.in-Some.found.len old) _ first.read
-        ∙ ap (λ (b : Bits). Ok (coefficient_of c.in-Some.found.event, b)) (sym c.skip.ensures))
+    ∙ ap (λ (b : Bits). Ok (coefficient_of c.in-Some.found.event, b)) (sym c.skip.ensures))
 
 pub returns : goal.returns
 returns c = every c.read_rare_event.result c.args.reader.now c.read_rare_event.new.reader c.read_rare_event.ensures

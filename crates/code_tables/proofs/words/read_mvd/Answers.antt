@@ -44,7 +44,7 @@ pub returns-in-Some : goal.returns-in-Some
 returns-in-Some c =
     let old = c.args.reader.now in
     let first = c.in-Some.ensures old (omega (arith, c.rest.ensures, c.if-rest-ge64.true))
-        (sym c.peek_early-seen.ensures.value) in
+    (sym c.peek_early-seen.ensures.value) in
     let value = c.in-Some.found.value in
     let after = skip c.in-Some.found.len old in
     let view = λ (v : ℤ). v in
@@ -52,7 +52,7 @@ returns-in-Some c =
     let high = reads_within view mvd (Ok value) old after (λ (v : ℤ). v ≤ℤ pos 31) first.read mvd_high in
     let kept = to_z-of_z w8 value (in_range value low high) in
     every (Ok _) old c.skip.new.self (first.read ∙ ap (λ (v : ℤ). Ok (v, after)) (sym kept)
-        ∙ ap (λ (b : Bits). Ok (to_z w8 (of_z w8 value), b)) (sym c.skip.ensures))
+    ∙ ap (λ (b : Bits). Ok (to_z w8 (of_z w8 value), b)) (sym c.skip.ensures))
 
 pub returns-else-value-eq32 : goal.returns-else-value-eq32
 unfolding mvd reading

@@ -8,7 +8,7 @@ use Rattle.code_tables.proofs.words.write_event.Goals as goal
 pub put-requires-clause-room : goal.put-requires-clause-room
 put-requires-clause-room c =
     let long : c.event_number-number.result.1 ≡ length (event_text (coefficient_of c.args.event.now)) =
-        sym (length-spelled _ _) ∙ ap length c.event_number-number.ensures.text in
+    sym (length-spelled _ _) ∙ ap length c.event_number-number.ensures.text in
     omega (arith, c.requires.room, long)
 
 pub returns-clause-bits : goal.returns-clause-bits
@@ -18,5 +18,5 @@ returns-clause-bits c = subst (λ (t : List Bool). Appends c.args.writer.now c.p
 pub returns-clause-len : goal.returns-clause-len
 returns-clause-len c =
     let long : c.event_number-number.result.1 ≡ length (event_text (coefficient_of c.args.event.now)) =
-        sym (length-spelled _ _) ∙ ap length c.event_number-number.ensures.text in
+    sym (length-spelled _ _) ∙ ap length c.event_number-number.ensures.text in
     omega (arith, c.put.ensures.len, long)

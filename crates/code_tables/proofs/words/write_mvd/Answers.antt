@@ -14,9 +14,9 @@ write_code-requires-clause-room c =
     let v = c.args.value in
     let none : c.size-size.result ≡ 0 = omega (arith, c.if-size-eq0.true) in
     let text = no_difference v c.size-size.result (c.size-size.ensures
-        ∙ ap size_of (to_z-of_z w8 v c.ranges.value)) none in
+    ∙ ap size_of (to_z-of_z w8 v c.ranges.value)) none in
     subst (λ (t : List Bool). len_of c.args.writer.now + length t ≤ room_of c.args.writer.now)
-        (sym text) c.requires.room
+    (sym text) c.requires.room
 
 pub write_signed_code-requires-clause-room : goal.write_signed_code-requires-clause-room
 write_signed_code-requires-clause-room c =
@@ -26,7 +26,7 @@ write_signed_code-requires-clause-room c =
     let some : 0 < n = omega (arith, c.if-size-eq0.false) in
     let text = signed_difference v n same some (omega (arith, same, size_below v c.requires.low c.requires.high)) in
     let long : length (mvd_text v) ≡ length (word_of (code_at MAGNITUDES n)) + 1 = ap length (sym text)
-        ∙ length-append _ _ in
+    ∙ length-append _ _ in
     omega (arith, c.requires.room, long)
 
 pub returns-then-size-eq0-clause-bits : goal.returns-then-size-eq0-clause-bits
@@ -34,7 +34,7 @@ returns-then-size-eq0-clause-bits c =
     let v = c.args.value in
     let none : c.size-size.result ≡ 0 = omega (arith, c.if-size-eq0.true) in
     let text = no_difference v c.size-size.result (c.size-size.ensures
-        ∙ ap size_of (to_z-of_z w8 v c.ranges.value)) none in
+    ∙ ap size_of (to_z-of_z w8 v c.ranges.value)) none in
     subst (λ (t : List Bool). Appends c.args.writer.now c.write_code.new.writer t) text c.write_code.ensures.bits
 
 pub returns-then-size-eq0-clause-len : goal.returns-then-size-eq0-clause-len
@@ -42,9 +42,9 @@ returns-then-size-eq0-clause-len c =
     let v = c.args.value in
     let none : c.size-size.result ≡ 0 = omega (arith, c.if-size-eq0.true) in
     let text = no_difference v c.size-size.result (c.size-size.ensures
-        ∙ ap size_of (to_z-of_z w8 v c.ranges.value)) none in
+    ∙ ap size_of (to_z-of_z w8 v c.ranges.value)) none in
     subst (λ (t : List Bool). len_of c.write_code.new.writer ≡ len_of c.args.writer.now + length t) text
-        c.write_code.ensures.len
+    c.write_code.ensures.len
 
 pub returns-else-size-eq0-clause-bits : goal.returns-else-size-eq0-clause-bits
 returns-else-size-eq0-clause-bits c =
@@ -55,9 +55,9 @@ returns-else-size-eq0-clause-bits c =
     let some : 0 < n = omega (arith, c.if-size-eq0.false) in
     let text = signed_difference v n same some (omega (arith, same, size_below v c.requires.low c.requires.high)) in
     let bits : Appends c.args.writer.now c.write_signed_code.new.writer (word_of (code_at MAGNITUDES n)
-        ++ int_lt v (pos 0) ∷ []) =
+    ++ int_lt v (pos 0) ∷ []) =
     subst (λ (z : ℤ). Appends c.args.writer.now c.write_signed_code.new.writer (word_of (code_at MAGNITUDES n)
-        ++ int_lt z (pos 0) ∷ [])) back c.write_signed_code.ensures.bits in
+    ++ int_lt z (pos 0) ∷ [])) back c.write_signed_code.ensures.bits in
     subst (λ (t : List Bool). Appends c.args.writer.now c.write_signed_code.new.writer t) text bits
 
 pub returns-else-size-eq0-clause-len : goal.returns-else-size-eq0-clause-len
@@ -68,5 +68,5 @@ returns-else-size-eq0-clause-len c =
     let some : 0 < n = omega (arith, c.if-size-eq0.false) in
     let text = signed_difference v n same some (omega (arith, same, size_below v c.requires.low c.requires.high)) in
     let long : length (mvd_text v) ≡ length (word_of (code_at MAGNITUDES n)) + 1 = ap length (sym text)
-        ∙ length-append _ _ in
+    ∙ length-append _ _ in
     omega (arith, c.write_signed_code.ensures.len, long)

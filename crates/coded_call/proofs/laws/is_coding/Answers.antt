@@ -37,8 +37,8 @@ returns c p in_range = record {
       let kind : style.kind ≡ kind_of predicted = ap (λ (s : Style). s.kind) chosen.style_is in
       let ranged : IsHeader h =
       c.header_in_range.ensures p chosen.frame.messages predicted chosen.depth chosen.quant header
-          (record { low = omega (arith, chosen.quant_range.0); high = omega (arith, chosen.quant_range.1) })
-          chosen.style_is fits
+      (record { low = omega (arith, chosen.quant_range.0); high = omega (arith, chosen.quant_range.1) })
+      chosen.style_is fits
       in
       let format : h.format ≡ p.format = ap (λ (s : Style). s.format) chosen.style_is in
       let quant : style.quant ≡ chosen.quant = ap (λ (s : Style). s.quant) chosen.style_is in
@@ -51,8 +51,10 @@ returns c p in_range = record {
       let sent_at : (k : ℕ) → k < mbs_of p.format → IsSentAt h k (choice_of frame reference g p k) =
       λ k below. record {
         in_range = c.chosen_is_in_range.ensures.in_range frame reference g p k
-            (record { low = omega (arith, chosen.quant_range.0, quant);
-            high = omega (arith, chosen.quant_range.1, quant) });
+            (record {
+              low = omega (arith, chosen.quant_range.0, quant);
+              high = omega (arith, chosen.quant_range.1, quant);
+            });
         of_kind = c.chosen_is_in_range.ensures.of_kind frame reference g p k has;
         plain = c.chosen_is_in_range.ensures.plain frame reference g p k;
         whole = c.chosen_is_in_range.ensures.whole frame reference g p k;
@@ -67,22 +69,24 @@ returns c p in_range = record {
             let here : k < mbs_of p.format = subst (λ (f : Format). k < mbs_of f) format below in
             subst (λ (m : Mb). IsSentAt h k m)
             (sym (ap (λ (l : List Mb). slice_index_or l k Skip) chosen.mbs_are
-                ∙ c.one_for_each_place.ensures.each frame reference g p k here))
+            ∙ c.one_for_each_place.ensures.each frame reference g p k here))
             (sent_at k here);
       } in
       let same_cut : cut_of h p.limit mbs ≡ (encoding p).cut style mbs =
-          c.written_packets.ensures.cut p predicted header mbs fits kind in
+      c.written_packets.ensures.cut p predicted header mbs fits kind in
       let read =
       c.read_again.ensures n sequence h p.limit mbs j slice ranged (omega (arith, in_range.limit_low))
-          (omega (arith, in_range.limit_high)) sent
+      (omega (arith, in_range.limit_high)) sent
       (ap (λ (l : List (call.Slice Mb)). slice_get l j) same_cut ∙ at)
       in (
         read.0,
         ap (λ (l : List (call.Slice Mb)). slice_get (packets_of n sequence h l) j) (sym same_cut) ∙ read.1,
         ap (λ (f : Format). with_piece (packet_at f read.0)) (sym format)
             ∙ ap with_piece read.2
-            ∙ ap (λ (x : call.Header Style). let r : Result (call.Piece Style Mb) Fault = Ok (record { header = x;
-                slice = slice }) in r) (header_back p.clock header fits.half),
+            ∙ ap (λ (x : call.Header Style). let r : Result (call.Piece Style Mb) Fault = Ok (record {
+              header = x;
+              slice = slice;
+            }) in r) (header_back p.clock header fits.half),
       );
   no_packet = λ n sequence header slices j none. c.packet_of_each.ensures.none n sequence (header_from header) slices j
       none;

@@ -8,6 +8,6 @@ pub loop-option-preserved : goal.loop-option-preserved
 loop-option-preserved c =
     let rule : rule_of c.long.result ≡ option_rule c.new.result.id.now = search rules in
     ap (λ (a : App). with_rules a (map option_rule (texts (drop (c.loop-option.option-index + 1) c.args.options.now))))
-        (c.in_ok-command.ensures.shape (search rules))
+    (c.in_ok-command.ensures.shape (search rules))
     ∙ step_rules option_rule _ _ c.args.options.now c.loop-option.option-index _ c.new.result.id c.loop-option-test.true
-        c.new.ensures.id rule ∙ c.loop-option.invariant
+    c.new.ensures.id rule ∙ c.loop-option.invariant

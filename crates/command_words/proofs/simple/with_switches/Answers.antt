@@ -15,6 +15,6 @@ loop-switch-preserved c =
     let range = some_is c.num_args-arg.result.num_vals none c.num_args-arg.ensures.1 in
     let rule : rule_of c.default_missing_value.result ≡ switch_rule c.new.result.id.now = search (rules, range) in
     ap (λ (a : App). with_rules a (map switch_rule (texts (drop (c.loop-switch.switch-index + 1) c.args.switches.now))))
-        (c.in_ok-command.ensures.shape (search rules))
+    (c.in_ok-command.ensures.shape (search rules))
     ∙ step_rules switch_rule _ _ c.args.switches.now c.loop-switch.switch-index
-        _ c.new.result.id c.loop-switch-test.true c.new.ensures.id rule ∙ c.loop-switch.invariant
+    _ c.new.result.id c.loop-switch-test.true c.new.ensures.id rule ∙ c.loop-switch.invariant

@@ -17,8 +17,8 @@ returns c = λ t in_range.
     record {
       near =
           subst (λ (k : ℕ). AllMayHappen (coding p) (rules_of p) (steady p) (made_video t)
-              (made_events t [] (made_trace t.seed k))) (video_is t)
+          (made_events t [] (made_trace t.seed k))) (video_is t)
           (c.made_calls_are_near.ensures (coding p) (rules_of p) (steady p) (made_video t) t.seed lawful ruled paced
-              (half_enough p.clock));
+          (half_enough p.clock));
       slices = some_slices t (c.encoder_is_sound.ensures (coding p) (rules_of p) lawful ruled) ruled paced;
     }

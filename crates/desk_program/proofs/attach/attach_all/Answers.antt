@@ -16,7 +16,7 @@ loop-role-preserved g c =
     let outside = g.D.Desk.outside in
     let said = c.in_ok-attach_role.ensures in
     let free = first_free (outside c.loop-role.desk).attached c.args.order.now c.loop-role.role-index none
-        c.loop-role-test.true c.loop-role.invariant.free in
+    c.loop-role-test.true c.loop-role.invariant.free in
     record {
       free = rest_free (outside c.loop-role.desk).attached c.args.order.now c.loop-role.role-index none
           c.loop-role-test.true c.loop-role.invariant.free (outside c.attach_role.new.desk).attached said.attached;
@@ -40,8 +40,8 @@ returns-in_err-attach_role-clause-attached g c = λ first before.
     let outside = g.D.Desk.outside in
     let said = c.in_err-attach_role.ensures in
     not_attached c.from_residual.result c.in_err-attach_role.field-0.0 first c.args.order.now c.loop-role.role-index
-        none (outside c.loop-role.desk) (outside c.attach_role.new.desk) c.loop-role-test.true
-        (c.loop-role.invariant.attached first before) said.err said.err_name c.from_residual.ensures.1 said.kind
+    none (outside c.loop-role.desk) (outside c.attach_role.new.desk) c.loop-role-test.true
+    (c.loop-role.invariant.attached first before) said.err said.err_name c.from_residual.ensures.1 said.kind
 
 pub returns-in_err-attach_role-clause-alone : goal.returns-in_err-attach_role-clause-alone
 unfolding none
@@ -49,15 +49,15 @@ returns-in_err-attach_role-clause-alone g c = λ nothing.
     let outside = g.D.Desk.outside in
     let said = c.in_err-attach_role.ensures in
     not_attached c.from_residual.result c.in_err-attach_role.field-0.0 [] c.args.order.now c.loop-role.role-index none
-        (outside c.loop-role.desk) (outside c.attach_role.new.desk) c.loop-role-test.true
+    (outside c.loop-role.desk) (outside c.attach_role.new.desk) c.loop-role-test.true
     (c.loop-role.invariant.attached [] (none_attached (outside c.args.desk.now) nothing)) said.err said.err_name
-        c.from_residual.ensures.1 said.kind
+    c.from_residual.ensures.1 said.kind
 
 pub returns-clause-alone : goal.returns-clause-alone
 returns-clause-alone g c = λ nothing.
     let outside = g.D.Desk.outside in
     subst (λ (order : List Pair). AreAttached (names order) (outside c.loop-role.desk))
-        (take_all c.loop-role.role-index c.args.order.now (omega (arith, c.loop-role-test.false)))
+    (take_all c.loop-role.role-index c.args.order.now (omega (arith, c.loop-role-test.false)))
     (c.loop-role.invariant.attached [] (none_attached (outside c.args.desk.now) nothing))
 
 pub returns-in_err-attach_role-clause-kept : goal.returns-in_err-attach_role-clause-kept

@@ -21,29 +21,29 @@ returns-in-Err-clause-prefixes g c = λ inputs told stopped.
     let run = g.A.Acts.run c.args.setup.now inputs in
     let status = c.in-Err.status in
     let ends = opening_ends (phase status) status run inputs old mid c.in-Err.ensures.opening
-        c.attach_all.ensures.rest.written in
+    c.attach_all.ensures.rest.written in
     has_prefixes run inputs old new (phase c.finish.result) c.finish.result
-        (finished_with run inputs old mid new status c.finish.result ends c.finish.ensures.told
-        c.finish.ensures.rest.left) stopped
+    (finished_with run inputs old mid new status c.finish.result ends c.finish.ensures.told
+    c.finish.ensures.rest.left) stopped
 
 pub returns-in-Err-clause-attached : goal.returns-in-Err-clause-attached
 returns-in-Err-clause-attached g c =
     let outside = g.D.Desk.outside in
     finished_attached ((Report, []) ∷ names c.args.order.now) c.in-Err.status c.finish.result
-        (outside c.attach_all.new.desk) (outside c.finish.new.desk) c.finish.ensures.rest
+    (outside c.attach_all.new.desk) (outside c.finish.new.desk) c.finish.ensures.rest
     (c.in-Err.ensures.attached ((Report, []) ∷ []) c.requires.report) c.finish.ensures.told
 
 pub returns-in-Err-clause-unopened : goal.returns-in-Err-clause-unopened
 returns-in-Err-clause-unopened g c = λ is.
     let outside = g.D.Desk.outside in
     opening_alone c.in-Err.status c.finish.result (outside c.args.desk.now) (outside c.attach_all.new.desk)
-        (outside c.finish.new.desk) c.attach_all.ensures.rest c.finish.ensures.rest c.finish.ensures.told is
+    (outside c.finish.new.desk) c.attach_all.ensures.rest c.finish.ensures.rest c.finish.ensures.told is
 
 pub returns-in-Err-clause-flushed : goal.returns-in-Err-clause-flushed
 returns-in-Err-clause-flushed g c =
     let outside = g.D.Desk.outside in
     finished_flushed c.in-Err.status c.finish.result (outside c.attach_all.new.desk) (outside c.finish.new.desk)
-        c.finish.ensures.told
+    c.finish.ensures.told
 
 -- ---- where all are
 
@@ -61,11 +61,11 @@ returns-clause-texts g c = λ inputs told settled.
     let run = g.A.Acts.run c.args.setup.now inputs in
     let status = c.act-status.result in
     let ends = subst (λ (start : Role → Option (List ℕ)). HasEnded run silent status inputs start done)
-        c.attach_all.ensures.rest.written
+    c.attach_all.ensures.rest.written
     (c.act-status.ensures.gives inputs (tells_still old mid inputs c.attach_all.ensures.rest.left told)) in
     has_texts run inputs old.written new (phase c.finish-2.result) c.finish-2.result
     (finished_with run inputs old.written done new status c.finish-2.result ends c.finish-2.ensures.told
-        c.finish-2.ensures.rest.left) settled
+    c.finish-2.ensures.rest.left) settled
 
 pub returns-clause-prefixes : goal.returns-clause-prefixes
 returns-clause-prefixes g c = λ inputs told stopped.
@@ -77,11 +77,11 @@ returns-clause-prefixes g c = λ inputs told stopped.
     let run = g.A.Acts.run c.args.setup.now inputs in
     let status = c.act-status.result in
     let ends = subst (λ (start : Role → Option (List ℕ)). HasEnded run silent status inputs start done)
-        c.attach_all.ensures.rest.written
+    c.attach_all.ensures.rest.written
     (c.act-status.ensures.gives inputs (tells_still old mid inputs c.attach_all.ensures.rest.left told)) in
     has_prefixes run inputs old.written new (phase c.finish-2.result) c.finish-2.result
     (finished_with run inputs old.written done new status c.finish-2.result ends c.finish-2.ensures.told
-        c.finish-2.ensures.rest.left) stopped
+    c.finish-2.ensures.rest.left) stopped
 
 pub returns-clause-attached : goal.returns-clause-attached
 returns-clause-attached g c =
@@ -90,7 +90,7 @@ returns-clause-attached g c =
     let order = (Report, []) ∷ names c.args.order.now in
     let status = c.act-status.result in
     let still = still_attached order (outside c.attach_all.new.desk) done c.act-status.ensures.rest.attached
-        c.act-status.ensures.rest.name
+    c.act-status.ensures.rest.name
     (c.in_default.ensures.attached ((Report, []) ∷ []) c.requires.report) in
     finished_attached order status c.finish-2.result done (outside c.finish-2.new.desk) c.finish-2.ensures.rest
     (attached_later (phase status) order done c.act-status.ensures.later still) c.finish-2.ensures.told
@@ -99,19 +99,19 @@ pub returns-clause-whole_input : goal.returns-clause-whole_input
 returns-clause-whole_input g c = λ inputs told.
     let outside = g.D.Desk.outside in
     finished_read c.act-status.result c.finish-2.result (g.A.Acts.source c.args.setup.now)
-        (outside c.act-status.new.desk) (outside c.finish-2.new.desk) c.finish-2.ensures.rest.left
+    (outside c.act-status.new.desk) (outside c.finish-2.new.desk) c.finish-2.ensures.rest.left
     (c.act-status.ensures.whole_input inputs (tells_still (outside c.args.desk.now) (outside c.attach_all.new.desk)
-        inputs c.attach_all.ensures.rest.left told))
+    inputs c.attach_all.ensures.rest.left told))
     c.finish-2.ensures.told
 
 pub returns-clause-unopened : goal.returns-clause-unopened
 returns-clause-unopened g c = λ is.
     let outside = g.D.Desk.outside in
     later_alone c.act-status.result c.finish-2.result (outside c.args.desk.now) (outside c.act-status.new.desk)
-        (outside c.finish-2.new.desk) c.act-status.ensures.later c.finish-2.ensures.told is
+    (outside c.finish-2.new.desk) c.act-status.ensures.later c.finish-2.ensures.told is
 
 pub returns-clause-flushed : goal.returns-clause-flushed
 returns-clause-flushed g c =
     let outside = g.D.Desk.outside in
     finished_flushed c.act-status.result c.finish-2.result (outside c.act-status.new.desk) (outside c.finish-2.new.desk)
-        c.finish-2.ensures.told
+    c.finish-2.ensures.told

@@ -12,8 +12,16 @@ loop-status-init g c = record {
   stays = λ first k. k;
   ready = c.requires;
   source = refl;
-  rest = record { attached = refl; name = refl; faults = record { attach = omega arith; read = omega arith;
-      write = omega arith }; loans = refl };
+  rest = record {
+    attached = refl;
+    name = refl;
+    faults = record {
+      attach = omega arith;
+      read = omega arith;
+      write = omega arith;
+    };
+    loans = refl;
+  };
 }
 
 pub loop-status-preserved : goal.loop-status-preserved
@@ -25,18 +33,18 @@ loop-status-preserved g c =
       plays = λ run inputs start before.
           let p = c.loop-status.invariant.plays run inputs start before in
           let w = gave said.field-0 true (m.step p.state p.rest) (m.stands c.turn.new.self) m.reads
-              (m.reads p.state) p.rest (outside c.loop-status.desk) (outside c.turn.new.desk) said.field-0-test
-              (said.ensures.gives p.state p.rest p.kept p.told) in
+          (m.reads p.state) p.rest (outside c.loop-status.desk) (outside c.turn.new.desk) said.field-0-test
+          (said.ensures.gives p.state p.rest p.kept p.told) in
           goes_on _ _ _ _ _ _ _ _ _ p (m.stands c.turn.new.self) (m.more c.turn.new.self)
-              (fell said.field-0 _ _ said.field-0-test said.ensures.falls) w;
+          (fell said.field-0 _ _ said.field-0-test said.ensures.falls) w;
       ends = λ final before.
           let p = c.loop-status.invariant.ends final before in
           let w = gave said.field-0 true (m.step p.state p.rest) (m.stands c.turn.new.self) m.reads
-              (m.reads p.state) p.rest (outside c.loop-status.desk) (outside c.turn.new.desk) said.field-0-test
-              (said.ensures.gives p.state p.rest p.kept p.told) in
+          (m.reads p.state) p.rest (outside c.loop-status.desk) (outside c.turn.new.desk) said.field-0-test
+          (said.ensures.gives p.state p.rest p.kept p.told) in
           state_on m.step m.reads final (outside c.loop-status.desk) (outside c.turn.new.desk) _ _ p
-              (m.stands c.turn.new.self) (m.more c.turn.new.self)
-              (fell said.field-0 _ _ said.field-0-test said.ensures.falls) w;
+          (m.stands c.turn.new.self) (m.more c.turn.new.self)
+          (fell said.field-0 _ _ said.field-0-test said.ensures.falls) w;
       stays = λ first k. said.ensures.stays first (c.loop-status.invariant.stays first k);
       ready = on_going said.field-0 (m.ready c.turn.new.self (outside c.turn.new.desk).attached) said.field-0-test
           said.ensures.ready;
@@ -51,8 +59,8 @@ returns-in-Ok-false-clause-gives g c = λ run inputs start before.
     let outside = g.D.Desk.outside in
     let p = c.loop-status.invariant.plays run inputs start before in
     let e = gave c.in-Ok-false.field-0 false (m.step p.state p.rest) (m.stands c.turn.new.self) m.reads
-        (m.reads p.state) p.rest (outside c.loop-status.desk) (outside c.turn.new.desk) c.in-Ok-false.field-0-test
-        (c.in-Ok-false.ensures.gives p.state p.rest p.kept p.told) in
+    (m.reads p.state) p.rest (outside c.loop-status.desk) (outside c.turn.new.desk) c.in-Ok-false.field-0-test
+    (c.in-Ok-false.ensures.gives p.state p.rest p.kept p.told) in
     comes_to_its_end _ _ _ _ _ _ _ _ _ p e
 
 pub returns-in-Ok-false-clause-whole_input : goal.returns-in-Ok-false-clause-whole_input
@@ -60,16 +68,16 @@ returns-in-Ok-false-clause-whole_input g c = λ run inputs start before.
     let m = g.M.Turns in
     let p = c.loop-status.invariant.plays run inputs start before in
     read_out_since (m.reading c.loop-status.machine) (m.reading c.args.machine.now) (g.D.Desk.outside c.turn.new.desk)
-        c.loop-status.invariant.source
+    c.loop-status.invariant.source
     (on_end c.in-Ok-false.field-0 _ c.in-Ok-false.field-0-test
-        (c.in-Ok-false.ensures.whole p.state p.rest p.kept p.told))
+    (c.in-Ok-false.ensures.whole p.state p.rest p.kept p.told))
 
 pub returns-in-Err-clause-gives : goal.returns-in-Err-clause-gives
 returns-in-Err-clause-gives g c = λ run inputs start before.
     let m = g.M.Turns in
     let p = c.loop-status.invariant.plays run inputs start before in
     stops m.step m.reads run inputs start _ _ _ _ p (phase c.in-Err.status) c.in-Err.status
-        (c.in-Err.ensures.gives p.state p.rest p.kept p.told)
+    (c.in-Err.ensures.gives p.state p.rest p.kept p.told)
 
 pub returns-in-Err-clause-whole_input : goal.returns-in-Err-clause-whole_input
 returns-in-Err-clause-whole_input g c = λ run inputs start before. not_read_out (phase c.in-Err.status)
@@ -86,10 +94,10 @@ returns-in-Ok-false-clause-leaves g c = λ final before.
     let outside = g.D.Desk.outside in
     let p = c.loop-status.invariant.ends final before in
     let e = gave c.in-Ok-false.field-0 false (m.step p.state p.rest) (m.stands c.turn.new.self) m.reads
-        (m.reads p.state) p.rest (outside c.loop-status.desk) (outside c.turn.new.desk) c.in-Ok-false.field-0-test
-        (c.in-Ok-false.ensures.gives p.state p.rest p.kept p.told) in
+    (m.reads p.state) p.rest (outside c.loop-status.desk) (outside c.turn.new.desk) c.in-Ok-false.field-0-test
+    (c.in-Ok-false.ensures.gives p.state p.rest p.kept p.told) in
     left_last m.step m.reads final (outside c.loop-status.desk) (outside c.turn.new.desk) _
-        _ p m.stands m.leaves c.loop-status.machine c.turn.new.self p.kept Fine e
+    _ p m.stands m.leaves c.loop-status.machine c.turn.new.self p.kept Fine e
     (on_settled c.in-Ok-false.field-0 _ c.in-Ok-false.field-0-test c.in-Ok-false.ensures.leaves)
 
 pub returns-in-Err-clause-leaves : goal.returns-in-Err-clause-leaves
@@ -98,7 +106,7 @@ returns-in-Err-clause-leaves g c = λ final before.
     let outside = g.D.Desk.outside in
     let p = c.loop-status.invariant.ends final before in
     left_err m.step m.reads final (outside c.loop-status.desk) (outside c.turn.new.desk) _
-        _ p m.stands m.leaves c.loop-status.machine c.turn.new.self p.kept (phase c.in-Err.status) c.in-Err.status
+    _ p m.stands m.leaves c.loop-status.machine c.turn.new.self p.kept (phase c.in-Err.status) c.in-Err.status
     (c.in-Err.ensures.gives p.state p.rest p.kept p.told) c.in-Err.ensures.leaves
 
 pub returns-in-Ok-false-clause-answers : goal.returns-in-Ok-false-clause-answers

@@ -14,7 +14,7 @@ returns g c =
     record {
       begins = λ machine first step reads most inputs old new is w.
           subst (λ (n : ℕ). IsUnderWay step reads (run_from first step most inputs) inputs old.written
-              (stands machine) n new) (sym is)
+          (stands machine) n new) (sym is)
           (started first step reads most inputs old new (stands machine) w);
       begins_from = λ from first step reads most inputs old new w. started first step reads most inputs old new
           (IsFrom from) w;

@@ -20,12 +20,12 @@ pub returns-in-A : goal.returns-in-A
 returns-in-A g c =
     let outside = g.D.Desk.outside in
     line_of_a c.pair_laws.ensures c.args.a.now c.args.b.now c.party_turn.new.own c.party_turn.new.far c.args.said
-        c.party_turn.result (outside c.args.desk.now) (outside c.party_turn.new.desk)
+    c.party_turn.result (outside c.args.desk.now) (outside c.party_turn.new.desk)
     (length c.args.frame.now) c.in-A.is c.party_turn.ensures
 
 pub returns-in-B : goal.returns-in-B
 returns-in-B g c =
     let outside = g.D.Desk.outside in
     line_of_b c.pair_laws.ensures c.args.a.now c.args.b.now c.second_turn.new.far c.second_turn.new.own c.args.said
-        c.second_turn.result (outside c.args.desk.now) (outside c.second_turn.new.desk)
+    c.second_turn.result (outside c.args.desk.now) (outside c.second_turn.new.desk)
     (length c.args.frame.now) c.in-B.is c.second_turn.ensures

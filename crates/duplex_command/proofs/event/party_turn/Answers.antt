@@ -24,17 +24,17 @@ returns-in-Nothing g c =
     let said = c.args.said in
     let x = said.party in
     event_done x own far own far said.line (length c.args.frame.now) said.event says.Nothing old old c.in-Nothing.is
-        c.requires.ready (c.turning.ensures.steps.none old)
+    c.requires.ready (c.turning.ensures.steps.none old)
     (λ trace o s inputs b. event_goes x own far said.line trace o old s inputs b c.turning.ensures.turns own far
-        says.Nothing s.ways refl refl refl b.stood.holds)
+    says.Nothing s.ways refl refl refl b.stood.holds)
 
 -- no message comes back by a line
 pub returns-in-Back : goal.returns-in-Back
 returns-in-Back g c =
     let said = c.args.said in
     line_stops said.party c.args.own.now c.args.far.now said.line (length c.args.frame.now) said.event
-        (says.Back c.in-Back.message) _ (TraceRefused (faults.NotSaid said.line)) (Err told.NotSaid)
-        (g.D.Desk.outside c.args.desk.now) c.in-Back.is refl
+    (says.Back c.in-Back.message) _ (TraceRefused (faults.NotSaid said.line)) (Err told.NotSaid)
+    (g.D.Desk.outside c.args.desk.now) c.in-Back.is refl
     refl c.turning.ensures.lines c.turning.ensures.steps
     (λ trace o s inputs b. (NotSaid, refl, refl))
 
@@ -50,7 +50,7 @@ returns-in_err-allow-in-Send g c =
     let said = c.args.said in
     let x = said.party in
     line_stops x own far said.line (length c.args.frame.now) said.event says.Send _ c.in_err-allow-in-Send.field-0.0
-        c.check_send.result (g.D.Desk.outside c.args.desk.now) c.in-Send.is c.from_residual.ensures.1
+    c.check_send.result (g.D.Desk.outside c.args.desk.now) c.in-Send.is c.from_residual.ensures.1
     c.in_err-allow-in-Send.ensures.err c.turning.ensures.lines c.turning.ensures.steps
     (λ trace o s inputs b. c.check_send.ensures.refusal s.params x far.ends s.ways b.stood.holds)
 
@@ -66,12 +66,12 @@ returns-in_ok-allow-in-Send g c =
     let x = said.party in
     let room = length c.args.frame.now in
     let may : MayHappenNow own.ends far.ends Send = may_so c.check_send.result c.in_ok-allow-in-Send.ensures.ok
-        (c.check_send.ensures.may far.ends c.requires.ready.ends) in
+    (c.check_send.ensures.may far.ends c.requires.ready.ends) in
     frame_asked x own far c.send_frame.new.own said.line room said.event c.send_frame.result (outside c.args.desk.now)
-        (outside c.send_frame.new.desk) c.in-Send.is
+    (outside c.send_frame.new.desk) c.in-Send.is
     (c.send_frame.ensures far room (record { stations = c.requires.ready; may = may }))
     (λ trace o s inputs b. none_so c.check_send.result Send _ c.in_ok-allow-in-Send.ensures.ok
-        (c.check_send.ensures.refusal s.params x far.ends s.ways b.stood.holds))
+    (c.check_send.ensures.refusal s.params x far.ends s.ways b.stood.holds))
 
 -- ---- packets
 
@@ -82,11 +82,11 @@ returns-in_err-allow-in-Packet g c =
     let said = c.args.said in
     let x = said.party in
     line_stops x own far said.line (length c.args.frame.now) said.event
-        (says.Packet c.in-Packet.number c.in-Packet.place) _ c.in_err-allow-in-Packet.field-0.0 c.check_delivery.result
-        (g.D.Desk.outside c.args.desk.now) c.in-Packet.is c.from_residual-in_err-allow-in-Packet.ensures.1
+    (says.Packet c.in-Packet.number c.in-Packet.place) _ c.in_err-allow-in-Packet.field-0.0 c.check_delivery.result
+    (g.D.Desk.outside c.args.desk.now) c.in-Packet.is c.from_residual-in_err-allow-in-Packet.ensures.1
     c.in_err-allow-in-Packet.ensures.err c.turning.ensures.lines c.turning.ensures.steps
     (λ trace o s inputs b. c.check_delivery.ensures.refusal s.params x s.ways (one_left s.params x s.ways)
-        c.in-Packet.place b.stood.holds)
+    c.in-Packet.place b.stood.holds)
 
 pub returns-in_err-allow-in-All : goal.returns-in_err-allow-in-All
 returns-in_err-allow-in-All g c =
@@ -95,11 +95,11 @@ returns-in_err-allow-in-All g c =
     let said = c.args.said in
     let x = said.party in
     line_stops x own far said.line (length c.args.frame.now) said.event (says.All c.in-All.number)
-        _ c.in_err-allow-in-All.field-0.0 c.check_delivery-in-All.result (g.D.Desk.outside c.args.desk.now) c.in-All.is
-        c.from_residual-in_err-allow-in-All.ensures.1
+    _ c.in_err-allow-in-All.field-0.0 c.check_delivery-in-All.result (g.D.Desk.outside c.args.desk.now) c.in-All.is
+    c.from_residual-in_err-allow-in-All.ensures.1
     c.in_err-allow-in-All.ensures.err c.turning.ensures.lines c.turning.ensures.steps
     (λ trace o s inputs b. c.check_delivery-in-All.ensures.refusal s.params x s.ways (one_left s.params x s.ways) 0
-        b.stood.holds)
+    b.stood.holds)
 
 pub deliver-requires : goal.deliver-requires
 deliver-requires g c = may_so c.check_delivery.result c.in_ok-allow-in-Packet.ensures.ok
@@ -113,12 +113,12 @@ returns-in_ok-allow-in-Packet g c =
     let j = c.in-Packet.place in
     let done = c.deliver in
     delivery_done x c.args.own.now c.args.far.now done.new.own done.new.far said.line (length c.args.frame.now)
-        said.event (says.Packet n j) n j (g.D.Desk.outside c.args.desk.now)
+    said.event (says.Packet n j) n j (g.D.Desk.outside c.args.desk.now)
     c.turning.ensures.turns c.turning.ensures.steps c.turning.ensures.refused c.in-Packet.is c.requires.ready
-        done.ensures.ready done.ensures.keeps
+    done.ensures.ready done.ensures.keeps
     (λ p ways. with_delivery (sides p) x n j ways) (λ s inputs. refl)
     (λ s held. none_so c.check_delivery.result (Deliver n j) _ c.in_ok-allow-in-Packet.ensures.ok
-        (c.check_delivery.ensures.refusal s.params x s.ways (one_left s.params x s.ways) j held))
+    (c.check_delivery.ensures.refusal s.params x s.ways (one_left s.params x s.ways) j held))
     (λ p ways left. done.ensures.holds p x ways left)
 
 pub deliver_all-requires : goal.deliver_all-requires
@@ -132,12 +132,12 @@ returns-in_ok-allow-in-All g c =
     let n = c.in-All.number in
     let done = c.deliver_all in
     delivery_done x c.args.own.now c.args.far.now done.new.own done.new.far said.line (length c.args.frame.now)
-        said.event (says.All n) n 0 (g.D.Desk.outside c.args.desk.now)
+    said.event (says.All n) n 0 (g.D.Desk.outside c.args.desk.now)
     c.turning.ensures.turns c.turning.ensures.steps c.turning.ensures.refused c.in-All.is c.requires.ready
-        done.ensures.ready done.ensures.keeps
+    done.ensures.ready done.ensures.keeps
     (λ p ways. with_whole p x n ways) (λ s inputs. refl)
     (λ s held. none_so c.check_delivery-in-All.result (Deliver n 0) _ c.in_ok-allow-in-All.ensures.ok
-        (c.check_delivery-in-All.ensures.refusal s.params x s.ways (one_left s.params x s.ways) 0 held))
+    (c.check_delivery-in-All.ensures.refusal s.params x s.ways (one_left s.params x s.ways) 0 held))
     (λ p ways left. done.ensures.holds p x ways left)
 
 -- ---- a play
@@ -152,11 +152,11 @@ returns-in_err-allow-in-Play g c =
     let said = c.args.said in
     let x = said.party in
     line_stops x own far said.line (length c.args.frame.now) said.event says.Play _ c.in_err-allow-in-Play.field-0.0
-        c.check_play.result (g.D.Desk.outside c.args.desk.now) c.in-Play.is
-        c.from_residual-in_err-allow-in-Play.ensures.1
+    c.check_play.result (g.D.Desk.outside c.args.desk.now) c.in-Play.is
+    c.from_residual-in_err-allow-in-Play.ensures.1
     c.in_err-allow-in-Play.ensures.err c.turning.ensures.lines c.turning.ensures.steps
     (λ trace o s inputs b. c.check_play.ensures.refusal s.params x far.ends s.ways (one_left s.params x s.ways)
-        b.stood.holds)
+    b.stood.holds)
 
 pub play_next-requires-clause-near : goal.play_next-requires-clause-near
 play_next-requires-clause-near g c = may_so c.check_play.result c.in_ok-allow-in-Play.ensures.ok
@@ -176,15 +176,15 @@ returns-in_err-play_next-in-Play g c =
     let failed = c.in_err-play_next-in-Play in
     event_cut x own far own_new far_new said.line (length c.args.frame.now) said.event says.Play old new c.in-Play.is
     c.from_residual-in_err-play_next-in-Play.result failed.field-0.0 c.from_residual-in_err-play_next-in-Play.ensures.1
-        failed.ensures.kind failed.ensures.cause (c.turning.ensures.steps.writes old new c.play_next.ensures.rest)
+    failed.ensures.kind failed.ensures.cause (c.turning.ensures.steps.writes old new c.play_next.ensures.rest)
     (λ trace o s inputs b.
     let none : refusal_at x s Play ≡ None =
     none_so c.check_play.result Play _ c.in_ok-allow-in-Play.ensures.ok
-        (c.check_play.ensures.refusal s.params x far.ends s.ways (one_left s.params x s.ways) b.stood.holds)
+    (c.check_play.ensures.refusal s.params x far.ends s.ways (one_left s.params x s.ways) b.stood.holds)
     in
     play_cut x own far said.line trace o old s inputs b new c.play_next.ensures.rest.left none
     (failed.ensures.err s.params s.ways (one_left s.params x s.ways) b.stood.holds
-        (may_happen c.turning.ensures.refused s.params x s.ways Play none)))
+    (may_happen c.turning.ensures.refused s.params x s.ways Play none)))
 
 pub returns-in_ok-play_next-in-Play : goal.returns-in_ok-play_next-in-Play
 returns-in_ok-play_next-in-Play g c =
@@ -212,11 +212,11 @@ returns-in_ok-play_next-in-Play g c =
     (λ trace o s inputs b.
     let none : refusal_at x s Play ≡ None =
     none_so c.check_play.result Play _ c.in_ok-allow-in-Play.ensures.ok
-        (c.check_play.ensures.refusal s.params x far.ends s.ways (one_left s.params x s.ways) b.stood.holds)
+    (c.check_play.ensures.refusal s.params x far.ends s.ways (one_left s.params x s.ways) b.stood.holds)
     in
     let may = may_happen c.turning.ensures.refused s.params x s.ways Play none in
     play_goes x own far said.line trace o old s inputs b new done.rest.left none
-        (λ next rest. StationsStand x own_new far_new trace next (rest Events))
+    (λ next rest. StationsStand x own_new far_new trace next (rest Events))
     (stands_event x own far said.line trace o old s inputs b own_new far_new (with_play (sides s.params) x s.ways) refl
-        refl (done.holds s.params x s.ways (one_left s.params x s.ways) b.stood.holds may))
+    refl (done.holds s.params x s.ways (one_left s.params x s.ways) b.stood.holds may))
     (c.in_ok-play_next-in-Play.ensures.ok s.params s.ways (one_left s.params x s.ways) b.stood.holds may))

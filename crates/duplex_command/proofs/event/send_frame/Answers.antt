@@ -34,19 +34,19 @@ returns-in_err-frame g c = λ far room m.
     let stop = c.in_err-frame.field-0.0 in
     let out = c.frame.new.out in
     gave_up x _ far old mid room (λ trace. IsAsked x own far line trace old)
-        (λ s inputs. capture_step Video Pictures VideoRefused x s (inputs Events) (inputs Video))
+    (λ s inputs. capture_step Video Pictures VideoRefused x s (inputs Events) (inputs Video))
     c.from_residual.result (video_stop stop) c.from_residual.ensures.1 (c.turning.ensures.steps.video_stops stop)
     (c.turning.ensures.steps.video_cause stop old.faults mid.faults (λ is. c.in_err-frame.ensures.cause
-        (ap (λ e. Err e) is))) (c.turning.ensures.steps.reads old mid c.frame.ensures.rest)
+    (ap (λ e. Err e) is))) (c.turning.ensures.steps.reads old mid c.frame.ensures.rest)
     (λ trace o s inputs b.
     let taken = b.read.taken in
     let e = gives_so x s (Err stop) own.video c.frame.new.self (inputs Video) out _
-        (own_place x own far line trace o old s inputs b.read)
-        (format_is x own far line trace o old s inputs b.read c.requires.format)
+    (own_place x own far line trace o old s inputs b.read)
+    (format_is x own far line trace o old s inputs b.read c.requires.format)
     (c.in_err-frame.ensures.gives (inputs Video) (taken.left Video refl))
     in
     frame_stops x s c.turning.ensures.turns c.turning.ensures.lines c.turning.ensures.video inputs o old mid taken
-        c.frame.ensures.others c.frame.ensures.rest.written c.frame.new.self out stop e)
+    c.frame.ensures.others c.frame.ensures.rest.written c.frame.new.self out stop e)
 
 pub returns-then-not-branch : goal.returns-then-not-branch
 returns-then-not-branch g c = λ far room m.
@@ -59,24 +59,24 @@ returns-then-not-branch g c = λ far room m.
     let out = c.frame.new.out in
     let status = TraceRefused (NoFrame line) in
     gave_up x _ far old mid room (λ trace. IsAsked x own far line trace old)
-        (λ s inputs. capture_step Video Pictures VideoRefused x s (inputs Events) (inputs Video))
+    (λ s inputs. capture_step Video Pictures VideoRefused x s (inputs Events) (inputs Video))
     (Err status) status refl tt tt (c.turning.ensures.steps.reads old mid c.frame.ensures.rest)
     (λ trace o s inputs b.
     let taken = b.read.taken in
     let e = gives_so x s (Ok false) own.video c.frame.new.self (inputs Video) out _
-        (own_place x own far line trace o old s inputs b.read)
-        (format_is x own far line trace o old s inputs b.read c.requires.format)
+    (own_place x own far line trace o old s inputs b.read)
+    (format_is x own far line trace o old s inputs b.read c.requires.format)
     (given (Ok c.in_ok-frame.field-0) (Ok false) own.video c.frame.new.self (inputs Video) out _
-        (ap (λ (b : Bool). Ok b) c.if-not-branch.true) (c.in_ok-frame.ensures.gives (inputs Video)
-        (taken.left Video refl)))
+    (ap (λ (b : Bool). Ok b) c.if-not-branch.true) (c.in_ok-frame.ensures.gives (inputs Video)
+    (taken.left Video refl)))
     in
     frame_missing x s c.turning.ensures.turns c.turning.ensures.lines c.turning.ensures.video inputs o old mid taken
-        c.frame.ensures.others c.frame.ensures.rest.written c.frame.new.self out line b.read.number e)
+    c.frame.ensures.others c.frame.ensures.rest.written c.frame.new.self out line b.read.number e)
 
 pub send-requires-clause-left : goal.send-requires-clause-left
 send-requires-clause-left g c =
     let moves = subst (λ (b : Bool). Moves (Ok b) c.args.own.now.video c.frame.new.self) c.if-not-branch.false
-        c.in_ok-frame.ensures.moves in
+    c.in_ok-frame.ensures.moves in
     omega (arith, moves.1, c.requires.sent)
 
 pub returns : goal.returns
@@ -91,13 +91,13 @@ returns g c = λ far room m.
     let send = c.send in
     let ends = send.new.self in
     let moves = subst (λ (b : Bool). Moves (Ok b) own.video c.frame.new.self) c.if-not-branch.false
-        c.in_ok-frame.ensures.moves in
+    c.in_ok-frame.ensures.moves in
     let own_new : Station = record { video = c.frame.new.self; ends = ends } in
     let shown = picture c.new-picture.result in
     let laws = c.turning.ensures.refused in
     let same = ap (λ (p : Params). p.format) send.ensures.params in
     went_on x own_new far old mid room (λ trace. IsAsked x own far line trace old)
-        (λ s inputs. capture_step Video Pictures VideoRefused x s (inputs Events) (inputs Video))
+    (λ s inputs. capture_step Video Pictures VideoRefused x s (inputs Events) (inputs Video))
     (record {
       own_ready = record {
         format = moves.0 ∙ c.requires.format ∙ sym same;
@@ -112,21 +112,21 @@ returns g c = λ far room m.
     let taken = b.read.taken in
     let form = format_is x own far line trace o old s inputs b.read c.requires.format in
     let e = gives_so x s (Ok true) own.video c.frame.new.self (inputs Video) out _
-        (own_place x own far line trace o old s inputs b.read) form
+    (own_place x own far line trace o old s inputs b.read) form
     (given (Ok c.in_ok-frame.field-0) (Ok true) own.video c.frame.new.self (inputs Video) out _
-        (ap (λ (b : Bool). Ok b) c.if-not-branch.false) (c.in_ok-frame.ensures.gives (inputs Video)
-        (taken.left Video refl)))
+    (ap (λ (b : Bool). Ok b) c.if-not-branch.false) (c.in_ok-frame.ensures.gives (inputs Video)
+    (taken.left Video refl)))
     in
     let picture_is : shown ≡ picture_of (s.params x).format out = c.new-picture.ensures.picture
-        ∙ ap (λ f. picture_of f out) (sym c.requires.format ∙ form) in
+    ∙ ap (λ f. picture_of f out) (sym c.requires.format ∙ form) in
     let holds : HoldsPair s.params x ends far.ends (with_capture (sides s.params) x (picture_of (s.params x).format out)
-        s.ways) =
+    s.ways) =
     subst (λ (q : Picture). HoldsPair s.params x ends far.ends (with_capture (sides s.params) x q s.ways)) picture_is
     (send.ensures.holds s.params x far.ends s.ways (one_left s.params x s.ways) b.read.stood.holds
-        (may_happen laws s.params x s.ways Send b.none))
+    (may_happen laws s.params x s.ways Send b.none))
     in
     frame_sent x s c.turning.ensures.turns c.turning.ensures.lines c.turning.ensures.video inputs o old mid taken
-        c.frame.ensures.others c.frame.ensures.rest.written c.frame.new.self out e
+    c.frame.ensures.others c.frame.ensures.rest.written c.frame.new.self out e
     (λ next rest. StationsStand x own_new far trace next (rest Events))
     (stands_sent x own far line trace o old s inputs b.read own_new _ out e.2 (moves.1
-        ∙ sym (ap (λ p. p.more) (own_place x own far line trace o old s inputs b.read))) holds))
+    ∙ sym (ap (λ p. p.more) (own_place x own far line trace o old s inputs b.read))) holds))

@@ -14,10 +14,10 @@ returns-clause-ok g c =
     let now : c.put_head.new.desk.desk.now ≡ c.desk-1.given.0 = search rules in
     subst (λ d. OnOk c.put_head.result (Gains told (outside c.args.desk.now).written (outside d).written)) now
     (subst (λ d. OnOk c.put_head.result (Gains told (outside d).written (outside c.put_head.new.desk.desk.now).written))
-        c.new-second.ensures.lent
+    c.new-second.ensures.lent
     (gains_at_second c.new-second.result.desk.ghost_name c.put_head.new.desk.desk.ghost_name
-        (outside c.new-second.result.desk.now) (outside c.put_head.new.desk.desk.now) c.put_head.result
-        (head_text c.args.format) c.put_head.ensures.ok))
+    (outside c.new-second.result.desk.now) (outside c.put_head.new.desk.desk.now) c.put_head.result
+    (head_text c.args.format) c.put_head.ensures.ok))
 
 pub returns-clause-err : goal.returns-clause-err
 returns-clause-err g c =
@@ -26,10 +26,10 @@ returns-clause-err g c =
     let now : c.put_head.new.desk.desk.now ≡ c.desk-1.given.0 = search rules in
     subst (λ d. OnErr c.put_head.result (GainsFronts told (outside c.args.desk.now).written (outside d).written)) now
     (subst (λ d. OnErr c.put_head.result (GainsFronts told (outside d).written
-        (outside c.put_head.new.desk.desk.now).written)) c.new-second.ensures.lent
+    (outside c.put_head.new.desk.desk.now).written)) c.new-second.ensures.lent
     (fronts_at_second c.new-second.result.desk.ghost_name c.put_head.new.desk.desk.ghost_name
-        (outside c.new-second.result.desk.now) (outside c.put_head.new.desk.desk.now) c.put_head.result
-        (head_text c.args.format) c.put_head.ensures.err))
+    (outside c.new-second.result.desk.now) (outside c.put_head.new.desk.desk.now) c.put_head.result
+    (head_text c.args.format) c.put_head.ensures.err))
 
 pub returns-clause-rest : goal.returns-clause-rest
 returns-clause-rest g c =
@@ -38,4 +38,4 @@ returns-clause-rest g c =
     subst (λ d. OnlyWrites (outside c.args.desk.now) (outside d)) now
     (subst (λ d. OnlyWrites (outside d) (outside c.put_head.new.desk.desk.now)) c.new-second.ensures.lent
     (writes_at_second c.new-second.result.desk.ghost_name c.put_head.new.desk.desk.ghost_name
-        (outside c.new-second.result.desk.now) (outside c.put_head.new.desk.desk.now) c.put_head.ensures.rest))
+    (outside c.new-second.result.desk.now) (outside c.put_head.new.desk.desk.now) c.put_head.ensures.rest))

@@ -16,9 +16,9 @@ returns-in_err-a-clause-stops g c = λ p inputs told.
     let old = outside c.args.desk.now in
     let mid = outside c.head.new.desk in
     stops_so c.from_residual.result (video_stop c.in_err-a.field-0.0) (duplex_begin p inputs) inputs old mid
-        c.from_residual.ensures.1
+    c.from_residual.ensures.1
     (first_stops c.turn_laws.ensures c.cut_after.ensures.head inputs old mid told c.head.ensures.others
-        c.head.ensures.rest.written p c.in_err-a.field-0.0
+    c.head.ensures.rest.written p c.in_err-a.field-0.0
     (c.in_err-a.ensures.gives (inputs Video) (told Video refl)))
 
 pub returns-in-Ok-clause-reads : goal.returns-in-Ok-clause-reads
@@ -27,12 +27,12 @@ returns-in-Ok-clause-reads g c = λ inputs told.
     let old = outside c.args.desk.now in
     let mid = outside c.head.new.desk in
     let there = still_there c.turn_laws.ensures c.cut_after.ensures.head inputs old mid told c.head.ensures.others
-        c.head.ensures.rest.written in
+    c.head.ensures.rest.written in
     let heads : Heads = record { a = c.in_ok-a.a; b = c.in-Ok.b } in
     both_read c.turn_laws.ensures c.cut_after.ensures.head inputs old mid told c.head.ensures.others
-        c.head.ensures.rest.written
+    c.head.ensures.rest.written
     c.in_ok-a.a (c.in_ok-a.ensures.gives (inputs Video) (told Video refl)) (outside c.second_head.new.desk)
-        c.second_head.ensures.others c.second_head.ensures.rest.written
+    c.second_head.ensures.others c.second_head.ensures.rest.written
     heads refl (c.in-Ok.ensures.gives (inputs Video2) there)
 
 pub returns-in-Err-Read-clause-stops : goal.returns-in-Err-Read-clause-stops
@@ -41,11 +41,11 @@ returns-in-Err-Read-clause-stops g c = λ p inputs told.
     let old = outside c.args.desk.now in
     let mid = outside c.head.new.desk in
     let there = still_there c.turn_laws.ensures c.cut_after.ensures.head inputs old mid told c.head.ensures.others
-        c.head.ensures.rest.written in
+    c.head.ensures.rest.written in
     second_lost c.turn_laws.ensures c.cut_after.ensures.head inputs old mid told c.head.ensures.others
-        c.head.ensures.rest.written
+    c.head.ensures.rest.written
     c.in_ok-a.a (c.in_ok-a.ensures.gives (inputs Video) (told Video refl)) (outside c.second_head.new.desk)
-        c.second_head.ensures.others c.second_head.ensures.rest.written
+    c.second_head.ensures.others c.second_head.ensures.rest.written
     p _ c.in-Err-Read.field-0-is (c.in-Err-Read.ensures.gives (inputs Video2) there)
 
 pub returns-in-Err-Refused-clause-stops : goal.returns-in-Err-Refused-clause-stops
@@ -54,11 +54,11 @@ returns-in-Err-Refused-clause-stops g c = λ p inputs told.
     let old = outside c.args.desk.now in
     let mid = outside c.head.new.desk in
     let there = still_there c.turn_laws.ensures c.cut_after.ensures.head inputs old mid told c.head.ensures.others
-        c.head.ensures.rest.written in
+    c.head.ensures.rest.written in
     subst (λ (f : Y4mFault). Ended (duplex_begin p inputs) (Video2Refused f) inputs old
-        (outside c.second_head.new.desk)) (sym c.in-Err-Refused.fault-is)
+    (outside c.second_head.new.desk)) (sym c.in-Err-Refused.fault-is)
     (second_refused c.turn_laws.ensures c.cut_after.ensures.head inputs old mid told c.head.ensures.others
-        c.head.ensures.rest.written
+    c.head.ensures.rest.written
     c.in_ok-a.a (c.in_ok-a.ensures.gives (inputs Video) (told Video refl)) (outside c.second_head.new.desk)
-        c.second_head.ensures.others c.second_head.ensures.rest.written
+    c.second_head.ensures.others c.second_head.ensures.rest.written
     p _ c.in-Err-Refused.fault c.in-Err-Refused.field-0-is (c.in-Err-Refused.ensures.gives (inputs Video2) there))

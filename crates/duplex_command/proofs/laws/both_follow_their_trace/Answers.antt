@@ -31,15 +31,15 @@ returns-clause-trace c = λ p inputs f g first second.
     })
     c.frame_by_frame.ensures
     (λ past near x. c.what_arrived_is_shown.ensures (q x) (way x (ways_of q captures past)).frames
-        (way x (ways_of q captures past)).past (c.each_way_is_near.ensures (sides q) captures past near x))
+    (way x (ways_of q captures past)).past (c.each_way_is_near.ensures (sides q) captures past near x))
     first second
 
 pub returns-clause-no_first_head : goal.returns-clause-no_first_head
 returns-clause-no_first_head c = λ p inputs fault first.
     subst
     (λ (a : Result Format Y4mFault). IsRefusedAtOnce (VideoRefused fault) Video2 0
-        (follow (heads_step p inputs a (head_of (inputs Video2))) (λ next taken. run_of duplex_step 16777216 next
-        (left_after inputs taken))))
+    (follow (heads_step p inputs a (head_of (inputs Video2))) (λ next taken. run_of duplex_step 16777216 next
+    (left_after inputs taken))))
     (sym first)
     (record { turns = refl; because = refl; silent = λ role. refl; left = refl })
 
@@ -47,12 +47,12 @@ pub returns-clause-no_second_head : goal.returns-clause-no_second_head
 returns-clause-no_second_head c = λ p inputs f fault first second.
     subst
     (λ (a : Result Format Y4mFault). IsRefusedAtOnce (Video2Refused fault) Video (head_size (inputs Video))
-        (follow (heads_step p inputs a (head_of (inputs Video2))) (λ next taken. run_of duplex_step 16777216 next
-        (left_after inputs taken))))
+    (follow (heads_step p inputs a (head_of (inputs Video2))) (λ next taken. run_of duplex_step 16777216 next
+    (left_after inputs taken))))
     (sym first)
     (subst
     (λ (b : Result Format Y4mFault). IsRefusedAtOnce (Video2Refused fault) Video (head_size (inputs Video))
-        (follow (heads_step p inputs (Ok f) b) (λ next taken. run_of duplex_step 16777216 next
-        (left_after inputs taken))))
+    (follow (heads_step p inputs (Ok f) b) (λ next taken. run_of duplex_step 16777216 next
+    (left_after inputs taken))))
     (sym second)
     (record { turns = refl; because = refl; silent = λ role. refl; left = refl }))

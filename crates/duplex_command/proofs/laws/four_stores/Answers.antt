@@ -13,5 +13,8 @@ steady_is p is sizes few = (omega (arith, is.quant_low), omega (arith, is.quant_
 pub returns : goal.returns
 returns c = λ p captures past in_range near x.
     c.four_stores.ensures (sides p) captures past
-    (λ y. record { coding = c.is_coding.ensures (p y) (in_range y); rules = c.are_rules.ensures (p y) (in_range y);
-        pace = steady_is (p y) (in_range y) }) near x
+    (λ y. record {
+      coding = c.is_coding.ensures (p y) (in_range y);
+      rules = c.are_rules.ensures (p y) (in_range y);
+      pace = steady_is (p y) (in_range y);
+    }) near x

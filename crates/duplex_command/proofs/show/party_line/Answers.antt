@@ -11,4 +11,4 @@ returns c = λ p x far ways h.
     let played = c.played.ensures ∙ laws.played x own far ways h in
     let tally = c.tally.ensures p x far ways h in
     c.counts_line.ensures ∙ (λ i. counts_text_of word (played i) (sent i) (tally.exact i) (tally.patched i)
-        (tally.held i))
+    (tally.held i))

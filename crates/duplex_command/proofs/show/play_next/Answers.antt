@@ -16,14 +16,14 @@ returns-clause-ok g c = λ p ways left holds may.
     let far = c.args.far.now in
     let after = c.play-played.ensures.holds p x ways left holds may in
     let row = row_is p x ways (c.after_a_play.ensures p x ways) c.play-played.result.number c.play-played.result.mark
-        c.reference_of_next-reference.result (picture c.shown.result)
+    c.reference_of_next-reference.result (picture c.shown.result)
     (c.play-played.ensures.number ∙ (c.pair_laws.ensures p).played x own far ways holds)
-        (c.play-played.ensures.mark p x ways left holds may)
+    (c.play-played.ensures.mark p x ways left holds may)
     (c.reference_of_next-reference.ensures p x far ways left holds may)
     (c.shown.ensures.holds p x c.play-played.new.far (with_play (sides p) x ways) after)
     in
     on_ok_weaker c.show.result (λ gains. subst (λ (t : Role → List ℕ). Gains t (outside c.args.desk.now).written
-        (outside c.show.new.desk).written) row gains) c.show.ensures.ok
+    (outside c.show.new.desk).written) row gains) c.show.ensures.ok
 
 pub returns-clause-err : goal.returns-clause-err
 returns-clause-err g c = λ p ways left holds may.
@@ -33,11 +33,11 @@ returns-clause-err g c = λ p ways left holds may.
     let far = c.args.far.now in
     let after = c.play-played.ensures.holds p x ways left holds may in
     let row = row_is p x ways (c.after_a_play.ensures p x ways) c.play-played.result.number c.play-played.result.mark
-        c.reference_of_next-reference.result (picture c.shown.result)
+    c.reference_of_next-reference.result (picture c.shown.result)
     (c.play-played.ensures.number ∙ (c.pair_laws.ensures p).played x own far ways holds)
-        (c.play-played.ensures.mark p x ways left holds may)
+    (c.play-played.ensures.mark p x ways left holds may)
     (c.reference_of_next-reference.ensures p x far ways left holds may)
     (c.shown.ensures.holds p x c.play-played.new.far (with_play (sides p) x ways) after)
     in
     on_err_weaker c.show.result (λ gains. subst (λ (t : Role → List ℕ). GainsFronts t (outside c.args.desk.now).written
-        (outside c.show.new.desk).written) row gains) c.show.ensures.err
+    (outside c.show.new.desk).written) row gains) c.show.ensures.err

@@ -20,10 +20,10 @@ returns-clause-ok g c =
     on_ok_weaker c.put_line.result
     (both_gain c.turn_laws.ensures row (picture c.args.picture)
     (outside c.args.desk.now).written (outside c.put_picture.new.desk).written (outside c.put_line.new.desk).written
-        (text_of c.picture_line-line.result)
+    (text_of c.picture_line-line.result)
     (c.picture_line-line.ensures
-        ∙ ap (λ (l : ℕ). picture_text row.number (Some row.mark) (Some row.reference) (Some l))
-        c.letter-letter.ensures.value) c.in_ok-put_picture.ensures.ok)
+    ∙ ap (λ (l : ℕ). picture_text row.number (Some row.mark) (Some row.reference) (Some l))
+    c.letter-letter.ensures.value) c.in_ok-put_picture.ensures.ok)
     c.put_line.ensures.ok
 
 pub returns-clause-err : goal.returns-clause-err
@@ -33,8 +33,8 @@ returns-clause-err g c =
     on_err_weaker c.put_line.result
     (second_front c.turn_laws.ensures row (picture c.args.picture)
     (outside c.args.desk.now).written (outside c.put_picture.new.desk).written (outside c.put_line.new.desk).written
-        (text_of c.picture_line-line.result)
+    (text_of c.picture_line-line.result)
     (c.picture_line-line.ensures
-        ∙ ap (λ (l : ℕ). picture_text row.number (Some row.mark) (Some row.reference) (Some l))
-        c.letter-letter.ensures.value) c.in_ok-put_picture.ensures.ok)
+    ∙ ap (λ (l : ℕ). picture_text row.number (Some row.mark) (Some row.reference) (Some l))
+    c.letter-letter.ensures.value) c.in_ok-put_picture.ensures.ok)
     c.put_line.ensures.err

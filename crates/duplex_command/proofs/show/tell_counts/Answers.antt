@@ -11,9 +11,9 @@ returns-in_err-put_line-clause-err g c = λ p ways h.
     let outside = g.D.Desk.outside in
     on_err c.from_residual.result
     (lines_cut c.turn_laws.ensures (counts_of A p ways) (counts_of B p ways) (text_of c.party_line.result)
-        (counts_of B p ways) (c.party_line.ensures p A c.args.b.now ways h) refl
+    (counts_of B p ways) (c.party_line.ensures p A c.args.b.now ways h) refl
     (outside c.args.desk.now).written (outside c.put_line.new.desk).written (outside c.put_line.new.desk).written
-        c.in_err-put_line.ensures.err)
+    c.in_err-put_line.ensures.err)
 
 pub returns-clause-ok : goal.returns-clause-ok
 returns-clause-ok g c = λ p ways h.
@@ -22,10 +22,10 @@ returns-clause-ok g c = λ p ways h.
     let b = c.args.b.now in
     on_ok_weaker c.put_line-2.result
     (lines_gain c.turn_laws.ensures (counts_of A p ways) (counts_of B p ways) (text_of c.party_line.result)
-        (text_of c.party_line-2.result) (c.party_line.ensures p A b ways h)
+    (text_of c.party_line-2.result) (c.party_line.ensures p A b ways h)
     (c.party_line-2.ensures p B a ways ((c.pair_laws.ensures p).exchanged A a b ways h))
     (outside c.args.desk.now).written (outside c.put_line.new.desk).written (outside c.put_line-2.new.desk).written
-        c.in_ok-put_line.ensures.ok)
+    c.in_ok-put_line.ensures.ok)
     c.put_line-2.ensures.ok
 
 pub returns-clause-err : goal.returns-clause-err
@@ -35,8 +35,8 @@ returns-clause-err g c = λ p ways h.
     let b = c.args.b.now in
     on_err_weaker c.put_line-2.result
     (lines_front c.turn_laws.ensures (counts_of A p ways) (counts_of B p ways) (text_of c.party_line.result)
-        (text_of c.party_line-2.result) (c.party_line.ensures p A b ways h)
+    (text_of c.party_line-2.result) (c.party_line.ensures p A b ways h)
     (c.party_line-2.ensures p B a ways ((c.pair_laws.ensures p).exchanged A a b ways h))
     (outside c.args.desk.now).written (outside c.put_line.new.desk).written (outside c.put_line-2.new.desk).written
-        c.in_ok-put_line.ensures.ok)
+    c.in_ok-put_line.ensures.ok)
     c.put_line-2.ensures.err

@@ -26,8 +26,13 @@ header-init c = record {
   sent = refl;
   pace = refl;
   ready = λ way can. can;
-  holds = λ p way receiver frames past ks paced h may. record { past = past; left = ks; holds = h; may = may;
-      same = refl };
+  holds = λ p way receiver frames past ks paced h may. record {
+    past = past;
+    left = ks;
+    holds = h;
+    may = may;
+    same = refl;
+  };
 }
 
 pub bring_place-requires : goal.bring_place-requires
@@ -52,17 +57,17 @@ header-preserved c =
       ready = λ way can. now.ready way (old.ready way can);
       holds = λ p way receiver frames past ks paced h may.
           now.holds p way receiver frames (brought ks past) (drop (i + 1) c.args.header.now)
-              (ap (λ (pace : FixedPace). pace.quant) old.pace ∙ paced)
+          (ap (λ (pace : FixedPace). pace.quant) old.pace ∙ paced)
           (subst (λ (l : List (Option Carried)). IsReturning p way c.header.sender receiver frames (brought ks past)
-              (carried_in l)) next
+          (carried_in l)) next
           (old.holds p way receiver frames past ks paced h may));
     }
 
 pub returns-clause-holds : goal.returns-clause-holds
 returns-clause-holds c = λ p way receiver frames past ks paced h may.
     let none : drop c.header.place-index c.args.header.now ≡ [] = drop_all c.header.place-index c.args.header.now
-        (omega (arith, c.header-test.false)) in
+    (omega (arith, c.header-test.false)) in
     all_back p (c.event_laws.ensures p) way receiver frames c.header.sender (brought ks past)
     (subst (λ (l : List (Option Carried)). IsReturning p way c.header.sender receiver frames (brought ks past)
-        (carried_in l)) none
+    (carried_in l)) none
     (c.header.invariant.holds p way receiver frames past ks paced h may))

@@ -20,15 +20,15 @@ returns-clause-refusal c = λ p x far ways left h.
     let seen = in_call (call_in p x ways) in
     let same = c.ends_agree.ensures (p x) w.frames w.past (h.in_range x) one.done.near in
     subst (λ (o : Option call.Refusal). IsAllowed c.check_play.result Play o)
-        (any_play (rules_of (p x)) (length seen.coded) seen.played seen.abouts (length seen.coded + 1) left)
+    (any_play (rules_of (p x)) (length seen.coded) seen.played seen.abouts (length seen.coded + 1) left)
     (subst (λ (seen : Seen). IsAllowed c.check_play.result Play (first_refusal (rules_of (p x)) (length seen.coded + 1)
-        (length seen.coded) seen.played seen.abouts Play)) same
+    (length seen.coded) seen.played seen.abouts Play)) same
     (c.check_play.ensures.refusal (p x) [] w.frames w.past one.done.joined))
 
 pub returns-clause-may : goal.returns-clause-may
 returns-clause-may c = λ far e.
     may_of (MayHappenNow c.args.own.now far Play) c.check_play.result Play
-        (refusal_of (sides e.params) 0 e.party Play e.ways)
+    (refusal_of (sides e.params) 0 e.party Play e.ways)
     (returns-clause-refusal c e.params e.party far e.ways 0 e.holds)
     (λ none. record {
       params = e.params;

@@ -20,14 +20,14 @@ returns-clause-refusal c = λ p x far ways h.
     let same = c.ends_agree.ensures (p x) w.frames w.past (h.in_range x) one.done.near in
     let half : c.half.result ≡ half_of (p x).clock = c.half.ensures ∙ ap (λ (q : Params). half_of q.clock) one.params in
     subst (λ (seen : Seen). IsAllowed c.check_capture.result Send
-        (first_refusal (rules_of (p x)) (length seen.coded + 1) (length seen.coded) seen.played seen.abouts Send)) same
+    (first_refusal (rules_of (p x)) (length seen.coded + 1) (length seen.coded) seen.played seen.abouts Send)) same
     (c.check_capture.ensures (p x) [] w.frames w.past half one.done.joined)
 
 pub returns-clause-may : goal.returns-clause-may
 returns-clause-may c = λ far e.
     let left = length (call_in e.params e.party e.ways).coded + 1 in
     may_of (MayHappenNow c.args.own.now far Send) c.check_capture.result Send
-        (refusal_of (sides e.params) left e.party Send e.ways)
+    (refusal_of (sides e.params) left e.party Send e.ways)
     (returns-clause-refusal c e.params e.party far e.ways e.holds)
     (λ none. record {
       params = e.params;

@@ -22,12 +22,12 @@ returns-then-place-count-clause-holds c = λ p x ways left far h same may.
     let n = c.args.number in
     let own = c.args.own.now in
     let many = count_so (p x) (p (other x)) (h.in_range x) (c.call_laws.ensures (p x) (h.in_range x))
-        (c.near_event_laws.ensures (p x) (h.in_range x)) own w v one left n c.args.place may.0
+    (c.near_event_laws.ensures (p x) (h.in_range x)) own w v one left n c.args.place may.0
     c.count.result (c.count.ensures.slices (p x) own.sender own.far_end [] w.frames w.past one.done)
     in
     let none = brings_none p x w n c.args.place c.count.result many (omega (arith, c.if-place-count.true)) in
     subst (λ (ks : List ℕ). HoldsWay (p (other x)) far.way c.args.sender.now far.far_end [] v.frames
-        (brought ks v.past)) (sym none)
+    (brought ks v.past)) (sym none)
     (subst (λ (s : State). HoldsWay (p (other x)) far.way s far.far_end [] v.frames v.past) same h.far_holds.done)
 
 pub bring_header-requires : goal.bring_header-requires
@@ -40,14 +40,14 @@ bring_header-requires c =
     let h = e.holds.own_holds in
     let sent = h.done.joined in
     let there = header_there (p x) (p (other x)) (e.holds.in_range x) (c.call_laws.ensures (p x) (e.holds.in_range x))
-        (c.near_event_laws.ensures (p x) (e.holds.in_range x))
+    (c.near_event_laws.ensures (p x) (e.holds.in_range x))
     c.args.own.now w v h e.left c.args.number c.args.place e.may.0
     ((c.way_laws.ensures (p x)).sent c.args.own.now.sender c.args.own.now.far_end [] w.frames w.past h.done.joined)
     in
     let messages = slice_index_or h.carries.headers c.args.number [] in
     let is : carried_in c.get-header.result ≡ messages =
     ap (λ (l : List (Option Carried)). carried_in l) (c.get-header.ensures h.carries.headers h.carries.holds there.0
-        there.1) ∙ carried_placed messages (h.carries.few c.args.number)
+    there.1) ∙ carried_placed messages (h.carries.few c.args.number)
     in
     let fit : AreOfClock (p (other x)).clock messages =
     numbered_fit (p (other x)).clock (told_by (p (other x)) v) (slice_index_or w.carried c.args.number []) messages
@@ -55,7 +55,7 @@ bring_header-requires c =
     in
     subst (λ (l : List Carried). AreOfClock c.args.own.now.params.clock l) (sym is)
     (subst (λ (clock : Clock). AreOfClock clock messages) (sym (ap (λ (p : Params). p.clock) h.params
-        ∙ e.holds.clock)) fit)
+    ∙ e.holds.clock)) fit)
 
 pub returns-clause-holds : goal.returns-clause-holds
 returns-clause-holds c = λ p x ways left far h same may.
@@ -79,20 +79,20 @@ returns-clause-holds c = λ p x ways left far h same may.
     let messages = slice_index_or one.carries.headers n [] in
     let is : carried_in c.get-header.result ≡ messages =
     ap (λ (l : List (Option Carried)). carried_in l) (c.get-header.ensures one.carries.headers one.carries.holds there.0
-        there.1) ∙ carried_placed messages (one.carries.few n)
+    there.1) ∙ carried_placed messages (one.carries.few n)
     in
     let ks = slice_index_or w.carried n [] in
     let far_calls = c.call_laws.ensures Q (h.in_range (other x)) in
     let far_nears = c.near_event_laws.ensures Q (h.in_range (other x)) in
     let return = may_return p (other x) (h.in_range (other x)) far_calls far_nears far v two.done ks messages
-        (one.carries.each n) may.1 in
+    (one.carries.each n) may.1 in
     let done : HoldsWay Q far.way c.args.sender.now far.far_end [] v.frames v.past =
-        subst (λ (s : State). HoldsWay Q far.way s far.far_end [] v.frames v.past) same two.done in
+    subst (λ (s : State). HoldsWay Q far.way s far.far_end [] v.frames v.past) same two.done in
     let quant : c.args.sender.now.pace.quant ≡ Q.quant =
     ap (λ (s : State). s.pace.quant) (sym same) ∙ two.can.quant_is
-        ∙ ap (λ (q : Params). q.quant) two.done.joined.sender_params
+    ∙ ap (λ (q : Params). q.quant) two.done.joined.sender_params
     in
     subst (λ (ks : List ℕ). HoldsWay Q far.way c.bring_header.new.sender far.far_end [] v.frames (brought ks v.past))
-        (sym all)
+    (sym all)
     (c.bring_header.ensures.holds Q far.way far.far_end v.frames v.past ks quant done
     (subst (λ (l : List Carried). MayReturnAll Q (both_after Q (steady Q) v.frames [] v.past) ks l) (sym is) return))

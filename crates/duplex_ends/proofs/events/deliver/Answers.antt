@@ -44,23 +44,26 @@ returns-clause-holds c = λ p x ways left h may.
     let before = agrees P Q (h.in_range x) calls nears own w v one left n j may.0 in
     let now = agree P (h.in_range x) calls nears own.way own.sender told.new.receiver next done in
     let more : told_by P next ≡ told_by P w ++ said_as P.clock n told.result =
-        told_more P (c.said_laws.ensures P (h.in_range x)) w (Deliver n j) n told.result _ refl says before now in
+    told_more P (c.said_laws.ensures P (h.in_range x)) w (Deliver n j) n told.result _ refl says before now in
     let same : told_by Q back ≡ told_by Q v ++ [] = told_still Q v ks ∙ sym (append-nil (told_by Q v)) in
     let new_own : PartyEnds = record own { far_end = told.new.receiver } in
     let new_far : PartyEnds = record far { sender = c.bring_carried.new.sender; waiting = c.put_by.new.waiting } in
     let waits : Waits own.waiting (drop w.loaded (told_by Q v) ++ []) =
-        subst (λ (l : List Carried). Waits own.waiting l) (sym (append-nil (drop w.loaded (told_by Q v)))) one.waits in
+    subst (λ (l : List Carried). Waits own.waiting l) (sym (append-nil (drop w.loaded (told_by Q v)))) one.waits in
     let said : Waits c.put_by.new.waiting (drop v.loaded (told_by P w) ++ said_as P.clock n told.result) =
     subst (λ (q : Params). Waits c.put_by.new.waiting (drop v.loaded (told_by P w) ++ said_as q.clock n told.result))
-        one.params (c.put_by.ensures (drop v.loaded (told_by P w)) two.waits)
+    one.params (c.put_by.ensures (drop v.loaded (told_by P w)) two.waits)
     in
     with_both p x new_own new_far ways next back h.in_range h.clock
-    (party_more P Q own w v one new_own (Deliver n j ∷ w.past) back [] refl refl refl refl (omega (arith, one.behind,
-        told.ensures.played)) (one.counted ∙ sym told.ensures.played) done one.can same waits)
+    (party_more P Q own w v one new_own (Deliver n j ∷ w.past) back [] refl refl refl refl (omega (
+      arith,
+      one.behind,
+      told.ensures.played,
+    )) (one.counted ∙ sym told.ensures.played) done one.can same waits)
     (party_more Q P far v w two new_far (brought ks v.past) next (said_as P.clock n told.result) refl refl
-        refl c.bring_carried.ensures.sent two.behind two.counted
+    refl c.bring_carried.ensures.sent two.behind two.counted
     (c.bring_carried.ensures.holds p x ways left far h refl may) (c.bring_carried.ensures.ready far.way two.can) more
-        said)
+    said)
 
 pub returns-clause-ready : goal.returns-clause-ready
 returns-clause-ready c =

@@ -9,8 +9,12 @@ use Rattle.duplex_ends.proofs.events.deliver_all.Goals as goal
 
 pub packets-init : goal.packets-init
 packets-init c = record {
-  ready = record { params = c.requires.params; party = c.requires.party; ways = c.requires.ways;
-      holds = c.requires.holds };
+  ready = record {
+    params = c.requires.params;
+    party = c.requires.party;
+    ways = c.requires.ways;
+    holds = c.requires.holds;
+  };
   keeps = record {
     own_params = refl;
     far_params = refl;
@@ -56,7 +60,7 @@ packets-preserved c =
       holds = λ p x ways left h may.
           subst (λ (k : ℕ). HoldsPair p x c.deliver.new.own c.deliver.new.far (with_places p x n k ways)) next
           (now.holds p x (with_places p x n i ways) left (old.holds p x ways left h may)
-              (may_places p x ways left n i 0 i may));
+          (may_places p x ways left n i 0 i may));
     }
 
 pub returns-clause-holds : goal.returns-clause-holds
@@ -66,11 +70,11 @@ returns-clause-holds c = λ p x ways left h may.
     let one = h.own_holds in
     let own = c.args.own.now in
     let many = count_so (p x) (p (other x)) (h.in_range x) (c.call_laws.ensures (p x) (h.in_range x))
-        (c.near_event_laws.ensures (p x) (h.in_range x)) own w (way (other x) ways) one left n 0 may.0
+    (c.near_event_laws.ensures (p x) (h.in_range x)) own w (way (other x) ways) one left n 0 may.0
     c.count-count.result (c.count-count.ensures.slices (p x) own.sender own.far_end [] w.frames w.past one.done)
     in
     let all : c.packets.place ≡ length (slices_at (call_in p x ways).coded n) =
     omega (arith, c.packets-test.false, c.packets.auto.place-end, many)
     in
     subst (λ (k : ℕ). HoldsPair p x c.packets.own c.packets.far (with_places p x n k ways)) all
-        (c.packets.invariant.holds p x ways left h may)
+    (c.packets.invariant.holds p x ways left h may)

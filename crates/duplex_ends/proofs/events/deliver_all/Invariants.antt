@@ -16,5 +16,5 @@ invariant-packets l = record {
   keeps : KeepsInDelivery l.fn.own l.fn.far l.own l.far;
   holds : (p : Party → Params) (x : Party) (ways : WayRuns Frame) (left : ℕ) → HoldsPair p x l.fn.own l.fn.far ways
       → MayHappenOf (sides p) left x (Deliver l.number 0) ways
-          → HoldsPair p x l.own l.far (with_places p x l.number l.place ways);
+      → HoldsPair p x l.own l.far (with_places p x l.number l.place ways);
 }

@@ -46,9 +46,9 @@ returns-clause-mark c = λ p x ways left h may.
     let next : WayRun Frame = record w { past = Play ∷ w.past } in
     let done = c.play-played.ensures.holds P own.sender [] w.frames w.past h.own_holds.done near in
     let now = agree P (h.in_range x) calls nears c.play-played.new.self own.sender c.play-played.new.receiver next done
-        in
+    in
     c.play-played.ensures.mark P own.sender [] w.frames w.past h.own_holds.done
-        ∙ ap mark_of (first_mark _ _ _ _ now.plays)
+    ∙ ap mark_of (first_mark _ _ _ _ now.plays)
   where
     first_mark : (a b : Shown Picture) (l m : List (Shown Picture)) → a ∷ l ≡ b ∷ m → a.mark ≡ b.mark
     first_mark a b l m is = let same : a ≡ b = cc is in ap (λ (s : Shown Picture). s.mark) same
@@ -74,16 +74,16 @@ returns-clause-holds c = λ p x ways left h may.
     let now = agree P (h.in_range x) calls nears told.new.self own.sender told.new.receiver next done in
     let n = own.far_end.played in
     let more : told_by P next ≡ told_by P w ++ said_as P.clock n told.result.message =
-        told_more P (c.said_laws.ensures P (h.in_range x)) w Play n told.result.message _ refl says before now in
+    told_more P (c.said_laws.ensures P (h.in_range x)) w Play n told.result.message _ refl says before now in
     let new_own : PartyEnds = record own { way = told.new.self; far_end = told.new.receiver } in
     let new_far : PartyEnds = record far { waiting = c.put_by.new.waiting } in
     let waits : Waits own.waiting (drop w.loaded (told_by Q v) ++ []) =
-        subst (λ (l : List Carried). Waits own.waiting l) (sym (append-nil (drop w.loaded (told_by Q v)))) one.waits in
+    subst (λ (l : List Carried). Waits own.waiting l) (sym (append-nil (drop w.loaded (told_by Q v)))) one.waits in
     let said : Waits c.put_by.new.waiting (drop v.loaded (told_by P w) ++ said_as P.clock n told.result.message) =
     subst (λ (k : ℕ). Waits c.put_by.new.waiting (drop v.loaded (told_by P w) ++ said_as P.clock k told.result.message))
-        c.play-played.ensures.number
+    c.play-played.ensures.number
     (subst (λ (q : Params). Waits c.put_by.new.waiting (drop v.loaded (told_by P w)
-        ++ said_as q.clock c.play-played.result.number told.result.message)) one.params
+    ++ said_as q.clock c.play-played.result.number told.result.message)) one.params
     (c.put_by.ensures (drop v.loaded (told_by P w)) two.waits))
     in
     let laws = c.pair_laws.ensures p in
@@ -91,8 +91,12 @@ returns-clause-holds c = λ p x ways left h may.
     let played = laws.played x own far ways h in
     with_one p x new_own new_far ways next h.in_range h.clock
     (party_more P Q own w v one new_own (Play ∷ w.past) v [] refl refl told.ensures.way.kept refl
-    (omega (arith, may, sent, played, told.ensures.played)) (omega (arith, told.ensures.counted, told.ensures.played,
-        one.counted)) done (told.ensures.way.can own.sender one.can) (sym (append-nil (told_by Q v))) waits)
+    (omega (arith, may, sent, played, told.ensures.played)) (omega (
+      arith,
+      told.ensures.counted,
+      told.ensures.played,
+      one.counted,
+    )) done (told.ensures.way.can own.sender one.can) (sym (append-nil (told_by Q v))) waits)
     (party_waits Q P far v w two c.put_by.new.waiting next (said_as P.clock n told.result.message) more said)
 
 pub returns-clause-ready : goal.returns-clause-ready

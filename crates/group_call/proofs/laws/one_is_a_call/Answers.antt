@@ -7,4 +7,4 @@ use Rattle.group_call.proofs.laws.one_is_a_call.Goals as goal
 pub returns : goal.returns
 returns c = λ p frames past.
     is_the_call p frames (c.ends_run.ensures p) (c.one_is_a_sender.ensures (pictures p.format) (encoding p)
-        (rules_of p)) past
+    (rules_of p)) past

@@ -24,7 +24,7 @@ returns c = λ p in_range k before lived frame quant count there new ranged are 
     let blank = capture (pictures_of coding_of) (encoding p) quant frame [] None in
     let source = lived_source 0 blank coded in
     let law = c.group.ensures coding_of rules (c.is_coding.ensures p in_range) (c.are_rules.ensures p in_range) k before
-        lived frame quant count there ranged in
+    lived frame quant count there ranged in
     let follows : FollowsTheGroup coding_of rules 0 count source coded (lived_events 0 lived) =
     subst (λ (j : ℕ). AreLived coding_of rules k j (lived_source j blank coded) lived
     → AllMayHappenFrom (pictures_of coding_of) rules (lived_source j blank coded) count (lived_events j lived)

@@ -13,9 +13,12 @@ returns-then-played-half c = λ p run view half cast h.
     let abouts = map (λ (told : SaidMessage). told.about) view.told in
     let sent : c.sent-sent.result ≡ length run.coded = c.sent-sent.ensures.run p run cast in
     let plays : c.played-played.result ≡ played = c.played-played.ensures.view p view h in
-    let far : played + (rules_of p).half ≤ length run.coded = omega (arith, half, c.if-played-half.true, sent, plays) in
-    (Far (length run.coded) played, next_far (rules_of p) (length run.coded) played abouts far,
-        λ i. told.Far (sent i) (plays i))
+    let far : played + (rules_of p).half ≤ length run.coded =
+    omega (arith, half, c.if-played-half.true, sent, plays) in (
+      Far (length run.coded) played,
+      next_far (rules_of p) (length run.coded) played abouts far,
+      λ i. told.Far (sent i) (plays i),
+    )
 
 pub returns : goal.returns
 returns c = λ p run view half cast h.
@@ -23,6 +26,11 @@ returns c = λ p run view half cast h.
     let abouts = map (λ (told : SaidMessage). told.about) view.told in
     let sent : c.sent-sent.result ≡ length run.coded = c.sent-sent.ensures.run p run cast in
     let plays : c.played-played.result ≡ played = c.played-played.ensures.view p view h in
-    let near : length run.coded < played + (rules_of p).half = omega (arith, half, c.if-played-half.false, sent,
-        plays) in
+    let near : length run.coded < played + (rules_of p).half = omega (
+      arith,
+      half,
+      c.if-played-half.false,
+      sent,
+      plays,
+    ) in
     next_near (rules_of p) (length run.coded) played abouts (omega arith) near

@@ -22,9 +22,11 @@ returns-then-number-half-clause-refusal c = λ p run view place half cast h.
     let sent : c.sent-sent.result ≡ length run.coded = c.sent-sent.ensures.run p run cast in
     let plays : c.played-played.result ≡ played = c.played-played.ensures.view p view h in
     let some : c.args.number < length run.coded = omega (arith, c.if-sent-number.false, sent) in
-    let far : c.args.number + (rules_of p).half ≤ played = omega (arith, half, c.if-number-half.true, plays) in
-    (Far c.args.number played, number_far (rules_of p) (length run.coded) played abouts c.args.number place some far,
-        λ i. told.Far c.args.number (plays i))
+    let far : c.args.number + (rules_of p).half ≤ played = omega (arith, half, c.if-number-half.true, plays) in (
+      Far c.args.number played,
+      number_far (rules_of p) (length run.coded) played abouts c.args.number place some far,
+      λ i. told.Far c.args.number (plays i),
+    )
 
 pub returns-clause-refusal : goal.returns-clause-refusal
 returns-clause-refusal c = λ p run view place half cast h.

@@ -13,14 +13,14 @@ places-preserved c = λ rules sent parties stand below last.
     let one = c.index-members-k.result in
     let here : MemberStands rules one sent (party_at parties k) =
     subst (λ (x : Member). MemberStands rules x sent (party_at parties k)) (sym c.index-members-k.is)
-        (stand.each k one c.places-test.true)
+    (stand.each k one c.places-test.true)
     in
     one_more c.args.number k parties (omega (arith, stand.count, c.places-test.true))
-        (c.places.invariant rules sent parties stand below last)
+    (c.places.invariant rules sent parties stand below last)
     (sym (c.may_go_by.ensures rules sent (party_at parties k) here below last) ∙ c.if-not-may_go_by.false)
 
 pub returns : goal.returns
 returns c = λ rules sent parties stand below last.
     sym (ap (λ (l : List Party). list_all (may_go_by c.args.number) l)
-        (sym (take_all c.places.k parties (omega (arith, stand.count, c.places-test.false))))
-        ∙ c.places.invariant rules sent parties stand below last)
+    (sym (take_all c.places.k parties (omega (arith, stand.count, c.places-test.false))))
+    ∙ c.places.invariant rules sent parties stand below last)

@@ -29,6 +29,6 @@ back-preserved c = λ rules parties stand is wide m below near.
       | inl far ↦
           let same : m ≡ here = omega (arith, far, near, c.if-sent-back.false) in
           ap (all_have parties) same ∙ sym (c.all_have_it.ensures rules sent parties stand low close)
-              ∙ c.if-all_have_it.false
+          ∙ c.if-all_have_it.false
       | inr late ↦ c.back.invariant rules parties stand is wide m below late
     ]

@@ -1,3 +1,4 @@
+-- The sixteen places stand empty, or memory was refused to one of them.
 use Rattle.std.proofs.Common.{◌≡◌, ℕ, ◌+◌, ◌∙◌, ◌++◌, ◌∷◌, [], List, inl, inr, ap, arith, length, get_or, refl, subst, sym}
 use Rattle.std.proofs.lemmas.Bool.{cases_lt}
 use Rattle.std.proofs.lemmas.List.{get_or_append_left, get_or-replicate, length-append, length-replicate}
@@ -16,7 +17,7 @@ places-preserved c =
     let one = c.start.result in
     let items = c.push_reserved.ensures.items in
     let long : length c.push_reserved.new.self.items ≡ length before + 1 = ap (λ (l : List Member). length l) items
-        ∙ length-append before (one ∷ []) in (
+    ∙ length-append before (one ∷ []) in (
       omega (arith, long, c.places.invariant.0),
       omega (arith, c.push_reserved.ensures.len, c.places.invariant.1),
       c.push_reserved.ensures.capacity ∙ c.places.invariant.2,
@@ -30,18 +31,22 @@ places-preserved c =
                 let last : j ≡ length before = omega (arith, below, late, long) in
                 subst (λ (i : ℕ). MemberStands rules (get_or (before ++ one ∷ []) i other) 0 nobody) (sym last)
                 (subst (λ (x : Member). MemberStands rules x 0 nobody) (sym (get_or_seam before one other))
-                    (c.start.ensures rules slots lead half chain))
+                (c.start.ensures rules slots lead half chain))
           ]),
     )
 
 pub returns-clause-stands : goal.returns-clause-stands
 returns-clause-stands c = λ rules slots lead half chain.
-    let count : length c.places.members.items ≡ 16 = omega (arith, c.places.invariant.0, c.places-test.false,
-        c.places.auto.k-end) in
+    let count : length c.places.members.items ≡ 16 = omega (
+      arith,
+      c.places.invariant.0,
+      c.places-test.false,
+      c.places.auto.k-end,
+    ) in
     record {
       count = count ∙ sym (length-replicate 16 nobody);
       each = λ k other below.
           subst (λ (p : Party). MemberStands rules (get_or c.places.members.items k other) 0 p)
-              (sym (get_or-replicate 16 k nobody nobody (omega (arith, below, count))))
+          (sym (get_or-replicate 16 k nobody nobody (omega (arith, below, count))))
           (c.places.invariant.3 rules slots lead half chain k other below);
     }

@@ -11,6 +11,6 @@ use Rattle.group_sender.proofs.members.places.Given as goal
 abbrev pub invariant-places : goal.invariant-places
 invariant-places l = (length l.members.items ≡ l.k) × (vec_len l.members ≡ l.k) × (vec_capacity l.members ≡ 16)
     × ((rules : Rules) → rules.slots ≡ l.params.slots → rules.lead ≡ l.params.lead → rules.half ≡ half_of l.params.clock
-        → rules.chain ≡ 131
+    → rules.chain ≡ 131
     → (j : ℕ) (other : Member) → j < length l.members.items
-        → MemberStands rules (get_or l.members.items j other) 0 nobody)
+    → MemberStands rules (get_or l.members.items j other) 0 nobody)

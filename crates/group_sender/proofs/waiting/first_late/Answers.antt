@@ -12,15 +12,24 @@ returns-then-is_late c = λ rules parties stand is wide.
     let one = c.index-members-k.result in
     let here : MemberStands rules one c.args.sent (party_at parties k) =
     subst (λ (x : Member). MemberStands rules x c.args.sent (party_at parties k)) (sym c.index-members-k.is)
-        (stand.each k one (omega (arith, c.requires, c.places-test.true)))
+    (stand.each k one (omega (arith, c.requires, c.places-test.true)))
     in
-    sym (first_is (is_waited_for rules c.args.sent) parties k (omega (arith, stand.count, c.requires,
-        c.places-test.true))
+    sym (first_is (is_waited_for rules c.args.sent) parties k (omega (
+      arith,
+      stand.count,
+      c.requires,
+      c.places-test.true,
+    ))
     (λ j low. c.places.invariant rules parties stand is wide j low)
     (sym (c.is_late.ensures rules (party_at parties k) here is wide) ∙ c.if-is_late.true))
 
 pub returns : goal.returns
 returns c = λ rules parties stand is wide.
     sym (none_is (is_waited_for rules c.args.sent) parties
-    (λ j low. c.places.invariant rules parties stand is wide j (omega (arith, low, stand.count, c.requires,
-        c.places-test.false))))
+    (λ j low. c.places.invariant rules parties stand is wide j (omega (
+      arith,
+      low,
+      stand.count,
+      c.requires,
+      c.places-test.false,
+    ))))

@@ -11,7 +11,7 @@ use Rattle.group_sender.proofs.waiting.has_one.Goals as goal
 pub returns-then-sent-back : goal.returns-then-sent-back
 returns-then-sent-back c = λ rules party stands is wide.
     sym (ap (λ (o : Option ℕ). is_some o) (none_in c.searches.ensures.no_greatest (party_has party) c.args.sent
-        (window_of rules)
+    (window_of rules)
     (λ m below close. c.back.invariant rules party stands is wide m below (omega (arith, c.if-sent-back.true)))))
 
 pub returns-then-may_go_by : goal.returns-then-may_go_by
@@ -23,7 +23,7 @@ returns-then-may_go_by c = λ rules party stands is wide.
     let near_slots : sent ≤ m + rules.slots = omega (arith, near, wide) in
     let here : party.present ≡ true = sym stands.present ∙ c.requires in
     let has : party_has party m ≡ true = sym (has_of party.present (party_has party m) here)
-        ∙ sym (c.may_go_by.ensures rules sent party stands below near_slots) ∙ c.if-may_go_by.true in
+    ∙ sym (c.may_go_by.ensures rules sent party stands below near_slots) ∙ c.if-may_go_by.true in
     let found : greatest (λ k. party_has party k && leb sent (k + window_of rules)) sent ≡ Some m =
     (c.searches.ensures.greatest (λ k. party_has party k && leb sent (k + window_of rules)) sent m).1 (
       and_from (party_has party m) (leb sent (m + window_of rules)) has (le-leb sent (m + window_of rules) near),
@@ -45,13 +45,17 @@ back-preserved c = λ rules party stands is wide m below near.
       | inl far ↦
           let same : m ≡ place = omega (arith, far, near, c.if-sent-back.false) in
           ap (party_has party) same ∙ sym (has_of party.present (party_has party place) here)
-              ∙ sym (c.may_go_by.ensures rules sent party stands low close) ∙ c.if-may_go_by.false
+          ∙ sym (c.may_go_by.ensures rules sent party stands low close) ∙ c.if-may_go_by.false
       | inr late ↦ c.back.invariant rules party stands is wide m below late
     ]
 
 pub returns : goal.returns
 returns c = λ rules party stands is wide.
     sym (ap (λ (o : Option ℕ). is_some o) (none_in c.searches.ensures.no_greatest (party_has party) c.args.sent
-        (window_of rules)
-    (λ m below close. c.back.invariant rules party stands is wide m below (omega (arith, close, c.back-test.false,
-        is)))))
+    (window_of rules)
+    (λ m below close. c.back.invariant rules party stands is wide m below (omega (
+      arith,
+      close,
+      c.back-test.false,
+      is,
+    )))))

@@ -17,24 +17,26 @@ loop-byte-init c = refl
 pub overflow_mul-sum : goal.overflow_mul-sum
 overflow_mul-sum c =
     let small = sum_fits c.args.bytes.now c.loop-byte.byte-index c.loop-byte.sum c.requires c.loop-byte-test.true
-        c.loop-byte.invariant in
+    c.loop-byte.invariant in
     omega (arith, small)
 
 pub overflow_add-sum : goal.overflow_add-sum
 overflow_add-sum c =
     let small = sum_fits c.args.bytes.now c.loop-byte.byte-index c.loop-byte.sum c.requires c.loop-byte-test.true
-        c.loop-byte.invariant in
+    c.loop-byte.invariant in
     omega (arith, small, c.type_inv.bytes c.loop-byte.byte-index)
 
 pub loop-byte-preserved : goal.loop-byte-preserved
 loop-byte-preserved c =
     let bytes = c.args.bytes.now in
     let i = c.loop-byte.byte-index in
-    let byte : get_or c.args.bytes.now c.loop-byte.byte-index 0 < 256 = omega (arith,
-        c.type_inv.bytes c.loop-byte.byte-index) in
+    let byte : get_or c.args.bytes.now c.loop-byte.byte-index 0 < 256 = omega (
+      arith,
+      c.type_inv.bytes c.loop-byte.byte-index,
+    ) in
     ap (λ (s : ℕ). s * 256 + get_or bytes i 0) c.loop-byte.invariant
-        ∙ sym (number-push (take i bytes) (get_or bytes i 0) byte)
-        ∙ ap (λ (t : List ℕ). number (bits_of t)) (sym (take_more bytes i 0 c.loop-byte-test.true))
+    ∙ sym (number-push (take i bytes) (get_or bytes i 0) byte)
+    ∙ ap (λ (t : List ℕ). number (bits_of t)) (sym (take_more bytes i 0 c.loop-byte-test.true))
 
 pub returns : goal.returns
 returns c = c.loop-byte.invariant

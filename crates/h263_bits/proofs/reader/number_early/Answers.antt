@@ -10,4 +10,4 @@ returns-clause-value c =
     let below = 64 - at % 8 - n in
     c.bits_above.ensures ∙ ap (λ (s : ℕ). s / 2 ^ below % 2 ^ n) c.eight_bytes.ensures
     ∙ number-from_bytes bytes at n (at / 8) 8 below (omega arith) (omega (arith, c.requires.few))
-        (omega (arith, c.requires.many))
+    (omega (arith, c.requires.many))

@@ -15,7 +15,7 @@ loop-done-preserved g c =
       within = grown_within done (length buf - done) count buf c.read.new.buf c.loop-done.invariant.within within;
       front = front_on (left c.args.role) _ done (length buf - done) count buf c.read.new.buf
           (ap (λ (l : Role → Option (List ℕ)). l c.args.role) c.loop-done.invariant.lost
-              ∙ consumed_at left c.args.role done)
+          ∙ consumed_at left c.args.role done)
           c.loop-done.invariant.within within c.loop-done.invariant.front c.in_ok-count.ensures.bytes;
       lost = consumed_more _ c.args.role _ _ _ _ _ c.loop-done.invariant.lost c.in_ok-count.ensures.left (omega arith);
       faults = c.in_ok-count.ensures.ok_faults ∙ c.loop-done.invariant.faults;

@@ -42,24 +42,24 @@ range : (format : Format) (bytes : List ℕ) (rtp : Rtp) (r : Result Payload Fau
 range format bytes rtp (Ok p) w e extra =
     let s = payload.read_text format p (payload_bits_of bytes rtp) (sym e) in
     let len : length (payload_bits_of bytes rtp).bits ≡ 8 * rtp.to - 8 * rtp.from = length-window (bits_of bytes)
-        (8 * rtp.from) (8 * rtp.to) (omega (arith, w.order)) (omega (arith, w.end, length-bits_of bytes)) in
+    (8 * rtp.from) (8 * rtp.to) (omega (arith, w.order)) (omega (arith, w.end, length-bits_of bytes)) in
     let long = (payload.leading_is s.opening s.front s.opened).long in
     let parts : 8 * rtp.to - 8 * rtp.from ≡ length s.front + (length s.middle + (2 + length s.begun.0)) =
     sym len ∙ ap length s.parts ∙ length-append s.front _
-        ∙ ap (λ (n : ℕ). length s.front + n) (length-append s.middle s.coded
-        ∙ ap (λ (n : ℕ). length s.middle + n) (ap length s.begun.1 ∙ omega arith)) in
+    ∙ ap (λ (n : ℕ). length s.front + n) (length-append s.middle s.coded
+    ∙ ap (λ (n : ℕ). length s.middle + n) (ap length s.begun.1 ∙ omega arith)) in
     record { extra = extra; from = omega (arith, s.from, long); two = omega (arith, s.from, parts, w.order) }
 range format bytes rtp (Err f) w e extra = tt
 
 -- what is said of each return
 every : HeaderLaws → (format : Format) (bytes : List ℕ) (rtp : Rtp) (r : Result Payload Fault) → IsWithin rtp bytes
     → r ≡ payload_at format (payload_bits_of bytes rtp) → IfOk r (λ p. IsExtraHeader p.extra) → record {
-  found : IfOk r (λ p. IsPayload format p (payload_bits_of bytes rtp));
-  only : (p : Payload) → IsPayload format p (payload_bits_of bytes rtp) → r ≡ Ok p;
-  fault : first_fault r ≡ payload_fault format (payload_bits_of bytes rtp);
-  exact : r ≡ payload_at format (payload_bits_of bytes rtp);
-  range : IfOk r (λ p. IsAfterHeader p rtp);
-}
+      found : IfOk r (λ p. IsPayload format p (payload_bits_of bytes rtp));
+      only : (p : Payload) → IsPayload format p (payload_bits_of bytes rtp) → r ≡ Ok p;
+      fault : first_fault r ≡ payload_fault format (payload_bits_of bytes rtp);
+      exact : r ≡ payload_at format (payload_bits_of bytes rtp);
+      range : IfOk r (λ p. IsAfterHeader p rtp);
+    }
 every laws format bytes rtp r w e extra = record {
   found = found format bytes rtp r e;
   only = λ p text. e ∙ payload.text_read laws format p (payload_bits_of bytes rtp) text;
@@ -94,14 +94,14 @@ returns-in_err-opening c =
     let p = err_from_is_err_and c.from_residual.result c.from_residual.ensures.1 in
     let read = ap (reading leading) (sym c.new-reader.ensures.bits) ∙ c.in_err-opening.ensures.reads in
     every c.in_a_syntax.ensures c.args.format c.args.bytes.now c.args.rtp.now c.from_residual.result w
-        (rw (p.1, p.2, read) refl) (search rules)
+    (rw (p.1, p.2, read) refl) (search rules)
 
 pub read_extra-requires-clause-order : goal.read_extra-requires-clause-order
 read_extra-requires-clause-order c =
     let w = c.payload_within.ensures c.args.rtp.now c.args.bytes.now c.requires in
     let read = ap (reading leading) (sym c.new-reader.ensures.bits) ∙ c.in_ok-opening.ensures.reads in
     let m = after c.args.bytes.now (8 * c.args.rtp.now.from) (8 * c.args.rtp.now.to) c.in_ok-opening.opening
-        c.read_leading.new.reader (omega (arith, w.order)) (omega (arith, w.end)) read in
+    c.read_leading.new.reader (omega (arith, w.order)) (omega (arith, w.end)) read in
     omega (arith, m.order, c.at-at.ensures)
 
 pub returns-in_err-extra : goal.returns-in_err-extra
@@ -111,13 +111,13 @@ returns-in_err-extra c =
     let p = err_from_is_err_and c.from_residual-in_err-extra.result c.from_residual-in_err-extra.ensures.1 in
     let read = ap (reading leading) (sym c.new-reader.ensures.bits) ∙ c.in_ok-opening.ensures.reads in
     let m = after c.args.bytes.now (8 * c.args.rtp.now.from) (8 * c.args.rtp.now.to) c.in_ok-opening.opening
-        c.read_leading.new.reader (omega (arith, w.order)) (omega (arith, w.end)) read in
+    c.read_leading.new.reader (omega (arith, w.order)) (omega (arith, w.end)) read in
     let left : c.read_leading.new.reader ≡ bits_between c.args.bytes.now c.at-at.result (8 * c.args.rtp.now.to) = m.bits
-        ∙ ap (λ (k : ℕ). bits_between c.args.bytes.now k (8 * c.args.rtp.now.to)) (sym c.at-at.ensures) in
+    ∙ ap (λ (k : ℕ). bits_between c.args.bytes.now k (8 * c.args.rtp.now.to)) (sym c.at-at.ensures) in
     let extra = ap (extra_at c.args.format c.in_ok-opening.opening.plen c.in_ok-opening.opening.pebit) left
-        ∙ sym c.in_err-extra.ensures.exact in
+    ∙ sym c.in_err-extra.ensures.exact in
     every c.in_a_syntax.ensures c.args.format c.args.bytes.now c.args.rtp.now c.from_residual-in_err-extra.result w
-        (rw (p.1, p.2, read, extra) refl) (search rules)
+    (rw (p.1, p.2, read, extra) refl) (search rules)
 
 pub returns : goal.returns
 unfolding payload_at
@@ -126,12 +126,12 @@ returns c =
     let plen = c.in_ok-opening.opening.plen in
     let read = ap (reading leading) (sym c.new-reader.ensures.bits) ∙ c.in_ok-opening.ensures.reads in
     let m = after c.args.bytes.now (8 * c.args.rtp.now.from) (8 * c.args.rtp.now.to) c.in_ok-opening.opening
-        c.read_leading.new.reader (omega (arith, w.order)) (omega (arith, w.end)) read in
+    c.read_leading.new.reader (omega (arith, w.order)) (omega (arith, w.end)) read in
     let left : c.read_leading.new.reader ≡ bits_between c.args.bytes.now c.at-at.result (8 * c.args.rtp.now.to) = m.bits
-        ∙ ap (λ (k : ℕ). bits_between c.args.bytes.now k (8 * c.args.rtp.now.to)) (sym c.at-at.ensures) in
+    ∙ ap (λ (k : ℕ). bits_between c.args.bytes.now k (8 * c.args.rtp.now.to)) (sym c.at-at.ensures) in
     let extra = ap (extra_at c.args.format plen c.in_ok-opening.opening.pebit) left ∙ sym c.in_ok-extra.ensures.exact in
     let coded : skip (8 * plen) c.read_leading.new.reader ≡ bits_between c.args.bytes.now (c.at-at.result + 8 * plen)
-        (8 * c.args.rtp.now.to) = ap (skip (8 * plen)) left
-        ∙ skipped c.args.bytes.now c.at-at.result (8 * c.args.rtp.now.to) (8 * plen) c.in_ok-extra.ensures.room in
+    (8 * c.args.rtp.now.to) = ap (skip (8 * plen)) left
+    ∙ skipped c.args.bytes.now c.at-at.result (8 * c.args.rtp.now.to) (8 * plen) c.in_ok-extra.ensures.room in
     every c.in_a_syntax.ensures c.args.format c.args.bytes.now c.args.rtp.now c.read_start.result w
-        (rw (read, extra) (c.read_start.ensures.exact ∙ ap (begun_at c.in_ok-extra.extra) (sym coded))) (search rules)
+    (rw (read, extra) (c.read_start.ensures.exact ∙ ap (begun_at c.in_ok-extra.extra) (sym coded))) (search rules)

@@ -21,7 +21,7 @@ unlike extra at start high ne = rw (le-ltb start 2 high) (at_tests (start == 2) 
   where
     at_tests : (t n : Bool) → (t ≡ n → ⊥)
         → cond t (cond n (ok (begun extra at true)) (fault_at {A = Payload} faults.ExtraHeader at))
-            (cond n (fault_at faults.NoExtraHeader at) (ok (begun extra at false)))
+        (cond n (fault_at faults.NoExtraHeader at) (ok (begun extra at false)))
         ≡ fault_at (cond t faults.ExtraHeader faults.NoExtraHeader) at
     at_tests true true ne = absurd (ne refl)
     at_tests true false ne = refl
@@ -34,7 +34,7 @@ alike extra at start high same = rw (le-ltb start 2 high) (at_tests (start == 2)
   where
     at_tests : (t n : Bool) → t ≡ n
         → cond t (cond n (ok (begun extra at true)) (fault_at {A = Payload} faults.ExtraHeader at))
-            (cond n (fault_at faults.NoExtraHeader at) (ok (begun extra at false)))
+        (cond n (fault_at faults.NoExtraHeader at) (ok (begun extra at false)))
         ≡ ok (begun extra at t)
     at_tests true true e = refl
     at_tests true false e = absurd cc
@@ -84,7 +84,7 @@ returns-then-begins-clause-exact c =
     let differ = differ_are (start == 2) c.is_none.result c.args.extra c.if-begins-is_none.true c.is_none.ensures in
     let test : (start == 2) ≡ true = eq-eqb start 2 (omega arith) in
     rw (c.at-then-begins.ensures, read) (sym (unlike c.args.extra c.args.at start (omega arith) differ
-        ∙ ap (λ (t : Bool). fault_at (cond t faults.ExtraHeader faults.NoExtraHeader) c.args.at) test))
+    ∙ ap (λ (t : Bool). fault_at (cond t faults.ExtraHeader faults.NoExtraHeader) c.args.at) test))
 
 pub returns-then-begins-is_none-clause-exact : goal.returns-then-begins-is_none-clause-exact
 unfolding begun_at
@@ -94,12 +94,12 @@ returns-then-begins-is_none-clause-exact c =
     let differ = differ_are (start == 2) c.is_none.result c.args.extra c.if-begins-is_none.true c.is_none.ensures in
     let test : (start == 2) ≡ false = ne_eqb start 2 (λ same. omega (arith, same)) in
     rw (c.at-then-begins-is_none.ensures, read) (sym (unlike c.args.extra c.args.at start (omega arith) differ
-        ∙ ap (λ (t : Bool). fault_at (cond t faults.ExtraHeader faults.NoExtraHeader) c.args.at) test))
+    ∙ ap (λ (t : Bool). fault_at (cond t faults.ExtraHeader faults.NoExtraHeader) c.args.at) test))
 
 pub returns-clause-exact : goal.returns-clause-exact
 unfolding begun_at
 returns-clause-exact c =
     let read = ap (number_at 2) (sym c.new.ensures.bits) ∙ c.in_ok-start.ensures.reads in
     let same = same_is (c.in_ok-start.start == 2) c.is_none.result c.if-begins-is_none.false
-        ∙ none_is c.args.extra c.is_none.result c.is_none.ensures in
+    ∙ none_is c.args.extra c.is_none.result c.is_none.ensures in
     rw read (sym (alike c.args.extra c.args.at c.in_ok-start.start (omega arith) same))

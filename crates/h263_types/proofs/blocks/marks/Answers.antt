@@ -12,5 +12,5 @@ returns-clause-marks c =
     let levels = c.args.levels in
     let long : length (map (of_z w16) levels) ≡ 64 = length-map levels (of_z w16) ∙ search rules in
     let same : mask_l (map (λ x. not (eqb x 0)) (map (of_z w16) levels))
-        ≡ marks_of levels = search (rules, marks_are) in
+    ≡ marks_of levels = search (rules, marks_are) in
     bitmask_splat w16 (λ a b. not (eqb a b)) (map (of_z w16) levels) 64 0 long (omega arith) ∙ same

@@ -12,4 +12,4 @@ returns c x y =
     let down : SFits w8 c.component_span-along.result.most = search rules in
     rw (to_z-of_z w8 _ left, to_z-of_z w8 _ right, to_z-of_z w8 _ up, to_z-of_z w8 _ down)
     (both_components c.args.format c.args.mb _ _ _ _ _ _ x y c.columns-columns.ensures c.rows.ensures
-        (c.component_span-across.ensures x) (c.component_span-along.ensures y))
+    (c.component_span-across.ensures x) (c.component_span-along.ensures y))

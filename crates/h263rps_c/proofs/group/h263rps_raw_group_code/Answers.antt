@@ -8,4 +8,4 @@ pub returns-in-Ok-clause-stands : goal.returns-in-Ok-clause-stands
 returns-in-Ok-clause-stands c = λ p first past back before read status.
     let ok : IsOk c.code.result = search rules in
     c.code.ensures.stands p first past back (subst (λ (o : Option KeptGroup). HoldsKept p first past o)
-        c.group_mut.ensures.value before) read ok
+    c.group_mut.ensures.value before) read ok

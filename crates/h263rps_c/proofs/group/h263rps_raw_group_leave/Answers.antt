@@ -8,4 +8,4 @@ pub returns-in-Ok-clause-stands : goal.returns-in-Ok-clause-stands
 returns-in-Ok-clause-stands c = λ p first past before status.
     let ok : IsOk c.leave.result = search rules in
     c.leave.ensures.stands p first past
-        (subst (λ (o : Option KeptGroup). HoldsKept p first past o) c.group_mut.ensures.value before) ok
+    (subst (λ (o : Option KeptGroup). HoldsKept p first past o) c.group_mut.ensures.value before) ok

@@ -8,4 +8,4 @@ pub returns-in-Ok-clause-steers : goal.returns-in-Ok-clause-steers
 returns-in-Ok-clause-steers c = λ p first past before status.
     let ok : IsOk c.fix.result = search rules in
     c.fix.ensures.steers p first past (subst (λ (o : Option End). HoldsSteered p first past o) c.end_mut.ensures.value
-        before) ok
+    before) ok

@@ -9,7 +9,7 @@ use Rattle.h263rps_c.proofs.receiver.h263rps_raw_receiver_packet.Goals as goal
 pub returns-in-Ok-clause-untaken : goal.returns-in-Ok-clause-untaken
 returns-in-Ok-clause-untaken c = λ status two.
     let told : 2 ≤ (heard_answer c.in-Ok.arrival.heard).kind = subst (λ (a : Answer). 2 ≤ a.kind) c.arrived.ensures two
-        in
+    in
     ap Some (c.in-Ok.ensures.untaken (untaken c.in-Ok.arrival.heard told)) ∙ sym c.end_mut.ensures.value
 
 pub returns-in-Ok-clause-stands : goal.returns-in-Ok-clause-stands

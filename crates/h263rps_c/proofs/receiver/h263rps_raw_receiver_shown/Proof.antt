@@ -77,67 +77,71 @@ samples_laws κ =
     let a : NamedLft = named_lft 1 0 tt (κ, tt) in
     result_laws.the_row_laws (samples_field κ).row refusals.the_row
     (of_field (samples_field κ) (shr_slice_laws a u8 tt) refl
-        (copy_shared (samples_field κ) (shr_slice_copy a u8 tt u8_laws.shr_laws)))
+    (copy_shared (samples_field κ) (shr_slice_copy a u8 tt u8_laws.shr_laws)))
     refusal_laws.the_row_laws
 
 pub h263rps_raw_receiver_shown_spec : {M : Type 1} → statement M
 h263rps_raw_receiver_shown_spec 𝓤 𝓛 𝓜 𝓡 wired =
     let c = clauses 𝓛 𝓜.mem 𝓡.returns in let run = framed 𝓤 𝓛.H 𝓜 (tables 𝓤 𝓛.H 𝓜 𝓡 𝓡.env) in
     proved 𝓛 ended stayed c 𝓜 𝓡 (Goes-spent_ref 𝓛 2 (0 ∷ []) tt slot_row, (Goes-gave_ref 𝓛 2 1 tt lent_row, tt)) #self
-        code.function (code.unfolded 𝓤 𝓛.H 𝓜 𝓡 wired)
-    (λ κs. (mut_vals, (mut_vals, tt))) (λ κs. (mut_Tells (named 0) κs.0 (slot_row.row κs),
-        (mut_Tells (named 1) κs.1.0 (lent_row.row κs), tt))) (λ κs qs bounds a _ are.
+    code.function (code.unfolded 𝓤 𝓛.H 𝓜 𝓡 wired)
+    (λ κs. (mut_vals, (mut_vals, tt))) (λ κs. (
+      mut_Tells (named 0) κs.0 (slot_row.row κs),
+      (mut_Tells (named 1) κs.1.0 (lent_row.row κs), tt),
+    )) (λ κs qs bounds a _ are.
     let κ = κs.0 in let q = qs.0 in let κ' = κs.1.0 in let q' = qs.1.0 in let slot = a.0 in let lent = a.1.0 in
-        let inside = slot.now.handle.inside in
+    let inside = slot.now.handle.inside in
     let own_slot = ‵ ((MutRef (named 0) κ (slot_row.row κs)).own_val slot (mut_vals slot)) in
-        let own_lent = ‵ ((MutRef (named 1) κ' (lent_row.row κs)).own_val lent (mut_vals lent)) in
+    let own_lent = ‵ ((MutRef (named 1) κ' (lent_row.row κs)).own_val lent (mut_vals lent)) in
     let F = triple_of 𝓛 f.signature (f.spec 𝓛 𝓜.mem 𝓡.returns) in
-        let G = triple_of 𝓛 g.signature (g.spec 𝓛 𝓜.mem 𝓡.returns) in
+    let G = triple_of 𝓛 g.signature (g.spec 𝓛 𝓜.mem 𝓡.returns) in
     qed 𝓛 (((‵ (flft κ q) ⊛ ‵ (flft κ' q') ⊛ ‵ ftrue) ⊛ own_slot ⊛ own_lent ⊛ ‵ ftrue) ∷ ‵ ftrue ∷ []) ∵
     split ! $ split ! $ move ! (1 ∷ []) $ split ! $ move ! (3 ∷ []) $ split ! $ move ! (1 ∷ []) $ split ! $ keep !
-        (2 ∷ 0 ∷ 5 ∷ 3 ∷ []) $
+    (2 ∷ 0 ∷ 5 ∷ 3 ∷ []) $
     enter ! _ _ _ _ _ $ alloc_all ! (λ l. pass_all ! refl ((tt, tt), ((tt, tt), tt)) $ sets !
-        (addr ! (through ! refl (stop !))) refl (tt, tt) $
+    (addr ! (through ! refl (stop !))) refl (tt, tt) $
     -- [slot; lent; the token of κ; the token of κ']
     let x : F.Ghost = (((κ, tt), (q, tt), tt, (slot, tt), (mut_vals slot, tt)), tt) in
     nothing ! $ move ! (1 ∷ 0 ∷ []) $ join ! $ nothing ! $ move ! (3 ∷ 0 ∷ []) $ join ! $ join ! $ nothing ! $ move !
-        (1 ∷ 0 ∷ []) $ use2 𝓛 (raw (F.pre x)) (id⊢ 𝓤 _) $
+    (1 ∷ 0 ∷ []) $ use2 𝓛 (raw (F.pre x)) (id⊢ 𝓤 _) $
     calls_at ! run F (f-met.met 𝓤 𝓛 𝓜 𝓡 (code.calls-h263rps_c::receiver::samples_in 𝓡.env wired)) x
-        (and_then ! (get ! refl) (no_more !)) (λ u.
+    (and_then ! (get ! refl) (no_more !)) (λ u.
     use1 𝓛 (later (some (λ (r : Samples). ((‵ (flft κ q) ⊛ ‵ ftrue) ⊛ ‵ ((R κ).own_val r (u ∷ []))) ⊛ some
-        (λ (ws : Unit {0} × Unit {0}). ‵ (lasts f.ended (κ, tt) (slot, tt) ws) ⊛
+    (λ (ws : Unit {0} × Unit {0}). ‵ (lasts f.ended (κ, tt) (slot, tt) ws) ⊛
     (raw (fact 𝓤 (refusal_in r ≡ for_receiver never inside)) ⊛
-        (raw (fact 𝓤 (IfOk r (λ s. ShowsPicture inside s.now))) ⊛ ‵ (KeepsEnd slot))))))) (id⊢ 𝓤 _) $
+    (raw (fact 𝓤 (IfOk r (λ s. ShowsPicture inside s.now))) ⊛ ‵ (KeepsEnd slot))))))) (id⊢ 𝓤 _) $
     await ! tt $ pick ! (λ r. split ! $ split ! $ split ! $ move ! (3 ∷ []) $ pick !
-        (λ _. split ! $ drop ! $ split ! $ heard ! _ (λ refused. split ! $ heard ! _ (λ shown.
+    (λ _. split ! $ drop ! $ split ! $ heard ! _ (λ refused. split ! $ heard ! _ (λ shown.
     move ! (3 ∷ []) $ peeks ! (R κ) _ (shows 𝓛 (R κ)) r (u ∷ [])
-        (λ is. lands_as ! refl refl (((samples_laws κ).lawful 𝓛).typed r (u ∷ []) is).0 $
+    (λ is. lands_as ! refl refl (((samples_laws κ).lawful 𝓛).typed r (u ∷ []) is).0 $
     sets ! (addr ! (through ! refl (stop !))) refl (tt, tt) $
     -- [the samples; what becomes of the slot; the token of κ; nothing; lent; the token of κ']
     let y : G.Ghost = ((κs, qs, bounds, (r, (lent, tt)), (u ∷ [], (mut_vals lent, tt))), tt) in
     move ! (4 ∷ []) $ nothing ! $ move ! (1 ∷ 0 ∷ []) $ join ! $ move ! (1 ∷ 0 ∷ []) $ join ! $ move !
-        (4 ∷ 3 ∷ []) $ join ! $ move ! (3 ∷ 0 ∷ []) $ join ! $ join ! $
+    (4 ∷ 3 ∷ []) $ join ! $ move ! (3 ∷ 0 ∷ []) $ join ! $ join ! $
     nothing ! $ move ! (1 ∷ 0 ∷ []) $ use2 𝓛 (raw (G.pre y)) (id⊢ 𝓤 _) $
     calls_at ! run G (g-met.met 𝓤 𝓛 𝓜 𝓡 (code.calls-h263rps_c::receiver::note 𝓡.env wired)) y
-        (and_then ! (get ! refl) (and_then ! (get ! refl) (no_more !))) (λ v.
+    (and_then ! (get ! refl) (and_then ! (get ! refl) (no_more !))) (λ v.
     use1 𝓛 (later (some (λ (n : ℕ). ((‵ (flft κ q) ⊛ ‵ (flft κ' q') ⊛ ‵ ftrue) ⊛ ‵ (u32.own_val n (v ∷ []))) ⊛ some
-        (λ (ws : Unit {0} × (Lent × Unit {0})). ‵ (lasts g.ended κs (r, (lent, tt)) ws) ⊛
+    (λ (ws : Unit {0} × (Lent × Unit {0})). ‵ (lasts g.ended κs (r, (lent, tt)) ws) ⊛
     (raw (fact 𝓤 (n ≡ status_of (refusal_in r))) ⊛ (raw (fact 𝓤 (n ≢ 0 → ws.1.0 ≡ lent.now)) ⊛ raw (fact 𝓤 (n ≡ 0
-        → r ≡ Ok ws.1.0.samples)))))))) (id⊢ 𝓤 _) $
+    → r ≡ Ok ws.1.0.samples)))))))) (id⊢ 𝓤 _) $
     await ! tt $ pick ! (λ n. split ! $ split ! $ move ! (2 ∷ []) $ pick !
-        (λ ws. split ! $ move ! (1 ∷ []) $ split ! $ heard ! _
-        (λ told. split ! $ heard ! _ (λ unlent. heard ! _ (λ noted.
+    (λ ws. split ! $ move ! (1 ∷ []) $ split ! $ heard ! _
+    (λ told. split ! $ heard ! _ (λ unlent. heard ! _ (λ noted.
     move ! (2 ∷ []) $ peeks ! u32 _ (shows 𝓛 u32) n (v ∷ [])
-        (λ is'. lands_as ! refl refl ((u32_laws.lawful 𝓛).typed n (v ∷ []) is').0 $
+    (λ is'. lands_as ! refl refl ((u32_laws.lawful 𝓛).typed n (v ∷ []) is').0 $
     returns ! (look_at ! 0 refl) $ free_all ! refl $
     -- [the number; lent's last value; the tokens; what becomes of the slot]
     let last = ws.1.0 in
     move ! (3 ∷ []) $ use0 𝓛 (raw (fact 𝓤 (n ≡ 0 → ShowsPicture inside last.samples.now)))
-        (fact_i 𝓤 _ (emp 𝓤) (λ zero. subst (λ (s : Samples). IfOk s (λ s. ShowsPicture inside s.now))
-        (noted zero) shown)) $ join ! $
+    (fact_i 𝓤 _ (emp 𝓤) (λ zero. subst (λ (s : Samples). IfOk s (λ s. ShowsPicture inside s.now))
+    (noted zero) shown)) $ join ! $
     use0 𝓛 (raw (fact 𝓤 (n ≢ 0 → last ≡ lent.now))) (fact_i 𝓤 _ (emp 𝓤) unlent) $ join ! $
     use0 𝓛 (raw (fact 𝓤 (n ≡ status_of (for_receiver never inside)))) (fact_i 𝓤 _ (emp 𝓤) (told ∙ ap status_of refused))
-        $ join ! $
+    $ join ! $
     move ! (1 ∷ 0 ∷ []) $ join ! $ move ! (1 ∷ 0 ∷ []) $ join ! $ move ! (1 ∷ 0 ∷ []) $
-    by ! (leaves 𝓛 ended stayed c ((κs, qs, bounds, a, (mut_vals slot, (mut_vals lent, tt))), tt) v n (tt,
-        (last, tt)) (tt, (tt, tt))))))))))))))))))
+    by ! (leaves 𝓛 ended stayed c ((κs, qs, bounds, a, (mut_vals slot, (mut_vals lent, tt))), tt) v n (
+      tt,
+      (last, tt),
+    ) (tt, (tt, tt))))))))))))))))))

@@ -8,4 +8,4 @@ pub returns-in-Ok-clause-stands : goal.returns-in-Ok-clause-stands
 returns-in-Ok-clause-stands c = λ p past before status.
     let ok : IsOk c.receive_anew.result = search rules in
     c.receive_anew.ensures.stands p past (subst (λ (o : Option End). HoldsReceiver p past o) c.end_mut.ensures.value
-        before) ok
+    before) ok

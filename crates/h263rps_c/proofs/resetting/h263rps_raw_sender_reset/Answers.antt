@@ -8,10 +8,10 @@ pub returns-in-Ok-clause-stands : goal.returns-in-Ok-clause-stands
 returns-in-Ok-clause-stands c = λ p was entries before status.
     let ok : IsOk c.send_anew.result = search rules in
     c.send_anew.ensures.stands p was entries
-        (subst (λ (o : Option End). HoldsSender p was entries o) c.end_mut.ensures.value before) ok
+    (subst (λ (o : Option End). HoldsSender p was entries o) c.end_mut.ensures.value before) ok
 
 pub returns-in-Ok-clause-steers : goal.returns-in-Ok-clause-steers
 returns-in-Ok-clause-steers c = λ p first past before status.
     let ok : IsOk c.send_anew.result = search rules in
     c.send_anew.ensures.steers p first past
-        (subst (λ (o : Option End). HoldsSteered p first past o) c.end_mut.ensures.value before) ok
+    (subst (λ (o : Option End). HoldsSteered p first past o) c.end_mut.ensures.value before) ok

@@ -8,10 +8,10 @@ pub returns-in-Ok-clause-stands : goal.returns-in-Ok-clause-stands
 returns-in-Ok-clause-stands c = λ p target entries back before read status.
     let ok : IsOk c.code.result = search rules in
     c.code.ensures.stands p target entries back
-        (subst (λ (o : Option End). HoldsSender p target entries o) c.end_mut.ensures.value before) read ok
+    (subst (λ (o : Option End). HoldsSender p target entries o) c.end_mut.ensures.value before) read ok
 
 pub returns-in-Ok-clause-steers : goal.returns-in-Ok-clause-steers
 returns-in-Ok-clause-steers c = λ p first past back before read status.
     let ok : IsOk c.code.result = search rules in
     c.code.ensures.steers p first past back
-        (subst (λ (o : Option End). HoldsSteered p first past o) c.end_mut.ensures.value before) read ok
+    (subst (λ (o : Option End). HoldsSteered p first past o) c.end_mut.ensures.value before) read ok

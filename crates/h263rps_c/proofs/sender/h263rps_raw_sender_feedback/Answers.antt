@@ -14,7 +14,7 @@ returns-in-Ok-clause-unnoted c = λ status one.
 pub returns-in-Ok-clause-stands : goal.returns-in-Ok-clause-stands
 returns-in-Ok-clause-stands c = λ p target entries before.
     c.feedback.ensures.stands p target entries (subst (λ (o : Option End). HoldsSender p target entries o)
-        c.end_mut.ensures.value before)
+    c.end_mut.ensures.value before)
 
 pub returns-in-Ok-clause-answer : goal.returns-in-Ok-clause-answer
 returns-in-Ok-clause-answer c = λ p target entries before. record {
@@ -27,7 +27,7 @@ returns-in-Ok-clause-answer c = λ p target entries before. record {
 pub returns-in-Ok-clause-steers : goal.returns-in-Ok-clause-steers
 returns-in-Ok-clause-steers c = λ p first past before.
     c.feedback.ensures.steers p first past
-        (subst (λ (o : Option End). HoldsSteered p first past o) c.end_mut.ensures.value before)
+    (subst (λ (o : Option End). HoldsSteered p first past o) c.end_mut.ensures.value before)
 
 pub returns-in-Ok-clause-replies : goal.returns-in-Ok-clause-replies
 returns-in-Ok-clause-replies c = λ p first past before. record {

@@ -7,5 +7,5 @@ use Rattle.h263rps_c.proofs.sender.h263rps_raw_sender_packet.Goals as goal
 pub returns-in-Err-clause-enough : goal.returns-in-Err-clause-enough
 returns-in-Err-clause-enough c = λ p target entries before status.
     c.in-Err.ensures.enough p target entries
-        (subst (λ (o : Option End). HoldsSender p target entries o) c.end_mut.ensures.value before)
+    (subst (λ (o : Option End). HoldsSender p target entries o) c.end_mut.ensures.value before)
     (ap Err (short_room c.in-Err.refusal (sym c.number-in-Err.ensures.value ∙ status)))

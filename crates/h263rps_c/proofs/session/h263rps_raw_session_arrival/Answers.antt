@@ -6,9 +6,9 @@ use Rattle.h263rps_c.proofs.session.h263rps_raw_session_arrival.Goals as goal
 pub returns-clause-stands : goal.returns-clause-stands
 returns-clause-stands c = λ s past held.
     c.arrival.ensures.stands s past (subst (λ (o : Option Session). HoldsSession s past o) c.session_mut.ensures.value
-        held)
+    held)
 
 pub returns-clause-answer : goal.returns-clause-answer
 returns-clause-answer c = λ s past held.
     c.arrival.ensures.answer s past (subst (λ (o : Option Session). HoldsSession s past o) c.session_mut.ensures.value
-        held)
+    held)

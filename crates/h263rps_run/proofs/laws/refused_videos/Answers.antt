@@ -18,15 +18,17 @@ of_each c (Recv params true) = no_video (Recv params true) (c.no_joined_video_re
     (c.no_joined_video_refused.ensures.second params)
 of_each c (Demo params seed frames) =
     no_video (Demo params seed frames)
-        (λ inputs fault ends. cc (c.ends_well.ensures (demo_terms params seed frames) inputs, ends))
+    (λ inputs fault ends. cc (c.ends_well.ensures (demo_terms params seed frames) inputs, ends))
     (λ inputs fault ends. cc (c.ends_well.ensures (demo_terms params seed frames) inputs, ends))
 of_each c (Rate target bucket) =
     no_video (Rate target bucket) (c.no_video_refused-2.ensures.first (bucket_of target bucket))
-        (c.no_video_refused-2.ensures.second (bucket_of target bucket))
+    (c.no_video_refused-2.ensures.second (bucket_of target bucket))
 of_each c (Audit params) = no_video (Audit params) (c.no_video_refused-3.ensures.first params)
     (c.no_video_refused-3.ensures.second params)
-of_each c (Duplex params) = record { first = c.refused_videos-3.ensures.first params;
-    second = c.refused_videos-3.ensures.second params }
+of_each c (Duplex params) = record {
+  first = c.refused_videos-3.ensures.first params;
+  second = c.refused_videos-3.ensures.second params;
+}
 
 pub returns : goal.returns
 returns c = of_each c

@@ -9,5 +9,5 @@ pub returns : goal.returns
 returns c =
     let source = c.skip.ensures.source in
     let given = YieldsList-from_vec {s = c.skip.result.iter} (into_iter_items c.args.args) (ap into_iter_items source)
-        (ap into_iter_len source ∙ c.args.args.rest.ok.0) in
+    (ap into_iter_len source ∙ c.args.args.rest.ok.0) in
     items_from_collect _ c.collect.ensures.ran (YieldsList-from_skip 1 given c.skip.ensures.count)

@@ -17,7 +17,7 @@ returns-in-Err g c =
     let outside = g.D.Desk.outside in
     let failed = c.in-Err.ensures in
     report_failed (command_of (texts c.args.words.now)) (outside c.args.desk.now) (outside c.attach_role.new.desk)
-        c.in-Err.status
+    c.in-Err.status
     (failed.err ∙ c.requires) failed.rest.left failed.rest.written failed.cause failed.kind
 
 pub returns-in-Err-read : goal.returns-in-Err-read
@@ -30,9 +30,9 @@ returns-in-Err-read g c =
     let attached = c.in_default.ensures in
     run_since (command_of words) old mid new c.finish.result c.attach_role.ensures.rest attached.ok_faults
     (stopped_run words c.in-Err-read.stop mid new c.in-Err-read.ensures.answer
-        (report_alone old mid c.requires attached.attached attached.name)
+    (report_alone old mid c.requires attached.attached attached.name)
     c.finish.ensures.rest c.finish.result (subst (λ (s : Status). Finishes s c.finish.result mid new) c.unasked.ensures
-        c.finish.ensures.told))
+    c.finish.ensures.told))
 
 pub put_roles-count-requires : goal.put_roles-count-requires
 put_roles-count-requires g c = c.names_are_given.ensures (texts c.args.words.now) (asked_of c.in-Ok.words)
@@ -44,7 +44,7 @@ slice_bounds-places-end-2 g c = omega (arith, c.put_roles-count.ensures.few, c.p
 pub slice_bounds-roles-end : goal.slice_bounds-roles-end
 slice_bounds-roles-end g c =
     sym (length-take-le c.put_roles-count.result c.put_roles-count.new.places
-        (omega (arith, c.put_roles-count.ensures.few, c.put_roles-count.ensures.long)))
+    (omega (arith, c.put_roles-count.ensures.few, c.put_roles-count.ensures.long)))
 
 pub returns-in-Call : goal.returns-in-Call
 returns-in-Call g c =
@@ -52,13 +52,13 @@ returns-in-Call g c =
     let done = c.perform in
     let says = done.ensures in
     performed_run (texts c.args.words.now) (asked_of c.in-Ok.words) c.in-Ok.ensures.answer (outside c.args.desk.now)
-        (outside c.attach_role.new.desk)
+    (outside c.attach_role.new.desk)
     c.attach_role.ensures.rest c.in_default.ensures.ok_faults c.refused_videos.ensures _ c.put_roles-count.ensures.roles
     (Call c.in-Call.params c.in-Call.traced) (sym c.command.ensures ∙ c.in-Call.is) done.result (outside done.new.desk)
     says.status says.texts says.prefixes says.words says.unopened says.flushed says.causes says.attached
-        (subst (λ (source : Option Role). (inputs : Role → List ℕ) → Tells (outside c.attach_role.new.desk) inputs
-        → IsReadOut done.result source (outside done.new.desk)) (call_source c.in-Call.params c.in-Call.traced)
-        says.whole_input) says.taken_input
+    (subst (λ (source : Option Role). (inputs : Role → List ℕ) → Tells (outside c.attach_role.new.desk) inputs
+    → IsReadOut done.result source (outside done.new.desk)) (call_source c.in-Call.params c.in-Call.traced)
+    says.whole_input) says.taken_input
 
 pub returns-in-Send : goal.returns-in-Send
 returns-in-Send g c =
@@ -66,12 +66,12 @@ returns-in-Send g c =
     let done = c.perform-in-Send in
     let says = done.ensures in
     performed_run (texts c.args.words.now) (asked_of c.in-Ok.words) c.in-Ok.ensures.answer (outside c.args.desk.now)
-        (outside c.attach_role.new.desk)
+    (outside c.attach_role.new.desk)
     c.attach_role.ensures.rest c.in_default.ensures.ok_faults c.refused_videos.ensures _ c.put_roles-count.ensures.roles
     (Send c.in-Send.params c.in-Send.target c.in-Send.fit) (sym c.command.ensures
-        ∙ c.in-Send.is) done.result (outside done.new.desk)
+    ∙ c.in-Send.is) done.result (outside done.new.desk)
     says.status says.texts says.prefixes says.words says.unopened says.flushed says.causes says.attached
-        says.whole_input says.taken_input
+    says.whole_input says.taken_input
 
 pub returns-in-Recv-default-true : goal.returns-in-Recv-default-true
 returns-in-Recv-default-true g c =
@@ -79,13 +79,13 @@ returns-in-Recv-default-true g c =
     let done = c.perform-in-Recv-default-true in
     let says = done.ensures in
     performed_run (texts c.args.words.now) (asked_of c.in-Ok.words) c.in-Ok.ensures.answer (outside c.args.desk.now)
-        (outside c.attach_role.new.desk)
+    (outside c.attach_role.new.desk)
     c.attach_role.ensures.rest c.in_default.ensures.ok_faults c.refused_videos.ensures _ c.put_roles-count.ensures.roles
     (Recv c.in-Recv-default-true.params true) (sym c.command.ensures ∙ c.in-Recv-default-true.is
-        ∙ ap (λ (join : Bool). Recv c.in-Recv-default-true.params join) c.in-Recv-default-true.join-test) done.result
-        (outside done.new.desk)
+    ∙ ap (λ (join : Bool). Recv c.in-Recv-default-true.params join) c.in-Recv-default-true.join-test) done.result
+    (outside done.new.desk)
     says.status says.texts says.prefixes says.words says.unopened says.flushed says.causes says.attached
-        says.whole_input says.taken_input
+    says.whole_input says.taken_input
 
 pub returns-in-Recv-default-false : goal.returns-in-Recv-default-false
 returns-in-Recv-default-false g c =
@@ -93,13 +93,13 @@ returns-in-Recv-default-false g c =
     let done = c.perform-in-Recv-default-false in
     let says = done.ensures in
     performed_run (texts c.args.words.now) (asked_of c.in-Ok.words) c.in-Ok.ensures.answer (outside c.args.desk.now)
-        (outside c.attach_role.new.desk)
+    (outside c.attach_role.new.desk)
     c.attach_role.ensures.rest c.in_default.ensures.ok_faults c.refused_videos.ensures _ c.put_roles-count.ensures.roles
     (Recv c.in-Recv-default-false.params false) (sym c.command.ensures ∙ c.in-Recv-default-false.is
-        ∙ ap (λ (join : Bool). Recv c.in-Recv-default-false.params join) c.in-Recv-default-false.join-test) done.result
-        (outside done.new.desk)
+    ∙ ap (λ (join : Bool). Recv c.in-Recv-default-false.params join) c.in-Recv-default-false.join-test) done.result
+    (outside done.new.desk)
     says.status says.texts says.prefixes says.words says.unopened says.flushed says.causes says.attached
-        says.whole_input says.taken_input
+    says.whole_input says.taken_input
 
 pub returns-in-Demo : goal.returns-in-Demo
 returns-in-Demo g c =
@@ -107,12 +107,12 @@ returns-in-Demo g c =
     let done = c.perform-in-Demo in
     let says = done.ensures in
     performed_run (texts c.args.words.now) (asked_of c.in-Ok.words) c.in-Ok.ensures.answer (outside c.args.desk.now)
-        (outside c.attach_role.new.desk)
+    (outside c.attach_role.new.desk)
     c.attach_role.ensures.rest c.in_default.ensures.ok_faults c.refused_videos.ensures _ c.put_roles-count.ensures.roles
     (Demo c.in-Demo.params c.in-Demo.seed c.in-Demo.frames) (sym c.command.ensures
-        ∙ c.in-Demo.is) done.result (outside done.new.desk)
+    ∙ c.in-Demo.is) done.result (outside done.new.desk)
     says.status says.texts says.prefixes says.words says.unopened says.flushed says.causes says.attached
-        says.whole_input says.taken_input
+    says.whole_input says.taken_input
 
 pub returns-in-Rate : goal.returns-in-Rate
 returns-in-Rate g c =
@@ -120,11 +120,11 @@ returns-in-Rate g c =
     let done = c.perform-in-Rate in
     let says = done.ensures in
     performed_run (texts c.args.words.now) (asked_of c.in-Ok.words) c.in-Ok.ensures.answer (outside c.args.desk.now)
-        (outside c.attach_role.new.desk)
+    (outside c.attach_role.new.desk)
     c.attach_role.ensures.rest c.in_default.ensures.ok_faults c.refused_videos.ensures _ c.put_roles-count.ensures.roles
     (Rate c.in-Rate.target c.in-Rate.bucket) (sym c.command.ensures ∙ c.in-Rate.is) done.result (outside done.new.desk)
     says.status says.texts says.prefixes says.words says.unopened says.flushed says.causes says.attached
-        says.whole_input says.taken_input
+    says.whole_input says.taken_input
 
 pub returns-in-Audit : goal.returns-in-Audit
 returns-in-Audit g c =
@@ -132,11 +132,11 @@ returns-in-Audit g c =
     let done = c.perform-in-Audit in
     let says = done.ensures in
     performed_run (texts c.args.words.now) (asked_of c.in-Ok.words) c.in-Ok.ensures.answer (outside c.args.desk.now)
-        (outside c.attach_role.new.desk)
+    (outside c.attach_role.new.desk)
     c.attach_role.ensures.rest c.in_default.ensures.ok_faults c.refused_videos.ensures _ c.put_roles-count.ensures.roles
     (Audit c.in-Audit.params) (sym c.command.ensures ∙ c.in-Audit.is) done.result (outside done.new.desk)
     says.status says.texts says.prefixes says.words says.unopened says.flushed says.causes says.attached
-        says.whole_input says.taken_input
+    says.whole_input says.taken_input
 
 pub returns : goal.returns
 returns g c =
@@ -144,8 +144,8 @@ returns g c =
     let done = c.perform-in-Duplex in
     let says = done.ensures in
     performed_run (texts c.args.words.now) (asked_of c.in-Ok.words) c.in-Ok.ensures.answer (outside c.args.desk.now)
-        (outside c.attach_role.new.desk)
+    (outside c.attach_role.new.desk)
     c.attach_role.ensures.rest c.in_default.ensures.ok_faults c.refused_videos.ensures _ c.put_roles-count.ensures.roles
     (Duplex c.in-Duplex.params) (sym c.command.ensures ∙ c.in-Duplex.is) done.result (outside done.new.desk)
     says.status says.texts says.prefixes says.words says.unopened says.flushed says.causes says.attached
-        says.whole_input says.taken_input
+    says.whole_input says.taken_input

@@ -11,8 +11,11 @@ use Rattle.h263rps_run.proofs.roles.put_roles.Goals as goal
 use Rattle.h263rps_run.proofs.roles.put_roles.Goals.{in-Some, in_default}
 
 pub order-init : goal.order-init
-order-init c = record { few = omega arith; long = c.told-places;
-    roles = all_named (asked_of c.args.words.now) c.requires }
+order-init c = record {
+  few = omega arith;
+  long = c.told-places;
+  roles = all_named (asked_of c.args.words.now) c.requires;
+}
 
 pub order-preserved : goal.order-preserved
 order-preserved c =

@@ -15,15 +15,15 @@ returns c =
     let is = c.row-row.ensures.samples in
     let b : c.load-before.result ≡ sixteen_from p x y =
     c.load-before.ensures.value
-        ∙ part_from p x x y 0 row c.sixteen.result.now (omega arith) (omega arith) is c.sixteen.ensures.value
-        c.sixteen.ensures.length in
+    ∙ part_from p x x y 0 row c.sixteen.result.now (omega arith) (omega arith) is c.sixteen.ensures.value
+    c.sixteen.ensures.length in
     let m : c.load-centre.result ≡ sixteen_from p (x + 1) y =
     c.load-centre.ensures.value
-        ∙ part_from p x (x + 1) y 1 row c.sixteen-2.result.now refl (omega arith) is c.sixteen-2.ensures.value
-        c.sixteen-2.ensures.length in
+    ∙ part_from p x (x + 1) y 1 row c.sixteen-2.result.now refl (omega arith) is c.sixteen-2.ensures.value
+    c.sixteen-2.ensures.length in
     let a : c.load-after.result ≡ sixteen_from p (x + 1 + 1) y =
     c.load-after.ensures.value ∙ part_from p x (x + 1 + 1) y 2 row c.sixteen-3.result.now (omega arith)
-        (omega arith) is c.sixteen-3.ensures.value c.sixteen-3.ensures.length in
+    (omega arith) is c.sixteen-3.ensures.value c.sixteen-3.ensures.length in
     let hb = c.load-before.ensures.samples in
     let hm = c.load-centre.ensures.samples in
     let ha = c.load-after.ensures.samples in

@@ -14,4 +14,4 @@ rows_rounded-requires-clause-place c =
 pub returns : goal.returns
 returns c =
     all_around (picture c.args.reference) c.args.rounding c.args.mb c.args.vector c.place_of-place.result
-        _ c.requires.between c.place_of-place.ensures.leads c.rows_rounded.ensures
+    _ c.requires.between c.place_of-place.ensures.leads c.rows_rounded.ensures

@@ -28,7 +28,7 @@ loop-j-init c =
 pub of_mean-requires-in-loop-j-2 : goal.of_mean-requires-in-loop-j-2
 of_mean-requires-in-loop-j-2 c =
     let odd = lanes bit_xor c.loop-j.above.centre c.line_at-below.result.centre
-        c.loop-j.invariant.line.centre_samples.long c.line_at-below.ensures.centre_samples.long in
+    c.loop-j.invariant.line.centre_samples.long c.line_at-below.ensures.centre_samples.long in
     (search rules, (c.requires.rounding, (samples_are c.mean-up.ensures.samples, odd)))
 
 pub loop-j-preserved : goal.loop-j-preserved
@@ -44,10 +44,12 @@ loop-j-preserved c =
     let above = inv.line in
     let et : c.from-top.result + (j + 1) ≡ z = omega (arith, c.from-top.ensures) in
     let below : IsLine p x z c.line_at-below.result = subst (λ (k : ℕ). IsLine p x k c.line_at-below.result) et
-        c.line_at-below.ensures in
+    c.line_at-below.ensures in
     let down : AreMeans (sixteen_from p (x + 1) y) (sixteen_from p (x + 1) z) c.mean-up.result _ =
-    record { mean = c.mean-up.ensures.value ∙ cc (above.centre, below.centre);
-        odd = cc (above.centre, below.centre) } in
+    record {
+      mean = c.mean-up.ensures.value ∙ cc (above.centre, below.centre);
+      odd = cc (above.centre, below.centre);
+    } in
     record {
       line = below;
       rows = record {
@@ -59,22 +61,22 @@ loop-j-preserved c =
             c.store-in-loop-j.new.out c.of_mean-in-loop-j.result 16 j
             c.store-in-loop-j.ensures.before c.store-in-loop-j.ensures.stored inv.rows.right
             (λ i hi. right_of p r (x + 1) y i hi _ (c.of_mean-in-loop-j.ensures.lanes _ _ above.middle above.after
-                above.right i hi));
+            above.right i hi));
         up = row_step (λ k i. interpolated p Y false true r (x + 1 + i) (c.args.place.y + k)) c.loop-j.out.up
             c.store-in-loop-j-2.new.out c.of_mean-in-loop-j-2.result 16 j
             c.store-in-loop-j-2.ensures.before c.store-in-loop-j-2.ensures.stored inv.rows.up
             (λ i hi. below_of p r (x + 1) y i hi _ z ez (c.of_mean-in-loop-j-2.ensures.lanes _
-                _ above.middle below.middle down i hi));
+            _ above.middle below.middle down i hi));
         up_left = row_step (λ k i. interpolated p Y true true r (x + i) (c.args.place.y + k)) c.loop-j.out.up_left
             c.store-in-loop-j-3.new.out c.of_means.result 16 j
             c.store-in-loop-j-3.ensures.before c.store-in-loop-j-3.ensures.stored inv.rows.up_left
             (λ i hi. between_of p r x y i hi _ z ez
-                (c.of_means.ensures.lanes _ _ _ _ above.before above.middle below.before below.middle above.left
-                below.left i hi));
+            (c.of_means.ensures.lanes _ _ _ _ above.before above.middle below.before below.middle above.left
+            below.left i hi));
         up_right = row_step (λ k i. interpolated p Y true true r (x + 1 + i) (c.args.place.y + k)) c.loop-j.out.up_right
             c.store-in-loop-j-4.new.out c.of_means-in-loop-j.result 16 j
             c.store-in-loop-j-4.ensures.before c.store-in-loop-j-4.ensures.stored inv.rows.up_right
             (λ i hi. between_of p r (x + 1) y i hi _ z ez (c.of_means-in-loop-j.ensures.lanes _ _ _
-                _ above.middle above.after below.middle below.after above.right below.right i hi));
+            _ above.middle above.after below.middle below.after above.right below.right i hi));
       };
     }

@@ -25,10 +25,10 @@ loop-j-preserved c =
           (pick_l 0 (row ++ row) (range_with_len 0 8)) 8 j
           c.store.ensures.before c.store.ensures.stored inv.2
           (λ i hi. eight_lanes row 0 i long (lit≤ tt) hi ∙ c.next_row-step.ensures.row (0 + i) (omega arith)
-              ∙ lane_at s half r c.loop-j.at (s.width * j) (0 + i) (0 + i) inv.0 refl),
+          ∙ lane_at s half r c.loop-j.at (s.width * j) (0 + i) (0 + i) inv.0 refl),
       row_step (λ k i. lane_between s half r (s.width * k) (8 + i)) c.loop-j.cr c.store-in-loop-j.new.out
           (pick_l 0 (row ++ row) (range_with_len 8 8)) 8 j
           c.store-in-loop-j.ensures.before c.store-in-loop-j.ensures.stored inv.3
           (λ i hi. eight_lanes row 8 i long (lit≤ tt) hi ∙ c.next_row-step.ensures.row (8 + i) (omega arith)
-              ∙ lane_at s half r c.loop-j.at (s.width * j) (8 + i) (8 + i) inv.0 refl),
+          ∙ lane_at s half r c.loop-j.at (s.width * j) (8 + i) (8 + i) inv.0 refl),
     )

@@ -11,11 +11,15 @@ returns-clause-cb c = λ j i hj hi.
     let p = picture c.args.reference in
     let first = c.rows.result.now in
     let second = c.rows-2.result.now in
-    let source : Source = record { rows = c.rows.result; others = c.rows-2.result; width = c.width.result;
-        colours = true } in
+    let source : Source = record {
+      rows = c.rows.result;
+      others = c.rows-2.result;
+      width = c.width.result;
+      colours = true;
+    } in
     c.colour_rows.ensures.cb j i hj hi
     ∙ between_is p Cb source c.args.half c.args.rounding c.args.place.x c.args.place.y 8
-        (0 + i) i j first c.requires.rounding
+    (0 + i) i j first c.requires.rounding
     (λ at. first_lane at i first second hi)
     (λ k l hk hl.
     ap (λ (w : ℕ). get_or first (w * l + k) 0) c.width.ensures
@@ -28,11 +32,15 @@ returns-clause-cr c = λ j i hj hi.
     let p = picture c.args.reference in
     let first = c.rows.result.now in
     let second = c.rows-2.result.now in
-    let source : Source = record { rows = c.rows.result; others = c.rows-2.result; width = c.width.result;
-        colours = true } in
+    let source : Source = record {
+      rows = c.rows.result;
+      others = c.rows-2.result;
+      width = c.width.result;
+      colours = true;
+    } in
     c.colour_rows.ensures.cr j i hj hi
     ∙ between_is p Cr source c.args.half c.args.rounding c.args.place.x c.args.place.y 8
-        (8 + i) i j second c.requires.rounding
+    (8 + i) i j second c.requires.rounding
     (λ at. second_lane at i first second hi)
     (λ k l hk hl.
     ap (λ (w : ℕ). get_or second (w * l + k) 0) c.width.ensures

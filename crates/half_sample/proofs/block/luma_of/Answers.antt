@@ -10,11 +10,15 @@ pub returns : goal.returns
 returns c = λ j i hj hi.
     let p = picture c.args.reference in
     let rows = c.rows-rows.result.now in
-    let source : Source = record { rows = c.rows-rows.result; others = c.rows-rows.result; width = c.width.result;
-        colours = false } in
+    let source : Source = record {
+      rows = c.rows-rows.result;
+      others = c.rows-rows.result;
+      width = c.width.result;
+      colours = false;
+    } in
     c.luma_rows.ensures j i hj hi
     ∙ between_is p Y source c.args.half c.args.rounding c.args.place.x c.args.place.y 16
-        (0 + i) i j rows c.requires.rounding
+    (0 + i) i j rows c.requires.rounding
     (λ at. only_lane at i rows)
     (λ k l hk hl.
     ap (λ (w : ℕ). get_or rows (w * l + k) 0) c.width.ensures

@@ -7,7 +7,7 @@ use Rattle.half_sample.proofs.block.luma_rows.Goals as goal
 pub next_row-step-requires-clause-reach : goal.next_row-step-requires-clause-reach
 next_row-step-requires-clause-reach c =
     row_reach c.args.source c.args.half 16 c.loop-j.j c.loop-j.at c.requires.rows c.loop-j-test.true
-        c.loop-j.invariant.0
+    c.loop-j.invariant.0
 
 pub loop-j-preserved : goal.loop-j-preserved
 loop-j-preserved c =
@@ -22,5 +22,5 @@ loop-j-preserved c =
           c.next_row-step.result.row 16 j
           c.store.ensures.before c.store.ensures.stored inv.2
           (λ i hi. c.next_row-step.ensures.row i hi
-              ∙ lane_at s half r c.loop-j.at (s.width * j) i (0 + i) inv.0 (omega arith)),
+          ∙ lane_at s half r c.loop-j.at (s.width * j) i (0 + i) inv.0 (omega arith)),
     )

@@ -13,5 +13,5 @@ pub returns : goal.returns
 returns c j i hj hi =
     c.luma_block.ensures j i hj hi
     ∙ block_sample 16 (picture c.args.reference) Y c.args.rounding c.args.mb i j c.args.vector c.place_of-place.result
-        c.half_of-half.result
+    c.half_of-half.result
     c.place_of-place.ensures.leads c.half_of-half.ensures

@@ -12,7 +12,7 @@ moved-requires-clause-inside c =
     let fits : FitsSigned w8 c.args.vector.x = omega (arith, ints, c.requires.reach) in
     let column = c.mb_place-column.ensures.column ∙ ap (λ g. c.args.mb % columns_of g) c.format.ensures.format in
     at_place c.args.plane column (to_z-of_z w8 c.args.vector.x fits) (not_before c.args.plane (c.args.mb % columns_of f)
-        (width_of f) c.args.vector.x c.requires.reach.0.2)
+    (width_of f) c.args.vector.x c.requires.reach.0.2)
 
 pub moved-requires-2-clause-inside : goal.moved-requires-2-clause-inside
 moved-requires-2-clause-inside c =
@@ -20,7 +20,7 @@ moved-requires-2-clause-inside c =
     let fits : FitsSigned w8 c.args.vector.y = omega (arith, ints, c.requires.reach) in
     let row = c.mb_place-column.ensures.row ∙ ap (λ g. c.args.mb / columns_of g) c.format.ensures.format in
     at_place c.args.plane row (to_z-of_z w8 c.args.vector.y fits) (not_before c.args.plane (c.args.mb / columns_of f)
-        (height_of f) c.args.vector.y c.requires.reach.1.2)
+    (height_of f) c.args.vector.y c.requires.reach.1.2)
 
 pub returns-clause-leads : goal.returns-clause-leads
 returns-clause-leads c =

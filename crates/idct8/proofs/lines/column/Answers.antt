@@ -11,8 +11,10 @@ use Rattle.idct8.proofs.lines.column.Goals as goal
 taken : (column block : List ℤ) → length column ≡ 8 → ((j : ℕ) → j < 8 → IsValue (slice_index_or block (8 * j) (pos 0)))
     → ((j : ℕ) → j < 8 → slice_index_or column j (pos 0) ≡ slice_index_or block (8 * j) (pos 0))
     → EightWithin (2 ^ 11) column
-taken column block long values e = record { long = long;
-    within = λ j hj. within_same (2 ^ 11) (2 ^ 11) (lit≤ tt) (e j hj) (value_within (values j hj)) }
+taken column block long values e = record {
+  long = long;
+  within = λ j hj. within_same (2 ^ 11) (2 ^ 11) (lit≤ tt) (e j hj) (value_within (values j hj));
+}
 
 first_of_row : (block : List ℤ) (j : ℕ) → slice_index_or block (8 * j) (pos 0) ≡ entry block j 0
 first_of_row block j =
@@ -24,8 +26,8 @@ returns-clause-numbers c j hj =
     let block = c.args.block.now in
     let column = c.loop-j.column in
     passed_lane16 (2 ^ 11) j (lit≤ tt) (taken column block c.loop-j.invariant.0
-        (λ k hk. c.requires (8 * k) (pos 0) (omega (arith, hk)))
-        (λ k hk. c.loop-j.invariant.1 k (omega (arith, hk, c.loop-j-test.false))))
+    (λ k hk. c.requires (8 * k) (pos 0) (omega (arith, hk)))
+    (λ k hk. c.loop-j.invariant.1 k (omega (arith, hk, c.loop-j-test.false))))
     ∙ c.loop-j.invariant.1 j (omega (arith, hj, c.loop-j-test.false))
     ∙ first_of_row block j
 
@@ -34,5 +36,5 @@ returns-clause-size c =
     let block = c.args.block.now in
     let column = c.loop-j.column in
     passed_within16 (2 ^ 11) 8191 (lit≤ tt) (lit≤ tt) (taken column block c.loop-j.invariant.0
-        (λ k hk. c.requires (8 * k) (pos 0) (omega (arith, hk)))
-        (λ k hk. c.loop-j.invariant.1 k (omega (arith, hk, c.loop-j-test.false))))
+    (λ k hk. c.requires (8 * k) (pos 0) (omega (arith, hk)))
+    (λ k hk. c.loop-j.invariant.1 k (omega (arith, hk, c.loop-j-test.false))))

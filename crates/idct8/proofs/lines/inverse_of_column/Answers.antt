@@ -25,11 +25,11 @@ returns-clause-numbers c y x hy hx =
     ∙ ap (λ (z : ℤ). rounded (pos 2048 *ℤ z))
     (same_sum 8 (λ j. factor Inverse j y *ℤ lane read j) (λ j. factor Inverse j y *ℤ entry block j 0)
     (λ j hj. ap (λ (z : ℤ). factor Inverse j y *ℤ z) (passed_lane16 8191 j (lit≤ tt) c.column.ensures.size
-        ∙ c.column.ensures.numbers j hj)))
+    ∙ c.column.ensures.numbers j hj)))
     ∙ column_alone block c.requires.zeros y x hx
 
 pub returns-clause-range : goal.returns-clause-range
 returns-clause-range c y x hy hx =
     within_same 32000 32000 (lit≤ tt) (c.store_in_each_column.ensures y x hy hx
-        ∙ passed_lane16 32000 y (lit≤ tt) c.line_numbers-numbers.ensures.size)
-        (c.line_numbers-numbers.ensures.size.within y hy)
+    ∙ passed_lane16 32000 y (lit≤ tt) c.line_numbers-numbers.ensures.size)
+    (c.line_numbers-numbers.ensures.size.within y hy)

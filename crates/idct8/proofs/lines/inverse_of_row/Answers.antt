@@ -20,11 +20,11 @@ returns-clause-numbers c y x hy hx =
     ∙ c.line_numbers-numbers.ensures.numbers x hx
     ∙ ap (λ (z : ℤ). rounded (pos 2048 *ℤ z))
     (row_terms Inverse (map (to_z w16) (map (of_z w16) c.row.result)) c.args.block.now 0 x
-        (λ i hi. passed_lane16 8191 i (lit≤ tt) c.row.ensures.size ∙ c.row.ensures.numbers i hi))
+    (λ i hi. passed_lane16 8191 i (lit≤ tt) c.row.ensures.size ∙ c.row.ensures.numbers i hi))
     ∙ row_alone c.args.block.now c.requires.zeros y x hy hx
 
 pub returns-clause-range : goal.returns-clause-range
 returns-clause-range c y x hy hx =
     within_same 32000 32000 (lit≤ tt) (c.store_in_each_row.ensures y x hy hx
-        ∙ passed_lane16 32000 x (lit≤ tt) c.line_numbers-numbers.ensures.size)
-        (c.line_numbers-numbers.ensures.size.within x hx)
+    ∙ passed_lane16 32000 x (lit≤ tt) c.line_numbers-numbers.ensures.size)
+    (c.line_numbers-numbers.ensures.size.within x hx)

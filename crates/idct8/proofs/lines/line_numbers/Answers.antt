@@ -18,9 +18,9 @@ returns-clause-numbers c k hk =
     passed_lane16 32000 k (lit≤ tt) c.line_quotients.ensures.size
     ∙ c.line_quotients.ensures.value k hk
     ∙ ap (λ (z : ℤ). int_shr (z +ℤ pos 8192) 14) (passed_lane (2 ^ 28) k (lit≤ tt) c.row_of_sums.ensures.size
-        ∙ c.row_of_sums.ensures.sums k hk
+    ∙ c.row_of_sums.ensures.sums k hk
     ∙ same_pass Inverse (map (to_z w16) (map (of_z w16) c.args.line)) c.args.line k
-        (λ i hi. passed_lane16 8191 i (lit≤ tt) c.requires))
+    (λ i hi. passed_lane16 8191 i (lit≤ tt) c.requires))
     ∙ line_rounded (pass_at Inverse c.args.line k)
 
 pub returns-clause-size : goal.returns-clause-size

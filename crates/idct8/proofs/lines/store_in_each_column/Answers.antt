@@ -15,10 +15,10 @@ number_kept z h = omega (arith, ints)
 pub eight_of-requires : goal.eight_of-requires
 eight_of-requires c =
     let eight : EightWithin 32000 (map (to_z w16) (map (of_z w16) c.args.v)) = passed_within16 32000 32000 (lit≤ tt)
-        (lit≤ tt) c.requires in
+    (lit≤ tt) c.requires in
     let number = eight.within c.loop-r.r c.loop-r-test.true in
     within_same 32000 32000 (lit≤ tt) (number_kept (lane (map (to_z w16) (map (of_z w16) c.args.v)) c.loop-r.r) number)
-        number
+    number
 
 pub store-requires-clause-v : goal.store-requires-clause-v
 store-requires-clause-v c = passed_within16 32000 32000 (lit≤ tt) (lit≤ tt) c.eight_of.ensures.size
@@ -32,7 +32,7 @@ loop-r-preserved c =
     let given : EightWithin 32000 numbers = passed_within16 32000 32000 (lit≤ tt) (lit≤ tt) c.requires in
     let eight : EightWithin 32000 v = passed_within16 32000 32000 (lit≤ tt) (lit≤ tt) c.eight_of.ensures.size in
     let own = λ (k : ℕ) (hk : k < 8). passed_lane16 32000 k (lit≤ tt) c.eight_of.ensures.size
-        ∙ c.eight_of.ensures.numbers k hk ∙ number_kept (lane numbers r) (given.within r c.loop-r-test.true) in (
+    ∙ c.eight_of.ensures.numbers k hk ∙ number_kept (lane numbers r) (given.within r c.loop-r-test.true) in (
       ap length c.store.ensures ∙ length-put_chunk (8 * r) out v ∙ c.loop-r.invariant.0,
       λ j k hj hk. ap (λ (u : List ℤ). entry u j k) c.store.ensures
           ∙ row_step (λ r k. lane numbers r) out v r c.loop-r.invariant.0 eight.long c.loop-r-test.true own

@@ -27,35 +27,35 @@ returns c =
     let even2 = lows_minus (lows_minus outer middle) inner1 in
     let even3 = lows_minus (lows_plus outer middle) inner0 in
     let odd0 = lows_plus (lows_plus (lows_times 2841 s1) (lows_times 2408 s3))
-        (lows_plus (lows_times 1609 s5) (lows_times 565 s7)) in
+    (lows_plus (lows_times 1609 s5) (lows_times 565 s7)) in
     let odd1 = lows_minus (lows_minus (lows_times 2408 s1) (lows_times 565 s3))
-        (lows_plus (lows_times 2841 s5) (lows_times 1609 s7)) in
+    (lows_plus (lows_times 2841 s5) (lows_times 1609 s7)) in
     let odd2 = lows_plus (lows_minus (lows_times 1609 s1) (lows_times 2841 s3))
-        (lows_plus (lows_times 565 s5) (lows_times 2408 s7)) in
+    (lows_plus (lows_times 565 s5) (lows_times 2408 s7)) in
     let odd3 = lows_plus (lows_minus (lows_times 565 s1) (lows_times 1609 s3))
-        (lows_minus (lows_times 2408 s5) (lows_times 2841 s7)) in
+    (lows_minus (lows_times 2408 s5) (lows_times 2841 s7)) in
     each_sum (λ y v. AreColumnSums s y v)
     (column_sums s 0 (λ i hi. c.requires.fits 0 i (lit< tt) hi) (lows_plus even0 odd0)
-        (λ i hi. column_0 (lane (sum_at s 0) i) (lane (sum_at s 1) i) (lane (sum_at s 2) i) (lane (sum_at s 3) i)
-        (lane (sum_at s 4) i) (lane (sum_at s 5) i) (lane (sum_at s 6) i) (lane (sum_at s 7) i)))
+    (λ i hi. column_0 (lane (sum_at s 0) i) (lane (sum_at s 1) i) (lane (sum_at s 2) i) (lane (sum_at s 3) i)
+    (lane (sum_at s 4) i) (lane (sum_at s 5) i) (lane (sum_at s 6) i) (lane (sum_at s 7) i)))
     (column_sums s 1 (λ i hi. c.requires.fits 1 i (lit< tt) hi) (lows_plus even1 odd1)
-        (λ i hi. column_1 (lane (sum_at s 0) i) (lane (sum_at s 1) i) (lane (sum_at s 2) i) (lane (sum_at s 3) i)
-        (lane (sum_at s 4) i) (lane (sum_at s 5) i) (lane (sum_at s 6) i) (lane (sum_at s 7) i)))
+    (λ i hi. column_1 (lane (sum_at s 0) i) (lane (sum_at s 1) i) (lane (sum_at s 2) i) (lane (sum_at s 3) i)
+    (lane (sum_at s 4) i) (lane (sum_at s 5) i) (lane (sum_at s 6) i) (lane (sum_at s 7) i)))
     (column_sums s 2 (λ i hi. c.requires.fits 2 i (lit< tt) hi) (lows_plus even2 odd2)
-        (λ i hi. column_2 (lane (sum_at s 0) i) (lane (sum_at s 1) i) (lane (sum_at s 2) i) (lane (sum_at s 3) i)
-        (lane (sum_at s 4) i) (lane (sum_at s 5) i) (lane (sum_at s 6) i) (lane (sum_at s 7) i)))
+    (λ i hi. column_2 (lane (sum_at s 0) i) (lane (sum_at s 1) i) (lane (sum_at s 2) i) (lane (sum_at s 3) i)
+    (lane (sum_at s 4) i) (lane (sum_at s 5) i) (lane (sum_at s 6) i) (lane (sum_at s 7) i)))
     (column_sums s 3 (λ i hi. c.requires.fits 3 i (lit< tt) hi) (lows_plus even3 odd3)
-        (λ i hi. column_3 (lane (sum_at s 0) i) (lane (sum_at s 1) i) (lane (sum_at s 2) i) (lane (sum_at s 3) i)
-        (lane (sum_at s 4) i) (lane (sum_at s 5) i) (lane (sum_at s 6) i) (lane (sum_at s 7) i)))
+    (λ i hi. column_3 (lane (sum_at s 0) i) (lane (sum_at s 1) i) (lane (sum_at s 2) i) (lane (sum_at s 3) i)
+    (lane (sum_at s 4) i) (lane (sum_at s 5) i) (lane (sum_at s 6) i) (lane (sum_at s 7) i)))
     (column_sums s 4 (λ i hi. c.requires.fits 4 i (lit< tt) hi) (lows_minus even3 odd3)
-        (λ i hi. column_4 (lane (sum_at s 0) i) (lane (sum_at s 1) i) (lane (sum_at s 2) i) (lane (sum_at s 3) i)
-        (lane (sum_at s 4) i) (lane (sum_at s 5) i) (lane (sum_at s 6) i) (lane (sum_at s 7) i)))
+    (λ i hi. column_4 (lane (sum_at s 0) i) (lane (sum_at s 1) i) (lane (sum_at s 2) i) (lane (sum_at s 3) i)
+    (lane (sum_at s 4) i) (lane (sum_at s 5) i) (lane (sum_at s 6) i) (lane (sum_at s 7) i)))
     (column_sums s 5 (λ i hi. c.requires.fits 5 i (lit< tt) hi) (lows_minus even2 odd2)
-        (λ i hi. column_5 (lane (sum_at s 0) i) (lane (sum_at s 1) i) (lane (sum_at s 2) i) (lane (sum_at s 3) i)
-        (lane (sum_at s 4) i) (lane (sum_at s 5) i) (lane (sum_at s 6) i) (lane (sum_at s 7) i)))
+    (λ i hi. column_5 (lane (sum_at s 0) i) (lane (sum_at s 1) i) (lane (sum_at s 2) i) (lane (sum_at s 3) i)
+    (lane (sum_at s 4) i) (lane (sum_at s 5) i) (lane (sum_at s 6) i) (lane (sum_at s 7) i)))
     (column_sums s 6 (λ i hi. c.requires.fits 6 i (lit< tt) hi) (lows_minus even1 odd1)
-        (λ i hi. column_6 (lane (sum_at s 0) i) (lane (sum_at s 1) i) (lane (sum_at s 2) i) (lane (sum_at s 3) i)
-        (lane (sum_at s 4) i) (lane (sum_at s 5) i) (lane (sum_at s 6) i) (lane (sum_at s 7) i)))
+    (λ i hi. column_6 (lane (sum_at s 0) i) (lane (sum_at s 1) i) (lane (sum_at s 2) i) (lane (sum_at s 3) i)
+    (lane (sum_at s 4) i) (lane (sum_at s 5) i) (lane (sum_at s 6) i) (lane (sum_at s 7) i)))
     (column_sums s 7 (λ i hi. c.requires.fits 7 i (lit< tt) hi) (lows_minus even0 odd0)
-        (λ i hi. column_7 (lane (sum_at s 0) i) (lane (sum_at s 1) i) (lane (sum_at s 2) i) (lane (sum_at s 3) i)
-        (lane (sum_at s 4) i) (lane (sum_at s 5) i) (lane (sum_at s 6) i) (lane (sum_at s 7) i)))
+    (λ i hi. column_7 (lane (sum_at s 0) i) (lane (sum_at s 1) i) (lane (sum_at s 2) i) (lane (sum_at s 3) i)
+    (lane (sum_at s 4) i) (lane (sum_at s 5) i) (lane (sum_at s 6) i) (lane (sum_at s 7) i)))

@@ -13,8 +13,8 @@ dots-requires-2-clause-a c = spread_within c.args.r 4 6 5 7 c.requires (lit< tt)
 pub unfolded-requires : goal.unfolded-requires
 unfolded-requires c =
     numbers_small (2 ^ 27) (lit≤ tt) (lit≤ tt)
-        (sum_words (lit≤ tt) (own_words w32 (2 ^ 26) c.dots.result c.dots.ensures.size)
-        (own_words w32 (2 ^ 26) c.dots-2.result c.dots-2.ensures.size))
+    (sum_words (lit≤ tt) (own_words w32 (2 ^ 26) c.dots.result c.dots.ensures.size)
+    (own_words w32 (2 ^ 26) c.dots-2.result c.dots-2.ensures.size))
 
 pub returns-clause-sums : goal.returns-clause-sums
 returns-clause-sums c k hk =
@@ -23,7 +23,7 @@ returns-clause-sums c k hk =
     ∙ row_is c.args.r halves c.unfolded.result
     (halves_are c.args.r c.dots.result c.dots-2.result halves c.requires c.dots.ensures.sums c.dots-2.ensures.sums
     (numbers (lit≤ tt) (sum_words (lit≤ tt) (own_words w32 (2 ^ 26) c.dots.result c.dots.ensures.size)
-        (own_words w32 (2 ^ 26) c.dots-2.result c.dots-2.ensures.size))))
+    (own_words w32 (2 ^ 26) c.dots-2.result c.dots-2.ensures.size))))
     c.unfolded.ensures.sums c.unfolded.ensures.differences k hk
 
 pub returns-clause-size : goal.returns-clause-size

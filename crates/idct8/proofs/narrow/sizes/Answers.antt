@@ -14,7 +14,7 @@ loop-at-preserved c =
     let at = c.loop-at.at in
     let z : ℤ = slice_index_or c.args.values.now at (pos 0) in
     let kept : to_z w16 (of_z w16 z)
-        ≡ z = value_kept z (c.requires.values at (pos 0) (omega (arith, c.loop-at-test.true, c.requires.places))) in
+    ≡ z = value_kept z (c.requires.values at (pos 0) (omega (arith, c.loop-at-test.true, c.requires.places))) in
     let size : c.unsigned_abs.result ≡ unsigned_abs z = c.unsigned_abs.ensures.value ∙ ap unsigned_abs kept in
     let cut : c.min-sum.result ≡ min (unsigned_abs z) 1023 = c.min-sum.ensures ∙ ap (λ (n : ℕ). min n 1023) size in (
       one_more_size (cut_size c.args.values.now) at c.loop-at.sum c.min-sum.result c.loop-at.invariant.0 cut,

@@ -21,10 +21,10 @@ loop-r-preserved c =
     let out = c.loop-r.out in
     let v : List ℤ = c.quotients.result in
     let is = c.store.ensures
-        ∙ ap (λ (u : List ℤ). put_chunk (8 * r) out u) (passed16 64 (lit≤ tt) c.quotients.ensures.size) in
+    ∙ ap (λ (u : List ℤ). put_chunk (8 * r) out u) (passed16 64 (lit≤ tt) c.quotients.ensures.size) in
     let own : (k : ℕ) → k < 8 → lane v k ≡ int_shr (lane (sum_at c.args.s r) k) 25 = λ k hk.
     c.quotients.ensures.value k hk
-        ∙ ap (λ (z : ℤ). int_shr z 25) (passed_lane (2 ^ 31 - 1) k (lit≤ tt) (c.requires r c.loop-r-test.true)) in (
+    ∙ ap (λ (z : ℤ). int_shr z 25) (passed_lane (2 ^ 31 - 1) k (lit≤ tt) (c.requires r c.loop-r-test.true)) in (
       ap length is ∙ length-put_chunk (8 * r) out v ∙ c.loop-r.invariant.0,
       λ j k hj hk. ap (λ (u : List ℤ). entry u j k) is
           ∙ row_step (λ r k. int_shr (lane (sum_at c.args.s r) k) 25) out v r c.loop-r.invariant.0

@@ -25,7 +25,7 @@ loop-j-preserved c =
     let long : length sums ≡ 8 = c.loop-j.invariant.0 in
     let read : List ℤ = map (to_z w32) (map (of_z w32) c.row_of_sums.result) in
     let numbers = λ (i : ℕ) (hi : i < 8). passed_lane16 8191 i (lit≤ tt) c.row.ensures.size
-        ∙ c.row.ensures.numbers i hi in
+    ∙ c.row.ensures.numbers i hi in
     let own : (k : ℕ) → k < 8 → lane read k ≡ row_sums Inverse values j k = λ k hk.
     passed_lane (2 ^ 28) k (lit≤ tt) c.row_of_sums.ensures.size
     ∙ c.row_of_sums.ensures.sums k hk
@@ -50,7 +50,7 @@ returns-clause-sums c j k hj hk = by_row (nat_le c.loop-j.j j) refl
         ap (λ (v : List ℤ). lane v k) (c.loop-j.invariant.2 j past hj)
         ∙ zero_lane k hk
         ∙ sym (sums_of_zeros c.args.values.now j k
-            (λ i hi. c.requires.zeros j i (omega (arith, past, c.loop-j-test.false)) hj hi))
+        (λ i hi. c.requires.zeros j i (omega (arith, past, c.loop-j-test.false)) hj hi))
     by_row false e = (c.loop-j.invariant.1 j (leb-false c.loop-j.j j e)).1 k hk
 
 sums_long : (sums : List ℤ) → sums ≡ replicate 8 (pos 0) → length sums ≡ 8
@@ -62,7 +62,7 @@ returns-clause-size c j hj = record {
   within = λ k hk.
       within_same (2841 * 2 ^ 11 * 8) 46546944 (lit≤ tt) (returns-clause-sums c j k hj hk)
       (within_pass Inverse (2 ^ 11) k (λ i. entry c.args.values.now j i) hk (λ i hi. c.requires.values (8 * j + i)
-          (pos 0) (omega arith)));
+      (pos 0) (omega arith)));
 }
   where
     by_row : (t : Bool) → nat_le c.loop-j.j j ≡ t → length (sum_at c.loop-j.sums j) ≡ 8

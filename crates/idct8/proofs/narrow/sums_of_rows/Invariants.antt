@@ -9,5 +9,5 @@ abbrev pub invariant-loop-j : goal.invariant-loop-j
 invariant-loop-j l =
     (length l.sums ≡ 8)
     × ((j : ℕ) → j < l.j → EightWithin (2 ^ 28) (sum_at l.sums j) × ((k : ℕ) → k < 8 → lane (sum_at l.sums j) k
-        ≡ row_sums Inverse l.fn.values j k))
+    ≡ row_sums Inverse l.fn.values j k))
     × ((j : ℕ) → l.j ≤ j → j < 8 → sum_at l.sums j ≡ replicate 8 (pos 0))

@@ -17,14 +17,17 @@ loop-k-preserved c =
     let high : List ℤ = map (to_z w16) (map (of_z w16) c.parts.result.0) in
     let low : List ℤ = map (to_z w16) (map (of_z w16) c.parts.result.1) in
     let given : AreParts (map (to_z w32) (map (of_z w32) (sum_at c.args.s k))) c.parts.result.0 c.parts.result.1 =
-    record { whole = c.parts.ensures.whole; high_size = c.parts.ensures.high_size;
-        low_size = c.parts.ensures.low_size } in
+    record {
+      whole = c.parts.ensures.whole;
+      high_size = c.parts.ensures.high_size;
+      low_size = c.parts.ensures.low_size;
+    } in
     let own : AreParts (sum_at c.args.s k) high low =
     subst (λ (v : List ℤ). AreParts v high low) (passed 46546944 (lit≤ tt) (c.requires k below))
     (subst (λ (v : List ℤ). AreParts (map (to_z w32) (map (of_z w32) (sum_at c.args.s k))) v low)
-        (sym (passed16 8191 (lit≤ tt) c.parts.ensures.high_size))
+    (sym (passed16 8191 (lit≤ tt) c.parts.ensures.high_size))
     (subst (λ (v : List ℤ). AreParts (map (to_z w32) (map (of_z w32) (sum_at c.args.s k))) c.parts.result.0 v)
-        (sym (passed16 8191 (lit≤ tt) c.parts.ensures.low_size)) given)) in (
+    (sym (passed16 8191 (lit≤ tt) c.parts.ensures.low_size)) given)) in (
       length-set c.loop-k.high k (row_with high) ∙ high_long,
       length-set c.loop-k.low k (row_with low) ∙ low_long,
       one_row_of_each (λ j v w. AreParts (sum_at c.args.s j) v w) c.loop-k.high c.loop-k.low k high low

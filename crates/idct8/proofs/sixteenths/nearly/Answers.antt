@@ -17,8 +17,8 @@ pub returns-clause-sixteenths : goal.returns-clause-sixteenths
 returns-clause-sixteenths c u v hu hv =
     c.put_rows.ensures.numbers u v hu hv
     ∙ c.across.ensures.numbers u v hu hv
-        ∙ near_of_lanes c.args.samples.now c.down.result c.transposed.result u v hv c.transposed.ensures.rows
-        c.down.ensures.numbers
+    ∙ near_of_lanes c.args.samples.now c.down.result c.transposed.result u v hv c.transposed.ensures.rows
+    c.down.ensures.numbers
 
 pub returns-clause-range : goal.returns-clause-range
 returns-clause-range c =
@@ -28,6 +28,6 @@ returns-clause-range c =
     let row : at / 8 < 8 = omega (arith, small) in
     let column : at % 8 < 8 = omega arith in
     let is : entry c.put_rows.new.out (at / 8) (at % 8) ≡ lane (row_at c.across.result (at / 8)) (at % 8) =
-        c.put_rows.ensures.numbers (at / 8) (at % 8) row column in
+    c.put_rows.ensures.numbers (at / 8) (at % 8) row column in
     subst (Within 32640) (sym is ∙ ap (λ (k : ℕ). get_or c.put_rows.new.out k (pos 0)) place)
-        ((c.across.ensures.size (at / 8) row).within (at % 8) column))
+    ((c.across.ensures.size (at / 8) row).within (at % 8) column))

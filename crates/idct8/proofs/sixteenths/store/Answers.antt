@@ -7,6 +7,6 @@ use Rattle.idct8.proofs.sixteenths.store.Goals as goal
 pub returns : goal.returns
 returns c =
     ap (λ (v : List ℤ). take (8 * c.args.j) c.args.out.now
-        ++ (put_chunk 0 (take (64 - 8 * c.args.j) (drop (8 * c.args.j) c.args.out.now)) v
-        ++ drop (64 - 8 * c.args.j) (drop (8 * c.args.j) c.args.out.now))) (passed16 32640 (lit≤ tt) c.requires.v)
+    ++ (put_chunk 0 (take (64 - 8 * c.args.j) (drop (8 * c.args.j) c.args.out.now)) v
+    ++ drop (64 - 8 * c.args.j) (drop (8 * c.args.j) c.args.out.now))) (passed16 32640 (lit≤ tt) c.requires.v)
     ∙ stored c.args.out.now c.args.v (8 * c.args.j) (64 - 8 * c.args.j) (omega arith) (omega (arith, c.requires.v.long))

@@ -26,17 +26,23 @@ returns c small v u hv hu =
     let few : most + 4 * c.args.least + 4 < 4 * c.args.least * c.args.least = ltb-true _ _ small in
     each_part_below s v u c.args.least most hv hu
     (energy_of s rows false false (λ k. k) first_half c.folded.ensures.sums c.squares_across.result.0 across.sums
-    _ (λ i. passed_lane 1073479696 i (lit≤ tt) across.sums_size) most (omega (arith, c.larger_half.ensures.first,
-        largest)))
+    _ (λ i. passed_lane 1073479696 i (lit≤ tt) across.sums_size) most (omega (
+      arith,
+      c.larger_half.ensures.first,
+      largest,
+    )))
     (energy_of s rows false true (λ k. 4 + k) last_half c.folded.ensures.differences c.squares_across.result.0
-        across.sums
-    _ (λ i. passed_lane 1073479696 i (lit≤ tt) across.sums_size) most (omega (arith, c.larger_half.ensures.last,
-        largest)))
+    across.sums
+    _ (λ i. passed_lane 1073479696 i (lit≤ tt) across.sums_size) most (omega (
+      arith,
+      c.larger_half.ensures.last,
+      largest,
+    )))
     (energy_of s rows true false (λ k. k) first_half c.folded.ensures.sums c.squares_across.result.1 across.differences
     _ (λ i. passed_lane 1073479696 i (lit≤ tt) across.differences_size) most
-        (omega (arith, c.larger_half-2.ensures.first, largest)))
+    (omega (arith, c.larger_half-2.ensures.first, largest)))
     (energy_of s rows true true (λ k. 4 + k) last_half c.folded.ensures.differences c.squares_across.result.1
-        across.differences
+    across.differences
     _ (λ i. passed_lane 1073479696 i (lit≤ tt) across.differences_size) most
-        (omega (arith, c.larger_half-2.ensures.last, largest)))
+    (omega (arith, c.larger_half-2.ensures.last, largest)))
     (omega (arith, few)) c.requires.least

@@ -15,12 +15,12 @@ row-requires-2-clause-block c k d h = within_more 255 (2 ^ 11) _ (lit≤ tt) (sa
 pub small_pair-requires-clause-a : goal.small_pair-requires-clause-a
 small_pair-requires-clause-a c =
     passed_within16 255 4095 (lit≤ tt) (lit≤ tt) (sample_row c.args.block.now c.row.result c.args.k (omega arith)
-        (omega (arith, c.requires.k)) c.requires.block c.row.ensures.size.long c.row.ensures.numbers)
+    (omega (arith, c.requires.k)) c.requires.block c.row.ensures.size.long c.row.ensures.numbers)
 
 pub small_pair-requires-clause-b : goal.small_pair-requires-clause-b
 small_pair-requires-clause-b c =
     passed_within16 255 4095 (lit≤ tt) (lit≤ tt) (sample_row c.args.block.now c.row-2.result (7 - c.args.k)
-        (omega arith) (omega (arith, c.requires.k)) c.requires.block c.row-2.ensures.size.long c.row-2.ensures.numbers)
+    (omega arith) (omega (arith, c.requires.k)) c.requires.block c.row-2.ensures.size.long c.row-2.ensures.numbers)
 
 pub returns-clause-sum : goal.returns-clause-sum
 returns-clause-sum c i hi =

@@ -59,17 +59,17 @@ returns-clause-sums c i hi =
     ∙ c.squares_of_four.ensures.value i hi
     ∙ same_squares
     (passed_lane16 16382 i (lit≤ tt) c.pair.ensures.sum_size
-        ∙ sum_of (c.pair.ensures.sum i hi) (passed_lane16 8191 i (lit≤ tt) (c.requires 0 (lit< tt)))
-        (passed_lane16 8191 i (lit≤ tt) (c.requires 7 (lit< tt))))
+    ∙ sum_of (c.pair.ensures.sum i hi) (passed_lane16 8191 i (lit≤ tt) (c.requires 0 (lit< tt)))
+    (passed_lane16 8191 i (lit≤ tt) (c.requires 7 (lit< tt))))
     (passed_lane16 16382 i (lit≤ tt) c.pair-2.ensures.sum_size
-        ∙ sum_of (c.pair-2.ensures.sum i hi) (passed_lane16 8191 i (lit≤ tt) (c.requires 1 (lit< tt)))
-        (passed_lane16 8191 i (lit≤ tt) (c.requires 6 (lit< tt))))
+    ∙ sum_of (c.pair-2.ensures.sum i hi) (passed_lane16 8191 i (lit≤ tt) (c.requires 1 (lit< tt)))
+    (passed_lane16 8191 i (lit≤ tt) (c.requires 6 (lit< tt))))
     (passed_lane16 16382 i (lit≤ tt) c.pair-3.ensures.sum_size
-        ∙ sum_of (c.pair-3.ensures.sum i hi) (passed_lane16 8191 i (lit≤ tt) (c.requires 2 (lit< tt)))
-        (passed_lane16 8191 i (lit≤ tt) (c.requires 5 (lit< tt))))
+    ∙ sum_of (c.pair-3.ensures.sum i hi) (passed_lane16 8191 i (lit≤ tt) (c.requires 2 (lit< tt)))
+    (passed_lane16 8191 i (lit≤ tt) (c.requires 5 (lit< tt))))
     (passed_lane16 16382 i (lit≤ tt) c.pair-4.ensures.sum_size
-        ∙ sum_of (c.pair-4.ensures.sum i hi) (passed_lane16 8191 i (lit≤ tt) (c.requires 3 (lit< tt)))
-        (passed_lane16 8191 i (lit≤ tt) (c.requires 4 (lit< tt))))
+    ∙ sum_of (c.pair-4.ensures.sum i hi) (passed_lane16 8191 i (lit≤ tt) (c.requires 3 (lit< tt)))
+    (passed_lane16 8191 i (lit≤ tt) (c.requires 4 (lit< tt))))
 
 pub returns-clause-differences : goal.returns-clause-differences
 returns-clause-differences c i hi =
@@ -77,17 +77,17 @@ returns-clause-differences c i hi =
     ∙ c.squares_of_four-2.ensures.value i hi
     ∙ same_squares
     (passed_lane16 16382 i (lit≤ tt) c.pair.ensures.difference_size
-        ∙ difference_of (c.pair.ensures.difference i hi) (passed_lane16 8191 i (lit≤ tt) (c.requires 0 (lit< tt)))
-        (passed_lane16 8191 i (lit≤ tt) (c.requires 7 (lit< tt))))
+    ∙ difference_of (c.pair.ensures.difference i hi) (passed_lane16 8191 i (lit≤ tt) (c.requires 0 (lit< tt)))
+    (passed_lane16 8191 i (lit≤ tt) (c.requires 7 (lit< tt))))
     (passed_lane16 16382 i (lit≤ tt) c.pair-2.ensures.difference_size
-        ∙ difference_of (c.pair-2.ensures.difference i hi) (passed_lane16 8191 i (lit≤ tt) (c.requires 1 (lit< tt)))
-        (passed_lane16 8191 i (lit≤ tt) (c.requires 6 (lit< tt))))
+    ∙ difference_of (c.pair-2.ensures.difference i hi) (passed_lane16 8191 i (lit≤ tt) (c.requires 1 (lit< tt)))
+    (passed_lane16 8191 i (lit≤ tt) (c.requires 6 (lit< tt))))
     (passed_lane16 16382 i (lit≤ tt) c.pair-3.ensures.difference_size
-        ∙ difference_of (c.pair-3.ensures.difference i hi) (passed_lane16 8191 i (lit≤ tt) (c.requires 2 (lit< tt)))
-        (passed_lane16 8191 i (lit≤ tt) (c.requires 5 (lit< tt))))
+    ∙ difference_of (c.pair-3.ensures.difference i hi) (passed_lane16 8191 i (lit≤ tt) (c.requires 2 (lit< tt)))
+    (passed_lane16 8191 i (lit≤ tt) (c.requires 5 (lit< tt))))
     (passed_lane16 16382 i (lit≤ tt) c.pair-4.ensures.difference_size
-        ∙ difference_of (c.pair-4.ensures.difference i hi) (passed_lane16 8191 i (lit≤ tt) (c.requires 3 (lit< tt)))
-        (passed_lane16 8191 i (lit≤ tt) (c.requires 4 (lit< tt))))
+    ∙ difference_of (c.pair-4.ensures.difference i hi) (passed_lane16 8191 i (lit≤ tt) (c.requires 3 (lit< tt)))
+    (passed_lane16 8191 i (lit≤ tt) (c.requires 4 (lit< tt))))
 
 pub returns-clause-sums_size : goal.returns-clause-sums_size
 returns-clause-sums_size c = passed_within 1073479696 1073479696 (lit≤ tt) (lit≤ tt) c.squares_of_four.ensures.size

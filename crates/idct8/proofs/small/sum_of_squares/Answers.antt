@@ -19,26 +19,26 @@ pub returns-clause-sum : goal.returns-clause-sum
 returns-clause-sum c =
     by_columns (λ k. square (get_or c.args.samples.now k (pos 0))) c.sum_of_lanes.ensures.sum
     (ap unsigned_abs (passed_lane 520200 0 (lit≤ tt) c.squares_down.ensures.size)
-        ∙ column_squares c.args.samples.now c.rows.result c.squares_down.result 0 (lit< tt) c.rows.ensures.numbers
-        (c.squares_down.ensures.value 0 (lit< tt)))
+    ∙ column_squares c.args.samples.now c.rows.result c.squares_down.result 0 (lit< tt) c.rows.ensures.numbers
+    (c.squares_down.ensures.value 0 (lit< tt)))
     (ap unsigned_abs (passed_lane 520200 1 (lit≤ tt) c.squares_down.ensures.size)
-        ∙ column_squares c.args.samples.now c.rows.result c.squares_down.result 1 (lit< tt) c.rows.ensures.numbers
-        (c.squares_down.ensures.value 1 (lit< tt)))
+    ∙ column_squares c.args.samples.now c.rows.result c.squares_down.result 1 (lit< tt) c.rows.ensures.numbers
+    (c.squares_down.ensures.value 1 (lit< tt)))
     (ap unsigned_abs (passed_lane 520200 2 (lit≤ tt) c.squares_down.ensures.size)
-        ∙ column_squares c.args.samples.now c.rows.result c.squares_down.result 2 (lit< tt) c.rows.ensures.numbers
-        (c.squares_down.ensures.value 2 (lit< tt)))
+    ∙ column_squares c.args.samples.now c.rows.result c.squares_down.result 2 (lit< tt) c.rows.ensures.numbers
+    (c.squares_down.ensures.value 2 (lit< tt)))
     (ap unsigned_abs (passed_lane 520200 3 (lit≤ tt) c.squares_down.ensures.size)
-        ∙ column_squares c.args.samples.now c.rows.result c.squares_down.result 3 (lit< tt) c.rows.ensures.numbers
-        (c.squares_down.ensures.value 3 (lit< tt)))
+    ∙ column_squares c.args.samples.now c.rows.result c.squares_down.result 3 (lit< tt) c.rows.ensures.numbers
+    (c.squares_down.ensures.value 3 (lit< tt)))
     (ap unsigned_abs (passed_lane 520200 4 (lit≤ tt) c.squares_down.ensures.size)
-        ∙ column_squares c.args.samples.now c.rows.result c.squares_down.result 4 (lit< tt) c.rows.ensures.numbers
-        (c.squares_down.ensures.value 4 (lit< tt)))
+    ∙ column_squares c.args.samples.now c.rows.result c.squares_down.result 4 (lit< tt) c.rows.ensures.numbers
+    (c.squares_down.ensures.value 4 (lit< tt)))
     (ap unsigned_abs (passed_lane 520200 5 (lit≤ tt) c.squares_down.ensures.size)
-        ∙ column_squares c.args.samples.now c.rows.result c.squares_down.result 5 (lit< tt) c.rows.ensures.numbers
-        (c.squares_down.ensures.value 5 (lit< tt)))
+    ∙ column_squares c.args.samples.now c.rows.result c.squares_down.result 5 (lit< tt) c.rows.ensures.numbers
+    (c.squares_down.ensures.value 5 (lit< tt)))
     (ap unsigned_abs (passed_lane 520200 6 (lit≤ tt) c.squares_down.ensures.size)
-        ∙ column_squares c.args.samples.now c.rows.result c.squares_down.result 6 (lit< tt) c.rows.ensures.numbers
-        (c.squares_down.ensures.value 6 (lit< tt)))
+    ∙ column_squares c.args.samples.now c.rows.result c.squares_down.result 6 (lit< tt) c.rows.ensures.numbers
+    (c.squares_down.ensures.value 6 (lit< tt)))
     (ap unsigned_abs (passed_lane 520200 7 (lit≤ tt) c.squares_down.ensures.size)
-        ∙ column_squares c.args.samples.now c.rows.result c.squares_down.result 7 (lit< tt) c.rows.ensures.numbers
-        (c.squares_down.ensures.value 7 (lit< tt)))
+    ∙ column_squares c.args.samples.now c.rows.result c.squares_down.result 7 (lit< tt) c.rows.ensures.numbers
+    (c.squares_down.ensures.value 7 (lit< tt)))

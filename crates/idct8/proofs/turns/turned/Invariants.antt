@@ -6,4 +6,4 @@ use Rattle.idct8.proofs.turns.turned.Given as goal
 abbrev pub invariant-loop-k : goal.invariant-loop-k
 invariant-loop-k l = (length l.turned ≡ 8) × ((j : ℕ) → j < l.k →
     (row_at l.turned (2 * j) ≡ woven_first (row_at l.fn.r j) (row_at l.fn.r (j + 4)))
-        × (row_at l.turned (2 * j + 1) ≡ woven_last (row_at l.fn.r j) (row_at l.fn.r (j + 4))))
+    × (row_at l.turned (2 * j + 1) ≡ woven_last (row_at l.fn.r j) (row_at l.fn.r (j + 4))))

@@ -19,5 +19,5 @@ returns c r k hr hk =
     c.round.ensures r k hr hk
     ∙ same_rounded (c.pass-high.ensures.sums r k hr hk) (c.pass-low.ensures.sums r k hr hk)
     ∙ ap rounded (passes_of_parts Inverse (list_at c.split.result.0 k) (list_at c.split.result.1 k) f r
-        (λ j hj. parts_listed c.split.result.0 c.split.result.1 k j (f j) hj (c.split.ensures.whole j k hj hk)))
+    (λ j hj. parts_listed c.split.result.0 c.split.result.1 k j (f j) hj (c.split.ensures.whole j k hj hk)))
     ∙ passes_are Inverse c.args.block.now f r k (λ j hj. c.sums_of_rows.ensures.sums j k hj hk)

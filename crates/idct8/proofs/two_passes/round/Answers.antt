@@ -25,9 +25,9 @@ loop-r-preserved c =
     let out = c.loop-r.out in
     let v : List ℤ = c.nearest.result in
     let is = c.store.ensures
-        ∙ ap (λ (u : List ℤ). put_chunk (8 * r) out u) (passed 270000 (lit≤ tt) c.nearest.ensures.size) in
+    ∙ ap (λ (u : List ℤ). put_chunk (8 * r) out u) (passed 270000 (lit≤ tt) c.nearest.ensures.size) in
     let own : (k : ℕ) → k < 8
-        → lane v k ≡ rounded (pos 8192 *ℤ lane (sum_at c.args.high r) k +ℤ lane (sum_at c.args.low r) k) = λ k hk.
+    → lane v k ≡ rounded (pos 8192 *ℤ lane (sum_at c.args.high r) k +ℤ lane (sum_at c.args.low r) k) = λ k hk.
     c.nearest.ensures.value k hk
     ∙ same_rounded (passed_lane (2 ^ 30) k (lit≤ tt) (c.requires.high r c.loop-r-test.true))
     (passed_lane (2 ^ 30) k (lit≤ tt) (c.requires.low r c.loop-r-test.true)) in (

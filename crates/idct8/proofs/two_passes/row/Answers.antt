@@ -28,10 +28,10 @@ loaded_within block j hj long h = record {
 pub returns-clause-numbers : goal.returns-clause-numbers
 returns-clause-numbers c i hi =
     passed_lane16 (2 ^ 11) i (lit≤ tt) (loaded_within c.args.block.now c.args.j c.requires.j (omega arith)
-        (λ i hi. c.requires.block (8 * c.args.j + i) (pos 0) (omega arith)))
+    (λ i hi. c.requires.block (8 * c.args.j + i) (pos 0) (omega arith)))
     ∙ loaded c.args.block.now c.args.j i c.requires.j hi
 
 pub returns-clause-size : goal.returns-clause-size
 returns-clause-size c =
     passed_within16 (2 ^ 11) 8191 (lit≤ tt) (lit≤ tt) (loaded_within c.args.block.now c.args.j c.requires.j
-        (omega arith) (λ i hi. c.requires.block (8 * c.args.j + i) (pos 0) (omega arith)))
+    (omega arith) (λ i hi. c.requires.block (8 * c.args.j + i) (pos 0) (omega arith)))

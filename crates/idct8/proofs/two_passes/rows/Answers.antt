@@ -13,9 +13,10 @@ loop-j-preserved c =
     let read : List ℤ = map (to_z w16) (map (of_z w16) c.row.result) in (
       length-set c.loop-j.rows j (row_with read) ∙ long,
       one_row (λ j v. EightWithin 8191 v × ((i : ℕ) → i < 8 → lane v i ≡ entry c.args.block.now j i)) c.loop-j.rows j
-          read (omega (arith, below, long)) c.loop-j.invariant.1
-          (passed_within16 8191 8191 (lit≤ tt) (lit≤ tt) c.row.ensures.size,
-              λ i hi. passed_lane16 8191 i (lit≤ tt) c.row.ensures.size ∙ c.row.ensures.numbers i hi),
+          read (omega (arith, below, long)) c.loop-j.invariant.1 (
+            passed_within16 8191 8191 (lit≤ tt) (lit≤ tt) c.row.ensures.size,
+            λ i hi. passed_lane16 8191 i (lit≤ tt) c.row.ensures.size ∙ c.row.ensures.numbers i hi,
+          ),
     )
 
 pub returns-clause-numbers : goal.returns-clause-numbers

@@ -8,9 +8,16 @@ small value i below le =
     omega (arith, power)
 
 pub overflow_mul-value : goal.overflow_mul-value
-overflow_mul-value c = omega (arith, small c.loop-digit.value c.loop-digit.digit-index c.loop-digit.invariant.small
-    (omega arith))
+overflow_mul-value c = omega (
+  arith,
+  small c.loop-digit.value c.loop-digit.digit-index c.loop-digit.invariant.small
+      (omega arith),
+)
 
 pub overflow_add-value : goal.overflow_add-value
-overflow_add-value c = omega (arith, small c.loop-digit.value c.loop-digit.digit-index c.loop-digit.invariant.small
-    (omega arith), c.is_ascii_digit.ensures.bound)
+overflow_add-value c = omega (
+  arith,
+  small c.loop-digit.value c.loop-digit.digit-index c.loop-digit.invariant.small
+      (omega arith),
+  c.is_ascii_digit.ensures.bound,
+)

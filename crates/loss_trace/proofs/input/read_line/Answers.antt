@@ -13,14 +13,14 @@ returns-in-None-clause-told g c = λ left told.
     let h = c.loop-i.invariant.told left told in
     let b = c.in_ok-read_byte.ensures.told (drop c.loop-i.i left) h.1 in
     nothing left c.loop-i.i c.if-i-eq0.true (no_byte c.in_ok-read_byte.field-0 (drop c.loop-i.i left) c.in-None.is b.0)
-        _ b.1
+    _ b.1
 
 pub returns-in-None-2-clause-told : goal.returns-in-None-2-clause-told
 returns-in-None-2-clause-told g c = λ left told.
     let h = c.loop-i.invariant.told left told in
     let b = c.in_ok-read_byte.ensures.told (drop c.loop-i.i left) h.1 in
     unclosed left c.loop-i.line c.loop-i.i h.0 _ b.1 (omega (arith, c.if-i-eq0.false))
-        (no_byte c.in_ok-read_byte.field-0 (drop c.loop-i.i left) c.in-None.is b.0)
+    (no_byte c.in_ok-read_byte.field-0 (drop c.loop-i.i left) c.in-None.is b.0)
 
 pub returns-in-Some-eq10-clause-told : goal.returns-in-Some-eq10-clause-told
 returns-in-Some-eq10-clause-told g c = λ left told.
@@ -28,7 +28,7 @@ returns-in-Some-eq10-clause-told g c = λ left told.
     let b = c.in_ok-read_byte.ensures.told (drop c.loop-i.i left) h.1 in
     let byte = c.in-Some-eq10.field-0 in
     closed left c.loop-i.line c.loop-i.i h.0 _ b.1 byte (byte_there c.in_ok-read_byte.field-0 byte
-        (drop c.loop-i.i left) c.in-Some-eq10.is b.0) c.in-Some-eq10.field-0-test
+    (drop c.loop-i.i left) c.in-Some-eq10.is b.0) c.in-Some-eq10.field-0-test
 
 pub loop-i-preserved : goal.loop-i-preserved
 loop-i-preserved g c = record {
@@ -50,7 +50,7 @@ returns-in-None-3-clause-told g c = λ left told.
     let h = full left c.loop-i.line c.loop-i.i n _ (omega arith) (c.loop-i.invariant.told left told) in
     let b = c.in_ok-read_byte-2.ensures.told (drop n left) h.1 in
     unclosed left c.loop-i.line n h.0 _ b.1 (omega (arith, c.loop-i.auto.line, c.requires.size))
-        (no_byte c.in_ok-read_byte-2.field-0 (drop n left) c.in-None-3.is b.0)
+    (no_byte c.in_ok-read_byte-2.field-0 (drop n left) c.in-None-3.is b.0)
 
 pub returns-in-Some-eq10-2-clause-told : goal.returns-in-Some-eq10-2-clause-told
 returns-in-Some-eq10-2-clause-told g c = λ left told.
@@ -59,7 +59,7 @@ returns-in-Some-eq10-2-clause-told g c = λ left told.
     let b = c.in_ok-read_byte-2.ensures.told (drop n left) h.1 in
     let byte = c.in-Some-eq10-2.field-0 in
     closed left c.loop-i.line n h.0 _ b.1 byte (byte_there c.in_ok-read_byte-2.field-0 byte
-        (drop n left) c.in-Some-eq10-2.is b.0) c.in-Some-eq10-2.field-0-test
+    (drop n left) c.in-Some-eq10-2.is b.0) c.in-Some-eq10-2.field-0-test
 
 pub returns-in-Some-2-clause-told : goal.returns-in-Some-2-clause-told
 returns-in-Some-2-clause-told g c = λ left told.
@@ -68,5 +68,8 @@ returns-in-Some-2-clause-told g c = λ left told.
     let b = c.in_ok-read_byte-2.ensures.told (drop n left) h.1 in
     let byte = c.in-Some-2.field-0 in
     too_long left c.loop-i.line n h.0 _ b.1 byte (byte_there c.in_ok-read_byte-2.field-0 byte
-        (drop n left) c.in-Some-2.is b.0) c.in-Some-2.field-0-test.1 (omega (arith, c.loop-i.auto.line,
-        c.requires.size))
+    (drop n left) c.in-Some-2.is b.0) c.in-Some-2.field-0-test.1 (omega (
+      arith,
+      c.loop-i.auto.line,
+      c.requires.size,
+    ))

@@ -7,5 +7,8 @@ pub returns : goal.returns
 returns c =
     let tables = c.in_a_syntax.ensures in
     let of_blocks = c.in_a_syntax-2.ensures in
-    record { productive = mb_productive tables of_blocks; spelt = mb_written tables of_blocks;
-        short = mb_short of_blocks }
+    record {
+      productive = mb_productive tables of_blocks;
+      spelt = mb_written tables of_blocks;
+      short = mb_short of_blocks;
+    }

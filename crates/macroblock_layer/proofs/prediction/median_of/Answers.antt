@@ -18,7 +18,15 @@ returns c =
     let wy : SFits w8 w.y = omega (arith, ints) in
     let ux : SFits w8 u.x = omega (arith, ints) in
     let uy : SFits w8 u.y = omega (arith, ints) in
-    rw (to_z-of_z w8 x.result (in_range x.result x.ensures.low x.ensures.high),
-        to_z-of_z w8 y.result (in_range y.result y.ensures.low y.ensures.high), x.ensures.median, y.ensures.median,
-        to_z-of_z w8 v.x vx, to_z-of_z w8 v.y vy, to_z-of_z w8 w.x wx, to_z-of_z w8 w.y wy, to_z-of_z w8 u.x ux,
-        to_z-of_z w8 u.y uy)
+    rw (
+      to_z-of_z w8 x.result (in_range x.result x.ensures.low x.ensures.high),
+      to_z-of_z w8 y.result (in_range y.result y.ensures.low y.ensures.high),
+      x.ensures.median,
+      y.ensures.median,
+      to_z-of_z w8 v.x vx,
+      to_z-of_z w8 v.y vy,
+      to_z-of_z w8 w.x wx,
+      to_z-of_z w8 w.y wy,
+      to_z-of_z w8 u.x ux,
+      to_z-of_z w8 u.y uy,
+    )

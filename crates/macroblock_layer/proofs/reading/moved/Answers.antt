@@ -15,6 +15,13 @@ returns c =
     let py : SFits w8 p.y = omega (arith, ints) in
     let dx : SFits w8 d.x = omega (arith, ints) in
     let dy : SFits w8 d.y = omega (arith, ints) in
-    rw (to_z-of_z w8 x.result (component_fits x.result x.ensures.low x.ensures.high),
-        to_z-of_z w8 y.result (component_fits y.result y.ensures.low y.ensures.high), x.ensures.wrapped,
-        y.ensures.wrapped, to_z-of_z w8 p.x px, to_z-of_z w8 p.y py, to_z-of_z w8 d.x dx, to_z-of_z w8 d.y dy)
+    rw (
+      to_z-of_z w8 x.result (component_fits x.result x.ensures.low x.ensures.high),
+      to_z-of_z w8 y.result (component_fits y.result y.ensures.low y.ensures.high),
+      x.ensures.wrapped,
+      y.ensures.wrapped,
+      to_z-of_z w8 p.x px,
+      to_z-of_z w8 p.y py,
+      to_z-of_z w8 d.x dx,
+      to_z-of_z w8 d.y dy,
+    )

@@ -7,4 +7,4 @@ pub returns : goal.returns
 returns c =
     six_read intra c.args.pattern.cbpy c.args.pattern.cbpc c.args.out.now _ _ _ _ _ _ _ _ _ _ _ _ _ (omega arith)
     c.in_ok-read_intra_block.ensures c.in_ok-read_intra_block-2.ensures c.in_ok-read_intra_block-3.ensures
-        c.in_ok-read_intra_block-4.ensures c.in_ok-read_intra_block-5.ensures c.in_ok-read_intra_block-6.ensures
+    c.in_ok-read_intra_block-4.ensures c.in_ok-read_intra_block-5.ensures c.in_ok-read_intra_block-6.ensures

@@ -18,7 +18,7 @@ use Rattle.macroblock_layer.proofs.reading.read_mb.Goals as goal
 every : BlockLaws → (kind : Kind) (quant : ℕ) (reach : Reach) (predictor : Vector) (r : Result (Unit {0}) Fault)
     (out : Mb) (old new : Bits)
     → IsProductive (mb kind quant reach predictor)
-        → Gives (λ u. out) r new (reading (mb kind quant reach predictor) old) → record {
+    → Gives (λ u. out) r new (reading (mb kind quant reach predictor) old) → record {
       found : IfOk r (λ u. Takes old new (IsMbText kind quant reach predictor out));
       only : (m : Mb) (text rest : List Bool) → IsMbText kind quant reach predictor m text → old.bits ≡ text ++ rest
           → IsOkAnd r (λ u. (out ≡ m) × (new.bits ≡ rest));
@@ -42,12 +42,12 @@ unfolding mb reading
 returns-in_err-lead c =
     let a = c.args in
     every c.in_a_syntax.ensures a.kind a.quant a.reach a.predictor c.from_residual.result a.out.now a.reader.now
-        c.read_lead.new.reader (c.in_a_syntax-2.ensures.productive a.kind a.quant a.reach a.predictor) (search rules)
+    c.read_lead.new.reader (c.in_a_syntax-2.ensures.productive a.kind a.quant a.reach a.predictor) (search rules)
 
 pub returns : goal.returns
 unfolding mb reading
 returns c =
     let a = c.args in
     every c.in_a_syntax.ensures a.kind a.quant a.reach a.predictor c.read_after_lead.result c.read_after_lead.new.out
-        a.reader.now c.read_after_lead.new.reader
-        (c.in_a_syntax-2.ensures.productive a.kind a.quant a.reach a.predictor) (search rules)
+    a.reader.now c.read_after_lead.new.reader
+    (c.in_a_syntax-2.ensures.productive a.kind a.quant a.reach a.predictor) (search rules)

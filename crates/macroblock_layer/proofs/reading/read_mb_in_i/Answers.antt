@@ -9,4 +9,4 @@ pub returns-clause-exact : goal.returns-clause-exact
 returns-clause-exact c = λ reach predictor.
     let old = c.args.reader.now in
     subst (λ (x : Result (Mb × Bits) Fault). Gives (λ _. c.read_mb.new.out) c.read_mb.result c.read_mb.new.reader x)
-        (same_in_i c.args.quant _ reach _ predictor old) c.read_mb.ensures.exact
+    (same_in_i c.args.quant _ reach _ predictor old) c.read_mb.ensures.exact

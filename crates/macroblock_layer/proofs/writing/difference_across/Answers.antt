@@ -14,5 +14,5 @@ returns-clause-wrapped c =
     let p_fits : SFits w8 p = omega (arith, ints) in
     rw (to_z-of_z w8 c.wrapped.result (component_fits c.wrapped.result c.wrapped.ensures.low c.wrapped.ensures.high))
     (wrapped_same c.wrapped.result
-        (to_z w16 (of_z w16 (to_z w16 (of_z w16 (to_z w8 (of_z w8 v))) -ℤ to_z w16 (of_z w16 (to_z w8 (of_z w8 p))))))
-        (v -ℤ p) c.wrapped.ensures.wrapped (sub_same v p v_fits p_fits))
+    (to_z w16 (of_z w16 (to_z w16 (of_z w16 (to_z w8 (of_z w8 v))) -ℤ to_z w16 (of_z w16 (to_z w8 (of_z w8 p))))))
+    (v -ℤ p) c.wrapped.ensures.wrapped (sub_same v p v_fits p_fits))

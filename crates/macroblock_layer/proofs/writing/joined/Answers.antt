@@ -14,11 +14,13 @@ pub returns-clause-fits : goal.returns-clause-fits
 returns-clause-fits c =
     let a = c.args in
     subst (λ (k : ℕ). k + a.second < 2 ^ (a.n + a.m)) (sym (kept a.first a.n a.m c.requires.first c.requires.few))
-        (both_fit a.first a.second a.n a.m c.requires.first c.requires.second)
+    (both_fit a.first a.second a.n a.m c.requires.first c.requires.second)
 
 pub overflow_add-result : goal.overflow_add-result
 overflow_add-result c =
     let a = c.args in
-    record { fits = below_32 _ (a.n + a.m) (subst (λ (k : ℕ). k + a.second < 2 ^ (a.n + a.m))
-        (sym (kept a.first a.n a.m c.requires.first c.requires.few))
-        (both_fit a.first a.second a.n a.m c.requires.first c.requires.second)) c.requires.few }
+    record {
+      fits = below_32 _ (a.n + a.m) (subst (λ (k : ℕ). k + a.second < 2 ^ (a.n + a.m))
+          (sym (kept a.first a.n a.m c.requires.first c.requires.few))
+          (both_fit a.first a.second a.n a.m c.requires.first c.requires.second)) c.requires.few;
+    }

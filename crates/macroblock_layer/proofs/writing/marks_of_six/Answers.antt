@@ -8,7 +8,7 @@ use Rattle.macroblock_layer.proofs.writing.marks_of_six.Goals as goal
 pub returns-clause-marks : goal.returns-clause-marks
 returns-clause-marks c =
     let marks : List ℕ = c.marks.result ∷ c.marks-2.result ∷ c.marks-3.result ∷ c.marks-4.result ∷ c.marks-5.result ∷
-        c.marks-6.result ∷ [] in
+    c.marks-6.result ∷ [] in
     six (λ k. slice_index_or marks k 0 ≡ marks_of (levels_at c.args.blocks.now k)) c.marks.ensures.marks
-        c.marks-2.ensures.marks c.marks-3.ensures.marks c.marks-4.ensures.marks c.marks-5.ensures.marks
-        c.marks-6.ensures.marks
+    c.marks-2.ensures.marks c.marks-3.ensures.marks c.marks-4.ensures.marks c.marks-5.ensures.marks
+    c.marks-6.ensures.marks

@@ -34,5 +34,5 @@ returns-clause-bits c = record {
 pub returns-clause-len : goal.returns-clause-len
 returns-clause-len c =
     let nothing : length (left inter_text c.args.blocks.now c.all.k)
-        ≡ 0 = ap length (none_left_text inter_text c.args.blocks.now c.all.k (omega arith)) in
+    ≡ 0 = ap length (none_left_text inter_text c.args.blocks.now c.all.k (omega arith)) in
     omega (arith, nothing)

@@ -10,5 +10,9 @@ write_head-requires-clause-room c =
 pub write_intra_blocks-requires-clause-room : goal.write_intra_blocks-requires-clause-room
 write_intra_blocks-requires-clause-room c =
     let p = c.pattern_by-pattern.result in
-    omega (arith, head_short c.args.kind c.args.quant c.args.new true p.cbpy p.cbpc,
-        intra_blocks_short c.in_a_syntax.ensures c.args.blocks.now c.requires.whole, c.write_head.ensures.bits.room)
+    omega (
+      arith,
+      head_short c.args.kind c.args.quant c.args.new true p.cbpy p.cbpc,
+      intra_blocks_short c.in_a_syntax.ensures c.args.blocks.now c.requires.whole,
+      c.write_head.ensures.bits.room,
+    )

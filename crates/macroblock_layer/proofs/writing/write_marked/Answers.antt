@@ -10,13 +10,13 @@ unfolding spelled
 returns-in-Skip-clause-bits c =
     let a = c.args in
     subst (λ (m : Mb). Appends a.writer.now c.put.new.self (mb_text a.kind a.quant a.predictor m))
-        (sym c.in-Skip.is) c.put.ensures.bits
+    (sym c.in-Skip.is) c.put.ensures.bits
 
 pub returns-in-Skip-clause-spells : goal.returns-in-Skip-clause-spells
 returns-in-Skip-clause-spells c = λ reach within.
     let a = c.args in
     c.in_a_syntax.ensures.spelt a.kind a.quant reach a.predictor a.mb.now c.requires.mb c.requires.kind c.requires.step
-        c.is_whole.ensures.whole within
+    c.is_whole.ensures.whole within
 
 pub returns-in-Intra-clause-short : goal.returns-in-Intra-clause-short
 returns-in-Intra-clause-short c =
@@ -27,7 +27,7 @@ pub returns-in-Intra-clause-spells : goal.returns-in-Intra-clause-spells
 returns-in-Intra-clause-spells c = λ reach within.
     let a = c.args in
     c.in_a_syntax.ensures.spelt a.kind a.quant reach a.predictor a.mb.now c.requires.mb c.requires.kind c.requires.step
-        c.is_whole.ensures.whole within
+    c.is_whole.ensures.whole within
 
 pub returns-in-Inter-clause-short : goal.returns-in-Inter-clause-short
 returns-in-Inter-clause-short c =
@@ -38,4 +38,4 @@ pub returns-in-Inter-clause-spells : goal.returns-in-Inter-clause-spells
 returns-in-Inter-clause-spells c = λ reach within.
     let a = c.args in
     c.in_a_syntax.ensures.spelt a.kind a.quant reach a.predictor a.mb.now c.requires.mb c.requires.kind c.requires.step
-        c.is_whole.ensures.whole within
+    c.is_whole.ensures.whole within

@@ -14,6 +14,6 @@ returns-clause-picture c =
     let cr = c.put_plane-3.ensures in
     c.samples_are_picture.ensures.only (work c.put_plane-3.new.out) made cr.whole.whole
     (three_planes made (work c.args.out.now) (work c.put_plane.new.out) (work c.put_plane-2.new.out)
-        (work c.put_plane-3.new.out) luma.format cb.format cr.format
+    (work c.put_plane-3.new.out) luma.format cb.format cr.format
     luma.made cb.made cr.made cb.others cr.others)
     ∙ ap (λ (f : Format). picture_with f made) (cr.format ∙ cb.format ∙ luma.format ∙ c.requires)

@@ -25,11 +25,11 @@ loop-at-preserved c =
     let is : v ≡ f at =
     same ∙ c.level.ensures.level
     ∙ ap (level_by c.args.coding c.args.quantisation.quant)
-        (word_kept word (c.limited_by_rows-limited.ensures.range at (pos 0)
-        (omega (arith, c.limited_by_rows-limited.ensures.long, below)))
-        ∙ c.limited_by_rows-limited.ensures.limited at below)
+    (word_kept word (c.limited_by_rows-limited.ensures.range at (pos 0)
+    (omega (arith, c.limited_by_rows-limited.ensures.long, below)))
+    ∙ c.limited_by_rows-limited.ensures.limited at below)
     ∙ same_level c.limited_coefficients.ensures c.args.coding c.args.quantisation.quant
-        (get_or c.args.coefficients.now at (pos 0)) c.requires.quant in
+    (get_or c.args.coefficients.now at (pos 0)) c.requires.quant in
     let room : at < length c.loop-at.levels = omega (arith, inv.long, below) in
     record {
       long = length-set c.loop-at.levels at v ∙ inv.long;

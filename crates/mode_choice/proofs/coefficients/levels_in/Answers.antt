@@ -8,4 +8,4 @@ pub returns-clause-levels : goal.returns-clause-levels
 returns-clause-levels c k h =
     c.put_in_order.ensures.levels k h
     ∙ ap (kept_level c.args.quantisation.keep k) (c.levels_by_rows-by_rows.ensures.levels (block_place_of k)
-        (block_place_below k))
+    (block_place_below k))

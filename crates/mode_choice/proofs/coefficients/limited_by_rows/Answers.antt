@@ -21,7 +21,7 @@ loop-at-preserved c =
     let v : ℤ = to_z w16 (of_z w16 c.limited.result) in
     let same = word_kept c.limited.result c.limited.ensures.range in
     let is : v ≡ f at = same ∙ c.limited.ensures.value
-        ∙ ap limited_to_word (coefficient_kept (get_or c.args.coefficients.now at (pos 0)) (c.requires at below)) in
+    ∙ ap limited_to_word (coefficient_kept (get_or c.args.coefficients.now at (pos 0)) (c.requires at below)) in
     let room : at < length c.loop-at.words = omega (arith, inv.long, below) in
     record {
       long = length-set c.loop-at.words at v ∙ inv.long;

@@ -8,6 +8,6 @@ pub returns : goal.returns
 returns c =
     let samples = c.args.samples.now in
     let sum : differences samples (replicate 256 0)
-        ≡ sum_l samples = subst (λ (n : ℕ). differences samples (replicate n 0) ≡ sum_l samples) c.told-samples
-        (from_zero samples) in
+    ≡ sum_l samples = subst (λ (n : ℕ). differences samples (replicate n 0) ≡ sum_l samples) c.told-samples
+    (from_zero samples) in
     ap (λ (n : ℕ). n / 256) (c.differences_from.ensures.value ∙ sum)

@@ -50,11 +50,11 @@ returns-clause-levels c =
     dc_kept c.intra_dc.result c.intra_dc.ensures.range
     ∙ c.intra_dc.ensures.value
     ∙ ap (λ (f : ℤ). limited_dc (int_shr (f +ℤ pos 4) 3))
-        (coefficient_kept c.transformed-first.result.0 c.transformed-first.ensures.first_range
-        ∙ c.transformed-first.ensures.first) in
+    (coefficient_kept c.transformed-first.result.0 c.transformed-first.ensures.first_range
+    ∙ c.transformed-first.ensures.first) in
     let block : List ℤ → Block = λ ls. record { levels = ls } in
     ap block (fill_by_all (λ (k : ℕ). level_of quant keep k (coefficient_at samples k)) (slice_set levels 0 dc) 64
-        (pos 0) (length-set levels 0 dc ∙ c.transformed-first.ensures.long)
+    (pos 0) (length-set levels 0 dc ∙ c.transformed-first.ensures.long)
     (with_first quant keep samples levels dc c.transformed-first.ensures.long first
     (λ k some below. c.transformed-first.ensures.levels k below ∙ behind k _ _ some)))
 
@@ -65,7 +65,7 @@ pub returns-clause-marks : goal.returns-clause-marks
 returns-clause-marks c =
     let dc : ℤ = to_z w16 (of_z w16 c.intra_dc.result) in
     let some : dc ≢ pos 0 = subst (λ (z : ℤ). z ≢ pos 0) (sym (dc_kept c.intra_dc.result c.intra_dc.ensures.range))
-        (dc_some c.intra_dc.result c.intra_dc.ensures.range) in
+    (dc_some c.intra_dc.result c.intra_dc.ensures.range) in
     ap (λ (n : ℕ). bit_or n 1) c.transformed-first.ensures.marks
     ∙ set_mark c.marks.ensures c.transformed-first.new.out 0 dc (lit< tt)
-        (omega (arith, c.transformed-first.ensures.long)) some
+    (omega (arith, c.transformed-first.ensures.long)) some

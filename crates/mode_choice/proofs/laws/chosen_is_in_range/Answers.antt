@@ -11,8 +11,10 @@ use Rattle.mode_choice.proofs.Whole.{chosen_whole}
 use Rattle.mode_choice.proofs.laws.chosen_is_in_range.Goals as goal
 
 zero_in_range : IsVector zero_vector
-zero_in_range = record { x = record { low = omega (arith, ints); high = omega (arith, ints) };
-    y = record { low = omega (arith, ints); high = omega (arith, ints) } }
+zero_in_range = record {
+  x = record { low = omega (arith, ints); high = omega (arith, ints) };
+  y = record { low = omega (arith, ints); high = omega (arith, ints) };
+}
 
 pub returns-clause-in_range : goal.returns-clause-in_range
 unfolding best_near best_whole
@@ -24,10 +26,10 @@ returns-clause-in_range c = chosen_in_range (λ frame reference mb radius r.
     let best = least first (map candidate whole) in
     let near = filter within (neighbours best.vector) in
     one_of_candidates candidate near best (least best (map candidate near))
-        (c.none_before_the_least.ensures.one_of_them best (map candidate near)) (λ c. IsVector c.vector)
+    (c.none_before_the_least.ensures.one_of_them best (map candidate near)) (λ c. IsVector c.vector)
     (one_of_candidates candidate whole first best (c.none_before_the_least.ensures.one_of_them first
-        (map candidate whole)) (λ c. IsVector c.vector) zero_in_range
-        (reaching_vectors c.reach_is_tested.ensures reference.format mb (whole_vectors radius)))
+    (map candidate whole)) (λ c. IsVector c.vector) zero_in_range
+    (reaching_vectors c.reach_is_tested.ensures reference.format mb (whole_vectors radius)))
     (reaching_vectors c.reach_is_tested.ensures reference.format mb (neighbours best.vector)))
 
 pub returns-clause-reach : goal.returns-clause-reach

@@ -32,7 +32,7 @@ pub returns-clause-next : goal.returns-clause-next
 returns-clause-next c = λ frame reference h params mb here.
     let mbs = choices_of frame reference h params in
     let next : take (mb + 1) mbs ≡ take mb mbs ++ get_or mbs mb Skip ∷ [] =
-        rw (add-one) (take-suc mbs mb Skip (omega (arith, here, count frame reference h params))) in
+    rw (add-one) (take-suc mbs mb Skip (omega (arith, here, count frame reference h params))) in
     next ∙ ap (λ (m : Mb). take mb mbs ++ m ∷ []) (each frame reference h params mb here)
 
 pub returns-clause-all : goal.returns-clause-all

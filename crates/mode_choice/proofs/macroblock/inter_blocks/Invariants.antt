@@ -16,7 +16,7 @@ invariant-loop-block l =
     (length l.out ≡ 6)
     × ((q : Picture) (r : ℕ) (v : Vector) → IsPredicted q l.mb v r l.predicted → (d : Block) (b : ℕ) → b < l.block →
     get_or l.out b d ≡ residual_levels_of l.quantisation.quant l.quantisation.keep
-        (residuals_of (picture l.frame) q r l.mb v b))
+    (residuals_of (picture l.frame) q r l.mb v b))
     × AreZerosFrom l.block l.out
     × (length l.marks ≡ 6)
     × AreMarksOfFirst l.block l.out l.marks

@@ -11,7 +11,7 @@ abbrev pub invariant-loop-block : goal.invariant-loop-block
 invariant-loop-block l =
     (length l.out ≡ 6)
     × ((d : Block) (b : ℕ) → b < l.block → get_or l.out b d ≡ levels_of l.quantisation.quant l.quantisation.keep
-        (samples_of (picture l.frame) l.mb b))
+    (samples_of (picture l.frame) l.mb b))
     × AreZerosFrom l.block l.out
     × (length l.marks ≡ 6)
     × AreMarksOfFirst l.block l.out l.marks

@@ -21,15 +21,15 @@ returns-then-is_intra c =
     c.is_intra-then-is_intra.ensures
     ∙ ap (λ (cost : ℤ). is_intra c.deviation.result cost) (cost_kept c.args.cost c.requires.cost)
     ∙ ap (λ (d : ℕ). is_intra d c.args.cost) (c.deviation.ensures.value
-        ∙ ap deviation_of c.luma_samples-samples.ensures)
+    ∙ ap deviation_of c.luma_samples-samples.ensures)
 
 pub returns-else-is_intra : goal.returns-else-is_intra
 returns-else-is_intra c =
     let samples = samples_of (picture c.args.frame) c.args.mb in
     let low : is_intra c.halves_apart.result c.args.cost ≡ false =
     ap (λ (cost : ℤ). is_intra c.halves_apart.result cost) (sym (cost_kept c.args.cost c.requires.cost))
-        ∙ sym c.is_intra.ensures ∙ c.if-is_intra.false in
+    ∙ sym c.is_intra.ensures ∙ c.if-is_intra.false in
     no_greater c.halves_apart.result (deviation_of samples) c.args.cost
     (subst (λ (xs : List ℕ). c.halves_apart.result ≤ differences xs (replicate 256 (mean_of samples)))
-        c.luma_samples-samples.ensures (c.halves_apart.ensures.less (mean_of samples)))
+    c.luma_samples-samples.ensures (c.halves_apart.ensures.less (mean_of samples)))
     low

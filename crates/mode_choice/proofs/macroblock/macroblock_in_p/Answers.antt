@@ -11,7 +11,7 @@ returns-clause-choice c =
     let h = c.args.header.now in
     let search = c.search_from-cost in
     by_best p q h c.args.params.now c.args.mb _ _ _ search.ensures.range search.ensures.vector search.ensures.cost
-        (sym c.is_nearer_to_mean.ensures ∙ c.if-is_nearer_to_mean.false)
+    (sym c.is_nearer_to_mean.ensures ∙ c.if-is_nearer_to_mean.false)
     (c.inter_macroblock.ensures.choice q h.rounding c.predict_into.ensures)
 
 pub returns-clause-predicted : goal.returns-clause-predicted
@@ -20,4 +20,4 @@ returns-clause-predicted c =
     let q = picture c.args.reference in
     let h = c.args.header.now in
     of_inter h.rounding c.args.mb h.quant q _ (residual_blocks_of p q h.quant c.args.params.now.keep h.rounding
-        c.args.mb _) _ _ (c.inter_macroblock.ensures.choice q h.rounding c.predict_into.ensures) c.predict_into.ensures
+    c.args.mb _) _ _ (c.inter_macroblock.ensures.choice q h.rounding c.predict_into.ensures) c.predict_into.ensures

@@ -31,8 +31,8 @@ put_level-kept-requires-clause-some c =
     let mark = c.lowest.ensures rest c.marks.auto.rest-fits.fits c.marks-test.true in
     let level : ℤ = get_or c.args.levels.now at (pos 0) in
     let own : to_z w16 (of_z w16 level)
-        ≡ level = level_kept level
-        (c.requires.levels at (pos 0) (subst (λ (n : ℕ). at < n) (sym c.told-levels) mark.below)) in
+    ≡ level = level_kept level
+    (c.requires.levels at (pos 0) (subst (λ (n : ℕ). at < n) (sym c.told-levels) mark.below)) in
     subst (λ (z : ℤ). z ≢ pos 0) (sym own) (c.marks.invariant.some at mark.set)
 
 pub put_level-kept-requires-clause-none : goal.put_level-kept-requires-clause-none
@@ -40,7 +40,7 @@ put_level-kept-requires-clause-none c =
     let rest = c.marks.rest in
     let mark = c.lowest.ensures rest c.marks.auto.rest-fits.fits c.marks-test.true in
     not_yet c.one_order.ensures c.args.standing c.args.keep c.args.levels.now (trailing_zeros w64 rest)
-        c.place_in_order-k.result rest c.marks.out
+    c.place_in_order-k.result rest c.marks.out
     mark c.place_in_order-k.ensures.place c.place_in_order-k.ensures.range c.marks.invariant.set
 
 pub marks-preserved : goal.marks-preserved
@@ -56,7 +56,7 @@ marks-preserved c =
     record {
       set =
           subst (AreSet c.args.standing c.args.keep c.args.levels.now (without rest at))
-              (sym c.put_level-kept.ensures.levels)
+          (sym c.put_level-kept.ensures.levels)
           (set_one c.one_order.ensures c.args.standing c.args.keep c.args.levels.now at k rest c.marks.out v
           mark c.place_in_order-k.ensures.place c.place_in_order-k.ensures.range
           (ap (kept_level c.args.keep k) own)

@@ -8,7 +8,10 @@ pub returns-then-k-from-clause-marks : goal.returns-then-k-from-clause-marks
 returns-then-k-from-clause-marks c =
     let v : ℤ = to_z w16 (of_z w16 c.args.level) in
     let some : v ≢ pos 0 = subst (λ (z : ℤ). z ≢ pos 0) (sym (level_kept c.args.level c.requires.level)) c.requires.some
-        in
+    in
     ap (λ (n : ℕ). bit_or n (1 * 2 ^ c.args.k % 2 ^ 64)) c.requires.marks
-    ∙ set_mark c.marks.ensures c.args.out.now c.args.k v c.requires.place (omega (arith, c.requires.place,
-        c.requires.long)) some
+    ∙ set_mark c.marks.ensures c.args.out.now c.args.k v c.requires.place (omega (
+      arith,
+      c.requires.place,
+      c.requires.long,
+    )) some

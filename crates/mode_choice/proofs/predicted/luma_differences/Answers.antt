@@ -8,7 +8,7 @@ pub returns-clause-differences : goal.returns-clause-differences
 returns-clause-differences c k h =
     let b : ℕ = c.args.block in
     let place : 128 * (b / 2) + 8 * (b % 2) + 16 * (k / 8) + k % 8
-        ≡ 16 * (8 * (b / 2) + k / 8) + (8 * (b % 2) + k % 8) = omega arith in
+    ≡ 16 * (8 * (b / 2) + k / 8) + (8 * (b % 2) + k % 8) = omega arith in
     c.differences.ensures.differences k h
     ∙ ap (λ (n : ℕ). pos (sample_at (picture c.args.frame) Y (c.args.x + k % 8) (c.args.y + k / 8)) -ℤ pos
-        (get_or c.args.predicted.now n 0)) place
+    (get_or c.args.predicted.now n 0)) place

@@ -16,7 +16,7 @@ returns-clause-residuals c =
     let eight : length (take 8 row) ≡ 8 = omega (arith, length-take 8 row, c.requires.row) in
     let as_long : length (take 8 predicted) ≡ 8 = omega (arith, length-take 8 predicted, c.requires.predicted) in
     row_is_put c.args.residuals.now (differences_l (take 8 row) (take 8 predicted))
-        (λ x. pos (get_or row x 0) -ℤ pos (get_or predicted x 0)) c.args.j c.requires.block
+    (λ x. pos (get_or row x 0) -ℤ pos (get_or predicted x 0)) c.args.j c.requires.block
     (length_differences (take 8 row) (take 8 predicted) (omega (arith, eight, as_long)) ∙ eight) c.requires.j
     (λ x h.
     let same_row : get_or (take 8 row) x 0 ≡ get_or row x 0 = get_or-take 8 row x 0 h in

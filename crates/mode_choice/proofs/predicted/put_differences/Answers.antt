@@ -56,8 +56,10 @@ loop-j-preserved c =
       omega (arith, inv.2),
       λ k hk hj.
           one_more_row k c.loop-j.j _ _ _ _ (c.put_difference.ensures.residuals k hk)
-          (λ e. cc (lent_in_block rows 0 c.args.width c.loop-j.j c.loop-j.above k inv.1 e,
-              lent_in_block predicted c.args.from c.args.stride c.loop-j.j c.loop-j.at k inv.2 e))
+          (λ e. cc (
+            lent_in_block rows 0 c.args.width c.loop-j.j c.loop-j.above k inv.1 e,
+            lent_in_block predicted c.args.from c.args.stride c.loop-j.j c.loop-j.at k inv.2 e,
+          ))
           (inv.3 k hk) hj,
     )
 
@@ -68,7 +70,7 @@ pub returns-clause-differences : goal.returns-clause-differences
 returns-clause-differences c = λ k h.
     c.loop-j.invariant.3 k h (omega arith)
     ∙ ap (λ (n : ℕ). pos (get_or c.args.rows.now n 0) -ℤ pos
-        (get_or c.args.predicted.now (c.args.from + c.args.stride * (k / 8) + k % 8) 0)) (place_at c.args.width k)
+    (get_or c.args.predicted.now (c.args.from + c.args.stride * (k / 8) + k % 8) 0)) (place_at c.args.width k)
 
 -- the difference of two bytes
 is_difference : (z : ℤ) (s p : ℕ) → z ≡ (pos s -ℤ pos p) → s < 256 → p < 256 → IsSample z

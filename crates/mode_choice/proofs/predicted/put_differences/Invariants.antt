@@ -9,5 +9,5 @@ invariant-loop-j l =
     × (l.at ≡ l.fn.from + l.stride * l.j)
     × ((k : ℕ) → k < 64 → k / 8 < l.j →
     get_or l.residuals k (pos 0)
-        ≡ (pos (get_or l.rows (0 + l.width * (k / 8) + k % 8) 0) -ℤ pos
-        (get_or l.predicted (l.fn.from + l.stride * (k / 8) + k % 8) 0)))
+    ≡ (pos (get_or l.rows (0 + l.width * (k / 8) + k % 8) 0) -ℤ pos
+    (get_or l.predicted (l.fn.from + l.stride * (k / 8) + k % 8) 0)))

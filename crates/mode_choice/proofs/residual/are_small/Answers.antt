@@ -14,7 +14,7 @@ returns-then-squares-least c = λ _ k.
     no_level c.args.quant (coefficient_at c.args.residuals.now k) c.requires.quant
     (subst (λ (n : ℕ). unsigned_abs (coefficient_at c.args.residuals.now k) < n) c.least_size-least.ensures.value
     (c.small_squares.ensures c.args.residuals.now (at / 8) (at % 8) least (omega arith)
-        (omega arith) c.least_size-least.ensures.most
+    (omega arith) c.least_size-least.ensures.most
     (subst (λ (n : ℕ). n + least + 1 < least * least) c.sum_of_squares-squares.ensures.sum less)))
 
 pub returns-then-squares-least-2 : goal.returns-then-squares-least-2

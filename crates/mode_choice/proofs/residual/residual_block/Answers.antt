@@ -22,5 +22,5 @@ unfolding residual_levels_of
 returns-clause-levels c =
     let block : List ℤ → Block = λ ls. record { levels = ls } in
     ap block (fill_by_all (λ (k : ℕ). residual_level_of c.args.quantisation.quant c.args.quantisation.keep k
-        (coefficient_at c.args.residuals.now k)) c.transformed-first.new.out 64 (pos 0) c.transformed-first.ensures.long
+    (coefficient_at c.args.residuals.now k)) c.transformed-first.new.out 64 (pos 0) c.transformed-first.ensures.long
     c.transformed-first.ensures.levels)

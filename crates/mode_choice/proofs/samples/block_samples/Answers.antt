@@ -10,21 +10,21 @@ pub returns-in-Y-clause-samples : goal.returns-in-Y-clause-samples
 returns-in-Y-clause-samples c =
     square_is_block (picture c.args.frame) c.args.mb c.args.block c.block_corner-corner.result Y c.square.new.samples
     (c.block_corner-corner.ensures.corner
-        ∙ ap (λ (f : Format). corner_of f c.args.mb c.args.block) c.format.ensures.format) c.in-Y.is
+    ∙ ap (λ (f : Format). corner_of f c.args.mb c.args.block) c.format.ensures.format) c.in-Y.is
     c.square.ensures.long c.square.ensures.samples
 
 pub returns-in-Cb-clause-samples : goal.returns-in-Cb-clause-samples
 returns-in-Cb-clause-samples c =
     square_is_block (picture c.args.frame) c.args.mb c.args.block c.block_corner-corner.result Cb
-        c.square-in-Cb.new.samples
+    c.square-in-Cb.new.samples
     (c.block_corner-corner.ensures.corner
-        ∙ ap (λ (f : Format). corner_of f c.args.mb c.args.block) c.format.ensures.format) c.in-Cb.is
+    ∙ ap (λ (f : Format). corner_of f c.args.mb c.args.block) c.format.ensures.format) c.in-Cb.is
     c.square-in-Cb.ensures.long c.square-in-Cb.ensures.samples
 
 pub returns-in-Cr-clause-samples : goal.returns-in-Cr-clause-samples
 returns-in-Cr-clause-samples c =
     square_is_block (picture c.args.frame) c.args.mb c.args.block c.block_corner-corner.result Cr
-        c.square-in-Cr.new.samples
+    c.square-in-Cr.new.samples
     (c.block_corner-corner.ensures.corner
-        ∙ ap (λ (f : Format). corner_of f c.args.mb c.args.block) c.format.ensures.format) c.in-Cr.is
+    ∙ ap (λ (f : Format). corner_of f c.args.mb c.args.block) c.format.ensures.format) c.in-Cr.is
     c.square-in-Cr.ensures.long c.square-in-Cr.ensures.samples

@@ -14,7 +14,7 @@ returns-clause-samples c =
     let row : List ℕ = c.args.row.now in
     let eight : length (take 8 row) ≡ 8 = omega (arith, length-take 8 row, c.requires.row) in
     row_is_put c.args.samples.now (widened_l (take 8 row)) (λ x. pos (get_or row x 0)) c.args.y c.requires.block
-        (length_widened (take 8 row) ∙ eight) c.requires.y
+    (length_widened (take 8 row) ∙ eight) c.requires.y
     (λ x h.
     let same : get_or (take 8 row) x 0 ≡ get_or row x 0 = get_or-take 8 row x 0 h in
     let small : get_or row x 0 < 256 = omega (arith, c.type_inv.row x) in

@@ -42,6 +42,8 @@ pub returns-clause-range : goal.returns-clause-range
 returns-clause-range c =
     All-from_get_or IsSample c.loop-j.samples (pos 0) (λ k h.
     let below : k < 64 = omega (arith, c.loop-j.invariant.0) in
-    let byte : get_or c.args.rows.now (0 + c.args.width * (k / 8) + k % 8) 0 < 256 = omega (arith,
-        c.type_inv.rows (0 + c.args.width * (k / 8) + k % 8)) in
+    let byte : get_or c.args.rows.now (0 + c.args.width * (k / 8) + k % 8) 0 < 256 = omega (
+      arith,
+      c.type_inv.rows (0 + c.args.width * (k / 8) + k % 8),
+    ) in
     byte_is_sample _ _ (c.loop-j.invariant.2 k below (omega arith)) byte)

@@ -8,4 +8,4 @@ pub returns-in-Inter : goal.returns-in-Inter
 returns-in-Inter c small at f h near =
     ap (λ (coding : Coding). level_by coding c.args.quant f) c.in-Inter.is
     ∙ none_below c.args.quant c.least_size.result _ f c.least_size.ensures.value c.requires.quant near
-        (c.are_below.ensures small at h)
+    (c.are_below.ensures small at h)

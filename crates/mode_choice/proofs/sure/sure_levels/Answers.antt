@@ -29,28 +29,28 @@ loop-at-preserved c =
     let t : ℤ = get_or c.args.sixteenths.now at (pos 0) in
     let v : ℤ = to_z w16 (of_z w16 c.level_with_rest-level.result.0) in
     let stays : v ≡ c.level_with_rest-level.result.0 =
-        level_kept c.level_with_rest-level.result.0 c.level_with_rest-level.ensures.range in
+    level_kept c.level_with_rest-level.result.0 c.level_with_rest-level.ensures.range in
     let word : IsWord t = c.requires.words at (pos 0) (omega (arith, below, c.told-sixteenths)) in
     let same : to_z w16 (of_z w16 t) ≡ t = word_kept t word in
     let rest : c.level_with_rest-level.result.1 < 1024 = subst (λ (n : ℕ). n < 1024)
-        (sym c.level_with_rest-level.ensures.rest) (rest_small quant c.half_step-half.result
-        (to_z w16 (of_z w16 t)) c.requires.quant) in
+    (sym c.level_with_rest-level.ensures.rest) (rest_small quant c.half_step-half.result
+    (to_z w16 (of_z w16 t)) c.requires.quant) in
     let own : c.max-most.result + 3 < 32 * quant → (f : ℤ) → IsBracketed t f → c.level_with_rest-level.result.0
-        ≡ level_by c.args.coding quant f = λ sure f near.
+    ≡ level_by c.args.coding quant f = λ sure f near.
     let less : c.level_with_rest-level.result.1 + 3 < 32 * quant = omega (arith, sure, c.max-most.ensures) in
     sure_level c.settled.ensures c.args.coding quant c.half_step-half.result
-        (to_z w16 (of_z w16 t)) c.level_with_rest-level.result.0 f c.half_step-half.ensures c.requires.quant
+    (to_z w16 (of_z w16 t)) c.level_with_rest-level.result.0 f c.half_step-half.ensures c.requires.quant
     (subst (λ (z : ℤ). IsBracketed z f) (sym same) near) (c.level_with_rest-level.ensures.level)
     (c.rest_settles.ensures quant c.half_step-half.result (to_z w16 (of_z w16 t)) c.requires.quant
-        (subst (λ (n : ℕ). n + 3 < 32 * quant) c.level_with_rest-level.ensures.rest less)) in
+    (subst (λ (n : ℕ). n + 3 < 32 * quant) c.level_with_rest-level.ensures.rest less)) in
     record {
       long = length-set c.loop-at.levels at v ∙ inv.long;
       few = omega (arith, inv.few, rest, c.max-most.ensures);
       stand = λ sure k f lt near.
           below_more (λ k. (f : ℤ) → IsBracketed (get_or c.args.sixteenths.now k (pos 0)) f
-              → get_or (slice_set c.loop-at.levels at v) k (pos 0) ≡ level_by c.args.coding quant f) at
+          → get_or (slice_set c.loop-at.levels at v) k (pos 0) ≡ level_by c.args.coding quant f) at
           (λ j hj f near. get_or-set_other c.loop-at.levels at j v (pos 0) (omega (arith, hj))
-              ∙ inv.stand (omega (arith, sure, c.max-most.ensures)) j f hj near)
+          ∙ inv.stand (omega (arith, sure, c.max-most.ensures)) j f hj near)
           (λ f near. get_or-set_same c.loop-at.levels at v (pos 0) room ∙ stays ∙ own sure f near)
           k lt f near;
       range = All-set IsLevel c.loop-at.levels at v (subst IsLevel (sym stays) c.level_with_rest-level.ensures.range)

@@ -24,4 +24,4 @@ pub returns-then-sure-clause-levels : goal.returns-then-sure-clause-levels
 returns-then-sure-clause-levels c sure k f less near =
     c.put_in_order-marks.ensures.levels k less
     ∙ ap (kept_level c.args.quantisation.keep k) (c.sure_levels-sure.ensures.levels c.if-sure.true
-        (place_in ByColumns k) f (place_below ByColumns k) near)
+    (place_in ByColumns k) f (place_below ByColumns k) near)

@@ -13,7 +13,7 @@ pub returns-clause-first : goal.returns-clause-first
 returns-clause-first c =
     let ok = is_coefficient c.forward-coefficients.result 0 (lit< tt) c.forward-coefficients.ensures.range in
     coefficient_kept (get_or c.forward-coefficients.result 0 (pos 0)) ok
-        ∙ c.forward-coefficients.ensures.coefficients 0 0 (lit< tt) (lit< tt)
+    ∙ c.forward-coefficients.ensures.coefficients 0 0 (lit< tt) (lit< tt)
 
 pub returns-clause-first_range : goal.returns-clause-first_range
 returns-clause-first_range c =
@@ -24,4 +24,4 @@ pub returns-clause-levels : goal.returns-clause-levels
 returns-clause-levels c k h =
     c.levels_in-marks.ensures.levels k h
     ∙ ap (λ (f : ℤ). level_in c.args.coding c.args.quantisation.quant c.args.quantisation.keep f k)
-        (is_forward_at c.forward-coefficients.result c.args.samples.now k c.forward-coefficients.ensures.coefficients)
+    (is_forward_at c.forward-coefficients.result c.args.samples.now k c.forward-coefficients.ensures.coefficients)

@@ -15,4 +15,4 @@ returns-clause-value c =
     c.differences_of_all.ensures.value
     ∙ predicted_differ c.args.block.now c.luma.new.out p c.args.mb c.args.rounding c.args.vector
     (is_square c.luma.new.out (λ (i j : ℕ). predicted_sample p Y (left + i) (top + j) c.args.vector c.args.rounding)
-        c.luma.array_long c.luma.ensures)
+    c.luma.array_long c.luma.ensures)

@@ -15,6 +15,9 @@ returns-clause-value c = λ p mb r v are.
     c.differences_of_all.ensures.value
     ∙ predicted_differ c.args.block.now c.sixteen_rows.result.now p mb r v
     (c.sixteen_rows.ensures.value
-    ∙ part_is_square rows (λ (i j : ℕ). predicted_sample p Y (left + i) (top + j) v r) at (omega (arith, c.told-rows,
-        c.requires))
+    ∙ part_is_square rows (λ (i j : ℕ). predicted_sample p Y (left + i) (top + j) v r) at (omega (
+      arith,
+      c.told-rows,
+      c.requires,
+    ))
     (λ j i hj hi. sym (get_or-drop at rows (16 * j + i) 0) ∙ are j i hj hi))

@@ -10,7 +10,7 @@ returns-clause-value c =
     let samples = c.args.samples.now in
     let j = c.args.j in
     let row = λ (k : ℕ) (hk : k < 16). stored_row_cut block samples k c.parts_add.ensures hk c.told-block
-        c.requires.samples in
+    c.requires.samples in
     cc (
       c.differences_of_four.ensures.value,
       c.stored_row-top.ensures.value,

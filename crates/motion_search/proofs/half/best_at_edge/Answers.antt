@@ -40,7 +40,7 @@ loop-n-preserved c =
       | else-is_within w ↦ subst (λ (d : Candidate). IsCost d.cost) (sym w.first-is) c.loop-n.invariant.cost
     ] in
     one_more block p mb r c.args.best c.loop-n.n now next (omega arith) (step
-        ∙ ap (λ (w : Vector). step_of block p mb r w now) c.neighbour-vector.ensures) cost c.loop-n.invariant
+    ∙ ap (λ (w : Vector). step_of block p mb r w now) c.neighbour-vector.ensures) cost c.loop-n.invariant
 
 pub returns-clause-best : goal.returns-clause-best
 returns-clause-best c = all_eight c.args.block.now (picture c.args.reference) c.args.mb c.args.rounding c.args.best

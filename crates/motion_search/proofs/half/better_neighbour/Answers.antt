@@ -15,16 +15,16 @@ returns-then-is_below-clause-first c =
     let fits : SFits w32 c.args.so_far.cost = search rules in
     stays_first c.args.so_far c.args.vector c.args.n c.args.sum c.requires.n c.requires.whole
     (subst (λ (z : ℤ). z <ℤ pos c.args.sum) (to_z-of_z w32 c.args.so_far.cost fits)
-        (c.is_below.ensures.0 c.if-is_below.true))
+    (c.is_below.ensures.0 c.if-is_below.true))
 
 pub returns-clause-first : goal.returns-clause-first
 returns-clause-first c =
     c.first.ensures
     ∙ ap (first_of c.args.so_far) (c.with_differences.ensures.candidate
-        ∙ ap (λ (w : Vector). costing w c.args.sum) c.neighbour.ensures)
+    ∙ ap (λ (w : Vector). costing w c.args.sum) c.neighbour.ensures)
 
 pub returns-clause-cost : goal.returns-clause-cost
 returns-clause-cost c =
     subst (λ (d : Candidate). IsCost d.cost) (sym c.first.ensures)
     (first_has (λ (d : Candidate). IsCost d.cost) c.args.so_far c.with_differences.result c.requires.cost
-        c.with_differences.ensures.cost)
+    c.with_differences.ensures.cost)

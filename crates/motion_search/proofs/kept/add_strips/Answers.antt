@@ -37,7 +37,7 @@ loop-s-preserved g c =
           strip_kept p x 24 c.args.rows.first k c.loop-s.out c.add_strip.new.out n (omega (arith, hn))
           (λ below. inv.sums n k below from to) add.before
           (λ i hi. add.stored (samples_from p x) (next_bytes p x c.requires.picture) (next_beside p x (x + 16) refl) k i
-              from to hi ∙ area_next p x i (c.args.rows.first + k));
+          from to hi ∙ area_next p x i (c.args.rows.first + k));
     }
 
 pub add_strip-requires-clause-whole : goal.add_strip-requires-clause-whole
@@ -64,9 +64,13 @@ returns g c =
     record {
       rest = rest_twice _ _ _ _ inv.rest add.rest;
       sums = λ n k hn from to.
-          strip_kept p x 9 c.args.rows.first k c.loop-s.out c.add_strip-2.new.out n (omega (arith, hn, ends.1,
-              c.requires.width))
+          strip_kept p x 9 c.args.rows.first k c.loop-s.out c.add_strip-2.new.out n (omega (
+            arith,
+            hn,
+            ends.1,
+            c.requires.width,
+          ))
           (λ below. inv.sums n k (omega (arith, below, ends.0, ends.1, c.loop-s-test.false)) from to) add.before
           (λ i hi. add.stored (again p x) (again_bytes p x c.requires.picture) (again_beside p x) k i from to
-              (omega (arith, hi)) ∙ area_again p x i (c.args.rows.first + k) (omega (arith, hi)));
+          (omega (arith, hi)) ∙ area_again p x i (c.args.rows.first + k) (omega (arith, hi)));
     }

@@ -7,4 +7,4 @@ pub returns : goal.returns
 returns c = λ f top n bytes beside hn e cols.
     c.with_row.ensures f top n bytes hn
     (lent_beside (picture c.args.reference) c.args.x c.args.z c.args.y (top + n) f c.row-left.result.now
-        c.row-right.result.now beside e c.row-left.ensures.samples c.row-right.ensures.samples) cols
+    c.row-right.result.now beside e c.row-left.ensures.samples c.row-right.ensures.samples) cols

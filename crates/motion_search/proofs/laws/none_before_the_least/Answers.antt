@@ -14,4 +14,4 @@ returns-clause-one_of_them c = λ first cs.
 pub returns-clause-none_before : goal.returns-clause-none_before
 returns-clause-none_before c = λ first cs.
     All-cons (λ (d : Candidate). before d (least first cs) ≡ false) first cs (first_not_before first cs)
-        (none_before first cs)
+    (none_before first cs)

@@ -22,13 +22,13 @@ returns-then-sum-best-clause-first c =
     let sum = c.differences_at-sum.result in
     let value : sum ≡ difference_of block reference mb 0 v =
     c.differences_at-sum.ensures.value ∙ all_rows block reference c.args.x c.args.y
-        ∙ whole_predicts block reference mb 0 c.args.x c.args.y v c.requires.whole c.requires.x c.requires.y in
+    ∙ whole_predicts block reference mb 0 c.args.x c.args.y v c.requires.whole c.requires.x c.requires.y in
     let more : best.cost <ℤ pos sum = omega (arith, ints, c.if-sum-best.true, c.differences_at-sum.ensures.most) in
     let later = not_before_by_differences v sum best more
     (λ e. subst (λ k. before (costing v k) best ≡ false) (sym value)
-        (subst (λ (w : Vector). before (candidate_of block reference mb 0 w) best ≡ false) (sym e) c.requires.zero)) in
+    (subst (λ (w : Vector). before (candidate_of block reference mb 0 w) best ≡ false) (sym e) c.requires.zero)) in
     sym (ap (λ (b : Bool). cond b (costing v (difference_of block reference mb 0 v)) best)
-        (subst (λ k. before (costing v k) best ≡ false) value later))
+    (subst (λ k. before (costing v k) best ≡ false) value later))
 
 pub returns-else-sum-best-clause-first : goal.returns-else-sum-best-clause-first
 returns-else-sum-best-clause-first c =
@@ -47,4 +47,4 @@ pub returns-else-sum-best-clause-cost : goal.returns-else-sum-best-clause-cost
 returns-else-sum-best-clause-cost c =
     subst (λ (d : Candidate). IsCost d.cost) (sym c.first.ensures)
     (first_has (λ (d : Candidate). IsCost d.cost) c.args.best c.with_differences.result c.requires.cost
-        c.with_differences.ensures.cost)
+    c.with_differences.ensures.cost)

@@ -13,7 +13,7 @@ returns-clause-smaller c =
     let m = c.args.marks in
     let k = c.args.bit in
     let small : 2 ^ k < 2 ^ 64 = omega (arith, two-pow-succ k, pow_pos k, pow_mono {i = suc k} {j = 64} (omega arith))
-        in
+    in
     let one : 1 * 2 ^ k % 2 ^ 64 ≡ 2 ^ k = omega arith in
     let parts = and-not 64 (2 ^ k) m small c.ranges.marks.fits in
     let there : bit_and (2 ^ k) m ≡ 1 * 2 ^ k = and_comm _ _ ∙ and_pow m k ∙ ap (λ x. x * 2 ^ k) c.requires.set in

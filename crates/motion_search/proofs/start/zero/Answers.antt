@@ -21,9 +21,9 @@ returns-clause-candidate c =
     let column = c.mb_place-column.result.0 in
     let row = c.mb_place-column.result.1 in
     let across : column ≡ mb % columns_of p.format = c.mb_place-column.ensures.column
-        ∙ ap (λ (f : Format). mb % columns_of f) c.format.ensures.format in
+    ∙ ap (λ (f : Format). mb % columns_of f) c.format.ensures.format in
     let down : row ≡ mb / columns_of p.format = c.mb_place-column.ensures.row
-        ∙ ap (λ (f : Format). mb / columns_of f) c.format.ensures.format in
+    ∙ ap (λ (f : Format). mb / columns_of f) c.format.ensures.format in
     c.with_differences.ensures.candidate
     ∙ ap (costing zero_vector)
     (c.differences_at.ensures.value

@@ -10,8 +10,11 @@ use Rattle.motion_search.proofs.Strips.{marked_or_kept}
 use Rattle.motion_search.proofs.strip.best_of_marked.Goals as goal
 
 pub loop-left-init : goal.loop-left-init
-loop-left-init c = record { so_far = c.requires.so_far; kept = λ d h. h;
-    none = λ i hi unmarked hc. c.requires.others i hi unmarked }
+loop-left-init c = record {
+  so_far = c.requires.so_far;
+  kept = λ d h. h;
+  none = λ i hi unmarked hc. c.requires.others i hi unmarked;
+}
 
 pub better_in_row-first-requires-clause-left : goal.better_in_row-first-requires-clause-left
 better_in_row-first-requires-clause-left c = omega (arith, ints, c.requires.left)
@@ -22,16 +25,16 @@ loop-left-preserved c =
     let next = c.better_in_row-first in
     let seen = c.lowest-i.result in
     let of = λ (i : ℕ). i < 16 → c.args.column + i < 2 * w.radius + 1
-        → IsNoBetter w (c.args.column + i) c.args.row next.result in
+    → IsNoBetter w (c.args.column + i) c.args.row next.result in
     record {
       so_far = next.ensures.so_far;
       kept = λ d h. next.ensures.kept d (c.loop-left.invariant.kept d h);
       none = λ i hi unmarked hc.
           marked_or_kept of seen i (λ _ hc. next.ensures.none hc)
           (λ apart hi hc reached. next.ensures.kept (candidate_of w.block.now (picture w.reference) w.mb 0
-              (whole_at w.radius (c.args.column + i) c.args.row))
+          (whole_at w.radius (c.args.column + i) c.args.row))
           (c.loop-left.invariant.none i hi (sym (c.without-left.ensures.kept i (omega (arith, hi)) apart)
-              ∙ unmarked) hc reached)) hi hc;
+          ∙ unmarked) hc reached)) hi hc;
     }
 
 pub returns-clause-none : goal.returns-clause-none

@@ -47,7 +47,7 @@ returns c = λ x y most i low high place limit hi unmarked inside.
     let small = λ (n u v : ℕ). block_area_small w.block.now n u v own.samples in
     let top = λ (k : ℕ). abs_diff (g (at + k)) q.top_left + abs_diff (g (at + 8 + k)) q.top_right in
     let bottom = λ (k : ℕ). abs_diff (g (at + 3072 + k)) q.bottom_left + abs_diff (g (at + 3072 + 8 + k)) q.bottom_right
-        in
+    in
     ruled_out_by_kept p s w.block.now q x y i at most are own low high inside (omega (arith, place, low))
     (c.marks_of.ensures top bottom most c.half_away-upper.ensures c.half_away-lower.ensures limit
     (λ k. omega (

@@ -20,7 +20,7 @@ use Rattle.motion_search.proofs.whole.best_in.Goals as goal
 pub invariant_of-window-clause-reaches : goal.invariant_of-window-clause-reaches
 invariant_of-window-clause-reaches g c =
     subst (λ (f : Format). (x y : ℤ) → InReach f c.args.mb x y ↔ IsWithin c.reach-reach.result x y)
-        c.format-format.ensures.format c.reach-reach.ensures
+    c.format-format.ensures.format c.reach-reach.ensures
 
 zero_first : (block : List ℕ) (p : Picture) (mb : ℕ) (zero : Candidate) → zero ≡ candidate_of block p mb 0 zero_vector
     → before (candidate_of block p mb 0 zero_vector) zero ≡ false
@@ -36,9 +36,11 @@ inside : (f g : Format) (mb n height : ℕ) → mb < mbs_of f → g ≡ f → n 
     → (16 * (mb / n) + 16 ≤ height) × (height < 60000) × (height ≡ height_of f)
 inside f g mb n height h same columns e =
     let e' : height ≡ height_of f = e ∙ ap height_of same in
-    let n' : n ≡ columns_of f = columns ∙ ap columns_of same in
-    (subst (λ (k : ℕ). 16 * (mb / k) + 16 ≤ height) (sym n') (omega (arith, e', top_inside f mb h)),
-        omega (arith, e', height_small f), e')
+    let n' : n ≡ columns_of f = columns ∙ ap columns_of same in (
+      subst (λ (k : ℕ). 16 * (mb / k) + 16 ≤ height) (sym n') (omega (arith, e', top_inside f mb h)),
+      omega (arith, e', height_small f),
+      e',
+    )
 
 pub end_of_rows-end-requires-clause-top : goal.end_of_rows-end-requires-clause-top
 end_of_rows-end-requires-clause-top g c =
@@ -54,24 +56,31 @@ pub hold-requires-clause-order : goal.hold-requires-clause-order
 hold-requires-clause-order g c =
     let top = 16 * (c.args.mb / c.columns-2.result) in
     let is = inside (picture c.args.reference).format c.format-format.result c.args.mb c.columns-2.result
-        c.height.result c.requires.mb c.format-format.ensures.format c.columns-2.ensures c.height.ensures in
-    omega (arith, c.first_of_rows-from.ensures.first top (omega arith),
-        c.end_of_rows-end.ensures.end top (omega arith) is.0)
+    c.height.result c.requires.mb c.format-format.ensures.format c.columns-2.ensures c.height.ensures in
+    omega (
+      arith,
+      c.first_of_rows-from.ensures.first top (omega arith),
+      c.end_of_rows-end.ensures.end top (omega arith) is.0,
+    )
 
 pub hold-requires-clause-room : goal.hold-requires-clause-room
-hold-requires-clause-room g c = omega (arith, c.first_of_rows-from.ensures.near, c.end_of_rows-end.ensures.near,
-    c.requires.radius)
+hold-requires-clause-room g c = omega (
+  arith,
+  c.first_of_rows-from.ensures.near,
+  c.end_of_rows-end.ensures.near,
+  c.requires.radius,
+)
 
 pub hold-requires-clause-inside : goal.hold-requires-clause-inside
 hold-requires-clause-inside g c =
     let is = inside (picture c.args.reference).format c.format-format.result c.args.mb c.columns-2.result
-        c.height.result c.requires.mb c.format-format.ensures.format c.columns-2.ensures c.height.ensures in
+    c.height.result c.requires.mb c.format-format.ensures.format c.columns-2.ensures c.height.ensures in
     omega (arith, c.end_of_rows-end.ensures.inside, is.2)
 
 pub best_of_strips-requires-clause-held : goal.best_of_strips-requires-clause-held
 best_of_strips-requires-clause-held g c = λ y low high within.
     let is = inside (picture c.args.reference).format c.format-format.result c.args.mb c.columns-2.result
-        c.height.result c.requires.mb c.format-format.ensures.format c.columns-2.ensures c.height.ensures in (
+    c.height.result c.requires.mb c.format-format.ensures.format c.columns-2.ensures c.height.ensures in (
       omega (arith, c.first_of_rows-from.ensures.first y low, c.hold.ensures.first),
       omega (arith, c.end_of_rows-end.ensures.end y high (omega (arith, within, is.2)), c.hold.ensures.end),
     )
@@ -85,15 +94,15 @@ best_of_strips-requires-clause-so_far g c =
     let v = whole_at radius c.nearest-across.result c.nearest-down.result in
     let e : c.better_at-first.result ≡ step_of block p mb 0 v c.args.zero = c.better_at-first.ensures.first in
     let is_zero = subst (IsWholeCandidate block p mb radius 0) (sym c.requires.zero)
-        (zero_is_candidate block p mb 0 radius c.requires.mb) in
+    (zero_is_candidate block p mb 0 radius c.requires.mb) in
     record {
       candidate = subst (IsWholeCandidate block p mb radius 0) (sym e)
           (step_is_whole block p mb 0 radius v c.args.zero
-              (at_is_whole radius c.nearest-across.result c.nearest-down.result
-              (omega (arith, c.nearest-across.ensures)) (omega (arith, c.nearest-down.ensures))) is_zero);
+          (at_is_whole radius c.nearest-across.result c.nearest-down.result
+          (omega (arith, c.nearest-across.ensures)) (omega (arith, c.nearest-down.ensures))) is_zero);
       zero = subst (λ (d : Candidate). before (candidate_of block p mb 0 zero_vector) d ≡ false) (sym e)
           (step_kept block p mb 0 (candidate_of block p mb 0 zero_vector) v c.args.zero
-              (zero_first block p mb c.args.zero c.requires.zero));
+          (zero_first block p mb c.args.zero c.requires.zero));
       cost = c.better_at-first.ensures.cost;
     }
 
@@ -108,5 +117,5 @@ returns-clause-best g c = λ r.
     (whole_not_rounded block p mb radius r first c.best_of_strips.ensures.so_far.candidate)
     (λ v whole reaches. subst (λ (d : Candidate). before d first ≡ false) (sym (not_rounded block p mb r v whole.even))
     (whole_from_places (λ w. InReach p.format mb w.x w.y → before (candidate_of block p mb 0 w) first
-        ≡ false) radius v whole
+    ≡ false) radius v whole
     (λ i j hi hj reached. c.best_of_strips.ensures.none j i hj hi reached) reaches))

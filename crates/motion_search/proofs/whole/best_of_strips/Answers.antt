@@ -19,20 +19,24 @@ loop-column-init c =
       so_far = c.requires.so_far;
       none = λ m n hm hn to reached.
           let past = from_first (picture w.reference).format w.mb w.radius w.reach w.reaches m c.first_in-column.result
-              n (first_is c.args.window.radius c.first_in-column.result _ _ c.across-across.ensures.least
-              c.first_in-column.ensures) reached in
+          n (first_is c.args.window.radius c.first_in-column.result _ _ c.across-across.ensures.least
+          c.first_in-column.ensures) reached in
           absurd (omega (arith, to, past));
     }
 
 pub best_of_strip-first-requires-clause-column : goal.best_of_strip-first-requires-clause-column
-best_of_strip-first-requires-clause-column c = omega (arith,
-    (((end_is c.args.window.radius c.end_in.result _ _ c.across-across.ensures.most c.end_in.ensures)
-    c.loop-column.column).0 c.loop-column-test.true).0)
+best_of_strip-first-requires-clause-column c = omega (
+  arith,
+  (((end_is c.args.window.radius c.end_in.result _ _ c.across-across.ensures.most c.end_in.ensures)
+      c.loop-column.column).0 c.loop-column-test.true).0,
+)
 
 pub best_of_strip-first-requires-clause-across : goal.best_of_strip-first-requires-clause-across
-best_of_strip-first-requires-clause-across c = (c.loop-column.invariant.left,
-    (((end_is c.args.window.radius c.end_in.result _ _ c.across-across.ensures.most c.end_in.ensures)
-    c.loop-column.column).0 c.loop-column-test.true).1)
+best_of_strip-first-requires-clause-across c = (
+  c.loop-column.invariant.left,
+  (((end_is c.args.window.radius c.end_in.result _ _ c.across-across.ensures.most c.end_in.ensures)
+      c.loop-column.column).0 c.loop-column-test.true).1,
+)
 
 pub loop-column-preserved : goal.loop-column-preserved
 loop-column-preserved c =
@@ -45,24 +49,26 @@ loop-column-preserved c =
       so_far = next.ensures.so_far;
       none = λ m n hm hn to reached.
           seen_or_next (n < column + 16
-              → before (candidate_of w.block.now (picture w.reference) w.mb 0 (whole_at w.radius n m)) next.result
-              ≡ false) n column
+          → before (candidate_of w.block.now (picture w.reference) w.mb 0 (whole_at w.radius n m)) next.result
+          ≡ false) n column
           (λ before_it _. next.ensures.kept (candidate_of w.block.now (picture w.reference) w.mb 0
-              (whole_at w.radius n m)) (inv.none m n hm hn before_it reached))
+          (whole_at w.radius n m)) (inv.none m n hm hn before_it reached))
           (λ from to.
           let place : column + (n - column) ≡ n = omega (arith, from) in
           subst (λ (k : ℕ). k < 2 * w.radius + 1 → IsNoBetter w k m next.result) place
-              (λ hc. next.ensures.none m (n - column) hm (omega (arith, from, to)) hc) hn reached) to;
+          (λ hc. next.ensures.none m (n - column) hm (omega (arith, from, to)) hc) hn reached) to;
     }
 
 pub loop-column-smaller : goal.loop-column-smaller
-loop-column-smaller c = omega (arith,
-    (((end_is c.args.window.radius c.end_in.result _ _ c.across-across.ensures.most c.end_in.ensures)
-    c.loop-column.column).0 c.loop-column-test.true).0)
+loop-column-smaller c = omega (
+  arith,
+  (((end_is c.args.window.radius c.end_in.result _ _ c.across-across.ensures.most c.end_in.ensures)
+      c.loop-column.column).0 c.loop-column-test.true).0,
+)
 
 pub returns-clause-none : goal.returns-clause-none
 returns-clause-none c = λ m n hm hn reached.
     let w = c.args.window in
     let ends = before_end (picture w.reference).format w.mb w.radius w.reach w.reaches m c.end_in.result n
-        (end_is c.args.window.radius c.end_in.result _ _ c.across-across.ensures.most c.end_in.ensures) hn reached in
+    (end_is c.args.window.radius c.end_in.result _ _ c.across-across.ensures.most c.end_in.ensures) hn reached in
     c.loop-column.invariant.none m n hm hn (omega (arith, ends, c.loop-column-test.false)) reached

@@ -15,8 +15,8 @@ returns-then-is_settled-clause-best c = λ r.
     let radius = c.args.area.radius in
     let zero = c.zero-zero.result in
     let whole : IsWholeCandidate block p mb radius 0 zero = subst (IsWholeCandidate block p mb radius 0)
-        (sym c.zero-zero.ensures.candidate) (zero_is_candidate block p mb 0 radius c.requires.mb) in
+    (sym c.zero-zero.ensures.candidate) (zero_is_candidate block p mb 0 radius c.requires.mb) in
     is_best_whole block p mb r radius zero c.requires.mb (whole_not_rounded block p mb radius r zero whole)
     (λ v of_whole reaches. subst (λ (d : Candidate). before d zero
-        ≡ false) (sym (not_rounded block p mb r v of_whole.even))
+    ≡ false) (sym (not_rounded block p mb r v of_whole.even))
     (none_before_settled block p mb 0 zero v whole.candidate (c.is_settled.ensures.0 c.if-is_settled.true)))

@@ -23,15 +23,15 @@ returns c = λ p in_range.
           let w = both_after p (steady p) frames before past in
           let seen = in_both w in
           (both frames w (Deliver n j)).0 (any_packet (rules_of p) (length seen.coded) seen.played seen.abouts
-              (length frames) (length seen.coded + 1) n j ∙ none);
+          (length frames) (length seen.coded + 1) n j ∙ none);
       play = λ before frames past none.
           let w = both_after p (steady p) frames before past in
           let seen = in_both w in
           (both frames w Play).0 (any_play (rules_of p) (length seen.coded) seen.played seen.abouts (length frames)
-              (length seen.coded + 1) ∙ none);
+          (length seen.coded + 1) ∙ none);
       back = λ before frames past k none.
           let w = both_after p (steady p) frames before past in
           let seen = in_both w in
           (both frames w (Back k)).0 (any_back (rules_of p) (length seen.coded) seen.played seen.abouts (length frames)
-              (length seen.coded + 1) k ∙ none);
+          (length seen.coded + 1) k ∙ none);
     }

@@ -24,6 +24,6 @@ returns c = λ p in_range.
           (room.bytes, room.count);
       captured = λ quant frame coded reference n sequence ranged.
           let room = captured_room p below quant frame coded reference n sequence
-              (record { low = omega (arith, ranged.0); high = omega (arith, ranged.1) }) in
+          (record { low = omega (arith, ranged.0); high = omega (arith, ranged.1) }) in
           (room.bytes, room.count);
     }

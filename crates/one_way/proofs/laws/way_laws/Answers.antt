@@ -11,8 +11,12 @@ pub returns : goal.returns
 returns c = λ p. record {
   first = λ pictures network sender receiver before frames new sender_params sends receiver_params receives. record {
     way_holds = record {
-      joined = record { sender_params = sender_params; receiver_params = receiver_params; sends = sends;
-          receives = receives };
+      joined = record {
+        sender_params = sender_params;
+        receiver_params = receiver_params;
+        sends = sends;
+        receives = receives;
+      };
       near = tt;
       tally = new.way_is.tally;
       packets = new.way_is.packets;
@@ -39,5 +43,5 @@ returns c = λ p. record {
       before past j;
   shown = λ sender receiver before frames past picture j screen.
       screen (heard_in p (steady p) frames before past) j.receives
-          ∙ screen_is p (c.ends_run.ensures p) (steady p) sender receiver frames before past j;
+      ∙ screen_is p (c.ends_run.ensures p) (steady p) sender receiver frames before past j;
 }

@@ -16,7 +16,7 @@ returns-clause-ready c = λ way can.
     let pace = ap (λ (x : SenderState FixedPace). x.pace) told.others in
     let sent = ap (λ (x : SenderState FixedPace). x.sent) told.others in
     can_send way way c.args.sender.now c.feedback.new.self can (Feedback c.args.bytes.now) params pace told.stands refl
-        refl can.keeping (can.begun ∙ sym sent)
+    refl can.keeping (can.begun ∙ sym sent)
 
 pub returns-clause-holds : goal.returns-clause-holds
 returns-clause-holds c = λ p way receiver before frames past k told paced h at same near.
@@ -24,8 +24,8 @@ returns-clause-holds c = λ p way receiver before frames past k told paced h at 
     let new = c.feedback.new.self in
     let entries = sent_in p (steady p) frames before past in
     let stands = stands_so p c.args.sender.now.pace.quant paced old new (Feedback c.args.bytes.now)
-        c.feedback.ensures.stands entries h.joined.sends in
+    c.feedback.ensures.stands entries h.joined.sends in
     holds_message p way old receiver before frames past h new k near
     (after_message p (c.ends_run.ensures p) (steady p) old receiver frames before past h.joined new k told
-        (ap (λ (x : SenderState FixedPace). x.params) c.feedback.ensures.others) at
+    (ap (λ (x : SenderState FixedPace). x.params) c.feedback.ensures.others) at
     (subst (λ (bytes : List ℕ). sender_end.Stands (steady p) new (Feedback bytes ∷ entries)) (sym same) stands))

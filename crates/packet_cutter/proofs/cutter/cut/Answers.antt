@@ -19,24 +19,26 @@ packets-preserved c =
     let h = c.args.header.now in
     let limit = most_bytes c.clear.new.self in
     let next = (c.args.sequence + c.count.result) % 65536 in
-    let same : next % 65536 ≡ (c.args.sequence + length (kept_packets old)) % 65536 = omega (arith,
-        c.count.ensures.packets) in
+    let same : next % 65536 ≡ (c.args.sequence + length (kept_packets old)) % 65536 = omega (
+      arith,
+      c.count.ensures.packets,
+    ) in
     let left : take (length c.args.mbs.now - c.packets.first) (drop c.packets.first c.args.mbs.now)
-        ≡ drop c.packets.first c.args.mbs.now =
+    ≡ drop c.packets.first c.args.mbs.now =
     take_all (length c.args.mbs.now - c.packets.first) (drop c.packets.first c.args.mbs.now)
-        (omega (arith, length-drop c.packets.first c.args.mbs.now)) in
+    (omega (arith, length-drop c.packets.first c.args.mbs.now)) in
     let app : Appends old c.append-first.new.self c.args.number next h c.packets.first
-        (drop c.packets.first c.args.mbs.now) c.append-first.result =
+    (drop c.packets.first c.args.mbs.now) c.append-first.result =
     subst (λ (l : List Mb). Appends old c.append-first.new.self c.args.number next h c.packets.first l
-        c.append-first.result) left a.packet in
+    c.append-first.result) left a.packet in
     let longest : IsLongest h limit c.packets.first (take c.append-first.result (drop c.packets.first c.args.mbs.now))
-        (drop c.append-first.result (drop c.packets.first c.args.mbs.now)) =
+    (drop c.append-first.result (drop c.packets.first c.args.mbs.now)) =
     subst (λ (k : ℕ). IsLongest h k c.packets.first (take c.append-first.result (drop c.packets.first c.args.mbs.now))
-        (drop c.append-first.result (drop c.packets.first c.args.mbs.now))) u.limit app.longest in
+    (drop c.append-first.result (drop c.packets.first c.args.mbs.now))) u.limit app.longest in
     let n : IsNext c.args.number next h limit c.args.mbs.now c.packets.first c.append-first.result app.packet =
-        record { few = app.few; longest = longest; packet_is = app.packet_is } in
+    record { few = app.few; longest = longest; packet_is = app.packet_is } in
     let goes = turned c.args.number c.args.sequence next h limit c.args.mbs.now c.packets.first c.append-first.result
-        (kept_packets old) app.packet u.under_way c.packets-test.true same n in
+    (kept_packets old) app.packet u.under_way c.packets-test.true same n in
     record {
       under_way = subst (IsUnderWay c.args.number c.args.sequence h limit c.args.mbs.now
           (c.packets.first + c.append-first.result)) (sym app.packets) goes;

@@ -12,6 +12,12 @@ returns c =
     let there = c.bytes-1.given.1.1 (sym (c.append_payload_header.ensures.bits.buffer ∙ c.new-writer.ensures.buffer)) in
     ap bits_of there
     ∙ written_whole w.bytes.now w.len text (c.append_payload_header.ensures.bits.text
-        ∙ ap (λ (t : List Bool). t ++ text) c.new-writer.ensures.none)
-    (omega (arith, c.append_payload_header.ensures.len, c.append_payload_header.ensures.bits.room,
-        c.new-writer.ensures.len, c.new-writer.ensures.room, c.requires.room))
+    ∙ ap (λ (t : List Bool). t ++ text) c.new-writer.ensures.none)
+    (omega (
+      arith,
+      c.append_payload_header.ensures.len,
+      c.append_payload_header.ensures.bits.room,
+      c.new-writer.ensures.len,
+      c.new-writer.ensures.room,
+      c.requires.room,
+    ))

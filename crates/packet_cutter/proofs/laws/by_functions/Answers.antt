@@ -13,5 +13,5 @@ returns-clause-packets c = packets_of_cut c.searches.ensures.greatest
 pub returns-clause-whole : goal.returns-clause-whole
 returns-clause-whole c = λ number sequence h limit mbs is room whole.
     let cut = cut_exists c.longest_text-2.ensures c.longest_text.ensures h limit is room (length mbs) 0 mbs
-        (omega arith) whole in
+    (omega arith) whole in
     cut_of_packets c.searches.ensures.greatest number sequence h limit mbs _ cut.0 cut.1 refl

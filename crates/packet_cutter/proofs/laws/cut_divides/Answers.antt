@@ -20,7 +20,7 @@ returns-clause-style c = cut_by_style c.longest_text-2.ensures
 pub returns-clause-fits : goal.returns-clause-fits
 returns-clause-fits c = λ h limit mbs j slice is room whole e.
     let cut = cut_exists c.longest_text-2.ensures c.longest_text.ensures h limit is room (length mbs) 0 mbs
-        (omega arith) whole in
+    (omega arith) whole in
     let same = cut_is c.searches.ensures.greatest (length mbs) h limit 0 mbs cut.0 (omega arith) cut.1 in
     let there : slice_get (slices_at 0 cut.0) j ≡ Some slice = ap (λ (l : List (Slice Mb)). slice_get l j) same ∙ e in
     slice_fits h limit 0 cut.0 j slice (fit h limit 0 mbs cut.0 cut.1) there

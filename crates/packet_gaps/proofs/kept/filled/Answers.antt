@@ -14,5 +14,5 @@ returns c =
     ∙ ap (λ (l : List Gap). l ++ map g (numbers_from (number - count) count)) c.last_of-kept.ensures.items
     ∙ filled g c.args.gaps.now c.args.newest number count c.requires c.min-count.ensures
     ∙ sym (ap (λ (b : Bool). cond b (last_of 64 (c.args.gaps.now
-        ++ map g (numbers_from (c.args.newest + 1) (number - c.args.newest - 1))))
+    ++ map g (numbers_from (c.args.newest + 1) (number - c.args.newest - 1))))
     (filter (λ (x : Gap). not (eqb x.number number)) c.args.gaps.now)) (lt-ltb c.args.newest number c.requires))

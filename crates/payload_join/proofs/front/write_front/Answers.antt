@@ -9,6 +9,6 @@ returns-clause-text c =
     let e2 : c.set_part-2.new.bytes ≡ put_at c.set_part.new.bytes 12 c.args.opening.now = c.set_part-2.ensures in
     let e3 : c.set_part-3.new.bytes ≡ put_at c.set_part-2.new.bytes 14 c.args.extra.now = c.set_part-3.ensures in
     ap (take (14 + length c.args.extra.now)) (e3 ∙ ap (λ (l : List ℕ). put_at l 14 c.args.extra.now) (e2
-        ∙ ap (λ (l : List ℕ). put_at l 12 c.args.opening.now) e1))
+    ∙ ap (λ (l : List ℕ). put_at l 12 c.args.opening.now) e1))
     ∙ written_is c.args.bytes.now c.args.rtp.now c.args.opening.now c.args.extra.now c.requires.bytes c.requires.rtp
-        c.requires.opening c.requires.few
+    c.requires.opening c.requires.few

@@ -23,7 +23,7 @@ copy_coded-at-requires c =
     let held = place_at c.args.ring.now.packets in
     let end = c.packets.invariant.end in let short = c.requires.short in let less = c.packets-test.true in
     let same = ap (λ (l : List (Option Packet)). length {A = ℕ} (coded_one (place_at l (c.args.number + c.packets.k))))
-        c.packets.invariant.packets in
+    c.packets.invariant.packets in
     let more = more_len held c.args.number c.packets.k in
     let within = coded_within held c.args.number (c.packets.k + 1) c.args.count (omega arith) in
     omega arith
@@ -35,9 +35,9 @@ packets-preserved c =
     let packet = coded_one (place_at c.packets.ring.packets (c.args.number + c.packets.k)) in
     let is = c.copy_coded-at.ensures.room in
     let end = c.packets.invariant.end in let size = c.packets.invariant.size in let short = c.requires.short in
-        let less = c.packets-test.true in
+    let less = c.packets-test.true in
     let same = ap (λ (l : List (Option Packet)). coded_one (place_at l (c.args.number + c.packets.k)))
-        c.packets.invariant.packets in
+    c.packets.invariant.packets in
     let long = ap (length {A = ℕ}) same in
     let more = more_len held c.args.number c.packets.k in
     let within = coded_within held c.args.number (c.packets.k + 1) c.args.count (omega arith) in

@@ -7,4 +7,4 @@ pub returns-clause-left : goal.returns-clause-left
 unfolding outgoing_of
 returns-clause-left c =
     c.fronts.ensures.left ∙ (λ i. out_by c.args.format (c.gather-to.ensures.coded i)
-        (place_at (c.gather-to.ensures.packets i) c.args.unit.number))
+    (place_at (c.gather-to.ensures.packets i) c.args.unit.number))

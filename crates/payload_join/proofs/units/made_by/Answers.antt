@@ -29,32 +29,32 @@ pub returns-then-not-makes-clause-out : goal.returns-then-not-makes-clause-out
 returns-then-not-makes-clause-out c format =
     let upto : c.args.first + c.in_ok-follow.follow ≤ c.args.last = c.in_ok-follow.ensures.upto in
     let exact : Some c.in_ok-follow.follow ≡ unit_at (window c.args.ring.now.packets c.args.last) c.args.first =
-        c.in_ok-follow.ensures.exact in
+    c.in_ok-follow.ensures.exact in
     out_not format c.args.ring.now.packets c.args.number c.args.first c.args.last c.in_ok-follow.follow upto
-        (sym c.makes.ensures ∙ c.if-not-makes.true) exact
+    (sym c.makes.ensures ∙ c.if-not-makes.true) exact
 
 pub returns-then-coded_len-gt-MOST-clause-out : goal.returns-then-coded_len-gt-MOST-clause-out
 returns-then-coded_len-gt-MOST-clause-out c format =
     let upto : c.args.first + c.in_ok-follow.follow ≤ c.args.last = c.in_ok-follow.ensures.upto in
     let exact : Some c.in_ok-follow.follow ≡ unit_at (window c.args.ring.now.packets c.args.last) c.args.first =
-        c.in_ok-follow.ensures.exact in
+    c.in_ok-follow.ensures.exact in
     let len = c.coded_len.ensures in
     out_long format c.args.ring.now.packets c.args.number c.args.first c.args.last c.in_ok-follow.follow upto
-        (sym c.makes.ensures ∙ c.if-not-makes.false) exact (omega arith)
+    (sym c.makes.ensures ∙ c.if-not-makes.false) exact (omega arith)
 
 pub returns-clause-out : goal.returns-clause-out
 returns-clause-out c format =
     let upto : c.args.first + c.in_ok-follow.follow ≤ c.args.last = c.in_ok-follow.ensures.upto in
     let exact : Some c.in_ok-follow.follow ≡ unit_at (window c.args.ring.now.packets c.args.last) c.args.first =
-        c.in_ok-follow.ensures.exact in
+    c.in_ok-follow.ensures.exact in
     out_whole format c.args.ring.now.packets c.args.number c.args.first c.args.last c.in_ok-follow.follow upto
-        (sym c.makes.ensures ∙ c.if-not-makes.false) exact
+    (sym c.makes.ensures ∙ c.if-not-makes.false) exact
 
 pub returns-clause-whole : goal.returns-clause-whole
 returns-clause-whole c =
     let upto : c.args.first + c.in_ok-follow.follow ≤ c.args.last = c.in_ok-follow.ensures.upto in
     let exact : Some c.in_ok-follow.follow ≡ unit_at (window c.args.ring.now.packets c.args.last) c.args.first =
-        c.in_ok-follow.ensures.exact in
+    c.in_ok-follow.ensures.exact in
     let len = c.coded_len.ensures in
     is_whole c.args.ring.now.packets c.args.first c.args.last c.in_ok-follow.follow upto c.requires.fits exact
-        (omega arith)
+    (omega arith)

@@ -51,16 +51,16 @@ loop-at-preserved c =
     let old = lent.work c.loop-at.work in
     let new = lent.work c.recon_predicted.new.out in
     let inside : at < mbs_of frame.format = subst (λ (f : Format). at < mbs_of f) (sym c.requires.frame_format)
-        (omega (arith, c.mbs-at-end.ensures, c.loop-at-test.true)) in
+    (omega (arith, c.mbs-at-end.ensures, c.loop-at-test.true)) in
     let chosen = c.choose_into.ensures.choice
-        ∙ sym (c.one_for_each_place.ensures.each frame reference h params at inside) in
+    ∙ sym (c.one_for_each_place.ensures.each frame reference h params at inside) in
     record {
       added = record {
         begun = c.add_marked.ensures.begun;
         holds =
             subst (λ (l : List Mb). Holds c.add_marked.new.self c.args.number h l)
             (ap (λ (m : Mb). take at mbs ++ m ∷ []) c.choose_into.ensures.choice
-                ∙ sym (c.one_for_each_place.ensures.next frame reference h params at inside))
+            ∙ sym (c.one_for_each_place.ensures.next frame reference h params at inside))
             (c.add_marked.ensures.holds c.args.number h (take at mbs) c.loop-at.invariant.added.holds);
         added = c.add_marked.ensures.added ∙ ap (λ (n : ℕ). n + 1) c.loop-at.invariant.added.added;
         kind = c.add_marked.ensures.rest.kind ∙ c.loop-at.invariant.added.kind;
@@ -75,7 +75,7 @@ loop-at-preserved c =
         shows = c.shown_one_by_one.ensures.macroblock h.format h.rounding reference mbs at old new
             c.loop-at.invariant.shown.shows
             (subst (λ (m : Mb). SetsMb h.format h.rounding reference at m old new) chosen
-                c.recon_predicted.ensures.samples);
+            c.recon_predicted.ensures.samples);
       };
       sums = c.choose_into.ensures.sums;
       same_loan = c.recon_predicted.ensures.same_loan ∙ c.loop-at.invariant.same_loan;
@@ -94,7 +94,7 @@ holds_all c =
     let format : mbs_of params.format ≡ mbs_of frame.format = ap mbs_of (sym c.requires.frame_format) in
     let all : c.loop-at.at ≡ mbs_of frame.format = omega (arith, format, c.mbs-at-end.ensures, c.loop-at-test.false) in
     let each : take c.loop-at.at mbs ≡ mbs = ap (λ (n : ℕ). take n mbs) all
-        ∙ c.one_for_each_place.ensures.all frame reference h params in
+    ∙ c.one_for_each_place.ensures.all frame reference h params in
     subst (λ (l : List Mb). Holds c.loop-at.cutter c.args.number h l) each c.loop-at.invariant.added.holds
 
 pub returns-clause-packets : goal.returns-clause-packets
@@ -105,14 +105,14 @@ returns-clause-packets c =
     let packets = packets_of c.finish.new.self in
     subst (λ (n : ℕ). ArePacketsOf c.args.number n h params.limit mbs packets) c.loop-at.invariant.sequence
     (subst (λ (n : ℕ). ArePacketsOf c.args.number (sequence_of c.loop-at.cutter) h n mbs packets)
-        (c.loop-at.invariant.limit ∙ c.requires.cutter_limit)
+    (c.loop-at.invariant.limit ∙ c.requires.cutter_limit)
     (c.finish.ensures.packets c.args.number h mbs (holds_all c)))
 
 pub returns-clause-held : goal.returns-clause-held
 returns-clause-held c =
     c.finish.ensures.holds c.args.number c.args.header.now
-        (choices_of (picture c.args.frame) (option_map picture c.args.reference) c.args.header.now c.args.params.now)
-        (holds_all c)
+    (choices_of (picture c.args.frame) (option_map picture c.args.reference) c.args.header.now c.args.params.now)
+    (holds_all c)
 
 pub returns-clause-reconstruction : goal.returns-clause-reconstruction
 returns-clause-reconstruction c =
@@ -122,10 +122,14 @@ returns-clause-reconstruction c =
     let p = lent.work c.loop-at.work in
     let shown = c.loop-at.invariant.shown in
     let format = shown.format ∙ c.requires.header_format in
-    let all : c.loop-at.at ≡ mbs_of p.format = omega (arith, ap mbs_of format, c.mbs-at-end.ensures,
-        c.loop-at-test.false) in
+    let all : c.loop-at.at ≡ mbs_of p.format = omega (
+      arith,
+      ap mbs_of format,
+      c.mbs-at-end.ensures,
+      c.loop-at-test.false,
+    ) in
     let shows : ShowsFirst p.format h.rounding reference mbs (mbs_of p.format) p =
     subst (λ (f : Format). ShowsFirst f h.rounding reference mbs (mbs_of p.format) p) (sym shown.format)
     (subst (λ (n : ℕ). ShowsFirst h.format h.rounding reference mbs n p) all shown.shows) in
     subst (λ (f : Format). p ≡ reconstruction f h.rounding reference mbs) format
-        (c.shown_one_by_one.ensures.all p h.rounding reference mbs shown.whole.whole shows)
+    (c.shown_one_by_one.ensures.all p h.rounding reference mbs shown.whole.whole shows)

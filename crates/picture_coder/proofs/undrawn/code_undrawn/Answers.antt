@@ -51,7 +51,7 @@ loop-at-preserved c =
         holds =
             subst (λ (l : List Mb). Holds c.add_marked.new.self c.args.number h l)
             (ap (λ (m : Mb). take at mbs ++ m ∷ []) c.choose_into.ensures.choice
-                ∙ sym (c.one_for_each_place.ensures.next frame None h params at inside))
+            ∙ sym (c.one_for_each_place.ensures.next frame None h params at inside))
             (c.add_marked.ensures.holds c.args.number h (take at mbs) c.loop-at.invariant.added.holds);
         added = c.add_marked.ensures.added ∙ ap (λ (n : ℕ). n + 1) c.loop-at.invariant.added.added;
         kind = c.add_marked.ensures.rest.kind ∙ c.loop-at.invariant.added.kind;
@@ -65,7 +65,7 @@ loop-at-preserved c =
         format = c.put_undrawn.ensures.format ∙ sym c.requires.header_format;
         levels =
             one_more_there h.quant mbs at (lent.work c.loop-at.work) (lent.work c.put_undrawn.new.out)
-                c.loop-at.invariant.kept.levels
+            c.loop-at.invariant.kept.levels
             (λ k less. c.put_undrawn.ensures.others h.quant k (omega (arith, less, below)) (omega (arith, less)))
             (c.put_undrawn.ensures.put h.quant c.choose_into.ensures.plain ∙ chosen);
       };
@@ -85,7 +85,7 @@ holds_all c =
     let format : mbs_of params.format ≡ mbs_of frame.format = ap mbs_of (sym c.requires.frame_format) in
     let all : c.loop-at.at ≡ mbs_of frame.format = omega (arith, format, c.mbs-at-end.ensures, c.loop-at-test.false) in
     let each : take c.loop-at.at mbs ≡ mbs = ap (λ (n : ℕ). take n mbs) all
-        ∙ c.one_for_each_place.ensures.all frame None h params in
+    ∙ c.one_for_each_place.ensures.all frame None h params in
     subst (λ (l : List Mb). Holds c.loop-at.cutter c.args.number h l) each c.loop-at.invariant.added.holds
 
 pub returns-clause-packets : goal.returns-clause-packets
@@ -96,13 +96,13 @@ returns-clause-packets c =
     let packets = packets_of c.finish.new.self in
     subst (λ (n : ℕ). ArePacketsOf c.args.number n h params.limit mbs packets) c.loop-at.invariant.sequence
     (subst (λ (n : ℕ). ArePacketsOf c.args.number (sequence_of c.loop-at.cutter) h n mbs packets)
-        (c.loop-at.invariant.limit ∙ c.requires.cutter_limit)
+    (c.loop-at.invariant.limit ∙ c.requires.cutter_limit)
     (c.finish.ensures.packets c.args.number h mbs (holds_all c)))
 
 pub returns-clause-held : goal.returns-clause-held
 returns-clause-held c =
     c.finish.ensures.holds c.args.number c.args.header.now
-        (choices_of (picture c.args.frame) None c.args.header.now c.args.params.now) (holds_all c)
+    (choices_of (picture c.args.frame) None c.args.header.now c.args.params.now) (holds_all c)
 
 -- the levels of all macroblocks are there
 all_there : (quant : ℕ) (p : Picture) (mbs : List Mb) → length mbs ≡ mbs_of p.format
@@ -114,7 +114,7 @@ all_there quant p mbs count each = sym (fill_by_all (undrawn_mb quant p) mbs (mb
 
 there : (c : goal.After-finish) (k : ℕ) → k < mbs_of c.args.params.now.format →
     undrawn_mb c.args.header.now.quant (lent.work c.loop-at.work) k
-        ≡ mb_in (choices_of (picture c.args.frame) None c.args.header.now c.args.params.now) k
+    ≡ mb_in (choices_of (picture c.args.frame) None c.args.header.now c.args.params.now) k
 there c k h = c.loop-at.invariant.kept.levels k (omega (arith, h, c.mbs-at-end.ensures, c.loop-at-test.false))
 
 pub returns-clause-undrawn : goal.returns-clause-undrawn
@@ -125,7 +125,7 @@ returns-clause-undrawn c =
     let p = lent.work c.loop-at.work in
     let same : p.format ≡ params.format = c.loop-at.invariant.kept.format ∙ c.requires.header_format in
     all_there h.quant p (choices_of frame None h params) (c.one_for_each_place.ensures.count frame None h params
-        ∙ ap mbs_of (c.requires.frame_format ∙ sym same))
+    ∙ ap mbs_of (c.requires.frame_format ∙ sym same))
     (λ k less. there c k (subst (λ (f : Format). k < mbs_of f) same less))
 
 pub returns-clause-in_range : goal.returns-clause-in_range
@@ -135,5 +135,7 @@ returns-clause-in_range c = λ k less.
     let params = c.args.params.now in
     let inside = subst (λ (f : Format). k < mbs_of f) (sym c.requires.frame_format) less in
     subst IsMb (sym (there c k less ∙ c.one_for_each_place.ensures.each frame None h params k inside))
-    (c.chosen_is_in_range.ensures.in_range frame None h params k (record { low = c.requires.header.quant_some;
-        high = c.requires.header.quant_low }))
+    (c.chosen_is_in_range.ensures.in_range frame None h params k (record {
+      low = c.requires.header.quant_some;
+      high = c.requires.header.quant_low;
+    }))

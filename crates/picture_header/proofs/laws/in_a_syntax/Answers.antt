@@ -5,5 +5,9 @@ use Rattle.picture_header.proofs.laws.in_a_syntax.Goals as goal
 pub returns : goal.returns
 returns c =
     let messages = c.in_a_syntax.ensures in
-    record { productive = header_productive messages; spelt = header_spelt messages;
-        length = length-written_header messages; short = header_short }
+    record {
+      productive = header_productive messages;
+      spelt = header_spelt messages;
+      length = length-written_header messages;
+      short = header_short;
+    }

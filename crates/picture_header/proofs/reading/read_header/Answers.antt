@@ -16,7 +16,7 @@ use Rattle.picture_header.proofs.reading.read_header.Goals as goal
 only : MessageLaws → (format : Format) (r : Result Header Fault) (old new : Bits)
     → Gives (λ (h : Header). h) r new (reading (header format) old)
     → (h : Header) (text rest : List Bool) → IsHeaderText format h text → old.bits ≡ text ++ rest
-        → IsOkAnd r (λ found. (found ≡ h) × (new.bits ≡ rest))
+    → IsOkAnd r (λ found. (found ≡ h) × (new.bits ≡ rest))
 only laws format r old new e = texts_read (λ (h : Header). h) (header format) r old new (header_productive laws format)
     e
 

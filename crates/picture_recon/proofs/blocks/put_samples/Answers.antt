@@ -8,9 +8,16 @@ pub returns-clause-samples : goal.returns-clause-samples
 returns-clause-samples c = λ plane x y h.
     let corner = c.args.corner in
     other_test (in_block corner.plane corner.x corner.y 8 8 plane x y) _ _ _ _ _
-        (c.set_square.ensures.samples plane x y h) refl
+    (c.set_square.ensures.samples plane x y h) refl
     (λ t.
     let here = is_in (same_plane corner.plane plane) corner.x corner.y 8 x y t in
-    let place : 8 * (y - corner.y) + (x - corner.x) ≡ 8 * (y % 8) + x % 8 = omega (arith, c.requires.corner.column,
-        c.requires.corner.row, here.from, here.to, here.below, here.above) in
+    let place : 8 * (y - corner.y) + (x - corner.x) ≡ 8 * (y % 8) + x % 8 = omega (
+      arith,
+      c.requires.corner.column,
+      c.requires.corner.row,
+      here.from,
+      here.to,
+      here.below,
+      here.above,
+    ) in
     ap (λ (k : ℕ). get_or c.args.samples.now k 0) place)

@@ -9,4 +9,4 @@ returns c = λ i hi.
     let lent = take (at + 8 - at) (drop at rows) in
     let here : 0 + i ≡ i = omega arith in
     get_or-chunk 0 8 lent i 0 hi ∙ ap (λ (k : ℕ). get_or lent k 0) here
-        ∙ get_or-take (at + 8 - at) (drop at rows) i 0 (omega arith) ∙ get_or-drop at rows i 0
+    ∙ get_or-take (at + 8 - at) (drop at rows) i 0 (omega arith) ∙ get_or-drop at rows i 0

@@ -18,18 +18,18 @@ returns-then-marks-eq0-clause-samples c = λ plane x y h.
     let zeros = no_levels c.one_order.ensures c.args.quant c.args.levels.now
     (none_at_all c.args.levels.now c.args.marks c.requires.marked c.if-marks-eq0.true) in
     nothing_added (mb_of c.args.format plane x y) c.args.at (block_of plane x y) c.args.block
-        (sample_at (work c.args.out.now) plane x y) _
+    (sample_at (work c.args.out.now) plane x y) _
     (λ here. sample_kept (sample_at (work c.args.out.now) plane x y) (inverse_at values (y % 8) (x % 8))
-        (c.requires.whole.samples plane _) (c.zeros_give_zeros.ensures values zeros (y % 8) (x % 8)))
+    (c.requires.whole.samples plane _) (c.zeros_give_zeros.ensures values zeros (y % 8) (x % 8)))
 
 pub returns-clause-samples : goal.returns-clause-samples
 returns-clause-samples c = λ plane x y h.
     let here : Inside (work c.args.out.now).format plane x y 1 = subst (λ (f : Format). Inside f plane x y 1)
-        (sym c.requires.format) h in
+    (sym c.requires.format) h in
     block_put (picture c.seen.result) (work c.args.out.now) c.block_corner-corner.result.plane plane
-        c.block_corner-corner.result.x c.block_corner-corner.result.y x y
+    c.block_corner-corner.result.x c.block_corner-corner.result.y x y
     c.samples_at-predicted.result c.inter_samples-samples.result
-        (λ (n y x : ℕ). limited (pos n +ℤ inverse_at (inter_values c.args.quant c.args.levels.now) y x)) _ _
+    (λ (n y x : ℕ). limited (pos n +ℤ inverse_at (inter_values c.args.quant c.args.levels.now) y x)) _ _
     c.seen.ensures.picture c.block_corner-corner.ensures.inside.column c.block_corner-corner.ensures.inside.row
-        c.samples_at-predicted.ensures c.inter_samples-samples.ensures
+    c.samples_at-predicted.ensures c.inter_samples-samples.ensures
     (c.put_samples.ensures.samples plane x y here) (c.block_corner-corner.ensures.samples plane x y h)

@@ -24,6 +24,6 @@ returns-clause-samples c =
     let four : c.loop-block.block ≡ 4 = omega arith in
     let luma = subst (λ (n : ℕ). SetsBlocks f at n value old (work c.loop-block.out)) four c.loop-block.invariant.2 in
     let with_cb = more_blocks f at 4 value old (work c.loop-block.out) (work c.add_block-2.new.out) luma
-        c.add_block-2.ensures.samples in
+    c.add_block-2.ensures.samples in
     more_blocks f at 5 value old (work c.add_block-2.new.out) (work c.add_block-3.new.out) with_cb
-        c.add_block-3.ensures.samples
+    c.add_block-3.ensures.samples

@@ -11,5 +11,5 @@ invariant-loop-block l =
     (loan_of l.out ≡ loan_of l.initial.out)
     × ((work l.out).format ≡ l.format)
     × SetsBlocks l.format l.at l.block (λ (b : ℕ). added_sample l.quant (block_in l.blocks b)) (work l.initial.out)
-        (work l.out)
+    (work l.out)
     × IsPicture (work l.out)

@@ -18,7 +18,7 @@ loop-pair-preserved c =
     c.two_intra.ensures.one c.put_block.ensures.samples) in
     let next = more_blocks f at (b + 1) value old (work c.put_block.new.out) (work c.put_block-in-loop-pair.new.out) one
     (with_samples f at (b + 1) c.two_intra.result.1 (sample (b + 1)) (work c.put_block.new.out)
-        (work c.put_block-in-loop-pair.new.out)
+    (work c.put_block-in-loop-pair.new.out)
     c.two_intra.ensures.next c.put_block-in-loop-pair.ensures.samples) in
     let count : b + 1 + 1 ≡ 2 * (c.loop-pair.pair + 1) = omega arith in (
       c.put_block-in-loop-pair.ensures.same_loan ∙ c.put_block.ensures.same_loan ∙ c.loop-pair.invariant.0,

@@ -11,5 +11,5 @@ invariant-loop-pair l =
     (loan_of l.out ≡ loan_of l.initial.out)
     × ((work l.out).format ≡ l.format)
     × SetsBlocks l.format l.at (2 * l.pair) (λ (b old y x : ℕ). intra_sample l.quant (block_in l.blocks b) y x)
-        (work l.initial.out) (work l.out)
+    (work l.initial.out) (work l.out)
     × IsPicture (work l.out)

@@ -24,7 +24,7 @@ returns-clause-slice c = λ f rounding reference mbs first run old new shows par
     let below : k - first < length run = omega (arith, there, under) in
     let place : first + (k - first) ≡ k = omega (arith, there) in
     ap (λ (m : Mb). sample_in rounding reference m plane x y) (part (k - first) below
-        ∙ ap (λ (n : ℕ). mb_in mbs n) place))
+    ∙ ap (λ (n : ℕ). mb_in mbs n) place))
     under
 
 pub returns-clause-all : goal.returns-clause-all

@@ -11,7 +11,7 @@ returns-in-Intra-clause-samples c =
     let header = c.args.header.now in
     let reference = option_map picture c.args.reference in
     same_drawn header.format header.rounding c.args.at c.args.mb.now _ reference (work c.args.out.now)
-        (work c.put_intra.new.out) c.in-Intra.is
+    (work c.put_intra.new.out) c.in-Intra.is
     (c.put_intra.ensures.samples header.rounding reference)
 
 pub returns-in-Some-reference-clause-samples : goal.returns-in-Some-reference-clause-samples
@@ -20,7 +20,7 @@ returns-in-Some-reference-clause-samples c =
     let p = picture c.in-Some-reference.picture in
     let seen = ap (λ (o : Option PictureRef). option_map picture o) c.in-Some-reference.is in
     let same = reference_format header.kind header.format _ _ _ c.args.mb.now (option_map picture c.args.reference) p
-        c.in-Inter.is seen c.requires.reference c.requires.of_kind in
+    c.in-Inter.is seen c.requires.reference c.requires.of_kind in
     reference_drawn header.format header.rounding c.args.at c.args.mb.now _ (option_map picture c.args.reference) p _
-        _ c.in-Inter.is seen
+    _ c.in-Inter.is seen
     (c.put_inter.ensures.samples p c.in-Inter.vector header.rounding same c.predict_into.ensures)

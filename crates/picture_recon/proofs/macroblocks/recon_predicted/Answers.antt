@@ -9,12 +9,12 @@ returns-in-Intra-clause-samples c =
     let header = c.args.header.now in
     let reference = option_map picture c.args.reference in
     same_drawn header.format header.rounding c.args.at c.args.mb.now _ reference (work c.args.out.now)
-        (work c.put_intra.new.out) c.in-Intra.is
+    (work c.put_intra.new.out) c.in-Intra.is
     (c.put_intra.ensures.samples header.rounding reference)
 
 pub returns-in-Inter-clause-samples : goal.returns-in-Inter-clause-samples
 returns-in-Inter-clause-samples c =
     let header = c.args.header.now in
     prediction_drawn header.kind header.format header.rounding c.args.at _ _ _ c.args.mb.now
-        (option_map picture c.args.reference) c.args.predicted.now _ _
+    (option_map picture c.args.reference) c.args.predicted.now _ _
     c.in-Inter.is c.requires.reference c.requires.of_kind c.requires.predicted c.put_inter.ensures.samples

@@ -16,7 +16,7 @@ invariant-loop-at l =
     × ((work l.out).format ≡ l.header.format)
     × ((plane : Plane) (x y : ℕ) → Inside l.header.format plane x y 1 →
     sample_at (work l.out) plane x y
-        ≡ cond (nat_le l.fn.head.first (mb_of l.header.format plane x y) && nat_lt (mb_of l.header.format plane x y)
-        l.at) (sample_in l.header.rounding (option_map picture l.reference)
-        (mb_in l.mbs (mb_of l.header.format plane x y)) plane x y) (sample_at (work l.initial.out) plane x y))
+    ≡ cond (nat_le l.fn.head.first (mb_of l.header.format plane x y) && nat_lt (mb_of l.header.format plane x y)
+    l.at) (sample_in l.header.rounding (option_map picture l.reference)
+    (mb_in l.mbs (mb_of l.header.format plane x y)) plane x y) (sample_at (work l.initial.out) plane x y))
     × IsPicture (work l.out)

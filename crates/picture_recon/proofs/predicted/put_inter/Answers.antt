@@ -13,7 +13,7 @@ returns-clause-samples c = λ p v r same is plane x y h.
     let m = mb_of c.args.format plane x y in
     let b = block_of plane x y in
     over_predicted m c.args.at _ (sample_at (work c.put_predicted.new.out) plane x y) (predicted_sample p plane x y v r)
-        _
+    _
     (λ (n : ℕ). added_sample c.args.quant (block_in c.args.blocks.now b) n (y % 8) (x % 8))
     (all_blocks m c.args.at b 6 _ _ _ (six_blocks plane x y) (c.add_blocks.ensures.samples plane x y h))
     (c.put_predicted.ensures.samples p v r same is plane x y h)

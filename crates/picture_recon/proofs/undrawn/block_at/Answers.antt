@@ -13,7 +13,7 @@ unfolding undrawn_block
 returns c =
     let p = picture c.args.undrawn in
     let corner = c.block_corner.ensures.corner
-        ∙ ap (λ (f : Format). corner_of f c.args.at c.args.block) c.format.ensures.format in
+    ∙ ap (λ (f : Format). corner_of f c.args.at c.args.block) c.format.ensures.format in
     c.levels_of.ensures
     ∙ same_bytes (λ k. get_or c.samples_at.result k 0) (byte_in_block p c.args.at c.args.block)
     (λ k h.

@@ -23,9 +23,9 @@ pub put_intra-requires-clause-in_range : goal.put_intra-requires-clause-in_range
 unfolding undrawn_mb
 put_intra-requires-clause-in_range c =
     let here = below (picture c.args.undrawn).format c.format-format.result c.loop-at.at c.mbs-at-end.result
-        c.format-format.ensures.format c.mbs-at-end.ensures c.loop-at-test.true in
+    c.format-format.ensures.format c.mbs-at-end.ensures c.loop-at-test.true in
     subst (λ (blocks : List Block). IsIntraMb c.args.quant blocks) (sym c.blocks_at-blocks.ensures)
-        (c.requires.in_range c.loop-at.at here)
+    (c.requires.in_range c.loop-at.at here)
 
 mb_there : (quant : ℕ) (p : Picture) (at : ℕ) (blocks : List Block) → at < mbs_of p.format
     → undrawn_mb quant p at ≡ Intra quant blocks → Intra quant blocks ≡ mb_in (undrawn_mbs quant p) at
@@ -47,17 +47,17 @@ loop-at-preserved c =
     let old = work c.loop-at.out in
     let new = work c.put_intra.new.out in
     let here = below p.format c.format-format.result at c.mbs-at-end.result c.format-format.ensures.format
-        c.mbs-at-end.ensures c.loop-at-test.true in
+    c.mbs-at-end.ensures c.loop-at-test.true in
     let mb = mb_there quant p at c.blocks_at-blocks.result here
-        (mb_of_blocks quant p at c.blocks_at-blocks.result c.blocks_at-blocks.ensures) in (
+    (mb_of_blocks quant p at c.blocks_at-blocks.result c.blocks_at-blocks.ensures) in (
       c.put_intra.ensures.same_loan ∙ c.loop-at.invariant.0,
       c.put_intra.ensures.format ∙ c.format-format.ensures.format,
       λ rounding reference.
           c.shown_one_by_one.ensures.macroblock p.format rounding reference mbs at old new
-              (c.loop-at.invariant.2 rounding reference)
+          (c.loop-at.invariant.2 rounding reference)
           (subst (λ (f : Format). SetsMb f rounding reference at (mb_in mbs at) old new) c.format-format.ensures.format
           (subst (λ (m : Mb). SetsMb c.format-format.result rounding reference at m old new) mb
-              (c.put_intra.ensures.samples rounding reference))),
+          (c.put_intra.ensures.samples rounding reference))),
       c.put_intra.ensures.whole,
     )
 
@@ -67,8 +67,12 @@ returns-clause-drawn c = λ rounding reference.
     let mbs = undrawn_mbs c.args.quant (picture c.args.undrawn) in
     let q = work c.loop-at.out in
     let same : q.format ≡ f = c.loop-at.invariant.1 in
-    let all : c.loop-at.at ≡ mbs_of q.format = omega (arith, ap mbs_of (c.format-format.ensures.format ∙ sym same),
-        c.mbs-at-end.ensures, c.loop-at-test.false) in
+    let all : c.loop-at.at ≡ mbs_of q.format = omega (
+      arith,
+      ap mbs_of (c.format-format.ensures.format ∙ sym same),
+      c.mbs-at-end.ensures,
+      c.loop-at-test.false,
+    ) in
     let shows : ShowsFirst q.format rounding reference mbs (mbs_of q.format) q =
     subst (λ (g : Format). ShowsFirst g rounding reference mbs (mbs_of q.format) q) (sym same)
     (subst (λ (n : ℕ). ShowsFirst f rounding reference mbs n q) all (c.loop-at.invariant.2 rounding reference)) in

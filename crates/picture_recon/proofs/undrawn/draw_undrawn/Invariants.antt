@@ -13,6 +13,6 @@ invariant-loop-at l =
     (loan_of l.out ≡ loan_of l.initial.out)
     × ((work l.out).format ≡ (picture l.undrawn).format)
     × ((rounding : ℕ) (reference : Option Picture)
-        → ShowsFirst (picture l.undrawn).format rounding reference (undrawn_mbs l.quant (picture l.undrawn)) l.at
-        (work l.out))
+    → ShowsFirst (picture l.undrawn).format rounding reference (undrawn_mbs l.quant (picture l.undrawn)) l.at
+    (work l.out))
     × IsPicture (work l.out)

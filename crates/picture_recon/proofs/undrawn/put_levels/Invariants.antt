@@ -13,5 +13,5 @@ invariant-loop-block l =
     (loan_of l.out ≡ loan_of l.initial.out)
     × ((work l.out).format ≡ l.format)
     × SetsBlocks l.format l.at l.block (λ (b old y x : ℕ). byte_of (level_at (block_in l.blocks b) (8 * y + x)))
-        (work l.initial.out) (work l.out)
+    (work l.initial.out) (work l.out)
     × IsPicture (work l.out)

@@ -23,15 +23,15 @@ returns-in-Intra-clause-put c = λ quant has.
     let whole : AreWhole blocks = subst HasWholeBlocks c.in-Intra.is c.is_whole.ensures.whole in
     let in_range : IsIntraMb c.in-Intra.quant blocks = subst IsMb c.in-Intra.is c.requires.in_range in
     same_mb c.in-Intra.quant quant blocks (work c.put_levels.new.out) c.args.at
-        (subst (HasQuant quant) c.in-Intra.is has)
+    (subst (HasQuant quant) c.in-Intra.is has)
     (put_blocks c.args.format c.args.at blocks (work c.args.out.now) (work c.put_levels.new.out)
-        c.put_levels.ensures.bytes c.put_levels.ensures.format c.requires.at whole.count
+    c.put_levels.ensures.bytes c.put_levels.ensures.format c.requires.at whole.count
     (λ b h. All-get_or IsIntraBlock blocks b _ (subst (λ (n : ℕ). b < n) (sym whole.count) h) in_range.each)
     (λ b h. All-get_or (λ (x : Block). length x.levels ≡ 64) blocks b _ (subst (λ (n : ℕ). b < n) (sym whole.count) h)
-        whole.each))
+    whole.each))
     ∙ sym c.in-Intra.is
 
 pub returns-in-Intra-clause-others : goal.returns-in-Intra-clause-others
 returns-in-Intra-clause-others c = λ quant other below apart.
     other_mb c.args.format c.args.at _ (work c.args.out.now) (work c.put_levels.new.out) c.put_levels.ensures.bytes
-        quant other c.requires.format c.put_levels.ensures.format below apart
+    quant other c.requires.format c.put_levels.ensures.format below apart

@@ -14,7 +14,7 @@ returns-then-marks-eq-FIRST_ALONE c = λ y x hy hx.
     flat dc c.requires.dc _ (c.flat-samples.ensures (8 * y + x) (omega arith) ∙ same_dc dc c.requires.dc) _
     (c.zeros_give_zeros.ensures values
     (no_others c.one_order.ensures c.args.marks values c.if-marks-eq-FIRST_ALONE.true c.requires.first
-        c.requires.marked) y x)
+    c.requires.marked) y x)
 
 pub limited_sums-requires : goal.limited_sums-requires
 limited_sums-requires c = record {

@@ -13,4 +13,4 @@ pub returns : goal.returns
 returns c = λ k less none.
     let z = get_or c.args.block.levels k (pos 0) in
     unset z (is_zero z) refl (sym (c.marks.ensures c.args.block.levels k)
-        ∙ ap (λ (n : ℕ). bit_at n k) (sym c.marks-2.ensures.marks) ∙ none)
+    ∙ ap (λ (n : ℕ). bit_at n k) (sym c.marks-2.ensures.marks) ∙ none)

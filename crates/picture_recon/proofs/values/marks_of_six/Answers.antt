@@ -16,6 +16,6 @@ six P a b c d e f (suc (suc (suc (suc (suc (suc k)))))) h = absurd (omega arith)
 pub returns : goal.returns
 returns c =
     let marks : List ℕ = c.marks_of.result ∷ c.marks_of-2.result ∷ c.marks_of-3.result ∷ c.marks_of-4.result ∷
-        c.marks_of-5.result ∷ c.marks_of-6.result ∷ [] in
+    c.marks_of-5.result ∷ c.marks_of-6.result ∷ [] in
     six (λ b. AreMarked (block_in c.args.blocks.now b).levels (slice_index_or marks b 0)) c.marks_of.ensures
-        c.marks_of-2.ensures c.marks_of-3.ensures c.marks_of-4.ensures c.marks_of-5.ensures c.marks_of-6.ensures
+    c.marks_of-2.ensures c.marks_of-3.ensures c.marks_of-4.ensures c.marks_of-5.ensures c.marks_of-6.ensures

@@ -14,7 +14,7 @@ returns-clause-values c =
     let block = c.args.block.now in
     first_put (inter_value c.args.quant block) c.put_values_but_first.new.values _ c.put_values_but_first.ensures.long
     (kept c.value.result c.value.ensures.range ∙ c.value.ensures.value
-        ∙ ap (value_of c.args.quant) (kept_level (level_at block 0) (c.requires.block.levels 0 (lit< tt))))
+    ∙ ap (value_of c.args.quant) (kept_level (level_at block 0) (c.requires.block.levels 0 (lit< tt))))
     c.put_values_but_first.ensures.values
 
 pub returns-clause-marked : goal.returns-clause-marked

@@ -62,5 +62,5 @@ returns-clause-first c = c.marks.invariant.0.first
 pub returns-clause-marked : goal.returns-clause-marked
 returns-clause-marked c = λ at some less none.
     returns-clause-values c at some less
-        ∙ unmarked_value c.one_order.ensures c.args.quant c.args.block.now c.args.marks c.requires.marked at some less
-        none
+    ∙ unmarked_value c.one_order.ensures c.args.quant c.args.block.now c.args.marks c.requires.marked at some less
+    none

@@ -11,9 +11,9 @@ returns-clause-one c = λ y x hy hx.
     let put = c.put_values_but_first.ensures in
     c.intra_samples-one.ensures y x hy hx
     ∙ ap limited (sym (c.first_value_apart.ensures (intra_values quant block) c.put_values_but_first.new.values
-        (level_at block 0)
+    (level_at block 0)
     (first_value quant block) put.first (λ at some less. other_values quant block at some less
-        ∙ sym (put.values at some less)) y x hy hx))
+    ∙ sym (put.values at some less)) y x hy hx))
 
 pub returns-clause-next : goal.returns-clause-next
 returns-clause-next c = λ y x hy hx.
@@ -22,6 +22,6 @@ returns-clause-next c = λ y x hy hx.
     let put = c.put_values_but_first-2.ensures in
     c.intra_samples-next.ensures y x hy hx
     ∙ ap limited (sym (c.first_value_apart.ensures (intra_values quant block) c.put_values_but_first-2.new.values
-        (level_at block 0)
+    (level_at block 0)
     (first_value quant block) put.first (λ at some less. other_values quant block at some less
-        ∙ sym (put.values at some less)) y x hy hx))
+    ∙ sym (put.values at some less)) y x hy hx))

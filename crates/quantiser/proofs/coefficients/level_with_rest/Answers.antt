@@ -12,8 +12,14 @@ returns-clause-level c =
     let size : ℕ = unsigned_abs s in
     let same : to_z w16 (of_z w16 s) ≡ s = word_kept s c.requires.sixteenths in
     let sizes : unsigned_abs (to_z w16 (of_z w16 s)) ≡ size = ap unsigned_abs same in
-    let least : c.saturating_sub-least.result ≡ size + 6 - 16 * c.args.half = omega (arith, sizes,
-        c.saturating_sub-least.ensures, c.min.ensures, c.unsigned_abs.ensures.value, c.unsigned_abs.ensures.bound) in
+    let least : c.saturating_sub-least.result ≡ size + 6 - 16 * c.args.half = omega (
+      arith,
+      sizes,
+      c.saturating_sub-least.ensures,
+      c.min.ensures,
+      c.unsigned_abs.ensures.value,
+      c.unsigned_abs.ensures.bound,
+    ) in
     kept_level c.signed.result c.signed.ensures.range
     ∙ c.signed.ensures.value
     ∙ signed_same _ _ s c.steps_and_rest-steps.result.0 same (omega (arith, ints, c.steps_and_rest-steps.ensures.most))

@@ -6,4 +6,4 @@ use Rattle.rate_command.proofs.laws.rate_follows_its_log.Goals as goal
 pub returns : goal.returns
 returns c b inputs =
     measures b inputs (run_from (rate_begin b inputs) rate_step 16777216 inputs)
-        (c.a_run_follows_its_log.ensures b inputs)
+    (c.a_run_follows_its_log.ensures b inputs)

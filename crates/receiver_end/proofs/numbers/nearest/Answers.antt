@@ -9,4 +9,4 @@ unfolding nearest
 returns-clause-value c p same =
     c.nearest_below.ensures.value (rules_of p) (ap half_of same)
     ∙ ap (λ (k : ℕ). nearest_below (rules_of p) (c.args.played + k) c.args.rest) (c.half.ensures
-        ∙ ap half_of (sym same))
+    ∙ ap half_of (sym same))

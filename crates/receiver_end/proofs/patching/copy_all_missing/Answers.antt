@@ -22,9 +22,9 @@ loop-at-preserved c =
           let screen = sample_at (picture c.args.screen) plane x y in
           let was = sample_at (work c.loop-at.out) plane x y in
           one_more now screen was (sample_at (work c.args.out.now) plane x y) taken (mb_of c.args.format plane x y)
-              c.loop-at.at
+          c.loop-at.at
           (subst (λ (f : Format). Inside f plane x y 1
-              → now ≡ cond (nat_eq (mb_of f plane x y) c.loop-at.at && not (taken c.loop-at.at)) screen was)
+          → now ≡ cond (nat_eq (mb_of f plane x y) c.loop-at.at && not (taken c.loop-at.at)) screen was)
           same (copy.ensures.samples plane x y) inside)
           (so.3 plane x y inside),
     )

@@ -16,4 +16,4 @@ invariant-loop-at l =
     × ((plane : Plane) (x y : ℕ) → Inside l.fn.format plane x y 1 → sample_at (work l.out) plane x y
     ≡ cond (has_in l.collector l.fn.number (mb_of l.fn.format plane x y)) (sample_at (work l.initial.out) plane x y)
     (cond (nat_lt (mb_of l.fn.format plane x y) l.at) (sample_at (picture l.fn.screen) plane x y)
-        (sample_at (work l.initial.out) plane x y)))
+    (sample_at (work l.initial.out) plane x y)))

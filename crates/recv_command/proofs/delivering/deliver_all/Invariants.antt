@@ -21,7 +21,7 @@ invariant-loop-packet g l =
       has_written : HasWritten l.outcome (outside l.fn.desk) (outside l.desk);
       delivering : (s : RecvState) → RecvStands l.fn.receiving s
           → IsDelivering l.receiving l.joiner.left l.outcome (delivers s l.fn.joiner.left) (outside l.fn.desk).written
-              (outside l.desk).written;
+          (outside l.desk).written;
     }
 
 abbrev pub decreases-loop-packet : goal.decreases-loop-packet

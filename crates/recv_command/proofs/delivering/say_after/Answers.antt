@@ -6,14 +6,14 @@ pub returns-in-Ok-clause-has_written : goal.returns-in-Ok-clause-has_written
 returns-in-Ok-clause-has_written g c = λ old before.
     let outside = g.D.Desk.outside in
     written_more c.calls.ensures.rose_since c.calls.ensures.writes c.say.result old (outside c.args.desk.now)
-        (outside c.say.new.desk) before.rest c.say.ensures.kind c.say.ensures.cause c.say.ensures.rest
+    (outside c.say.new.desk) before.rest c.say.ensures.kind c.say.ensures.cause c.say.ensures.rest
 
 pub returns-in-Ok-clause-said : goal.returns-in-Ok-clause-said
 returns-in-Ok-clause-said g c = λ old texts clock said is before.
     let outside = g.D.Desk.outside in
     text_more c.turn_laws.ensures texts (back_text said) c.say.result old (outside c.args.desk.now).written
-        (outside c.say.new.desk).written (rw c.in-Ok.is at before.ok) (c.say.ensures.ok clock said is)
-        (c.say.ensures.err clock said is)
+    (outside c.say.new.desk).written (rw c.in-Ok.is at before.ok) (c.say.ensures.ok clock said is)
+    (c.say.ensures.err clock said is)
 
 pub returns-in-Err-clause-said : goal.returns-in-Err-clause-said
 returns-in-Err-clause-said g c = λ old texts clock said is before. record {

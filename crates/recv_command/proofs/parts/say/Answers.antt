@@ -19,7 +19,7 @@ returns-in-Some-clause-ok g c = λ clock message is.
     ∙ said_text c.said_bytes.ensures.written clock c.args.said c.in-Some.said message c.in-Some.is fit is
     in
     subst (λ (t : Role → List ℕ). OnOk c.put_entry.result (Gains t (outside c.args.desk.now).written
-        (outside c.put_entry.new.desk).written)) text c.put_entry.ensures.ok
+    (outside c.put_entry.new.desk).written)) text c.put_entry.ensures.ok
 
 pub returns-in-Some-clause-err : goal.returns-in-Some-clause-err
 returns-in-Some-clause-err g c = λ clock message is.
@@ -30,4 +30,4 @@ returns-in-Some-clause-err g c = λ clock message is.
     ∙ said_text c.said_bytes.ensures.written clock c.args.said c.in-Some.said message c.in-Some.is fit is
     in
     subst (λ (t : Role → List ℕ). OnErr c.put_entry.result (GainsFronts t (outside c.args.desk.now).written
-        (outside c.put_entry.new.desk).written)) text c.put_entry.ensures.err
+    (outside c.put_entry.new.desk).written)) text c.put_entry.ensures.err

@@ -17,7 +17,7 @@ returns-in_err-put_line-clause-err g c = λ clock message is.
     on_err c.from_residual-in_err-put_line.result
     (cut_line c.turn_laws.ensures c.args.played.number c.args.played.mark (lent c.args.picture) message
     (outside c.args.desk.now).written (outside c.put_picture.new.desk).written (outside c.put_line.new.desk).written
-        c.in_ok-put_picture.ensures.ok
+    c.in_ok-put_picture.ensures.ok
     (text_of c.picture_line-line.result) c.picture_line-line.ensures c.in_err-put_line.ensures.err)
 
 pub returns-clause-err : goal.returns-clause-err
@@ -26,7 +26,7 @@ returns-clause-err g c = λ clock message is.
     on_err_weaker c.say.result
     (cut_message c.turn_laws.ensures c.args.played.number c.args.played.mark (lent c.args.picture) message
     (outside c.args.desk.now).written (outside c.put_picture.new.desk).written (outside c.put_line.new.desk).written
-        c.in_ok-put_picture.ensures.ok
+    c.in_ok-put_picture.ensures.ok
     (text_of c.picture_line-line.result) c.picture_line-line.ensures (outside c.say.new.desk).written
-        c.in_ok-put_line.ensures.ok)
+    c.in_ok-put_line.ensures.ok)
     (c.say.ensures.err clock message is)

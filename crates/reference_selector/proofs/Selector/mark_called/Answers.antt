@@ -8,5 +8,5 @@ pub returns-in-Some-clause-known : goal.returns-in-Some-clause-known
 returns-in-Some-clause-known c rules depth known stands =
     same_known rules c.mark.new.self c.args.sent depth _ _
     (λ m. ap (λ (b : Bool). b || known m) (sym (among_one c.in-Some.q m)
-        ∙ ap (λ (l : List ℕ). is_among l m) (c.in-Some.ensures.value rules stands.half)))
+    ∙ ap (λ (l : List ℕ). is_among l m) (c.in-Some.ensures.value rules stands.half)))
     (c.mark.ensures.known rules depth known stands)

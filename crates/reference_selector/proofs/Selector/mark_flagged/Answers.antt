@@ -9,7 +9,7 @@ loop-j-init c = record {
   clock = refl;
   known = λ rules depth known stands.
       same_known rules c.args.self.now c.args.sent depth _ _ (λ m. none_named c.args.t c.args.sent m
-          (is_flagged c.args.marks) (known m)) stands;
+      (is_flagged c.args.marks) (known m)) stands;
 }
 
 pub loop-j-preserved : goal.loop-j-preserved
@@ -23,6 +23,9 @@ pub returns-clause-known : goal.returns-clause-known
 returns-clause-known c rules depth known stands =
     same_known rules c.loop-j.self c.args.sent depth _ _
     (λ m. ap (λ (b : Bool). b || known m)
-        (sym (named_all c.args.t c.args.sent m c.loop-j.j c.args.marks (omega (arith, c.loop-j-test.false,
-        c.loop-j.auto.j-end)))))
+    (sym (named_all c.args.t c.args.sent m c.loop-j.j c.args.marks (omega (
+      arith,
+      c.loop-j-test.false,
+      c.loop-j.auto.j-end,
+    )))))
     (c.loop-j.invariant.known rules depth known stands)

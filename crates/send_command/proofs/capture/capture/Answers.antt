@@ -22,9 +22,9 @@ returns-clause-captured c run holds =
     let kept = c.set_pace.ensures.holds run holds in
     is_captured p run c.args.aim.now c.kind_of_next-kind.result set.pace (c.kind_of_next-kind.ensures run holds)
     (ap target_of pace ∙ c.pace.ensures.target) (ap first_of pace
-        ∙ c.pace.ensures.first) frame new c.coded.new.self c.code-coded.result
+    ∙ c.pace.ensures.first) frame new c.coded.new.self c.code-coded.result
     (c.code-coded.ensures.params ∙ same)
     (subst (λ (q : Params). Holds new (after_code q paced frame run)) same (c.code-coded.ensures.holds run kept))
     (subst (λ (q : Params). Describes (length run.run.coded) (next_in q paced frame run) c.code-coded.result) same
-        (c.code-coded.ensures.makes run kept))
+    (c.code-coded.ensures.makes run kept))
     (c.coded.ensures.value ∙ ap (λ (n : ℕ). aim_after c.kind_of_next-kind.result n c.args.aim.now) c.bytes_of.ensures)

@@ -13,7 +13,7 @@ returns-in_err-put_packets-clause-err g c =
     let coded = c.args.coded.now in
     on_err _ c.from_residual.result
     (c.turn_laws.ensures.front_of_first (on Wire (packets_text c.args.sender.now.packets))
-        (on Report (picture_text coded.number None (Some coded.reference) None))
+    (on Report (picture_text coded.number None (Some coded.reference) None))
     (outside c.args.desk.now).written (outside c.put_packets.new.desk).written c.in_err-put_packets.ensures.err)
 
 pub returns-clause-err : goal.returns-clause-err

@@ -12,11 +12,11 @@ use Rattle.send_command.proofs.laws.send_follows_its_log.Goals as goal
 pub returns-clause-log : goal.returns-clause-log
 returns-clause-log c = λ setup inputs f head.
     sends (λ log e is. let read = c.exact_entries.ensures.read sides.Send e log is in
-        (read.0.letter, length read.0.bytes, read.1.says)) setup f c.frame_by_frame.ensures inputs head
+    (read.0.letter, length read.0.bytes, read.1.says)) setup f c.frame_by_frame.ensures inputs head
 
 pub returns-clause-no_head : goal.returns-clause-no_head
 returns-clause-no_head c = λ setup inputs fault is.
     ap
     (λ (r : Result Format Y4mFault). follow (head_step setup (head_size (inputs Video)) r)
-        (λ next taken. run_of send_step 16777216 next (left_after inputs taken)))
+    (λ next taken. run_of send_step 16777216 next (left_after inputs taken)))
     is

@@ -19,7 +19,7 @@ numbers-preserved c =
       low = omega (arith, l.invariant.low);
       counted = λ rules depth known stands near.
           let here = c.counts.ensures rules c.args.sent depth known c.numbers-test.true
-              (omega (arith, near, l.invariant.low)) stands in
+          (omega (arith, near, l.invariant.low)) stands in
           c.counted-count.ensures
           ∙ counts_one c.args.first c.args.floor n l.count known c.counts.result l.invariant.low (sym here)
           (l.invariant.counted rules depth known stands near);

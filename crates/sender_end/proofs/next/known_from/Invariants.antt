@@ -11,5 +11,5 @@ invariant-numbers l = record {
   low : l.first ≤ l.number;
   counted : (rules : Rules) (depth : ℕ → ℕ) (known : ℕ → Bool) → SelectorStands rules l.pictures l.sent depth known
       → l.sent ≤ l.first + rules.slots
-          → l.count ≡ count_below l.number (λ m. leb l.first m && (leb l.floor m && known m));
+      → l.count ≡ count_below l.number (λ m. leb l.first m && (leb l.floor m && known m));
 }

@@ -12,7 +12,7 @@ depth_is : (c : goal.After-below_limit) → (rules : Rules) (depth : ℕ → ℕ
     → c.depth.result ≡ depth c.in-Some.m
 depth_is c rules depth known stands =
     let recent = subst (λ (o : Option ℕ). IfSome o (λ m. (m < c.args.number)
-        × (c.args.number ≤ m + c.args.pictures.now.slots))) c.in-Some.is c.requires.recent in
+    × (c.args.number ≤ m + c.args.pictures.now.slots))) c.in-Some.is c.requires.recent in
     c.depth.ensures rules c.args.number depth known recent.0 (omega (arith, recent.1, stands.slots)) stands
 
 pub returns-in-Some-clause-reference : goal.returns-in-Some-clause-reference
@@ -33,4 +33,4 @@ pub returns-in-Some-clause-depth : goal.returns-in-Some-clause-depth
 returns-in-Some-clause-depth c rules depth known stands =
     c.below_limit.ensures.depth
     ∙ same_depth c.below_limit.result.reference c.in-Some.m c.depth.result depth (ltb c.depth.result 131)
-        (depth_is c rules depth known stands) c.below_limit.ensures.reference
+    (depth_is c rules depth known stands) c.below_limit.ensures.reference

@@ -12,5 +12,5 @@ pub returns-clause-due : goal.returns-clause-due
 returns-clause-due c = λ config past run shortest longest later before.
     let h = line_of run (session_run config past).follows.lines in
     due_between c.recovers.ensures config.wait (next_in config h) shortest longest (arrivals_of (timed_in config h))
-        later
+    later
     before

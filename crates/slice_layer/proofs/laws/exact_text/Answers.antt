@@ -7,5 +7,7 @@ pub returns-clause-read : goal.returns-clause-read
 returns-clause-read c = are_read c.in_a_syntax.ensures
 
 pub returns-clause-no_fault : goal.returns-clause-no_fault
-returns-clause-no_fault c = λ h begins b. (λ e. no_fault h begins b e,
-    λ is. ap first_fault (slice_complete c.in_a_syntax.ensures h begins is.0 is.1 b is.2))
+returns-clause-no_fault c = λ h begins b. (
+  λ e. no_fault h begins b e,
+  λ is. ap first_fault (slice_complete c.in_a_syntax.ensures h begins is.0 is.1 b is.2),
+)

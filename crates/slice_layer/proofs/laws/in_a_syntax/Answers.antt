@@ -8,5 +8,10 @@ pub returns : goal.returns
 returns c =
     let headers = c.in_a_syntax.ensures in
     let macroblocks = c.in_a_syntax-2.ensures in
-    record { read = are_read macroblocks; spelt = are_spelt macroblocks; short = are_short headers macroblocks;
-        one_more = is_one_more; reach = reach_within }
+    record {
+      read = are_read macroblocks;
+      spelt = are_spelt macroblocks;
+      short = are_short headers macroblocks;
+      one_more = is_one_more;
+      reach = reach_within;
+    }

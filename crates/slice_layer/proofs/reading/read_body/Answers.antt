@@ -1,3 +1,4 @@
+-- The macroblocks before the place stand where the slice has them, up to its padding or first fault.
 use Rattle.std.proofs.Common.{◌≡◌, ◌<◌, set, get_or, ap, sym, ◌∙◌, arith}
 use Rattle.std.proofs.lemmas.List.{get_or-set_same}
 use Rattle.h263_types.specs.declared.blocks.Mb.TheVariants.{Skip}
@@ -14,32 +15,44 @@ mbs-init c = none_yet c.args.header.now c.args.first c.args.quant c.args.out.now
 pub returns-then-at-mbs-clause-exact : goal.returns-then-at-mbs-clause-exact
 returns-then-at-mbs-clause-exact c =
     rw (c.at-then-at-mbs.ensures, c.at.ensures) (ap (numbered c.args.first) (past_last _ _ _ _ _ _ _ _ _ c.mbs.invariant
-        (c.if-at-mbs.true ∙ c.mbs-in-mbs.ensures) (sym c.mbs-test.ensures)))
+    (c.if-at-mbs.true ∙ c.mbs-in-mbs.ensures) (sym c.mbs-test.ensures)))
 
 pub returns-in_err-read_next-clause-exact : goal.returns-in_err-read_next-clause-exact
 returns-in_err-read_next-clause-exact c =
     let p = err_from_is_err_and c.from_residual.result c.from_residual.ensures.1 in
-    let inside : c.mbs.at < mbs_of c.args.header.now.format = omega (arith, c.mbs.invariant.within, c.if-at-mbs.false,
-        c.mbs-in-mbs.ensures) in
+    let inside : c.mbs.at < mbs_of c.args.header.now.format = omega (
+      arith,
+      c.mbs.invariant.within,
+      c.if-at-mbs.false,
+      c.mbs-in-mbs.ensures,
+    ) in
     rw (p.1, p.2) (ap (numbered c.args.first) (with_none _ _ _ _ _ _ _ _ _ _ c.mbs.invariant inside
-        (sym c.mbs-test.ensures) c.in_err-read_next.ensures.reads))
+    (sym c.mbs-test.ensures) c.in_err-read_next.ensures.reads))
 
 pub mbs-preserved : goal.mbs-preserved
 mbs-preserved c =
-    let inside : c.mbs.at < mbs_of c.args.header.now.format = omega (arith, c.mbs.invariant.within, c.if-at-mbs.false,
-        c.mbs-in-mbs.ensures) in
+    let inside : c.mbs.at < mbs_of c.args.header.now.format = omega (
+      arith,
+      c.mbs.invariant.within,
+      c.if-at-mbs.false,
+      c.mbs-in-mbs.ensures,
+    ) in
     let next = with_next _ _ _ _ _ _ _ _ _ _ _ c.mbs.invariant inside (sym c.mbs-test.ensures)
-        c.in_ok-read_next.ensures.reads c.in_ok-read_next.ensures.range in
+    c.in_ok-read_next.ensures.reads c.in_ok-read_next.ensures.range in
     let same : get_or (set c.mbs.out c.mbs.at c.read_next.new.out) c.mbs.at Skip ≡ c.read_next.new.out =
-        get_or-set_same c.mbs.out c.mbs.at c.read_next.new.out Skip (omega (arith, inside, c.mbs.auto.out,
-        c.requires.picture)) in
+    get_or-set_same c.mbs.out c.mbs.at c.read_next.new.out Skip (omega (
+      arith,
+      inside,
+      c.mbs.auto.out,
+      c.requires.picture,
+    )) in
     rw (c.quant_after-quant.ensures.value, c.vector_of.ensures, same) next
 
 pub returns-then-at-first-clause-exact : goal.returns-then-at-first-clause-exact
 returns-then-at-first-clause-exact c =
     rw (c.at-then-at-first-2.ensures, c.at-then-at-first.ensures)
-        (ap (numbered c.args.first) (none_there _ _ _ _ _ _ _ _ _ c.mbs.invariant c.if-at-first.true
-        (sym c.mbs-test.ensures)))
+    (ap (numbered c.args.first) (none_there _ _ _ _ _ _ _ _ _ c.mbs.invariant c.if-at-first.true
+    (sym c.mbs-test.ensures)))
 
 pub returns-clause-exact : goal.returns-clause-exact
 returns-clause-exact c = ap (numbered c.args.first) (found _ _ _ _ _ _ _ _ _ c.mbs.invariant c.if-at-first.false

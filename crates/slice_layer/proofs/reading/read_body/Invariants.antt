@@ -9,7 +9,7 @@ use Rattle.slice_layer.proofs.reading.read_body.Given as goal
 abbrev pub invariant-mbs : goal.invariant-mbs
 invariant-mbs l =
     IsSoFar l.header l.first l.initial.out (mbs_at (around l.header l.first) (mbs_of l.header.format - l.first)
-        l.initial.quant [] l.initial.reader) l.at l.quant l.vectors l.out l.reader
+    l.initial.quant [] l.initial.reader) l.at l.quant l.vectors l.out l.reader
 
 abbrev pub decreases-mbs : goal.decreases-mbs
 decreases-mbs l = mbs_of l.header.format - l.at

@@ -28,5 +28,5 @@ returns-clause-range c =
     let a = c.args in
     let r = c.reach_of-reach in
     next_within c.read_mb.result c.pass_skipped.new.reader c.read_mb.new.reader a.header.now a.next.at a.next.quant
-        r.result c.predictor-predictor.result c.read_mb.new.out r.ensures.within c.read_mb.ensures.found
-        (c.read_mb.ensures.range c.requires.quant)
+    r.result c.predictor-predictor.result c.read_mb.new.out r.ensures.within c.read_mb.ensures.found
+    (c.read_mb.ensures.range c.requires.quant)

@@ -30,7 +30,7 @@ returns-clause-audited c p in_range version low high log count approved =
       messages_high = high;
     } in
     c.audited.ensures (decoding p.format) (read_message p.clock) (rules_of q) (c.is_decoding.ensures q)
-        (c.are_rules.ensures q fits)
+    (c.are_rules.ensures q fits)
     (reads_in_period q (λ s bytes. c.exact_text.ensures.read p.format s bytes))
     log count (c.flags_are_not_judged.ensures (decoding p.format) (read_message p.clock) (rules_of p)
-        (flags_in version) log ∙ approved)
+    (flags_in version) log ∙ approved)

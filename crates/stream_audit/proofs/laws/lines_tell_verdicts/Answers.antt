@@ -15,5 +15,5 @@ wider n small = omega (arith, small)
 pub returns : goal.returns
 returns c p log v short small same =
     lines_tell (verdict_on p log) v
-        (below _ _ (few_in_verdict (decoding p.format) (read_message p.clock) (rules_of p) log) short)
-        (wider _ small) same
+    (below _ _ (few_in_verdict (decoding p.format) (read_message p.clock) (rules_of p) log) short)
+    (wider _ small) same

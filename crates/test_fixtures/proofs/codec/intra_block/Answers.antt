@@ -18,7 +18,7 @@ intra_block place dc level hd hl =
       levels = λ k some below.
           let other : k ≢ 0 = omega arith in
           subst IsLevel (sym (get_or-set_other inner 0 k dc (pos 0) other))
-              (All-get_or IsLevel inner k (pos 0) (omega arith) each);
+          (All-get_or IsLevel inner k (pos 0) (omega arith) each);
     }
 
 pub returns : goal.returns

@@ -14,7 +14,7 @@ inter_block place first level hf hl =
     let long : length inner ≡ 64 = length-set zeros (place + 1) level in
     let whole : length (slice_set inner 0 first) ≡ 64 = omega (arith, length-set inner 0 first) in
     let each = All-set IsLevel inner 0 first hf (All-set IsLevel zeros (place + 1) level hl
-        (All-replicate IsLevel 64 (pos 0) none)) in
+    (All-replicate IsLevel 64 (pos 0) none)) in
     record { levels = λ k below. All-get_or IsLevel (slice_set inner 0 first) k (pos 0) (omega arith) each }
 
 pub returns : goal.returns

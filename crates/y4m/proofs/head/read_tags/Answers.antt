@@ -14,10 +14,10 @@ returns-in_err-check_tag-clause-ok c =
     let line = c.args.line.now in
     let at = c.loop-at.at in
     let e : tags_at line at ≡ record { at = at; text = c.in-Some.tag.now } ∷ tags_at line (at + 1) =
-        tags_some line c.in-Some.tag.now at c.loop-at-test.true c.in-Some.ensures in
+    tags_some line c.in-Some.tag.now at c.loop-at-test.true c.in-Some.ensures in
     err_gives c.from_residual.result c.in_err-check_tag.field-0.0 _ _ c.from_residual.ensures.1
     (sym c.loop-at.invariant.fault ∙ ap tags_fault e
-        ∙ ap (λ (o : Option Y4mFault). or_else o (tags_fault (tags_at line (at + 1)))) c.in_err-check_tag.ensures)
+    ∙ ap (λ (o : Option Y4mFault). or_else o (tags_fault (tags_at line (at + 1)))) c.in_err-check_tag.ensures)
 
 pub loop-at-preserved : goal.loop-at-preserved
 loop-at-preserved c =
@@ -29,7 +29,7 @@ loop-at-preserved c =
           (let text = w.in-Some.tag.now in
           let rest = tags_at line (at + 1) in
           let e : tags_at line at ≡ record { at = at; text = text } ∷ rest =
-              tags_some line text at c.loop-at-test.true w.in-Some.ensures in
+          tags_some line text at c.loop-at-test.true w.in-Some.ensures in
           record {
             fault = ap (λ (o : Option Y4mFault). or_else o (tags_fault rest)) (sym w.in_ok-check_tag.ensures)
                 ∙ ap tags_fault (sym e) ∙ inv.fault;
@@ -41,11 +41,11 @@ loop-at-preserved c =
                 ∙ w.note.ensures.height)
                 ∙ sym (or_else-or_else (last_in height_in rest) (height_in text) c.loop-at.sizes.height)
                 ∙ ap (λ (tags : List Tag). or_else (last_in height_in tags) c.loop-at.sizes.height) (sym e)
-                    ∙ inv.height;
+                ∙ inv.height;
           })
       | in_default w ↦
           (let e : tags_at line at ≡ tags_at line (at + 1) = tags_none line at c.loop-at-test.true w.in_default.ensures
-              in
+          in
           record {
             fault = ap tags_fault (sym e) ∙ inv.fault;
             width = (λ j. or_else (last_in width_in (sym e j)) ((w.sizes-is j).width)) ∙ inv.width;

@@ -6,7 +6,7 @@ pub returns-then-branch-eq0-clause-told : goal.returns-then-branch-eq0-clause-to
 returns-then-branch-eq0-clause-told g c = λ left told.
     let h = c.in_ok-read.ensures.told left told in
     let none : left ≡ [] = none_read left c.read.new.buf c.in_ok-read.field-0 c.read.auto.buf c.if-branch-eq0.true h.0
-        in
+    in
     (none, h.1 ∙ ap (λ (l : List ℕ). Some l) (drop_none left c.in_ok-read.field-0 1 none))
 
 pub returns-clause-told : goal.returns-clause-told

@@ -13,10 +13,10 @@ returns-clause-ok g c = λ s stands.
     let line : c.text.result.now ≡ verdict_line (verdict_on s.params s.past) =
     c.text.ensures.value ∙ c.verdict_text.ensures
     ∙ ap verdict_line (c.verdict-verdict.ensures s.past stands.audit
-        ∙ ap (λ (p : Params). verdict_on p s.past) (sym stands.params))
+    ∙ ap (λ (p : Params). verdict_on p s.past) (sym stands.params))
     in
     subst (λ (l : List ℕ). OnOk c.put.result (Gains (on Report l) (outside c.args.desk.now).written
-        (outside c.put.new.desk).written)) line c.put.ensures.ok
+    (outside c.put.new.desk).written)) line c.put.ensures.ok
 
 pub returns-clause-err : goal.returns-clause-err
 returns-clause-err g c = λ s stands.
@@ -24,7 +24,7 @@ returns-clause-err g c = λ s stands.
     let line : c.text.result.now ≡ verdict_line (verdict_on s.params s.past) =
     c.text.ensures.value ∙ c.verdict_text.ensures
     ∙ ap verdict_line (c.verdict-verdict.ensures s.past stands.audit
-        ∙ ap (λ (p : Params). verdict_on p s.past) (sym stands.params))
+    ∙ ap (λ (p : Params). verdict_on p s.past) (sym stands.params))
     in
     subst (λ (l : List ℕ). OnErr c.put.result (GainsFronts (on Report l) (outside c.args.desk.now).written
-        (outside c.put.new.desk).written)) line c.put.ensures.err
+    (outside c.put.new.desk).written)) line c.put.ensures.err

@@ -21,17 +21,17 @@ returns-in-Ok-clause-gives g c = λ inputs told.
     let old = outside c.args.desk.now in
     let mid = outside c.begin.new.desk in
     let under_way = c.run_laws.ensures.begins_from (first_state begun.terms [] begun.video.at) first call_step may_read
-        most inputs old mid (c.in-Ok.ensures.gives inputs told) in
+    most inputs old mid (c.in-Ok.ensures.gives inputs told) in
     c.converse-status.ensures.alone run inputs old.written c.in-Ok.ensures.ready.receives
     (subst (λ (plain : Bool). IsUnderWay call_step may_read run inputs old.written (IsFirst begun.terms begun.video.at)
-        (most_turns plain) mid) (sym c.in-Ok.ensures.plain) under_way)
+    (most_turns plain) mid) (sym c.in-Ok.ensures.plain) under_way)
 
 pub returns-in-Err-clause-gives : goal.returns-in-Err-clause-gives
 returns-in-Err-clause-gives g c = λ inputs told.
     let outside = g.D.Desk.outside in
     let t = c.args.setup.now in
     c.run_laws.ensures.gives_up (call_begin t inputs) call_step (most_turns t.plain) inputs (outside c.args.desk.now)
-        (outside c.begin.new.desk) c.in-Err.status
+    (outside c.begin.new.desk) c.in-Err.status
     (c.in-Err.ensures.gives inputs told)
 
 pub returns-in-Ok-clause-whole_input : goal.returns-in-Ok-clause-whole_input
@@ -39,9 +39,9 @@ returns-in-Ok-clause-whole_input g c = λ inputs told.
     let new = g.D.Desk.outside c.converse-status.new.desk in
     let went = c.in-Ok.ensures.gives inputs told in
     subst (λ (plain : Bool). IsReadOut c.converse-status.result (Some (if plain then Video else Events)) new)
-        c.in-Ok.ensures.plain
+    c.in-Ok.ensures.plain
     (c.converse-status.ensures.whole_input [] (left_after inputs went.turn.taken) c.in-Ok.ensures.ready.receives
-        went.left)
+    went.left)
 
 pub returns-in-Err-clause-whole_input : goal.returns-in-Err-clause-whole_input
 returns-in-Err-clause-whole_input g c = λ inputs told.
@@ -54,10 +54,10 @@ pub returns-in-Ok-clause-rest : goal.returns-in-Ok-clause-rest
 returns-in-Ok-clause-rest g c =
     let outside = g.D.Desk.outside in
     c.step_laws.ensures.both (outside c.args.desk.now) (outside c.begin.new.desk) (outside c.converse-status.new.desk)
-        c.begin.ensures.rest c.converse-status.ensures.rest
+    c.begin.ensures.rest c.converse-status.ensures.rest
 
 pub returns-in-Ok-clause-cause : goal.returns-in-Ok-clause-cause
 returns-in-Ok-clause-cause g c =
     let outside = g.D.Desk.outside in
     subst (λ (f : Faults). HasCause c.converse-status.result f (outside c.converse-status.new.desk).faults)
-        c.in-Ok.ensures.ok_faults c.converse-status.ensures.cause
+    c.in-Ok.ensures.ok_faults c.converse-status.ensures.cause

@@ -34,17 +34,22 @@ returns-in_err-line g c =
     let x = parts_of m in
     let stop = c.in_err-line.field-0.0 in
     turn_gave_up m _ old mid c.from_residual.result (trace_stop stop) c.from_residual.ensures.1 refl
-        (trace_answers m.terms.plain c.requires.recorded stop) (c.turning.ensures.steps.trace_stops stop)
+    (trace_answers m.terms.plain c.requires.recorded stop) (c.turning.ensures.steps.trace_stops stop)
     (c.turning.ensures.steps.trace_cause stop old.faults mid.faults
-        (λ is. c.in_err-line.ensures.cause (ap (λ e. Err e) is)))
-        (c.turning.ensures.steps.reads old mid c.next.ensures.rest)
+    (λ is. c.in_err-line.ensures.cause (ap (λ e. Err e) is)))
+    (c.turning.ensures.steps.reads old mid c.next.ensures.rest)
     (λ s inputs k told.
     let here = state_of x s.before s.frames s.past in
     line_by_line x s inputs k.is c.requires.recorded (λ (step : Step CallState) (now : Bool). GivesUp
-        (phase (trace_stop stop)) (trace_stop stop) step now inputs old mid)
-    (trace_stops c.turning.ensures.turns here inputs old mid (record { told = told; others = c.next.ensures.others;
-        written = c.next.ensures.rest.written }) x.link.trace c.next.new.self (record { lines_are = refl;
-        ended_is = refl }) stop
+    (phase (trace_stop stop)) (trace_stop stop) step now inputs old mid)
+    (trace_stops c.turning.ensures.turns here inputs old mid (record {
+      told = told;
+      others = c.next.ensures.others;
+      written = c.next.ensures.rest.written;
+    }) x.link.trace c.next.new.self (record {
+      lines_are = refl;
+      ended_is = refl;
+    }) stop
     (c.in_err-line.ensures.gives (inputs Events) (told Events refl)) c.in_err-line.ensures.moves))
     (λ s stand. stand)
 
@@ -57,23 +62,28 @@ returns-in_err-tell_counts g c =
     let m = c.args.self.now in
     let x = parts_of m in
     turn_was_cut m _ old new c.from_residual-in_err-tell_counts.result c.in_err-tell_counts.field-0.0
-        c.from_residual-in_err-tell_counts.ensures.1 refl c.in_err-tell_counts.ensures.kind
+    c.from_residual-in_err-tell_counts.ensures.1 refl c.in_err-tell_counts.ensures.kind
     (c.turning.ensures.rose old.faults.write mid.faults.write new.faults.write c.next.ensures.rest.faults.write
-        c.in_err-tell_counts.ensures.cause)
+    c.in_err-tell_counts.ensures.cause)
     (c.turning.ensures.steps.both old mid new (c.turning.ensures.steps.reads old mid c.next.ensures.rest)
-        (c.turning.ensures.steps.writes mid new c.tell_counts.ensures.rest))
+    (c.turning.ensures.steps.writes mid new c.tell_counts.ensures.rest))
     (λ s inputs k told.
     let here = state_of x s.before s.frames s.past in
     let e = answered (Ok c.in_ok-line.field-0) (Ok None) x.link.trace c.next.new.self (inputs Events) _
-        (ap (λ (o : Option (ℕ × Line)). Ok o) c.in_default.is) (c.in_ok-line.ensures.gives (inputs Events)
-        (told Events refl)) in
+    (ap (λ (o : Option (ℕ × Line)). Ok o) c.in_default.is) (c.in_ok-line.ensures.gives (inputs Events)
+    (told Events refl)) in
     line_by_line x s inputs k.is c.requires.recorded (λ (step : Step CallState) (now : Bool). GainsFronts
-        (step_texts step) old.written new.written)
-    (trace_cut c.turning.ensures.turns here inputs old mid (record { told = told; others = c.next.ensures.others;
-        written = c.next.ensures.rest.written }) x.link.trace c.next.new.self (record { lines_are = refl;
-        ended_is = refl }) e k.over
+    (step_texts step) old.written new.written)
+    (trace_cut c.turning.ensures.turns here inputs old mid (record {
+      told = told;
+      others = c.next.ensures.others;
+      written = c.next.ensures.rest.written;
+    }) x.link.trace c.next.new.self (record {
+      lines_are = refl;
+      ended_is = refl;
+    }) e k.over
     new c.tell_counts.ensures.rest.left (counts_of (tally_of (way_of x.link.network)) x.receiver.played x.sender.sent)
-        (counts_are x (c.turning.ensures.way x.terms.params) s inputs k) c.in_err-tell_counts.ensures.err))
+    (counts_are x (c.turning.ensures.way x.terms.params) s inputs k) c.in_err-tell_counts.ensures.err))
 
 pub returns-in_default : goal.returns-in_default
 returns-in_default g c =
@@ -84,29 +94,39 @@ returns-in_default g c =
     let m = c.args.self.now in
     let x = parts_of m in
     turn_is_over m _ old new refl (c.turning.ensures.steps.both old mid new
-        (c.turning.ensures.steps.reads old mid c.next.ensures.rest)
-        (c.turning.ensures.steps.writes mid new c.tell_counts.ensures.rest))
+    (c.turning.ensures.steps.reads old mid c.next.ensures.rest)
+    (c.turning.ensures.steps.writes mid new c.tell_counts.ensures.rest))
     (λ s inputs k told.
     let here = state_of x s.before s.frames s.past in
     let e = answered (Ok c.in_ok-line.field-0) (Ok None) x.link.trace c.next.new.self (inputs Events) _
-        (ap (λ (o : Option (ℕ × Line)). Ok o) c.in_default.is) (c.in_ok-line.ensures.gives (inputs Events)
-        (told Events refl)) in
+    (ap (λ (o : Option (ℕ × Line)). Ok o) c.in_default.is) (c.in_ok-line.ensures.gives (inputs Events)
+    (told Events refl)) in
     line_by_line x s inputs k.is c.requires.recorded (λ (step : Step CallState) (now : Bool). Ended step Fine inputs old
-        new)
-    (trace_ends c.turning.ensures.turns here inputs old mid (record { told = told; others = c.next.ensures.others;
-        written = c.next.ensures.rest.written }) x.link.trace c.next.new.self (record { lines_are = refl;
-        ended_is = refl }) e k.over
+    new)
+    (trace_ends c.turning.ensures.turns here inputs old mid (record {
+      told = told;
+      others = c.next.ensures.others;
+      written = c.next.ensures.rest.written;
+    }) x.link.trace c.next.new.self (record {
+      lines_are = refl;
+      ended_is = refl;
+    }) e k.over
     new c.tell_counts.ensures.rest.left (counts_of (tally_of (way_of x.link.network)) x.receiver.played x.sender.sent)
-        (counts_are x (c.turning.ensures.way x.terms.params) s inputs k) c.in_ok-tell_counts.ensures.ok))
+    (counts_are x (c.turning.ensures.way x.terms.params) s inputs k) c.in_ok-tell_counts.ensures.ok))
     (λ s inputs k told.
     let here = state_of x s.before s.frames s.past in
     let e = answered (Ok c.in_ok-line.field-0) (Ok None) x.link.trace c.next.new.self (inputs Events) _
-        (ap (λ (o : Option (ℕ × Line)). Ok o) c.in_default.is) (c.in_ok-line.ensures.gives (inputs Events)
-        (told Events refl)) in
+    (ap (λ (o : Option (ℕ × Line)). Ok o) c.in_default.is) (c.in_ok-line.ensures.gives (inputs Events)
+    (told Events refl)) in
     subst (λ (b : Bool). new.left (if b then Video else Events) ≡ Some []) (sym c.requires.recorded)
-    (read_out c.turning.ensures.turns here inputs old mid (record { told = told; others = c.next.ensures.others;
-        written = c.next.ensures.rest.written }) x.link.trace c.next.new.self (record { lines_are = refl;
-        ended_is = refl }) e k.over new c.tell_counts.ensures.rest.left))
+    (read_out c.turning.ensures.turns here inputs old mid (record {
+      told = told;
+      others = c.next.ensures.others;
+      written = c.next.ensures.rest.written;
+    }) x.link.trace c.next.new.self (record {
+      lines_are = refl;
+      ended_is = refl;
+    }) e k.over new c.tell_counts.ensures.rest.left))
     (λ s stand. stand)
 
 -- ---- a line that was read
@@ -114,23 +134,23 @@ returns-in_default g c =
 pub event_turn-requires-clause-ready : goal.event_turn-requires-clause-ready
 event_turn-requires-clause-ready g c =
     let w = line_read c.args.self.now c.next.new.self c.in-Some.line c.in-Some.event (g.D.Desk.outside c.args.desk.now)
-        (g.D.Desk.outside c.next.new.desk) (Ok c.in_ok-line.field-0) (ap (λ (o : Option (ℕ × Line)). Ok o) c.in-Some.is)
+    (g.D.Desk.outside c.next.new.desk) (Ok c.in_ok-line.field-0) (ap (λ (o : Option (ℕ × Line)). Ok o) c.in-Some.is)
     c.turning.ensures.turns c.turning.ensures.steps c.requires.recorded c.in_ok-line.ensures.gives
-        c.in_ok-line.ensures.moves c.next.ensures.others c.next.ensures.rest in
+    c.in_ok-line.ensures.moves c.next.ensures.others c.next.ensures.rest in
     ready_read w c.requires.ready
 
 pub event_turn-requires-clause-room : goal.event_turn-requires-clause-room
 event_turn-requires-clause-room g c =
     let w = line_read c.args.self.now c.next.new.self c.in-Some.line c.in-Some.event (g.D.Desk.outside c.args.desk.now)
-        (g.D.Desk.outside c.next.new.desk) (Ok c.in_ok-line.field-0) (ap (λ (o : Option (ℕ × Line)). Ok o) c.in-Some.is)
+    (g.D.Desk.outside c.next.new.desk) (Ok c.in_ok-line.field-0) (ap (λ (o : Option (ℕ × Line)). Ok o) c.in-Some.is)
     c.turning.ensures.turns c.turning.ensures.steps c.requires.recorded c.in_ok-line.ensures.gives
-        c.in_ok-line.ensures.moves c.next.ensures.others c.next.ensures.rest in
+    c.in_ok-line.ensures.moves c.next.ensures.others c.next.ensures.rest in
     room_read w c.requires.ready
 
 pub returns : goal.returns
 returns g c =
     let w = line_read c.args.self.now c.next.new.self c.in-Some.line c.in-Some.event (g.D.Desk.outside c.args.desk.now)
-        (g.D.Desk.outside c.next.new.desk) (Ok c.in_ok-line.field-0) (ap (λ (o : Option (ℕ × Line)). Ok o) c.in-Some.is)
+    (g.D.Desk.outside c.next.new.desk) (Ok c.in_ok-line.field-0) (ap (λ (o : Option (ℕ × Line)). Ok o) c.in-Some.is)
     c.turning.ensures.turns c.turning.ensures.steps c.requires.recorded c.in_ok-line.ensures.gives
-        c.in_ok-line.ensures.moves c.next.ensures.others c.next.ensures.rest in
+    c.in_ok-line.ensures.moves c.next.ensures.others c.next.ensures.rest in
     line_taken w c.event_turn.new.self c.event_turn.result (g.D.Desk.outside c.event_turn.new.desk) c.event_turn.ensures

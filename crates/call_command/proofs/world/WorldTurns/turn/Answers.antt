@@ -31,13 +31,19 @@ use Rattle.call_command.proofs.world.WorldTurns.turn.Goals as goal
 
 pub returns-then-not-self-clause-gives : goal.returns-then-not-self-clause-gives
 returns-then-not-self-clause-gives g c = λ s inputs k told.
-    c.line_turn.ensures.gives (g.D.Desk.outside c.args.desk.now) s inputs (record { stands = k; told = told;
-        same = refl })
+    c.line_turn.ensures.gives (g.D.Desk.outside c.args.desk.now) s inputs (record {
+      stands = k;
+      told = told;
+      same = refl;
+    })
 
 pub returns-then-not-self-clause-whole : goal.returns-then-not-self-clause-whole
 returns-then-not-self-clause-whole g c = λ s inputs k told.
-    c.line_turn.ensures.whole (g.D.Desk.outside c.args.desk.now) s inputs (record { stands = k; told = told;
-        same = refl })
+    c.line_turn.ensures.whole (g.D.Desk.outside c.args.desk.now) s inputs (record {
+      stands = k;
+      told = told;
+      same = refl;
+    })
 
 pub returns-in_err-frame-clause-gives : goal.returns-in_err-frame-clause-gives
 returns-in_err-frame-clause-gives g c = λ s inputs k told.
@@ -49,13 +55,13 @@ returns-in_err-frame-clause-gives g c = λ s inputs k told.
     let here = state_of x s.before s.frames s.past in
     let plain : x.terms.plain ≡ true = c.if-not-self.false in
     let e = gives_so (Err stop) here x.video c.frame.new.self (inputs Video) c.frame.new.out _ refl
-        refl c.requires.format (c.in_err-frame.ensures.gives (inputs Video) (told Video refl)) in
+    refl c.requires.format (c.in_err-frame.ensures.gives (inputs Video) (told Video refl)) in
     given_up (talk_step s inputs) _ (may_read s) inputs old mid c.from_residual.result
-        (video_stop stop) c.from_residual.ensures.1
+    (video_stop stop) c.from_residual.ensures.1
     (plainly x s inputs k.is plain (λ (step : Step CallState) (now : Bool). GivesUp (phase (video_stop stop))
-        (video_stop stop) step now inputs old mid)
+    (video_stop stop) step now inputs old mid)
     (frame_stops c.turning.ensures.turns c.turning.ensures.video inputs old mid told c.frame.ensures.others
-        c.frame.ensures.rest.written here (c.requires.unread plain) stop c.frame.new.out c.frame.new.self e))
+    c.frame.ensures.rest.written here (c.requires.unread plain) stop c.frame.new.out c.frame.new.self e))
 
 pub returns-in_err-tell_counts-clause-gives : goal.returns-in_err-tell_counts-clause-gives
 returns-in_err-tell_counts-clause-gives g c = λ s inputs k told.
@@ -67,14 +73,14 @@ returns-in_err-tell_counts-clause-gives g c = λ s inputs k told.
     let counts = counts_of (tally_of (way_of x.link.network)) x.receiver.played x.sender.sent in
     let here = state_of x s.before s.frames s.past in
     let e = given_so (Ok c.in_ok-frame.field-0) (Ok false) here x.video c.frame.new.self (inputs Video) c.frame.new.out
-        _ (ap (λ (b : Bool). Ok b) c.if-not-branch.true) refl refl c.requires.format
-        (c.in_ok-frame.ensures.gives (inputs Video) (told Video refl)) in
+    _ (ap (λ (b : Bool). Ok b) c.if-not-branch.true) refl refl c.requires.format
+    (c.in_ok-frame.ensures.gives (inputs Video) (told Video refl)) in
     written_in_part (talk_step s inputs) _ (may_read s) inputs old new c.from_residual-in_err-tell_counts.result
-        c.in_err-tell_counts.field-0.0 c.from_residual-in_err-tell_counts.ensures.1 c.in_err-tell_counts.ensures.kind
+    c.in_err-tell_counts.field-0.0 c.from_residual-in_err-tell_counts.ensures.1 c.in_err-tell_counts.ensures.kind
     (plainly x s inputs k.is c.if-not-self.false (λ (step : Step CallState) (now : Bool). GainsFronts
-        (step_texts step) old.written new.written)
+    (step_texts step) old.written new.written)
     (end_cut c.turning.ensures.turns c.turning.ensures.video inputs old mid told c.frame.ensures.others
-        c.frame.ensures.rest.written new c.tell_counts.ensures.rest.left here c.frame.new.out c.frame.new.self e
+    c.frame.ensures.rest.written new c.tell_counts.ensures.rest.left here c.frame.new.out c.frame.new.self e
     counts (counts_are x (c.turning.ensures.way x.terms.params) s inputs k) c.in_err-tell_counts.ensures.err))
 
 pub returns-then-not-branch-clause-gives : goal.returns-then-not-branch-clause-gives
@@ -87,11 +93,11 @@ returns-then-not-branch-clause-gives g c = λ s inputs k told.
     let counts = counts_of (tally_of (way_of x.link.network)) x.receiver.played x.sender.sent in
     let here = state_of x s.before s.frames s.past in
     let e = given_so (Ok c.in_ok-frame.field-0) (Ok false) here x.video c.frame.new.self (inputs Video) c.frame.new.out
-        _ (ap (λ (b : Bool). Ok b) c.if-not-branch.true) refl refl c.requires.format
-        (c.in_ok-frame.ensures.gives (inputs Video) (told Video refl)) in
+    _ (ap (λ (b : Bool). Ok b) c.if-not-branch.true) refl refl c.requires.format
+    (c.in_ok-frame.ensures.gives (inputs Video) (told Video refl)) in
     plainly x s inputs k.is c.if-not-self.false (λ (step : Step CallState) (now : Bool). Ended step Fine inputs old new)
     (video_ends c.turning.ensures.turns c.turning.ensures.video inputs old mid told c.frame.ensures.others
-        c.frame.ensures.rest.written new c.tell_counts.ensures.rest.left here c.frame.new.out c.frame.new.self e
+    c.frame.ensures.rest.written new c.tell_counts.ensures.rest.left here c.frame.new.out c.frame.new.self e
     counts (counts_are x (c.turning.ensures.way x.terms.params) s inputs k) c.in_ok-tell_counts.ensures.ok)
 
 pub returns-then-not-branch-clause-whole : goal.returns-then-not-branch-clause-whole
@@ -100,8 +106,8 @@ returns-then-not-branch-clause-whole g c = λ s inputs k told.
     let x = parts_of c.args.self.now in
     let here = state_of x s.before s.frames s.past in
     let e = given_so (Ok c.in_ok-frame.field-0) (Ok false) here x.video c.frame.new.self (inputs Video) c.frame.new.out
-        _ (ap (λ (b : Bool). Ok b) c.if-not-branch.true) refl refl c.requires.format
-        (c.in_ok-frame.ensures.gives (inputs Video) (told Video refl)) in
+    _ (ap (λ (b : Bool). Ok b) c.if-not-branch.true) refl refl c.requires.format
+    (c.in_ok-frame.ensures.gives (inputs Video) (told Video refl)) in
     let out = ap (λ (l : Role → Option (List ℕ)). l Video) c.tell_counts.ensures.rest.left ∙ e.1 in
     subst (λ (b : Bool). new.left (if b then Video else Events) ≡ Some []) (sym c.if-not-self.false) out
 
@@ -123,36 +129,36 @@ returns-in_err-play_next-clause-gives g c = λ s inputs k told.
     let events = c.turning.ensures.events p in
     let later_law = c.turning.ensures.later p in
     let e = given_so (Ok c.in_ok-frame.field-0) (Ok true) here x.video c.frame.new.self (inputs Video) out _
-        (ap (λ (b : Bool). Ok b) c.if-not-branch.false) refl refl r.format (c.in_ok-frame.ensures.gives (inputs Video)
-        (told Video refl)) in
+    (ap (λ (b : Bool). Ok b) c.if-not-branch.false) refl refl r.format (c.in_ok-frame.ensures.gives (inputs Video)
+    (told Video refl)) in
     let out_is : c.deref.result.now ≡ out = lent x.link.frame out c.deref.result.now
-        _ c.deref.ensures.value c.frame.auto.out c.deref_mut.ensures.len in
+    _ c.deref.ensures.value c.frame.auto.out c.deref_mut.ensures.len in
     let picture_is : picture c.new-frame.result ≡ picture_of p.format out = c.new-frame.ensures.picture
-        ∙ ap (λ (l : List ℕ). picture_of p.format l) out_is in
+    ∙ ap (λ (l : List ℕ). picture_of p.format l) out_is in
     let all = s.frames ++ bare (picture_of p.format out) ∷ [] in
     let h = k.holds (bare (picture_of p.format out) ∷ []) in
     let number = c.send-sent.ensures.number in
     let sent = c.send-sent.ensures.holds p x.receiver s.before all s.past h
     (at x laws events later_law s inputs k level out [] ∙ ap (λ (o : Picture). Some (bare o)) (sym picture_is))
-        (may_send x laws events later_law s inputs k level out [])
+    (may_send x laws events later_law s inputs k level out [])
     in
     let delivered = c.deliver_all.ensures.holds p c.send-sent.new.sender s.before all (Send ∷ s.past) sent
     (among_last x laws events later_law s inputs k level out [] (way_of c.send-sent.new.self) n number
-        (plain_keeps x.terms _ (c.send-sent.ensures.kept ∙ r.period) plain))
+    (plain_keeps x.terms _ (c.send-sent.ensures.kept ∙ r.period) plain))
     (may_deliver x laws events later_law s inputs k level out [] n number)
     in
     let texts = texts_are x laws events later_law s inputs k level out n c.deliver_all.new.receiver.played number
-        c.deliver_all.ensures.played in
+    c.deliver_all.ensures.played in
     written_in_part (talk_step s inputs) _ (may_read s) inputs old new c.from_residual-in_err-play_next.result
-        c.in_err-play_next.field-0.0 c.from_residual-in_err-play_next.ensures.1 c.in_err-play_next.ensures.kind
+    c.in_err-play_next.field-0.0 c.from_residual-in_err-play_next.ensures.1 c.in_err-play_next.ensures.kind
     (plainly x s inputs k.is plain (λ (step : Step CallState) (now : Bool). GainsFronts (step_texts step) old.written
-        new.written)
+    new.written)
     (frame_cut c.turning.ensures.turns c.turning.ensures.video inputs old mid told c.frame.ensures.others
-        c.frame.ensures.rest.written new c.play_next.ensures.rest.left here (r.unread plain) out c.frame.new.self e
-        _ texts
+    c.frame.ensures.rest.written new c.play_next.ensures.rest.left here (r.unread plain) out c.frame.new.self e
+    _ texts
     (c.in_err-play_next.ensures.err p c.send-sent.new.sender s.before all _ k.begun delivered
     (may_play x laws events later_law s inputs k level out [] n
-        (count_of x laws events later_law s inputs k level out [] n)))))
+    (count_of x laws events later_law s inputs k level out [] n)))))
 
 pub returns-clause-gives : goal.returns-clause-gives
 returns-clause-gives g c = λ s inputs k told.
@@ -171,54 +177,59 @@ returns-clause-gives g c = λ s inputs k told.
     let network = c.play_next.new.network in
     let link : Link = record x.link { frame = with_items x.link.frame out; network = network } in
     let moves = subst (λ (b : Bool). Moves (Ok b) x.video c.frame.new.self) c.if-not-branch.false
-        c.in_ok-frame.ensures.moves in
+    c.in_ok-frame.ensures.moves in
     let level = r.level plain in
     let here = state_of x s.before s.frames s.past in
     let laws = c.turning.ensures.way p in
     let events = c.turning.ensures.events p in
     let later_law = c.turning.ensures.later p in
     let e = given_so (Ok c.in_ok-frame.field-0) (Ok true) here x.video c.frame.new.self (inputs Video) out _
-        (ap (λ (b : Bool). Ok b) c.if-not-branch.false) refl refl r.format (c.in_ok-frame.ensures.gives (inputs Video)
-        (told Video refl)) in
+    (ap (λ (b : Bool). Ok b) c.if-not-branch.false) refl refl r.format (c.in_ok-frame.ensures.gives (inputs Video)
+    (told Video refl)) in
     let out_is : c.deref.result.now ≡ out = lent x.link.frame out c.deref.result.now
-        _ c.deref.ensures.value c.frame.auto.out c.deref_mut.ensures.len in
+    _ c.deref.ensures.value c.frame.auto.out c.deref_mut.ensures.len in
     let picture_is : picture c.new-frame.result ≡ picture_of p.format out = c.new-frame.ensures.picture
-        ∙ ap (λ (l : List ℕ). picture_of p.format l) out_is in
+    ∙ ap (λ (l : List ℕ). picture_of p.format l) out_is in
     let f : Frame = bare (picture_of p.format out) in
     let number = c.send-sent.ensures.number in
     let delivered : (later : List Frame)
-        → HoldsNetwork p c.deliver_all.new.self sender c.deliver_all.new.receiver s.before (s.frames ++ f ∷ later)
-        (delivered n (count_of x laws events later_law s inputs k level out later n) ++ Send ∷ s.past) =
+    → HoldsNetwork p c.deliver_all.new.self sender c.deliver_all.new.receiver s.before (s.frames ++ f ∷ later)
+    (delivered n (count_of x laws events later_law s inputs k level out later n) ++ Send ∷ s.past) =
     λ later.
     let all = s.frames ++ f ∷ later in
     let h = k.holds (f ∷ later) in
     let sent = c.send-sent.ensures.holds p x.receiver s.before all s.past h
     (at x laws events later_law s inputs k level out later ∙ ap (λ (o : Picture). Some (bare o)) (sym picture_is))
-        (may_send x laws events later_law s inputs k level out later)
+    (may_send x laws events later_law s inputs k level out later)
     in
     c.deliver_all.ensures.holds p sender s.before all (Send ∷ s.past) sent
     (among_last x laws events later_law s inputs k level out later (way_of c.send-sent.new.self) n number
-        (plain_keeps x.terms _ (c.send-sent.ensures.kept ∙ r.period) plain))
+    (plain_keeps x.terms _ (c.send-sent.ensures.kept ∙ r.period) plain))
     (may_deliver x laws events later_law s inputs k level out later n number)
     in
     let played : (later : List Frame) → HoldsNetwork p network sender receiver s.before (s.frames ++ f ∷ later)
-        (passed_on n (count_of x laws events later_law s inputs k level out later n) s.past) =
+    (passed_on n (count_of x laws events later_law s inputs k level out later n) s.past) =
     λ later. c.play_next.ensures.holds p sender s.before (s.frames ++ f ∷ later) _ (delivered later)
     (may_play x laws events later_law s inputs k level out later n
-        (count_of x laws events later_law s inputs k level out later n))
+    (count_of x laws events later_law s inputs k level out later n))
     in
     let texts = texts_are x laws events later_law s inputs k level out n c.deliver_all.new.receiver.played number
-        c.deliver_all.ensures.played in
-    let stands = PartsStand (record { terms = x.terms; video = c.frame.new.self; sender = sender; receiver = receiver;
-        link = link }) in
+    c.deliver_all.ensures.played in
+    let stands = PartsStand (record {
+      terms = x.terms;
+      video = c.frame.new.self;
+      sender = sender;
+      receiver = receiver;
+      link = link;
+    }) in
     let size = frame_size p.format (inputs Video) in
     plainly x s inputs k.is plain (λ (step : Step CallState) (now : Bool). Went step stands may_read now inputs old new)
     (frame_goes c.turning.ensures.turns c.turning.ensures.video inputs old mid told c.frame.ensures.others
-        c.frame.ensures.rest.written new c.play_next.ensures.rest.left here (r.unread plain) out c.frame.new.self e
-        _ texts
+    c.frame.ensures.rest.written new c.play_next.ensures.rest.left here (r.unread plain) out c.frame.new.self e
+    _ texts
     stands
     (stands_after x laws events later_law s inputs k level out c.frame.new.self sender receiver link n size
-        (left_after inputs (of Video size)) number played refl c.send-sent.ensures.sent e.2 moves.1 refl)
+    (left_after inputs (of Video size)) number played refl c.send-sent.ensures.sent e.2 moves.1 refl)
     (c.in_ok-play_next.ensures.ok p sender s.before (s.frames ++ f ∷ []) _ k.begun (delivered [])
     (may_play x laws events later_law s inputs k level out [] n
-        (count_of x laws events later_law s inputs k level out [] n))))
+    (count_of x laws events later_law s inputs k level out [] n))))

@@ -7,5 +7,13 @@ pub returns-clause-len : goal.returns-clause-len
 returns-clause-len c =
     let gapped = simp length-append at (ap length c.put_gap.ensures.value) in
     let digits : length c.format.result.now ≡ length (decimal c.args.number) = ap length c.format.ensures.text in
-    omega (arith, gapped, gap_short (text_of c.args.self.now), c.put.ensures.len, c.put-2.ensures.len,
-        c.put-3.ensures.len, digits, decimal_short c.args.number c.ranges.number.fits)
+    omega (
+      arith,
+      gapped,
+      gap_short (text_of c.args.self.now),
+      c.put.ensures.len,
+      c.put-2.ensures.len,
+      c.put-3.ensures.len,
+      digits,
+      decimal_short c.args.number c.ranges.number.fits,
+    )

@@ -15,7 +15,7 @@ places-preserved c =
     let x = c.in_ok-start.field-0 in
     let is : c.push_back.new.self ≡ buffer (items ++ x ∷ []) c.args.pictures =
     refilled items c.args.pictures c.places.kept c.push_back.new.self x (omega (arith, inv.1, c.places-test.true))
-        (ap (λ (n : ℕ). buffer items n) inv.0) c.push_back.ensures.items in
+    (ap (λ (n : ℕ). buffer items n) inv.0) c.push_back.ensures.items in
     let same : c.push_back.new.self.items ≡ items ++ x ∷ [] = ap (λ (b : Buffer KeptPackets). b.items) is in (
       ap (λ (b : Buffer KeptPackets). b.capacity) is,
       ap length same ∙ length-append items (x ∷ []) ∙ ap (λ (k : ℕ). k + 1) inv.1,

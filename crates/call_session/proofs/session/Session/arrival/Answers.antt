@@ -21,7 +21,7 @@ returns-in-Err-clause-answer c = λ past s.
     let then = at c.args.now (session_run k past) in
     let e = c.in-Err.ensures.exact
     ∙ ap (λ (p : Params). seen_in p bytes) (c.params.ensures
-        ∙ ap (λ (z : Settings). z.params) c.tick.ensures.settings) in
+    ∙ ap (λ (z : Settings). z.params) c.tick.ensures.settings) in
     subst (λ (x : Result Seen Cause). IsVerdict old.params.clock c.drop_for.result.verdict
     (outcome_of_reading k x (renamed bytes) then)) e (ap (λ (a : Arrived). a.verdict) c.drop_for.ensures.answer)
 
@@ -31,7 +31,7 @@ returns-in-Err-clause-told c = λ past s.
     let then = at c.args.now (session_run k past) in
     let e = c.in-Err.ensures.exact
     ∙ ap (λ (p : Params). seen_in p bytes) (c.params.ensures
-        ∙ ap (λ (z : Settings). z.params) c.tick.ensures.settings) in
+    ∙ ap (λ (z : Settings). z.params) c.tick.ensures.settings) in
     ap (λ (a : Arrived). a.is_rival) c.drop_for.ensures.answer
     ∙ ap (λ (x : Result Seen Cause). told_of_reading x then) e
 
@@ -41,7 +41,7 @@ returns-in-Err-clause-stands c = λ past s.
     let then = at c.args.now (session_run k past) in
     let e = c.in-Err.ensures.exact
     ∙ ap (λ (p : Params). seen_in p bytes) (c.params.ensures
-        ∙ ap (λ (z : Settings). z.params) c.tick.ensures.settings) in
+    ∙ ap (λ (z : Settings). z.params) c.tick.ensures.settings) in
     settled c.drop_for.new.self old (Datagram bytes c.args.now) past
     (c.drop_for.ensures.settings ∙ c.tick.ensures.settings)
     (subst (λ (x : Result Seen Cause). StateStands c.drop_for.new.self (after_reading k x (renamed bytes) then)) e
@@ -53,14 +53,14 @@ returns-in-Ok-clause-answer c = λ past s.
     let then = at c.args.now (session_run k past) in
     let e = c.in-Ok.ensures.exact
     ∙ ap (λ (p : Params). seen_in p bytes) (c.params.ensures
-        ∙ ap (λ (z : Settings). z.params) c.tick.ensures.settings) in
+    ∙ ap (λ (z : Settings). z.params) c.tick.ensures.settings) in
     let own = in_room (length bytes) c.args.self.now.room.items.len c.read.new.room
     (drop (length c.read.new.room) c.args.self.now.room.items.items) c.deref.result.now (renamed bytes)
     c.requires.room c.in-Ok.ensures.len c.deref.ensures.value c.in-Ok.ensures.own in
     let seen = c.in-Ok.seen in let t = taker_in seen then in let room = take (length bytes) c.deref.result.now in
     let verdict = c.follow.result.verdict in
     subst (λ (x : Result Seen Cause). IsVerdict old.params.clock verdict (outcome_of_reading k x (renamed bytes) then))
-        e
+    e
     (subst (λ (o : List ℕ). IsVerdict old.params.clock verdict (outcome_of_seen k seen t o then)) own
     (subst (λ (z : Settings). IsVerdict z.params.clock verdict (outcome_of_seen (config_in z) seen t room then))
     c.tick.ensures.settings
@@ -72,7 +72,7 @@ returns-in-Ok-clause-told c = λ past s.
     let then = at c.args.now (session_run k past) in
     let e = c.in-Ok.ensures.exact
     ∙ ap (λ (p : Params). seen_in p bytes) (c.params.ensures
-        ∙ ap (λ (z : Settings). z.params) c.tick.ensures.settings) in
+    ∙ ap (λ (z : Settings). z.params) c.tick.ensures.settings) in
     c.follow.ensures.told then (c.tick.ensures.stands (session_run k past) s)
     ∙ ap (λ (x : Result Seen Cause). told_of_reading x then) e
 
@@ -82,7 +82,7 @@ returns-in-Ok-clause-stands c = λ past s.
     let then = at c.args.now (session_run k past) in
     let e = c.in-Ok.ensures.exact
     ∙ ap (λ (p : Params). seen_in p bytes) (c.params.ensures
-        ∙ ap (λ (z : Settings). z.params) c.tick.ensures.settings) in
+    ∙ ap (λ (z : Settings). z.params) c.tick.ensures.settings) in
     let own = in_room (length bytes) c.args.self.now.room.items.len c.read.new.room
     (drop (length c.read.new.room) c.args.self.now.room.items.items) c.deref.result.now (renamed bytes)
     c.requires.room c.in-Ok.ensures.len c.deref.ensures.value c.in-Ok.ensures.own in

@@ -22,7 +22,7 @@ returns-in-Err-clause-answer c = λ past s.
     let then = at c.args.now (session_run k past) in
     let e = ap (only_of c.args.source) (c.in-Err.ensures.exact
     ∙ ap (λ (p : Params). seen_in p bytes) (c.params.ensures ∙ ap (λ (z : Settings). z.params) c.tick.ensures.settings))
-        in
+    in
     subst (λ (x : Result Seen Cause). IsVerdict old.params.clock c.drop_for.result.verdict
     (outcome_of_reading k x (renamed bytes) then)) e (ap (λ (a : Arrived). a.verdict) c.drop_for.ensures.answer)
 
@@ -32,7 +32,7 @@ returns-in-Err-clause-told c = λ past s.
     let then = at c.args.now (session_run k past) in
     let e = ap (only_of c.args.source) (c.in-Err.ensures.exact
     ∙ ap (λ (p : Params). seen_in p bytes) (c.params.ensures ∙ ap (λ (z : Settings). z.params) c.tick.ensures.settings))
-        in
+    in
     ap (λ (a : Arrived). a.is_rival) c.drop_for.ensures.answer
     ∙ ap (λ (x : Result Seen Cause). told_of_reading x then) e
 
@@ -42,7 +42,7 @@ returns-in-Err-clause-stands c = λ past s.
     let then = at c.args.now (session_run k past) in
     let e = ap (only_of c.args.source) (c.in-Err.ensures.exact
     ∙ ap (λ (p : Params). seen_in p bytes) (c.params.ensures ∙ ap (λ (z : Settings). z.params) c.tick.ensures.settings))
-        in
+    in
     settled c.drop_for.new.self old (DatagramOf c.args.source bytes c.args.now) past
     (c.drop_for.ensures.settings ∙ c.tick.ensures.settings)
     (subst (λ (x : Result Seen Cause). StateStands c.drop_for.new.self (after_reading k x (renamed bytes) then)) e
@@ -54,14 +54,14 @@ returns-then-seen-source-clause-answer c = λ past s.
     let then = at c.args.now (session_run k past) in
     let e = its_own c.args.source c.in-Ok.seen (seen_in old.params bytes) c.if-seen-source.true (c.in-Ok.ensures.exact
     ∙ ap (λ (p : Params). seen_in p bytes) (c.params.ensures ∙ ap (λ (z : Settings). z.params) c.tick.ensures.settings))
-        in
+    in
     let own = in_room (length bytes) c.args.self.now.room.items.len c.read.new.room
     (drop (length c.read.new.room) c.args.self.now.room.items.items) c.deref.result.now (renamed bytes)
     c.requires.room c.in-Ok.ensures.len c.deref.ensures.value c.in-Ok.ensures.own in
     let seen = c.in-Ok.seen in let t = taker_in seen then in let room = take (length bytes) c.deref.result.now in
     let verdict = c.follow.result.verdict in
     subst (λ (x : Result Seen Cause). IsVerdict old.params.clock verdict (outcome_of_reading k x (renamed bytes) then))
-        e
+    e
     (subst (λ (o : List ℕ). IsVerdict old.params.clock verdict (outcome_of_seen k seen t o then)) own
     (subst (λ (z : Settings). IsVerdict z.params.clock verdict (outcome_of_seen (config_in z) seen t room then))
     c.tick.ensures.settings
@@ -73,7 +73,7 @@ returns-then-seen-source-clause-told c = λ past s.
     let then = at c.args.now (session_run k past) in
     let e = its_own c.args.source c.in-Ok.seen (seen_in old.params bytes) c.if-seen-source.true (c.in-Ok.ensures.exact
     ∙ ap (λ (p : Params). seen_in p bytes) (c.params.ensures ∙ ap (λ (z : Settings). z.params) c.tick.ensures.settings))
-        in
+    in
     c.follow.ensures.told then (c.tick.ensures.stands (session_run k past) s)
     ∙ ap (λ (x : Result Seen Cause). told_of_reading x then) e
 
@@ -83,14 +83,14 @@ returns-then-seen-source-clause-stands c = λ past s.
     let then = at c.args.now (session_run k past) in
     let e = its_own c.args.source c.in-Ok.seen (seen_in old.params bytes) c.if-seen-source.true (c.in-Ok.ensures.exact
     ∙ ap (λ (p : Params). seen_in p bytes) (c.params.ensures ∙ ap (λ (z : Settings). z.params) c.tick.ensures.settings))
-        in
+    in
     let own = in_room (length bytes) c.args.self.now.room.items.len c.read.new.room
     (drop (length c.read.new.room) c.args.self.now.room.items.items) c.deref.result.now (renamed bytes)
     c.requires.room c.in-Ok.ensures.len c.deref.ensures.value c.in-Ok.ensures.own in
     let seen = c.in-Ok.seen in let t = taker_in seen then in let room = take (length bytes) c.deref.result.now in
     let after = c.follow.new.self in
     settled after old (DatagramOf c.args.source bytes c.args.now) past (c.follow.ensures.settings
-        ∙ c.tick.ensures.settings)
+    ∙ c.tick.ensures.settings)
     (subst (λ (x : Result Seen Cause). StateStands after (after_reading k x (renamed bytes) then)) e
     (subst (λ (o : List ℕ). StateStands after (after_seen k seen t o then)) own
     (subst (λ (z : Settings). StateStands after (after_seen (config_in z) seen t room then)) c.tick.ensures.settings
@@ -101,21 +101,21 @@ returns-else-seen-source-clause-answer c = λ past s.
     let old = c.args.self.now.rules.settings in let k = config_in old in let bytes = c.args.bytes.now in
     let then = at c.args.now (session_run k past) in
     let e = of_another c.args.source c.in-Ok.seen (seen_in old.params bytes) c.if-seen-source.false
-        (c.in-Ok.ensures.exact
+    (c.in-Ok.ensures.exact
     ∙ ap (λ (p : Params). seen_in p bytes) (c.params.ensures ∙ ap (λ (z : Settings). z.params) c.tick.ensures.settings))
-        in
+    in
     subst (λ (x : Result Seen Cause). IsVerdict old.params.clock c.drop_for-else-seen-source.result.verdict
     (outcome_of_reading k x (renamed bytes) then)) e
-        (ap (λ (a : Arrived). a.verdict) c.drop_for-else-seen-source.ensures.answer)
+    (ap (λ (a : Arrived). a.verdict) c.drop_for-else-seen-source.ensures.answer)
 
 pub returns-else-seen-source-clause-told : goal.returns-else-seen-source-clause-told
 returns-else-seen-source-clause-told c = λ past s.
     let old = c.args.self.now.rules.settings in let k = config_in old in let bytes = c.args.bytes.now in
     let then = at c.args.now (session_run k past) in
     let e = of_another c.args.source c.in-Ok.seen (seen_in old.params bytes) c.if-seen-source.false
-        (c.in-Ok.ensures.exact
+    (c.in-Ok.ensures.exact
     ∙ ap (λ (p : Params). seen_in p bytes) (c.params.ensures ∙ ap (λ (z : Settings). z.params) c.tick.ensures.settings))
-        in
+    in
     ap (λ (a : Arrived). a.is_rival) c.drop_for-else-seen-source.ensures.answer
     ∙ ap (λ (x : Result Seen Cause). told_of_reading x then) e
 
@@ -124,11 +124,11 @@ returns-else-seen-source-clause-stands c = λ past s.
     let old = c.args.self.now.rules.settings in let k = config_in old in let bytes = c.args.bytes.now in
     let then = at c.args.now (session_run k past) in
     let e = of_another c.args.source c.in-Ok.seen (seen_in old.params bytes) c.if-seen-source.false
-        (c.in-Ok.ensures.exact
+    (c.in-Ok.ensures.exact
     ∙ ap (λ (p : Params). seen_in p bytes) (c.params.ensures ∙ ap (λ (z : Settings). z.params) c.tick.ensures.settings))
-        in
+    in
     settled c.drop_for-else-seen-source.new.self old (DatagramOf c.args.source bytes c.args.now) past
     (c.drop_for-else-seen-source.ensures.settings ∙ c.tick.ensures.settings)
     (subst (λ (x : Result Seen Cause). StateStands c.drop_for-else-seen-source.new.self
-        (after_reading k x (renamed bytes) then)) e
+    (after_reading k x (renamed bytes) then)) e
     (c.drop_for-else-seen-source.ensures.stands then (c.tick.ensures.stands (session_run k past) s)))

@@ -9,5 +9,5 @@ returns-clause-stands c = λ past s.
     let old = c.args.self.now.rules.settings in
     let st = session_run (config_in old) past in
     settled c.ended.new.self old (Ended c.args.source c.args.now) past (c.ended.ensures.settings
-        ∙ c.tick.ensures.settings)
+    ∙ c.tick.ensures.settings)
     (c.ended.ensures.stands (at c.args.now st) (c.tick.ensures.stands st s))

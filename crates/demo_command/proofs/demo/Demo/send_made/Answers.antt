@@ -47,10 +47,10 @@ returns-clause-done c = λ past h near.
     let s = m.both.sender in
     let bytes = c.make_frame.new.bytes in
     let may = may_now t (c.near_event_laws.ensures p c.requires.ready.params) (steady_is p c.requires.ready.params) past
-        Send near in
+    Send near in
     let held : c.deref.result.now ≡ bytes =
     lent m.frame bytes c.deref.result.now (size_of_picture p.format) c.deref.ensures.value c.make_frame.ensures.size
-        (omega (arith, c.requires.ready.frame, m.frame.ok.0))
+    (omega (arith, c.requires.ready.frame, m.frame.ok.0))
     in
     let shows : picture c.new-frame.result ≡ picture_with p.format (made_sample t.seed c.sent.result) =
     c.new-frame.ensures.picture ∙ ap (picture_of p.format) held ∙ c.make_frame.ensures.made
@@ -59,6 +59,6 @@ returns-clause-done c = λ past h near.
     let some : s.sent < length (made_video t) = omega (arith, sent, may.0) in
     let there : slice_get (made_video t) s.sent ≡ Some (bare (picture c.new-frame.result)) =
     frame_is t s.sent some ∙ ap (λ (n : ℕ). Some (made_frame t n)) (sym c.sent.ensures.value)
-        ∙ ap (λ (x : Picture). Some (bare x)) (sym shows)
+    ∙ ap (λ (x : Picture). Some (bare x)) (sym shows)
     in
     c.send.ensures.holds p m.both.receiver [] (made_video t) past h there may

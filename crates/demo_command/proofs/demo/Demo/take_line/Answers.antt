@@ -28,7 +28,7 @@ send_made-requires-clause-left c =
 pub returns-in-Send-clause-done : goal.returns-in-Send-clause-done
 returns-in-Send-clause-done c = λ past h.
     as_line c.args.self.now.terms past says.Send c.args.event (HasDone c.send_made.new.self) c.in-Send.is
-        (c.send_made.ensures.done past h)
+    (c.send_made.ensures.done past h)
 
 pub returns-in-Packet-clause-ready : goal.returns-in-Packet-clause-ready
 returns-in-Packet-clause-ready c = ready_delivered c.args.self.now c.requires.ready c.deliver.new.self
@@ -42,8 +42,10 @@ returns-in-Packet-clause-done c = λ past h.
     let j = c.in-Packet.place in
     let r = c.requires.ready in
     as_line m.terms past (says.Packet n j) c.args.event
-        (HasDone (record m { both = record m.both { receiver = c.deliver.new.receiver };
-        network = c.deliver.new.self })) c.in-Packet.is
+    (HasDone (record m {
+      both = record m.both { receiver = c.deliver.new.receiver };
+      network = c.deliver.new.self;
+    })) c.in-Packet.is
     (λ near.
     let may = may_deliver m r (c.near_event_laws.ensures p r.params) past h n j near in
     c.deliver.ensures.holds p m.both.sender [] (made_video m.terms) past h may.0 may.1)
@@ -53,12 +55,20 @@ returns-in-All-clause-ready c = ready_delivered c.args.self.now c.requires.ready
     c.deliver_all.new.receiver c.deliver_all.ensures.way c.deliver_all.ensures.played
 
 pub deliver_all-requires : goal.deliver_all-requires
-deliver_all-requires c = omega (arith, c.requires.said, c.requires.ready.can.most,
-    few_mbs c.args.self.now.both.sender.params.format)
+deliver_all-requires c = omega (
+  arith,
+  c.requires.said,
+  c.requires.ready.can.most,
+  few_mbs c.args.self.now.both.sender.params.format,
+)
 
 pub returns-in-All-clause-said : goal.returns-in-All-clause-said
-returns-in-All-clause-said c = omega (arith, c.deliver_all.ensures.few, c.requires.ready.can.most,
-    few_mbs c.args.self.now.both.sender.params.format)
+returns-in-All-clause-said c = omega (
+  arith,
+  c.deliver_all.ensures.few,
+  c.requires.ready.can.most,
+  few_mbs c.args.self.now.both.sender.params.format,
+)
 
 pub returns-in-All-clause-done : goal.returns-in-All-clause-done
 returns-in-All-clause-done c = λ past h.
@@ -69,17 +79,22 @@ returns-in-All-clause-done c = λ past h.
     let r = c.requires.ready in
     let made = c.made_laws.ensures t r.params in
     let same = c.ends_agree.ensures p (made_video t) past r.params h.way_holds.near in
-    let after : Demo = record m { both = record m.both { receiver = c.deliver_all.new.receiver };
-        network = c.deliver_all.new.self } in
+    let after : Demo = record m {
+      both = record m.both { receiver = c.deliver_all.new.receiver };
+      network = c.deliver_all.new.self;
+    } in
     let placed : n < m.both.sender.sent =
-        (subst (λ (l : Line). AreInPlace 10000 m.both.sender.sent (l ∷ [])) c.in-All.is c.requires.in_place).0 in
+    (subst (λ (l : Line). AreInPlace 10000 m.both.sender.sent (l ∷ [])) c.in-All.is c.requires.in_place).0 in
     let coded = (c.way_laws.ensures p).sent m.both.sender m.both.receiver [] (made_video t) past h.way_holds.joined in
-    let sent : n < length (both_after p (steady p) (made_video t) [] past).sender.coded = omega (arith, placed,
-        coded) in
+    let sent : n < length (both_after p (steady p) (made_video t) [] past).sender.coded = omega (
+      arith,
+      placed,
+      coded,
+    ) in
     as_line t past (says.All n) c.args.event (HasDone after) c.in-All.is
     (λ near.
     let may = may_deliver m r (c.near_event_laws.ensures p r.params) past h n 0
-        (near_first t made past same n sent near) in
+    (near_first t made past same n sent near) in
     subst (λ (l : List Happens). HasDone after l) (all_are t made past same n)
     (c.deliver_all.ensures.holds p m.both.sender [] (made_video t) past h may.0 may.1))
 
@@ -105,10 +120,10 @@ returns-in-Back-clause-done c = λ past h.
     let k = c.in-Back.message in
     let r = c.requires.ready in
     as_line t past (says.Back k) c.args.event
-        (HasDone (record m { both = record m.both { sender = c.bring_back.new.sender } })) c.in-Back.is
+    (HasDone (record m { both = record m.both { sender = c.bring_back.new.sender } })) c.in-Back.is
     (λ near.
     c.bring_back.ensures.holds p m.both.receiver [] (made_video t) past r.params (r.can.quant_is
-        ∙ ap (λ (q : Params). q.quant) r.sender_params) refl h
+    ∙ ap (λ (q : Params). q.quant) r.sender_params) refl h
     (may_now t (c.near_event_laws.ensures p r.params) (steady_is p r.params) past (Back k) near))
 
 pub returns-in-Play-clause-ready : goal.returns-in-Play-clause-ready
@@ -132,7 +147,9 @@ returns-in-Play-clause-done c = λ past h.
     let t = m.terms in
     let p = t.params in
     let r = c.requires.ready in
-    as_line t past says.Play c.args.event (HasDone (record m { both = record m.both { receiver = c.play.new.receiver };
-        network = c.play.new.self })) c.in-Play.is
+    as_line t past says.Play c.args.event (HasDone (record m {
+      both = record m.both { receiver = c.play.new.receiver };
+      network = c.play.new.self;
+    })) c.in-Play.is
     (λ near. c.play.ensures.holds p m.both.sender [] (made_video t) past h
-        (may_now t (c.near_event_laws.ensures p r.params) (steady_is p r.params) past Play near))
+    (may_now t (c.near_event_laws.ensures p r.params) (steady_is p r.params) past Play near))

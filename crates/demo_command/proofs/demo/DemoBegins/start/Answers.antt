@@ -16,8 +16,13 @@ returns-clause-goes g c = λ inputs told.
     let t = c.args.setup.now in
     let both = c.in_ok-both.both in
     let ends = c.in_ok-both.ensures in
-    let m : Demo = record { terms = t; lines = c.new.result; both = both; network = c.in_ok-network.network;
-        frame = c.in_ok-frame.frame } in
+    let m : Demo = record {
+      terms = t;
+      lines = c.new.result;
+      both = both;
+      network = c.in_ok-network.network;
+      frame = c.in_ok-frame.frame;
+    } in
     c.run_laws.ensures.begins m (demo_begin t inputs) demo_step (λ _. true) (most_turns t) inputs now now
     (ap (λ (l : List Line). length l) c.new.ensures)
     (record {
@@ -42,8 +47,13 @@ returns-clause-ready g c =
     let t = c.args.setup.now in
     let both = c.in_ok-both.both in
     let ends = c.in_ok-both.ensures in
-    let m : Demo = record { terms = t; lines = c.new.result; both = both; network = c.in_ok-network.network;
-        frame = c.in_ok-frame.frame } in
+    let m : Demo = record {
+      terms = t;
+      lines = c.new.result;
+      both = both;
+      network = c.in_ok-network.network;
+      frame = c.in_ok-frame.frame;
+    } in
     let new = subst (λ (n : ℕ). IsNewNetwork t.params n m.network) c.period.ensures c.in_ok-network.ensures in
     let long : length m.frame.items ≡ size_of_picture t.params.format = search rules in
     record {
@@ -61,5 +71,5 @@ returns-in_err-both-clause-ends g c = λ inputs told.
     let t = c.args.setup.now in
     let run = run_from (demo_begin t inputs) demo_step (most_turns t) inputs in
     ends_starved c.from_residual-in_err-both.result OutOfMemory run inputs now.written now
-        c.from_residual-in_err-both.ensures.1
+    c.from_residual-in_err-both.ensures.1
     (c.run_laws.ensures.gives_up (demo_begin t inputs) demo_step (most_turns t) inputs now now OutOfMemory refl)

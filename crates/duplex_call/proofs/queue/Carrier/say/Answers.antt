@@ -12,9 +12,9 @@ returns c before waits =
     let x = c.args.said in
     let more = sym (last_more before x) in
     let same : (f : List (Option Carried) → List (Option Carried)) → f c.args.self.now.waiting
-        ≡ f (placed m) = λ f. ap f waits in
+    ≡ f (placed m) = λ f. ap f waits in
     let at : (k : ℕ) → is_some (slice_index_or (placed m) k None)
-        ≡ is_some (slice_index_or c.args.self.now.waiting k None) =
+    ≡ is_some (slice_index_or c.args.self.now.waiting k None) =
     λ k. ap (λ (ws : List (Option Carried)). is_some (slice_index_or ws k None)) (sym waits) in
     elim c.if-is_none.branch [
       | then-is_none w ↦ w.self-is ∙ free_0 m x (at 0 ∙ w.if-is_none.ensures) ∙ more
@@ -26,10 +26,10 @@ returns c before waits =
           ∙ free_2 m x (at 1 ∙ w.if-is_none-2.ensures) (at 2 ∙ w.if-is_none-3.ensures) ∙ more
       | else-is_none+else-is_none-2+else-is_none-3+then-is_none-4 w ↦
           w.self-is ∙ same (λ ws. slice_index_or ws 0 None ∷ slice_index_or ws 1 None ∷ slice_index_or ws 2 None ∷ Some
-              x ∷ [])
+          x ∷ [])
           ∙ free_3 m x (at 2 ∙ w.if-is_none-3.ensures) (at 3 ∙ w.if-is_none-4.ensures) ∙ more
       | else-is_none+else-is_none-2+else-is_none-3+else-is_none-4 w ↦
           w.self-is ∙ same (λ ws. slice_index_or ws 1 None ∷ slice_index_or ws 2 None ∷ slice_index_or ws 3 None ∷ Some
-              x ∷ [])
+          x ∷ [])
           ∙ full m x (at 3 ∙ w.if-is_none-4.ensures) ∙ more
     ]

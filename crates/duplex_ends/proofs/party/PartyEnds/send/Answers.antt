@@ -34,18 +34,18 @@ send-number-requires-clause-back c =
     let told = told_by (p (other x)) v in
     let fit : AreMessages (p (other x)).clock (map message_in (last_four (drop w.loaded told))) =
     waiting_fit (p (other x)).clock told w.loaded ((c.said_laws.ensures (p (other x)) (e.holds.in_range (other x))).fit
-        v)
+    v)
     in
     let is : take c.put_messages-count.result c.put_messages-count.new.messages
-        ≡ map message_in (last_four (drop w.loaded told)) =
+    ≡ map message_in (last_four (drop w.loaded told)) =
     c.put_messages-count.ensures.messages
     ∙ ap (λ (l : List (Option Carried)). map message_in (carried_in l))
-        (c.load-header.ensures.places (drop w.loaded told) one.waits)
+    (c.load-header.ensures.places (drop w.loaded told) one.waits)
     ∙ ap (λ (l : List Carried). map message_in l) (carried_placed (last_four (drop w.loaded told))
-        (last_few (drop w.loaded told)))
+    (last_few (drop w.loaded told)))
     in
     let clock : (p (other x)).clock ≡ c.args.self.now.sender.params.clock = sym e.holds.clock
-        ∙ ap (λ (q : Params). q.clock) (sym one.done.joined.sender_params) in
+    ∙ ap (λ (q : Params). q.clock) (sym one.done.joined.sender_params) in
     subst (λ (l : List Message). AreMessages c.args.self.now.sender.params.clock l) (sym is)
     (subst (λ (clock : Clock). AreMessages clock (map message_in (last_four (drop w.loaded told)))) clock fit)
 
@@ -73,14 +73,14 @@ returns-clause-holds c = λ p x far ways left h may.
     let messages = waiting P Q own w v one picture in
     let loaded : c.load-header.result ≡ placed messages = c.load-header.ensures.places (drop w.loaded told) one.waits in
     let back : take c.put_messages-count.result c.put_messages-count.new.messages
-        ≡ map marked (messages_at (said P Q own w v one picture) (numbers P Q own w v one picture)) =
+    ≡ map marked (messages_at (said P Q own w v one picture) (numbers P Q own w v one picture)) =
     c.put_messages-count.ensures.messages
     ∙ ap (λ (l : List (Option Carried)). map message_in (carried_in l)) loaded
     ∙ ap (λ (l : List Carried). map message_in l) (carried_placed messages (last_few (drop w.loaded told)))
     ∙ sym (same_messages P Q own w v one picture)
     in
     let at : slice_get next.frames own.sender.sent
-        ≡ Some (carrying picture (take c.put_messages-count.result c.put_messages-count.new.messages)) =
+    ≡ Some (carrying picture (take c.put_messages-count.result c.put_messages-count.new.messages)) =
     ap (λ (k : ℕ). slice_get next.frames k) one.sent ∙ get_last w.frames new_frame
     ∙ ap (λ (l : List Message). let f : Option Frame = Some (carrying picture l) in f) (sym back)
     in
@@ -89,22 +89,26 @@ returns-clause-holds c = λ p x far ways left h may.
     let laws = c.way_laws.ensures P in
     let coded = laws.sent own.sender own.far_end [] w.frames w.past one.done.joined in
     let near = near_send P Q own w v one picture (c.later_frames.ensures P)
-        (agree P (h.in_range x) calls nears own.way own.sender own.far_end w one.done) coded left may in
+    (agree P (h.in_range x) calls nears own.way own.sender own.far_end w one.done) coded left may in
     let held = laws.later own.way own.sender own.far_end [] w.frames (new_frame ∷ []) w.past one.done in
     let done = c.send-number.ensures.holds P own.far_end [] next.frames w.past held at near in
     let number : c.send-number.result ≡ length one.carries.headers =
     c.send-number.ensures.number ∙ one.sent ∙ sym one.headers ∙ sym one.carries.count
     in
-    let new : PartyEnds = record own { sender = c.send-number.new.sender; way = c.send-number.new.self;
-        carried = c.note.new.self; waiting = c.load-header.new.self } in
+    let new : PartyEnds = record own {
+      sender = c.send-number.new.sender;
+      way = c.send-number.new.self;
+      carried = c.note.new.self;
+      waiting = c.load-header.new.self;
+    } in
     with_one p x new far ways next h.in_range h.clock
     (party_sent P Q own w v one picture new refl done (c.send-number.ensures.ready) c.send-number.ensures.kept
-        c.send-number.ensures.sent c.requires.left refl
+    c.send-number.ensures.sent c.requires.left refl
     (ap total_of c.send-number.ensures.tally) c.note.ensures.kept
-        (c.note.ensures.holds one.carries.headers messages one.carries.holds number loaded) c.load-header.ensures.none)
+    (c.note.ensures.holds one.carries.headers messages one.carries.holds number loaded) c.load-header.ensures.none)
     (party_same Q P far v w two next
     (told_sent P (c.later_calls.ensures P) w (new_frame ∷ []) next.carried next.loaded
-        (ideally P (h.in_range x) calls nears own.way own.sender own.far_end w one.done)))
+    (ideally P (h.in_range x) calls nears own.way own.sender own.far_end w one.done)))
 
 pub returns-clause-ready : goal.returns-clause-ready
 returns-clause-ready c = λ far e. record {

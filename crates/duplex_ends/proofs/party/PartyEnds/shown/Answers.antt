@@ -16,6 +16,6 @@ returns-clause-holds c = λ p x far ways h.
     let one = h.own_holds in
     let same = c.ends_agree.ensures P w.frames w.past (h.in_range x) one.done.near in
     (c.way_laws.ensures P).shown c.args.self.now.sender c.args.self.now.far_end [] w.frames w.past
-        _ one.done.joined c.shown.ensures.run
+    _ one.done.joined c.shown.ensures.run
     ∙ screen_is (coding P) (rules_of P) (steady P) w.frames w.past
     ∙ ap (λ (seen : Seen). shown_last (pictures_of (coding P)) seen.plays) same

@@ -11,15 +11,17 @@ returns-in_err-came-clause-gives g c = λ rest told.
     let self = c.args.self.now in
     let lost = c.in_err-came.ensures.lost rest told in
     stopped c.from_residual.result c.in_err-came.field-0.0 self rest c.args.buf.now _ c.from_residual.ensures.1
-        c.in_err-came.ensures.err (head_cut self rest lost.0 _ lost.1 lost.2)
+    c.in_err-came.ensures.err (head_cut self rest lost.0 _ lost.1 lost.2)
 
 pub returns-then-self-eq-MAX_ENTRIES-clause-gives : goal.returns-then-self-eq-MAX_ENTRIES-clause-gives
 returns-then-self-eq-MAX_ENTRIES-clause-gives g c = λ rest told.
     let h = c.in_ok-came.ensures.told rest told in
     let head = c.read.new.buf in
-    let came = c.in_ok-came.came in
-    (some_came rest head came c.read.auto.buf c.in_ok-came.ensures.count h.0 c.if-came-eq0.false, h.1
-        ∙ ap (λ (l : List ℕ). Some l) (after_head rest head came c.read.auto.buf c.in_ok-came.ensures.count h.0))
+    let came = c.in_ok-came.came in (
+      some_came rest head came c.read.auto.buf c.in_ok-came.ensures.count h.0 c.if-came-eq0.false,
+      h.1
+          ∙ ap (λ (l : List ℕ). Some l) (after_head rest head came c.read.auto.buf c.in_ok-came.ensures.count h.0),
+    )
 
 pub returns-in_default-clause-gives : goal.returns-in_default-clause-gives
 returns-in_default-clause-gives g c = λ rest told.
@@ -28,9 +30,9 @@ returns-in_default-clause-gives g c = λ rest told.
     let head = c.read.new.buf in
     let came = c.in_ok-came.came in
     let begins : begun self.side rest
-        ≡ None = sym (begun_is rest head came c.read.auto.buf c.in_ok-came.ensures.count h.0 self.side)
-        ∙ ap (λ (p : LogPlace). begun p.side (take came head)) (sym c.self.view_is) ∙ sym c.begun.ensures.is
-        ∙ c.in_default.is in
+    ≡ None = sym (begun_is rest head came c.read.auto.buf c.in_ok-came.ensures.count h.0 self.side)
+    ∙ ap (λ (p : LogPlace). begun p.side (take came head)) (sym c.self.view_is) ∙ sym c.begun.ensures.is
+    ∙ c.in_default.is in
     let reach : 3 ≡ reach_of (begun self.side rest) = ap reach_of (sym begins) in (
       some_came rest head came c.read.auto.buf c.in_ok-came.ensures.count h.0 c.if-came-eq0.false,
       none_begun self.side rest begins,
@@ -45,19 +47,19 @@ returns-in_err-read-clause-gives g c = λ rest told.
     let head = c.read.new.buf in
     let came = c.in_ok-came.came in
     let begins : begun self.side rest ≡ Some c.in-Some.entry =
-        sym (begun_is rest head came c.read.auto.buf c.in_ok-came.ensures.count h.0 self.side)
-        ∙ ap (λ (p : LogPlace). begun p.side (take came head)) (sym c.self.view_is) ∙ sym c.begun.ensures.is
-        ∙ c.in-Some.is in
+    sym (begun_is rest head came c.read.auto.buf c.in_ok-came.ensures.count h.0 self.side)
+    ∙ ap (λ (p : LogPlace). begun p.side (take came head)) (sym c.self.view_is) ∙ sym c.begun.ensures.is
+    ∙ c.in-Some.is in
     let after : drop came rest ≡ drop 3 rest = after_head rest head came c.read.auto.buf c.in_ok-came.ensures.count h.0
-        in
+    in
     let lost = c.in_err-read.ensures.lost (drop 3 rest) (h.1 ∙ ap (λ (l : List ℕ). Some l) after) in
     let size : length (take c.bytes_of-len.result c.args.buf.now) ≡ bytes_of c.in-Some.entry = front_len c.args.buf.now
-        (take c.bytes_of-len.result c.args.buf.now) c.bytes_of-len.result (bytes_of c.in-Some.entry)
-        refl c.bytes_of-len.ensures c.in-Some.ensures.within c.requires.room in
+    (take c.bytes_of-len.result c.args.buf.now) c.bytes_of-len.result (bytes_of c.in-Some.entry)
+    refl c.bytes_of-len.ensures c.in-Some.ensures.within c.requires.room in
     let few : lost.0 < bytes_of c.in-Some.entry = subst (λ (n : ℕ). lost.0 < n) size lost.1 in
     stopped c.from_residual-in_err-read.result c.in_err-read.field-0.0 self rest _
-        _ c.from_residual-in_err-read.ensures.1 c.in_err-read.ensures.err
-        (bytes_cut self rest c.in-Some.entry begins lost.0 _ few lost.2)
+    _ c.from_residual-in_err-read.ensures.1 c.in_err-read.ensures.err
+    (bytes_cut self rest c.in-Some.entry begins lost.0 _ few lost.2)
 
 pub returns-then-branch-len-clause-gives : goal.returns-then-branch-len-clause-gives
 returns-then-branch-len-clause-gives g c = λ rest told.
@@ -66,17 +68,17 @@ returns-then-branch-len-clause-gives g c = λ rest told.
     let head = c.read.new.buf in
     let came = c.in_ok-came.came in
     let begins : begun self.side rest ≡ Some c.in-Some.entry =
-        sym (begun_is rest head came c.read.auto.buf c.in_ok-came.ensures.count h.0 self.side)
-        ∙ ap (λ (p : LogPlace). begun p.side (take came head)) (sym c.self.view_is) ∙ sym c.begun.ensures.is
-        ∙ c.in-Some.is in
+    sym (begun_is rest head came c.read.auto.buf c.in_ok-came.ensures.count h.0 self.side)
+    ∙ ap (λ (p : LogPlace). begun p.side (take came head)) (sym c.self.view_is) ∙ sym c.begun.ensures.is
+    ∙ c.in-Some.is in
     let after : drop came rest ≡ drop 3 rest = after_head rest head came c.read.auto.buf c.in_ok-came.ensures.count h.0
-        in
+    in
     let bytes = c.in_ok-read.ensures.told (drop 3 rest) (h.1 ∙ ap (λ (l : List ℕ). Some l) after) in
     let size : length c.read-2.new.buf ≡ bytes_of c.in-Some.entry =
-        front_len c.args.buf.now c.read-2.new.buf c.bytes_of-len.result (bytes_of c.in-Some.entry) c.read-2.auto.buf
-        c.bytes_of-len.ensures c.in-Some.ensures.within c.requires.room in
+    front_len c.args.buf.now c.read-2.new.buf c.bytes_of-len.result (bytes_of c.in-Some.entry) c.read-2.auto.buf
+    c.bytes_of-len.ensures c.in-Some.ensures.within c.requires.room in
     let cut = cut_off self rest c.in-Some.entry begins c.read-2.new.buf c.in_ok-read.field-0 bytes.0 size _ bytes.1
-        (omega (arith, c.if-branch-len.true, c.bytes_of-len.ensures)) in
+    (omega (arith, c.if-branch-len.true, c.bytes_of-len.ensures)) in
     (some_came rest head came c.read.auto.buf c.in_ok-came.ensures.count h.0 c.if-came-eq0.false, cut.0, cut.1)
 
 pub returns-clause-gives : goal.returns-clause-gives
@@ -86,15 +88,18 @@ returns-clause-gives g c = λ rest told.
     let head = c.read.new.buf in
     let came = c.in_ok-came.came in
     let begins : begun self.side rest ≡ Some c.in-Some.entry =
-        sym (begun_is rest head came c.read.auto.buf c.in_ok-came.ensures.count h.0 self.side)
-        ∙ ap (λ (p : LogPlace). begun p.side (take came head)) (sym c.self.view_is) ∙ sym c.begun.ensures.is
-        ∙ c.in-Some.is in
+    sym (begun_is rest head came c.read.auto.buf c.in_ok-came.ensures.count h.0 self.side)
+    ∙ ap (λ (p : LogPlace). begun p.side (take came head)) (sym c.self.view_is) ∙ sym c.begun.ensures.is
+    ∙ c.in-Some.is in
     let after : drop came rest ≡ drop 3 rest = after_head rest head came c.read.auto.buf c.in_ok-came.ensures.count h.0
-        in
+    in
     let bytes = c.in_ok-read.ensures.told (drop 3 rest) (h.1 ∙ ap (λ (l : List ℕ). Some l) after) in
     let size : length c.read-2.new.buf ≡ bytes_of c.in-Some.entry =
-        front_len c.args.buf.now c.read-2.new.buf c.bytes_of-len.result (bytes_of c.in-Some.entry) c.read-2.auto.buf
-        c.bytes_of-len.ensures c.in-Some.ensures.within c.requires.room in
+    front_len c.args.buf.now c.read-2.new.buf c.bytes_of-len.result (bytes_of c.in-Some.entry) c.read-2.auto.buf
+    c.bytes_of-len.ensures c.in-Some.ensures.within c.requires.room in
     there self rest c.in-Some.entry begins c.read-2.new.buf c.in_ok-read.field-0 bytes.0 size _ bytes.1 _
-        (omega (arith, c.in_ok-read.ensures.count, c.read-2.auto.buf, size)) (omega (arith, c.if-branch-len.false,
-        c.bytes_of-len.ensures))
+    (omega (arith, c.in_ok-read.ensures.count, c.read-2.auto.buf, size)) (omega (
+      arith,
+      c.if-branch-len.false,
+      c.bytes_of-len.ensures,
+    ))

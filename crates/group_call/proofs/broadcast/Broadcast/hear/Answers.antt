@@ -21,6 +21,8 @@ returns-clause-holds c = λ p run h. record {
 }
 
 pub returns-clause-ready : goal.returns-clause-ready
-returns-clause-ready c = λ r. record { params = r.params;
-    run = group_after_saying r.params c.args.place c.args.bytes.now r.run;
-    holds = returns-clause-holds c r.params r.run r.holds }
+returns-clause-ready c = λ r. record {
+  params = r.params;
+  run = group_after_saying r.params c.args.place c.args.bytes.now r.run;
+  holds = returns-clause-holds c r.params r.run r.holds;
+}

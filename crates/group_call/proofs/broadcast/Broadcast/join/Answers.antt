@@ -18,5 +18,8 @@ returns-clause-holds c = λ p run h. record {
 }
 
 pub returns-clause-ready : goal.returns-clause-ready
-returns-clause-ready c = λ r. record { params = r.params; run = after_join c.args.place r.run;
-    holds = returns-clause-holds c r.params r.run r.holds }
+returns-clause-ready c = λ r. record {
+  params = r.params;
+  run = after_join c.args.place r.run;
+  holds = returns-clause-holds c r.params r.run r.holds;
+}

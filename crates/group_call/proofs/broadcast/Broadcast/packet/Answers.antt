@@ -6,4 +6,4 @@ pub returns : goal.returns
 returns c = λ p run h cast.
     c.packet.ensures h.packets.pictures h.packets.keeps
     ∙ ap (λ (l : List (List ℕ)). slice_get l c.args.place)
-        ((c.ring_laws.ensures p).kept c.args.self.now.packets run.coded c.args.number h.packets cast.0 cast.1)
+    ((c.ring_laws.ensures p).kept c.args.self.now.packets run.coded c.args.number h.packets cast.0 cast.1)

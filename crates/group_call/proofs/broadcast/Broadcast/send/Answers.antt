@@ -26,13 +26,15 @@ keep_packets-requires-clause-room c =
     let in_range = subst IsParams (sym params) h.in_range in
     let after = c.code-coded.ensures.holds run h.holds in
     let is = newest_packets p quant frame run group.sender (group.same ∙ c.code-coded.ensures.params) after.sender in
-    let ranged : (0 < quant) × (quant < 32) = (omega (arith, h.quant, h.in_range.quant_low),
-        omega (arith, h.quant, h.in_range.quant_high)) in
+    let ranged : (0 < quant) × (quant < 32) = (
+      omega (arith, h.quant, h.in_range.quant_low),
+      omega (arith, h.quant, h.in_range.quant_high),
+    ) in
     let room = newest_room p (c.packet_laws.ensures p in_range) quant frame run ranged in
     let room_is : room_of c.args.self.now.packets ≡ 1200 * mbs_of p.format = h.room
-        ∙ ap (λ (q : Params). 1200 * mbs_of q.format) (sym params) in
+    ∙ ap (λ (q : Params). 1200 * mbs_of q.format) (sym params) in
     let most_is : most_of c.args.self.now.packets ≡ mbs_of p.format = h.most
-        ∙ ap (λ (q : Params). mbs_of q.format) (sym params) in
+    ∙ ap (λ (q : Params). mbs_of q.format) (sym params) in
     record {
       bytes = subst (λ (l : List (List ℕ)). size_of l ≤ room_of c.args.self.now.packets) (sym is)
           (omega (arith, room.0, room_is));
@@ -60,15 +62,15 @@ returns-clause-holds c = λ p run h.
     let params = c.code-coded.ensures.params ∙ h.params in
     let by_params : HoldsGroup group (group_after_code p (paced quant) frame run) =
     subst (λ (q : Params). HoldsGroup group (group_after_code q (paced quant) frame run)) h.params
-        (c.code-coded.ensures.holds run h.holds)
+    (c.code-coded.ensures.holds run h.holds)
     in
     let holds = subst (λ (pace : List ℕ → ℕ). HoldsGroup group (group_after_code p pace frame run)) as_steady by_params
-        in
+    in
     let tells : Describes (length run.coded) next c.code-coded.result =
     subst (λ (pace : List ℕ → ℕ). Describes (length run.coded) (next_of_group p pace frame run) c.code-coded.result)
-        as_steady
+    as_steady
     (subst (λ (q : Params). Describes (length run.coded) (next_of_group q (paced quant) frame run) c.code-coded.result)
-        h.params
+    h.params
     (c.code-coded.ensures.makes run h.holds))
     in
     let cut = newest_packets p p.quant frame run group.sender (group.same ∙ params) holds.sender in

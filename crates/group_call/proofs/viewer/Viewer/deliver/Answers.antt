@@ -20,7 +20,7 @@ returns-in_default-clause-holds c = λ p run view cast among h.
     sym (c.packet.ensures p run cast among) ∙ ap (λ o. option_map (λ packet. packet.now) o) c.in_default.is
     in
     subst (λ (o : Option (List ℕ)). HoldsViewer p c.args.self.now
-        (option_map_or (view_packet p c.args.number view) o view)) (sym none) h
+    (option_map_or (view_packet p c.args.number view) o view)) (sym none) h
 
 pub returns-clause-holds : goal.returns-clause-holds
 returns-clause-holds c = λ p run view cast among h.
@@ -36,14 +36,16 @@ returns-clause-holds c = λ p run view cast among h.
     in
     let says : IsMessage p.clock c.as_bytes.result (said_by answer) =
     subst (λ (o : Option Said). IsMessage p.clock o (said_by answer)) (sym (c.as_bytes.ensures.same
-        ∙ c.message.ensures))
+    ∙ c.message.ensures))
     (c.answers_say.ensures p.clock c.packet-heard.result answer heard_so)
     in
     let told : told_by n c.as_bytes.result ≡ said_to write_message n answer =
     (c.ring_laws.ensures p).answered n c.as_bytes.result answer says c.as_bytes.ensures.bytes
     in
-    let new : Viewer = record c.args.self.now { receiver = c.packet-heard.new.self;
-        messages = c.keep_told.new.messages } in
+    let new : Viewer = record c.args.self.now {
+      receiver = c.packet-heard.new.self;
+      messages = c.keep_told.new.messages;
+    } in
     let after : HoldsViewer p new (view_packet p n view bytes) = record {
       params = c.packet-heard.ensures.params ∙ h.params;
       receives = c.packet-heard.ensures.stands view.entries h.receives;

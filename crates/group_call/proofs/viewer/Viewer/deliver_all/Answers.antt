@@ -16,7 +16,7 @@ packets-preserved c = record {
       let next : suc i ≡ i + 1 = omega arith in
       subst (λ (k : ℕ). HoldsViewer p c.deliver.new.self (view_places p packets n k view)) next
       (c.deliver.ensures.holds p run (view_places p packets n i view) cast among
-          (c.packets.invariant.holds p run view cast among h));
+      (c.packets.invariant.holds p run view cast among h));
 }
 
 pub returns-clause-holds : goal.returns-clause-holds
@@ -27,4 +27,4 @@ returns-clause-holds c = λ p run view cast among h.
     omega (arith, c.packets-test.false, c.packets.auto.place-end, c.count-count.ensures.packets p run cast among)
     in
     subst (λ (k : ℕ). HoldsViewer p c.packets.self (view_places p packets n k view)) all
-        (c.packets.invariant.holds p run view cast among h)
+    (c.packets.invariant.holds p run view cast among h)

@@ -22,5 +22,5 @@ returns c = λ p view h.
     ap (λ (o : Option (ℕ × Said)). option_map told_in o) (c.get.ensures pairs h.messages.holds)
     ∙ told_of pairs k (nat_le (length pairs) (k + 1024))
     ∙ ap (λ (n : ℕ). if nat_le n (k + 1024) then slice_get (map told_in pairs) k else None)
-        (sym (length-map pairs told_in))
+    (sym (length-map pairs told_in))
     ∙ ap (λ (l : List SaidMessage). told_at l k) h.messages.same

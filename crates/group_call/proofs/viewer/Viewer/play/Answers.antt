@@ -19,7 +19,7 @@ pub returns-clause-mark : goal.returns-clause-mark
 returns-clause-mark c = λ p view h.
     let told =
     subst (λ (q : Params). IsPlayed q.clock c.play-played.result (mark_after q view.entries)
-        (message_after q view.entries)) h.params
+    (message_after q view.entries)) h.params
     (c.play-played.ensures.told view.entries h.receives)
     in
     told.mark_is
@@ -28,7 +28,7 @@ pub returns-clause-holds : goal.returns-clause-holds
 returns-clause-holds c = λ p view h.
     let told =
     subst (λ (q : Params). IsPlayed q.clock c.play-played.result (mark_after q view.entries)
-        (message_after q view.entries)) h.params
+    (message_after q view.entries)) h.params
     (c.play-played.ensures.told view.entries h.receives)
     in
     let run = run_of p view.entries in
@@ -39,7 +39,7 @@ returns-clause-holds c = λ p view h.
     in
     let says : IsMessage p.clock c.as_bytes.result (message_after p view.entries) =
     subst (λ (o : Option Said). IsMessage p.clock o (message_after p view.entries)) (sym c.as_bytes.ensures.same)
-        told.message_is
+    told.message_is
     in
     let is : told_by c.play-played.result.number c.as_bytes.result ≡ said_at_play (coding p) (rules_of p) run =
     ap (λ (n : ℕ). told_by n c.as_bytes.result) number

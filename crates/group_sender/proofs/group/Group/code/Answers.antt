@@ -39,24 +39,24 @@ newest_is g c run held =
     let sent = c.sent-sent.result in
     let is = sent_is g c run held in
     let before = stand_as rules c.args.self.now.members.items c.as_slice.result.now (length run.coded) sent run.parties
-        (sym c.as_slice.ensures.value) (sym is) held.members in
+    (sym c.as_slice.ensures.value) (sym is) held.members in
     c.newest_for_all-reference.ensures.value rules run.parties before refl (omega arith)
     ∙ ap (λ (n : ℕ). greatest (λ m. all_have run.parties m && leb n (m + window rules)) n) is
 
 -- so the picture that was coded is the run's next one
 next_is : (g : Over) (c : goal.After-self-2-1 g) (run : Groups) → HoldsGroup c.args.self.now run
     → next_with c.args.self.now.sender.params (g.P.Pace.quant_of c.args.self.now.sender.pace)
-        c.newest_for_all-reference.result (frame_of g c) (pictures_alone run)
+    c.newest_for_all-reference.result (frame_of g c) (pictures_alone run)
     ≡ next_of_group c.args.self.now.params (g.P.Pace.quant_of c.args.self.now.sender.pace) (frame_of g c) run
 next_is g c run held =
     let p = c.args.self.now.params in
     let pace = g.P.Pace.quant_of c.args.self.now.sender.pace in
     let frame = frame_of g c in
     ap (λ (q : Params). next_with q pace c.newest_for_all-reference.result frame (pictures_alone run))
-        c.args.self.now.same
+    c.args.self.now.same
     ∙ ap (λ (r : Option ℕ). next_with p pace r frame (pictures_alone run)) (newest_is g c run held)
     ∙ ap (λ (r : Option ℕ). capture (pictures p.format) (encoding p)
-        (pace (last_sizes (encoding p) (rules_of p) run.coded)) frame run.coded r)
+    (pace (last_sizes (encoding p) (rules_of p) run.coded)) frame run.coded r)
     (chosen_is (rules_of p) (depth_at run.coded) (all_have run.parties) (length run.coded))
 
 -- the run of its sender with one more picture
@@ -72,17 +72,17 @@ returns-clause-holds g c = λ run held.
     let is = sent_is g c run held in
     let x = next_of_group p (g.P.Pace.quant_of c.args.self.now.sender.pace) (frame_of g c) run in
     let before = stand_as rules v.items c.as_mut_slice.result.now (length run.coded) sent run.parties
-        (sym c.as_mut_slice.ensures.value) (sym is) held.members in
+    (sym c.as_mut_slice.ensures.value) (sym is) held.members in
     let after = c.tell_coded.ensures.stands rules run.parties before in
     let as_long : length c.as_mut_slice.result.now
-        ≡ length v.items = ap (λ (l : List Member). length l) c.as_mut_slice.ensures.value in
+    ≡ length v.items = ap (λ (l : List Member). length l) c.as_mut_slice.ensures.value in
     let items = with_items_is v c.tell_coded.new.members (omega (arith, c.tell_coded.ensures.count, as_long, v.ok.0)) in
     let more : sent + 1 ≡ length (run.coded ++ x ∷ []) = ap (λ (n : ℕ). n + 1) is
-        ∙ sym (length-append run.coded (x ∷ [])) in
+    ∙ sym (length-append run.coded (x ∷ [])) in
     record {
       sender =
           subst (λ (y : CodedPicture Style Mb Picture). Holds c.code_from-coded.new.self (with_one run y))
-              (next_is g c run held)
+          (next_is g c run held)
           (c.code_from-coded.ensures.holds (pictures_alone run) held.sender);
       members = stand_as rules c.tell_coded.new.members _ (sent + 1) (length (run.coded ++ x ∷ [])) run.parties
           (sym items) more after;
@@ -91,5 +91,5 @@ returns-clause-holds g c = λ run held.
 pub returns-clause-makes : goal.returns-clause-makes
 returns-clause-makes g c = λ run held.
     subst (λ (y : CodedPicture Style Mb Picture). Describes (length run.coded) y c.code_from-coded.result)
-        (next_is g c run held)
+    (next_is g c run held)
     (c.code_from-coded.ensures.makes (pictures_alone run) held.sender)

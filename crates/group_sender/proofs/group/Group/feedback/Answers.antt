@@ -26,9 +26,9 @@ returns-in-Err-clause-answer g c = λ run held.
     let n = length run.coded in
     let b = (party_at run.parties c.args.receiver).present in
     let read : read_message p.clock c.args.bytes.now ≡ Err c.in-Err.fault = ap as_read (sym c.read.ensures.value
-        ∙ c.in-Err.is) in
+    ∙ c.in-Err.is) in
     let before = stand_as rules c.args.self.now.members.items c.as_slice.result.now n n run.parties
-        (sym c.as_slice.ensures.value) refl held.members in
+    (sym c.as_slice.ensures.value) refl held.members in
     ap (λ (o : Option Feedback). option_map reply_of o) (c.refused.ensures.value rules n run.parties before)
     ∙ refused_reply b c.in-Err.fault
     ∙ sym (ap (answer_of rules n b) read)
@@ -42,9 +42,9 @@ returns-in_err-answer-in-Ok-clause-answer g c = λ run held.
     let b = (party_at run.parties c.args.receiver).present in
     let sent_is : sent ≡ n = c.sent-sent.ensures.holds (pictures_alone run) held.sender in
     let before = stand_as rules c.args.self.now.members.items c.as_mut_slice.result.now n sent run.parties
-        (sym c.as_mut_slice.ensures.value) (sym sent_is) held.members in
+    (sym c.as_mut_slice.ensures.value) (sym sent_is) held.members in
     let absent : b ≡ false = was_absent b (is_some (made_known rules sent (message_of c.in-Ok.message)))
-        (c.in_err-answer-in-Ok.ensures.answer rules run.parties before) in
+    (c.in_err-answer-in-Ok.ensures.answer rules run.parties before) in
     ap (λ (o : Option Feedback). option_map reply_of o) c.from_residual.ensures
     ∙ sym (ap (λ (t : Bool). answer_of rules n t (read_message p.clock c.args.bytes.now)) absent)
 
@@ -59,15 +59,15 @@ returns-in_ok-answer-in-Ok-clause-answer g c = λ run held.
     let message = message_of c.in-Ok.message in
     let sent_is : sent ≡ n = c.sent-sent.ensures.holds (pictures_alone run) held.sender in
     let read : read_message p.clock c.args.bytes.now ≡ Ok message = ap as_read (sym c.read.ensures.value
-        ∙ c.in-Ok.is) in
+    ∙ c.in-Ok.is) in
     let before = stand_as rules c.args.self.now.members.items c.as_mut_slice.result.now n sent run.parties
-        (sym c.as_mut_slice.ensures.value) (sym sent_is) held.members in
+    (sym c.as_mut_slice.ensures.value) (sym sent_is) held.members in
     let there = was_there b (is_some (made_known rules sent message)) answer
-        (c.in_ok-answer-in-Ok.ensures.answer rules run.parties before) in
+    (c.in_ok-answer-in-Ok.ensures.answer rules run.parties before) in
     ap (λ (f : Feedback). let o : Option (Reply MessageFault) = Some (reply_of f) in o) c.noted.ensures
     ∙ ap (λ (r : Reply MessageFault). let o : Option (Reply MessageFault) = Some r in o) (noted_reply answer)
     ∙ ap (λ (t : Bool). let o : Option (Reply MessageFault) = Some (if t then Noted else Old) in o) (there.1
-        ∙ ap (λ (k : ℕ). is_some (made_known rules k message)) sent_is)
+    ∙ ap (λ (k : ℕ). is_some (made_known rules k message)) sent_is)
     ∙ ap (λ (r : Result call.Message MessageFault). let o : Option (Reply MessageFault) =
-        Some (feedback_answer rules n r) in o) (sym read)
+    Some (feedback_answer rules n r) in o) (sym read)
     ∙ sym (ap (λ (t : Bool). answer_of rules n t (read_message p.clock c.args.bytes.now)) there.0)

@@ -13,10 +13,10 @@ returns-clause-holds g c = λ run held.
     let k = c.args.receiver in
     let n = length run.coded in
     let before = stand_as rules v.items c.as_mut_slice.result.now n n run.parties (sym c.as_mut_slice.ensures.value)
-        refl held.members in
+    refl held.members in
     let after = c.leave_at.ensures.stands rules n run.parties before in
     let as_long : length c.as_mut_slice.result.now
-        ≡ length v.items = ap (λ (l : List Member). length l) c.as_mut_slice.ensures.value in
+    ≡ length v.items = ap (λ (l : List Member). length l) c.as_mut_slice.ensures.value in
     let items = with_items_is v c.leave_at.new.members (omega (arith, c.leave_at.ensures.count, as_long, v.ok.0)) in
     record {
       sender = held.sender;

@@ -12,6 +12,6 @@ returns g c = λ run held.
     let rules = rules_of c.args.self.now.params in
     let is = c.sent.ensures.holds (pictures_alone run) held.sender in
     let before = stand_as rules c.args.self.now.members.items c.as_slice.result.now (length run.coded) c.sent.result
-        run.parties (sym c.as_slice.ensures.value) (sym is) held.members in
+    run.parties (sym c.as_slice.ensures.value) (sym is) held.members in
     c.newest_for_all.ensures.value rules run.parties before refl (omega arith)
     ∙ ap (λ (n : ℕ). greatest (λ m. all_have run.parties m && leb n (m + window rules)) n) is

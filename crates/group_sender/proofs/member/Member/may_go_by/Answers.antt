@@ -11,4 +11,4 @@ returns c rules sent party stands below last =
     ∙ stands.same n low
     ∙ sym (ap (λ (b : Bool). b && is_among party.told n) (le-leb party.since n low))
     ∙ sym (ap (λ (b : Bool). not b || (leb party.since n && is_among party.told n)) (sym stands.present
-        ∙ c.if-not-self.false))
+    ∙ c.if-not-self.false))

@@ -25,7 +25,7 @@ returns-clause-said c rules party stands =
     let sent = c.args.sent in
     let numbers = known_by_feedback rules sent (Some (message_of c.args.message.now)) in
     let some : 0 < rules.half = subst (λ (h : ℕ). 0 < h) (sym stands.selects.half)
-        (some_half c.args.self.now.selector.clock) in
+    (some_half c.args.self.now.selector.clock) in
     let here : party.present ≡ true = sym stands.present ∙ c.requires.present in
     let heard : Party = record party { told = numbers ++ party.told } in
     let stands_so : MemberStands rules (record (c.args.self.now) { selector = c.note.new.self }) sent heard = record {
@@ -39,4 +39,4 @@ returns-clause-said c rules party stands =
           ∙ sym (list_any-append (λ q. eqb q m) numbers party.told);
     } in
     subst (λ (b : Bool). MemberStands rules (record (c.args.self.now) { selector = c.note.new.self }) sent
-        (if b then heard else party)) (sym here) stands_so
+    (if b then heard else party)) (sym here) stands_so

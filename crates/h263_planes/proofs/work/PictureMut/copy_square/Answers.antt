@@ -21,9 +21,9 @@ returns-clause-samples g c = λ other i j h.
     let long : length rows ≡ width_in f plane * (n - 1) + n =
     subst (λ (t : Format). length rows ≡ width_in t plane * (n - 1) + n) c.requires.format c.rows-rows.ensures.length in
     ap (λ (l : List ℕ). sample_at (picture_of f l) other i j) (c.put_rows.ensures.after
-        ∙ ap (λ (w : ℕ). sets_rows w n w rows c.place-from.result n bytes) c.width-width.ensures)
+    ∙ ap (λ (w : ℕ). sets_rows w n w rows c.place-from.result n bytes) c.width-width.ensures)
     ∙ square_samples f plane other rows n (width_in f plane) x y _ i j bytes c.args.self.now.whole c.place-from.ensures
     c.requires.inside.in_row h.in_row n (omega arith) (omega (arith, long)) c.requires.inside.in_plane
     ∙ copied p plane other rows (width_in f plane) x y n i j _ (λ k l hk hl.
     subst (λ (t : Format). get_or rows (width_in t plane * l + k) 0 ≡ sample_at p plane (x + k) (y + l))
-        c.requires.format (c.rows-rows.ensures.samples k l hk hl))
+    c.requires.format (c.rows-rows.ensures.samples k l hk hl))

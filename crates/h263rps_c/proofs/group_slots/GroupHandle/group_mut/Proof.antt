@@ -76,22 +76,22 @@ module _ {M : Type 1} {𝓤 : Ura M} (𝓛 : Logic 𝓤) (at_mem : Memory → SP
     unfolding part_of
     back e w =
         qed 𝓛 (‵ (part_at R full_share w b o) ∷ ‵ Rest ∷ []) ∵ move ! (1 ∷ []) $ fsplit ! $ fsplit ! $ move !
-            (3 ∷ 0 ∷ []) $ fjoin ! $
+        (3 ∷ 0 ∷ []) $ fjoin ! $
         rewrite ! 0 (λ (p : Ptr). ‵ (holds_group d.alloc p (Some w))) (sym e) refl $ rewrite ! 2
-            (λ (p : Ptr). ‵ (cell_at full_share Hd.mir (both (ptr_val p) h ∷ []) rb ro)) (sym e) refl $
+        (λ (p : Ptr). ‵ (cell_at full_share Hd.mir (both (ptr_val p) h ∷ []) rb ro)) (sym e) refl $
         handle_in ! d.at h d.alloc (Some w) $ move ! (1 ∷ 0 ∷ []) $ fjoin ! $
         fpack ! (List Val) (λ us. fsep (cell_at full_share Hd.mir us rb ro) (Hd.own_val (with_group d w) us))
-            (both (ptr_val d.at) h ∷ []) $ done !
+        (both (ptr_val d.at) h ∷ []) $ done !
 
   exits : (v : Val) (r : MutBor R.Denot) → d.inside ≡ Some r.now
       → ent 𝓤 (sep 𝓤 (sem 𝓛 ((MutRef (named 0) κ R).own_val r (v ∷ [])))
-          (sep 𝓤 (A.lft κ q) (sem 𝓛 (follows Hd R γ r.ghost_name (with_group d))))) (Post v)
+      (sep 𝓤 (A.lft κ q) (sem 𝓛 (follows Hd R γ r.ghost_name (with_group d))))) (Post v)
   exits v r e =
       qed 𝓛 (‵ ((MutRef (named 0) κ R).own_val r (v ∷ [])) ∷ ‵ (flft κ q) ∷ ‵
-          (follows Hd R γ r.ghost_name (with_group d)) ∷ []) ∵
+      (follows Hd R γ r.ghost_name (with_group d)) ∷ []) ∵
       suffices ! _ (ends_at 𝓛 ended stayed c bound v r (tt, tt) (tt, tt)) $
       nothing ! $ nothing ! $ fjoin ! $ join ! $ nothing ! $ move ! (2 ∷ 0 ∷ []) $ join ! $ join ! $ frame ! $ says ! e
-          $ done !
+      $ done !
 
   walk : (C : Calls 𝓤 H) (Λ : Loops 𝓤 H)
       → ent 𝓤 (sep 𝓤 (sep 𝓤 (sep 𝓤 (A.lft κ q) (sem 𝓛 ftrue))
@@ -100,33 +100,37 @@ module _ {M : Type 1} {𝓤 : Ura M} (𝓛 : Logic 𝓤) (at_mem : Memory → SP
   walk C Λ =
       let fn : Fn = code.function in let k = Hd.coded.code d in
       qed 𝓛 (((‵ (flft κ q) ⊛ ‵ ftrue) ⊛ ‵ (owns (MutRef (named 0) κ Hd ∷ []) (self, tt) (vptr rb ro ∷ [], tt))) ∷ raw
-          (fact 𝓤 (IsSome d.inside)) ∷ []) ∵ move ! (1 ∷ []) $ heard ! (IsSome d.inside) (λ full.
+      (fact 𝓤 (IsSome d.inside)) ∷ []) ∵ move ! (1 ∷ []) $ heard ! (IsSome d.inside) (λ full.
       enter ! C Λ fn (vptr rb ro ∷ []) _ $ alloc_all ! (λ l. pass_all ! refl ((tt, tt), tt) $
       let En : Env 𝓤 H = env fn.locals l in
       split ! $ split ! $ move ! (2 ∷ []) $ fsplit ! $ fsplit3 ! $ drop ! $ move ! (0 ∷ 1 ∷ 3 ∷ []) $
       opens ! tt Hd {h = d} rb ro (λ vs. move ! (1 ∷ []) $ handle_out ! d vs
-          (λ h ws fits. in_it ! d.alloc d.at d.inside full (λ b o x e ei. fsplit ! $
+      (λ h ws fits. in_it ! d.alloc d.at d.inside full (λ b o x e ei. fsplit ! $
       -- [the end; the token; the allocator; the handle's word; the open borrow; obs; auth]
       rewrite ! 3 (λ (us : List Val). ‵ (cell_at full_share Hd.mir us rb ro)) (ws
-          ∙ ap (λ (p : Ptr). both (ptr_val p) h ∷ []) e) refl $
+      ∙ ap (λ (p : Ptr). both (ptr_val p) h ∷ []) e) refl $
       first ! $ blocks ! $
-      sets ! (of_opd ! (load ! (through ! refl (fld ! refl (stop !))) (look_in ! 3 (sub ! 0 refl (whole !))))) refl (tt,
-          tt) $ sets ! (of_opd ! (get ! refl)) refl (tt, tt) $
+      sets ! (of_opd ! (load ! (through ! refl (fld ! refl (stop !))) (look_in ! 3 (sub ! 0 refl (whole !))))) refl (
+        tt,
+        tt,
+      ) $ sets ! (of_opd ! (get ! refl)) refl (tt, tt) $
       sets_last ! (addr ! (through ! refl (stop !))) refl (tt, tt) $ exec ! C Λ En rest (at_ret En Post) $ sets !
-          (of_opd ! (get ! refl)) refl (tt, tt) $
+      (of_opd ! (get ! refl)) refl (tt, tt) $
       move ! (1 ∷ 2 ∷ []) $ fjoin ! $ move ! (0 ∷ 2 ∷ []) $ fjoin ! $ move ! (2 ∷ 3 ∷ 4 ∷ 1 ∷ 0 ∷ []) $ group ! 5 $
       use1 𝓛 (later (some (λ (δ : GName). raw (Part 𝓛 Hd R (with_group d) (named 0) κ q rb ro b o γ (sem 𝓛 (Rest b o h))
-          (back b o h e) x δ))))
+      (back b o h e) x δ))))
       (lends_Part 𝓛 Hd R (with_group d) (named 0) κ q rb ro b o γ (sem 𝓛 (Rest b o h)) (back b o h e) k k x) $ await !
-          tt $ pick ! (λ δ.
+      tt $ pick ! (λ δ.
       returns ! (look_at ! 0 refl) $ free_all ! refl $ keep ! (0 ∷ []) $ by !
-          (exits (vptr b o) (record { ref_ptr = (b, o); ghost_name = δ; now = x }) ei)))))))
+      (exits (vptr b o) (record { ref_ptr = (b, o); ghost_name = δ; now = x }) ei)))))))
 
 pub group_mut_spec : {M : Type 1} → statement M
 group_mut_spec 𝓤 𝓛 𝓜 𝓡 wired =
     let H = 𝓛.H in let 𝓣 = tables 𝓤 H 𝓜 𝓡 𝓡.env in
-    proved 𝓛 ended stayed (clauses 𝓛 𝓜.mem 𝓡.returns) 𝓜 𝓡 (Goes-spent_ref 𝓛 1 (0 ∷ []) tt (plain (λ _. Hd)),
-        tt) #self code.function (code.unfolded 𝓤 H 𝓜 𝓡 wired)
+    proved 𝓛 ended stayed (clauses 𝓛 𝓜.mem 𝓡.returns) 𝓜 𝓡 (
+      Goes-spent_ref 𝓛 1 (0 ∷ []) tt (plain (λ _. Hd)),
+      tt,
+    ) #self code.function (code.unfolded 𝓤 H 𝓜 𝓡 wired)
     (λ κs. (mut_vals, tt)) (λ κs. (mut_Tells (named 0) κs.0 Hd, tt))
-        (λ κs qs bounds a g are. walk 𝓛 𝓜.mem 𝓡.returns κs.0 qs.0 a.0.ref_ptr.0 a.0.ref_ptr.1 a.0.ghost_name a.0.now 𝓣.C
-        𝓣.Λ)
+    (λ κs qs bounds a g are. walk 𝓛 𝓜.mem 𝓡.returns κs.0 qs.0 a.0.ref_ptr.0 a.0.ref_ptr.1 a.0.ghost_name a.0.now 𝓣.C
+    𝓣.Λ)

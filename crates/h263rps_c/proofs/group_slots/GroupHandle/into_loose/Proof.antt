@@ -32,28 +32,28 @@ use Rattle.h263rps_c.proofs.group_slots.GroupHandle.into_loose.Code as code
 pub into_loose_spec : {M : Type 1} → statement M
 into_loose_spec 𝓤 𝓛 𝓜 𝓡 wired =
     let H = 𝓛.H in let 𝓣 = tables 𝓤 H 𝓜 𝓡 𝓡.env in let En = ended in let c = clauses 𝓛 𝓜.mem 𝓡.returns in
-        let fn = code.function in
+    let fn = code.function in
     let R : RattleType = held.the_row in let LZ = heap_laws.the_row_laws in
-        let L : RattleType = loose.the_row R Z ghosts in
+    let L : RattleType = loose.the_row R Z ghosts in
     let hs : Stays En.signature.params En.kept = (stay_dropped (plain (λ _. Hd)) yes, tt) in
     proved_at 𝓛 En hs c 𝓜 𝓡 (Goes-dropped 𝓛 0 (plain (λ _. Hd)) yes (λ κs x f. refl), tt) #self fn
-        (code.unfolded 𝓤 H 𝓜 𝓡 wired) (λ z are.
+    (code.unfolded 𝓤 H 𝓜 𝓡 wired) (λ z are.
     let v = z.0.3.0 in let a = v.alloc in let Post : Val → SProp 𝓤 = (walk_of 𝓛 En hs c).post z in let Run : List Val
-        → SProp 𝓤 = λ ws. WpFn 𝓤 H 𝓣.C 𝓣.Λ fn ws Post in
+    → SProp 𝓤 = λ ws. WpFn 𝓤 H 𝓣.C 𝓣.Λ fn ws Post in
     qed 𝓛 ((raw (alive 𝓛 En.signature z.0.0 z.0.1) ⊛ ‵ (owns (types_at En.signature.params z.0.0) z.0.3 z.0.4)) ∷ raw
-        (fact 𝓤 (IsSome v.inside)) ∷ []) ∵ move ! (1 ∷ []) $ heard ! (IsSome v.inside)
-        (λ full. split ! $ move ! (1 ∷ []) $ fsplit ! $ handle_out ! v z.0.4.0 (λ h ws fits.
+    (fact 𝓤 (IsSome v.inside)) ∷ []) ∵ move ! (1 ∷ []) $ heard ! (IsSome v.inside)
+    (λ full. split ! $ move ! (1 ∷ []) $ fsplit ! $ handle_out ! v z.0.4.0 (λ h ws fits.
     in_it ! v.alloc v.at v.inside full (λ b o x e ei.
     let w : Val = both (vptr b o) h in let typed = loose_good R Z LZ ghosts b o h fits in
     suffices ! (Run (w ∷ [])) (subst (λ (us : List Val). ent 𝓤 (Run (w ∷ [])) (Run us))
-        (sym (λ i. (ws ∙ ap (λ (p : Ptr). both (ptr_val p) h ∷ []) e) i ++ [])) (id⊢ 𝓤 (Run (w ∷ [])))) $
+    (sym (λ i. (ws ∙ ap (λ (p : Ptr). both (ptr_val p) h ∷ []) e) i ++ [])) (id⊢ 𝓤 (Run (w ∷ [])))) $
     enter ! 𝓣.C 𝓣.Λ fn (w ∷ []) Post $ alloc_all ! (λ l. pass_all ! refl (typed, tt) $ sets !
-        (of_opd ! (get_in ! (fld ! refl (stop !)) (sub ! 0 refl (whole !)))) refl (tt, tt) $ sets !
-        (of_opd ! (get_in ! (fld ! refl (stop !)) (sub ! 1 refl (whole !)))) refl fits $
+    (of_opd ! (get_in ! (fld ! refl (stop !)) (sub ! 0 refl (whole !)))) refl (tt, tt) $ sets !
+    (of_opd ! (get_in ! (fld ! refl (stop !)) (sub ! 1 refl (whole !)))) refl fits $
     sets ! (of_opd ! (get ! refl)) refl (tt, tt) $ sets !
-        (agg ! (and_then ! (get ! refl) (and_then ! (get ! refl) (no_more !)))) refl typed $
+    (agg ! (and_then ! (get ! refl) (and_then ! (get ! refl) (no_more !)))) refl typed $
     loose_in R Z LZ ghosts ! b o h a x $
     use0 𝓛 (raw (fact 𝓤 (v.inside ≡ Some x))) (fact_i 𝓤 (v.inside ≡ Some x) (emp 𝓤) ei) $ nothing ! $ nothing ! $ fjoin
-        ! $
+    ! $
     returns ! (look_at ! 0 refl) $ free_all ! refl $ keep ! (4 ∷ 0 ∷ 2 ∷ 1 ∷ []) $ by !
-        (leaves 𝓛 En hs c z w (record { at = block_ptr b o; alloc = a; value = x }) (tt, tt) (tt, tt)))))))
+    (leaves 𝓛 En hs c z w (record { at = block_ptr b o; alloc = a; value = x }) (tt, tt) (tt, tt)))))))

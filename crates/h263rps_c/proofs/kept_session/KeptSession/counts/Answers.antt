@@ -10,4 +10,4 @@ pub returns : goal.returns
 returns c = λ s past held.
     let h = same c.self.inside.session c.args.self.now s past c.self.view_is held in
     c.of.ensures ∙ ap counts_numbers (by_settings (λ (s : Settings) (past : List Entry). c.statistics.result
-        ≡ (state_after s past).counts) c.self.inside.session s past c.statistics.ensures h)
+    ≡ (state_after s past).counts) c.self.inside.session s past c.statistics.ensures h)

@@ -12,4 +12,4 @@ pub returns : goal.returns
 returns c = λ s past held.
     let h = same c.self.inside.session c.args.self.now s past c.self.view_is held in
     c.time_or_never.ensures ∙ ap time_or_never (by_settings (λ (s : Settings) (past : List Entry). c.due.result
-        ≡ due_next (config_in s) (state_after s past).follows) c.self.inside.session s past c.due.ensures h)
+    ≡ due_next (config_in s) (state_after s past).follows) c.self.inside.session s past c.due.ensures h)

@@ -11,8 +11,8 @@ pub returns-clause-answer : goal.returns-clause-answer
 returns-clause-answer c = λ s past held.
     let x = c.self.inside.session in let h = same x c.args.self.now s past c.self.view_is held in
     c.of.ensures ∙ ap nack_numbers (by_settings (λ (s : Settings) (past : List Entry). c.missing.result
-        ≡ missing_at (config_in s) c.args.round_trip (at c.args.now (state_after s past))) x s past
-        c.missing.ensures.answer h)
+    ≡ missing_at (config_in s) c.args.round_trip (at c.args.now (state_after s past))) x s past
+    c.missing.ensures.answer h)
 
 pub returns-clause-stands : goal.returns-clause-stands
 returns-clause-stands c = λ s past held.

@@ -15,12 +15,15 @@ pub returns-clause-answer : goal.returns-clause-answer
 returns-clause-answer c = λ s past held.
     let x = c.self.inside.session in let h = same x c.args.self.now s past c.self.view_is held in
     let st = at c.args.now (state_after s past) in let run = played_run (config_in s) st in
-        let then = Turn c.args.now ∷ past in
+    let then = Turn c.args.now ∷ past in
     let played = by_settings (λ (s : Settings) (past : List Entry). IsRunPlayed (config_in s)
-        (at c.args.now (state_after s past)) (played_run (config_in s) (at c.args.now (state_after s past)))
-        c.play.result) x s past c.play.ensures.told h in
-    let holds : HoldsSession s then (Some c.play.new.self) = (c.play.ensures.settings
-        ∙ h.0, c.play.ensures.stands past h.1) in
+    (at c.args.now (state_after s past)) (played_run (config_in s) (at c.args.now (state_after s past)))
+    c.play.result) x s past c.play.ensures.told h in
+    let holds : HoldsSession s then (Some c.play.new.self) = (
+      c.play.ensures.settings
+          ∙ h.0,
+      c.play.ensures.stands past h.1,
+    ) in
     record {
       told = c.play.result;
       is_played = played;
@@ -30,11 +33,11 @@ returns-clause-answer c = λ s past held.
         | in-Some w ↦
             let turn = w.in-Some.turn in
             let named = by_settings (λ (s : Settings) (past : List Entry). w.source.result
-                ≡ source_after s past turn.run) c.play.new.self s then w.source.ensures holds in
+            ≡ source_after s past turn.run) c.play.new.self s then w.source.ensures holds in
             let of = run_played (config_in s) st run turn
-                (subst (λ (o : Option RunPlayed). IsRunPlayed (config_in s) st run o) w.in-Some.is played) in
+            (subst (λ (o : Option RunPlayed). IsRunPlayed (config_in s) st run o) w.in-Some.is played) in
             w.result-is ∙ w.of.ensures ∙ ap (turn_numbers turn) (w.number_or_zero.ensures ∙ ap number_or_zero named
-                ∙ ap (source_of s then) (sym of))
+            ∙ ap (source_of s then) (sym of))
             ∙ ap (λ (o : Option RunPlayed). numbers_of_turn o (source_of s then run)) (sym w.in-Some.is)
       ];
     }

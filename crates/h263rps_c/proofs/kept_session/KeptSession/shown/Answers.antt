@@ -13,8 +13,8 @@ pub returns : goal.returns
 returns c = λ s past held.
     let x = c.self.inside.session in let h = same x c.args.self.now s past c.self.view_is held in
     let is : picture c.shown.result
-        ≡ screen_after s past = by_settings (λ (s : Settings) (past : List Entry). picture c.shown.result
-        ≡ screen_after s past) x s past c.shown.ensures.run h in (
+    ≡ screen_after s past = by_settings (λ (s : Settings) (past : List Entry). picture c.shown.result
+    ≡ screen_after s past) x s past c.shown.ensures.run h in (
       c.bytes.ensures ∙ ap bytes_of is,
       ap length c.bytes.ensures ∙ c.planes_are_bytes.ensures.size (picture c.shown.result) c.shown.ensures.whole.whole
           ∙ ap (λ (p : Picture). size_of_picture p.format) is,

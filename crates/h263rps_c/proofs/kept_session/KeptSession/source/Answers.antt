@@ -9,4 +9,4 @@ pub returns : goal.returns
 returns c = λ s past held.
     let h = same c.self.inside.session c.args.self.now s past c.self.view_is held in
     by_settings (λ (s : Settings) (past : List Entry). c.source.result
-        ≡ source_after s past c.args.run) c.self.inside.session s past c.source.ensures h
+    ≡ source_after s past c.args.run) c.self.inside.session s past c.source.ensures h

@@ -19,20 +19,20 @@ returns-in-Some-clause-gives g c = λ rest told.
 pub returns-in-End-clause-gives : goal.returns-in-End-clause-gives
 returns-in-End-clause-gives g c = λ rest told.
     let b = subst (λ (x : Came). CameOf x rest c.read_line.new.line
-        ((g.D.Desk.outside c.read_line.new.desk).left Events)) c.in-End.is (c.in_ok-read_line.ensures.told rest told) in
+    ((g.D.Desk.outside c.read_line.new.desk).left Events)) c.in-End.is (c.in_ok-read_line.ensures.told rest told) in
     (b.1 ∙ ap (λ (l : List ℕ). Some l) (sym b.0), λ _. b.0)
 
 pub returns-in-Closed-clause-gives : goal.returns-in-Closed-clause-gives
 returns-in-Closed-clause-gives g c = λ rest told.
     subst (λ (x : Came). CameOf x rest c.read_line.new.line ((g.D.Desk.outside c.read_line.new.desk).left Events))
-        c.in-Closed.is (c.in_ok-read_line.ensures.told rest told)
+    c.in-Closed.is (c.in_ok-read_line.ensures.told rest told)
 
 pub returns-in-Open-clause-gives : goal.returns-in-Open-clause-gives
 returns-in-Open-clause-gives g c = λ rest told.
     subst (λ (x : Came). CameOf x rest c.read_line.new.line ((g.D.Desk.outside c.read_line.new.desk).left Events))
-        c.in-Open.is (c.in_ok-read_line.ensures.told rest told)
+    c.in-Open.is (c.in_ok-read_line.ensures.told rest told)
 
 pub returns-in-Long-clause-gives : goal.returns-in-Long-clause-gives
 returns-in-Long-clause-gives g c = λ rest told.
     subst (λ (x : Came). CameOf x rest c.read_line.new.line ((g.D.Desk.outside c.read_line.new.desk).left Events))
-        c.in-Long.is (c.in_ok-read_line.ensures.told rest told)
+    c.in-Long.is (c.in_ok-read_line.ensures.told rest told)

@@ -8,27 +8,29 @@ use Rattle.loss_trace.proofs.reader.TraceReader.next.Goals as goal
 pub returns-in_err-fetched-clause-gives : goal.returns-in_err-fetched-clause-gives
 returns-in_err-fetched-clause-gives g c = λ rest told.
     event_stopped c.args.self.now rest c.fetch.new.buf _ c.from_residual.result c.in_err-fetched.field-0.0
-        c.from_residual.ensures.1 (c.in_err-fetched.ensures.gives rest told)
+    c.from_residual.ensures.1 (c.in_err-fetched.ensures.gives rest told)
 
 pub returns-in_default-clause-gives : goal.returns-in_default-clause-gives
 returns-in_default-clause-gives g c = λ rest told.
     subst (λ (o : Option Fetched). FetchGives (Ok o) c.args.self.now rest c.fetch.new.buf
-        ((g.D.Desk.outside c.fetch.new.desk).left Events)) c.in_default.is (c.in_ok-fetched.ensures.gives rest told)
+    ((g.D.Desk.outside c.fetch.new.desk).left Events)) c.in_default.is (c.in_ok-fetched.ensures.gives rest told)
 
 pub returns-in_default-line-clause-gives : goal.returns-in_default-line-clause-gives
 returns-in_default-line-clause-gives g c = λ rest told.
     let line = c.in-Some.fetched in
     let h = found_of c.args.self.now rest c.fetch.new.buf _ c.in_ok-fetched.field-0 line c.in-Some.is
-        (c.in_ok-fetched.ensures.gives rest told) in
+    (c.in_ok-fetched.ensures.gives rest told) in
     let within = subst (λ (o : Option Fetched). IfSome o (λ line. line.len ≤ 64)) c.in-Some.is
-        c.in_ok-fetched.ensures.within in
-    (says rest c.fetch.new.buf line.len _ h.0 None c.in_default-line.ensures,
-        taken rest c.fetch.new.buf line.len _ h.0 within)
+    c.in_ok-fetched.ensures.within in (
+      says rest c.fetch.new.buf line.len _ h.0 None c.in_default-line.ensures,
+      taken rest c.fetch.new.buf line.len _ h.0 within,
+    )
 
 pub returns-clause-gives : goal.returns-clause-gives
 returns-clause-gives g c = λ rest told.
     let line = c.in-Some.fetched in
     let h = found_of c.args.self.now rest c.fetch.new.buf _ c.in_ok-fetched.field-0 line c.in-Some.is
-        (c.in_ok-fetched.ensures.gives rest told) in
-    (passes rest c.fetch.new.buf line.len _ h.0 c.pass.new.self line.closed h.1 c.pass.ensures.ended,
-        says rest c.fetch.new.buf line.len _ h.0 (Some c.in-Ok.event) c.in-Ok.ensures)
+    (c.in_ok-fetched.ensures.gives rest told) in (
+      passes rest c.fetch.new.buf line.len _ h.0 c.pass.new.self line.closed h.1 c.pass.ensures.ended,
+      says rest c.fetch.new.buf line.len _ h.0 (Some c.in-Ok.event) c.in-Ok.ensures,
+    )

@@ -13,11 +13,11 @@ returns c =
     let state : c.draw.new.self.state ≡ next_state m.state = ap (λ (x : TraceMaker). x.state) c.draw.ensures.state in
     let arrive : one_or_none new.first ++ one_or_none new.second ≡ deliveries m.number c.draw.result =
     ap (λ (o : Option Event). one_or_none o ++ one_or_none new.second) p.rest.2
-        ∙ ap (λ (o : Option Event). one_or_none c.deliveries-first.result.0 ++ one_or_none o) p.rest.3
-        ∙ c.deliveries-first.ensures in
+    ∙ ap (λ (o : Option Event). one_or_none c.deliveries-first.result.0 ++ one_or_none o) p.rest.3
+    ∙ c.deliveries-first.ensures in
     begun m.first m.second m.play m.back m.last new.first new.second new.play new.back new.last m.frames m.number
-        m.state new.frames new.state c.draw.result
+    m.state new.frames new.state c.draw.result
     c.requires.some c.requires.first c.requires.second c.requires.play c.requires.back c.draw.ensures.drawn arrive
-        (p.plays ∙ ap (plays m.number) state) (p.state ∙ ap (after_plays m.number) state)
+    (p.plays ∙ ap (plays m.number) state) (p.state ∙ ap (after_plays m.number) state)
     (p.rest.1 ∙ ap (λ (x : TraceMaker). x.frames) c.draw.ensures.state) (p.rest.4
-        ∙ ap (λ (x : TraceMaker). x.last) c.draw.ensures.state)
+    ∙ ap (λ (x : TraceMaker). x.last) c.draw.ensures.state)

@@ -42,10 +42,10 @@ returns-in_default-clause-holds c = λ p receiver before frames past in_range pa
     let said = h.messages_are in
     let all = (both_after p (steady p) frames before past).said in
     let long : length said.pairs ≡ length all = sym (as_many told_in said.pairs)
-        ∙ ap (λ (l : List SaidMessage). length l) said.same in
+    ∙ ap (λ (l : List SaidMessage). length l) said.same in
     let kept = message_kept p in_range (c.near_event_laws.ensures p in_range) c.args.self.now c.args.sender.now receiver
-        before frames past begun h k near in
+    before frames past begun h k near in
     let x = some_at said.pairs k (omega (arith, below all k near.0 near.1, long)) in
     let here : message_at said.pairs k ≡ Some x.0 = ap (λ (b : Bool). if b then slice_get said.pairs k else None)
-        (le-leb (length said.pairs) (k + 1024) kept) ∙ x.1 in
+    (le-leb (length said.pairs) (k + 1024) kept) ∙ x.1 in
     absurd (cc (c.in_default.is, here, c.get.ensures said.pairs said.holds))

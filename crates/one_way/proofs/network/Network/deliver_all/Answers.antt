@@ -28,32 +28,38 @@ packets-preserved c = record {
       let begun = receiver_end.run_of p before in
       let same = sender_delivered (coding p) (rules_of p) begun (steady p) frames n i past in
       let coded : length (both_after p (steady p) frames before (delivered n i ++ past)).sender.coded
-          ≡ length w.sender.coded =
+      ≡ length w.sender.coded =
       ap (λ (run : SenderRun Style Mb Picture). length run.coded) same
       in
       let played = played_delivered (coding p) (rules_of p) begun (steady p) frames n i past in
-      let here : MayHappenNow p before frames (delivered n i ++ past) (Deliver n i) = (omega (arith, near.0, coded),
-          omega (arith, near.1, played)) in
+      let here : MayHappenNow p before frames (delivered n i ++ past) (Deliver n i) = (
+        omega (arith, near.0, coded),
+        omega (arith, near.1, played),
+      ) in
       let there : IsAmongLast (way_of c.packets.self) (length (both_after p (steady p) frames before (delivered n i
-          ++ past)).sender.coded) n =
+      ++ past)).sender.coded) n =
       subst (λ (way : Way). IsAmongLast way (length (both_after p (steady p) frames before (delivered n i
-          ++ past)).sender.coded) n) (sym c.packets.invariant.way)
+      ++ past)).sender.coded) n) (sym c.packets.invariant.way)
       (subst (λ (run : SenderRun Style Mb Picture). IsAmongLast (way_of c.args.self.now) (length run.coded) n)
-          (sym same) among)
+      (sym same) among)
       in
       let next : suc i ≡ i + 1 = omega arith in
       subst (λ (k : ℕ). HoldsNetwork p c.deliver.new.self sender c.deliver.new.receiver before frames (delivered n k
-          ++ past)) next
+      ++ past)) next
       (c.deliver.ensures.holds p sender before frames (delivered n i
-          ++ past) (c.packets.invariant.holds p sender before frames past h among near) there here);
+      ++ past) (c.packets.invariant.holds p sender before frames past h among near) there here);
 }
 
 pub returns-clause-holds : goal.returns-clause-holds
 returns-clause-holds c = λ p sender before frames past h among near.
     let n = c.args.number in
     let all : c.packets.place ≡ length (slices_at (both_after p (steady p) frames before past).sender.coded n) =
-    omega (arith, c.packets-test.false, c.packets.auto.place-end,
-        c.count-count.ensures.slices p sender c.args.receiver.now before frames past h.way_holds among)
+    omega (
+      arith,
+      c.packets-test.false,
+      c.packets.auto.place-end,
+      c.count-count.ensures.slices p sender c.args.receiver.now before frames past h.way_holds among,
+    )
     in
     subst (λ (k : ℕ). HoldsNetwork p c.packets.self sender c.packets.receiver before frames (delivered n k ++ past)) all
     (c.packets.invariant.holds p sender before frames past h among near)

@@ -9,7 +9,7 @@ returns-clause-holds c = λ p sender before frames past h near.
     let played = c.play-played.ensures in
     let said = (both_after p (steady p) frames before past).said in
     let number : said ++ told_by c.play-played.result.number c.play-played.result.message ≡ said
-        ++ told_by c.args.receiver.now.played c.play-played.result.message =
+    ++ told_by c.args.receiver.now.played c.play-played.result.message =
     ap (λ (n : ℕ). said ++ told_by n c.play-played.result.message) c.play-played.ensures.number
     in
     record {

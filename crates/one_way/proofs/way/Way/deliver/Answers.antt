@@ -30,12 +30,12 @@ returns-in_default-clause-holds c = λ p sender before frames past h among near.
     let none : slice_get (call.packets_of (encoding p) (rules_of p) coded n) c.args.place ≡ None =
     ap (λ (l : List (List ℕ)). slice_get l c.args.place) (sym (kept_is p c.args.self.now coded n h.packets among))
     ∙ sym (c.packet.ensures h.packets.pictures h.packets.keeps)
-        ∙ ap (λ o. option_map (λ packet. packet.now) o) c.in_default.is
+    ∙ ap (λ o. option_map (λ packet. packet.now) o) c.in_default.is
     in
     holds_packet p c.args.self.now sender c.args.receiver.now before frames past h c.args.receiver.now n c.args.place
-        near
+    near
     (after_none p (c.ends_run.ensures p) (steady p) sender c.args.receiver.now frames before past h.joined n
-        c.args.place none)
+    c.args.place none)
 
 pub returns-in_default-clause-says : goal.returns-in_default-clause-says
 returns-in_default-clause-says c = λ p sender before frames past h among.
@@ -43,12 +43,12 @@ returns-in_default-clause-says c = λ p sender before frames past h among.
     let n = c.args.number in
     let none : slice_get (call.packets_of (encoding p) (rules_of p) w.sender.coded n) c.args.place ≡ None =
     ap (λ (l : List (List ℕ)). slice_get l c.args.place)
-        (sym (kept_is p c.args.self.now w.sender.coded n h.packets among))
+    (sym (kept_is p c.args.self.now w.sender.coded n h.packets among))
     ∙ sym (c.packet.ensures h.packets.pictures h.packets.keeps)
-        ∙ ap (λ o. option_map (λ packet. packet.now) o) c.in_default.is
+    ∙ ap (λ o. option_map (λ packet. packet.now) o) c.in_default.is
     in
     ap (λ (o : Option (List ℕ)). (option_map_or (after_bytes (coding p) (rules_of p) w n) o w).said) none
-        ∙ sym (append-nil w.said)
+    ∙ sym (append-nil w.said)
 
 -- the packet is delivered
 pub returns-clause-holds : goal.returns-clause-holds
@@ -58,14 +58,14 @@ returns-clause-holds c = λ p sender before frames past h among near.
     let there : slice_get (call.packets_of (encoding p) (rules_of p) coded n) c.args.place ≡ Some c.in-Some.bytes.now =
     ap (λ (l : List (List ℕ)). slice_get l c.args.place) (sym (kept_is p c.args.self.now coded n h.packets among))
     ∙ sym (c.packet.ensures h.packets.pictures h.packets.keeps)
-        ∙ ap (λ o. option_map (λ packet. packet.now) o) c.in-Some.is
+    ∙ ap (λ o. option_map (λ packet. packet.now) o) c.in-Some.is
     in
     holds_packet p c.args.self.now sender c.args.receiver.now before frames past h c.packet-heard.new.self n
-        c.args.place near
+    c.args.place near
     (after_packet p (c.ends_run.ensures p) (steady p) sender c.args.receiver.now frames before past h.joined
-        c.packet-heard.new.self n c.args.place c.in-Some.bytes.now
+    c.packet-heard.new.self n c.args.place c.in-Some.bytes.now
     c.packet-heard.ensures.params there (c.packet-heard.ensures.stands (heard_in p (steady p) frames before past)
-        h.joined.receives))
+    h.joined.receives))
 
 pub returns-clause-says : goal.returns-clause-says
 returns-clause-says c = λ p sender before frames past h among.
@@ -74,26 +74,26 @@ returns-clause-says c = λ p sender before frames past h among.
     let bytes = c.in-Some.bytes.now in
     let there : slice_get (call.packets_of (encoding p) (rules_of p) w.sender.coded n) c.args.place ≡ Some bytes =
     ap (λ (l : List (List ℕ)). slice_get l c.args.place)
-        (sym (kept_is p c.args.self.now w.sender.coded n h.packets among))
+    (sym (kept_is p c.args.self.now w.sender.coded n h.packets among))
     ∙ sym (c.packet.ensures h.packets.pictures h.packets.keeps)
-        ∙ ap (λ o. option_map (λ packet. packet.now) o) c.in-Some.is
+    ∙ ap (λ o. option_map (λ packet. packet.now) o) c.in-Some.is
     in
     let answer = heard (decoding p.format) (rules_of p) w.receiver ((decoding p.format).read bytes) in
     let heard_so = packet_answer p (c.ends_run.ensures p) (steady p) sender c.args.receiver.now frames before past
-        h.joined c.packet-heard.result bytes
+    h.joined c.packet-heard.result bytes
     (c.packet-heard.ensures.answer (heard_in p (steady p) frames before past) h.joined.receives)
     in
     let says : IsMessage p.clock c.message.result (said_by answer) =
     subst (λ (o : Option Said). IsMessage p.clock o (said_by answer)) (sym c.message.ensures)
-        (c.answers_say.ensures p.clock c.packet-heard.result answer heard_so)
+    (c.answers_say.ensures p.clock c.packet-heard.result answer heard_so)
     in
     let fit : IfSome c.message.result (λ said. AreBytes (text_of said)) =
     subst (λ (o : Option Said). IfSome o (λ said. AreBytes (text_of said))) c.as_said.ensures.same
-        c.as_said.ensures.bytes
+    c.as_said.ensures.bytes
     in
     let told : told_by n c.as_said.result ≡ told_of n (said_by answer) =
     ap (told_by n) c.as_said.ensures.same
-        ∙ told_is (c.message_laws.ensures p).said p.clock n c.message.result (said_by answer) says fit
+    ∙ told_is (c.message_laws.ensures p).said p.clock n c.message.result (said_by answer) says fit
     in
     ap (λ (o : Option (List ℕ)). (option_map_or (after_bytes (coding p) (rules_of p) w n) o w).said) there
     ∙ ap (λ (l : List SaidMessage). w.said ++ l) (heard_told n answer ∙ sym told)

@@ -16,7 +16,7 @@ use Rattle.one_way.proofs.way.Way.play.Goals as goal
 pub returns-clause-mark : goal.returns-clause-mark
 returns-clause-mark c = λ p sender before frames past h.
     (play_told p (c.ends_run.ensures p) (steady p) sender c.args.receiver.now frames before past h.joined
-        c.play-played.result
+    c.play-played.result
     (c.play-played.ensures.told (heard_in p (steady p) frames before past) h.joined.receives)).mark_is
 
 pub returns-clause-way : goal.returns-clause-way
@@ -39,11 +39,11 @@ returns-clause-holds c = λ p sender before frames past h near.
     let runs = c.ends_run.ensures p in
     let entries = heard_in p (steady p) frames before past in
     let told = play_told p runs (steady p) sender c.args.receiver.now frames before past h.joined c.play-played.result
-        (c.play-played.ensures.told entries h.joined.receives) in
+    (c.play-played.ensures.told entries h.joined.receives) in
     holds_play p c.args.self.now sender c.args.receiver.now before frames past h c.play-played.new.self c.count.new.self
-        c.play-played.result.mark near
+    c.play-played.result.mark near
     (after_play p runs (steady p) sender c.args.receiver.now frames before past h.joined c.play-played.new.self
-        c.play-played.ensures.params (c.play-played.ensures.stands entries h.joined.receives))
+    c.play-played.ensures.params (c.play-played.ensures.stands entries h.joined.receives))
     c.count.ensures.value told.mark_is
 
 pub returns-clause-says : goal.returns-clause-says
@@ -55,17 +55,17 @@ returns-clause-says c = λ p sender before frames past h.
     (c.play-played.ensures.told (heard_in p (steady p) frames before past) h.joined.receives)
     in
     let number : c.args.receiver.now.played ≡ w.receiver.played = played_is p runs (steady p) sender c.args.receiver.now
-        frames before past h.joined in
+    frames before past h.joined in
     let fit : IfSome c.play-played.result.message (λ said. AreBytes (text_of said)) =
     subst (λ (o : Option Said). IfSome o (λ said. AreBytes (text_of said))) c.as_said.ensures.same
-        c.as_said.ensures.bytes
+    c.as_said.ensures.bytes
     in
     ap (λ (n : ℕ). w.said ++ told_of n message) (sym number)
     ∙ ap (λ (l : List SaidMessage). w.said ++ l)
     (sym (told_is (c.message_laws.ensures p).said p.clock c.args.receiver.now.played c.play-played.result.message
-        message told.message_is fit))
+    message told.message_is fit))
 
 pub returns-clause-bytes : goal.returns-clause-bytes
 returns-clause-bytes c =
     subst (λ (o : Option Said). IfSome o (λ said. AreBytes (text_of said))) c.as_said.ensures.same
-        c.as_said.ensures.bytes
+    c.as_said.ensures.bytes

@@ -23,7 +23,7 @@ returns c = λ p sender receiver before frames past begun h is ahead.
     let sent = sent_is p runs (steady p) sender receiver frames before past h.joined in
     let played = played_is p runs (steady p) sender receiver frames before past h.joined in
     let counts = counts_near (coding p) (rules_of p) (receiver_end.run_of p before) (steady p) frames begun past h.near
-        in
+    in
     c.get.ensures (map references_of coded) h.references (omega (arith, is, ahead, sent, long))
-        (omega (arith, is, played, long, counts.1, half_few p.clock))
+    (omega (arith, is, played, long, counts.1, half_few p.clock))
     ∙ noted_is coded c.args.number

@@ -22,11 +22,11 @@ keep_packets-requires-clause-room c =
     let params = c.code-coded.ensures.params in
     let in_range = subst IsParams (sym params) can.in_range in
     let standing = standing_so old new can.quant_is can.standing
-        (Capture (carrying (picture c.args.frame) c.args.back.now)) params c.code-coded.ensures.stands in
+    (Capture (carrying (picture c.args.frame) c.args.back.now)) params c.code-coded.ensures.stands in
     roomy new (c.packet_laws.ensures new.params in_range) (steady_is new.params in_range) standing
-        c.args.self.now.packets
+    c.args.self.now.packets
     (can.room ∙ ap (λ (p : Params). 1200 * mbs_of p.format) (sym params)) (can.most
-        ∙ ap (λ (p : Params). mbs_of p.format) (sym params))
+    ∙ ap (λ (p : Params). mbs_of p.format) (sym params))
 
 pub keep_packets-requires-clause-few : goal.keep_packets-requires-clause-few
 keep_packets-requires-clause-few c = omega (arith, c.requires.ready.begun, c.requires.left)
@@ -36,12 +36,16 @@ returns-clause-ready c =
     let can = c.requires.ready in
     let capture = c.code-coded in
     let kept = c.keep_packets.ensures in
-    can_send c.args.self.now (record c.args.self.now { packets = c.keep_packets.new.packets;
-        references = c.note.new.self })
+    can_send c.args.self.now (record c.args.self.now {
+      packets = c.keep_packets.new.packets;
+      references = c.note.new.self;
+    })
     c.args.sender.now capture.new.self can (Capture (carrying (picture c.args.frame) c.args.back.now))
-        capture.ensures.params capture.ensures.pace capture.ensures.stands kept.sizes.room_is kept.sizes.most_is
-    (record { pictures = can.keeping.pictures ++ capture.new.self.packets ∷ [];
-        keeps = kept.kept can.keeping.pictures can.keeping.keeps })
+    capture.ensures.params capture.ensures.pace capture.ensures.stands kept.sizes.room_is kept.sizes.most_is
+    (record {
+      pictures = can.keeping.pictures ++ capture.new.self.packets ∷ [];
+      keeps = kept.kept can.keeping.pictures can.keeping.keeps;
+    })
     (omega (arith, kept.begun, can.begun, capture.ensures.sent))
 
 pub returns-clause-holds : goal.returns-clause-holds
@@ -59,16 +63,16 @@ returns-clause-holds c = λ p receiver before frames past h at near.
     (tells_so p quant same old frame c.code-coded.result c.code-coded.ensures.tells entries h.joined.sends)
     in
     let joined = after_send p runs (steady p) old receiver frames before past h.joined new frame
-        c.code-coded.ensures.params at
+    c.code-coded.ensures.params at
     (stands_so p quant same old new (Capture frame) c.code-coded.ensures.stands entries h.joined.sends)
     in
     let notes : (list : List (Option ℕ)) → AreNoted c.args.self.now.references list → length coded ≡ length list
-        → AreNoted c.note.new.self (list ++ next.reference ∷ []) =
+    → AreNoted c.note.new.self (list ++ next.reference ∷ []) =
     λ list noted long. subst (λ (r : Option ℕ). AreNoted c.note.new.self (list ++ r ∷ [])) tells.reference
-        (c.note.ensures list noted (c.sent-number.ensures.value
-        ∙ sent_is p runs (steady p) old receiver frames before past h.joined ∙ long))
+    (c.note.ensures list noted (c.sent-number.ensures.value
+    ∙ sent_is p runs (steady p) old receiver frames before past h.joined ∙ long))
     in
     holds_send p c.args.self.now old receiver before frames past h runs new frame c.keep_packets.new.packets
-        c.note.new.self near
+    c.note.new.self near
     (ap (λ (k : ℕ). slice_get frames k) (sym (sent_is p runs (steady p) old receiver frames before past h.joined)) ∙ at)
     joined c.keep_packets.ensures.kept notes c.code-coded.ensures.sent

@@ -9,8 +9,8 @@ use Rattle.packet_collector.proofs.collector.Collector.place.Goals as goal
 pub returns-then-not-fits-clause-place : goal.returns-then-not-fits-clause-place
 returns-then-not-fits-clause-place c = λ first taken so.
     other taken c.args.number (header_in c.args.self.now c.args.number) c.args.piece.now.header
-        (so.headers c.args.number c.requires.row)
-        (λ fits. clash c.fits.result (c.fits.ensures.1 fits) c.if-not-fits.true)
+    (so.headers c.args.number c.requires.row)
+    (λ fits. clash c.fits.result (c.fits.ensures.1 fits) c.if-not-fits.true)
 
 pub returns-then-all-clause-place : goal.returns-then-all-clause-place
 returns-then-all-clause-place c = λ first taken so.
@@ -18,18 +18,21 @@ returns-then-all-clause-place c = λ first taken so.
     let n = c.args.number in
     let p = c.args.piece.now in
     let all = ap (list_all (λ mark. mark)) c.marks_of-marks.ensures ∙ all_kept self n p.head c.requires.head
-        ∙ all_is self n p.head c.requires.head first taken so c.requires.row in
-    (no_other taken n (header_in self n) p.header (so.headers n c.requires.row) (c.fits.ensures.0 c.if-not-fits.false),
-        sym (c.all.ensures ∙ all) ∙ c.if-all.true)
+    ∙ all_is self n p.head c.requires.head first taken so c.requires.row in (
+      no_other taken n (header_in self n) p.header (so.headers n c.requires.row) (c.fits.ensures.0 c.if-not-fits.false),
+      sym (c.all.ensures ∙ all) ∙ c.if-all.true,
+    )
 
 pub returns-then-all-clause-fresh : goal.returns-then-all-clause-fresh
 returns-then-all-clause-fresh c =
     let self = c.args.self.now in
     let head = c.args.piece.now.head in
     let all = ap (list_all (λ mark. mark)) c.marks_of-marks.ensures
-        ∙ all_kept self c.args.number head c.requires.head in
-    (λ e. absurd cc, λ is. absurd (not_both_kept self c.args.number head c.requires.head (sym (c.all.ensures ∙ all)
-        ∙ c.if-all.true) is.none))
+    ∙ all_kept self c.args.number head c.requires.head in (
+      λ e. absurd cc,
+      λ is. absurd (not_both_kept self c.args.number head c.requires.head (sym (c.all.ensures ∙ all)
+          ∙ c.if-all.true) is.none),
+    )
 
 pub returns-then-none-clause-place : goal.returns-then-none-clause-place
 returns-then-none-clause-place c = λ first taken so.
@@ -37,9 +40,9 @@ returns-then-none-clause-place c = λ first taken so.
     let n = c.args.number in
     let p = c.args.piece.now in
     let all = ap (list_all (λ mark. mark)) c.marks_of-marks.ensures ∙ all_kept self n p.head c.requires.head
-        ∙ all_is self n p.head c.requires.head first taken so c.requires.row in
+    ∙ all_is self n p.head c.requires.head first taken so c.requires.row in
     let none = ap (list_all not) c.marks_of-marks.ensures ∙ none_kept self n p.head c.requires.head
-        ∙ none_is self n p.head c.requires.head first taken so c.requires.row in (
+    ∙ none_is self n p.head c.requires.head first taken so c.requires.row in (
       no_other taken n (header_in self n) p.header (so.headers n c.requires.row) (c.fits.ensures.0 c.if-not-fits.false),
       sym (c.all.ensures ∙ all) ∙ c.if-all.false,
       sym (c.none.ensures ∙ none) ∙ c.if-none.true,
@@ -49,9 +52,14 @@ pub returns-then-none-clause-fresh : goal.returns-then-none-clause-fresh
 returns-then-none-clause-fresh c =
     let self = c.args.self.now in
     let head = c.args.piece.now.head in
-    let none = ap (list_all not) c.marks_of-marks.ensures ∙ none_kept self c.args.number head c.requires.head in
-    (λ e. record { header = c.fits.ensures.0 c.if-not-fits.false; none = sym (c.none.ensures ∙ none) ∙ c.if-none.true },
-        λ is. refl)
+    let none = ap (list_all not) c.marks_of-marks.ensures ∙ none_kept self c.args.number head c.requires.head in (
+      λ e. record {
+        header = c.fits.ensures.0 c.if-not-fits.false;
+        none = sym (c.none.ensures ∙ none)
+            ∙ c.if-none.true;
+      },
+      λ is. refl,
+    )
 
 pub returns-clause-place : goal.returns-clause-place
 returns-clause-place c = λ first taken so.
@@ -59,9 +67,9 @@ returns-clause-place c = λ first taken so.
     let n = c.args.number in
     let p = c.args.piece.now in
     let all = ap (list_all (λ mark. mark)) c.marks_of-marks.ensures ∙ all_kept self n p.head c.requires.head
-        ∙ all_is self n p.head c.requires.head first taken so c.requires.row in
+    ∙ all_is self n p.head c.requires.head first taken so c.requires.row in
     let none = ap (list_all not) c.marks_of-marks.ensures ∙ none_kept self n p.head c.requires.head
-        ∙ none_is self n p.head c.requires.head first taken so c.requires.row in (
+    ∙ none_is self n p.head c.requires.head first taken so c.requires.row in (
       no_other taken n (header_in self n) p.header (so.headers n c.requires.row) (c.fits.ensures.0 c.if-not-fits.false),
       sym (c.all.ensures ∙ all) ∙ c.if-all.false,
       sym (c.none.ensures ∙ none) ∙ c.if-none.false,

@@ -9,4 +9,4 @@ returns-clause-empty c =
     let headers = with_items_is self.headers.items c.fill.new.self (c.fill.ensures.len ∙ c.deref_mut.ensures.len) in
     let marks = with_items_is self.marks.items c.fill-2.new.self (c.fill-2.ensures.len ∙ c.deref_mut-2.ensures.len) in
     starts _ c.args.first _ _ refl (headers ∙ c.fill.ensures.after (λ y is. search rules)) (marks
-        ∙ c.fill-2.ensures.after (λ y is. is))
+    ∙ c.fill-2.ensures.after (λ y is. is))

@@ -23,8 +23,8 @@ returns c = λ first taken so.
     let head : SliceHead = record { first = 0; count = mbs_of self.format } in
     let is = whole_head self.format in
     let marks : c.marks_of.result.now ≡ marks_of self n head = c.marks_of.ensures
-        ∙ ap (λ (count : ℕ). take count (drop (place_in self n * mbs_of self.format + 0) self.marks.items.items))
-        c.mbs.ensures in
+    ∙ ap (λ (count : ℕ). take count (drop (place_in self n * mbs_of self.format + 0) self.marks.items.items))
+    c.mbs.ensures in
     c.all.ensures ∙ ap (list_all (λ mark. mark)) marks ∙ all_kept self n head is
-        ∙ all_is self n head is first taken so c.requires
+    ∙ all_is self n head is first taken so c.requires
     ∙ all_same (mbs_of self.format) _ (has_taken taken n) (λ i lt. ap (has_taken taken n) (omega arith))

@@ -13,10 +13,10 @@ use Rattle.packet_cutter.proofs.cutter.Cutter.finish.Goals as goal
 of_the_picture : (c : Cutter) (number : ℕ) (h : Header) (mbs these : List Mb) (packets : List (List ℕ))
     → Holds c number h mbs → added_of c ≡ mbs_of (format_of c) → these ≡ c.mbs.items.items
     → ArePacketsOf c.number c.sequence c.header (limit_of c) these packets
-        → ArePacketsOf number (sequence_of c) h (limit_of c) mbs packets
+    → ArePacketsOf number (sequence_of c) h (limit_of c) mbs packets
 of_the_picture c number h mbs these packets holds all same are =
     let whole : these ≡ mbs = same ∙ sym (take_all c.added c.mbs.items.items (omega (arith, all, c.whole)))
-        ∙ holds.mbs_are in
+    ∙ holds.mbs_are in
     subst (λ (n : ℕ). ArePacketsOf n c.sequence h (limit_of c) mbs packets) holds.number_is
     (subst (λ (x : Header). ArePacketsOf c.number c.sequence x (limit_of c) mbs packets) holds.header_is
     (subst (λ (l : List Mb). ArePacketsOf c.number c.sequence c.header (limit_of c) l packets) whole are))
@@ -26,4 +26,4 @@ returns-clause-function c = λ number h mbs holds.
     let self = c.args.self.now in
     c.by_functions.ensures.packets number (sequence_of self) h (limit_of self) mbs (kept_packets c.cut.new.packets)
     (of_the_picture self number h mbs c.deref.result.now (kept_packets c.cut.new.packets) holds c.requires.all
-        c.deref.ensures.value c.cut.ensures.packets)
+    c.deref.ensures.value c.cut.ensures.packets)

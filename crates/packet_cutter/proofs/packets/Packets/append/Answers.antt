@@ -14,19 +14,23 @@ returns-clause-packet c =
     let part = c.write_packet-part in
     let end : at + p.limit ≤ length p.bytes.items.items = omega (arith, p.placed.end, c.requires.room) in
     let room : length (take (at + p.limit - at) (drop at d))
-        ≡ p.limit = window_length d at p.limit (omega (arith, end, ap length c.deref_mut.ensures.value)) in
+    ≡ p.limit = window_length d at p.limit (omega (arith, end, ap length c.deref_mut.ensures.value)) in
     let begins : BeginsWith c.args.number c.args.sequence c.args.header.now p.limit c.args.first c.args.mbs.now
-        part.result.count part.result.size part.new.bytes =
+    part.result.count part.result.size part.new.bytes =
     subst (λ (n : ℕ). BeginsWith c.args.number c.args.sequence c.args.header.now n c.args.first c.args.mbs.now
-        part.result.count part.result.size part.new.bytes) room part.ensures.packet in
+    part.result.count part.result.size part.new.bytes) room part.ensures.packet in
     let size = part.result.size in
     let places = set p.places (p.count + 1) (at + size) in
     let written = put_mid at (at + p.limit - at) d part.new.bytes in
     let long : length written ≡ p.bytes.items.len = same_len_mid at (at + p.limit - at) d part.new.bytes part.auto.bytes
-        ∙ ap length c.deref_mut.ensures.value ∙ sym p.bytes.items.ok.0 in
+    ∙ ap length c.deref_mut.ensures.value ∙ sym p.bytes.items.ok.0 in
     let kept = appended p.bytes.items.items d part.new.bytes (post_of at (at + p.limit - at) d) p.places p.limit p.count
-        size c.deref_mut.ensures.value p.placed c.requires.few (omega (arith, end)) (omega (arith, part.ensures.within,
-        part.auto.bytes, room)) in
+    size c.deref_mut.ensures.value p.placed c.requires.few (omega (arith, end)) (omega (
+      arith,
+      part.ensures.within,
+      part.auto.bytes,
+      room,
+    )) in
     record {
       packet = take size part.new.bytes;
       packets = ap (λ (l : List ℕ). packets_in l places (p.count + 1)) (with_items_is p.bytes.items written long)

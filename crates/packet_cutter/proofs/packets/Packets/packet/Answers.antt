@@ -28,4 +28,4 @@ returns c =
     let p = c.args.self.now in
     let lt : c.args.i < p.count = omega (arith, c.requires, length-packets p.bytes.items.items p.places p.count) in
     c.part.ensures ∙ ap (λ (l : List ℕ). slice_range l (get_or p.places c.args.i 0) (get_or p.places (c.args.i + 1) 0))
-        c.deref.ensures.value ∙ sym (packet_is p.bytes.items.items p.places p.count c.args.i lt)
+    c.deref.ensures.value ∙ sym (packet_is p.bytes.items.items p.places p.count c.args.i lt)

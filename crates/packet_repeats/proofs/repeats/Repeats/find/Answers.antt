@@ -16,7 +16,7 @@ returns-else-is_numbered c = λ places longest sent held.
     let lower : place < places = omega (arith, low, held.count) in
     let is : packet ≡ bytes_or_none (last_at places longest (c.args.sequence % places) sent) =
     c.deref-packet.ensures.value ∙ bytes_read r.places.items place c.index.result.now low c.index.ensures
-        ∙ held.each place lower
+    ∙ held.each place lower
     ∙ ap (λ (i : ℕ). bytes_or_none (last_at places longest i sent)) same in
     sym (place_told places longest (c.args.sequence % places) c.args.sequence sent packet is
     ∙ cond-false _ (Some packet) None (sym c.is_numbered.ensures ∙ c.if-is_numbered.false))

@@ -7,10 +7,10 @@ pub returns-in-Some : goal.returns-in-Some
 returns-in-Some c =
     let s = c.self.inside in
     ap follows_one (seen_at s.region s.slots.items s.parts.items c.args.number c.index.result.now
-        (Some c.in-Some.parts) c.self.invariant c.index.ensures c.in-Some.is c.self.view_is)
+    (Some c.in-Some.parts) c.self.invariant c.index.ensures c.in-Some.is c.self.view_is)
 
 pub returns-in-None : goal.returns-in-None
 returns-in-None c =
     let s = c.self.inside in
     ap follows_one (seen_at s.region s.slots.items s.parts.items c.args.number c.index.result.now None c.self.invariant
-        c.index.ensures c.in-None.is c.self.view_is)
+    c.index.ensures c.in-None.is c.self.view_is)

@@ -17,17 +17,17 @@ invariant_of-self c =
     let items = s.parts.items in
     let slot = c.index.result.now in
     let left = c.forget.ensures
-        ∙ ap (λ (l : List (Option Parts)). left_at s.top l sequence) c.deref_mut.ensures.value in
+    ∙ ap (λ (l : List (Option Parts)). left_at s.top l sequence) c.deref_mut.ensures.value in
     let long = ap (length {A = Option Parts}) left ∙ many_left s.top items sequence ∙ sym s.parts.ok.0 in
     let kept = with_items_is s.parts c.forget.new.parts long ∙ left in
     let is_slot = slot_is s.region s.slots.items items sequence slot c.self.invariant c.index.ensures in
     subst (λ (t : Slots). IsRing t s.slots.items (set (with_items s.parts c.forget.new.parts).items (sequence % 64)
-        (Some c.args.parts))) (sym c.put.ensures)
+    (Some c.args.parts))) (sym c.put.ensures)
     (subst (λ (k : ℕ). IsRing (with_slot s.region k (put_at (bytes_in s.region k) 0 bytes)) s.slots.items
-        (set (with_items s.parts c.forget.new.parts).items (sequence % 64) (Some c.args.parts))) (sym is_slot)
+    (set (with_items s.parts c.forget.new.parts).items (sequence % 64) (Some c.args.parts))) (sym is_slot)
     (subst (λ (l : List (Option Parts)). IsRing (with_slot s.region (get_or s.slots.items (sequence % 64) 0)
-        (put_at (bytes_in s.region (get_or s.slots.items (sequence % 64) 0)) 0 bytes)) s.slots.items
-        (set l (sequence % 64) (Some c.args.parts))) (sym kept)
+    (put_at (bytes_in s.region (get_or s.slots.items (sequence % 64) 0)) 0 bytes)) s.slots.items
+    (set l (sequence % 64) (Some c.args.parts))) (sym kept)
     (ring_held s.region s.slots.items items bytes s.top sequence c.args.parts c.self.invariant c.requires)))
 
 pub returns-clause-holds : goal.returns-clause-holds
@@ -37,19 +37,19 @@ returns-clause-holds c =
     let slot = c.index.result.now in
     let p = c.args.parts in
     let left = c.forget.ensures
-        ∙ ap (λ (l : List (Option Parts)). left_at s.top l sequence) c.deref_mut.ensures.value in
+    ∙ ap (λ (l : List (Option Parts)). left_at s.top l sequence) c.deref_mut.ensures.value in
     let long = ap (length {A = Option Parts}) left ∙ many_left s.top items sequence ∙ sym s.parts.ok.0 in
     let kept = with_items_is s.parts c.forget.new.parts long ∙ left in
     let is_slot = slot_is s.region s.slots.items items sequence slot c.self.invariant c.index.ensures in
     let written : seen (Some c.greatest-top.result) c.put.new.region s.slots.items
-        (set (with_items s.parts c.forget.new.parts).items (sequence % 64) (Some p))
+    (set (with_items s.parts c.forget.new.parts).items (sequence % 64) (Some p))
     ≡ seen (Some (top_after s.top sequence)) (with_slot s.region slot (put_at (bytes_in s.region slot) 0 bytes))
-        s.slots.items (set (left_at s.top items sequence) (sequence % 64) (Some p)) =
+    s.slots.items (set (left_at s.top items sequence) (sequence % 64) (Some p)) =
     λ i. seen (Some (c.greatest-top.ensures i)) (c.put.ensures i) s.slots.items (set (kept i) (sequence % 64) (Some p))
-        in
+    in
     written
     ∙ ap (λ (k : ℕ). seen (Some (top_after s.top sequence))
-        (with_slot s.region k (put_at (bytes_in s.region k) 0 bytes)) s.slots.items
-        (set (left_at s.top items sequence) (sequence % 64) (Some p))) is_slot
+    (with_slot s.region k (put_at (bytes_in s.region k) 0 bytes)) s.slots.items
+    (set (left_at s.top items sequence) (sequence % 64) (Some p))) is_slot
     ∙ held_is s.region s.slots.items items s.top bytes sequence p c.self.invariant c.requires
     ∙ ap (λ (t : Packets). holding t sequence (packet_of bytes p)) c.self.view_is

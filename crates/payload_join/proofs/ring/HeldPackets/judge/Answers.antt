@@ -11,9 +11,9 @@ returns-then-is_some-clause-answer c =
     ap (λ (t : Packets). judged t.top t.packets sequence) (sym c.self.view_is)
     ∙ ap (λ (o : Option ℕ). judged o (packets_of s.region s.slots.items s.parts.items) sequence) c.in-Some.is
     ∙ judged_again (packets_of s.region s.slots.items s.parts.items) c.in-Some.top sequence c.reach-reach.result
-        c.reach-reach.ensures.exact c.if-reach-le32768.false c.if-reach-gt32768.false
+    c.reach-reach.ensures.exact c.if-reach-le32768.false c.if-reach-gt32768.false
     (some_seen s.region s.slots.items s.parts.items sequence c.index.result.now c.self.invariant c.index.ensures
-        ∙ sym c.is_some.ensures ∙ c.if-is_some.true)
+    ∙ sym c.is_some.ensures ∙ c.if-is_some.true)
     )
 
 pub returns-clause-answer : goal.returns-clause-answer
@@ -23,9 +23,9 @@ returns-clause-answer c =
     ap (λ (t : Packets). judged t.top t.packets sequence) (sym c.self.view_is)
     ∙ ap (λ (o : Option ℕ). judged o (packets_of s.region s.slots.items s.parts.items) sequence) c.in-Some.is
     ∙ judged_fresh (packets_of s.region s.slots.items s.parts.items) c.in-Some.top sequence c.reach-reach.result
-        c.reach-reach.ensures.exact c.if-reach-le32768.false c.if-reach-gt32768.false
+    c.reach-reach.ensures.exact c.if-reach-le32768.false c.if-reach-gt32768.false
     (some_seen s.region s.slots.items s.parts.items sequence c.index.result.now c.self.invariant c.index.ensures
-        ∙ sym c.is_some.ensures ∙ c.if-is_some.false)
+    ∙ sym c.is_some.ensures ∙ c.if-is_some.false)
     )
 
 pub returns-in_default-clause-many : goal.returns-in_default-clause-many

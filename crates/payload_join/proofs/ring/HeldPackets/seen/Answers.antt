@@ -5,4 +5,4 @@ pub returns : goal.returns
 returns c =
     let s = c.self.inside in
     seen_is s.region s.slots.items s.parts.items c.args.number c.index.result.now s.top c.args.self.now c.self.invariant
-        c.index.ensures c.self.view_is
+    c.index.ensures c.self.view_is

@@ -12,7 +12,7 @@ invariant_of-result c =
     let none : c.in_ok-parts.parts.items ≡ replicate 64 None = c.in_ok-parts.ensures.items in
     let e = c.claim_all.ensures in
     ring_claimed c.in-Ok.region c.claim_all.new.region c.claim_all.new.slots.items z e.held e.all e.size e.bytes e.count
-        c.in_ok-parts.parts.items none
+    c.in_ok-parts.parts.items none
 
 pub returns-in-Ok : goal.returns-in-Ok
 returns-in-Ok c =

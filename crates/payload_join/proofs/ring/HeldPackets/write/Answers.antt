@@ -12,7 +12,7 @@ invariant_of-self c =
     let slot = last_is s.region s.slots.items s.parts.items c.index.result.now c.self.invariant c.index.ensures in
     let new = c.put.ensures ∙ ap (λ k. with_slot s.region k (put_at (bytes_in s.region k) at bytes)) slot in
     subst (λ (t : Slots). IsRing t s.slots.items s.parts.items) (sym new)
-        (room_ring s.region s.slots.items s.parts.items at bytes c.self.invariant c.requires)
+    (room_ring s.region s.slots.items s.parts.items at bytes c.self.invariant c.requires)
 
 pub returns : goal.returns
 returns c =

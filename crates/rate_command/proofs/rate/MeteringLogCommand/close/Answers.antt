@@ -21,13 +21,13 @@ returns-in_err-tell_last-clause-err g c = λ s stands.
     let outside = g.D.Desk.outside in
     let totals : c.close-totals.result ≡ totals_of s.bucket.target s.bucket.bucket s.packets =
     c.close-totals.ensures s.packets stands.meter
-        ∙ (λ i. totals_of (sym stands.target i) (sym stands.bucket i) s.packets)
+    ∙ (λ i. totals_of (sym stands.target i) (sym stands.bucket i) s.packets)
     in
     on_err c.from_residual.result
     (subst (λ (t : Totals). GainsFronts (closing_text t) (outside c.args.desk.now).written
-        (outside c.tell_last.new.desk).written) totals
+    (outside c.tell_last.new.desk).written) totals
     (cut_last c.turn_laws.ensures c.close-totals.result (outside c.args.desk.now).written
-        (outside c.tell_last.new.desk).written
+    (outside c.tell_last.new.desk).written
     c.in_err-tell_last.ensures.err))
 
 pub returns-clause-ok : goal.returns-clause-ok
@@ -35,13 +35,13 @@ returns-clause-ok g c = λ s stands.
     let outside = g.D.Desk.outside in
     let totals : c.close-totals.result ≡ totals_of s.bucket.target s.bucket.bucket s.packets =
     c.close-totals.ensures s.packets stands.meter
-        ∙ (λ i. totals_of (sym stands.target i) (sym stands.bucket i) s.packets)
+    ∙ (λ i. totals_of (sym stands.target i) (sym stands.bucket i) s.packets)
     in
     subst (λ (t : Totals). OnOk c.put_text.result (Gains (closing_text t) (outside c.args.desk.now).written
-        (outside c.put_text.new.desk).written)) totals
+    (outside c.put_text.new.desk).written)) totals
     (on_ok_weaker c.put_text.result
     (whole_totals c.turn_laws.ensures c.close-totals.result (outside c.args.desk.now).written
-        (outside c.tell_last.new.desk).written (outside c.put_text.new.desk).written
+    (outside c.tell_last.new.desk).written (outside c.put_text.new.desk).written
     c.in_ok-tell_last.ensures.ok (text_of c.totals_text.result) c.totals_text.ensures)
     c.put_text.ensures.ok)
 
@@ -50,12 +50,12 @@ returns-clause-err g c = λ s stands.
     let outside = g.D.Desk.outside in
     let totals : c.close-totals.result ≡ totals_of s.bucket.target s.bucket.bucket s.packets =
     c.close-totals.ensures s.packets stands.meter
-        ∙ (λ i. totals_of (sym stands.target i) (sym stands.bucket i) s.packets)
+    ∙ (λ i. totals_of (sym stands.target i) (sym stands.bucket i) s.packets)
     in
     subst (λ (t : Totals). OnErr c.put_text.result (GainsFronts (closing_text t) (outside c.args.desk.now).written
-        (outside c.put_text.new.desk).written)) totals
+    (outside c.put_text.new.desk).written)) totals
     (on_err_weaker c.put_text.result
     (cut_totals c.turn_laws.ensures c.close-totals.result (outside c.args.desk.now).written
-        (outside c.tell_last.new.desk).written (outside c.put_text.new.desk).written
+    (outside c.tell_last.new.desk).written (outside c.put_text.new.desk).written
     c.in_ok-tell_last.ensures.ok (text_of c.totals_text.result) c.totals_text.ensures)
     c.put_text.ensures.err)

@@ -43,9 +43,9 @@ returns-clause-ok g c = λ s stands.
     let outside = g.D.Desk.outside in
     let bytes = c.args.bytes.now in
     subst (λ (n : ℕ). OnOk c.tell.result (Gains (answer_text (metered n s.packets bytes))
-        (outside c.args.desk.now).written (outside c.tell.new.desk).written)) (sym stands.target)
+    (outside c.args.desk.now).written (outside c.tell.new.desk).written)) (sym stands.target)
     (subst (λ (x : Metered). OnOk c.tell.result (Gains (answer_text x) (outside c.args.desk.now).written
-        (outside c.tell.new.desk).written))
+    (outside c.tell.new.desk).written))
     (c.packet-metered.ensures.answer s.packets stands.meter) c.tell.ensures.ok)
 
 pub returns-clause-err : goal.returns-clause-err
@@ -53,7 +53,7 @@ returns-clause-err g c = λ s stands.
     let outside = g.D.Desk.outside in
     let bytes = c.args.bytes.now in
     subst (λ (n : ℕ). OnErr c.tell.result (GainsFronts (answer_text (metered n s.packets bytes))
-        (outside c.args.desk.now).written (outside c.tell.new.desk).written)) (sym stands.target)
+    (outside c.args.desk.now).written (outside c.tell.new.desk).written)) (sym stands.target)
     (subst (λ (x : Metered). OnErr c.tell.result (GainsFronts (answer_text x) (outside c.args.desk.now).written
-        (outside c.tell.new.desk).written))
+    (outside c.tell.new.desk).written))
     (c.packet-metered.ensures.answer s.packets stands.meter) c.tell.ensures.err)

@@ -16,9 +16,11 @@ returns-clause-fits c =
       collected = c.add.ensures.same.format ∙ q.collected;
       row = c.add.ensures.same.many ∙ q.row;
       few = q.few;
-      exact = λ e. ((q.exact e).0,
-          subst (λ (l : List (Option ℕ)). get_or l ((c.args.self.now.played - 1) % length l) None
-          ≡ Some (c.args.self.now.played - 1)) (sym c.draw.ensures.rest.numbers) (q.exact e).1);
+      exact = λ e. (
+        (q.exact e).0,
+        subst (λ (l : List (Option ℕ)). get_or l ((c.args.self.now.played - 1) % length l) None
+            ≡ Some (c.args.self.now.played - 1)) (sym c.draw.ensures.rest.numbers) (q.exact e).1,
+      );
       taken = t ∷ q.taken;
       collects = c.add.ensures.taken c.args.self.now.played q.taken q.collects;
     }

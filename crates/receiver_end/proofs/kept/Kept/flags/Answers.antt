@@ -9,7 +9,7 @@ pub loop-j-preserved : goal.loop-j-preserved
 loop-j-preserved c =
     let p = c.args.self.now.params in let s = c.args.self.now.store in
     let b : c.bit.result ≡ cond (holds p s (c.args.number + 14 - c.loop-j.j)) 1 0 = subst (λ (x : Bool). c.bit.result
-        ≡ cond x 1 0) c.holds.ensures.value c.bit.ensures in (
+    ≡ cond x 1 0) c.holds.ensures.value c.bit.ensures in (
       doubled c.loop-j.flags c.bit.result c.loop-j.j (holds p s (c.args.number + 14 - c.loop-j.j)) b
           c.loop-j.invariant.0,
       one_more_at c.loop-j.j (c.args.number + 14) c.loop-j.flags c.bit.result (holds p s)
@@ -22,5 +22,5 @@ returns-clause-flags c =
     let all : c.loop-j.j ≡ 14 = omega (arith, c.loop-j-test.false, c.loop-j.auto.j-end) in
     let n : c.args.number + 14 - 14 ≡ c.args.number = omega arith in
     subst (λ (j : ℕ). flags_of j (is_flagged c.loop-j.flags) 0 ≡ flags_of j (holds p s) (c.args.number + 14 - j)) all
-        c.loop-j.invariant.1
+    c.loop-j.invariant.1
     ∙ ap (flags_of 14 (holds p s)) n

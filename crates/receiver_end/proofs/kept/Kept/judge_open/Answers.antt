@@ -9,7 +9,7 @@ returns-in-HeaderDiffers-clause-answer c p spells =
     let r = c.args.self.now in let ok = c.requires.fits in
     subst (IsHeard r.params.clock c.refused.result)
     (sym (other_header c.whole_header.ensures r c.args.number c.args.piece.now p ok c.requires.low c.requires.high
-        c.requires.head spells (c.in-HeaderDiffers.ensures.place r.played ok.taken ok.collects)))
+    c.requires.head spells (c.in-HeaderDiffers.ensures.place r.played ok.taken ok.collects)))
     c.refused.ensures
 
 pub returns-in_default-reference_of : goal.returns-in_default-reference_of
@@ -18,9 +18,9 @@ returns-in_default-reference_of c =
     record {
       answer = λ p spells. subst (IsHeard r.params.clock c.refused-in_default-reference_of.result)
           (sym (missing c.whole_header.ensures r c.args.number c.args.piece.now p ok c.requires.low c.requires.high
-              c.requires.head spells
+          c.requires.head spells
           c.place-place.result (c.place-place.ensures.place r.played ok.taken ok.collects)
-              c.in_default.not-HeaderDiffers c.in_default-reference_of.ensures.there))
+          c.in_default.not-HeaderDiffers c.in_default-reference_of.ensures.there))
           c.refused-in_default-reference_of.ensures;
       fresh = tt;
       untaken = ap takes c.refused-in_default-reference_of.ensures;
@@ -43,7 +43,7 @@ returns-in-Overlap c =
     record {
       answer = λ p spells. subst (IsHeard r.params.clock c.refused-in-Overlap.result)
           (sym (overlaps c.whole_header.ensures r c.args.number c.args.piece.now p ok c.requires.low c.requires.high
-              c.requires.head spells
+          c.requires.head spells
           c.in-Some.ensures.there (c.in-Overlap.ensures.place r.played ok.taken ok.collects)))
           c.refused-in-Overlap.ensures;
       fresh = tt;
@@ -59,8 +59,10 @@ returns-in-Fresh c =
           c.in-Some.ensures.there (c.in-Fresh.ensures.place r.played ok.taken ok.collects);
       fresh = record {
         number = refl;
-        row = record { low = omega (arith, c.requires.low, ok.collects.begins);
-            high = omega (arith, c.requires.high, ok.collects.begins, ok.row) };
+        row = record {
+          low = omega (arith, c.requires.low, ok.collects.begins);
+          high = omega (arith, c.requires.high, ok.collects.begins, ok.row);
+        };
         fresh = c.in-Fresh.ensures.fresh.0 refl;
         named = c.in-Some.ensures.is;
       };

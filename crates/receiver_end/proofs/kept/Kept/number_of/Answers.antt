@@ -6,7 +6,7 @@ use Rattle.receiver_end.proofs.kept.Kept.number_of.Goals as goal
 pub returns-then-not-is_same_clock : goal.returns-then-not-is_same_clock
 returns-then-not-is_same_clock c p spells =
     of_other_clock c.args.self.now c.args.piece.now p spells
-        (λ same. both _ (c.is_same_clock.ensures.1 same) c.if-not-is_same_clock.true)
+    (λ same. both _ (c.is_same_clock.ensures.1 same) c.if-not-is_same_clock.true)
 
 pub returns : goal.returns
 returns c p spells =

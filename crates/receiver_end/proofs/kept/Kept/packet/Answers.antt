@@ -15,20 +15,28 @@ judge-requires-clause-head c = subst (λ (f : Format). IsHeadOf f c.args.piece.n
 pub returns-in-Ok-clause-stands : goal.returns-in-Ok-clause-stands
 returns-in-Ok-clause-stands c = λ past bytes stands read.
     let r = c.args.self.now in let piece = c.args.piece.now in let mbs = c.args.mbs.now in
-    let inside : piece.head.first + piece.head.count ≤ length mbs = omega (arith, c.requires.piece.slice.head.within,
-        ap mbs_of c.requires.piece.of-format, c.requires.mbs) in
+    let inside : piece.head.first + piece.head.count ≤ length mbs = omega (
+      arith,
+      c.requires.piece.slice.head.within,
+      ap mbs_of c.requires.piece.of-format,
+      c.requires.mbs,
+    ) in
     moves r past bytes (piece_in piece mbs) stands read
     (c.receiver_stands.ensures.slice (decoding r.params.format) (rules_of r.params) (c.is_decoding.ensures r.params)
-        (c.are_rules.ensures r.params c.requires.fits.params))
+    (c.are_rules.ensures r.params c.requires.fits.params))
     c.take.new.self c.in-Ok.fresh.number c.take.ensures.params c.in-Ok.ensures.fresh.0
-        (c.in-Ok.ensures.answer (piece_in piece mbs) (spelled piece mbs inside)) (c.take.ensures.after past stands)
+    (c.in-Ok.ensures.answer (piece_in piece mbs) (spelled piece mbs inside)) (c.take.ensures.after past stands)
 
 pub returns-in-Err-clause-stands : goal.returns-in-Err-clause-stands
 returns-in-Err-clause-stands c = λ past bytes stands read.
     let r = c.args.self.now in let piece = c.args.piece.now in let mbs = c.args.mbs.now in
-    let inside : piece.head.first + piece.head.count ≤ length mbs = omega (arith, c.requires.piece.slice.head.within,
-        ap mbs_of c.requires.piece.of-format, c.requires.mbs) in
+    let inside : piece.head.first + piece.head.count ≤ length mbs = omega (
+      arith,
+      c.requires.piece.slice.head.within,
+      ap mbs_of c.requires.piece.of-format,
+      c.requires.mbs,
+    ) in
     stays r past bytes (piece_in piece mbs) stands read
     (c.receiver_stands.ensures.other (decoding r.params.format) (rules_of r.params) (c.is_decoding.ensures r.params)
-        (c.are_rules.ensures r.params c.requires.fits.params))
+    (c.are_rules.ensures r.params c.requires.fits.params))
     c.in-Err.heard (c.in-Err.ensures.answer (piece_in piece mbs) (spelled piece mbs inside)) c.in-Err.ensures.untaken

@@ -19,9 +19,9 @@ returns-clause-fits c =
     let same : c.show.new.self.collector ≡ r.collector = ap (λ (x : Kept). x.collector) e in
     subst Fits (sym (ap (moved a) e))
     (fits_after c.searches.ensures.rests c.numbered_samples.ensures c.picture_by_samples.ensures r a
-        c.show.new.self.store ok c.show.ensures.1
+    c.show.new.self.store ok c.show.ensures.1
     (c.advance.ensures.taken r.played ok.taken (subst (λ (x : Collector). Collects x r.played ok.taken)
-        (sym same) ok.collects))
+    (sym same) ok.collects))
     (subst (λ (x : Collector). IsRowFrom (first_of x + 1) x a) same c.advance.ensures.same) c.requires.few)
 
 pub returns-clause-stands : goal.returns-clause-stands
@@ -30,12 +30,12 @@ returns-clause-stands c = λ past stands.
     let same : c.show.new.self.collector ≡ r.collector = ap (λ (x : Kept). x.collector) e in
     subst (λ (x : Kept). Stands x (PlayNext ∷ past)) (sym (ap (moved a) e))
     (stands_after c.searches.ensures.rests c.numbered_samples.ensures c.picture_by_samples.ensures r a
-        c.show.new.self.store ok c.show.ensures.1
+    c.show.new.self.store ok c.show.ensures.1
     (c.advance.ensures.taken r.played ok.taken (subst (λ (x : Collector). Collects x r.played ok.taken)
-        (sym same) ok.collects))
+    (sym same) ok.collects))
     (subst (λ (x : Collector). IsRowFrom (first_of x + 1) x a) same c.advance.ensures.same) c.requires.few
     past (c.receiver_stands.ensures.played (decoding r.params.format) (rules_of r.params)
-        (c.is_decoding.ensures r.params) (c.are_rules.ensures r.params ok.params)) stands)
+    (c.is_decoding.ensures r.params) (c.are_rules.ensures r.params ok.params)) stands)
 
 pub returns-clause-played : goal.returns-clause-played
 returns-clause-played c = ap (λ (x : Kept). x.played + 1) c.show.ensures.0

@@ -22,10 +22,14 @@ pub returns-in-Some-clause-answer : goal.returns-in-Some-clause-answer
 returns-in-Some-clause-answer c =
     let r = c.args.self.now in let a = c.add.new.self in let n = c.args.fresh.number in
     let same : a.params ≡ r.params = ap (λ (x : Kept). x.params) c.add.ensures.added.0 in
-    let inside : c.args.piece.now.head.first + c.args.piece.now.head.count ≤ length c.args.mbs.now = omega (arith,
-        c.requires.piece.slice.head.within, ap mbs_of c.requires.piece.of-format, c.requires.mbs) in
+    let inside : c.args.piece.now.head.first + c.args.piece.now.head.count ≤ length c.args.mbs.now = omega (
+      arith,
+      c.requires.piece.slice.head.within,
+      ap mbs_of c.requires.piece.of-format,
+      c.requires.mbs,
+    ) in
     taken_whole r a.collector a.store c.args.mbs.now c.args.piece.now c.args.fresh c.add.ensures.added.1 inside
-        c.in-Some.said
+    c.in-Some.said
     (subst (λ (p : Params). all_below (mbs_of p.format) (has_in a.collector n) ≡ true) same c.in-Some.ensures.whole.0)
     (subst (λ (p : Params). IsSaid p.clock c.in-Some.said (ack_of p a.store n)) same c.in-Some.ensures.whole.1)
 
@@ -33,50 +37,62 @@ pub returns-in-None-clause-answer : goal.returns-in-None-clause-answer
 returns-in-None-clause-answer c =
     let r = c.args.self.now in let a = c.add.new.self in let n = c.args.fresh.number in
     let same : a.params ≡ r.params = ap (λ (x : Kept). x.params) c.add.ensures.added.0 in
-    let inside : c.args.piece.now.head.first + c.args.piece.now.head.count ≤ length c.args.mbs.now = omega (arith,
-        c.requires.piece.slice.head.within, ap mbs_of c.requires.piece.of-format, c.requires.mbs) in
+    let inside : c.args.piece.now.head.first + c.args.piece.now.head.count ≤ length c.args.mbs.now = omega (
+      arith,
+      c.requires.piece.slice.head.within,
+      ap mbs_of c.requires.piece.of-format,
+      c.requires.mbs,
+    ) in
     taken_part r a.collector a.store c.args.mbs.now c.args.piece.now c.args.fresh c.add.ensures.added.1 inside
     (subst (λ (p : Params). all_below (mbs_of p.format) (has_in a.collector n) ≡ false) same c.in-None.ensures.part.0)
 
 pub returns-in-Some-clause-after : goal.returns-in-Some-clause-after
 returns-in-Some-clause-after c = λ past stands.
     let r = c.args.self.now in let a = c.add.new.self in let n = c.args.fresh.number in
-        let u = c.complete.new.self.store in
+    let u = c.complete.new.self.store in
     let piece = c.args.piece.now in let mbs = c.args.mbs.now in
     let same : a.params ≡ r.params = ap (λ (x : Kept). x.params) c.add.ensures.added.0 in
-    let inside : piece.head.first + piece.head.count ≤ length mbs = omega (arith, c.requires.piece.slice.head.within,
-        ap mbs_of c.requires.piece.of-format, c.requires.mbs) in
+    let inside : piece.head.first + piece.head.count ≤ length mbs = omega (
+      arith,
+      c.requires.piece.slice.head.within,
+      ap mbs_of c.requires.piece.of-format,
+      c.requires.mbs,
+    ) in
     let head : IsHeadOf r.params.format piece.head =
-        subst (λ (f : Format). IsHeadOf f piece.head) c.requires.piece.of-format c.requires.piece.slice.head in
+    subst (λ (f : Format). IsHeadOf f piece.head) c.requires.piece.of-format c.requires.piece.slice.head in
     let free = unheld r past n piece (c.slots.ensures.view (decoding r.params.format) (rules_of r.params)
-        (c.are_rules.ensures r.params c.requires.fits.params)) c.requires.fits stands c.requires.fresh.1.row head
-        c.requires.fresh.1.fresh.none in
+    (c.are_rules.ensures r.params c.requires.fits.params)) c.requires.fits stands c.requires.fresh.1.row head
+    c.requires.fresh.1.fresh.none in
     let new : c.complete.new.self ≡ record r { collector = a.collector; store = u } = c.in-Some.ensures.kept.0
-        ∙ ap (λ (x : Kept). record x { store = u }) c.add.ensures.added.0 in
+    ∙ ap (λ (x : Kept). record x { store = u }) c.add.ensures.added.0 in
     subst (λ (x : Kept). IsAfterSlice (decoding r.params.format) (rules_of r.params) (seen r) (seen x) n
-        (piece_in piece mbs)) (sym new)
+    (piece_in piece mbs)) (sym new)
     (in_whole c.searches.ensures.rests c.numbered_samples.ensures c.picture_by_samples.ensures r a.collector a.store mbs
-        piece c.args.fresh c.requires.fits c.requires.fresh c.add.ensures.added.1 inside free
+    piece c.args.fresh c.requires.fits c.requires.fresh c.add.ensures.added.1 inside free
     u (subst (λ (p : Params). Keeps a.store u n (work_of p n)) same c.in-Some.ensures.kept.1)
-        (subst (λ (p : Params). all_below (mbs_of p.format) (has_in a.collector n)
-        ≡ true) same c.in-Some.ensures.whole.0))
+    (subst (λ (p : Params). all_below (mbs_of p.format) (has_in a.collector n)
+    ≡ true) same c.in-Some.ensures.whole.0))
 
 pub returns-in-None-clause-after : goal.returns-in-None-clause-after
 returns-in-None-clause-after c = λ past stands.
     let r = c.args.self.now in let a = c.add.new.self in let n = c.args.fresh.number in
     let piece = c.args.piece.now in let mbs = c.args.mbs.now in
     let same : a.params ≡ r.params = ap (λ (x : Kept). x.params) c.add.ensures.added.0 in
-    let inside : piece.head.first + piece.head.count ≤ length mbs = omega (arith, c.requires.piece.slice.head.within,
-        ap mbs_of c.requires.piece.of-format, c.requires.mbs) in
+    let inside : piece.head.first + piece.head.count ≤ length mbs = omega (
+      arith,
+      c.requires.piece.slice.head.within,
+      ap mbs_of c.requires.piece.of-format,
+      c.requires.mbs,
+    ) in
     let head : IsHeadOf r.params.format piece.head =
-        subst (λ (f : Format). IsHeadOf f piece.head) c.requires.piece.of-format c.requires.piece.slice.head in
+    subst (λ (f : Format). IsHeadOf f piece.head) c.requires.piece.of-format c.requires.piece.slice.head in
     let free = unheld r past n piece (c.slots.ensures.view (decoding r.params.format) (rules_of r.params)
-        (c.are_rules.ensures r.params c.requires.fits.params)) c.requires.fits stands c.requires.fresh.1.row head
-        c.requires.fresh.1.fresh.none in
+    (c.are_rules.ensures r.params c.requires.fits.params)) c.requires.fits stands c.requires.fresh.1.row head
+    c.requires.fresh.1.fresh.none in
     let new : c.complete.new.self ≡ record r { collector = a.collector; store = a.store } = c.in-None.ensures.part.1
-        ∙ c.add.ensures.added.0 in
+    ∙ c.add.ensures.added.0 in
     subst (λ (x : Kept). IsAfterSlice (decoding r.params.format) (rules_of r.params) (seen r) (seen x) n
-        (piece_in piece mbs)) (sym new)
+    (piece_in piece mbs)) (sym new)
     (in_part c.searches.ensures.rests c.numbered_samples.ensures c.picture_by_samples.ensures r a.collector a.store mbs
-        piece c.args.fresh c.requires.fits c.requires.fresh c.add.ensures.added.1 inside free
+    piece c.args.fresh c.requires.fits c.requires.fresh c.add.ensures.added.1 inside free
     (subst (λ (p : Params). all_below (mbs_of p.format) (has_in a.collector n) ≡ false) same c.in-None.ensures.part.0))

@@ -19,6 +19,9 @@ returns-clause-told c =
     let held = sym c.holds.ensures.value ∙ c.if-holds.false in
     record {
       mark_is = c.part.ensures ∙ part_is (header_in r.collector r.played) ∙ ap mark_of (sym (mark_is r false held));
-      message_is = subst (IsMessage r.params.clock (Some c.nack.result)) (sym (message_is r false held)) (c.nack.result,
-          refl, c.nack.ensures);
+      message_is = subst (IsMessage r.params.clock (Some c.nack.result)) (sym (message_is r false held)) (
+        c.nack.result,
+        refl,
+        c.nack.ensures,
+      );
     }

@@ -14,11 +14,11 @@ returns-clause-told c = λ past stands.
     let k = c.self.inside.kept in
     let mine : Stands k past = subst (λ (x : Kept). Stands x past) (sym c.self.view_is) stands in
     subst (λ (x : Kept). IsPlayed x.params.clock c.play.result (played_mark (decoding x.params.format)
-        (rules_of x.params) (run_of x.params past)) (played_message (decoding x.params.format) (rules_of x.params)
-        (run_of x.params past))) c.self.view_is
+    (rules_of x.params) (run_of x.params past)) (played_message (decoding x.params.format) (rules_of x.params)
+    (run_of x.params past))) c.self.view_is
     (played_so k past mine (c.receiver_stands.ensures.play (decoding k.params.format) (rules_of k.params)
-        (c.is_decoding.ensures k.params) (c.are_rules.ensures k.params c.self.invariant.0.params)) c.play.result
-        c.play.ensures.told)
+    (c.is_decoding.ensures k.params) (c.are_rules.ensures k.params c.self.invariant.0.params)) c.play.result
+    c.play.ensures.told)
 
 pub returns-clause-stands : goal.returns-clause-stands
 returns-clause-stands c = λ past stands. c.play.ensures.stands past (subst (λ (x : Kept). Stands x past)

@@ -15,18 +15,18 @@ returns-in_err-put_line-clause-err g c = λ s stands.
     let told : text_of c.line.result ≡ join_text s.took = c.line.ensures ∙ ap join_text (sym stands.took) in
     on_err c.from_residual.result
     (c.turn_laws.ensures.front_of_first (on Report (join_text s.took)) (recv_rules.end_text s.receiver)
-        (outside c.args.desk.now).written (outside c.put_line.new.desk).written
+    (outside c.args.desk.now).written (outside c.put_line.new.desk).written
     (subst (λ (l : List ℕ). GainsFronts (on Report l) (outside c.args.desk.now).written
-        (outside c.put_line.new.desk).written) told c.in_err-put_line.ensures.err))
+    (outside c.put_line.new.desk).written) told c.in_err-put_line.ensures.err))
 
 pub returns-clause-ok : goal.returns-clause-ok
 returns-clause-ok g c = λ s stands.
     let outside = g.D.Desk.outside in
     let told : text_of c.line.result ≡ join_text s.took = c.line.ensures ∙ ap join_text (sym stands.took) in
     let first = subst (λ (l : List ℕ). Gains (on Report l) (outside c.args.desk.now).written
-        (outside c.put_line.new.desk).written) told c.in_ok-put_line.ensures.ok in
+    (outside c.put_line.new.desk).written) told c.in_ok-put_line.ensures.ok in
     (text_more c.turn_laws.ensures (on Report (join_text s.took)) (recv_rules.end_text s.receiver) c.tell.result
-        (outside c.args.desk.now).written (outside c.put_line.new.desk).written (outside c.tell.new.desk).written first
+    (outside c.args.desk.now).written (outside c.put_line.new.desk).written (outside c.tell.new.desk).written first
     (c.tell.ensures.ok s.receiver stands.receiver) (c.tell.ensures.err s.receiver stands.receiver)).ok
 
 pub returns-clause-err : goal.returns-clause-err
@@ -34,7 +34,7 @@ returns-clause-err g c = λ s stands.
     let outside = g.D.Desk.outside in
     let told : text_of c.line.result ≡ join_text s.took = c.line.ensures ∙ ap join_text (sym stands.took) in
     let first = subst (λ (l : List ℕ). Gains (on Report l) (outside c.args.desk.now).written
-        (outside c.put_line.new.desk).written) told c.in_ok-put_line.ensures.ok in
+    (outside c.put_line.new.desk).written) told c.in_ok-put_line.ensures.ok in
     (text_more c.turn_laws.ensures (on Report (join_text s.took)) (recv_rules.end_text s.receiver) c.tell.result
-        (outside c.args.desk.now).written (outside c.put_line.new.desk).written (outside c.tell.new.desk).written first
+    (outside c.args.desk.now).written (outside c.put_line.new.desk).written (outside c.tell.new.desk).written first
     (c.tell.ensures.ok s.receiver stands.receiver) (c.tell.ensures.err s.receiver stands.receiver)).err

@@ -20,7 +20,7 @@ returns-clause-stands g c = λ s stands.
     let mid = c.take-took.new.self in
     let left : mid.left ≡ all =
     c.take-took.ensures.left s.packets stands.joiner
-        ∙ ap (λ (f : Format). given_next f s.packets bytes) (sym stands.format) in
+    ∙ ap (λ (f : Format). given_next f s.packets bytes) (sym stands.format) in
     let answer = c.take-took.ensures.answer s.packets stands.joiner in
     record {
       format = ap (λ (p : Params). p.format) (params_stay all (record { state = s.receiver; texts = no_texts }))
@@ -42,11 +42,15 @@ returns-clause-ready g c = λ n ready.
     let left = c.take-took.ensures.left ready.past ready.stands in
     let few : length mid.left ≤ 2 ^ 22 =
     subst (λ (l : List (List ℕ)). length l ≤ 2 ^ 22) (sym left)
-        (c.few_given.ensures c.args.self.now.format ready.past bytes) in
+    (c.few_given.ensures c.args.self.now.format ready.past bytes) in
     let same = c.deliver_all.ensures.has_written.rest.attached in
     let packets : packets_of c.take.new.self ≤ n + 1 = omega (arith, ready.packets, c.take.ensures.packets) in
-    let joined : c.take.new.self.joined + length mid.left ≤ 2 ^ 22 * (n + 1) = omega (arith, ready.joined,
-        c.take.ensures.joined, few) in
+    let joined : c.take.new.self.joined + length mid.left ≤ 2 ^ 22 * (n + 1) = omega (
+      arith,
+      ready.joined,
+      c.take.ensures.joined,
+      few,
+    ) in
     record {
       pictures = ap (λ (f : Role → Bool). f Pictures) same ∙ ready.pictures;
       wire = ap (λ (f : Role → Bool). f Wire) same ∙ ready.wire;

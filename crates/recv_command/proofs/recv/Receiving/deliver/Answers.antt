@@ -16,7 +16,7 @@ returns-clause-stands c = λ s stands.
       params = stands.params ∙ sym c.packet-heard.ensures.params;
       tally = (λ i. with_answer (answer_after (stands.params i) s.past bytes) (stands.tally i))
           ∙ sym (c.count.ensures.counts ∙ heard_count r.params.clock c.packet-heard.result answer c.args.self.now.tally
-              (c.packet-heard.ensures.answer s.past stands.run));
+          (c.packet-heard.ensures.answer s.past stands.run));
       run = c.packet-heard.ensures.stands s.past stands.run;
     }
 
@@ -27,7 +27,7 @@ returns-clause-says c = λ s stands.
     let says : IsMessage r.params.clock c.message.result (said_by answer) =
     subst (λ (o : Option Said). IsMessage r.params.clock o (said_by answer)) (sym c.message.ensures)
     (c.answers_say.ensures r.params.clock c.packet-heard.result answer
-        (c.packet-heard.ensures.answer s.past stands.run))
+    (c.packet-heard.ensures.answer s.past stands.run))
     in
     subst (λ (p : Params). IsMessage p.clock c.message.result (said_by (answer_after p s.past c.args.bytes.now)))
-        (sym stands.params) says
+    (sym stands.params) says

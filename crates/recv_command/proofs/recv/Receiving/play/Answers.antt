@@ -31,14 +31,14 @@ returns-clause-ok g c = λ s bytes stands.
     let after = c.play-played.ensures.stands s.past stands.run in
     let picture : lent c.shown.result ≡ (run_of r.params (PlayNext ∷ s.past)).screen =
     c.shown.ensures.run (PlayNext ∷ s.past) after
-        ∙ ap (λ (p : Params). (run_of p (PlayNext ∷ s.past)).screen) c.play-played.ensures.params
+    ∙ ap (λ (p : Params). (run_of p (PlayNext ∷ s.past)).screen) c.play-played.ensures.params
     in
     let text = shown_same (message_after r.params s.past) (c.play-played.ensures.run s.past stands.run) told.mark_is
-        picture
+    picture
     ∙ ap (λ (p : Params). played_text p s.past) (sym stands.params)
     in
     subst (λ (t : Role → List ℕ). OnOk c.show.result (Gains t (outside c.args.desk.now).written
-        (outside c.show.new.desk).written)) text
+    (outside c.show.new.desk).written)) text
     (c.show.ensures.ok r.params.clock (message_after r.params s.past) told.message_is)
 
 pub returns-clause-err : goal.returns-clause-err
@@ -49,12 +49,12 @@ returns-clause-err g c = λ s bytes stands.
     let after = c.play-played.ensures.stands s.past stands.run in
     let picture : lent c.shown.result ≡ (run_of r.params (PlayNext ∷ s.past)).screen =
     c.shown.ensures.run (PlayNext ∷ s.past) after
-        ∙ ap (λ (p : Params). (run_of p (PlayNext ∷ s.past)).screen) c.play-played.ensures.params
+    ∙ ap (λ (p : Params). (run_of p (PlayNext ∷ s.past)).screen) c.play-played.ensures.params
     in
     let text = shown_same (message_after r.params s.past) (c.play-played.ensures.run s.past stands.run) told.mark_is
-        picture
+    picture
     ∙ ap (λ (p : Params). played_text p s.past) (sym stands.params)
     in
     subst (λ (t : Role → List ℕ). OnErr c.show.result (GainsFronts t (outside c.args.desk.now).written
-        (outside c.show.new.desk).written)) text
+    (outside c.show.new.desk).written)) text
     (c.show.ensures.err r.params.clock (message_after r.params s.past) told.message_is)

@@ -12,20 +12,20 @@ pub returns-clause-ok : goal.returns-clause-ok
 returns-clause-ok g c = λ s stands.
     let outside = g.D.Desk.outside in
     let played = c.played.ensures.run s.past stands.run
-        ∙ ap (λ (p : Params). (run_of p s.past).played) (sym stands.params) in
+    ∙ ap (λ (p : Params). (run_of p s.past).played) (sym stands.params) in
     let text : text_of c.line.result ≡ count_text (run_of s.params s.past).played s.tally =
     c.line.ensures ∙ (λ i. count_text (played i) (sym stands.tally i))
     in
     subst (λ (l : List ℕ). OnOk c.put_line.result (Gains (on Report l) (outside c.args.desk.now).written
-        (outside c.put_line.new.desk).written)) text c.put_line.ensures.ok
+    (outside c.put_line.new.desk).written)) text c.put_line.ensures.ok
 
 pub returns-clause-err : goal.returns-clause-err
 returns-clause-err g c = λ s stands.
     let outside = g.D.Desk.outside in
     let played = c.played.ensures.run s.past stands.run
-        ∙ ap (λ (p : Params). (run_of p s.past).played) (sym stands.params) in
+    ∙ ap (λ (p : Params). (run_of p s.past).played) (sym stands.params) in
     let text : text_of c.line.result ≡ count_text (run_of s.params s.past).played s.tally =
     c.line.ensures ∙ (λ i. count_text (played i) (sym stands.tally i))
     in
     subst (λ (l : List ℕ). OnErr c.put_line.result (GainsFronts (on Report l) (outside c.args.desk.now).written
-        (outside c.put_line.new.desk).written)) text c.put_line.ensures.err
+    (outside c.put_line.new.desk).written)) text c.put_line.ensures.err

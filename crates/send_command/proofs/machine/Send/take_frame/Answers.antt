@@ -27,19 +27,19 @@ returns-in_err-frame-clause-err g c = λ before s inputs stood place taken.
     let stop = c.in_err-frame.field-0.0 in
     if_err _ c.from_residual.result (video_stop stop) c.from_residual.ensures.1
     (frame_stops c.turn_laws.ensures c.cut_after.ensures.frame s inputs before (outside c.args.desk.now)
-        (outside c.frame.new.desk) taken c.frame.ensures.others c.frame.ensures.rest.written
+    (outside c.frame.new.desk) taken c.frame.ensures.others c.frame.ensures.rest.written
     m.video c.frame.new.self (video_at m s 3 stood c.requires.fit.format) c.frame.new.out stop
-        (c.in_err-frame.ensures.gives (inputs Video) (taken.left Video refl)))
+    (c.in_err-frame.ensures.gives (inputs Video) (taken.left Video refl)))
 
 pub returns-then-not-branch-clause-err : goal.returns-then-not-branch-clause-err
 returns-then-not-branch-clause-err g c = λ before s inputs stood place taken.
     let outside = g.D.Desk.outside in
     let m = c.args.self.now in
     frame_missing c.turn_laws.ensures c.cut_after.ensures.frame s inputs before (outside c.args.desk.now)
-        (outside c.frame.new.desk) taken c.frame.ensures.others c.frame.ensures.rest.written
+    (outside c.frame.new.desk) taken c.frame.ensures.others c.frame.ensures.rest.written
     m.video c.frame.new.self (video_at m s 3 stood c.requires.fit.format) c.frame.new.out c.args.at place
     (gave c.in_ok-frame.field-0 false m.video c.frame.new.self (inputs Video) c.frame.new.out _ c.if-not-branch.true
-        (c.in_ok-frame.ensures.gives (inputs Video) (taken.left Video refl)))
+    (c.in_ok-frame.ensures.gives (inputs Video) (taken.left Video refl)))
 
 pub returns-clause-ok : goal.returns-clause-ok
 returns-clause-ok g c = λ before s inputs stood taken.
@@ -48,38 +48,45 @@ returns-clause-ok g c = λ before s inputs stood taken.
     let p = m.sender.params in
     let out = c.frame.new.out in
     let coded = c.capture-coded in
-    let new : Send = record { video = c.frame.new.self; log = m.log; sender = coded.new.sender; aim = coded.new.aim;
-        tally = c.picture.new.self; frame = with_items m.frame out; bytes = m.bytes } in
+    let new : Send = record {
+      video = c.frame.new.self;
+      log = m.log;
+      sender = coded.new.sender;
+      aim = coded.new.aim;
+      tally = c.picture.new.self;
+      frame = with_items m.frame out;
+      bytes = m.bytes;
+    } in
     let at = video_at m s 3 stood c.requires.fit.format in
     let e = gave c.in_ok-frame.field-0 true m.video c.frame.new.self (inputs Video) out _ c.if-not-branch.false
-        (c.in_ok-frame.ensures.gives (inputs Video) (taken.left Video refl)) in
+    (c.in_ok-frame.ensures.gives (inputs Video) (taken.left Video refl)) in
     let moves = moved c.in_ok-frame.field-0 true m.video c.frame.new.self c.if-not-branch.false
-        c.in_ok-frame.ensures.moves in
+    c.in_ok-frame.ensures.moves in
     let cap = coded.ensures.captured s.sent.run stood.sender in
     let bytes_are : c.deref.result.now
-        ≡ out = lent m.frame out c.deref.result.now _ c.deref.ensures.value c.frame.auto.out c.deref_mut.ensures.len in
+    ≡ out = lent m.frame out c.deref.result.now _ c.deref.ensures.value c.frame.auto.out c.deref_mut.ensures.len in
     let format_is : c.format.result ≡ s.params.format = c.format.ensures ∙ moves.0 ∙ sym at.format in
     let frame : Frame = record { picture = picture c.new-frame.result; messages = [] } in
     let same : frame ≡ captured s.params.format out =
     (λ i. record { picture = c.new-frame.ensures.picture i; messages = [] })
-        ∙ (λ i. captured (format_is i) (bytes_are i))
+    ∙ (λ i. captured (format_is i) (bytes_are i))
     in
     let texts = picture_texts coded.new.sender.packets coded.result.number coded.result.reference in
     let text_is = texts_are m s 3 stood frame (captured s.params.format out) coded.new.sender coded.new.aim coded.result
-        same cap in
+    same cap in
     let place = place_is c.turn_laws.ensures c.cut_after.ensures.frame s inputs before (outside c.args.desk.now)
-        (outside c.frame.new.desk) taken c.frame.ensures.others c.frame.ensures.rest.written m.video c.frame.new.self at
-        out e (outside c.put_picture.new.desk) texts text_is in
+    (outside c.frame.new.desk) taken c.frame.ensures.others c.frame.ensures.rest.written m.video c.frame.new.self at
+    out e (outside c.put_picture.new.desk) texts text_is in
     let size = frame_size s.params.format (inputs Video) in
     let kept : SendStands new _ (left_after inputs (and_of (of Events 3) (of Video size))) =
     keeps_capture m s 3 stood new frame (captured s.params.format out) coded.result size
-        (left_after inputs (and_of (of Events 3) (of Video size))) refl same cap coded.ensures.count
-        coded.ensures.params refl c.picture.ensures place moves.1
+    (left_after inputs (and_of (of Events 3) (of Video size))) refl same cap coded.ensures.count
+    coded.ensures.params refl c.picture.ensures place moves.1
     in
     on_ok_so _ _ c.put_picture.result c.put_picture.ensures.ok
     (captures c.turn_laws.ensures c.cut_after.ensures.frame s inputs before (outside c.args.desk.now)
-        (outside c.frame.new.desk) taken c.frame.ensures.others c.frame.ensures.rest.written m.video c.frame.new.self at
-        out e (outside c.put_picture.new.desk) texts text_is
+    (outside c.frame.new.desk) taken c.frame.ensures.others c.frame.ensures.rest.written m.video c.frame.new.self at
+    out e (outside c.put_picture.new.desk) texts text_is
     (SendStands new) kept c.put_picture.ensures.rest.left)
 
 pub returns-clause-err : goal.returns-clause-err
@@ -90,26 +97,26 @@ returns-clause-err g c = λ before s inputs stood place taken.
     let coded = c.capture-coded in
     let at = video_at m s 3 stood c.requires.fit.format in
     let e = gave c.in_ok-frame.field-0 true m.video c.frame.new.self (inputs Video) out _ c.if-not-branch.false
-        (c.in_ok-frame.ensures.gives (inputs Video) (taken.left Video refl)) in
+    (c.in_ok-frame.ensures.gives (inputs Video) (taken.left Video refl)) in
     let moves = moved c.in_ok-frame.field-0 true m.video c.frame.new.self c.if-not-branch.false
-        c.in_ok-frame.ensures.moves in
+    c.in_ok-frame.ensures.moves in
     let cap = coded.ensures.captured s.sent.run stood.sender in
     let bytes_are : c.deref.result.now
-        ≡ out = lent m.frame out c.deref.result.now _ c.deref.ensures.value c.frame.auto.out c.deref_mut.ensures.len in
+    ≡ out = lent m.frame out c.deref.result.now _ c.deref.ensures.value c.frame.auto.out c.deref_mut.ensures.len in
     let format_is : c.format.result ≡ s.params.format = c.format.ensures ∙ moves.0 ∙ sym at.format in
     let frame : Frame = record { picture = picture c.new-frame.result; messages = [] } in
     let same : frame ≡ captured s.params.format out =
     (λ i. record { picture = c.new-frame.ensures.picture i; messages = [] })
-        ∙ (λ i. captured (format_is i) (bytes_are i))
+    ∙ (λ i. captured (format_is i) (bytes_are i))
     in
     let texts = picture_texts coded.new.sender.packets coded.result.number coded.result.reference in
     let text_is = texts_are m s 3 stood frame (captured s.params.format out) coded.new.sender coded.new.aim coded.result
-        same cap in
+    same cap in
     if_cut _ (λ status. GivesUp (phase status) status (capture_step s (inputs Video)) true inputs before
-        (outside c.put_picture.new.desk)) c.put_picture.result c.put_picture.ensures.kind c.put_picture.ensures.err
+    (outside c.put_picture.new.desk)) c.put_picture.result c.put_picture.ensures.kind c.put_picture.ensures.err
     (capture_cut c.turn_laws.ensures c.cut_after.ensures.frame s inputs before (outside c.args.desk.now)
-        (outside c.frame.new.desk) taken c.frame.ensures.others c.frame.ensures.rest.written m.video c.frame.new.self at
-        out e (outside c.put_picture.new.desk) texts text_is)
+    (outside c.frame.new.desk) taken c.frame.ensures.others c.frame.ensures.rest.written m.video c.frame.new.self at
+    out e (outside c.put_picture.new.desk) texts text_is)
 
 pub returns-clause-ready : goal.returns-clause-ready
 returns-clause-ready g c =
@@ -118,7 +125,7 @@ returns-clause-ready g c =
     let fit = c.requires.fit in
     let coded = c.capture-coded in
     let moves = moved c.in_ok-frame.field-0 true m.video c.frame.new.self c.if-not-branch.false
-        c.in_ok-frame.ensures.moves in
+    c.in_ok-frame.ensures.moves in
     let attached = c.put_picture.ensures.rest.attached ∙ c.frame.ensures.rest.attached in
     let format : coded.new.sender.params.format ≡ c.frame.new.self.format =
     ap (λ (q : Params). q.format) coded.ensures.params ∙ fit.format ∙ sym moves.0

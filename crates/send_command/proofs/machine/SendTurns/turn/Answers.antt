@@ -27,10 +27,10 @@ returns-in_err-at-clause-gives g c = λ s inputs stands told.
     let m = c.args.self.now in
     let stop = c.in_err-at.field-0.0 in
     turn_err c.from_residual.result (log_stop stop) _ _ inputs (outside c.args.desk.now) (outside c.next.new.desk)
-        c.from_residual.ensures.1
+    c.from_residual.ensures.1
     (log_stops c.turn_laws.ensures c.cut_after.ensures s inputs (outside c.args.desk.now) (outside c.next.new.desk) told
-        c.next.ensures.others c.next.ensures.rest.written m.log c.next.new.self
-        (read_at m s inputs stands c.requires.fit.side) c.next.new.buf
+    c.next.ensures.others c.next.ensures.rest.written m.log c.next.new.self
+    (read_at m s inputs stands c.requires.fit.side) c.next.new.buf
     stop (c.in_err-at.ensures.gives (inputs Events) (told Events refl)) c.in_err-at.ensures.moves)
 
 pub returns-in_err-put_line-clause-gives : goal.returns-in_err-put_line-clause-gives
@@ -40,13 +40,13 @@ returns-in_err-put_line-clause-gives g c = λ s inputs stands told.
     let mid = outside c.next.new.desk in
     let new = outside c.put_line.new.desk in
     let e = gave_entry c.in_ok-at.field-0 None m.log (inputs Events) c.next.new.buf _ c.in_default.is
-        (c.in_ok-at.ensures.gives (inputs Events) (told Events refl)) in
+    (c.in_ok-at.ensures.gives (inputs Events) (told Events refl)) in
     let line_is = c.line.ensures ∙ ap (λ (x : SendState). count_text x.tally) (sym stands.is) in
     turn_cut c.from_residual-in_err-put_line.result c.in_err-put_line.field-0.0 _ _ inputs (outside c.args.desk.now) new
-        c.from_residual-in_err-put_line.ensures.1 c.in_err-put_line.ensures.kind
+    c.from_residual-in_err-put_line.ensures.1 c.in_err-put_line.ensures.kind
     (end_cut c.turn_laws.ensures c.cut_after.ensures s inputs (outside c.args.desk.now) mid told c.next.ensures.others
-        c.next.ensures.rest.written m.log c.next.new.self (read_at m s inputs stands c.requires.fit.side) c.next.new.buf
-        e new
+    c.next.ensures.rest.written m.log c.next.new.self (read_at m s inputs stands c.requires.fit.side) c.next.new.buf
+    e new
     (subst (λ (l : List ℕ). GainsFronts (on Report l) mid.written new.written) line_is c.in_err-put_line.ensures.err))
 
 pub returns-in_default-clause-gives : goal.returns-in_default-clause-gives
@@ -56,18 +56,18 @@ returns-in_default-clause-gives g c = λ s inputs stands told.
     let mid = outside c.next.new.desk in
     let new = outside c.put_line.new.desk in
     let e = gave_entry c.in_ok-at.field-0 None m.log (inputs Events) c.next.new.buf _ c.in_default.is
-        (c.in_ok-at.ensures.gives (inputs Events) (told Events refl)) in
+    (c.in_ok-at.ensures.gives (inputs Events) (told Events refl)) in
     let line_is = c.line.ensures ∙ ap (λ (x : SendState). count_text x.tally) (sym stands.is) in
     log_ends c.turn_laws.ensures c.cut_after.ensures s inputs (outside c.args.desk.now) mid told c.next.ensures.others
-        c.next.ensures.rest.written m.log c.next.new.self (read_at m s inputs stands c.requires.fit.side) c.next.new.buf
-        e new
+    c.next.ensures.rest.written m.log c.next.new.self (read_at m s inputs stands c.requires.fit.side) c.next.new.buf
+    e new
     c.put_line.ensures.rest.left (subst (λ (l : List ℕ). Gains (on Report l) mid.written new.written) line_is
-        c.in_ok-put_line.ensures.ok)
+    c.in_ok-put_line.ensures.ok)
 
 pub returns-in_default-clause-whole : goal.returns-in_default-clause-whole
 returns-in_default-clause-whole g c = λ s inputs stands told.
     let e = gave_entry c.in_ok-at.field-0 None c.args.self.now.log (inputs Events) c.next.new.buf _ c.in_default.is
-        (c.in_ok-at.ensures.gives (inputs Events) (told Events refl)) in
+    (c.in_ok-at.ensures.gives (inputs Events) (told Events refl)) in
     ap (λ (l : Role → Option (List ℕ)). l Events) c.put_line.ensures.rest.left ∙ e.1
 
 pub returns-in_err-take_frame-in-Capture-clause-gives : goal.returns-in_err-take_frame-in-Capture-clause-gives
@@ -79,14 +79,14 @@ returns-in_err-take_frame-in-Capture-clause-gives g c = λ s inputs stands told.
     let status = c.in_err-take_frame-in-Capture.field-0.0 in
     let is = c.in-Some.is ∙ ap (λ (e : Entry). Some (c.in-Some.at, e)) c.in-Capture.is in
     let b = is_after c.turn_laws.ensures c.cut_after.ensures m s inputs stands old (outside c.next.new.desk) told
-        c.next.ensures.others c.next.ensures.rest.written c.requires.fit.side c.next.new.self c.next.ensures.is_in
-        (with_items m.bytes c.next.new.buf) c.next.new.buf c.in-Some.at Capture
+    c.next.ensures.others c.next.ensures.rest.written c.requires.fit.side c.next.new.self c.next.ensures.is_in
+    (with_items m.bytes c.next.new.buf) c.next.new.buf c.in-Some.at Capture
     (gave_entry c.in_ok-at.field-0 (Some (c.in-Some.at, Capture)) m.log (inputs Events) c.next.new.buf _ is
-        (c.in_ok-at.ensures.gives (inputs Events) (told Events refl)))
+    (c.in_ok-at.ensures.gives (inputs Events) (told Events refl)))
     (moved_entry c.in_ok-at.field-0 (Some (c.in-Some.at, Capture)) m.log c.next.new.self is c.in_ok-at.ensures.moves)
     in
     turn_err c.from_residual-in_err-take_frame-in-Capture.result status _
-        _ inputs old new c.from_residual-in_err-take_frame-in-Capture.ensures.1
+    _ inputs old new c.from_residual-in_err-take_frame-in-Capture.ensures.1
     (subst (λ (x : Step SendState). GivesUp (phase status) status x true inputs old new) (sym b.step_is)
     (c.in_err-take_frame-in-Capture.ensures.err old s inputs b.stood b.place_is b.taken))
 
@@ -97,14 +97,14 @@ returns-in_ok-take_frame-in-Capture-clause-gives g c = λ s inputs stands told.
     let old = outside c.args.desk.now in
     let is = c.in-Some.is ∙ ap (λ (e : Entry). Some (c.in-Some.at, e)) c.in-Capture.is in
     let b = is_after c.turn_laws.ensures c.cut_after.ensures m s inputs stands old (outside c.next.new.desk) told
-        c.next.ensures.others c.next.ensures.rest.written c.requires.fit.side c.next.new.self c.next.ensures.is_in
-        (with_items m.bytes c.next.new.buf) c.next.new.buf c.in-Some.at Capture
+    c.next.ensures.others c.next.ensures.rest.written c.requires.fit.side c.next.new.self c.next.ensures.is_in
+    (with_items m.bytes c.next.new.buf) c.next.new.buf c.in-Some.at Capture
     (gave_entry c.in_ok-at.field-0 (Some (c.in-Some.at, Capture)) m.log (inputs Events) c.next.new.buf _ is
-        (c.in_ok-at.ensures.gives (inputs Events) (told Events refl)))
+    (c.in_ok-at.ensures.gives (inputs Events) (told Events refl)))
     (moved_entry c.in_ok-at.field-0 (Some (c.in-Some.at, Capture)) m.log c.next.new.self is c.in_ok-at.ensures.moves)
     in
     subst (λ (x : Step SendState). Went x (SendStands c.take_frame.new.self) (λ _. true) true inputs old
-        (outside c.take_frame.new.desk)) (sym b.step_is)
+    (outside c.take_frame.new.desk)) (sym b.step_is)
     (c.in_ok-take_frame-in-Capture.ensures.ok old s inputs b.stood b.taken)
 
 pub returns-in-Back-clause-gives : goal.returns-in-Back-clause-gives
@@ -117,21 +117,21 @@ returns-in-Back-clause-gives g c = λ s inputs stands told.
     let buf = c.next.new.buf in
     let is = c.in-Some.is ∙ ap (λ (e : Entry). Some (c.in-Some.at, e)) c.in-Back.is in
     let b = is_after c.turn_laws.ensures c.cut_after.ensures m s inputs stands old mid told c.next.ensures.others
-        c.next.ensures.rest.written c.requires.fit.side c.next.new.self c.next.ensures.is_in (with_items m.bytes buf)
-        buf c.in-Some.at (Back len)
+    c.next.ensures.rest.written c.requires.fit.side c.next.new.self c.next.ensures.is_in (with_items m.bytes buf)
+    buf c.in-Some.at (Back len)
     (gave_entry c.in_ok-at.field-0 (Some (c.in-Some.at, Back len)) m.log (inputs Events) buf _ is
-        (c.in_ok-at.ensures.gives (inputs Events) (told Events refl)))
+    (c.in_ok-at.ensures.gives (inputs Events) (told Events refl)))
     (moved_entry c.in_ok-at.field-0 (Some (c.in-Some.at, Back len)) m.log c.next.new.self is c.in_ok-at.ensures.moves)
     in
     let items_are : (with_items m.bytes buf).items
-        ≡ buf = lent m.bytes buf _ _ refl c.next.auto.buf c.deref_mut.ensures.len in
+    ≡ buf = lent m.bytes buf _ _ refl c.next.auto.buf c.deref_mut.ensures.len in
     let bytes_are = ap (λ (l : List ℕ). take len l) items_are ∙ b.bytes_are in
     let short = few_bytes len buf (take len (drop 3 (inputs Events))) b.bytes_are b.whole
-        (omega (arith, c.next.auto.buf, c.deref_mut.ensures.len, m.bytes.ok.0, c.requires.fit.bytes)) in
+    (omega (arith, c.next.auto.buf, c.deref_mut.ensures.len, m.bytes.ok.0, c.requires.fit.bytes)) in
     takes_feedback c.turn_laws.ensures s inputs old mid len b.step_is b.taken.left b.taken.written
-        (SendStands c.take_feedback.new.self)
+    (SendStands c.take_feedback.new.self)
     (subst (λ (l : List ℕ). SendStands c.take_feedback.new.self (after_feedback s l)
-        (left_after inputs (of Events (3 + len)))) bytes_are
+    (left_after inputs (of Events (3 + len)))) bytes_are
     (c.take_feedback.ensures.stands s (left_after inputs (of Events (3 + len))) short b.stood))
 
 pub returns-in-Back-clause-ready : goal.returns-in-Back-clause-ready
@@ -140,16 +140,21 @@ returns-in-Back-clause-ready g c =
     let m = c.args.self.now in
     let buf = c.next.new.buf in
     let moves = moved_entry c.in_ok-at.field-0 (Some (c.in-Some.at, c.in-Some.entry)) m.log c.next.new.self c.in-Some.is
-        c.in_ok-at.ensures.moves in
+    c.in_ok-at.ensures.moves in
     let items_are : (with_items m.bytes buf).items
-        ≡ buf = lent m.bytes buf _ _ refl c.next.auto.buf c.deref_mut.ensures.len in
-    let long : length buf ≡ 65535 = omega (arith, c.next.auto.buf, c.deref_mut.ensures.len, m.bytes.ok.0,
-        c.requires.fit.bytes) in
+    ≡ buf = lent m.bytes buf _ _ refl c.next.auto.buf c.deref_mut.ensures.len in
+    let long : length buf ≡ 65535 = omega (
+      arith,
+      c.next.auto.buf,
+      c.deref_mut.ensures.len,
+      m.bytes.ok.0,
+      c.requires.fit.bytes,
+    ) in
     record {
       fit = c.take_feedback.ensures.fit (outside c.next.new.desk).attached
           (fit_after m c.next.new.self (with_items m.bytes buf) (outside c.args.desk.now).attached
-              (outside c.next.new.desk).attached c.requires.fit moves.1 (ap (λ (l : List ℕ). length l) items_are
-              ∙ long) c.next.ensures.rest.attached);
+          (outside c.next.new.desk).attached c.requires.fit moves.1 (ap (λ (l : List ℕ). length l) items_are
+          ∙ long) c.next.ensures.rest.attached);
       tally = c.take_feedback.ensures.tally;
     }
 
@@ -161,12 +166,12 @@ returns-in-Packet-clause-gives g c = λ s inputs stands told.
     let mid = outside c.next.new.desk in
     let entry = c.in-Some.entry in
     let b = is_after c.turn_laws.ensures c.cut_after.ensures m s inputs stands old mid told c.next.ensures.others
-        c.next.ensures.rest.written c.requires.fit.side c.next.new.self c.next.ensures.is_in
-        (with_items m.bytes c.next.new.buf) c.next.new.buf c.in-Some.at entry
+    c.next.ensures.rest.written c.requires.fit.side c.next.new.self c.next.ensures.is_in
+    (with_items m.bytes c.next.new.buf) c.next.new.buf c.in-Some.at entry
     (gave_entry c.in_ok-at.field-0 (Some (c.in-Some.at, entry)) m.log (inputs Events) c.next.new.buf _ c.in-Some.is
-        (c.in_ok-at.ensures.gives (inputs Events) (told Events refl)))
+    (c.in_ok-at.ensures.gives (inputs Events) (told Events refl)))
     (moved_entry c.in_ok-at.field-0 (Some (c.in-Some.at, entry)) m.log c.next.new.self c.in-Some.is
-        c.in_ok-at.ensures.moves)
+    c.in_ok-at.ensures.moves)
     in
     record {
       last = bad_entry (BadRecord c.in-Some.at);

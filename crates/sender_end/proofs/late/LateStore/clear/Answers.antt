@@ -11,10 +11,10 @@ returns-clause-empty c =
     let new = c.clear.new.self in
     let filled = c.fill.new.self in
     let quants : List ℕ = take c.self.inside.quants.items.len (filled
-        ++ drop (length filled) c.self.inside.quants.items.items) in
+    ++ drop (length filled) c.self.inside.quants.items.items) in
     let one : works_of was ≡ 1 = omega (arith, c.self.invariant.late.works) in
     let empty : IsEmpty was.format (slots_of was) 1 new = subst (λ (n : ℕ). IsEmpty was.format (slots_of was) n new) one
-        c.clear.ensures.empty in
+    c.clear.ensures.empty in
     subst (λ (x : LatePictures). IsEmpty x.store.format (slots_of x.store) 1 (store_once_drawn quants new))
-        c.self.view_is
+    c.self.view_is
     (empty_seen was.format (slots_of was) 1 quants new empty)

@@ -41,7 +41,7 @@ invariant_of-self c =
       late =
           subst (λ (l : List ℕ). AreLate l new) (set_same (quants c) (slots_of s.store) 0 (none c))
           (late_with (quants c) 0 s.store new are coded.numbers coded.pictures coded.others
-              (λ some. absurd (omega (arith, some))));
+          (λ some. absurd (omega (arith, some))));
       drawn = c.self.invariant.drawn;
     }
 
@@ -54,16 +54,16 @@ returns-then-self-clause-store c =
     let raw = picture_of s.store.format bytes in
     let new = with_work s.store 0 bytes in
     let is = reconstruction p.format c.args.header.now.rounding None
-        (choices_of (picture c.args.frame) None c.args.header.now p) in
+    (choices_of (picture c.args.frame) None c.args.header.now p) in
     let kept : AreKeptAs start (store_once_drawn (quants c) s.store) =
-        subst (λ (x : LatePictures). AreKeptAs x.store (store_once_drawn (quants c) s.store)) c.self.view_is
-        (kept_itself _) in
+    subst (λ (x : LatePictures). AreKeptAs x.store (store_once_drawn (quants c) s.store)) c.self.view_is
+    (kept_itself _) in
     let same : s.store.format ≡ p.format = ap (λ (x : LatePictures). x.store.format) c.self.view_is
-        ∙ c.requires.store_format in
+    ∙ c.requires.store_format in
     let shown : once_drawn 0 raw ≡ is = drawn_already 0 raw refl ∙ ap (λ (f : Format). picture_of f bytes) same
-        ∙ c.code_into.ensures.reconstruction in
+    ∙ c.code_into.ensures.reconstruction in
     subst (λ (l : List ℕ). IsCodedInto start (store_once_drawn l new) is) (set_same (quants c) (slots_of s.store) 0
-        (none c))
+    (none c))
     (coded_as start (quants c) 0 s.store new raw is c.self.invariant.late kept (lent c) shown)
 
 -- ---- it isn't drawn
@@ -76,8 +76,13 @@ module _ (c : goal.After-self-else-self-2-1) where
   bytes = c.code_levels_into.new.bytes
 
   last : c.len-work.result - 1 ≡ slots_of c.self.inside.store
-  last = omega (arith, c.len-work.ensures, c.self.inside.quants.items.ok.0, c.self.invariant.late.count,
-      c.self.invariant.late.works)
+  last = omega (
+    arith,
+    c.len-work.ensures,
+    c.self.inside.quants.items.ok.0,
+    c.self.invariant.late.count,
+    c.self.invariant.late.works,
+  )
 
   format_is : c.self.inside.store.format ≡ c.args.params.now.format
   format_is = ap (λ (x : LatePictures). x.store.format) c.self.view_is ∙ c.requires.store_format
@@ -107,7 +112,7 @@ invariant_of-self-else-self c =
       late =
           subst (λ (n : ℕ). AreLate (set (marks c) n q) new) (sym (last c))
           (late_with (marks c) q s.store new c.self.invariant.late coded.numbers coded.pictures coded.others
-              (λ some. can_as refl (sym coded.work) (can c)));
+          (λ some. can_as refl (sym coded.work) (can c)));
       drawn = λ all. cc;
     }
 
@@ -122,8 +127,8 @@ returns-else-self-clause-store c =
     let mbs = choices_of (picture c.args.frame) None h p in
     let is = reconstruction p.format h.rounding None mbs in
     let kept : AreKeptAs start (store_once_drawn (marks c) s.store) =
-        subst (λ (x : LatePictures). AreKeptAs x.store (store_once_drawn (marks c) s.store)) c.self.view_is
-        (kept_itself _) in
+    subst (λ (x : LatePictures). AreKeptAs x.store (store_once_drawn (marks c) s.store)) c.self.view_is
+    (kept_itself _) in
     let shown : once_drawn h.quant raw ≡ is =
     drawn_later h.quant raw (omega (arith, c.requires.header.quant_some))
     ∙ ap (λ (f : Format). reconstruction f 0 None (undrawn_mbs h.quant (picture_of f (bytes c)))) (format_is c)

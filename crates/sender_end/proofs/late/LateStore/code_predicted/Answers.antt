@@ -53,7 +53,7 @@ module _ (c : goal.After-self-1) where
       c.new-kept.ensures.picture
       ∙ ap (λ (f : Format). picture_of f c.pair-work.result.0.now) (sym format_is) ∙ c.pair-work.ensures.reference
       ∙ sym (seen_drawn quants c.self.inside.store slot (omega (arith, slot_low, c.self.invariant.late.works))
-          slot_drawn)
+      slot_drawn)
       ∙ (λ i. picture_in ((c.self.view_is i).store) (slot_is i))
       ∙ c.draw.ensures.same.others (slot_of c.args.self.now.store c.args.reference)
       (omega (arith, slot_low, slot_is, ap (λ (l : List (Option ℕ)). length l) numbers_are))
@@ -73,7 +73,7 @@ invariant_of-self c =
       late =
           subst (λ (l : List ℕ). AreLate l new) (set_same (quants c) (slots_of s.store) 0 (none c))
           (late_with (quants c) 0 s.store new c.self.invariant.late coded.numbers coded.pictures coded.others
-              (λ some. absurd (omega (arith, some))));
+          (λ some. absurd (omega (arith, some))));
       drawn = c.self.invariant.drawn;
     }
 
@@ -82,7 +82,7 @@ returns-clause-packets c =
     let p = c.args.params.now in
     let h = c.args.header.now in
     subst (λ (q : Picture). ArePacketsOf c.args.number (sequence_of c.args.cutter.now) h p.limit
-        (choices_of (picture c.args.frame) (Some q) h p) (packets_of c.code_into.new.cutter))
+    (choices_of (picture c.args.frame) (Some q) h p) (packets_of c.code_into.new.cutter))
     (reference_is c) c.code_into.ensures.packets
 
 pub returns-clause-store : goal.returns-clause-store
@@ -94,14 +94,14 @@ returns-clause-store c =
     let raw = picture_of s.store.format (bytes c) in
     let new = with_work s.store 0 (bytes c) in
     let shown : Picture → Picture = λ q. reconstruction p.format h.rounding (Some q)
-        (choices_of (picture c.args.frame) (Some q) h p) in
+    (choices_of (picture c.args.frame) (Some q) h p) in
     let is = shown (picture_in start (slot_of start c.args.reference)) in
     let kept : AreKeptAs start (store_once_drawn (quants c) s.store) =
-        subst (λ (x : LatePictures). AreKeptAs start x.store) (sym c.self.view_is) c.draw.ensures.same in
+    subst (λ (x : LatePictures). AreKeptAs start x.store) (sym c.self.view_is) c.draw.ensures.same in
     let drawn : once_drawn 0 raw ≡ is =
     drawn_already 0 raw refl ∙ ap (λ (f : Format). picture_of f (bytes c)) (format_is c)
-        ∙ c.code_into.ensures.reconstruction ∙ ap shown (reference_is c)
+    ∙ c.code_into.ensures.reconstruction ∙ ap shown (reference_is c)
     in
     subst (λ (l : List ℕ). IsCodedInto start (store_once_drawn l new) is) (set_same (quants c) (slots_of s.store) 0
-        (none c))
+    (none c))
     (coded_as start (quants c) 0 s.store new raw is c.self.invariant.late kept (lent c) drawn)

@@ -14,8 +14,13 @@ invariant_of-self-else-quant-gt0 c =
     let s = c.self.inside in
     let quants = boxed_slice_items s.quants in
     let are = c.self.invariant.late in
-    let last : c.len-work.result - 1 ≡ slots_of s.store = omega (arith, c.len-work.ensures, s.quants.items.ok.0,
-        are.count, are.works) in
+    let last : c.len-work.result - 1 ≡ slots_of s.store = omega (
+      arith,
+      c.len-work.ensures,
+      s.quants.items.ok.0,
+      are.count,
+      are.works,
+    ) in
     subst (λ (n : ℕ). IsLateStore s.draws_all (set quants n 0) s.store) (sym last)
     (record {
       late = without_work quants s.store are;
@@ -28,11 +33,16 @@ returns-else-quant-gt0-clause-same c =
     let s = c.self.inside in
     let quants = boxed_slice_items s.quants in
     let are = c.self.invariant.late in
-    let last : c.len-work.result - 1 ≡ slots_of s.store = omega (arith, c.len-work.ensures, s.quants.items.ok.0,
-        are.count, are.works) in
+    let last : c.len-work.result - 1 ≡ slots_of s.store = omega (
+      arith,
+      c.len-work.ensures,
+      s.quants.items.ok.0,
+      are.count,
+      are.works,
+    ) in
     subst (λ (n : ℕ). AreKeptAs c.args.self.now.store (store_once_drawn (set quants n 0) s.store)) (sym last)
     (subst (λ (x : LatePictures). AreKeptAs x.store (store_once_drawn (set quants (slots_of s.store) 0) s.store))
-        c.self.view_is (kept_without_work quants s.store are))
+    c.self.view_is (kept_without_work quants s.store are))
 
 -- ---- it is drawn now
 
@@ -41,8 +51,13 @@ module _ (c : goal.After-draw_kept) where
   quants = boxed_slice_items c.self.inside.quants
 
   last : c.len-work.result - 1 ≡ slots_of c.self.inside.store
-  last = omega (arith, c.len-work.ensures, c.self.inside.quants.items.ok.0, c.self.invariant.late.count,
-      c.self.invariant.late.works)
+  last = omega (
+    arith,
+    c.len-work.ensures,
+    c.self.inside.quants.items.ok.0,
+    c.self.invariant.late.count,
+    c.self.invariant.late.works,
+  )
 
   abbrev cleared : List ℕ
   cleared = set quants (slots_of c.self.inside.store) 0
@@ -83,7 +98,7 @@ invariant_of-self c =
     (record {
       late =
           drawn_late (cleared c) s.store c.draw_kept.new.store (slot c) are (slot_low c)
-              (free c) made.format made.numbers made.pictures made.room
+          (free c) made.format made.numbers made.pictures made.room
           (made.drawn ∙ ap (λ (q : ℕ). once_drawn q (picture_in s.store (slot c))) (quant_is c)) made.others;
       drawn = λ all.
           still_drawn (cleared c) (slot c) (omega (arith, slot_low c, as_long c, work_low c))
@@ -97,10 +112,10 @@ returns-then-quant-gt0-clause-same c =
     let are = without_work (quants c) s.store c.self.invariant.late in
     let first : AreKeptAs c.args.self.now.store (store_once_drawn (cleared c) s.store) =
     subst (λ (x : LatePictures). AreKeptAs x.store (store_once_drawn (cleared c) s.store)) c.self.view_is
-        (kept_without_work (quants c) s.store c.self.invariant.late)
+    (kept_without_work (quants c) s.store c.self.invariant.late)
     in
     subst (λ (l : List ℕ). AreKeptAs c.args.self.now.store (store_once_drawn l c.draw_kept.new.store)) (sym (list_is c))
     (kept_twice first
     (drawn_kept (cleared c) s.store c.draw_kept.new.store (slot c) are (slot_low c) (free c) made.format made.numbers
-        made.pictures made.room
+    made.pictures made.room
     (made.drawn ∙ ap (λ (q : ℕ). once_drawn q (picture_in s.store (slot c))) (quant_is c)) made.others))

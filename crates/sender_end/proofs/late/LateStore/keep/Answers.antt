@@ -11,8 +11,13 @@ module _ (c : goal.After-self-2-1) where
   quants = boxed_slice_items c.self.inside.quants
 
   last : c.len-work.result - 1 ≡ slots_of c.self.inside.store
-  last = omega (arith, c.len-work.ensures, c.self.inside.quants.items.ok.0, c.self.invariant.late.count,
-      c.self.invariant.late.works)
+  last = omega (
+    arith,
+    c.len-work.ensures,
+    c.self.inside.quants.items.ok.0,
+    c.self.invariant.late.count,
+    c.self.invariant.late.works,
+  )
 
   slot_is : c.args.number % (c.len-work.result - 1) ≡ slot_of c.self.inside.store c.args.number
   slot_is = ap (λ (n : ℕ). c.args.number % n) last
@@ -22,7 +27,7 @@ module _ (c : goal.After-self-2-1) where
       c.index.ensures
       ∙ ap (λ (n : ℕ). get_or quants n c.index.result.now) last
       ∙ get_or_default quants (slots_of c.self.inside.store) c.index.result.now 0
-          (omega (arith, c.self.invariant.late.count, c.self.invariant.late.works))
+      (omega (arith, c.self.invariant.late.count, c.self.invariant.late.works))
 
   quants_are : set (set quants (c.args.number % (c.len-work.result - 1)) c.index.result.now) (c.len-work.result - 1) 0
       ≡ after_keep quants c.self.inside.store c.args.number
@@ -41,7 +46,7 @@ pub returns-clause-keeps : goal.returns-clause-keeps
 returns-clause-keeps c =
     let s = c.self.inside in
     subst (λ (l : List ℕ). Keeps c.args.self.now.store (store_once_drawn l c.keep.new.self) c.args.number 0)
-        (sym (quants_are c))
+    (sym (quants_are c))
     (subst (λ (x : LatePictures). Keeps x.store (store_once_drawn (after_keep (quants c) s.store c.args.number)
-        c.keep.new.self) c.args.number 0) c.self.view_is
+    c.keep.new.self) c.args.number 0) c.self.view_is
     (kept_seen (quants c) s.store c.keep.new.self c.args.number c.self.invariant.late c.keep.ensures))

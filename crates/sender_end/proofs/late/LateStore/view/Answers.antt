@@ -13,9 +13,9 @@ returns-clause-picture c =
     let quants = boxed_slice_items s.quants in
     let slot = slot_of s.store c.args.number in
     let all : AreDrawn quants = c.self.invariant.drawn (ap (λ (x : LatePictures). x.draws_all) c.self.view_is
-        ∙ c.requires) in
+    ∙ c.requires) in
     let same : picture_in s.store slot ≡ picture_in c.args.self.now.store (slot_of c.args.self.now.store c.args.number)
-        =
+    =
     sym (seen_drawn quants s.store slot (omega (arith, mod-lt c.args.number are.some, are.works)) (all slot))
     ∙ ap (λ (x : LatePictures). picture_in x.store (slot_of x.store c.args.number)) c.self.view_is
     in

@@ -10,7 +10,7 @@ pub invariant_of-result : goal.invariant_of-result
 invariant_of-result g c =
     let p = c.args.params.now in
     ready_new _ refl c.requires c.in_ok-cutter.ensures.format c.in_ok-cutter.ensures.limit c.in_ok-cutter.ensures.none
-        c.in_ok-store.ensures.empty.format
+    c.in_ok-store.ensures.empty.format
     (ap (λ (l : List (Option ℕ)). length l) c.in_ok-store.ensures.empty.numbers ∙ length-replicate p.slots _)
     c.in_ok-store.ensures.empty.pictures
     (c.start-3.ensures (rules_of p) (λ m. 0) (λ m. false) refl refl refl refl)

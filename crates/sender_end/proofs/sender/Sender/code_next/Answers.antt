@@ -45,11 +45,11 @@ code-requires-clause-kept g c =
     let old = c.self.inside in
     let reference = c.args.next.reference in
     let recent = subst (λ (x : SenderState g.row.P.Denot). IfSome reference (λ m. (m < x.sent)
-        × (x.sent ≤ m + x.params.slots))) (sym c.self.view_is) c.requires.recent in
+    × (x.sent ≤ m + x.params.slots))) (sym c.self.view_is) c.requires.recent in
     let kept : IfSome reference (λ m. IsKept old.store.store m) = IfSome_then reference recent
-        (λ m r. ready.kept m r.0 r.1) in
+    (λ m r. ready.kept m r.0 r.1) in
     subst (λ (k : Kind). HasKept k old.store.store reference)
-        (sym (ap (λ (h : Header). h.kind) c.header_of-header.ensures.value)) (has_kept old.store.store reference kept)
+    (sym (ap (λ (h : Header). h.kind) c.header_of-header.ensures.value)) (has_kept old.store.store reference kept)
 
 -- a picture by itself has depth 0, and by that its rounding
 pub code-requires-clause-rounding : goal.code-requires-clause-rounding
@@ -58,8 +58,11 @@ code-requires-clause-rounding g c = λ none.
 
 pub size_of-requires : goal.size_of-requires
 size_of-requires g c k d below =
-    omega (arith, c.written_packets.ensures.small _ _ _ _ _ _ c.code.ensures.packets k d below,
-        c.self.invariant.params.limit_high)
+    omega (
+      arith,
+      c.written_packets.ensures.small _ _ _ _ _ _ c.code.ensures.packets k d below,
+      c.self.invariant.params.limit_high,
+    )
 
 pub invariant_of-self : goal.invariant_of-self
 invariant_of-self g c =
@@ -70,10 +73,10 @@ invariant_of-self g c =
     let stored = c.code.ensures.store in
     let some : 0 < old.params.slots = omega (arith, ready.params.slots_low) in
     let held : slots_of c.code.new.self.store ≡ old.params.slots = ap (λ (l : List (Option ℕ)). length l) stored.numbers
-        ∙ ready.slots in
+    ∙ ready.slots in
     let before : (m : ℕ) → m < n → n ≤ m + old.params.slots → IsKept c.code.new.self.store m =
     λ m below last. subst (λ (l : List (Option ℕ)). IsKept (record old.store.store { numbers = l }) m)
-        (sym stored.numbers) (ready.kept m below last)
+    (sym stored.numbers) (ready.kept m below last)
     in
     record {
       params = ready.params;
@@ -119,7 +122,7 @@ answer_of g c = record { number = c.self.inside.sent; reference = c.args.next.re
 coded_with : (g : Over) (c : After-count g) (s : Sender Picture) → IsSeen (before g c) s
     → c.args.next.depth ≡ option_map_or (λ m. s.depth (m % c.self.inside.params.slots) + 1) c.args.next.reference 0
     → IsCodedWith c.self.inside.params (g.P.Pace.quant_of c.self.inside.pace s.sizes)
-        (frame_of g c) c.args.next.reference s (after g c) (answer_of g c)
+    (frame_of g c) c.args.next.reference s (after g c) (answer_of g c)
 coded_with g c s seen depth_is =
     let ready = c.self.invariant in
     let old = c.self.inside in
@@ -130,7 +133,7 @@ coded_with g c s seen depth_is =
     let q = c.quant-quant.result in
     let messages = c.args.back.now in
     let params_are : c.args.self.now.params ≡ p = ap (λ (x : SenderState g.row.P.Denot). x.params)
-        (sym c.self.view_is) in
+    (sym c.self.view_is) in
     let frame = frame_of g c in
     let mid = c.code.new.self.store in
     let now = c.keep.new.self.store in
@@ -143,46 +146,46 @@ coded_with g c s seen depth_is =
     let plain = numbered p.clock n reference (style_of messages) in
     let header = numbered p.clock n reference x.style in
     let all : carried p.clock messages
-        ≡ messages = c.carried_as_they_are.ensures.messages p.clock messages c.requires.few
-        (subst (λ (q : Params). AreMessages q.clock messages) params_are c.requires.back) in
+    ≡ messages = c.carried_as_they_are.ensures.messages p.clock messages c.requires.few
+    (subst (λ (q : Params). AreMessages q.clock messages) params_are c.requires.back) in
     let headed : c.header_of-header.result ≡ header_from header =
     c.header_of-header.ensures.value
-        ∙ ap (λ (l : List Message). header_from (numbered p.clock n reference (style_of l))) (sym all)
+    ∙ ap (λ (l : List Message). header_from (numbered p.clock n reference (style_of l))) (sym all)
     in
     let mbs = (encoding p).choice frame earlier x.style in
     let chosen_mbs : choices_of frame.picture earlier c.header_of-header.result p ≡ mbs =
     ap (λ (h : Header). choices_of frame.picture earlier h p) headed
-        ∙ c.written_packets.ensures.choice p frame earlier header (c.requires.frame
-        ∙ ap (λ (q : Params). q.format) params_are)
+    ∙ c.written_packets.ensures.choice p frame earlier header (c.requires.frame
+    ∙ ap (λ (q : Params). q.format) params_are)
     in
     let written : ArePacketsOf n (sequence_of old.cutter) (header_from header) p.limit mbs
-        (packets_of c.code.new.cutter) =
+    (packets_of c.code.new.cutter) =
     subst (λ (l : List Mb). ArePacketsOf n (sequence_of old.cutter) (header_from header) p.limit l
-        (packets_of c.code.new.cutter)) chosen_mbs
+    (packets_of c.code.new.cutter)) chosen_mbs
     (subst (λ (h : Header). ArePacketsOf n (sequence_of old.cutter) h p.limit
-        (choices_of frame.picture earlier c.header_of-header.result p) (packets_of c.code.new.cutter)) headed
-        coding.packets)
+    (choices_of frame.picture earlier c.header_of-header.result p) (packets_of c.code.new.cutter)) headed
+    coding.packets)
     in
     let packets : packets_of c.code.new.cutter ≡ (encoding p).packets n (sequence_of old.cutter) header x.slices =
     c.written_packets.ensures.packets p (is_some reference) n (sequence_of old.cutter) header mbs
-        (packets_of c.code.new.cutter) (numbered_fits p n reference x.style) refl written
+    (packets_of c.code.new.cutter) (numbered_fits p n reference x.style) refl written
     in
     let count : length (packets_of c.code.new.cutter) ≡ length x.slices =
     ap (λ (l : List (List ℕ)). length l) packets
-        ∙ c.written_packets.ensures.count p n (sequence_of old.cutter) header x.slices
+    ∙ c.written_packets.ensures.count p n (sequence_of old.cutter) header x.slices
     in
     let rounding : c.header_of-header.result.rounding ≡ x.style.rounding = ap (λ (h : Header). h.rounding) headed in
     let shown : picture_in now (n % p.slots) ≡ x.picture =
     ap (λ (l : ℕ). picture_in now (n % l)) (sym held) ∙ c.keep.ensures.keeps.kept ∙ coding.store.work
     ∙ ap (λ (r : ℕ). recon.reconstruction p.format r earlier
-        (choices_of frame.picture earlier c.header_of-header.result p)) rounding
+    (choices_of frame.picture earlier c.header_of-header.result p)) rounding
     ∙ ap (λ (l : List Mb). recon.reconstruction p.format x.style.rounding earlier l) chosen_mbs
     ∙ sym (c.are_pictures.ensures.reconstructed p.format x.style earlier mbs)
     in
     let is_next : x ≡ with_kept p (g.P.Pace.quant_of old.pace s.sizes) frame s reference =
     made_is_kept p (g.P.Pace.quant_of old.pace s.sizes) frame s reference d q earlier depth_is
     (sym (ap (g.P.Pace.quant_of old.pace) (seen.sizes ∙ sym c.as_slice.ensures.value)
-        ∙ sym c.quant-quant.ensures.value))
+    ∙ sym c.quant-quant.ensures.value))
     (same_picture old.store.store p.slots s.picture reference some ready.slots seen.picture)
     in
     let t : Sender Picture = record {
@@ -248,8 +251,8 @@ pub returns-clause-made : goal.returns-clause-made
 returns-clause-made g c = λ s seen depth_is.
     let was = subst (λ (x : SenderState g.row.P.Denot). IsSeen x s) (sym c.self.view_is) seen in
     let depth = subst (λ (x : SenderState g.row.P.Denot). c.args.next.depth
-        ≡ option_map_or (λ m. s.depth (m % x.params.slots) + 1) c.args.next.reference 0) (sym c.self.view_is) depth_is
-        in
+    ≡ option_map_or (λ m. s.depth (m % x.params.slots) + 1) c.args.next.reference 0) (sym c.self.view_is) depth_is
+    in
     subst (λ (x : SenderState g.row.P.Denot). IsCodedWith x.params (g.P.Pace.quant_of x.pace s.sizes)
-        (frame_of g c) c.args.next.reference s (after g c) (answer_of g c)) c.self.view_is
+    (frame_of g c) c.args.next.reference s (after g c) (answer_of g c)) c.self.view_is
     (coded_with g c s was depth)

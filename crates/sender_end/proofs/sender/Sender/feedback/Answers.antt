@@ -47,9 +47,9 @@ seen_after : (g : Over) (c : Joined-note g) (s : Sender Picture) → IsSeen (bef
 seen_after g c s seen =
     let i = c.self.inside in
     let read : read_message i.params.clock c.args.bytes.now ≡ Ok (message_of c.in-Ok.message) =
-        ap as_read (sym c.read.ensures.value ∙ c.in-Ok.is) in
+    ap as_read (sym c.read.ensures.value ∙ c.in-Ok.is) in
     noted (before g c) c.args.bytes.now s seen (message_of c.in-Ok.message) read c.note.new.self
-        (c.note.ensures.known (rules_of i.params))
+    (c.note.ensures.known (rules_of i.params))
 
 pub returns-after-note-clause-stands : goal.returns-after-note-clause-stands
 returns-after-note-clause-stands g c = λ entries stood.
@@ -57,7 +57,7 @@ returns-after-note-clause-stands g c = λ entries stood.
     let p = i.params in
     let pace = g.P.Pace.quant_of i.pace in
     let was = subst (λ (x : SenderState g.row.P.Denot). Stands (g.P.Pace.quant_of x.pace) x entries)
-        (sym c.self.view_is) stood in
+    (sym c.self.view_is) stood in
     let noted_now = seen_after g c was.s was.seen in
     let now : Stands pace (after g c) (Feedback c.args.bytes.now ∷ entries) = record {
       s = noted_now.t;
@@ -65,11 +65,11 @@ returns-after-note-clause-stands g c = λ entries stood.
       since = was.since;
       stands =
           c.sender_stands.ensures.feedback (pictures p.format) (encoding p) (rules_of p)
-              (c.are_rules.ensures p c.self.invariant.params)
+          (c.are_rules.ensures p c.self.invariant.params)
           pace c.args.bytes.now was.s noted_now.t entries was.stands noted_now.after;
     } in
     subst (λ (x : SenderState g.row.P.Denot). Stands (g.P.Pace.quant_of x.pace) (after g c)
-        (Feedback c.args.bytes.now ∷ entries)) c.self.view_is now
+    (Feedback c.args.bytes.now ∷ entries)) c.self.view_is now
 
 pub returns-after-note-clause-holds : goal.returns-after-note-clause-holds
 returns-after-note-clause-holds g c = λ run held.
@@ -83,8 +83,8 @@ returns-after-note-clause-holds g c = λ run held.
       since = was.since;
       holds =
           c.sender_holds.ensures.feedback (pictures p.format) (encoding p) (rules_of p)
-              (c.are_rules.ensures p c.self.invariant.params)
+          (c.are_rules.ensures p c.self.invariant.params)
           c.args.bytes.now was.s noted_now.t run.run was.holds noted_now.after;
     } in
     subst (λ (x : SenderState g.row.P.Denot). Holds (after g c) (after_message x.params c.args.bytes.now run))
-        c.self.view_is now
+    c.self.view_is now

@@ -36,7 +36,7 @@ last_is state s run seen keeps held room some =
           ∙ sym (seen.picture (m % state.params.slots) (mod-lt m room))
           ∙ keeps.kept m at.0 (at.1, omega (arith, all, some, room)) at.2)
           ∙ sym (ap (λ (o : Option (Coded Style Mb Picture)). option_map (λ (y : Coded Style Mb Picture). y.picture) o)
-              at.2)
+          at.2)
       | inr past ↦ absurd (omega (arith, past.0, all, some))
     ]
 
@@ -48,16 +48,19 @@ if_some Q (Some y) x is holds = subst Q (cc is) holds
 lent_is : (g : Over) (c : After-unwrap g) (s : Sender Picture) (run : SenderRun Style Mb Picture)
     → IsSeen (state_of c.self.inside) s
     → SenderKeeps (pictures c.self.inside.params.format) (encoding c.self.inside.params) (rules_of c.self.inside.params)
-        s run
+    s run
     → Some (picture c.unwrap.result) ≡ picture_at run.coded (c.self.inside.sent - 1)
 lent_is g c s run seen keeps =
     let i = c.self.inside in
     let ready = c.self.invariant in
-    let some : 0 < i.sent = omega (arith, c.requires.coded,
-        ap (λ (x : SenderState g.row.P.Denot). x.sent) c.self.view_is) in
+    let some : 0 < i.sent = omega (
+      arith,
+      c.requires.coded,
+      ap (λ (x : SenderState g.row.P.Denot). x.sent) c.self.view_is,
+    ) in
     let shown : picture c.unwrap.result ≡ picture_in i.store.store (slot_of i.store.store (i.sent - 1)) =
     if_some (λ r. picture r ≡ picture_in i.store.store (slot_of i.store.store (i.sent - 1))) c.view.result
-        c.unwrap.result c.unwrap.ensures c.view.ensures.picture
+    c.unwrap.result c.unwrap.ensures c.view.ensures.picture
     in
     ap (λ (p : Picture). let o : Option Picture = Some p in o) shown
     ∙ last_is (state_of i) s run seen keeps ready.slots (omega (arith, ready.params.slots_low)) some
@@ -66,14 +69,14 @@ pub returns-clause-stands : goal.returns-clause-stands
 returns-clause-stands g c = λ entries stood.
     let i = c.self.inside in
     let was = subst (λ (x : SenderState g.row.P.Denot). Stands (g.P.Pace.quant_of x.pace) x entries)
-        (sym c.self.view_is) stood in
+    (sym c.self.view_is) stood in
     subst (λ (x : SenderState g.row.P.Denot). Some (picture c.unwrap.result)
-        ≡ picture_at (run_of x.params (g.P.Pace.quant_of x.pace) entries).coded (x.sent - 1)) c.self.view_is
+    ≡ picture_at (run_of x.params (g.P.Pace.quant_of x.pace) entries).coded (x.sent - 1)) c.self.view_is
     (lent_is g c was.s (run_of i.params (g.P.Pace.quant_of i.pace) entries) was.seen was.stands)
 
 pub returns-clause-holds : goal.returns-clause-holds
 returns-clause-holds g c = λ run held.
     let was = subst (λ (x : SenderState g.row.P.Denot). Holds x run) (sym c.self.view_is) held in
     subst (λ (x : SenderState g.row.P.Denot). Some (picture c.unwrap.result) ≡ picture_at run.run.coded (x.sent - 1))
-        c.self.view_is
+    c.self.view_is
     (lent_is g c was.s run.run was.seen was.holds.keeps)

@@ -13,7 +13,7 @@ invariant_of-self g c =
     let old = c.self.inside.store.store in
     let empty = c.clear-2.ensures.empty in
     ready_new _ refl ready.params (c.restart.ensures.format ∙ ready.cutter_format) (c.restart.ensures.limit
-        ∙ ready.cutter_limit) c.restart.ensures.none
+    ∙ ready.cutter_limit) c.restart.ensures.none
     (empty.format ∙ ready.store_format)
     (ap (λ (l : List (Option ℕ)). length l) empty.numbers ∙ length-replicate (slots_of old) _ ∙ ready.slots)
     (omega (arith, empty.pictures, ready.slots, ready.works))
@@ -30,7 +30,7 @@ returns-clause-stands g c =
       sizes = c.clear.ensures;
       selects = c.start-selector.ensures (rules_of p) (λ m. 0) (λ m. false) refl refl refl refl;
     } _ (c.sender_stands.ensures.new (pictures p.format) (encoding p) (rules_of p)
-        (c.are_rules.ensures p c.self.invariant.params))
+    (c.are_rules.ensures p c.self.invariant.params))
 
 pub returns-clause-holds : goal.returns-clause-holds
 returns-clause-holds g c =
@@ -43,4 +43,4 @@ returns-clause-holds g c =
       sizes = c.clear.ensures;
       selects = c.start-selector.ensures (rules_of p) (λ m. 0) (λ m. false) refl refl refl refl;
     } (c.sender_holds.ensures.new (pictures p.format) (encoding p) (rules_of p)
-        (c.are_rules.ensures p c.self.invariant.params))
+    (c.are_rules.ensures p c.self.invariant.params))

@@ -15,7 +15,7 @@ returns-in_default-clause-told c = λ f s.
 pub returns-in_default-clause-stands : goal.returns-in_default-clause-stands
 returns-in_default-clause-stands c = λ f s.
     subst (λ (x : Option Run). FollowsStand c.args.self.now
-        (after_play_of (config_in c.args.settings.now) x c.args.now f))
+    (after_play_of (config_in c.args.settings.now) x c.args.now f))
     (c.in_default.ensures c.args.settings.now c.args.now f c.requires.kept s) s
 
 pub returns-in_default-play_due-clause-told : goal.returns-in_default-play_due-clause-told

@@ -15,7 +15,7 @@ pub returns-clause-answer : goal.returns-clause-answer
 returns-clause-answer c = λ h s.
     let r = c.args.self.now.run in
     subst (λ (k : Config). IsAnswer k.params.clock c.arrival-answer.result
-        (answer_in k c.args.packet.now c.args.bytes.now c.args.now h))
+    (answer_in k c.args.packet.now c.args.bytes.now c.args.now h))
     c.requires.kept.config
     (answered r.timed.receiver.params h.first r.lead (timed_of r.numbers.rate h.first r.lead h.past)
     (place_of r.numbers.rate (heard_of h.past) c.args.packet.now c.args.now) c.args.bytes.now c.arrival-answer.result

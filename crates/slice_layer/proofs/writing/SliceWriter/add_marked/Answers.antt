@@ -15,22 +15,36 @@ use Rattle.slice_layer.proofs.writing.SliceWriter.add_marked.Goals as goal
 pub returns-then-self-at-clause-answer : goal.returns-then-self-at-clause-answer
 returns-then-self-at-clause-answer c h begins first mbs holds =
     let len = next_length c.args.self.now h begins first mbs c.args.mb.now c.predictor-predictor.result holds
-        c.predictor-predictor.ensures in
-    answer_full (length (bytes_in c.args.self.now)) _ (omega (arith, len, c.write_apart-len.ensures.len,
-        c.if-self-at.true))
+    c.predictor-predictor.ensures in
+    answer_full (length (bytes_in c.args.self.now)) _ (omega (
+      arith,
+      len,
+      c.write_apart-len.ensures.len,
+      c.if-self-at.true,
+    ))
 
 pub returns-then-self-at-clause-first : goal.returns-then-self-at-clause-first
 returns-then-self-at-clause-first c h begins first is room holds =
-    absurd (omega (arith, holds.len, ap length (no_text h begins first),
-        opening_short c.in_a_syntax.ensures h begins first is, room, c.write_apart-len.ensures.short,
-        c.if-self-at.true))
+    absurd (omega (
+      arith,
+      holds.len,
+      ap length (no_text h begins first),
+      opening_short c.in_a_syntax.ensures h begins first is,
+      room,
+      c.write_apart-len.ensures.short,
+      c.if-self-at.true,
+    ))
 
 pub returns-clause-answer : goal.returns-clause-answer
 returns-clause-answer c h begins first mbs holds =
     let len = next_length c.args.self.now h begins first mbs c.args.mb.now c.predictor-predictor.result holds
-        c.predictor-predictor.ensures in
-    answer_fits (length (bytes_in c.args.self.now)) _ (omega (arith, len, c.write_apart-len.ensures.len,
-        c.if-self-at.false))
+    c.predictor-predictor.ensures in
+    answer_fits (length (bytes_in c.args.self.now)) _ (omega (
+      arith,
+      len,
+      c.write_apart-len.ensures.len,
+      c.if-self-at.false,
+    ))
 
 pub returns-clause-fits : goal.returns-clause-fits
 returns-clause-fits c h begins first mbs holds fits =
@@ -41,20 +55,34 @@ returns-clause-fits c h begins first mbs holds fits =
     let more = mb_text (kind_of w) (quant_of w) c.predictor-predictor.result m in
     let size = (c.write_apart-len.result + 7) / 8 in
     let few : length front ≡ w.len % 8 = length-spelled c.last_bits-last.result.count c.last_bits-last.result.number
-        ∙ c.last_bits-last.ensures.count in
-    let bytes : size ≡ bytes_of (front ++ more) = omega (arith, length-append front more, few,
-        c.write_apart-len.ensures.len) in
-    let long : length (take size apart) ≡ size = omega (arith, length-take size apart, c.write_apart-len.array_long,
-        c.write_apart-len.ensures.short) in
+    ∙ c.last_bits-last.ensures.count in
+    let bytes : size ≡ bytes_of (front ++ more) = omega (
+      arith,
+      length-append front more,
+      few,
+      c.write_apart-len.ensures.len,
+    ) in
+    let long : length (take size apart) ≡ size = omega (
+      arith,
+      length-take size apart,
+      c.write_apart-len.array_long,
+      c.write_apart-len.ensures.short,
+    ) in
     let pasted = ap (λ (k : ℕ). take (w.len / 8 + k) c.paste.new.bytes) (sym long) ∙ c.paste.ensures.front in
     let text : IsFront (slice_text h begins first mbs ++ more) c.paste.new.bytes =
     grown (bytes_in w) c.paste.new.bytes apart (slice_text h begins first mbs) front more w.len size holds.len w.inside
-        holds.text few c.last_bits-last.ensures.bits bytes c.write_apart-len.ensures.text pasted in
+    holds.text few c.last_bits-last.ensures.bits bytes c.write_apart-len.ensures.text pasted in
     let next = next_is w h begins first mbs m c.predictor-predictor.result holds c.predictor-predictor.ensures in
     let written : IsFront (slice_text h begins first mbs ++ next_text h first mbs m) c.paste.new.bytes =
-        subst (λ (t : List Bool). IsFront (slice_text h begins first mbs ++ t) c.paste.new.bytes) next text in
+    subst (λ (t : List Bool). IsFront (slice_text h begins first mbs ++ t) c.paste.new.bytes) next text in
     held w c.keep.new.self h begins first mbs m holds (subst (λ (l : List ℕ). IsFront (slice_text h begins first mbs
-        ++ next_text h first mbs m) l) (sym c.keep.ensures.bytes) written)
+    ++ next_text h first mbs m) l) (sym c.keep.ensures.bytes) written)
     (omega (arith, c.keep.ensures.len, c.write_apart-len.ensures.len, ap length next))
-    (record { kind = c.keep.ensures.slice.kind; format = c.keep.ensures.slice.format; from = c.keep.ensures.slice.first;
-        next = c.keep.ensures.next; quant = c.keep.ensures.quant; vectors = c.keep.ensures.vectors })
+    (record {
+      kind = c.keep.ensures.slice.kind;
+      format = c.keep.ensures.slice.format;
+      from = c.keep.ensures.slice.first;
+      next = c.keep.ensures.next;
+      quant = c.keep.ensures.quant;
+      vectors = c.keep.ensures.vectors;
+    })

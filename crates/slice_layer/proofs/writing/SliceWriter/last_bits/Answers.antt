@@ -8,4 +8,4 @@ pub returns-clause-bits : goal.returns-clause-bits
 returns-clause-bits c =
     let w = c.args.self.now in
     last_again w.bytes.now w.len c.peek-number.result w.inside (c.peek-number.ensures.value
-        ∙ ap (λ (b : Bits). number (take (w.len % 8) b.bits)) c.new.ensures.bits)
+    ∙ ap (λ (b : Bits). number (take (w.len % 8) b.bits)) c.new.ensures.bits)

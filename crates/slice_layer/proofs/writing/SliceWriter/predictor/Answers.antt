@@ -20,5 +20,5 @@ pub returns-in-Inter : goal.returns-in-Inter
 returns-in-Inter c =
     let w = c.args.self.now in
     let found = c.predictor.ensures
-        ∙ ap (λ (k : ℕ). predictor_of (take w.next w.vectors) w.first w.next k) c.columns.ensures in
+    ∙ ap (λ (k : ℕ). predictor_of (take w.next w.vectors) w.first w.next k) c.columns.ensures in
     ap (λ (v : Vector). mb_text (kind_of w) (quant_of w) v c.args.mb.now) found

@@ -10,7 +10,7 @@ returns-in-Some-clause-stands c = λ past stands.
     let k = c.self.inside.kept in
     let mine : Stands k past = subst (λ (x : Kept). Stands x past) (sym c.self.view_is) stands in
     subst (λ (x : Kept). Stands x (Fed c.args.bytes.now ∷ past)) c.self.view_is
-        (stays_broken k past (Fed c.args.bytes.now) _ c.in-Some.is mine)
+    (stays_broken k past (Fed c.args.bytes.now) _ c.in-Some.is mine)
 
 pub returns-in-None-clause-stands : goal.returns-in-None-clause-stands
 returns-in-None-clause-stands c = λ past stands.
@@ -18,4 +18,4 @@ returns-in-None-clause-stands c = λ past stands.
     let mine : Stands k past = subst (λ (x : Kept). Stands x past) (sym c.self.view_is) stands in
     let same = c.note.ensures.same in
     fed k past mine c.in-None.is c.note.new.self c.args.bytes.now (ap (λ (x : Kept). x.params) same)
-        (ap (λ (x : Kept). x.broken) same) (λ keeps. c.note.ensures.keeps _ keeps)
+    (ap (λ (x : Kept). x.broken) same) (λ keeps. c.note.ensures.keeps _ keeps)

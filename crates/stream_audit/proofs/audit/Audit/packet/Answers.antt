@@ -23,13 +23,16 @@ returns-in-Ok-clause-stands c = λ past stands.
     let keeps = mine.keeps c.in_default.is in
     let read : (decoding k.params.format).read bytes ≡ Ok q = ap with_piece c.in-Ok.ensures.exact in
     let sized : length out ≡ mbs_of k.params.format = c.read_packet.ensures.size
-        ∙ ap (λ (l : List Mb). length l) c.deref_mut.ensures.value ∙ c.self.invariant.1 in
+    ∙ ap (λ (l : List Mb). length l) c.deref_mut.ensures.value ∙ c.self.invariant.1 in
     let range = c.in-Ok.ensures.range in
     let within : piece.head.first + piece.head.count ≤ mbs_of k.params.format =
-        subst (λ (f : Format). piece.head.first + piece.head.count ≤ mbs_of f) range.of-format range.slice.head.within
-        in
-    let spells : Spells piece q = record { header = refl; first = refl;
-        count = length-take-le piece.head.count (drop piece.head.first out)
-        (omega (arith, sized, length-drop piece.head.first out, within)) } in
+    subst (λ (f : Format). piece.head.first + piece.head.count ≤ mbs_of f) range.of-format range.slice.head.within
+    in
+    let spells : Spells piece q = record {
+      header = refl;
+      first = refl;
+      count = length-take-le piece.head.count (drop piece.head.first out)
+          (omega (arith, sized, length-drop piece.head.first out, within));
+    } in
     judged k past mine c.in_default.is c.judge.new.self bytes q c.judge.ensures.params read
     (c.judge.ensures.judged _ (record { bytes = bytes; piece = q }) keeps spells)

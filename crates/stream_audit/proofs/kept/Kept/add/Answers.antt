@@ -16,8 +16,10 @@ returns-clause-fits c =
       row = c.add.ensures.same.many ∙ fits.row;
       few = fits.few;
       taken = t ∷ fits.taken;
-      collects = subst (λ (n : ℕ). Collects c.add.new.self (k.pictures - 1) (record { number = n;
-          piece = c.args.piece.now } ∷ fits.taken)) c.present-number.ensures
+      collects = subst (λ (n : ℕ). Collects c.add.new.self (k.pictures - 1) (record {
+        number = n;
+        piece = c.args.piece.now;
+      } ∷ fits.taken)) c.present-number.ensures
           (c.add.ensures.taken (k.pictures - 1) fits.taken fits.collects);
       before_first = λ first. absurd (omega (arith, some, first));
     }
@@ -26,6 +28,8 @@ pub returns-clause-keeps : goal.returns-clause-keeps
 returns-clause-keeps c = λ items p part keeps is spells header.
     let k = c.args.self.now in
     added c.what_is_taken.ensures k items part c.args.piece.now keeps spells c.add.new.self p is header
-    (subst (λ (n : ℕ). Collects c.add.new.self (k.pictures - 1) (record { number = n;
-        piece = c.args.piece.now } ∷ keeps.taken)) c.present-number.ensures
-        (c.add.ensures.taken (k.pictures - 1) keeps.taken keeps.collects))
+    (subst (λ (n : ℕ). Collects c.add.new.self (k.pictures - 1) (record {
+      number = n;
+      piece = c.args.piece.now;
+    } ∷ keeps.taken)) c.present-number.ensures
+    (c.add.ensures.taken (k.pictures - 1) keeps.taken keeps.collects))

@@ -24,7 +24,7 @@ add-requires-clause-row c =
     let begins = (c.make_room.ensures.collects fits.taken fits.collects).begins in
     let row = c.make_room.ensures.row in
     let count : c.make_room.new.self.pictures ≡ c.args.self.now.pictures =
-        ap (λ (x : Kept). x.pictures) c.make_room.ensures.same in
+    ap (λ (x : Kept). x.pictures) c.make_room.ensures.same in
     record { low = omega (arith, begins, count); high = omega (arith, begins, count, row) }
 
 pub add-requires-clause-fresh : goal.add-requires-clause-fresh
@@ -35,10 +35,10 @@ add-requires-clause-fresh c =
     let count : k'.pictures ≡ k.pictures = ap (λ (x : Kept). x.pictures) c.make_room.ensures.same in
     subst (λ (n : ℕ). IsFreshIn k'.collector n c.args.piece.now) (sym count)
     (fresh_next c.what_is_taken.ensures c.searches.ensures.all_below k'.collector k.pictures fits.taken
-        (c.make_room.ensures.collects fits.taken fits.collects) c.make_room.ensures.row
+    (c.make_room.ensures.collects fits.taken fits.collects) c.make_room.ensures.row
     (c.make_room.ensures.absent fits.taken fits.collects (λ first. (fits.before_first first).1)) c.args.piece.now
     (subst (λ (f : Format). IsHeadOf f c.args.piece.now.head) (sym (c.make_room.ensures.format
-        ∙ fits.format)) c.requires.head))
+    ∙ fits.format)) c.requires.head))
 
 pub returns-clause-fits : goal.returns-clause-fits
 returns-clause-fits c =
@@ -52,9 +52,13 @@ returns-clause-fits c =
     let back : k.pictures ≡ k.pictures + 1 - 1 = omega arith in
     let collects : Collects c.add.new.self k.pictures (t ∷ fits.taken) =
     subst (λ (n : ℕ). Collects c.add.new.self k.pictures (record { number = n; piece = piece } ∷ fits.taken)) count
-        (c.add.ensures.taken k.pictures fits.taken (c.make_room.ensures.collects fits.taken fits.collects)) in
-    subst (λ (x : Kept). Fits (record x { pictures = x.pictures + 1; tr = Some piece.header.tr;
-        collector = c.add.new.self; selector = c.coded.new.self })) (sym c.make_room.ensures.same) (record {
+    (c.add.ensures.taken k.pictures fits.taken (c.make_room.ensures.collects fits.taken fits.collects)) in
+    subst (λ (x : Kept). Fits (record x {
+      pictures = x.pictures + 1;
+      tr = Some piece.header.tr;
+      collector = c.add.new.self;
+      selector = c.coded.new.self;
+    })) (sym c.make_room.ensures.same) (record {
       params = fits.params;
       format = c.add.ensures.same.format ∙ c.make_room.ensures.format ∙ fits.format;
       row = c.add.ensures.same.many ∙ c.make_room.ensures.row;
@@ -74,7 +78,7 @@ returns-clause-keeps c = λ items part keeps spells.
     let count : k'.pictures ≡ k.pictures = ap (λ (x : Kept). x.pictures) same in
     let known : List ℕ = known_of (read_message k.params.clock) rules items in
     let law = c.sender_stands.ensures.known (pictures k.params.format) (reading (pictures k.params.format)
-        (read_message k.params.clock) rules) rules
+    (read_message k.params.clock) rules) rules
     (c.are_rules.ensures k.params c.requires.fits.params) in
     let unknown : is_among known k'.pictures ≡ false = false_from_ne_true _ (λ (e : is_among known k'.pictures ≡ true).
     let below = known_below (pictures k.params.format) (read_message k.params.clock) rules law items k'.pictures e in
@@ -85,9 +89,13 @@ returns-clause-keeps c = λ items part keeps spells.
     let coded : SelectorStands rules c.coded.new.self (k'.pictures + 1) (λ m. 0) (is_among known) =
     c.coded.ensures rules (λ (m : ℕ). 0) (is_among known) refl unknown before in
     let absent = c.make_room.ensures.absent keeps.taken keeps.collects (none_at_first k items keeps) in
-    subst (λ (x : Kept). Keeps (record x { pictures = x.pictures + 1; tr = Some piece.header.tr;
-        collector = c.add.new.self; selector = c.coded.new.self }) (Picture (begun_by part) ∷ items)) (sym same)
+    subst (λ (x : Kept). Keeps (record x {
+      pictures = x.pictures + 1;
+      tr = Some piece.header.tr;
+      collector = c.add.new.self;
+      selector = c.coded.new.self;
+    }) (Picture (begun_by part) ∷ items)) (sym same)
     (begun c.what_is_taken.ensures k items part piece keeps spells c.add.new.self c.coded.new.self absent
     (subst (λ (n : ℕ). Collects c.add.new.self k.pictures (record { number = n; piece = piece } ∷ keeps.taken)) count
-        (c.add.ensures.taken k.pictures keeps.taken (c.make_room.ensures.collects keeps.taken keeps.collects)))
+    (c.add.ensures.taken k.pictures keeps.taken (c.make_room.ensures.collects keeps.taken keeps.collects)))
     (subst (λ (n : ℕ). SelectorStands rules c.coded.new.self (n + 1) (λ m. 0) (is_among known)) count coded))

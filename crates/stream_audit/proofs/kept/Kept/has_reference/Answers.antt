@@ -17,9 +17,9 @@ returns c = λ items keeps.
     let below = c.in-Some-nearest_below.ensures.below in
     let room = c.requires.params.lead in
     c.knows.ensures (rules_of k.params) k.pictures (λ (i : ℕ). 0)
-        (is_among (known_of (read_message k.params.clock) (rules_of k.params) items)) below (omega (arith, near, room))
-        keeps.known
+    (is_among (known_of (read_message k.params.clock) (rules_of k.params) items)) below (omega (arith, near, room))
+    keeps.known
     ∙ sym (near_named k items keeps rest m (sym (c.in-Some-nearest_below.ensures.value (rules_of k.params) refl)) near)
     ∙ ap (λ (o : Option ℕ). option_map_or (λ rest. referred (rules_of k.params) (known_of (read_message k.params.clock)
-        (rules_of k.params) items) (pictures_in items) (nearest_below (rules_of k.params) (pictures_in items) rest)) o
-        true) (sym c.in-Some.is)
+    (rules_of k.params) items) (pictures_in items) (nearest_below (rules_of k.params) (pictures_in items) rest)) o
+    true) (sym c.in-Some.is)

@@ -12,11 +12,11 @@ returns-in-Some-clause-judged c = λ items part keeps spells.
     let piece = c.args.piece.now in
     let same : piece.header.clock ≡ k.params.clock = search (rules, c.is_of_clock.ensures) in
     let own : is_of (last_picture items) part.piece
-        ≡ true = sym (c.is_of_last.ensures.value items part.piece keeps spells) ∙ c.if-is_of_last.true in
+    ≡ true = sym (c.is_of_last.ensures.value items part.piece keeps spells) ∙ c.if-is_of_last.true in
     let p = own_picture k items part piece keeps spells own in
     let broken : c.breaks-in-Some.new.self.broken ≡ Some (broken_at (k.pictures - 1) c.in-Some.rule) =
     ap (λ (x : Kept). x.broken) c.breaks-in-Some.ensures
-        ∙ ap (λ (n : ℕ). Some (broken_at n c.in-Some.rule)) c.present-number-in-Some.ensures in
+    ∙ ap (λ (n : ℕ). Some (broken_at n c.in-Some.rule)) c.present-number-in-Some.ensures in
     record {
       broken = broken ∙ at_own k items part piece keeps spells same own p.0 p.1 (Some c.in-Some.rule)
           (c.in-Some.ensures.rule items p.0 part.piece keeps p.1 spells);
@@ -29,7 +29,7 @@ returns-in-None-clause-judged c = λ items part keeps spells.
     let piece = c.args.piece.now in
     let same : piece.header.clock ≡ k.params.clock = search (rules, c.is_of_clock.ensures) in
     let own : is_of (last_picture items) part.piece
-        ≡ true = sym (c.is_of_last.ensures.value items part.piece keeps spells) ∙ c.if-is_of_last.true in
+    ≡ true = sym (c.is_of_last.ensures.value items part.piece keeps spells) ∙ c.if-is_of_last.true in
     let p = own_picture k items part piece keeps spells own in
     let unbroken = c.in-None.ensures.rule items p.0 part.piece keeps p.1 spells in
     let header = one_header k items part piece keeps spells (c.is_decoding.ensures k.params) p.0 unbroken in

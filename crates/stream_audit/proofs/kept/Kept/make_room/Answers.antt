@@ -10,14 +10,14 @@ returns-then-self-gt0-clause-collects c = λ taken collects.
     let some = c.if-self-gt0.true in
     let back : k.pictures - 1 + 1 ≡ k.pictures = omega (arith, some) in
     subst (λ (n : ℕ). Collects c.advance.new.self n taken) back
-        (c.advance.ensures.taken (k.pictures - 1) taken collects)
+    (c.advance.ensures.taken (k.pictures - 1) taken collects)
 
 pub returns-then-self-gt0-clause-absent : goal.returns-then-self-gt0-clause-absent
 returns-then-self-gt0-clause-absent c = λ taken collects first.
     let k = c.args.self.now in
     let some = c.if-self-gt0.true in
     absent_after c.what_is_taken.ensures k.collector (k.pictures - 1) k.pictures taken collects c.requires.row
-        (omega (arith, some))
+    (omega (arith, some))
 
 pub returns-else-self-gt0-clause-absent : goal.returns-else-self-gt0-clause-absent
 returns-else-self-gt0-clause-absent c = λ taken collects first.

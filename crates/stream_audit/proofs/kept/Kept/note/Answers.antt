@@ -12,5 +12,5 @@ returns-in-Ok-clause-keeps c = λ items keeps.
     let k = c.args.self.now in
     noted k c.note.new.self items c.args.bytes.now (message_of c.in-Ok.message) keeps
     (c.note.ensures.known (rules_of k.params) (λ (m : ℕ). 0)
-        (is_among (known_of (read_message k.params.clock) (rules_of k.params) items)) keeps.known)
+    (is_among (known_of (read_message k.params.clock) (rules_of k.params) items)) keeps.known)
     (ap as_read (sym c.in-Ok.ensures.value))
