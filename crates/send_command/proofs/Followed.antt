@@ -26,9 +26,10 @@ use Rattle.sender_end.specs.Stands.{packets_after}
 use Rattle.desk_program.specs.Run.{End, Run, Step, Turn, left_after, follow, run_from, run_of, silence, text_of, texts_of}
 use Rattle.desk_program.specs.Run.Step.{Ends}
 use Rattle.desk_program.specs.Texts.{and_of, no_texts, of}
-use Rattle.send_command.specs.declared.aim.Aim.{Aim}
+use Rattle.fitted_sender.specs.declared.aim.Aim.{Aim}
 use Rattle.send_command.specs.declared.sending.Sending.{Sending}
-use Rattle.send_command.specs.Sent.{aim_at_start, sent_by}
+use Rattle.fitted_sender.specs.Aiming.{sent_by}
+use Rattle.send_command.specs.Aimed.{aim_at_start}
 use Rattle.send_command.specs.Send.{SendState, all_read, bad_entry, capture_step, capture_texts, captured, entry_step, feedback_step, first_state, frame_step, head_step, log_step, most_entries, packets_text, send_begin, send_step}
 use Rattle.send_command.specs.Tally.{count_text}
 use Rattle.send_command.specs.Followed.{IsEnd, SendsItsLog, Spares, counted, film, frames_after, frames_with, no_frame_left, past_with, sent_lines, sent_text, told, with_entries}

@@ -31,10 +31,11 @@ use Rattle.desk_program.specs.Laws.{TurnLaws}
 use Rattle.send_command.specs.declared.machine.Send.{Send}
 use Rattle.rate_control.specs.declared.send_pace.SendPace.{SendPace}
 use Rattle.send_command.specs.Tally.{with_picture, with_reply}
-use Rattle.send_command.specs.declared.aim.Aim.{Aim}
-use Rattle.send_command.specs.Sent.{Sent, after_sent}
+use Rattle.fitted_sender.specs.declared.aim.Aim.{Aim}
+use Rattle.fitted_sender.specs.Aiming.{Sent, after_sent}
 use Rattle.send_command.specs.Send.{SendState, picture_texts, capture_texts, after_capture, after_feedback, entry_step, send_step}
-use Rattle.send_command.specs.Stands.{HasTaken, IsCaptured, IsFit, SendStands, StoodBefore}
+use Rattle.fitted_sender.specs.Stands.{IsCaptured}
+use Rattle.send_command.specs.Stands.{HasTaken, IsFit, SendStands, StoodBefore}
 use Rattle.send_command.proofs.Entering.{CutAfter, IsReadAt, found_is, found_told}
 use Rattle.send_command.proofs.Framing.{IsVideoAt}
 
@@ -66,7 +67,7 @@ module _ (m : Send) (s : SendState) (size : ℕ) (stood : StoodBefore m s size) 
   pub texts_are : (frame : Frame) (out : Frame) (new : SenderState SendPace) (aim : Aim) (answer : Coded) → frame ≡ out → IsCaptured frame m.sender.params here new aim answer
       → picture_texts new.packets answer.number answer.reference ≡ capture_texts s.params out s.sent
   texts_are frame out new aim answer same cap =
-      (λ i. picture_texts (cap.packets i) (cap.number_is i) (cap.reference i))
+      (λ i. picture_texts (cap.packets i) (cap.describes.number_is i) (cap.describes.reference i))
       ∙ (λ i. capture_texts (sym params_are i) (same i) (sym sent_is i))
 
   -- the state after a capture

@@ -9,7 +9,7 @@ use Rattle.desk_program.specs.Run.{run_from}
 use Rattle.desk_program.specs.Ends.{HasEnded, silent}
 use Rattle.call_model.specs.Steering.{nothing_done}
 use Rattle.send_command.specs.declared.machine.Send.{Send}
-use Rattle.send_command.specs.Sent.{aim_at_start}
+use Rattle.send_command.specs.Aimed.{aim_at_start}
 use Rattle.send_command.specs.Send.{most_entries, send_begin, send_step}
 use Rattle.send_command.specs.Stands.{SendStands}
 use Rattle.send_command.specs.Tally.{IsOf, no_counts}
