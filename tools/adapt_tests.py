@@ -380,7 +380,8 @@ class AdaptTest(Calls):
         library, period = own_library.loaded(), 33_333_333
         bounds = {"first": 1_800, "least": 60, "most": 999_999, "finest": 8, "period": period}
         quants = set()
-        with library.Sender(library.Params.of("qcif", target=1_800)) as sender, library.Line(**bounds, now=0) as line:
+        params = library.Params.of("qcif", target=1_800, pace=library.PACES["follows"])
+        with library.Sender(params) as sender, library.Line(**bounds, now=0) as line:
             for number, frame in enumerate(frames()[:40]):
                 # No message comes, so each picture is intra.
                 wanted = line.quant

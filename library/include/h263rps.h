@@ -30,7 +30,7 @@
 #include <stdint.h>
 
 /* The version of this header: 10,000 * major + 100 * minor. h263rps_version() has the library's. */
-#define H263RPS_VERSION 20200
+#define H263RPS_VERSION 20300
 
 #ifdef __cplusplus
 extern "C" {
@@ -71,6 +71,12 @@ enum h263rps_format {
     H263RPS_CIF = 3       /* 352 x 288 */
 };
 
+/* What a sender makes of its target. A group follows one by its sizes, whatever this says. */
+enum h263rps_pacing {
+    H263RPS_FITS = 0,   /* a pace in it fits each picture, with room for 30 targets */
+    H263RPS_FOLLOWS = 1 /* the bytes of the last 16 pictures lead the quantiser, as before 2.3 */
+};
+
 /* The picture clock: how many numbers a picture on the wire has before they repeat. */
 enum h263rps_clock {
     H263RPS_STANDARD_CLOCK = 0, /* 256 */
@@ -94,7 +100,9 @@ enum h263rps_param {
     H263RPS_PARAM_SIZE = 12,   /* not the size of h263rps_params in a version that is known */
     /* h263rps_session_start() alone */
     H263RPS_PARAM_RATE = 13,   /* not 1 to 65,536 pictures in 1 to 4,096 seconds */
-    H263RPS_PARAM_WAIT = 14    /* more pictures come in the wait than `lead` holds */
+    H263RPS_PARAM_WAIT = 14,   /* more pictures come in the wait than `lead` holds */
+    /* any start */
+    H263RPS_PARAM_PACE = 15
 };
 
 /* `kind` of the answer to a packet. Only the first two change the receiver. */
@@ -250,7 +258,8 @@ typedef struct h263rps_params {
     uint32_t limit;   /* sender: the most bytes of an RTP packet, 1,200 to 9,000 (1,400) */
     uint32_t slots;   /* pictures that each end keeps, 2 to 64 (16) */
     uint32_t lead;    /* pictures that may come before their turn, 0 to slots - 2 (3) */
-    uint32_t clock;   /* enum h263rps_clock (standard) */
+    uint16_t clock;   /* enum h263rps_clock (standard) */
+    uint16_t pace;    /* sender: enum h263rps_pacing (fits); before 2.3 the upper bits of `clock` */
     uint32_t target;  /* sender: bytes a picture that the quantiser follows, to 999,999; 0: none */
 } h263rps_params;
 
@@ -609,6 +618,7 @@ static inline const char *h263rps_param_text(uint32_t param) {
     case H263RPS_PARAM_SIZE: return "size";
     case H263RPS_PARAM_RATE: return "rate";
     case H263RPS_PARAM_WAIT: return "wait";
+    case H263RPS_PARAM_PACE: return "pace";
     default: return "no parameter";
     }
 }
@@ -865,7 +875,8 @@ static inline uint32_t h263rps_sender_feedback(h263rps_end *end, const void *mes
 
 /* A sender follows another target from its next picture on: this many bytes a picture, up to
  * 999,999, or none where it is 0, so that each picture has the parameters' quantiser. Call it
- * whenever the line changes. The sizes of the pictures before count towards the new target.
+ * whenever the line changes. The sizes of the pictures before count towards the new target; where a
+ * pace fits it that keeps what it learnt.
  * NOT_STARTED, OTHER_END, BAD_PARAMS. */
 static inline uint32_t h263rps_sender_target(h263rps_end *end, uint32_t bytes) {
     if (!end) return H263RPS_NULL;

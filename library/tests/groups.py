@@ -9,7 +9,7 @@ from pathlib import Path
 from typing import Callable
 
 sys.path[:0] = [str(Path(__file__).resolve().parent.parent)]
-from h263rps import Format, Group, Pace, Params, Receiver, Refused, Sender, picture_size  # noqa: E402
+from h263rps import PACES, Format, Group, Pace, Params, Receiver, Refused, Sender, picture_size  # noqa: E402
 
 FORMAT: Format = "sub-qcif"
 TRIP = 3
@@ -77,7 +77,7 @@ def three() -> list[int]:
 
 def one() -> None:
     """A group of one codes what a sender codes, with a target, quantisers and a pace."""
-    params, draws = Params.of(FORMAT, radius=3, target=1500), random.Random(5)
+    params, draws = Params.of(FORMAT, radius=3, target=1500, pace=PACES["follows"]), random.Random(5)
     said: dict[int, list[bytes]] = {}
     with Group(params) as group, Sender(params) as sender, Receiver(params) as receiver:
         paces = [Pace(FORMAT, target=900, room=9000) for _ in range(2)]

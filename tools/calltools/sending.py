@@ -59,6 +59,8 @@ class SendingRun:
     def _started(self) -> Any:
         library, settings = self._context.library, self._settings
         own = {"target": settings.target, "quant": settings.quant, "limit": settings.limit}
+        # As `send --target` does, by which a record is replayed.
+        own["pace"] = library.PACES["follows"]
         shared = {"slots": settings.slots, "lead": settings.lead, "clock": library.CLOCKS[settings.clock]}
         try:
             return library.Sender(library.Params.of(settings.format, **own, **shared))

@@ -2,7 +2,7 @@
 /* group.mjs: a group of three receivers that lose packets, a group of one beside a sender, wrong calls, and no memory kept. */
 
 import assert from "node:assert/strict";
-import { Group, MARKS, Pace, Params, Receiver, Refused, Sender, load, pictureSize } from "../h263rps.js";
+import { Group, MARKS, PACES, Pace, Params, Receiver, Refused, Sender, load, pictureSize } from "../h263rps.js";
 
 /** The module's instance, which only this test looks into. */
 let instance;
@@ -74,7 +74,7 @@ function three() {
 
 /** A group of one codes what a sender codes, byte for byte, with targets, quantisers and a pace. */
 function one() {
-  const params = Params.of(FORMAT, { radius: 3, target: 1500 });
+  const params = Params.of(FORMAT, { radius: 3, target: 1500, pace: PACES.follows });
   const ends = [new Group(params), new Sender(params)];
   const paces = ends.map(() => new Pace(FORMAT, { target: 900, room: 9000 }));
   const receiver = new Receiver(params);
