@@ -17,7 +17,7 @@ Run = Literal["followed", "former", "tried"]
 
 FORMATS: dict[Format, int] = {"sub-qcif": 1, "qcif": 2, "cif": 3}
 CLOCKS: dict[Clock, int] = {"standard": 0, "custom": 1}
-PACES: dict[Pacing, int] = {"fits": 0, "follows": 1}
+PACES: dict[Pacing, int] = {"follows": 0, "fits": 1}
 HEARD: tuple[Kind, ...] = ("taken", "completed", "late", "early", "repeat", "refused")
 MARKS: tuple[Mark, ...] = ("exact", "patched", "held")
 GROUPS = ("bytes", "other clock", "header differs", "missing reference", "overlap")

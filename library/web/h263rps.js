@@ -160,6 +160,7 @@ export class Params {
     must("defaults", memory.call("defaults", formatNumber(format), BigInt(at)));
     const params = new Params();
     for (const name of PARAMS) params[name] = Params.#read(at, name);
+    params.pace = PACES.fits;
     for (const [name, value] of Object.entries(changed)) {
       if (!PARAMS.includes(name) || name === "format") throw new TypeError(`there is no parameter ${name} to change`);
       if (value !== undefined) params[name] = value;

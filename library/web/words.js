@@ -10,7 +10,7 @@ export const FORMATS = Object.freeze({ "sub-qcif": 1, qcif: 2, cif: 3 });
 export const CLOCKS = Object.freeze({ standard: 0, custom: 1 });
 
 /** What a sender makes of its target. */
-export const PACES = Object.freeze({ fits: 0, follows: 1 });
+export const PACES = Object.freeze({ follows: 0, fits: 1 });
 
 /** The kinds of an answer to a packet. */
 export const HEARD = words("taken", "completed", "late", "early", "repeat", "refused");

@@ -47,7 +47,7 @@ bad_pace = 15
 
 -- a sender fits its target by this number of a pace
 abbrev pub fits_in : ℕ → Bool
-fits_in pace = pace == 0
+fits_in pace = pace == 1
 
 -- the bytes of the struct, and the number of another size
 abbrev pub params_size : ℕ

@@ -23,8 +23,8 @@ pub struct Asked {
     pub lead: u32,
     /// 0 the standard clock, 1 the custom one.
     pub clock: u16,
-    /// What a sender makes of its target: 0 fits it, 1 follows it by the sizes of the last 16
-    /// pictures. Up to version 2.2 these were the upper bits of the clock.
+    /// What a sender makes of its target: 0 follows it by the sizes of the last 16 pictures, 1 fits
+    /// it. Up to version 2.2 these were the upper bits of the clock.
     pub pace: u16,
     /// Bytes per picture, up to 999,999, which a sender's quantiser follows; 0 is no target.
     pub target: u32,
@@ -122,7 +122,7 @@ impl Asked {
     pub fn fits(&self) -> bool
         ensures { result ≡ asking.fits_in self.now.pace }
     {
-        self.pace == 0
+        self.pace == 1
     }
 
     /// The parameters, or the number of the first that is out of its range.
