@@ -9,7 +9,8 @@ from pathlib import Path
 from typing import Callable
 
 sys.path[:0] = [str(Path(__file__).resolve().parent.parent)]
-from h263rps import PACES, Format, Group, Pace, Params, Receiver, Refused, Sender, picture_size  # noqa: E402
+from h263rps import PACES, Format, Group, Pace, Params  # noqa: E402
+from h263rps import Receiver, Refused, Sender, picture_size  # noqa: E402
 
 FORMAT: Format = "sub-qcif"
 TRIP = 3
