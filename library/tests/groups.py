@@ -103,6 +103,25 @@ def one() -> None:
         assert group.statistics() == sender.statistics()
 
 
+def fits() -> None:
+    """A sender with a target fits it as one does that asks a pace, with a room of 30 targets; by the
+    sizes of its pictures it doesn't."""
+    made: list[list[list[bytes]]] = []
+    ways: list[dict[str, int]] = [{"target": 900}, {}, {"target": 900, "pace": PACES["follows"]}]
+    for words in ways:
+        with Sender(Params.of(FORMAT, radius=3, **words)) as sender:
+            pace, all_packets = Pace(FORMAT, target=900, room=27_000), []
+            for number in range(20):
+                quant = pace.next(sender) if not words else 0
+                coded = sender.code(picture(number))
+                all_packets.append(sender.packets(coded))
+                if not words:
+                    pace.coded(coded, quant, sum(map(len, all_packets[-1])))
+            made.append(all_packets)
+    assert made[0] == made[1] != made[2]
+    wanted("Refused: start: bad params: pace", lambda: Sender(Params.of(FORMAT, pace=2)))
+
+
 def wanted(error: str, call: Callable[[], object]) -> None:
     try:
         told = repr(call())
@@ -140,5 +159,6 @@ def wrong() -> None:
 if __name__ == "__main__":
     exact = three()
     one()
+    fits()
     wrong()
     print(f"of 100 pictures {exact} are exact at three receivers, the last of which joins late; a group of one is a sender")

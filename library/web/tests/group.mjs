@@ -101,6 +101,25 @@ function one() {
   for (const end of [...ends, receiver]) end.close();
 }
 
+/** A sender with a target fits it as one does that asks a pace, with a room of 30 targets; by the sizes it doesn't. */
+function fits() {
+  const made = [{ target: 900 }, {}, { target: 900, pace: PACES.follows }].map((words) => {
+    const sender = new Sender(Params.of(FORMAT, { radius: 3, ...words }));
+    const pace = new Pace(FORMAT, { target: 900, room: 27_000 });
+    const all = [];
+    for (let n = 0; n < 20; n++) {
+      const quant = words.target ? 0 : pace.next(sender);
+      const coded = sender.code(picture(n));
+      all.push(sender.packets(coded));
+      if (!words.target) pace.coded(coded, quant, all[n].reduce((sum, { length }) => sum + length, 0));
+    }
+    sender.close();
+    return all;
+  });
+  assert.deepEqual(made[0], made[1]);
+  assert.notDeepEqual(made[0], made[2]);
+}
+
 function wrong() {
   const group = new Group(Params.of(FORMAT));
   const refused = (status, call) => assert.throws(call, (fault) => fault instanceof Refused && fault.status === status);
@@ -143,6 +162,7 @@ function memory() {
 
 const exact = three();
 one();
+fits();
 wrong();
 memory();
 console.log(`of 100 pictures ${exact.join(", ")} are exact at three receivers; a group of one is a sender`);
