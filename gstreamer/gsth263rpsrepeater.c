@@ -41,7 +41,9 @@ struct _GstH263RpsRepeater
   GCond cond;
   h263rps_repeats kept;
   GstClockTime times[KEPT];
-  gint64 repeats[KEPT];         /* when it went out again last, in us */
+  gint64 sent[KEPT];            /* when it went out first, in us */
+  gint64 repeats[KEPT];         /* and again last */
+  gint64 in_time;               /* what went out longer ago would come too late */
   guint16 newest;
   GQueue waiting;
   guint64 credit, most;
@@ -64,6 +66,7 @@ keep (GstH263RpsRepeater * repeater, GstBuffer * packet)
     h263rps_repeats_keep (&repeater->kept, map.data, map.size);
     repeater->newest = GST_READ_UINT16_BE (map.data + 2);
     repeater->times[repeater->newest % KEPT] = GST_BUFFER_PTS (packet);
+    repeater->sent[repeater->newest % KEPT] = g_get_monotonic_time ();
     repeater->repeats[repeater->newest % KEPT] = 0;
     repeater->credit = MIN (repeater->credit + map.size, repeater->most);
   }
@@ -205,7 +208,8 @@ gst_h263rps_repeater_ask (GstH263RpsRepeater * repeater, guint16 sequence)
   if (now - repeater->repeats[sequence % KEPT] < SOON)
     goto done;
   repeater->counts.asked++;
-  if (!is_allowed (repeater, sequence)
+  if (now - repeater->sent[sequence % KEPT] > repeater->in_time
+      || !is_allowed (repeater, sequence)
       || h263rps_repeats_find (&repeater->kept, sequence, &found) != H263RPS_OK
       || found.length == 0)
     goto done;
@@ -303,7 +307,7 @@ gst_h263rps_repeater_stop (GstH263RpsRepeater * repeater)
 
 /* Another stream, with packets of at most so many bytes. */
 gboolean
-gst_h263rps_repeater_begin (GstH263RpsRepeater * repeater, guint longest)
+gst_h263rps_repeater_begin (GstH263RpsRepeater * repeater, guint longest, gint64 in_time)
 {
   gboolean is_begun;
 
@@ -311,6 +315,7 @@ gst_h263rps_repeater_begin (GstH263RpsRepeater * repeater, guint longest)
   g_queue_clear_full (&repeater->waiting, (GDestroyNotify) gst_buffer_unref);
   h263rps_repeats_finish (&repeater->kept);
   is_begun = h263rps_repeats_start (&repeater->kept, KEPT, longest) == H263RPS_OK;
+  repeater->in_time = in_time;
   g_mutex_unlock (&repeater->lock);
   return is_begun;
 }

@@ -36,7 +36,8 @@ G_GNUC_INTERNAL
 void                 gst_h263rps_repeater_stop   (GstH263RpsRepeater * repeater);
 
 G_GNUC_INTERNAL
-gboolean             gst_h263rps_repeater_begin  (GstH263RpsRepeater * repeater, guint longest);
+gboolean             gst_h263rps_repeater_begin  (GstH263RpsRepeater * repeater, guint longest,
+                                                  gint64 in_time);
 
 G_GNUC_INTERNAL
 void                 gst_h263rps_repeater_limit  (GstH263RpsRepeater * repeater, guint64 bytes);

@@ -483,6 +483,7 @@ begin_run (GstH263RpsSend * self)
 {
   guint32 status, fault = 0;
   guint most, format = gst_h263rps_format_of_size (self->info.width, self->info.height);
+  gint64 in_time;
 
   finish_run (self);
   read_params (self, format);
@@ -492,7 +493,10 @@ begin_run (GstH263RpsSend * self)
         ("parameter %u, slots %u, lead %u", fault, self->params.slots, self->params.lead));
     return FALSE;
   }
-  if (!gst_h263rps_repeater_begin (self->repeater, self->params.limit + EXTENSIONS))
+  /* No receiver with this window waits longer for a picture. */
+  in_time = gst_util_uint64_scale (G_USEC_PER_SEC * (self->params.lead + 2), self->info.fps_d,
+      self->info.fps_n);
+  if (!gst_h263rps_repeater_begin (self->repeater, self->params.limit + EXTENSIONS, in_time))
     GST_WARNING_OBJECT (self, "there is no memory for repeats");
   self->size = h263rps_picture_size (format);
   self->packed = g_malloc (self->size);

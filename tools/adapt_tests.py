@@ -58,10 +58,13 @@ class Clock:
 
 
 class Line:
-    """A line of a rate that may change, with a queue of 200 ms before it, and losses by chance."""
+    """A line of a rate that may change, with a queue before it, and losses by chance."""
 
-    def __init__(self, clock: Clock, kbits: dict[float, int], loss: float = 0.0, way: float = _WAY) -> None:
+    def __init__(
+        self, clock: Clock, kbits: dict[float, int], loss: float = 0.0, way: float = _WAY, queue: float = _QUEUE
+    ) -> None:
         self._clock, self._loss, self._draws, self._way = clock, loss, random.Random(5), way
+        self._most = queue
         self._waiting: list[tuple[int, Callable[[], None]]] = []
         self._bytes, self._is_busy = 0, False
         self.kbits = kbits[0]
@@ -75,7 +78,7 @@ class Line:
 
     def take(self, size: int, arrive: Callable[[], None]) -> bool:
         """Answers whether it was taken, and not dropped before a full queue."""
-        if self.queue > _QUEUE:
+        if self.queue > self._most:
             return False
         self._bytes += size
         self._waiting.append((size, arrive))
@@ -194,11 +197,12 @@ class SimulatedCall:
         library: Any = None,
         record: Optional[Path] = None,
         way: float = _WAY,
+        queue: float = _QUEUE,
         **more: Any,
     ) -> None:
         random.seed(3)
         self.clock, self.seen, self._way = time or Clock(), Seen(), way
-        self.line = Line(self.clock, kbits, loss, way)
+        self.line = Line(self.clock, kbits, loss, way, queue)
         self.flow = None if flow is None else Flow(self.clock, self.line, flow)
         self._losses, self._loss = random.Random(6), loss
         settings = live_settings.Settings(target=target or 1_800, adapts=not target, **more)
@@ -279,6 +283,17 @@ class AdaptTest(Calls):
         self.assertGreater(seen.kbits(24, 30), 150)
         # As fast as it was within 12 seconds.
         self.assertGreater(seen.kbits(42, 50), 750)
+
+    def test_a_line_that_becomes_slower_at_any_moment(self) -> None:
+        """Two seconds later no queue of 150 ms stands before it, and pictures are exact, whatever its queue holds and
+        however long the way is."""
+        ways = [(queue, way) for queue in (0.1, 0.2, 0.5) for way in (0.01, 0.03, 0.075)]
+        for number, (queue, way) in enumerate(2 * ways):
+            step = 6 + 0.23 * number
+            with self.subTest(step=step, queue=queue, way=way):
+                seen = SimulatedCall({0: 1_000, step: 200}, queue=queue, way=way).run(step + 4.5)
+                self.assertLess(max(seen.waited(step + 2, step + 4.5)), 0.15)
+                self.assertGreater(seen.exact(step + 2), 0.95)
 
     def test_losses_by_chance_are_no_full_line(self) -> None:
         for kbits in (2_000, 500):
@@ -367,7 +382,8 @@ class AdaptTest(Calls):
         library, period = own_library.loaded(), 33_333_333
         bounds = {"first": 1_800, "least": 60, "most": 999_999, "finest": 8, "period": period}
         quants = set()
-        with library.Sender(library.Params.of("qcif", target=1_800)) as sender, library.Line(**bounds, now=0) as line:
+        params = library.Params.of("qcif", target=1_800, pace=library.PACES["follows"])
+        with library.Sender(params) as sender, library.Line(**bounds, now=0) as line:
             for number, frame in enumerate(frames()[:40]):
                 # No message comes, so each picture is intra.
                 wanted = line.quant

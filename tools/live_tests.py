@@ -381,7 +381,8 @@ def params_of(run: dict[str, Any], format: str) -> Any:
     found = dict(option.lstrip("-").split("=") for option in run["options"])
     clock = library.loaded().CLOCKS[found.pop("clock")]
     found.pop("format", None)
-    return library.loaded().Params.of(format, clock=clock, **{name: int(value) for name, value in found.items()})
+    numbers = {name: int(value) for name, value in found.items()}
+    return library.loaded().Params.of(format, clock=clock, pace=library.loaded().PACES["follows"], **numbers)
 
 
 def entries_of(folder: Path, run: dict[str, Any]) -> list[logs.Entry]:

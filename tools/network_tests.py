@@ -42,7 +42,7 @@ print(sent)
 class LiveNetworkTest(Calls):
     def test_what_is_sent_again_is_bounded(self) -> None:
         """However much is asked for, known or not: as much in each second as went out anew, and few are looked for."""
-        repeating = repair.Repeating(library.loaded(), 1_500)
+        repeating = repair.Repeating(library.loaded(), 1_500, 0.2)
         asked = [rtcp.Missing(1, 7, tuple((first + 17 * field, 0xFFFF) for field in range(16))) for first in (0, 9_000)]
         again, began = 0, time.process_time()
         for turn in range(20_000):

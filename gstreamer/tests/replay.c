@@ -84,6 +84,7 @@ send (char **words)
   params.lead = (uint32_t) atoi (words[2]);
   params.quant = (uint8_t) atoi (words[3]);
   params.target = (uint32_t) atoi (words[4]);
+  params.pace = H263RPS_FOLLOWS;
   params.limit = (uint32_t) atoi (words[5]);
   params.clock = (uint32_t) atoi (words[6]);
   video = opened (words[7]);

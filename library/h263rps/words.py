@@ -7,6 +7,7 @@ from typing import Literal
 
 Format = Literal["sub-qcif", "qcif", "cif"]
 Clock = Literal["standard", "custom"]
+Pacing = Literal["fits", "follows"]
 Kind = Literal["taken", "completed", "late", "early", "repeat", "refused"]
 Mark = Literal["exact", "patched", "held"]
 Note = Literal["noted", "old", "no message"]
@@ -16,6 +17,7 @@ Run = Literal["followed", "former", "tried"]
 
 FORMATS: dict[Format, int] = {"sub-qcif": 1, "qcif": 2, "cif": 3}
 CLOCKS: dict[Clock, int] = {"standard": 0, "custom": 1}
+PACES: dict[Pacing, int] = {"follows": 0, "fits": 1}
 HEARD: tuple[Kind, ...] = ("taken", "completed", "late", "early", "repeat", "refused")
 MARKS: tuple[Mark, ...] = ("exact", "patched", "held")
 GROUPS = ("bytes", "other clock", "header differs", "missing reference", "overlap")
@@ -25,13 +27,14 @@ NOTED: tuple[Note, ...] = ("noted", "old", "no message")
 VERDICTS: tuple[Verdict, ...] = ("dropped", "no place", "ahead", "heard")
 CAUSES: tuple[Cause, ...] = ("long", "malformed", "other pictures", "too fast", "other stream")
 RUNS: tuple[Run, ...] = ("followed", "former", "tried")
-# The parameters in the order of their numbers in `enum h263rps_param`.
+# The parameters, the first ten in the order of their numbers in `enum h263rps_param`.
 PARAMS = (
     "quant", "keep", "radius", "limit", "slots", "lead", "messages", "format", "clock", "target",
+    "pace",
 )
 # What a start names: a parameter, the number at which a receiver begins, the struct's size, or a
 # setting of a session.
-FAULTS = (*PARAMS, "number", "size", "rate", "wait")
+FAULTS = (*PARAMS[:10], "number", "size", "rate", "wait", "pace")
 
 
 class Status(str, enum.Enum):

@@ -30,7 +30,7 @@
 #include <stdint.h>
 
 /* The version of this header: 10,000 * major + 100 * minor. h263rps_version() has the library's. */
-#define H263RPS_VERSION 20200
+#define H263RPS_VERSION 20300
 
 #ifdef __cplusplus
 extern "C" {
@@ -71,6 +71,12 @@ enum h263rps_format {
     H263RPS_CIF = 3       /* 352 x 288 */
 };
 
+/* What a sender makes of its target. A group follows one by its sizes, whatever this says. */
+enum h263rps_pacing {
+    H263RPS_FOLLOWS = 0, /* the bytes of the last 16 pictures lead the quantiser, as before 2.3 */
+    H263RPS_FITS = 1     /* a pace in it fits each picture, with room for 30 targets */
+};
+
 /* The picture clock: how many numbers a picture on the wire has before they repeat. */
 enum h263rps_clock {
     H263RPS_STANDARD_CLOCK = 0, /* 256 */
@@ -94,7 +100,9 @@ enum h263rps_param {
     H263RPS_PARAM_SIZE = 12,   /* not the size of h263rps_params in a version that is known */
     /* h263rps_session_start() alone */
     H263RPS_PARAM_RATE = 13,   /* not 1 to 65,536 pictures in 1 to 4,096 seconds */
-    H263RPS_PARAM_WAIT = 14    /* more pictures come in the wait than `lead` holds */
+    H263RPS_PARAM_WAIT = 14,   /* more pictures come in the wait than `lead` holds */
+    /* any start */
+    H263RPS_PARAM_PACE = 15
 };
 
 /* `kind` of the answer to a packet. Only the first two change the receiver. */
@@ -250,7 +258,8 @@ typedef struct h263rps_params {
     uint32_t limit;   /* sender: the most bytes of an RTP packet, 1,200 to 9,000 (1,400) */
     uint32_t slots;   /* pictures that each end keeps, 2 to 64 (16) */
     uint32_t lead;    /* pictures that may come before their turn, 0 to slots - 2 (3) */
-    uint32_t clock;   /* enum h263rps_clock (standard) */
+    uint16_t clock;   /* enum h263rps_clock (standard) */
+    uint16_t pace;    /* sender: enum h263rps_pacing (fits); upper bits of `clock` before 2.3 */
     uint32_t target;  /* sender: bytes a picture that the quantiser follows, to 999,999; 0: none */
 } h263rps_params;
 
@@ -609,6 +618,7 @@ static inline const char *h263rps_param_text(uint32_t param) {
     case H263RPS_PARAM_SIZE: return "size";
     case H263RPS_PARAM_RATE: return "rate";
     case H263RPS_PARAM_WAIT: return "wait";
+    case H263RPS_PARAM_PACE: return "pace";
     default: return "no parameter";
     }
 }
@@ -634,8 +644,12 @@ static inline uint32_t h263rps_version(void) {
 /* Writes the parameters of a call in this format where nothing else is asked for.
  * BAD_PARAMS: it is no format. */
 static inline uint32_t h263rps_defaults(uint32_t format, h263rps_params *params) {
+    uint32_t status;
     if (!params) return H263RPS_NULL;
-    return h263rps_raw_defaults(format, params);
+    status = h263rps_raw_defaults(format, params);
+    /* A program that was compiled before 2.3 goes on with a pace of 0. */
+    if (!status) params->pace = H263RPS_FITS;
+    return status;
 }
 
 /* How many bytes a picture of this format has: Y, then Cb, then Cr, each by rows from the top. 0
@@ -865,7 +879,8 @@ static inline uint32_t h263rps_sender_feedback(h263rps_end *end, const void *mes
 
 /* A sender follows another target from its next picture on: this many bytes a picture, up to
  * 999,999, or none where it is 0, so that each picture has the parameters' quantiser. Call it
- * whenever the line changes. The sizes of the pictures before count towards the new target.
+ * whenever the line changes. The sizes of the pictures before count towards the new target; where a
+ * pace fits it that keeps what it learnt.
  * NOT_STARTED, OTHER_END, BAD_PARAMS. */
 static inline uint32_t h263rps_sender_target(h263rps_end *end, uint32_t bytes) {
     if (!end) return H263RPS_NULL;
@@ -1140,12 +1155,12 @@ static inline uint32_t h263rps_repeats_finish(h263rps_repeats *repeats) {
  *
  *     h263rps_line line = {0};
  *     h263rps_bounds bounds = {900, 300, 3600, 4, 33366667};      (29.97 pictures a second)
- *     uint32_t has, target;
+ *     uint32_t has, quant;
  *     h263rps_line_start(&line, &bounds, time_now());
  *     h263rps_line_has_room(&line, time_now(), &has);             (each frame)
  *     if (has) {
- *         h263rps_line_target(&line, &target);
- *         h263rps_sender_target(&sender, target);
+ *         h263rps_line_quant(&line, &quant);
+ *         h263rps_sender_quant(&sender, quant);
  *         h263rps_sender_code(&sender, picture, size, NULL, 0, &coded);
  *         (send its packets, and add up their bytes)
  *         h263rps_line_sent(&line, coded.number, bytes, coded.packets, time_now());
@@ -1205,8 +1220,9 @@ static inline uint32_t h263rps_line_wanted(h263rps_line *line, uint32_t *bytes) 
     return h263rps_raw_line_wanted(&line->end, bytes);
 }
 
-/* Writes the next picture's target for h263rps_sender_target() to `bytes`: the greatest at which a
- * sender takes the quantiser that h263rps_line_quant() has, and what is wanted where each one does.
+/* Writes the next picture's target for h263rps_sender_target() of a sender that follows its target,
+ * or of a group, to `bytes`: the greatest at which it takes the quantiser that h263rps_line_quant()
+ * has, and what is wanted where each one does.
  * NOT_STARTED, OTHER_END. */
 static inline uint32_t h263rps_line_target(h263rps_line *line, uint32_t *bytes) {
     if (!line || !bytes) return H263RPS_NULL;

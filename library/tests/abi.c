@@ -39,7 +39,10 @@ AT(h263rps_params, messages, 11, 1);
 AT(h263rps_params, limit, 12, 4);
 AT(h263rps_params, slots, 16, 4);
 AT(h263rps_params, lead, 20, 4);
-AT(h263rps_params, clock, 24, 4);
+/* What was 0 or 1 in the four bytes of `clock` is the same in the two, and a pace of 0, which follows as before: on machines
+ * whose numbers begin with the lowest byte, as x86 and ARM. */
+AT(h263rps_params, clock, 24, 2);
+AT(h263rps_params, pace, 26, 2);
 AT(h263rps_params, target, 28, 4);
 IS(sizeof(h263rps_params) >= 32); /* more may follow */
 

@@ -141,6 +141,7 @@ static void start(uint32_t at) {
     params.lead = drawn() % (params.slots - 1);
     params.limit = 1200 + number(7801);
     params.target = drawn() % 4 ? 0 : number(4000);
+    params.pace = drawn() % 2;
     fill = 0x5A;
     status = h263rps_sender_start(&sender, &params, NULL);
     fill = -1;

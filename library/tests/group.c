@@ -366,6 +366,7 @@ static void wrong_calls(void) {
 
 int main(void) {
     want("defaults", h263rps_defaults(H263RPS_SUB_QCIF, &params), H263RPS_OK);
+    params.pace = H263RPS_FOLLOWS; /* as a group does */
     params.radius = 3;
     by_hand();
     three();

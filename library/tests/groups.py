@@ -9,7 +9,8 @@ from pathlib import Path
 from typing import Callable
 
 sys.path[:0] = [str(Path(__file__).resolve().parent.parent)]
-from h263rps import Format, Group, Pace, Params, Receiver, Refused, Sender, picture_size  # noqa: E402
+from h263rps import PACES, Format, Group, Pace, Params  # noqa: E402
+from h263rps import Receiver, Refused, Sender, picture_size  # noqa: E402
 
 FORMAT: Format = "sub-qcif"
 TRIP = 3
@@ -77,7 +78,7 @@ def three() -> list[int]:
 
 def one() -> None:
     """A group of one codes what a sender codes, with a target, quantisers and a pace."""
-    params, draws = Params.of(FORMAT, radius=3, target=1500), random.Random(5)
+    params, draws = Params.of(FORMAT, radius=3, target=1500, pace=PACES["follows"]), random.Random(5)
     said: dict[int, list[bytes]] = {}
     with Group(params) as group, Sender(params) as sender, Receiver(params) as receiver:
         paces = [Pace(FORMAT, target=900, room=9000) for _ in range(2)]
@@ -100,6 +101,25 @@ def one() -> None:
             messages = [receiver.packet(packet).message for packet in packets if draws.random() >= 0.1]
             said[number] = [message for message in (*messages, receiver.play().message) if message]
         assert group.statistics() == sender.statistics()
+
+
+def fits() -> None:
+    """A sender with a target fits it as one does that asks a pace, with a room of 30 targets; by the
+    sizes of its pictures it doesn't."""
+    made: list[list[list[bytes]]] = []
+    ways: list[dict[str, int]] = [{"target": 900}, {}, {"target": 900, "pace": PACES["follows"]}]
+    for words in ways:
+        with Sender(Params.of(FORMAT, radius=3, **words)) as sender:
+            pace, all_packets = Pace(FORMAT, target=900, room=27_000), []
+            for number in range(20):
+                quant = pace.next(sender) if not words else 0
+                coded = sender.code(picture(number))
+                all_packets.append(sender.packets(coded))
+                if not words:
+                    pace.coded(coded, quant, sum(map(len, all_packets[-1])))
+            made.append(all_packets)
+    assert made[0] == made[1] != made[2]
+    wanted("Refused: start: bad params: pace", lambda: Sender(Params.of(FORMAT, pace=2)))
 
 
 def wanted(error: str, call: Callable[[], object]) -> None:
@@ -139,5 +159,6 @@ def wrong() -> None:
 if __name__ == "__main__":
     exact = three()
     one()
+    fits()
     wrong()
     print(f"of 100 pictures {exact} are exact at three receivers, the last of which joins late; a group of one is a sender")

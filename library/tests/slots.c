@@ -199,16 +199,17 @@ static h263rps_params faulty(uint32_t fault) {
     case 8: params.format = 4; break;
     case 9: params.clock = 2; break;
     case 10: params.target = 1000000; break;
+    case 15: params.pace = 2; break;
     default: params.size = 28, params.format = 4;
     }
     return params;
 }
 
 static void parameters(void) {
-    static const uint32_t faults[] = {1, 2, 3, 4, 5, 6, 7, 8, 9, 10, 12};
+    static const uint32_t faults[] = {1, 2, 3, 4, 5, 6, 7, 8, 9, 10, 12, 15};
     h263rps_params params;
     uint32_t got[5];
-    for (int i = 0; i < 11; i++) {
+    for (int i = 0; i < 12; i++) {
         params = faulty(faults[i]);
         starts(&params, got);
         ARE("a fault", got, 4, 4, faults[i]);

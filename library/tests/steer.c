@@ -91,13 +91,14 @@ static void forgetting(void) {
 }
 
 /* A target that is set before the first picture is that of the parameters, byte for byte. */
-static void same_target(void) {
+static void same_target(uint16_t pace) {
     static struct made one, other;
-    h263rps_params with = params;
+    h263rps_params with = params, without = params;
     h263rps_end first = {0}, second = {0};
+    with.pace = without.pace = pace;
     with.target = 1000;
     want("start", h263rps_sender_start(&first, &with, NULL), 0);
-    want("start", h263rps_sender_start(&second, &params, NULL), 0);
+    want("start", h263rps_sender_start(&second, &without, NULL), 0);
     want("target", h263rps_sender_target(&second, 1000), 0);
     for (uint32_t number = 0; number < 6; number++) {
         code(&first, number, &one);
@@ -108,13 +109,15 @@ static void same_target(void) {
     want("finish", h263rps_sender_finish(&second), 0);
 }
 
-/* A target that comes later makes pictures smaller, from the next one on, and none gives the first
- * quantiser back. */
+/* A target that is followed and comes later makes pictures smaller, from the next one on, and none
+ * gives the first quantiser back. */
 static void later_target(void) {
     static struct made made;
+    h263rps_params with = params;
     h263rps_end sender = {0};
     size_t before, after;
-    want("start", h263rps_sender_start(&sender, &params, NULL), 0);
+    with.pace = H263RPS_FOLLOWS;
+    want("start", h263rps_sender_start(&sender, &with, NULL), 0);
     code(&sender, 0, &made);
     before = made.bytes;
     want("target", h263rps_sender_target(&sender, 500), 0);
@@ -234,6 +237,50 @@ static void fitting(void) {
     }
 }
 
+/* Codes the next picture by a sender that fits a target and by one with a pace beside it: they have
+ * the same packets. */
+static void fit_both(h263rps_end *fits, h263rps_end *other, h263rps_pace *pace, uint32_t number) {
+    static struct made one, two;
+    uint32_t quant = 0;
+    want("next", h263rps_pace_next(pace, other, &quant), 0);
+    code(fits, number, &one);
+    code(other, number, &two);
+    want("coded", h263rps_pace_coded(pace, &two.coded, quant, (uint32_t)two.bytes), 0);
+    want("as the pace beside it", memcmp(one.packets, two.packets, sizeof one.packets), 0);
+    if (number == 4) return;
+    acknowledge(fits, number);
+    acknowledge(other, number);
+}
+
+/* A sender that fits its target has the packets of one with a pace beside it, whose room is 30
+ * targets: with another target later, after a quantiser that it was told, and in a call anew. */
+static void fitting_itself(void) {
+    enum { PICTURES = 16 };
+    h263rps_params with = params;
+    h263rps_end fits = {0}, other = {0};
+    h263rps_pace pace;
+    with.target = 900;
+    want("start", h263rps_sender_start(&fits, &with, NULL), 0);
+    want("start", h263rps_sender_start(&other, &params, NULL), 0);
+    want("pace", h263rps_pace_start(&pace, params.format, 900, 27000), 0);
+    for (uint32_t number = 0; number < PICTURES; number++) {
+        if (number == 10) {
+            want("target", h263rps_sender_target(&fits, 2000), 0);
+            want("redirect", h263rps_pace_target(&pace, 2000, 60000), 0);
+        }
+        fit_both(&fits, &other, &pace, number);
+    }
+    /* A quantiser ends it, and the next target begins one anew. */
+    want("quant", h263rps_sender_quant(&fits, 9), 0);
+    want("target", h263rps_sender_target(&fits, 1200), 0);
+    want("pace", h263rps_pace_start(&pace, params.format, 1200, 36000), 0);
+    fit_both(&fits, &other, &pace, PICTURES);
+    want("reset", h263rps_sender_reset(&fits, 900) | h263rps_sender_reset(&other, 0), 0);
+    want("pace", h263rps_pace_start(&pace, params.format, 900, 27000), 0);
+    for (uint32_t number = 0; number < 4; number++) fit_both(&fits, &other, &pace, number);
+    want("finish", h263rps_sender_finish(&fits) | h263rps_sender_finish(&other), 0);
+}
+
 /* A call that begins anew has the packets of the first one, byte for byte, and its counts begin at
  * 0; a number or a target out of its range changes nothing. */
 static void beginning_anew(void) {
@@ -269,10 +316,12 @@ static void beginning_anew(void) {
 int main(void) {
     want("defaults", h263rps_defaults(H263RPS_SUB_QCIF, &params), 0);
     forgetting();
-    same_target();
+    same_target(H263RPS_FITS);
+    same_target(H263RPS_FOLLOWS);
     later_target();
     told_quantiser();
     fitting();
+    fitting_itself();
     joining();
     beginning_anew();
     if (!wrong) printf("a sender is steered, a receiver joins, and a call begins anew\n");

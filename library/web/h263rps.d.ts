@@ -4,6 +4,7 @@
 export type Bytes = ArrayBufferView | ArrayBufferLike;
 
 export type Format = "sub-qcif" | "qcif" | "cif";
+export type Pacing = "fits" | "follows";
 export type Clock = "standard" | "custom";
 export type Kind = "taken" | "completed" | "late" | "early" | "repeat" | "refused";
 export type Mark = "exact" | "patched" | "held";
@@ -14,13 +15,14 @@ export type Run = "followed" | "former" | "tried";
 export type FaultGroup = "bytes" | "other clock" | "header differs" | "missing reference" | "overlap";
 export type Distance = "intra" | "1" | "2" | "3" | "4 to 7" | "8 or more";
 export type Param =
-  "quant" | "keep" | "radius" | "limit" | "slots" | "lead" | "messages" | "format" | "clock" | "target";
+  "quant" | "keep" | "radius" | "limit" | "slots" | "lead" | "messages" | "format" | "clock" | "target" | "pace";
 export type Status =
   | "not started" | "started" | "other end" | "bad params" | "no memory" | "ended" | "wrong length"
   | "bad messages" | "no packet" | "short room" | "null" | "too long" | "no start" | "no stream" | "no receiver" | "other";
 
 export const FORMATS: Readonly<Record<Format, number>>;
 export const CLOCKS: Readonly<Record<Clock, number>>;
+export const PACES: Readonly<Record<Pacing, number>>;
 export const HEARD: readonly Kind[];
 export const MARKS: readonly Mark[];
 export const NOTED: readonly Note[];
@@ -92,6 +94,8 @@ export interface Changed {
   /** A number of CLOCKS. */
   clock?: number;
   target?: number;
+  /** A number of PACES. */
+  pace?: number;
 }
 
 /** The parameters of a call. Both ends need the same `format` and `clock`. */
@@ -108,6 +112,7 @@ export class Params implements Required<Changed> {
   format: number;
   clock: number;
   target: number;
+  pace: number;
 }
 
 /** A picture that was coded. `reference` is the picture that it is predicted from, null for intra. */

@@ -43,12 +43,12 @@
 
 import { LONGEST, Memory, SIZE, bytesOf, counted, longCounted } from "./memory.js";
 import {
-  CAUSES, CLOCKS, DISTANCES, FAULTS, FORMATS, Fault, GROUPS, HEARD, MARKS, MessageFault, NOTED, PARAMS, RUNS, Refused,
+  CAUSES, CLOCKS, DISTANCES, FAULTS, FORMATS, Fault, GROUPS, HEARD, MARKS, MessageFault, NOTED, PACES, PARAMS, RUNS, Refused,
   STATUS, VERDICTS,
 } from "./words.js";
 
 export {
-  CAUSES, CLOCKS, DISTANCES, FAULTS, FORMATS, Fault, GROUPS, HEARD, MARKS, MessageFault, NOTED, PARAMS, RUNS, Refused,
+  CAUSES, CLOCKS, DISTANCES, FAULTS, FORMATS, Fault, GROUPS, HEARD, MARKS, MessageFault, NOTED, PACES, PARAMS, RUNS, Refused,
   STATUS, VERDICTS,
 };
 
@@ -140,7 +140,7 @@ const PACE_SIZE = 40;
 /** Where each parameter stands in its struct, and how many bits it has. */
 const PLACES = Object.freeze({
   format: [4, 32], quant: [8, 8], keep: [9, 8], radius: [10, 8], messages: [11, 8],
-  limit: [12, 32], slots: [16, 32], lead: [20, 32], clock: [24, 32], target: [28, 32],
+  limit: [12, 32], slots: [16, 32], lead: [20, 32], clock: [24, 16], pace: [26, 16], target: [28, 32],
 });
 
 /**
@@ -160,6 +160,7 @@ export class Params {
     must("defaults", memory.call("defaults", formatNumber(format), BigInt(at)));
     const params = new Params();
     for (const name of PARAMS) params[name] = Params.#read(at, name);
+    params.pace = PACES.fits;
     for (const [name, value] of Object.entries(changed)) {
       if (!PARAMS.includes(name) || name === "format") throw new TypeError(`there is no parameter ${name} to change`);
       if (value !== undefined) params[name] = value;
@@ -169,7 +170,7 @@ export class Params {
 
   static #read(at, name) {
     const [place, bits] = PLACES[name];
-    return bits === 8 ? memory.bytes[at + place] : memory.number(at + place);
+    return memory.bytes.slice(at + place, at + place + bits / 8).reduceRight((value, byte) => 256 * value + byte, 0);
   }
 
   /** Puts the parameters at a place in memory. */
@@ -178,8 +179,7 @@ export class Params {
     memory.setNumber(at, SIZE.params);
     for (const name of PARAMS) {
       const [place, bits] = PLACES[name];
-      if (bits === 8) memory.bytes[at + place] = params[name];
-      else memory.setNumber(at + place, params[name]);
+      for (let n = 0; n < bits / 8; n++) memory.bytes[at + place + n] = params[name] >>> 8 * n;
     }
   }
 

@@ -9,6 +9,9 @@ export const FORMATS = Object.freeze({ "sub-qcif": 1, qcif: 2, cif: 3 });
 /** @type {Readonly<Record<import("./h263rps.js").Clock, number>>} */
 export const CLOCKS = Object.freeze({ standard: 0, custom: 1 });
 
+/** What a sender makes of its target. */
+export const PACES = Object.freeze({ follows: 0, fits: 1 });
+
 /** The kinds of an answer to a packet. */
 export const HEARD = words("taken", "completed", "late", "early", "repeat", "refused");
 
@@ -33,13 +36,13 @@ export const CAUSES = words("long", "malformed", "other pictures", "too fast", "
 /** The runs of a session: of the stream that is followed, of one that was followed before, of one that is tried. */
 export const RUNS = words("followed", "former", "tried");
 
-/** The parameters, in the order of their numbers. */
+/** The parameters, the first ten in the order of their numbers. */
 export const PARAMS = words(
-  "quant", "keep", "radius", "limit", "slots", "lead", "messages", "format", "clock", "target",
+  "quant", "keep", "radius", "limit", "slots", "lead", "messages", "format", "clock", "target", "pace",
 );
 
 /** What a start names: a parameter, the number at which a receiver begins, the struct's size, or a setting of a session. */
-export const FAULTS = words(...PARAMS, "number", "size", "rate", "wait");
+export const FAULTS = words(...PARAMS.slice(0, 10), "number", "size", "rate", "wait", "pace");
 
 /** Why a call was refused, by its number. */
 export const STATUS = words(

@@ -1,5 +1,5 @@
 -- The parameters of a call as C has them: their numbers, and what is wrong with them.
-use Rattle.std.specs.Prelude.{ℕ, ◌==◌, nat_le, Option, Some, None, Result, Ok, Err, if◌then◌else◌}
+use Rattle.std.specs.Prelude.{ℕ, ◌==◌, nat_le, Option, Some, None, Bool, Result, Ok, Err, if◌then◌else◌}
 use Rattle.h263_types.specs.declared.clock.Clock.{Clock}
 use Rattle.h263_types.specs.declared.clock.Clock.TheVariants.{Standard, Custom}
 use Rattle.h263_types.specs.declared.format.Format.{Format}
@@ -42,6 +42,13 @@ bad_clock = 9
 abbrev pub bad_target : ℕ
 bad_target = 10
 
+abbrev pub bad_pace : ℕ
+bad_pace = 15
+
+-- a sender fits its target by this number of a pace
+abbrev pub fits_in : ℕ → Bool
+fits_in pace = pace == 1
+
 -- the bytes of the struct, and the number of another size
 abbrev pub params_size : ℕ
 params_size = 32
@@ -63,13 +70,14 @@ params_with a format clock =
       clock = clock;
     }
 
-abbrev pub when_right : ℕ → Params → Result Unit ParamFault → Result Params ℕ
-when_right target p (Err fault) = Err (param_number fault)
-when_right target p (Ok right) = if nat_le target 999999 then Ok p else Err bad_target
+abbrev pub when_right : ℕ → ℕ → Params → Result Unit ParamFault → Result Params ℕ
+when_right target pace p (Err fault) = Err (param_number fault)
+when_right target pace p (Ok right) =
+    if nat_le target 999999 then (if nat_le pace 1 then Ok p else Err bad_pace) else Err bad_target
 
 abbrev pub checked_params : Asked → Format → Clock → Result Params ℕ
 checked_params a format clock =
-    let p = params_with a format clock in when_right a.target p (verdict_of (ranges p))
+    let p = params_with a format clock in when_right a.target a.pace p (verdict_of (ranges p))
 
 abbrev pub params_in : Asked → Option Format → Option Clock → Result Params ℕ
 params_in a None clock = Err bad_format
@@ -77,7 +85,7 @@ params_in a (Some format) None = Err bad_clock
 params_in a (Some format) (Some clock) = checked_params a format clock
 
 -- the parameters, or the number of the first that is out of its range: the struct's size, the
--- format, the clock, those of a call in their order, the target
+-- format, the clock, those of a call in their order, the target, the pace
 abbrev pub params_of : Asked → Result Params ℕ
 params_of a =
     if a.size == params_size then params_in a (format_in a.format) (clock_in a.clock)
@@ -105,5 +113,6 @@ asked_with number p =
       slots = p.slots;
       lead = p.lead;
       clock = 0;
+      pace = 0;
       target = 0;
     }

@@ -1,5 +1,5 @@
 -- The ends for which a slot stands, and what is told of them.
-use Rattle.std.specs.Prelude.{◌≡◌, ℕ, List, [], length, Option, Some, None}
+use Rattle.std.specs.Prelude.{◌≡◌, ℕ, List, [], length, Option, Some, None, Bool}
 use Rattle.h263_bits.specs.declared.fault.Fault.{Fault}
 use Rattle.h263_types.specs.declared.blocks.Mb.{Mb}
 use Rattle.h263_types.specs.declared.clock.Clock.{Clock}
@@ -12,14 +12,11 @@ use Rattle.call_model.specs.Sending as call
 use Rattle.back_messages.specs.declared.message.MessageFault.{MessageFault}
 use Rattle.sender_end.specs.declared.answers.Feedback.{Feedback}
 use Rattle.h263rps_c.specs.declared.answers.Reply.{Reply}
-use Rattle.h263rps_c.specs.Sending.{IsSender}
 use Rattle.h263rps_c.specs.Steering.{Steering, Steers}
 use Rattle.call_model.specs.CodedPictures.{Coded as CodedPicture}
 use Rattle.call_model.specs.Receiving as runs
 use Rattle.call_model.specs.Receiving.{ReceiverEntry}
-use Rattle.call_model.specs.Sending.{SenderEntry}
 use Rattle.call_decoding.specs.Styles.{Style}
-use Rattle.call_encoding.specs.Frames.{Frame}
 use Rattle.receiver_end.specs.declared.answers.Arrival.{Arrival}
 use Rattle.receiver_end.specs.declared.answers.Played.{Played}
 use Rattle.receiver_end.specs.Answers.{IsHeard, IsPlayed}
@@ -66,21 +63,14 @@ pub record TellsPlayed (clock : Clock) (answer : Answer) (mark : coding.Mark)
 
 -- ---- a sender
 
--- the same, with the target of its pace
-abbrev pub HoldsSender : Params → ℕ → List (SenderEntry Frame) → Option End → Type 0
-HoldsSender p target entries None = ⊥
-HoldsSender p target entries (Some (Sending s)) = IsSender p target entries s
-HoldsSender p target entries (Some (Receiving r)) = ⊥
-HoldsSender p target entries (Some (Repeats r)) = ⊥
-HoldsSender p target entries (Some (Line f)) = ⊥
-
--- the same of a sender that may be steered
-abbrev pub HoldsSteered : Params → ℕ → List Steering → Option End → Type 0
-HoldsSteered p first past None = ⊥
-HoldsSteered p first past (Some (Sending s)) = Steers p first past s
-HoldsSteered p first past (Some (Receiving r)) = ⊥
-HoldsSteered p first past (Some (Repeats r)) = ⊥
-HoldsSteered p first past (Some (Line f)) = ⊥
+-- Inside is a sender with these parameters, which fits its target or follows it, and with this first
+-- one, after all that was done to it, the newest first.
+abbrev pub HoldsSteered : Params → Bool → ℕ → List Steering → Option End → Type 0
+HoldsSteered p fits first past None = ⊥
+HoldsSteered p fits first past (Some (Sending s)) = Steers p fits first past s
+HoldsSteered p fits first past (Some (Receiving r)) = ⊥
+HoldsSteered p fits first past (Some (Repeats r)) = ⊥
+HoldsSteered p fits first past (Some (Line f)) = ⊥
 
 -- the picture with this number is told in numbers
 pub record TellsCoded (number : ℕ) (x : CodedPicture Style Mb Picture) (made : Made) : Type 0 where
@@ -91,7 +81,7 @@ pub record TellsCoded (number : ℕ) (x : CodedPicture Style Mb Picture) (made :
 -- the packets of the picture that was coded last
 abbrev pub packets_in : Option End → List (List ℕ)
 packets_in None = []
-packets_in (Some (Sending s)) = s.packets
+packets_in (Some (Sending s)) = s.sender.packets
 packets_in (Some (Receiving r)) = []
 packets_in (Some (Repeats r)) = []
 packets_in (Some (Line f)) = []

@@ -23,7 +23,7 @@ use Rattle.h263rps_c.specs.declared.answers.CMessage.{CMessage}
 
 -- 10,000 times the major number of the version, and 100 times the minor one
 abbrev pub library_version : ℕ
-library_version = 20200
+library_version = 20300
 
 -- ---- what is wrong with a packet
 

@@ -22,7 +22,7 @@ for_receiver refuses (Some (Line f)) = Some OtherEnd
 -- a call for a sender
 abbrev pub for_sender : (SenderState SendPace → Option EndRefusal) → Option End → Option EndRefusal
 for_sender refuses None = Some NotStarted
-for_sender refuses (Some (Sending s)) = refuses s
+for_sender refuses (Some (Sending s)) = refuses s.sender
 for_sender refuses (Some (Receiving r)) = Some OtherEnd
 for_sender refuses (Some (Repeats r)) = Some OtherEnd
 for_sender refuses (Some (Line f)) = Some OtherEnd

@@ -1,5 +1,5 @@
 -- A sender that is steered while it runs: what is done to it, and what it stands for.
-use Rattle.std.specs.Prelude.{◌≡◌, ℕ, ◌≤◌, List, [], ◌∷◌, ◌++◌, length, map, Option, Some, None}
+use Rattle.std.specs.Prelude.{◌≡◌, ℕ, ◌≤◌, List, [], ◌∷◌, ◌++◌, length, map, Option, Some, None, Bool, true, false}
 use Rattle.h263_types.specs.declared.blocks.Mb.{Mb}
 use Rattle.h263_types.specs.declared.params.Params.{Params}
 use Rattle.h263_planes.specs.Picture.{Picture}
@@ -11,10 +11,13 @@ use Rattle.call_decoding.specs.Rules.{rules_of}
 use Rattle.call_decoding.specs.Styles.{Style}
 use Rattle.call_encoding.specs.Encoding.{encoding}
 use Rattle.call_encoding.specs.Frames.{Frame}
-use Rattle.sender_end.specs.Stands as senders
-use Rattle.sender_end.specs.State.{SenderState}
-use Rattle.rate_control.specs.declared.send_pace.SendPace.{SendPace}
-use Rattle.rate_control.specs.Pace.{first_of, quant_after_sizes, target_of}
+use Rattle.sender_end.specs.Stands.{Holds, Run, run_of}
+use Rattle.rate_control.specs.Pace.{quant_after_sizes}
+use Rattle.picture_pace.specs.declared.fit.FitPace.{FitPace}
+use Rattle.picture_pace.specs.Fitting.{fitting_quant}
+use Rattle.fitted_sender.specs.declared.aim.Aim.{Aim}
+use Rattle.fitted_sender.specs.Aiming.{Sent, after_heard, after_sent, first_aim, fixed, next_kind, next_sent, refitted}
+use Rattle.h263rps_c.specs.Sending.{Sends}
 use Rattle.h263rps_c.specs.Pace.{pace_of, target_in}
 
 -- what is done to it: a frame is coded, the bytes of a message come back, it follows another target
@@ -25,6 +28,44 @@ pub data Steering : Type 0 where
   Target : Option ℕ → Steering
   Quant : ℕ → Steering
   Forget : Steering
+
+-- a target is fitted, or followed by the sizes of the last 16 pictures
+abbrev pub first_in : Params → Bool → Option ℕ → Aim
+first_in p true target = first_aim p None target
+first_in p false target = first_aim p target None
+
+-- the same from the next picture on; a pace that fits keeps what it was told
+abbrev pub aimed_anew : Params → Bool → Option ℕ → Aim → Aim
+aimed_anew p true target a = refitted p target a
+aimed_anew p false target a = first_aim p target None
+
+-- what it has done, and what its next quantiser follows, the newest first
+abbrev pub sent_after : Params → Bool → Option ℕ → List Steering → Sent
+sent_after p fits first [] = record { run = nothing_done; aim = first_in p fits first }
+sent_after p fits first (Capture frame ∷ past) = after_sent p frame (sent_after p fits first past)
+sent_after p fits first (Feedback bytes ∷ past) = after_heard p bytes (sent_after p fits first past)
+sent_after p fits first (Target target ∷ past) =
+    let s = sent_after p fits first past in record { run = s.run; aim = aimed_anew p fits target s.aim }
+sent_after p fits first (Quant quant ∷ past) =
+    record { run = (sent_after p fits first past).run; aim = fixed quant }
+sent_after p fits first (Forget ∷ past) =
+    let s = sent_after p fits first past in record { run = after_forget s.run; aim = s.aim }
+
+abbrev pub run_after : Params → Bool → Option ℕ → List Steering → Run
+run_after p fits first past = (sent_after p fits first past).run
+
+-- its next picture, of this frame
+abbrev pub next_after : Params → Bool → Option ℕ → Frame → List Steering → Coded Style Mb Picture
+next_after p fits first frame past = next_sent p frame (sent_after p fits first past)
+
+-- a sender with these parameters and this first target, after all this, the newest first
+pub record Steers (p : Params) (fits : Bool) (first : ℕ) (past : List Steering) (s : Sends) : Type 0 where
+  pub params : s.sender.params ≡ p
+  pub fits_as : s.fits ≡ fits
+  pub follows : s.aim ≡ (sent_after p fits (target_in first) past).aim
+  pub holds : Holds s.sender (run_after p fits (target_in first) past)
+
+-- ---- what its pictures are
 
 -- the target in force after this, of a sender that began with the first one; the newest first
 abbrev pub target_after : Option ℕ → List Steering → Option ℕ
@@ -44,52 +85,31 @@ first_after quant (Capture frame ∷ past) = first_after quant past
 first_after quant (Feedback bytes ∷ past) = first_after quant past
 first_after quant (Forget ∷ past) = first_after quant past
 
--- the pace in force
-abbrev pub pace_in_force : Params → Option ℕ → List Steering → List ℕ → ℕ
-pace_in_force p first past = quant_after_sizes (target_after first past) (first_after p.quant past)
-
--- what it has done: each picture is coded by the pace that was in force then
-abbrev pub run_after : Params → Option ℕ → List Steering → senders.Run
-run_after p first [] = nothing_done
-run_after p first (Capture frame ∷ past) =
-    senders.after_code p (pace_in_force p first past) frame (run_after p first past)
-run_after p first (Feedback bytes ∷ past) = senders.after_message p bytes (run_after p first past)
-run_after p first (Target target ∷ past) = run_after p first past
-run_after p first (Quant quant ∷ past) = run_after p first past
-run_after p first (Forget ∷ past) = after_forget (run_after p first past)
-
--- its next picture, of this frame
-abbrev pub next_after : Params → Option ℕ → Frame → List Steering → Coded Style Mb Picture
-next_after p first frame past =
-    senders.next_in p (pace_in_force p first past) frame (run_after p first past)
-
--- a sender with these parameters and this first target, after all this, the newest first
-pub record Steers (p : Params) (first : ℕ) (past : List Steering) (s : SenderState SendPace) : Type 0 where
-  pub params : s.params ≡ p
-  pub follows : target_of s.pace ≡ target_after (target_in first) past
-  pub quant : first_of s.pace ≡ first_after p.quant past
-  pub holds : senders.Holds s (run_after p (target_in first) past)
-
--- ---- what its pictures are
-
--- The quantiser follows the target in force, by the bytes of the last 16 pictures. Without one it is
--- the parameters', or the one that it was told last.
+-- Where targets aren't fitted the quantiser follows the one in force, by the bytes of the last 16
+-- pictures. Without one it is the parameters', or the one that it was told last.
 abbrev pub QuantiserIs : Type 0
 QuantiserIs = (p : Params) (first : Option ℕ) (frame : Frame) (past : List Steering) →
-    (next_after p first frame past).style.quant
+    (next_after p false first frame past).style.quant
     ≡ quant_after_sizes (target_after first past) (first_after p.quant past)
-    (last_sizes (encoding p) (rules_of p) (run_after p first past).run.coded)
+    (last_sizes (encoding p) (rules_of p) (run_after p false first past).run.coded)
+
+-- Where one is fitted it is that of the pace for a picture of its kind.
+abbrev pub QuantiserFits : Type 0
+QuantiserFits = (p : Params) (first : Option ℕ) (frame : Frame) (past : List Steering) (pace : FitPace) →
+    (sent_after p true first past).aim.fit ≡ Some pace
+    → (next_after p true first frame past).style.quant
+    ≡ fitting_quant (next_kind p (run_after p true first past)) pace
 
 -- the picture after a forget is coded intra
 abbrev pub ForgetIsIntra : Type 0
-ForgetIsIntra = (p : Params) (first : Option ℕ) (frame : Frame) (past : List Steering) →
-    (next_after p first frame (Forget ∷ past)).reference ≡ None
+ForgetIsIntra = (p : Params) (fits : Bool) (first : Option ℕ) (frame : Frame) (past : List Steering) →
+    (next_after p fits first frame (Forget ∷ past)).reference ≡ None
 
 -- no picture that was coded before it is a reference any more, whatever comes after
 abbrev pub ForgetIsForGood : Type 0
-ForgetIsForGood = (p : Params) (first : Option ℕ) (frame : Frame) (later past : List Steering) (m : ℕ) →
-    (next_after p first frame (later ++ Forget ∷ past)).reference ≡ Some m
-    → length (run_after p first past).run.coded ≤ m
+ForgetIsForGood = (p : Params) (fits : Bool) (first : Option ℕ) (frame : Frame) (later past : List Steering) (m : ℕ) →
+    (next_after p fits first frame (later ++ Forget ∷ past)).reference ≡ Some m
+    → length (run_after p fits first past).run.coded ≤ m
 
 -- ---- where it isn't steered
 
@@ -97,8 +117,9 @@ abbrev pub plain : SenderEntry Frame → Steering
 plain (call.Capture frame) = Capture frame
 plain (call.Feedback bytes) = Feedback bytes
 
--- its run is that of the entries, with one target for all
+-- Its run is that of the entries, with one target for all. Where targets are fitted this holds without one.
 abbrev pub PlainIsRun : Type 0
-PlainIsRun = (p : Params) (first : ℕ) (entries : List (SenderEntry Frame)) →
-    run_after p (target_in first) (map plain entries)
-    ≡ record { run = senders.run_of p (pace_of first p) entries; since = 0 }
+PlainIsRun = (p : Params) (fits : Bool) (first : ℕ) (entries : List (SenderEntry Frame)) →
+    (fits ≡ true → first ≡ 0)
+    → run_after p fits (target_in first) (map plain entries)
+    ≡ record { run = run_of p (pace_of first p) entries; since = 0 }

@@ -22,7 +22,10 @@ pub struct Asked {
     pub slots: u32,
     pub lead: u32,
     /// 0 the standard clock, 1 the custom one.
-    pub clock: u32,
+    pub clock: u16,
+    /// What a sender makes of its target: 0 follows it by the sizes of the last 16 pictures, 1 fits
+    /// it. Up to version 2.2 these were the upper bits of the clock.
+    pub pace: u16,
     /// Bytes per picture, up to 999,999, which a sender's quantiser follows; 0 is no target.
     pub target: u32,
 }
@@ -39,7 +42,7 @@ pub fn format_of(number: u32) -> Option<Format>
     }
 }
 
-fn clock_of(number: u32) -> Option<Clock>
+fn clock_of(number: u16) -> Option<Clock>
     ensures { result ≡ asking.clock_in number }
 {
     match number {
@@ -76,6 +79,8 @@ const BAD_TARGET: u32 = 10;
 
 const BAD_NUMBER: u32 = 11;
 
+const BAD_PACE: u32 = 15;
+
 impl Asked {
     // In a format and by a clock.
     fn with(&self, format: Format, clock: Clock) -> Params
@@ -107,7 +112,17 @@ impl Asked {
         if self.target > 999_999 {
             return Err(BAD_TARGET);
         }
+        if self.pace > 1 {
+            return Err(BAD_PACE);
+        }
         Ok(params)
+    }
+
+    /// Whether a sender fits its target.
+    pub fn fits(&self) -> bool
+        ensures { result ≡ asking.fits_in self.now.pace }
+    {
+        self.pace == 1
     }
 
     /// The parameters, or the number of the first that is out of its range.
@@ -162,6 +177,7 @@ impl Asked {
             slots: params.slots,
             lead: params.lead,
             clock: 0,
+            pace: 0,
             target: 0,
         }
     }

@@ -1,5 +1,5 @@
 //! An end of a call, as its slot keeps it.
-ghost use Rattle.std.specs.Prelude.{◌≡◌, ◌<◌, ◌≤◌, ℕ, List, [], ◌∷◌, ◌++◌, Err, Some, true, false, IfErr, IfOk, IsOk, drop, length, slice_index_or};
+ghost use Rattle.std.specs.Prelude.{Bool, ◌≡◌, ◌<◌, ◌≤◌, ℕ, List, [], ◌∷◌, ◌++◌, Err, Some, true, false, IfErr, IfOk, IsOk, drop, length, slice_index_or};
 ghost use Rattle.h263_types.specs.Params.{IsParams};
 ghost use Rattle.h263_types.specs.Sizes.{size_of_picture};
 ghost use Rattle.h263_types.specs.declared.params.Params.{Params};
@@ -17,7 +17,7 @@ ghost use Rattle.receiver_end.specs.State as receivers;
 ghost use Rattle.receiver_end.specs.State.{plays_alone};
 ghost use Rattle.sender_end.specs.Known.{known_in};
 ghost use Rattle.sender_end.specs.Stands as senders;
-ghost use Rattle.h263rps_c.specs.Ends.{HoldsReceiver, HoldsSender, HoldsSteered, ShowsPicture, packets_in};
+ghost use Rattle.h263rps_c.specs.Ends.{HoldsReceiver, HoldsSteered, ShowsPicture, packets_in};
 ghost use Rattle.h263rps_c.specs.Sending.{frame_of};
 ghost use Rattle.h263rps_c.specs.Steering.{Steering, next_after, run_after};
 ghost use Rattle.h263rps_c.specs.Steering as steering;
@@ -171,16 +171,20 @@ impl End {
         }
     }
 
-    /// A sender before its first picture. It follows a target in bytes per picture, or none where
-    /// that is 0.
-    pub fn sender(alloc: Global, params: &Params, target: u32) -> Result<Box<End>, EndRefusal>
+    /// A sender before its first picture. It fits a target in bytes per picture or follows it, or
+    /// has none where that is 0.
+    pub fn sender(
+        alloc: Global,
+        params: &Params,
+        target: u32,
+        fits: bool,
+    ) -> Result<Box<End>, EndRefusal>
         requires params { IsParams params.now }
         requires target { target ≤ 999999 }
         ensures memory { IfErr result (λ why. why ≡ refusals.NoMemory) }
-        ensures stands { IfOk result (λ end. HoldsSender params.now target [] (Some end.value)) }
-        ensures steers { IfOk result (λ end. HoldsSteered params.now target [] (Some end.value)) }
+        ensures steers { IfOk result (λ end. HoldsSteered params.now fits target [] (Some end.value)) }
     {
-        let Ok(sending) = Sending::start(alloc, params, target) else {
+        let Ok(sending) = Sending::start(alloc, params, target, fits) else {
             return Err(EndRefusal::NoMemory);
         };
         match Box::new(alloc, End::Sending(sending)) {
@@ -299,27 +303,16 @@ impl End {
             ≡ for_sender (capture_refusal bytes.now back.now) (Some self.old) }
         ensures same { IfErr result (λ why. self.new ≡ self.old) }
         ensures count { IfOk result (λ coded. coded.packets ≡ length (packets_in (Some self.new))) }
-        ensures stands { (p : Params) (target : ℕ) (entries : List (SenderEntry Frame))
-            (messages : List Message) → HoldsSender p target entries (Some self.old)
+        ensures steers { (p : Params) (fits : Bool) (first : ℕ) (past : List Steering)
+            (messages : List Message) → HoldsSteered p fits first past (Some self.old)
             → messages_of p.clock back.now ≡ Some messages → IsOk result
-            → HoldsSender p target (Capture (frame_of p bytes.now messages) ∷ entries)
+            → HoldsSteered p fits first (steering.Capture (frame_of p bytes.now messages) ∷ past)
             (Some self.new) }
-        ensures tells { (p : Params) (target : ℕ) (entries : List (SenderEntry Frame))
-            (messages : List Message) → HoldsSender p target entries (Some self.old)
+        ensures makes { (p : Params) (fits : Bool) (first : ℕ) (past : List Steering)
+            (messages : List Message) → HoldsSteered p fits first past (Some self.old)
             → messages_of p.clock back.now ≡ Some messages → IfOk result (λ coded.
-            senders.Describes (length (senders.run_of p (pace_of target p) entries).coded)
-            (senders.next_after p (pace_of target p) (frame_of p bytes.now messages) entries)
-            coded) }
-        ensures steers { (p : Params) (first : ℕ) (past : List Steering)
-            (messages : List Message) → HoldsSteered p first past (Some self.old)
-            → messages_of p.clock back.now ≡ Some messages → IsOk result
-            → HoldsSteered p first (steering.Capture (frame_of p bytes.now messages) ∷ past)
-            (Some self.new) }
-        ensures makes { (p : Params) (first : ℕ) (past : List Steering)
-            (messages : List Message) → HoldsSteered p first past (Some self.old)
-            → messages_of p.clock back.now ≡ Some messages → IfOk result (λ coded.
-            senders.Describes (length (run_after p (target_in first) past).run.coded)
-            (next_after p (target_in first) (frame_of p bytes.now messages) past) coded) }
+            senders.Describes (length (run_after p fits (target_in first) past).run.coded)
+            (next_after p fits (target_in first) (frame_of p bytes.now messages) past) coded) }
     {
         match self {
             End::Sending(sending) => sending.code(bytes, back),
@@ -339,17 +332,13 @@ impl End {
             ≡ length (slice_index_or (packets_in (Some self.now)) i [])) }
         ensures written { IfOk result (λ count. room.new
             ≡ slice_index_or (packets_in (Some self.now)) i [] ++ drop count room.old) }
-        ensures enough { (p : Params) (target : ℕ) (entries : List (SenderEntry Frame))
-            → HoldsSender p target entries (Some self.now)
+        ensures enough { (p : Params) (fits : Bool) (first : ℕ) (past : List Steering)
+            → HoldsSteered p fits first past (Some self.now)
             → result ≡ Err refusals.ShortRoom → length room.old < p.limit }
-        ensures stands { (p : Params) (target : ℕ) (entries : List (SenderEntry Frame))
-            → HoldsSender p target entries (Some self.now) → IsOk result
+        ensures steers { (p : Params) (fits : Bool) (first : ℕ) (past : List Steering)
+            → HoldsSteered p fits first past (Some self.now) → IsOk result
             → slice_index_or (packets_in (Some self.now)) i []
-            ≡ slice_index_or (senders.last_packets p (pace_of target p) entries) i [] }
-        ensures steers { (p : Params) (first : ℕ) (past : List Steering)
-            → HoldsSteered p first past (Some self.now) → IsOk result
-            → slice_index_or (packets_in (Some self.now)) i []
-            ≡ slice_index_or (senders.packets_after p (run_after p (target_in first) past)) i [] }
+            ≡ slice_index_or (senders.packets_after p (run_after p fits (target_in first) past)) i [] }
     {
         match self {
             End::Sending(sending) => sending.packet(i, room),
@@ -366,21 +355,13 @@ impl End {
         ensures unnoted { IfOk result (λ answer.
             is_noted (senders.reply_of answer) ≡ false → self.new ≡ self.old) }
         ensures packets { packets_in (Some self.new) ≡ packets_in (Some self.old) }
-        ensures stands { (p : Params) (target : ℕ) (entries : List (SenderEntry Frame))
-            → HoldsSender p target entries (Some self.old)
-            → HoldsSender p target (call.Feedback bytes.now ∷ entries) (Some self.new) }
-        ensures answer { (p : Params) (target : ℕ) (entries : List (SenderEntry Frame))
-            → HoldsSender p target entries (Some self.old) → IfOk result (λ answer.
+        ensures steers { (p : Params) (fits : Bool) (first : ℕ) (past : List Steering)
+            → HoldsSteered p fits first past (Some self.old)
+            → HoldsSteered p fits first (steering.Feedback bytes.now ∷ past) (Some self.new) }
+        ensures replies { (p : Params) (fits : Bool) (first : ℕ) (past : List Steering)
+            → HoldsSteered p fits first past (Some self.old) → IfOk result (λ answer.
             senders.reply_of answer ≡ feedback_answer (rules_of p)
-            (length (senders.run_of p (pace_of target p) entries).coded)
-            (read_message p.clock bytes.now)) }
-        ensures steers { (p : Params) (first : ℕ) (past : List Steering)
-            → HoldsSteered p first past (Some self.old)
-            → HoldsSteered p first (steering.Feedback bytes.now ∷ past) (Some self.new) }
-        ensures replies { (p : Params) (first : ℕ) (past : List Steering)
-            → HoldsSteered p first past (Some self.old) → IfOk result (λ answer.
-            senders.reply_of answer ≡ feedback_answer (rules_of p)
-            (length (run_after p (target_in first) past).run.coded)
+            (length (run_after p fits (target_in first) past).run.coded)
             (read_message p.clock bytes.now)) }
     {
         match self {
@@ -396,9 +377,9 @@ impl End {
         ensures refusal { refusal_in result ≡ for_sender (target_refusal target) (Some self.old) }
         ensures same { IfErr result (λ why. self.new ≡ self.old) }
         ensures packets { packets_in (Some self.new) ≡ packets_in (Some self.old) }
-        ensures steers { (p : Params) (first : ℕ) (past : List Steering)
-            → HoldsSteered p first past (Some self.old) → IsOk result
-            → HoldsSteered p first (steering.Target (target_in target) ∷ past) (Some self.new) }
+        ensures steers { (p : Params) (fits : Bool) (first : ℕ) (past : List Steering)
+            → HoldsSteered p fits first past (Some self.old) → IsOk result
+            → HoldsSteered p fits first (steering.Target (target_in target) ∷ past) (Some self.new) }
     {
         match self {
             End::Sending(sending) => sending.follow(target),
@@ -413,9 +394,9 @@ impl End {
         ensures refusal { refusal_in result ≡ for_sender never (Some self.old) }
         ensures same { IfErr result (λ why. self.new ≡ self.old) }
         ensures packets { packets_in (Some self.new) ≡ packets_in (Some self.old) }
-        ensures steers { (p : Params) (first : ℕ) (past : List Steering)
-            → HoldsSteered p first past (Some self.old) → IsOk result
-            → HoldsSteered p first (steering.Forget ∷ past) (Some self.new) }
+        ensures steers { (p : Params) (fits : Bool) (first : ℕ) (past : List Steering)
+            → HoldsSteered p fits first past (Some self.old) → IsOk result
+            → HoldsSteered p fits first (steering.Forget ∷ past) (Some self.new) }
     {
         match self {
             End::Sending(sending) => {
@@ -431,9 +412,9 @@ impl End {
     /// How many pictures a sender has coded.
     pub fn sent(&self) -> Result<u32, EndRefusal>
         ensures refusal { refusal_in result ≡ for_sender never (Some self.now) }
-        ensures steers { (p : Params) (first : ℕ) (past : List Steering)
-            → HoldsSteered p first past (Some self.now) → IfOk result (λ count.
-            count ≡ length (run_after p (target_in first) past).run.coded) }
+        ensures steers { (p : Params) (fits : Bool) (first : ℕ) (past : List Steering)
+            → HoldsSteered p fits first past (Some self.now) → IfOk result (λ count.
+            count ≡ length (run_after p fits (target_in first) past).run.coded) }
     {
         match self {
             End::Sending(sending) => Ok(sending.sent()),
@@ -446,9 +427,9 @@ impl End {
     /// How many pictures a sender knows to be complete, of those to which its next one may refer.
     pub fn known(&self) -> Result<u32, EndRefusal>
         ensures refusal { refusal_in result ≡ for_sender never (Some self.now) }
-        ensures steers { (p : Params) (first : ℕ) (past : List Steering)
-            → HoldsSteered p first past (Some self.now) → IfOk result (λ count.
-            count ≡ known_in p (run_after p (target_in first) past)) }
+        ensures steers { (p : Params) (fits : Bool) (first : ℕ) (past : List Steering)
+            → HoldsSteered p fits first past (Some self.now) → IfOk result (λ count.
+            count ≡ known_in p (run_after p fits (target_in first) past)) }
     {
         match self {
             End::Sending(sending) => Ok(sending.known()),

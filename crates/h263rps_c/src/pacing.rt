@@ -1,5 +1,5 @@
 //! A pace that uses its target, for C, and a sender that takes its quantisers.
-ghost use Rattle.std.specs.Prelude.{◌≡◌, ◌≢◌, ◌≤◌, ℕ, List, ◌∷◌, IfErr, IfSome, IsOk, Ok, Some};
+ghost use Rattle.std.specs.Prelude.{Bool, ◌≡◌, ◌≢◌, ◌≤◌, ℕ, List, ◌∷◌, IfErr, IfSome, IsOk, Ok, Some};
 ghost use Rattle.h263_types.specs.declared.format.Format.{Format};
 ghost use Rattle.h263_types.specs.declared.params.Params.{Params};
 ghost use Rattle.picture_pace.specs.Fitting.{after_coded, fitting_quant, redirected, pace_at_start};
@@ -106,9 +106,9 @@ impl End {
         ensures refusal { refusal_in result ≡ for_sender (quant_refusal quant) (Some self.old) }
         ensures same { IfErr result (λ why. self.new ≡ self.old) }
         ensures packets { packets_in (Some self.new) ≡ packets_in (Some self.old) }
-        ensures steers { (p : Params) (first : ℕ) (past : List Steering)
-            → HoldsSteered p first past (Some self.old) → IsOk result
-            → HoldsSteered p first (steering.Quant quant ∷ past) (Some self.new) }
+        ensures steers { (p : Params) (fits : Bool) (first : ℕ) (past : List Steering)
+            → HoldsSteered p fits first past (Some self.old) → IsOk result
+            → HoldsSteered p fits first (steering.Quant quant ∷ past) (Some self.new) }
     {
         match self {
             End::Sending(sending) => sending.fix(quant),
@@ -127,9 +127,9 @@ pub extern "C" fn h263rps_raw_sender_quant(slot: &mut Slot, quant: u8) -> u32
     ensures same { result ≢ 0 → slot.new.handle.inside ≡ slot.old.handle.inside }
     ensures counts { slot.new.counted ≡ slot.old.counted }
     ensures packets { packets_in slot.new.handle.inside ≡ packets_in slot.old.handle.inside }
-    ensures steers { (p : Params) (first : ℕ) (past : List Steering)
-        → HoldsSteered p first past slot.old.handle.inside → result ≡ 0
-        → HoldsSteered p first (steering.Quant quant ∷ past) slot.new.handle.inside }
+    ensures steers { (p : Params) (fits : Bool) (first : ℕ) (past : List Steering)
+        → HoldsSteered p fits first past slot.old.handle.inside → result ≡ 0
+        → HoldsSteered p fits first (steering.Quant quant ∷ past) slot.new.handle.inside }
 {
     if !slot.is_started() {
         return EndRefusal::NotStarted.number();

@@ -1,5 +1,5 @@
 //! Ends of C that begin a call anew, in the memory that they have.
-ghost use Rattle.std.specs.Prelude.{◌≡◌, ◌≢◌, ◌≤◌, ℕ, List, [], Some, IfErr, IsOk};
+ghost use Rattle.std.specs.Prelude.{Bool, ◌≡◌, ◌≢◌, ◌≤◌, ℕ, List, [], Some, IfErr, IsOk};
 ghost use Rattle.h263_types.specs.declared.params.Params.{Params};
 ghost use Rattle.call_model.specs.Receiving.{ReceiverEntry};
 ghost use Rattle.call_model.specs.Sending.{SenderEntry};
@@ -7,7 +7,7 @@ ghost use Rattle.call_encoding.specs.Frames.{Frame};
 ghost use Rattle.receiver_end.specs.State as receivers;
 ghost use Rattle.receiver_end.specs.State.{plays_alone};
 ghost use Rattle.h263rps_c.specs.Counting as counts;
-ghost use Rattle.h263rps_c.specs.Ends.{HoldsReceiver, HoldsSender, HoldsSteered, packets_in};
+ghost use Rattle.h263rps_c.specs.Ends.{HoldsReceiver, HoldsSteered, packets_in};
 ghost use Rattle.h263rps_c.specs.Refusals.{refusal_in, reset_refusal, status_of, target_refusal};
 ghost use Rattle.h263rps_c.specs.Slots.{for_receiver, for_sender};
 ghost use Rattle.h263rps_c.specs.Steering.{Steering};
@@ -56,12 +56,9 @@ impl End {
         ensures refusal { refusal_in result ≡ for_sender (target_refusal target) (Some self.old) }
         ensures same { IfErr result (λ why. self.new ≡ self.old) }
         ensures packets { IsOk result → packets_in (Some self.new) ≡ [] }
-        ensures stands { (p : Params) (before : ℕ) (entries : List (SenderEntry Frame))
-            → HoldsSender p before entries (Some self.old) → IsOk result
-            → HoldsSender p target [] (Some self.new) }
-        ensures steers { (p : Params) (first : ℕ) (past : List Steering)
-            → HoldsSteered p first past (Some self.old) → IsOk result
-            → HoldsSteered p target [] (Some self.new) }
+        ensures steers { (p : Params) (fits : Bool) (first : ℕ) (past : List Steering)
+            → HoldsSteered p fits first past (Some self.old) → IsOk result
+            → HoldsSteered p fits target [] (Some self.new) }
     {
         match self {
             End::Sending(sending) => sending.restart(target),
@@ -105,12 +102,9 @@ pub extern "C" fn h263rps_raw_sender_reset(slot: &mut Slot, target: u32) -> u32
     ensures same { result ≢ 0 → Stays slot.old slot.new }
     ensures nothing { result ≡ 0 → slot.new.counted ≡ counts.none }
     ensures packets { result ≡ 0 → packets_in slot.new.handle.inside ≡ [] }
-    ensures stands { (p : Params) (before : ℕ) (entries : List (SenderEntry Frame))
-        → HoldsSender p before entries slot.old.handle.inside → result ≡ 0
-        → HoldsSender p target [] slot.new.handle.inside }
-    ensures steers { (p : Params) (first : ℕ) (past : List Steering)
-        → HoldsSteered p first past slot.old.handle.inside → result ≡ 0
-        → HoldsSteered p target [] slot.new.handle.inside }
+    ensures steers { (p : Params) (fits : Bool) (first : ℕ) (past : List Steering)
+        → HoldsSteered p fits first past slot.old.handle.inside → result ≡ 0
+        → HoldsSteered p fits target [] slot.new.handle.inside }
 {
     if !slot.is_started() {
         return EndRefusal::NotStarted.number();

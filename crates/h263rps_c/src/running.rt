@@ -1,5 +1,5 @@
 //! What steers a sender of C while it runs.
-ghost use Rattle.std.specs.Prelude.{◌≡◌, ◌≢◌, ℕ, List, ◌∷◌, length};
+ghost use Rattle.std.specs.Prelude.{Bool, ◌≡◌, ◌≢◌, ℕ, List, ◌∷◌, length};
 ghost use Rattle.h263_types.specs.declared.params.Params.{Params};
 ghost use Rattle.sender_end.specs.Known.{known_in};
 ghost use Rattle.h263rps_c.specs.Ends.{HoldsSteered, packets_in};
@@ -22,9 +22,9 @@ pub extern "C" fn h263rps_raw_sender_target(slot: &mut Slot, target: u32) -> u32
     ensures same { result ≢ 0 → slot.new.handle.inside ≡ slot.old.handle.inside }
     ensures counts { slot.new.counted ≡ slot.old.counted }
     ensures packets { packets_in slot.new.handle.inside ≡ packets_in slot.old.handle.inside }
-    ensures steers { (p : Params) (first : ℕ) (past : List Steering)
-        → HoldsSteered p first past slot.old.handle.inside → result ≡ 0
-        → HoldsSteered p first (steering.Target (target_in target) ∷ past)
+    ensures steers { (p : Params) (fits : Bool) (first : ℕ) (past : List Steering)
+        → HoldsSteered p fits first past slot.old.handle.inside → result ≡ 0
+        → HoldsSteered p fits first (steering.Target (target_in target) ∷ past)
         slot.new.handle.inside }
 {
     if !slot.is_started() {
@@ -44,9 +44,9 @@ pub extern "C" fn h263rps_raw_sender_forget(slot: &mut Slot) -> u32
     ensures same { result ≢ 0 → slot.new.handle.inside ≡ slot.old.handle.inside }
     ensures counts { slot.new.counted ≡ slot.old.counted }
     ensures packets { packets_in slot.new.handle.inside ≡ packets_in slot.old.handle.inside }
-    ensures steers { (p : Params) (first : ℕ) (past : List Steering)
-        → HoldsSteered p first past slot.old.handle.inside → result ≡ 0
-        → HoldsSteered p first (steering.Forget ∷ past) slot.new.handle.inside }
+    ensures steers { (p : Params) (fits : Bool) (first : ℕ) (past : List Steering)
+        → HoldsSteered p fits first past slot.old.handle.inside → result ≡ 0
+        → HoldsSteered p fits first (steering.Forget ∷ past) slot.new.handle.inside }
 {
     if !slot.is_started() {
         return EndRefusal::NotStarted.number();
@@ -63,9 +63,9 @@ pub extern "C" fn h263rps_raw_sender_sent(slot: &mut Slot, count: &mut u32) -> u
     ensures result { result ≡ status_of (for_sender never slot.old.handle.inside) }
     ensures same { Stays slot.old slot.new }
     ensures uncounted { result ≢ 0 → count.new ≡ count.old }
-    ensures steers { (p : Params) (first : ℕ) (past : List Steering)
-        → HoldsSteered p first past slot.old.handle.inside → result ≡ 0
-        → count.new ≡ length (run_after p (target_in first) past).run.coded }
+    ensures steers { (p : Params) (fits : Bool) (first : ℕ) (past : List Steering)
+        → HoldsSteered p fits first past slot.old.handle.inside → result ≡ 0
+        → count.new ≡ length (run_after p fits (target_in first) past).run.coded }
 {
     if !slot.is_started() {
         return EndRefusal::NotStarted.number();
@@ -86,9 +86,9 @@ pub extern "C" fn h263rps_raw_sender_known(slot: &mut Slot, count: &mut u32) -> 
     ensures result { result ≡ status_of (for_sender never slot.old.handle.inside) }
     ensures same { Stays slot.old slot.new }
     ensures uncounted { result ≢ 0 → count.new ≡ count.old }
-    ensures steers { (p : Params) (first : ℕ) (past : List Steering)
-        → HoldsSteered p first past slot.old.handle.inside → result ≡ 0
-        → count.new ≡ known_in p (run_after p (target_in first) past) }
+    ensures steers { (p : Params) (fits : Bool) (first : ℕ) (past : List Steering)
+        → HoldsSteered p fits first past slot.old.handle.inside → result ≡ 0
+        → count.new ≡ known_in p (run_after p fits (target_in first) past) }
 {
     if !slot.is_started() {
         return EndRefusal::NotStarted.number();

@@ -1,5 +1,5 @@
 //! A sender for C.
-ghost use Rattle.std.specs.Prelude.{◌≡◌, ◌≢◌, ◌<◌, ◌≤◌, ℕ, List, [], ◌∷◌, ◌++◌, None, Some, IfOk, drop, length, slice_index_or};
+ghost use Rattle.std.specs.Prelude.{Bool, ◌≡◌, ◌≢◌, ◌<◌, ◌≤◌, ℕ, List, [], ◌∷◌, ◌++◌, None, Some, IfOk, drop, length, slice_index_or};
 ghost use Rattle.h263_types.specs.declared.params.Params.{Params};
 ghost use Rattle.back_messages.specs.declared.message.Message.{Message};
 ghost use Rattle.call_model.specs.Sending as call;
@@ -8,9 +8,9 @@ ghost use Rattle.call_decoding.specs.Rules.{rules_of};
 ghost use Rattle.call_encoding.specs.Frames.{Frame};
 ghost use Rattle.call_encoding.specs.Messages.{read_message};
 ghost use Rattle.sender_end.specs.Stands as senders;
-ghost use Rattle.h263rps_c.specs.Asked.{params_of};
+ghost use Rattle.h263rps_c.specs.Asked.{fits_in, params_of};
 ghost use Rattle.h263rps_c.specs.Counting as counts;
-ghost use Rattle.h263rps_c.specs.Ends.{HoldsSender, HoldsSteered, TellsCoded, TellsReply, packets_in};
+ghost use Rattle.h263rps_c.specs.Ends.{HoldsSteered, TellsCoded, TellsReply, packets_in};
 ghost use Rattle.h263rps_c.specs.Messages.{messages_of};
 ghost use Rattle.h263rps_c.specs.Pace.{pace_of, target_in};
 ghost use Rattle.h263rps_c.specs.Refusals.{capture_refusal, packet_refusal, status_of, refusal_number};
@@ -44,10 +44,9 @@ pub extern "C" fn h263rps_raw_sender_start(
     ensures nothing { result ≡ 0 → slot.new.counted ≡ counts.none }
     ensures fault { fault.new
         ≡ fault_after slot.old.handle.inside (params_of asked.now) fault.old }
-    ensures stands { result ≡ 0 → IfOk (params_of asked.now)
-        (λ p. HoldsSender p asked.now.target [] slot.new.handle.inside) }
     ensures steers { result ≡ 0 → IfOk (params_of asked.now)
-        (λ p. HoldsSteered p asked.now.target [] slot.new.handle.inside) }
+        (λ p. HoldsSteered p (fits_in asked.now.pace) asked.now.target []
+        slot.new.handle.inside) }
 {
     if slot.is_started() {
         return EndRefusal::Started.number();
@@ -57,7 +56,7 @@ pub extern "C" fn h263rps_raw_sender_start(
             *fault = number;
             EndRefusal::BadParams.number()
         }
-        Ok(params) => match End::sender(alloc, &params, asked.target) {
+        Ok(params) => match End::sender(alloc, &params, asked.target, asked.fits()) {
             Err(refusal) => refusal.number(),
             Ok(end) => {
                 put(slot, end);
@@ -81,26 +80,16 @@ pub extern "C" fn h263rps_raw_sender_code(
     ensures counted { result ≡ 0 → slot.new.counted ≡ counts.with_made made.new slot.old.counted }
     ensures unmade { result ≢ 0 → made.new ≡ made.old }
     ensures count { result ≡ 0 → made.new.packets ≡ length (packets_in slot.new.handle.inside) }
-    ensures stands { (p : Params) (target : ℕ) (entries : List (SenderEntry Frame))
-        (back : List Message) → HoldsSender p target entries slot.old.handle.inside
+    ensures steers { (p : Params) (fits : Bool) (first : ℕ) (past : List Steering) (back : List Message)
+        → HoldsSteered p fits first past slot.old.handle.inside
         → messages_of p.clock messages.now ≡ Some back → result ≡ 0
-        → HoldsSender p target (Capture (frame_of p picture.now back) ∷ entries)
+        → HoldsSteered p fits first (steering.Capture (frame_of p picture.now back) ∷ past)
         slot.new.handle.inside }
-    ensures tells { (p : Params) (target : ℕ) (entries : List (SenderEntry Frame))
-        (back : List Message) → HoldsSender p target entries slot.old.handle.inside
+    ensures makes { (p : Params) (fits : Bool) (first : ℕ) (past : List Steering) (back : List Message)
+        → HoldsSteered p fits first past slot.old.handle.inside
         → messages_of p.clock messages.now ≡ Some back → result ≡ 0
-        → TellsCoded (length (senders.run_of p (pace_of target p) entries).coded)
-        (senders.next_after p (pace_of target p) (frame_of p picture.now back) entries) made.new }
-    ensures steers { (p : Params) (first : ℕ) (past : List Steering) (back : List Message)
-        → HoldsSteered p first past slot.old.handle.inside
-        → messages_of p.clock messages.now ≡ Some back → result ≡ 0
-        → HoldsSteered p first (steering.Capture (frame_of p picture.now back) ∷ past)
-        slot.new.handle.inside }
-    ensures makes { (p : Params) (first : ℕ) (past : List Steering) (back : List Message)
-        → HoldsSteered p first past slot.old.handle.inside
-        → messages_of p.clock messages.now ≡ Some back → result ≡ 0
-        → TellsCoded (length (run_after p (target_in first) past).run.coded)
-        (next_after p (target_in first) (frame_of p picture.now back) past) made.new }
+        → TellsCoded (length (run_after p fits (target_in first) past).run.coded)
+        (next_after p fits (target_in first) (frame_of p picture.now back) past) made.new }
 {
     if !slot.is_started() {
         return EndRefusal::NotStarted.number();
@@ -136,17 +125,13 @@ pub extern "C" fn h263rps_raw_sender_packet(
     ensures written { result ≡ 0 → room.new
         ≡ slice_index_or (packets_in slot.old.handle.inside) number [] ++ drop count.new room.old }
     // room for `limit` bytes is enough
-    ensures enough { (p : Params) (target : ℕ) (entries : List (SenderEntry Frame))
-        → HoldsSender p target entries slot.old.handle.inside
+    ensures enough { (p : Params) (fits : Bool) (first : ℕ) (past : List Steering)
+        → HoldsSteered p fits first past slot.old.handle.inside
         → result ≡ refusal_number refusals.ShortRoom → length room.old < p.limit }
-    ensures stands { (p : Params) (target : ℕ) (entries : List (SenderEntry Frame))
-        → HoldsSender p target entries slot.old.handle.inside → result ≡ 0
+    ensures steers { (p : Params) (fits : Bool) (first : ℕ) (past : List Steering)
+        → HoldsSteered p fits first past slot.old.handle.inside → result ≡ 0
         → slice_index_or (packets_in slot.old.handle.inside) number []
-        ≡ slice_index_or (senders.last_packets p (pace_of target p) entries) number [] }
-    ensures steers { (p : Params) (first : ℕ) (past : List Steering)
-        → HoldsSteered p first past slot.old.handle.inside → result ≡ 0
-        → slice_index_or (packets_in slot.old.handle.inside) number []
-        ≡ slice_index_or (senders.packets_after p (run_after p (target_in first) past)) number [] }
+        ≡ slice_index_or (senders.packets_after p (run_after p fits (target_in first) past)) number [] }
 {
     if !slot.is_started() {
         return EndRefusal::NotStarted.number();
@@ -177,21 +162,13 @@ pub extern "C" fn h263rps_raw_sender_feedback(
     ensures unnoted { result ≡ 0 → 1 ≤ reply.new.kind
         → slot.new.handle.inside ≡ slot.old.handle.inside }
     ensures packets { packets_in slot.new.handle.inside ≡ packets_in slot.old.handle.inside }
-    ensures stands { (p : Params) (target : ℕ) (entries : List (SenderEntry Frame))
-        → HoldsSender p target entries slot.old.handle.inside
-        → HoldsSender p target (call.Feedback message.now ∷ entries) slot.new.handle.inside }
-    ensures answer { (p : Params) (target : ℕ) (entries : List (SenderEntry Frame))
-        → HoldsSender p target entries slot.old.handle.inside
+    ensures steers { (p : Params) (fits : Bool) (first : ℕ) (past : List Steering)
+        → HoldsSteered p fits first past slot.old.handle.inside
+        → HoldsSteered p fits first (steering.Feedback message.now ∷ past) slot.new.handle.inside }
+    ensures replies { (p : Params) (fits : Bool) (first : ℕ) (past : List Steering)
+        → HoldsSteered p fits first past slot.old.handle.inside
         → TellsReply reply.new (feedback_answer (rules_of p)
-        (length (senders.run_of p (pace_of target p) entries).coded)
-        (read_message p.clock message.now)) }
-    ensures steers { (p : Params) (first : ℕ) (past : List Steering)
-        → HoldsSteered p first past slot.old.handle.inside
-        → HoldsSteered p first (steering.Feedback message.now ∷ past) slot.new.handle.inside }
-    ensures replies { (p : Params) (first : ℕ) (past : List Steering)
-        → HoldsSteered p first past slot.old.handle.inside
-        → TellsReply reply.new (feedback_answer (rules_of p)
-        (length (run_after p (target_in first) past).run.coded)
+        (length (run_after p fits (target_in first) past).run.coded)
         (read_message p.clock message.now)) }
 {
     if !slot.is_started() {

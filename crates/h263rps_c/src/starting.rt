@@ -11,7 +11,7 @@ ghost use Rattle.h263rps_c.specs.Refusals.{refusal_number};
 use crate::asked::{Asked, format_of};
 use crate::refusals::{EndRefusal, OK};
 
-const VERSION: u32 = 20200;
+const VERSION: u32 = 20300;
 
 /// The version of the library: 10,000 times its major number and 100 times its minor one.
 #[unsafe(no_mangle)]

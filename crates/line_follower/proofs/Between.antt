@@ -5,7 +5,7 @@ use Rattle.line_follower.specs.declared.line.Line.{Line}
 use Rattle.line_follower.specs.declared.line.Action.{Action}
 use Rattle.line_follower.specs.declared.line.Action.TheVariants as actions
 use Rattle.line_follower.specs.declared.picture.Picture.{Picture}
-use Rattle.line_follower.specs.Following.{started, told_of, with_told}
+use Rattle.line_follower.specs.Following.{noticed, started, told_of, with_line, with_told}
 use Rattle.line_follower.specs.Pacing.{rate_of}
 use Rattle.line_follower.specs.Laws.{Event, IsBetween, NeverBeyond, Sends, StaysBetween, Tells, after, after_all}
 use Rattle.line_follower.specs.Losing.{counted, is_judged}
@@ -86,8 +86,12 @@ between_told : (least most : ℕ) (p : Picture) (w : Bool) (through now : ℕ) (
     → IsBetween least most (told_line p w through now l)
 between_told least most p w through now l h =
     between_turned least most
-    (action_of (slope_with p w now l) (is_judged now (counted p.packets w l.losses)) through (heard p w now l))
+    (action_of w (slope_with p w now l) (is_judged now (counted p.packets w l.losses)) through (heard p w now l))
     through now (heard p w now l) (between_heard least most p w now l h)
+
+between_noticed : (least most : ℕ) (p : Picture) (l : Line) → IsBetween least most l → IsBetween least most (noticed p l)
+between_noticed least most p l h =
+    record { least_is = h.least_is; most_is = h.most_is; above = h.above; below = h.below }
 
 between_of : (least most : ℕ) (o : Option Picture) (w : Bool) (now : ℕ) (f : Follower) → IsBetween least most f.line
     → IsBetween least most (told_of o w now f).line
@@ -97,12 +101,13 @@ between_of least most (Some p) w now f h = between_if least most (leb f.line.sin
     between_if : (least most : ℕ) (b : Bool) (p : Picture) (w : Bool) (now : ℕ) (f : Follower)
         → IsBetween least most f.line
         → IsBetween least most
-        (cond b (record (with_told p w now f) {
-          line = told_line p w (through now (put (told_as w now p) f.pictures)) now f.line;
-        }) (with_told p w now f)).line
+        (cond b (with_line
+        (told_line p w (through now (put (told_as w now p) f.pictures)) now (noticed p f.line)) (with_told p w now f))
+        (with_told p w now f)).line
     between_if least most true p w now f h =
-        between_told least most p w (through now (put (told_as w now p) f.pictures)) now f.line h
-    between_if least most false p w now f h = h
+        between_told least most p w (through now (put (told_as w now p) f.pictures)) now (noticed p f.line)
+        (between_noticed least most p f.line h)
+    between_if least most false p w now f h = between_noticed least most p f.line h
 
 between_after : (least most : ℕ) (f : Follower) (e : Event) → IsBetween least most f.line
     → IsBetween least most (after f e).line
@@ -126,24 +131,24 @@ beyond_told : (p : Picture) (w : Bool) (through now : ℕ) (l : Line) → l.leas
     → (told_line p w through now l).rate ≤ max l.rate (3 * through / 2)
 beyond_told p true through now l h =
     beyond_turned
-    (action_of (slope_with p true now l) (is_judged now (counted p.packets true l.losses)) through
+    (action_of true (slope_with p true now l) (is_judged now (counted p.packets true l.losses)) through
     (heard p true now l))
     through now (heard p true now l) h
 beyond_told p false through now l h =
     beyond_turned
-    (action_of (slope_with p false now l) (is_judged now (counted p.packets false l.losses)) through
+    (action_of false (slope_with p false now l) (is_judged now (counted p.packets false l.losses)) through
     (heard p false now l))
     through now (heard p false now l) h
 
 abbrev told_with : Bool → Picture → Bool → ℕ → Follower → Follower
 told_with b p w now f =
-    cond b (record (with_told p w now f) {
-      line = told_line p w (through now (put (told_as w now p) f.pictures)) now f.line;
-    }) (with_told p w now f)
+    cond b (with_line
+    (told_line p w (through now (put (told_as w now p) f.pictures)) now (noticed p f.line)) (with_told p w now f))
+    (with_told p w now f)
 
 beyond_if : (b : Bool) (p : Picture) (w : Bool) (now : ℕ) (f : Follower) → f.line.least ≤ f.line.rate
     → (told_with b p w now f).line.rate ≤ max f.line.rate (3 * through now (told_with b p w now f).pictures / 2)
-beyond_if true p w now f h = beyond_told p w (through now (put (told_as w now p) f.pictures)) now f.line h
+beyond_if true p w now f h = beyond_told p w (through now (put (told_as w now p) f.pictures)) now (noticed p f.line) h
 beyond_if false p w now f h = omega arith
 
 beyond_of : (o : Option Picture) (w : Bool) (now : ℕ) (f : Follower) → f.line.least ≤ f.line.rate

@@ -1,4 +1,5 @@
 mod Between
+mod Choked
 mod Debts
 mod Outliers
 mod Saying

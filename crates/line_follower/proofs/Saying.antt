@@ -7,7 +7,7 @@ use Rattle.std.specs.List.{AllByRecursion, slice_get}
 use Rattle.line_follower.specs.declared.follower.Follower.{Follower}
 use Rattle.line_follower.specs.declared.pace.Bounds.{Bounds}
 use Rattle.line_follower.specs.declared.picture.Picture.{Picture}
-use Rattle.line_follower.specs.Following.{after_told, sent_picture, started, told_of, with_told}
+use Rattle.line_follower.specs.Following.{after_told, noticed, sent_picture, started, told_of, with_line, with_told}
 use Rattle.line_follower.specs.Laws.{Event, IsOther, NeverSent, Sends, Tells, ToldTwice, after, after_all}
 use Rattle.line_follower.specs.Rating.{told_line}
 use Rattle.line_follower.specs.Table.{fate_of, is_open, is_untold, no_picture, open_at, open_of, put, through, told_as}
@@ -61,9 +61,9 @@ told_not_open n w now p = both_false (eqb p.number n) (is_untold (fate_of w now)
 
 abbrev told_with : Bool → Picture → Bool → ℕ → Follower → Follower
 told_with b p w now f =
-    cond b (record (with_told p w now f) {
-      line = told_line p w (through now (put (told_as w now p) f.pictures)) now f.line;
-    }) (with_told p w now f)
+    cond b (with_line
+    (told_line p w (through now (put (told_as w now p) f.pictures)) now (noticed p f.line)) (with_told p w now f))
+    (with_told p w now f)
 
 pictures_with : (b : Bool) (p : Picture) (w : Bool) (now : ℕ) (f : Follower)
     → (told_with b p w now f).pictures ≡ put (told_as w now p) f.pictures
@@ -111,8 +111,7 @@ never_sent b start number now w es h =
 
 -- ---- told twice
 
-some_of : (b : Bool) (q p : Picture) → cond b (let x : Option Picture = Some q in x) None ≡ Some p
-    → (b ≡ true) × (q ≡ p)
+some_of : (b : Bool) (q p : Picture) → cond b (let x : Option Picture = Some q in x) None ≡ Some p → (b ≡ true) × (q ≡ p)
 some_of true q p e = let s : q ≡ p = cc in (refl, s)
 some_of false q p e = cc
 

@@ -1,5 +1,5 @@
 -- What holds of a rate, whatever is sent and told.
-use Rattle.std.specs.Prelude.{◌≡◌, ◌≢◌, ℕ, ◌+◌, ◌*◌, ◌/◌, ◌<◌, ◌≤◌, max, Bool, true, false, List, [], ◌∷◌, ◌++◌, None, length, slice_index}
+use Rattle.std.specs.Prelude.{◌≡◌, ◌≢◌, ℕ, ◌+◌, ◌*◌, ◌/◌, ◌<◌, ◌≤◌, max, min, ◌-◌, Bool, true, false, List, [], ◌∷◌, ◌++◌, None, length, slice_index}
 use Rattle.std.specs.List.{AllByRecursion}
 use Rattle.line_follower.specs.declared.follower.Follower.{Follower}
 use Rattle.line_follower.specs.declared.line.Line.{Line}
@@ -8,11 +8,11 @@ use Rattle.line_follower.specs.declared.picture.Picture.{Picture}
 use Rattle.line_follower.specs.declared.trend.Trend.{Trend}
 use Rattle.line_follower.specs.declared.trend.Slope.TheVariants as slopes
 use Rattle.line_follower.specs.declared.trips.Thirds.{Thirds}
-use Rattle.line_follower.specs.Following.{after_sent, after_told, all_bytes, has_room, started}
+use Rattle.line_follower.specs.Following.{after_sent, after_told, all_bytes, has_room, is_held, started}
 use Rattle.line_follower.specs.Losing.{carried_by, counted, is_judged, latest_with}
 use Rattle.line_follower.specs.Numbers.{numbers}
 use Rattle.line_follower.specs.Pacing.{rate_of}
-use Rattle.line_follower.specs.Rating.{told_line}
+use Rattle.line_follower.specs.Rating.{heard, is_choked, told_line}
 use Rattle.line_follower.specs.Table.{through, trip_of}
 use Rattle.line_follower.specs.Trending.{is_down, is_up, slope_of, thirds_with}
 
@@ -64,6 +64,27 @@ OwesLittle =
     (f : Follower) (number bytes packets now : ℕ) → has_room now f ≡ true
     → (after_sent number bytes packets now f).line.debt.owed
     ≤ f.line.rate * 200000000 + all_bytes bytes packets * 1000000000
+
+-- ---- what isn't told yet
+
+-- Where no picture went out for 200 ms, nothing that is waited for holds the next one.
+abbrev pub HeldBriefly : Type 0
+HeldBriefly = (f : Follower) (now : ℕ) → 200000000 ≤ now - f.line.out → is_held now f ≡ false
+
+-- A line is choked with the third late picture alone.
+abbrev pub ChokedThrice : Type 0
+ChokedThrice =
+    (p : Picture) (is_whole : Bool) (through now : ℕ) (l : Line)
+    → is_choked through (heard p is_whole now l) ≡ true → 2 ≤ l.late.count
+
+-- What a choked line has left, where a picture isn't whole: no more than a quarter of the rate, or the
+-- least; and no picture goes out for 200 ms, so that what waits on it goes first.
+abbrev pub ChokedGivesWay : Type 0
+ChokedGivesWay =
+    (p : Picture) (through now : ℕ) (l : Line)
+    → is_choked through (heard p false now l) ≡ true
+    → let m = told_line p false through now l in
+    (m.rate ≤ max (l.rate * 2 / 8) l.least) × (m.paused ≡ min (now + 200000000) 18446744073709551615)
 
 -- ---- round trips
 

@@ -1,6 +1,7 @@
 pub mod Numbers
 pub mod Trending
 pub mod Losing
+pub mod Choking
 pub mod Owing
 pub mod Table
 pub mod Rating

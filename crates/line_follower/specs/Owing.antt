@@ -1,5 +1,5 @@
 -- What waits on the line.
-use Rattle.std.specs.Prelude.{ℕ, ◌+◌, ◌-◌, ◌*◌, ◌/◌, min, nat_le, nat_lt, Bool, if◌then◌else◌}
+use Rattle.std.specs.Prelude.{ℕ, ◌+◌, ◌-◌, ◌*◌, ◌/◌, min, max, nat_le, nat_lt, Bool, if◌then◌else◌}
 use Rattle.line_follower.specs.declared.debt.Debt.{Debt}
 use Rattle.line_follower.specs.declared.least_trip.LeastTrip.{LeastTrip}
 
@@ -37,6 +37,10 @@ with_bytes bytes d =
 -- a fifth of a second of the rate at most
 abbrev pub capped : ℕ → Debt → Debt
 capped rate d = record { owed = min d.owed (rate * 200000000); at = d.at }
+
+-- at least what the rate carries in so many microseconds, up to a fifth of a second
+abbrev pub with_queue : ℕ → ℕ → Debt → Debt
+with_queue micros rate d = record { owed = max d.owed (min micros 200000 * rate * 1000); at = d.at }
 
 abbrev pub is_small : ℕ → Debt → Bool
 is_small rate d = nat_le d.owed (rate * 200000000)

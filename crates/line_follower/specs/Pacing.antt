@@ -1,5 +1,5 @@
 -- The sizes of pictures, in bytes.
-use Rattle.std.specs.Prelude.{ℕ, ◌+◌, ◌-◌, ◌*◌, ◌/◌, min, max}
+use Rattle.std.specs.Prelude.{ℕ, ◌+◌, ◌-◌, ◌*◌, ◌/◌, min, max, nat_lt, if◌then◌else◌}
 use Rattle.line_follower.specs.Bucket.{no_sizes, sizes_with}
 use Rattle.line_follower.specs.declared.pace.Bounds.{Bounds}
 use Rattle.line_follower.specs.declared.pace.Pace.{Pace}
@@ -28,13 +28,23 @@ abbrev pub wanted_of : ℕ → ℕ → Pace → ℕ
 wanted_of rate owed p =
     max (min (size_at rate p.bounds.period - p.heads / 8 - owed / 8) p.bounds.most) p.bounds.least
 
--- How far a size is off what was wanted counts up to twice, or half. The quantiser goes about by the
--- root of it: the quotient is no more than two hundredths off that.
+-- The quantiser that has so many bytes where this one has others: it goes about by the root of what
+-- they are of each other. The quotient is no more than two hundredths off that, up to twice or half,
+-- and a fourteenth up to four times.
+abbrev pub quant_by : ℕ → ℕ → ℕ → ℕ → ℕ
+quant_by quant s w finest = max (min (quant * (3 * s + w) / (s + 3 * w)) 7936) (256 * finest)
+
+-- How far a size is off what was wanted counts up to twice, or half.
 abbrev pub quant_after : ℕ → ℕ → ℕ → ℕ → ℕ
 quant_after quant bytes wanted finest =
     let w = max wanted 1 in
-    let s = min (max bytes (w / 2)) (2 * w) in
-    max (min (quant * (3 * s + w) / (s + 3 * w)) 7936) (256 * finest)
+    quant_by quant (min (max bytes (w / 2)) (2 * w)) w finest
+
+-- after a fall of the rate, which counts up to a quarter
+abbrev pub quant_at : ℕ → ℕ → ℕ → ℕ → ℕ
+quant_at quant before rate finest =
+    let w = max rate 1 in
+    quant_by quant (min before (4 * w)) w finest
 
 abbrev pub pace_after : ℕ → ℕ → ℕ → Pace → Pace
 pace_after bytes packets wanted p =
@@ -44,6 +54,13 @@ pace_after bytes packets wanted p =
       heads = heads_after p.heads packets;
       sizes = sizes_with bytes p.sizes;
     }
+
+-- The rate was that before, and is this one: where it falls the next picture is smaller at once.
+abbrev pub pace_at : ℕ → ℕ → Pace → Pace
+pace_at before rate p =
+    if nat_lt rate before
+    then record p { quant = quant_at p.quant before rate p.bounds.finest }
+    else p
 
 abbrev pub nearest_quant : Pace → ℕ
 nearest_quant p = (p.quant + 128) / 256

@@ -8,8 +8,9 @@ use Rattle.line_follower.specs.declared.line.Action.TheVariants as actions
 use Rattle.line_follower.specs.declared.picture.Picture.{Picture}
 use Rattle.line_follower.specs.declared.trend.Slope.{Slope}
 use Rattle.line_follower.specs.declared.trend.Slope.TheVariants as slopes
+use Rattle.line_follower.specs.Choking.{lateness_with, no_lateness}
 use Rattle.line_follower.specs.Losing.{carried_by, cleared_losses, counted, first_losses, is_judged, latest_with, losses_after, no_latest}
-use Rattle.line_follower.specs.Owing.{capped, drained, first_debt, first_trip, least_of, trips_after, with_bytes}
+use Rattle.line_follower.specs.Owing.{capped, drained, first_debt, first_trip, least_of, trips_after, with_bytes, with_queue}
 use Rattle.line_follower.specs.Table.{trip_of}
 use Rattle.line_follower.specs.Trending.{cleared_trend, first_trend, slope_of, trend_after}
 
@@ -24,6 +25,8 @@ first_line rate least most now =
       paused = 0;
       since = 0;
       next = 0;
+      out = 0;
+      untold = 0;
       trip = 0;
       drains = None;
       debt = first_debt now;
@@ -31,11 +34,12 @@ first_line rate least most now =
       losses = first_losses now;
       latest = no_latest;
       least_trip = first_trip now;
+      late = no_lateness;
     }
 
 abbrev pub sent_line : ℕ → ℕ → ℕ → Line → Line
 sent_line number bytes now l =
-    record l { next = number + 1; debt = with_bytes bytes (drained l.rate now l.debt) }
+    record l { next = number + 1; out = now; debt = with_bytes bytes (drained l.rate now l.debt) }
 
 -- ---- what is told
 
@@ -71,6 +75,7 @@ noted p is_whole now l =
     record l {
       losses = losses_after p.packets is_whole now l.losses;
       latest = latest_with p.packets is_whole l.latest;
+      late = lateness_with (least_of l.least_trip) p.at (trip_of now p) l.late;
     }
 
 abbrev pub heard : Picture → Bool → ℕ → Line → Line
@@ -127,8 +132,21 @@ abbrev pub cutting_action : Option ℕ → Slope → Bool → ℕ → Line → A
 cutting_action None slope is_judged through l = losing_action slope is_judged through l
 cutting_action (Some eighths) slope is_judged through l = actions.Cut eighths
 
-abbrev pub action_of : Slope → Bool → ℕ → Line → Action
-action_of slope is_judged through l = cutting_action (carried_by l.latest) slope is_judged through l
+-- Three pictures in a row came much later than the ones before them, and less than half of the rate
+-- comes through.
+abbrev pub is_choked : ℕ → Line → Bool
+is_choked through l = if nat_le 3 l.late.count then nat_lt (2 * through) l.rate else false
+
+-- The eighths that are left: two where the line is choked and a picture isn't whole.
+abbrev pub cut_of : Bool → ℕ → Line → Option ℕ
+cut_of is_whole through l =
+    if is_whole then carried_by l.latest
+    else if is_choked through l then Some 2
+    else carried_by l.latest
+
+abbrev pub action_of : Bool → Slope → Bool → ℕ → Line → Action
+action_of is_whole slope is_judged through l =
+    cutting_action (cut_of is_whole through l) slope is_judged through l
 
 -- Down to this rate, if it is less, but not below the least. Only what follows tells of it.
 abbrev pub shrunk_to : ℕ → Line → ℕ
@@ -144,6 +162,7 @@ shrunk rate now l =
       trend = cleared_trend l.trend;
       losses = cleared_losses now l.losses;
       latest = no_latest;
+      late = record l.late { count = 0 };
     }
 
 -- within a fifth of the rate at which the line was full last
@@ -170,9 +189,13 @@ grown_to through now l =
 abbrev pub grown : ℕ → ℕ → Line → Line
 grown through now l = record l { rate = grown_to through now l; debt = drained l.rate now l.debt }
 
--- Where most packets are lost no picture goes out for 200 ms. A full line gets 85 % of what comes
--- through, but no less than 70 % of the rate. Where many are lost the rate shrinks by half of the
--- share.
+-- what waits on a line that was full
+abbrev pub queued : Line → ℕ
+queued l = l.trip - least_of l.least_trip
+
+-- Where most packets are lost, or the line is choked, no picture goes out for 200 ms. A full line gets
+-- 85 % of what comes through, but no less than 70 % of the rate; and what waits on it is owed. Where
+-- many are lost the rate shrinks by half of the share.
 abbrev pub after_action : Action → ℕ → ℕ → Line → Line
 after_action (actions.Cut eighths) through now l =
     record (shrunk (l.rate * eighths / 8) now l) {
@@ -181,8 +204,10 @@ after_action (actions.Cut eighths) through now l =
     }
 after_action actions.Lossy through now l = shrunk (l.rate - l.rate * l.losses.share / 20000) now l
 after_action actions.Full through now l =
-    record (shrunk (max (85 * through / 100) (7 * l.rate / 10)) now l) {
+    let s = shrunk (max (85 * through / 100) (7 * l.rate / 10)) now l in
+    record s {
       full = Some through;
+      debt = with_queue (queued l) s.rate s.debt;
       drains = Some (drain_of (least_of l.least_trip) l.trip now);
     }
 after_action actions.Grow through now l = grown through now l
@@ -195,5 +220,5 @@ turned action through now l = record (after_action action through now l) { grown
 abbrev pub told_line : Picture → Bool → ℕ → ℕ → Line → Line
 told_line p is_whole through now l =
     let h = heard p is_whole now l in
-    turned (action_of (slope_with p is_whole now l)
+    turned (action_of is_whole (slope_with p is_whole now l)
     (is_judged now (counted p.packets is_whole l.losses)) through h) through now h

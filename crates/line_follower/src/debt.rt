@@ -1,11 +1,13 @@
 //! What was sent beyond the rate.
 ghost use Rattle.std.specs.Prelude.{◌≡◌};
-ghost use Rattle.line_follower.specs.Owing.{bytes_owed, capped, drained, first_debt, is_small, with_bytes};
+ghost use Rattle.line_follower.specs.Owing.{bytes_owed, capped, drained, first_debt, is_small, with_bytes, with_queue};
 
 // A billionth of a byte a nanosecond is a byte a second.
 const BYTE: u64 = 1_000_000_000;
 // A debt is small up to so many nanoseconds of the rate.
 const SMALL: u64 = 200_000_000;
+// A queue counts up to so many microseconds.
+const LONGEST: u64 = 200_000;
 
 /// Bytes that were sent and that the rate hasn't carried yet, in billionths of a byte.
 #[derive(Clone, Copy)]
@@ -50,6 +52,17 @@ impl Debt {
     {
         Debt {
             owed: self.owed.min(rate as u64 * SMALL),
+            at: self.at,
+        }
+    }
+
+    /// At least what this rate carries in so many microseconds, up to a fifth of a second.
+    pub fn with_queue(&self, micros: u32, rate: u32) -> Debt
+        ensures { result ≡ with_queue micros rate self.now }
+    {
+        let queue = (micros as u64).min(LONGEST) * rate as u64 * 1_000;
+        Debt {
+            owed: self.owed.max(queue),
             at: self.at,
         }
     }

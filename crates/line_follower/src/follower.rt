@@ -1,7 +1,7 @@
 //! What follows a line.
 ghost use Rattle.std.specs.Prelude.{◌≡◌, ◌<◌, ◌≤◌};
 ghost use Rattle.line_follower.specs.Bucket.{IsTargetFor};
-ghost use Rattle.line_follower.specs.Following.{after_sent, after_told, has_room, size_of, started, wanted_by};
+ghost use Rattle.line_follower.specs.Following.{after_sent, after_told, followed, has_room, is_held, size_of, started, told_by, wanted_by, with_line, with_told};
 ghost use Rattle.line_follower.specs.Table.{open_of};
 ghost use Rattle.line_follower.specs.Pacing.{nearest_quant};
 
@@ -61,25 +61,70 @@ impl Follower {
         let Some(picture) = table::open(&self.pictures, number) else {
             return;
         };
-        table::put(&mut self.pictures, &picture.told(is_whole, now));
+        self.told_by(&picture, is_whole, now);
+    }
+
+    fn told_by(&mut self, picture: &Picture, is_whole: bool, now: u64)
+        ensures { self.new ≡ told_by picture.now is_whole now self.old }
+    {
         if self.line.since <= picture.number as u64 {
-            let through = table::through(&self.pictures, now);
-            self.line = self.line.told(&picture, is_whole, through, now);
+            self.notice(picture, is_whole, now);
+            self.follow(picture, is_whole, now);
+        } else {
+            self.notice(picture, is_whole, now);
         }
     }
 
+    fn follow(&mut self, picture: &Picture, is_whole: bool, now: u64)
+        ensures { self.new ≡ followed picture.now is_whole now self.old }
+    {
+        let through = table::through(&self.pictures, now);
+        let line = self.line.told(picture, is_whole, through, now);
+        self.go_on(&line);
+    }
+
+    // What was told is kept.
+    fn notice(&mut self, picture: &Picture, is_whole: bool, now: u64)
+        ensures { self.new ≡ with_told picture.now is_whole now self.old }
+    {
+        table::put(&mut self.pictures, &picture.told(is_whole, now));
+        self.line = self.line.noticed(picture);
+    }
+
+    // The line is this one now.
+    fn go_on(&mut self, line: &Line)
+        ensures { self.new ≡ with_line line.now self.old }
+    {
+        self.pace = self.pace.at(self.line.rate, line.rate);
+        self.line = *line;
+    }
+
     /// Whether the next frame may go out. It is left out where the pictures before are more than the
-    /// rate carries, and where a line drains of which most was lost.
+    /// rate carries, where nothing is told of them for long, and where a line drains of which most was
+    /// lost.
     pub fn has_room(&self, now: u64) -> bool
         ensures { result ≡ has_room now self.now }
     {
         if now < self.line.paused {
             return false;
         }
+        if self.is_held(now) {
+            return false;
+        }
         self.line
             .debt
             .drained(self.line.rate, now)
             .is_small(self.line.rate)
+    }
+
+    // Whether what waits on the line is to go first.
+    fn is_held(&self, now: u64) -> bool
+        ensures { result ≡ is_held now self.now }
+    {
+        match table::open(&self.pictures, self.line.untold) {
+            None => false,
+            Some(picture) => self.line.is_held_for(&picture, now),
+        }
     }
 
     /// Bytes a second that the line carries, with the heads of IP and UDP.

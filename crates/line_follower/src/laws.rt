@@ -1,5 +1,5 @@
 //! Laws of a rate that follows a line, over the definitions alone.
-ghost use Rattle.line_follower.specs.Laws.{LateAlone, NeverBeyond, NeverSent, OneOutlier, OwesLittle, StaysBetween, ToldTwice, TwoInARow};
+ghost use Rattle.line_follower.specs.Laws.{ChokedGivesWay, ChokedThrice, HeldBriefly, LateAlone, NeverBeyond, NeverSent, OneOutlier, OwesLittle, StaysBetween, ToldTwice, TwoInARow};
 
 /// Whatever is sent and told, the rate stays between the least and the most.
 pub fn stays_between()
@@ -15,6 +15,22 @@ pub fn never_beyond()
 /// rate, and the picture itself.
 pub fn owes_little()
     ensures { OwesLittle }
+{}
+
+/// Where no picture went out for 200 ms, nothing that is waited for holds the next one.
+pub fn held_briefly()
+    ensures { HeldBriefly }
+{}
+
+/// A line is choked with the third late picture alone.
+pub fn choked_thrice()
+    ensures { ChokedThrice }
+{}
+
+/// A choked line gets a quarter of the rate at the most, where a picture isn't whole, and nothing for
+/// 200 ms.
+pub fn choked_gives_way()
+    ensures { ChokedGivesWay }
 {}
 
 /// Where all round trips that are compared but one are within the threshold of each other, nothing

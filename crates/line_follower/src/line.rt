@@ -1,11 +1,13 @@
 //! The rate of a line.
 ghost use Rattle.std.specs.Prelude.{◌≡◌, ◌*◌, ◌≤◌};
-ghost use Rattle.line_follower.specs.Rating.{action_of, after_action, calm_action, first_line, grown, heard, is_empty, is_fair};
-ghost use Rattle.line_follower.specs.Rating.{is_fine, is_lossy, is_near, limited, losing_action, may_grow, more_of, sent_line, shrunk};
+ghost use Rattle.line_follower.specs.Following.{is_held_for, noticed};
+ghost use Rattle.line_follower.specs.Rating.{action_of, after_action, calm_action, cut_of, first_line, grown, heard, is_choked, is_empty, is_fair};
+ghost use Rattle.line_follower.specs.Rating.{is_fine, is_lossy, is_near, limited, losing_action, may_grow, more_of, queued, sent_line, shrunk};
 ghost use Rattle.line_follower.specs.Rating.{slope_with, speed_of, told_line, tripped, turned};
 
 use crate::debt::Debt;
 use crate::drain::{self, Drain};
+use crate::lateness::Lateness;
 use crate::latest::Latest;
 use crate::least_trip::LeastTrip;
 use crate::losses::Losses;
@@ -15,6 +17,13 @@ use crate::trend::{Slope, Trend};
 const SECOND: u64 = 1_000_000_000;
 // So long no picture goes out where most of them are lost, so that what waits on the line is gone.
 const PAUSE: u64 = 200_000_000;
+// Eighths of the rate that are left where the line is choked.
+const CHOKED: u32 = 2;
+// A picture of which nothing is told holds the next ones once it is out by so many microseconds longer
+// than a round trip. It holds none for longer than this, in nanoseconds.
+const LONGER: u64 = 150_000;
+
+const HELD: u64 = 200_000_000;
 // The growth a second in thousandths: near the rate at which the line was full last, and elsewhere.
 const SLOWLY: u64 = 49;
 
@@ -58,6 +67,10 @@ pub struct Line {
     // Only pictures from this number on tell of the present rate; and the next picture's.
     pub(crate) since: u64,
     next: u64,
+    // When a picture went out last.
+    pub(crate) out: u64,
+    // Of the pictures before this number something was told, or of a later one.
+    pub(crate) untold: u32,
     // The newest round trip, in microseconds.
     trip: u32,
     // That to which the line is to drain.
@@ -67,6 +80,7 @@ pub struct Line {
     losses: Losses,
     latest: Latest,
     least_trip: LeastTrip,
+    late: Lateness,
 }
 
 impl Line {
@@ -83,6 +97,8 @@ impl Line {
             paused: 0,
             since: 0,
             next: 0,
+            out: 0,
+            untold: 0,
             trip: 0,
             drains: None,
             debt: Debt::first(now),
@@ -90,6 +106,7 @@ impl Line {
             losses: Losses::first(now),
             latest: Latest::none(),
             least_trip: LeastTrip::first(now),
+            late: Lateness::none(),
         }
     }
 
@@ -99,9 +116,30 @@ impl Line {
     {
         Line {
             next: number as u64 + 1,
+            out: now,
             debt: self.debt.drained(self.rate, now).with(bytes),
             ..*self
         }
+    }
+
+    /// Nothing is waited for that was sent before this picture.
+    pub fn noticed(&self, picture: &Picture) -> Line
+        ensures { result ≡ noticed picture.now self.now }
+    {
+        Line {
+            untold: self.untold.max(picture.number.saturating_add(1)),
+            ..*self
+        }
+    }
+
+    /// Whether a frame waits for what is told of this picture.
+    pub fn is_held_for(&self, picture: &Picture, now: u64) -> bool
+        ensures { result ≡ is_held_for now self.now picture.now }
+    {
+        if HELD <= now.saturating_sub(self.out) {
+            return false;
+        }
+        self.trip.max(self.least_trip.least()) as u64 + LONGER < picture.trip(now) as u64
     }
 
     /// Something was told of a picture, and so much comes through.
@@ -111,7 +149,11 @@ impl Line {
         let is_judged = self.losses.is_judged(picture.packets, is_whole, now);
         let slope = self.slope(picture, is_whole, now);
         let heard = self.heard(picture, is_whole, now);
-        heard.turned(heard.action(slope, is_judged, through), through, now)
+        heard.turned(
+            heard.action(is_whole, slope, is_judged, through),
+            through,
+            now,
+        )
     }
 
     fn slope(&self, picture: &Picture, is_whole: bool, now: u64) -> Slope
@@ -132,6 +174,9 @@ impl Line {
         let line = Line {
             losses: self.losses.after(picture.packets, is_whole, now),
             latest: self.latest.with(picture.packets, is_whole),
+            late: self
+                .late
+                .with(self.least_trip.least(), picture.at, picture.trip(now)),
             ..*self
         };
         if is_whole {
@@ -155,13 +200,37 @@ impl Line {
         }
     }
 
-    fn action(&self, slope: Slope, is_judged: bool, through: u32) -> Action
-        ensures { result ≡ action_of slope is_judged through self.now }
+    fn action(&self, is_whole: bool, slope: Slope, is_judged: bool, through: u32) -> Action
+        ensures { result ≡ action_of is_whole slope is_judged through self.now }
     {
-        match self.latest.carried() {
+        match self.cut(is_whole, through) {
             Some(eighths) => Action::Cut(eighths),
             None => self.losing_action(slope, is_judged, through),
         }
+    }
+
+    // The eighths of the rate that are left, where it is to be cut.
+    fn cut(&self, is_whole: bool, through: u32) -> Option<u32>
+        ensures { result ≡ cut_of is_whole through self.now }
+    {
+        if is_whole {
+            return self.latest.carried();
+        }
+        if self.is_choked(through) {
+            Some(CHOKED)
+        } else {
+            self.latest.carried()
+        }
+    }
+
+    // Whether three pictures in a row are late, and less than half of the rate comes through.
+    fn is_choked(&self, through: u32) -> bool
+        ensures { result ≡ is_choked through self.now }
+    {
+        if self.late.count < 3 {
+            return false;
+        }
+        2 * (through as u64) < self.rate as u64
     }
 
     fn losing_action(&self, slope: Slope, is_judged: bool, through: u32) -> Action
@@ -270,6 +339,7 @@ impl Line {
                 let line = self.shrunk(back.max(7 * self.rate as u64 / 10), now);
                 Line {
                     full: Some(through),
+                    debt: line.debt.with_queue(self.queued(), line.rate),
                     drains: Some(drain::of(self.least_trip.least(), self.trip, now)),
                     ..line
                 }
@@ -277,6 +347,13 @@ impl Line {
             Action::Grow => self.grown(through, now),
             Action::Keep => *self,
         }
+    }
+
+    // By how much the round trip is above the least.
+    fn queued(&self) -> u32
+        ensures { result ≡ queued self.now }
+    {
+        self.trip.saturating_sub(self.least_trip.least())
     }
 
     // No more than this rate. Only what follows tells of it.
@@ -292,6 +369,7 @@ impl Line {
             trend: self.trend.cleared(),
             losses: self.losses.cleared(now),
             latest: Latest::none(),
+            late: self.late.cleared(),
             ..*self
         }
     }

@@ -1,8 +1,8 @@
 //! The sizes of pictures.
-ghost use Rattle.std.specs.Prelude.{◌≡◌, ◌<◌, ◌≤◌};
+ghost use Rattle.std.specs.Prelude.{◌≡◌, ◌*◌, ◌<◌, ◌≤◌, ◌^◌};
 ghost use Rattle.line_follower.specs.Bucket.{IsTargetFor};
-ghost use Rattle.line_follower.specs.Pacing.{first_pace, heads_after, heads_of, nearest_quant, pace_after, quant_after, rate_of, size_at};
-ghost use Rattle.line_follower.specs.Pacing.{wanted_of};
+ghost use Rattle.line_follower.specs.Pacing.{first_pace, heads_after, heads_of, nearest_quant, pace_after, pace_at, quant_after, quant_at, quant_by};
+ghost use Rattle.line_follower.specs.Pacing.{rate_of, size_at, wanted_of};
 
 use crate::search::target_for;
 use crate::sizes::Sizes;
@@ -82,6 +82,19 @@ impl Pace {
         }
     }
 
+    /// The same at another rate than before: where it fell the next picture is smaller at once.
+    pub fn at(&self, before: u32, rate: u32) -> Pace
+        ensures { result ≡ pace_at before rate self.now }
+    {
+        if before <= rate {
+            return *self;
+        }
+        Pace {
+            quant: quant_at(self.quant, before, rate, self.bounds.finest),
+            ..*self
+        }
+    }
+
     /// The target at which the sender takes the next picture's quantiser: the greatest one, or what
     /// is wanted where each one does.
     pub fn target(&self, wanted: u32) -> u32
@@ -126,13 +139,29 @@ fn heads_after(heads: u32, packets: u16) -> u32
     (heads - heads / 8).saturating_add(heads_of(packets))
 }
 
-// Sizes go by the square of the quantiser: it is to be multiplied by the root of how far a size is
-// off, up to twice or half. That is (3 s + w) / (s + 3 w), within two hundredths.
 fn quant_after(quant: u16, bytes: u32, wanted: u32, finest: u8) -> u16
     ensures { result ≡ quant_after quant bytes wanted finest }
 {
     let w = wanted.max(1) as u64;
-    let s = (bytes as u64).max(w / 2).min(2 * w);
+    quant_by(quant, (bytes as u64).max(w / 2).min(2 * w), w, finest)
+}
+
+// After a fall of the rate.
+fn quant_at(quant: u16, before: u32, rate: u32, finest: u8) -> u16
+    ensures { result ≡ quant_at quant before rate finest }
+{
+    let w = rate.max(1) as u64;
+    quant_by(quant, (before as u64).min(4 * w), w, finest)
+}
+
+// Sizes go by the square of the quantiser: it is to be multiplied by the root of how far a size is
+// off. That is about (3 s + w) / (s + 3 w).
+fn quant_by(quant: u16, s: u64, w: u64, finest: u8) -> u16
+    requires some { 1 ≤ w }
+    requires small { w < 2 ^ 32 }
+    requires near { s ≤ 4 * w }
+    ensures { result ≡ quant_by quant s w finest }
+{
     let next = quant as u64 * (3 * s + w) / (s + 3 * w);
     next.min(COARSEST).max(256 * finest as u64) as u16
 }

@@ -1,6 +1,5 @@
 pub mod Held
 pub mod Answering
-pub mod Captured
 pub mod Counting
 pub mod Wiring
 pub mod Entering
@@ -11,4 +10,3 @@ pub mod Refusing
 pub mod NoSecond
 mod Apart
 mod Followed
-mod Plain

@@ -21,8 +21,8 @@ use Rattle.call_encoding.specs.Frames.{Frame}
 use Rattle.call_encoding.specs.Messages.{read_message}
 use Rattle.sender_end.specs.Stands.{packets_after}
 use Rattle.desk_program.specs.Run.{Run, text_of}
-use Rattle.send_command.specs.declared.aim.Aim.{Aim}
-use Rattle.send_command.specs.Sent.{next_sent, sent_by}
+use Rattle.fitted_sender.specs.declared.aim.Aim.{Aim}
+use Rattle.fitted_sender.specs.Aiming.{next_sent, sent_by}
 use Rattle.send_command.specs.declared.tally.Tally.{Tally}
 use Rattle.send_command.specs.Send.{captured, packets_text}
 use Rattle.send_command.specs.Tally.{no_counts, with_picture, with_reply, count_text}

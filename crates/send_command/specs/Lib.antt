@@ -1,5 +1,5 @@
 pub mod Tally
-pub mod Sent
+pub mod Aimed
 pub mod Send
 pub mod Stands
 pub mod Followed

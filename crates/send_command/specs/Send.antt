@@ -32,7 +32,8 @@ use Rattle.desk_program.specs.Run.Step.{Goes, Ends}
 use Rattle.desk_program.specs.Texts.{no_bytes, no_texts, on, then_also, of, and_of}
 use Rattle.send_command.specs.declared.sending.Sending.{Sending}
 use Rattle.send_command.specs.declared.tally.Tally.{Tally}
-use Rattle.send_command.specs.Sent.{Sent, after_heard, after_sent, aim_at_start, next_sent}
+use Rattle.fitted_sender.specs.Aiming.{Sent, after_heard, after_sent, next_sent}
+use Rattle.send_command.specs.Aimed.{aim_at_start}
 use Rattle.send_command.specs.Tally.{no_counts, with_picture, with_reply, count_text}
 
 -- the parameters; what was done so far, and what was counted of it; the byte where the next entry

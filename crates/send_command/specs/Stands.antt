@@ -18,8 +18,9 @@ use Rattle.desk_program.specs.Texts.{of}
 use Rattle.send_command.specs.declared.machine.Send.{Send}
 use Rattle.rate_control.specs.declared.send_pace.SendPace.{SendPace}
 use Rattle.send_command.specs.declared.sending.Sending.{Sending}
-use Rattle.send_command.specs.declared.aim.Aim.{Aim}
-use Rattle.send_command.specs.Sent.{Sent, after_sent, next_sent}
+use Rattle.fitted_sender.specs.Stands.{IsAim}
+use Rattle.fitted_sender.specs.declared.aim.Aim.{Aim}
+use Rattle.fitted_sender.specs.Aiming.{Sent, after_sent, next_sent}
 use Rattle.send_command.specs.Tally.{IsOf}
 use Rattle.send_command.specs.Send.{SendState}
 
@@ -33,13 +34,6 @@ pub record CanSend (setup : Sending) (attached : Role → Bool) : Type 0 where
   pub events : attached Events ≡ true
   pub wire : attached Wire ≡ true
   pub report : attached Report ≡ true
-
--- what the quantisers follow is in its range
-pub record IsAim (a : Aim) : Type 0 where
-  pub low : 1 ≤ a.quant
-  pub high : a.quant ≤ 31
-  pub some : IfSome a.target (λ n. 1 ≤ n)
-  pub few : IfSome a.target (λ n. n ≤ 999999)
 
 -- the state that the machine keeps in mind, but for the run of its sender
 abbrev pub state_of : Send → Run → SendState
@@ -94,13 +88,3 @@ pub record StoodBefore (m : Send) (s : SendState) (size : ℕ) : Type 0 where
 pub record HasTaken (size : ℕ) (inputs : Role → List ℕ) (old new : Outside) : Type 0 where
   pub left : Tells new (left_after inputs (of Events size))
   pub written : new.written ≡ old.written
-
--- the sender has captured a frame after all this: it holds the longer run, what its quantisers follow
--- was told, its packets are those of the picture, and the answer tells its number and its reference
-pub record IsCaptured (frame : Frame) (p : Params) (sent : Sent)
-    (new : SenderState SendPace) (aim : Aim) (answer : Coded) : Type 0 where
-  pub holds : Holds new (after_sent p frame sent).run
-  pub follows : aim ≡ (after_sent p frame sent).aim
-  pub packets : new.packets ≡ packets_after p (after_sent p frame sent).run
-  pub number_is : answer.number ≡ length sent.run.run.coded
-  pub reference : answer.reference ≡ (next_sent p frame sent).reference

@@ -12,14 +12,11 @@ ghost use Rattle.desk_program.specs.Run.{run_from};
 ghost use Rattle.send_command.specs.declared.sending.Sending.{Sending};
 ghost use Rattle.send_command.specs.Followed.{SendsItsLog};
 ghost use Rattle.send_command.specs.Send.{refused_video, send_begin, send_step};
-ghost use Rattle.send_command.specs.Sent.{PlainIsSenderRun, aim_at_start};
+ghost use Rattle.fitted_sender.specs.Aiming.{PlainIsSenderRun};
+ghost use Rattle.send_command.specs.Aimed.{aim_at_start};
 
-use back_messages::MessageFault;
-use call_decoding::{Pictured, Styled};
-use call_encoding::Framed;
-use call_model::laws::forgetting;
 use event_logs::laws::exact_entries;
-use h263_types::Mb;
+use fitted_sender::laws as fitted_laws;
 use y4m::laws::frame_by_frame;
 
 /// A video that is refused has that fault, and no earlier one.
@@ -43,7 +40,7 @@ pub fn no_second_video()
 pub fn one_target()
     ensures { PlainIsSenderRun }
 {
-    forgetting::<Framed, Styled, Mb, Pictured, MessageFault>();
+    fitted_laws::one_target();
 }
 
 /// Whatever bytes its log and its video are made of, a sender accepts the first entries of the log.

@@ -10,14 +10,12 @@
 //! ```
 #![tactic(auto)]
 
-mod aim;
 mod capture;
 pub mod laws;
 mod machine;
 mod sending;
 mod tally;
 
-use aim::Aim;
 pub use machine::Send;
 pub use sending::Sending;
 use tally::Tally;

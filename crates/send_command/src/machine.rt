@@ -5,11 +5,12 @@ ghost use Rattle.h263_outside.specs.Desk.{Outside};
 ghost use Rattle.h263_outside.specs.declared.desk.Role.{Role};
 ghost use Rattle.h263_outside.specs.declared.desk.Role.TheVariants.{Video};
 
-use crate::capture::{capture, put_picture};
-use crate::{Aim, Sending, Tally};
+use crate::capture::put_picture;
+use crate::{Sending, Tally};
 use call_report::Status;
 use desk_program::{Begins, Turns, laws as desk_program_laws, put_line};
 use event_logs::{Entry, LogFault, LogReader, Side};
+use fitted_sender::{Aim, capture};
 use h263_outside::{Desk, laws as outside_laws};
 use h263_planes::PictureRef;
 use h263_types::{Kind, Params};
@@ -70,7 +71,7 @@ impl Send {
             });
         }
         let frame = PictureRef::new(self.video.format(), &self.frame);
-        let coded = capture(&mut self.sender, &mut self.aim, frame);
+        let coded = capture(&mut self.sender, &mut self.aim, frame, &[]);
         self.tally.picture(coded.packets);
         put_picture(desk, &self.sender, &coded)
     }
@@ -167,7 +168,7 @@ impl Begins for Send {
         };
         let frame = vec![in alloc; 0; params.format.size() as usize]?;
         let bytes = vec![in alloc; 0; MAX_BYTES]?;
-        let aim = Aim::start(setup, params.format);
+        let aim = Aim::start(&params, setup.target, setup.fit);
         let sender = Sender::start_without_recon(alloc, &params, aim.pace(Kind::I))?;
         Ok(Send {
             video,

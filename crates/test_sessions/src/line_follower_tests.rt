@@ -113,3 +113,38 @@ fn a_large_picture(rt: HostRuntime) {
     assert!(rt; !follower.has_room(801 * MILLISECOND));
     assert!(rt; follower.has_room(802 * MILLISECOND));
 }
+
+// Three pictures come ever later, and less than half of the rate comes whole: with the third one that
+// isn't whole a quarter is left, after a pause of 200 ms.
+#[test]
+fn a_choked_line(rt: HostRuntime) {
+    let mut follower = start();
+    assert_eq!(rt; rate_after(&mut follower, 0, (8, 20, true, 0)), 20_096);
+    for number in 8..14 {
+        follower.sent(number, 1_800, 2, number as u64 * 100 * MILLISECOND);
+    }
+    follower.told(8, false, 1_250 * MILLISECOND);
+    assert_eq!(rt; (follower.rate(), follower.quant()), (20_096, 13));
+    follower.told(9, false, 1_600 * MILLISECOND);
+    assert_eq!(rt; (follower.rate(), follower.quant()), (20_096, 13));
+    follower.told(10, false, 1_900 * MILLISECOND);
+    assert_eq!(rt; (follower.rate(), follower.quant()), (5_024, 24));
+    assert!(rt; !follower.has_room(2_099 * MILLISECOND));
+    assert!(rt; follower.has_room(2_100 * MILLISECOND));
+}
+
+// Of a picture that went out at 400 ms nothing is told: a frame waits from 570 ms on, until something
+// is told of a later one, or 200 ms after the last one went out.
+#[test]
+fn a_frame_waits(rt: HostRuntime) {
+    let mut follower = start();
+    assert_eq!(rt; rate_after(&mut follower, 0, (4, 20, true, 0)), 18_401);
+    follower.sent(4, 600, 1, 400 * MILLISECOND);
+    follower.sent(5, 600, 1, 500 * MILLISECOND);
+    assert!(rt; follower.has_room(570 * MILLISECOND));
+    assert!(rt; !follower.has_room(571 * MILLISECOND));
+    assert!(rt; !follower.has_room(699 * MILLISECOND));
+    assert!(rt; follower.has_room(700 * MILLISECOND));
+    follower.told(5, true, 580 * MILLISECOND);
+    assert!(rt; follower.has_room(581 * MILLISECOND));
+}

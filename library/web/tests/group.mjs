@@ -2,7 +2,7 @@
 /* group.mjs: a group of three receivers that lose packets, a group of one beside a sender, wrong calls, and no memory kept. */
 
 import assert from "node:assert/strict";
-import { Group, MARKS, Pace, Params, Receiver, Refused, Sender, load, pictureSize } from "../h263rps.js";
+import { Group, MARKS, PACES, Pace, Params, Receiver, Refused, Sender, load, pictureSize } from "../h263rps.js";
 
 /** The module's instance, which only this test looks into. */
 let instance;
@@ -74,7 +74,7 @@ function three() {
 
 /** A group of one codes what a sender codes, byte for byte, with targets, quantisers and a pace. */
 function one() {
-  const params = Params.of(FORMAT, { radius: 3, target: 1500 });
+  const params = Params.of(FORMAT, { radius: 3, target: 1500, pace: PACES.follows });
   const ends = [new Group(params), new Sender(params)];
   const paces = ends.map(() => new Pace(FORMAT, { target: 900, room: 9000 }));
   const receiver = new Receiver(params);
@@ -99,6 +99,25 @@ function one() {
   }
   assert.deepEqual(ends[0].statistics(), ends[1].statistics());
   for (const end of [...ends, receiver]) end.close();
+}
+
+/** A sender with a target fits it as one does that asks a pace, with a room of 30 targets; by the sizes it doesn't. */
+function fits() {
+  const made = [{ target: 900 }, {}, { target: 900, pace: PACES.follows }].map((words) => {
+    const sender = new Sender(Params.of(FORMAT, { radius: 3, ...words }));
+    const pace = new Pace(FORMAT, { target: 900, room: 27_000 });
+    const all = [];
+    for (let n = 0; n < 20; n++) {
+      const quant = words.target ? 0 : pace.next(sender);
+      const coded = sender.code(picture(n));
+      all.push(sender.packets(coded));
+      if (!words.target) pace.coded(coded, quant, all[n].reduce((sum, { length }) => sum + length, 0));
+    }
+    sender.close();
+    return all;
+  });
+  assert.deepEqual(made[0], made[1]);
+  assert.notDeepEqual(made[0], made[2]);
 }
 
 function wrong() {
@@ -143,6 +162,7 @@ function memory() {
 
 const exact = three();
 one();
+fits();
 wrong();
 memory();
 console.log(`of 100 pictures ${exact.join(", ")} are exact at three receivers; a group of one is a sender`);

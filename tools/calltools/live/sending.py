@@ -42,7 +42,7 @@ class SendingRun:
         self.source, self._first_sequence, self._first_time = map(random.getrandbits, (32, 15, 32))
         self._sender = self._started()
         self._line = self._following(first) if settings.adapts else None
-        self._repeating = Repeating(context.library, settings.limit)
+        self._repeating = Repeating(context.library, settings.limit, settings.repaired)
         self._record = context.recorder.run("send", self._facts(), has_targets=settings.adapts)
         self._record.write("video", head_bytes(settings.size, settings.rate))
         self.on_packet: Callable[[bytes], None] = lambda _: None
@@ -59,6 +59,8 @@ class SendingRun:
     def _started(self) -> Any:
         library, settings = self._context.library, self._settings
         own = {"target": settings.target, "quant": settings.quant, "limit": settings.limit}
+        # As `send --target` does, by which a record is replayed.
+        own["pace"] = library.PACES["follows"]
         shared = {"slots": settings.slots, "lead": settings.lead, "clock": library.CLOCKS[settings.clock]}
         try:
             return library.Sender(library.Params.of(settings.format, **own, **shared))

@@ -46,8 +46,10 @@ class Repeating:
     """The packets that went out of late, for the side that asks for some again. However much it asks for, what is sent
     again is in each second at most as much as what was sent anew."""
 
-    def __init__(self, library: ModuleType, longest: int) -> None:
-        self._repeats = library.Repeats(_KEPT, longest)
+    def __init__(self, library: ModuleType, longest: int, wait: float) -> None:
+        self._repeats, self._wait = library.Repeats(_KEPT, longest), wait
+        # When packets went out first.
+        self._times: OrderedDict[int, float] = OrderedDict()
         self._anew, self._again = _Lately(), _Lately()
         # When packets were sent again of late.
         self._answered: OrderedDict[int, float] = OrderedDict()
@@ -55,6 +57,7 @@ class Repeating:
     def sent(self, packet: bytes, now: float) -> None:
         """A packet went out."""
         self._repeats.keep(packet)
+        self._times[int.from_bytes(packet[2:4], "big")] = now
         self._anew.add(len(packet), now)
 
     def asked(self, missing: Missing, now: float) -> Iterator[bytes]:
@@ -63,13 +66,20 @@ class Repeating:
         for sequence in missing.sequences():
             if room < _UNKNOWN:
                 return
-            packet = None if self._is_answered(sequence, now) else self._repeats.find(sequence)
+            is_due = self._is_in_time(sequence, now) and not self._is_answered(sequence, now)
+            packet = self._repeats.find(sequence) if is_due else None
             size = len(packet) if packet else _UNKNOWN
             room -= size
             self._again.add(size, now)
             if packet and room >= 0:
                 self._answered[sequence] = now
                 yield packet
+
+    def _is_in_time(self, sequence: int, now: float) -> bool:
+        """Its picture may still wait: what went out longer ago would fill the line for nothing."""
+        while self._times and next(iter(self._times.values())) < now - self._wait:
+            self._times.popitem(last=False)
+        return sequence in self._times
 
     def _is_answered(self, sequence: int, now: float) -> bool:
         while self._answered and next(iter(self._answered.values())) <= now - _ANSWERED:

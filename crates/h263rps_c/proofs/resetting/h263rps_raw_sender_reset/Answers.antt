@@ -1,17 +1,10 @@
 use Rattle.std.proofs.Common.{rules, Option, subst}
 use Rattle.std.specs.Prelude.{IsOk}
 use Rattle.h263rps_c.specs.declared.ends.End.{End}
-use Rattle.h263rps_c.specs.Ends.{HoldsSender, HoldsSteered}
+use Rattle.h263rps_c.specs.Ends.{HoldsSteered}
 use Rattle.h263rps_c.proofs.resetting.h263rps_raw_sender_reset.Goals as goal
 
-pub returns-in-Ok-clause-stands : goal.returns-in-Ok-clause-stands
-returns-in-Ok-clause-stands c = λ p was entries before status.
-    let ok : IsOk c.send_anew.result = search rules in
-    c.send_anew.ensures.stands p was entries
-    (subst (λ (o : Option End). HoldsSender p was entries o) c.end_mut.ensures.value before) ok
-
 pub returns-in-Ok-clause-steers : goal.returns-in-Ok-clause-steers
-returns-in-Ok-clause-steers c = λ p first past before status.
+returns-in-Ok-clause-steers c = λ p fits first past before status.
     let ok : IsOk c.send_anew.result = search rules in
-    c.send_anew.ensures.steers p first past
-    (subst (λ (o : Option End). HoldsSteered p first past o) c.end_mut.ensures.value before) ok
+    c.send_anew.ensures.steers p fits first past (subst (λ (o : Option End). HoldsSteered p fits first past o) c.end_mut.ensures.value before) ok

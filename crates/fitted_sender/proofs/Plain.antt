@@ -10,7 +10,7 @@ use Rattle.call_encoding.specs.Encoding.{encoding}
 use Rattle.call_encoding.specs.Frames.{Frame}
 use Rattle.sender_end.specs.Stands as senders
 use Rattle.rate_control.specs.Pace.{pace_of}
-use Rattle.send_command.specs.Sent.{PlainIsSenderRun, Sent, after_heard, after_sent, plain_aim}
+use Rattle.fitted_sender.specs.Aiming.{PlainIsSenderRun, Sent, after_heard, after_sent, plain_aim}
 
 -- after one more frame, with these pictures known
 abbrev with_known : Params → Option ℕ → Frame → List (SenderEntry Frame) → List ℕ → Sent

@@ -1,4 +1,4 @@
-use Rattle.std.proofs.Common.{◌≡◌, ℕ, [], length, ap, ◌∙◌, subst}
+use Rattle.std.proofs.Common.{◌≡◌, ℕ, length, ap, ◌∙◌, subst}
 use Rattle.h263_types.specs.declared.params.Params.{Params}
 use Rattle.h263_planes.specs.Lent.{picture}
 use Rattle.call_encoding.specs.Frames.{Frame}
@@ -6,16 +6,16 @@ use Rattle.rate_control.specs.declared.send_pace.SendPace.{SendPace}
 use Rattle.rate_control.specs.Pace.{first_of, quant_after_sizes, target_of}
 use Rattle.sender_end.specs.State.{SenderState}
 use Rattle.sender_end.specs.Stands.{Describes, Holds, after_code, next_in}
-use Rattle.send_command.specs.Sent.{aim_after}
-use Rattle.send_command.proofs.Captured.{is_captured}
-use Rattle.send_command.proofs.capture.capture.Goals as goal
+use Rattle.fitted_sender.specs.Aiming.{aim_after}
+use Rattle.fitted_sender.proofs.Captured.{is_captured}
+use Rattle.fitted_sender.proofs.capturing.capture.Goals as goal
 
 pub returns-clause-captured : goal.returns-clause-captured
 returns-clause-captured c run holds =
     let p = c.args.sender.now.params in
     let set = c.set_pace.new.self in
     let new = c.code-coded.new.self in
-    let frame : Frame = record { picture = picture c.args.frame; messages = [] } in
+    let frame : Frame = record { picture = picture c.args.frame; messages = c.args.back.now } in
     let paced = quant_after_sizes (target_of set.pace) (first_of set.pace) in
     let same : set.params ≡ p = ap (λ (s : SenderState SendPace). s.params) c.set_pace.ensures.others in
     let pace : set.pace ≡ c.pace.result = ap (λ (s : SenderState SendPace). s.pace) c.set_pace.ensures.others in

@@ -1,5 +1,5 @@
--- What a sender has done by its log, and what its quantisers follow.
-use Rattle.std.specs.Prelude.{◌≡◌, ℕ, ◌*◌, ◌==◌, List, [], ◌∷◌, min, Option, Some, None, option_map, if◌then◌else◌}
+-- What a sender has done by its entries, and what its quantisers follow.
+use Rattle.std.specs.Prelude.{◌≡◌, ℕ, ◌*◌, ◌==◌, List, [], ◌∷◌, min, Option, Some, None, if◌then◌else◌}
 use Rattle.h263_types.specs.declared.format.Format.{Format}
 use Rattle.h263_types.specs.declared.Kind.{Kind}
 use Rattle.h263_types.specs.declared.Kind.TheVariants.{I, P}
@@ -13,11 +13,10 @@ use Rattle.call_decoding.specs.Styles.{Style}
 use Rattle.call_encoding.specs.Frames.{Frame}
 use Rattle.rate_control.specs.Pace.{pace_of, quant_after_sizes}
 use Rattle.picture_pace.specs.declared.fit.FitPace.{FitPace}
-use Rattle.picture_pace.specs.Fitting.{after_coded, fitting_quant, pace_at_start}
+use Rattle.picture_pace.specs.Fitting.{after_coded, fitting_quant, pace_at_start, redirected}
 use Rattle.sender_end.specs.Known.{known_in}
 use Rattle.sender_end.specs.Stands.{Run, after_code, after_message, next_in, packets_after, run_of}
-use Rattle.send_command.specs.declared.aim.Aim.{Aim}
-use Rattle.send_command.specs.declared.sending.Sending.{Sending}
+use Rattle.fitted_sender.specs.declared.aim.Aim.{Aim}
 
 -- ---- what the quantisers follow
 
@@ -25,14 +24,30 @@ use Rattle.send_command.specs.declared.sending.Sending.{Sending}
 abbrev pub room_of : ℕ → ℕ
 room_of target = 30 * target
 
+abbrev pub fit_at_start : Format → Option ℕ → Option FitPace
+fit_at_start f None = None
+fit_at_start f (Some target) = Some (pace_at_start f target (room_of target))
+
 -- before the first picture
-abbrev pub aim_at_start : Sending → Format → Aim
-aim_at_start setup f =
-    record {
-      quant = setup.params.quant;
-      target = setup.target;
-      fit = option_map (λ target. pace_at_start f target (room_of target)) setup.fit;
-    }
+abbrev pub first_aim : Params → Option ℕ → Option ℕ → Aim
+first_aim p target fit = record { quant = p.quant; target = target; fit = fit_at_start p.format fit }
+
+-- one quantiser for all pictures
+abbrev pub fixed : ℕ → Aim
+fixed quant = record { quant = quant; target = None; fit = None }
+
+-- a pace keeps what it was told where it gets another target
+abbrev pub aimed_at : Format → ℕ → Option FitPace → FitPace
+aimed_at f target None = pace_at_start f target (room_of target)
+aimed_at f target (Some pace) = redirected target (room_of target) pace
+
+abbrev pub fit_at : Format → Option ℕ → Option FitPace → Option FitPace
+fit_at f None fit = None
+fit_at f (Some target) fit = Some (aimed_at f target fit)
+
+-- with another target to fit, or none
+abbrev pub refitted : Params → Option ℕ → Aim → Aim
+refitted p target a = record { quant = p.quant; target = None; fit = fit_at p.format target a.fit }
 
 -- The next picture is predicted where the sender knows one that it may refer to.
 abbrev pub kind_by : ℕ → Kind

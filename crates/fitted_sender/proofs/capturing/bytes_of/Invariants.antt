@@ -1,6 +1,6 @@
 use Rattle.std.proofs.Common.{◌≡◌, take}
-use Rattle.send_command.specs.Sent.{counted_bytes}
-use Rattle.send_command.proofs.capture.bytes_of.Given as goal
+use Rattle.fitted_sender.specs.Aiming.{counted_bytes}
+use Rattle.fitted_sender.proofs.capturing.bytes_of.Given as goal
 
 -- the packets before `i` were counted
 abbrev pub invariant-loop-i : goal.invariant-loop-i

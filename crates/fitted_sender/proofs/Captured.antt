@@ -8,9 +8,9 @@ use Rattle.sender_end.specs.State.{SenderState}
 use Rattle.sender_end.specs.Stands.{Describes, Holds, Run, after_code, next_in, packets_after}
 use Rattle.rate_control.specs.declared.send_pace.SendPace.{SendPace}
 use Rattle.rate_control.specs.Pace.{first_of, quant_after_sizes, target_of}
-use Rattle.send_command.specs.declared.aim.Aim.{Aim}
-use Rattle.send_command.specs.Sent.{Sent, aim_after, counted_bytes, first_by, next_kind, pace_by, target_by}
-use Rattle.send_command.specs.Stands.{IsCaptured}
+use Rattle.fitted_sender.specs.declared.aim.Aim.{Aim}
+use Rattle.fitted_sender.specs.Aiming.{Sent, aim_after, counted_bytes, first_by, next_kind, pace_by, target_by}
+use Rattle.fitted_sender.specs.Stands.{IsCaptured}
 
 -- the packets of a sender are those of its run's last picture
 packets_are : (p : Params) (state : SenderState SendPace) (run : Run) → state.params ≡ p → Holds state run
@@ -45,6 +45,5 @@ module _ (p : Params) (run : Run) (aim : Aim) (kind : Kind) (pace : SendPace) (k
         holds = held;
         follows = told ∙ (λ i. aim_after (kind_is i) (counted_bytes (packets i)) aim);
         packets = packets;
-        number_is = says.number_is;
-        reference = says.reference;
+        describes = says;
       }
