@@ -6,8 +6,8 @@ use Rattle.std.specs.Str.{bytes_eq}
 use Rattle.h263_types.specs.declared.params.Params.{Params}
 use Rattle.command_words.specs.Simple.{Text, Given, Options, gives, value, is_once, is_whole, named as named_by, taken, whole_or_none}
 use Rattle.command_words.specs.declared.command.Command.{Command}
-use Rattle.command_words.specs.declared.command.Command.TheVariants.{Call, Send, Recv, Demo, Rate, Audit, Duplex}
-use Rattle.command_words.specs.Asked.{Asked, Row, call, send, recv, demo, rate, audit, duplex, call_of, send_of, send_with, target_or_none, recv_of, demo_of, seed_in, frames_in, rate_of, audit_of, duplex_of, target_in, bucket_in, asked_by, asked, asking, params_of, IsGiven, HasNames}
+use Rattle.command_words.specs.declared.command.Command.TheVariants.{Call, Send, Recv, Demo, Rate, Audit, Duplex, Group}
+use Rattle.command_words.specs.Asked.{Asked, Row, call, send, recv, demo, rate, audit, duplex, group, call_of, send_of, send_with, target_or_none, recv_of, demo_of, seed_in, frames_in, rate_of, audit_of, duplex_of, group_of, receivers_by, target_in, bucket_in, asked_by, asked, asking, params_of, IsGiven, HasNames}
 
 -- a value that is given is there
 value_there : (name : Text) (given : List Given) → gives name given ≡ true → IsGiven (value given name)
@@ -197,6 +197,25 @@ module _ (given : List Given) where
       go None (Some x) e h = absurd (cc h)
       go (Some p) (Some x) e h = subst named (some_is h) (video, (video2, (subst IsGiven (sym e) tt, (pictures, (pictures2, tt)))))
 
+  pub group_named : (c : Command) → given_all group.places → group_of (value given) ≡ Some c → named c
+  group_named c all is = go (params_of (value given)) (value given (codes "trace")) (value given (codes "out2")) (value given (codes "out3")) refl refl refl is
+    where
+      video : IsGiven (value given (codes "in"))
+      video = first_there (codes "in") (codes "out" ∷ []) all
+
+      pictures : IsGiven (value given (codes "out"))
+      pictures = first_there (codes "out") [] (rest_there (codes "in") (codes "out" ∷ []) all)
+
+      go : (p : Option Params) (t second third : Option Text) → value given (codes "trace") ≡ t → value given (codes "out2") ≡ second → value given (codes "out3") ≡ third
+          → option_and_then (λ (trace : Text). option_and_then (λ (params : Params). option_map (λ receivers. Group params receivers) (receivers_by second third)) p) t ≡ Some c → named c
+      go p None second third e two three h = absurd (cc h)
+      go None (Some x) second third e two three h = absurd (cc h)
+      go (Some p) (Some x) None None e two three h = subst named (some_is h) (video, (subst IsGiven (sym e) tt, (pictures, tt)))
+      go (Some p) (Some x) None (Some z) e two three h = absurd (cc h)
+      go (Some p) (Some x) (Some y) None e two three h = subst named (some_is h) (video, (subst IsGiven (sym e) tt, (pictures, (subst IsGiven (sym two) tt, tt))))
+      go (Some p) (Some x) (Some y) (Some z) e two three h =
+          subst named (some_is h) (video, (subst IsGiven (sym e) tt, (pictures, (subst IsGiven (sym two) tt, (subst IsGiven (sym three) tt, tt)))))
+
 -- the row's words
 by_row : (row : Row) (words : List Text) (a : Asked)
     → ((given : List Given) (c : Command) → list_all (λ name. gives name given) row.places ≡ true → row.asks (value given) ≡ Some c → HasNames (asking (value given) c))
@@ -217,17 +236,18 @@ pub named_where_asked : (words : List Text) (a : Asked) → asked words ≡ Some
 named_where_asked [] a is = absurd (cc is)
 named_where_asked (first ∷ words) a is =
     at_call (bytes_eq call.word first) (bytes_eq send.word first) (bytes_eq recv.word first) (bytes_eq demo.word first) (bytes_eq rate.word first) (bytes_eq audit.word first)
-    (bytes_eq duplex.word first) is
+    (bytes_eq duplex.word first) (bytes_eq group.word first) is
   where
-    at_call : (c s r d m u x : Bool) →
+    at_call : (c s r d m u x g : Bool) →
         option_and_then (λ row. asked_by row words)
         (if c then Some call else if s then Some send else if r then Some recv else if d then Some demo else if m then Some rate else if u then Some audit
-        else if x then Some duplex else None) ≡ Some a → HasNames a
-    at_call true s r d m u x h = by_row call words a (λ given k all e. call_named given k all e) h
-    at_call false true r d m u x h = by_row send words a (λ given k all e. send_named given k all e) h
-    at_call false false true d m u x h = by_row recv words a (λ given k all e. recv_named given k all e) h
-    at_call false false false true m u x h = by_row demo words a (λ given k all e. demo_named given k e) h
-    at_call false false false false true u x h = by_row rate words a (λ given k all e. rate_named given k all e) h
-    at_call false false false false false true x h = by_row audit words a (λ given k all e. audit_named given k all e) h
-    at_call false false false false false false true h = by_row duplex words a (λ given k all e. duplex_named given k all e) h
-    at_call false false false false false false false h = absurd (cc h)
+        else if x then Some duplex else if g then Some group else None) ≡ Some a → HasNames a
+    at_call true s r d m u x g h = by_row call words a (λ given k all e. call_named given k all e) h
+    at_call false true r d m u x g h = by_row send words a (λ given k all e. send_named given k all e) h
+    at_call false false true d m u x g h = by_row recv words a (λ given k all e. recv_named given k all e) h
+    at_call false false false true m u x g h = by_row demo words a (λ given k all e. demo_named given k e) h
+    at_call false false false false true u x g h = by_row rate words a (λ given k all e. rate_named given k all e) h
+    at_call false false false false false true x g h = by_row audit words a (λ given k all e. audit_named given k all e) h
+    at_call false false false false false false true g h = by_row duplex words a (λ given k all e. duplex_named given k all e) h
+    at_call false false false false false false false true h = by_row group words a (λ given k all e. group_named given k all e) h
+    at_call false false false false false false false false h = absurd (cc h)
