@@ -1,0 +1,9 @@
+pub mod Watching
+pub mod Writing
+pub mod Cutting
+pub mod LineTurns
+pub mod LineTurning
+pub mod Capturing
+pub mod Doing
+pub mod Starting
+pub mod RoomTurning
