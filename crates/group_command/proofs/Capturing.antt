@@ -76,16 +76,16 @@ module _ (s : GroupState) where
   Gives (Err Read) rest out new left = (k : ℕ) × (left ≡ Some (drop k rest)) × IsErr (frame_of format s.at (take k rest))
 
   pub gives_so : (r : Result Bool VideoStop) (reader new : Y4mPlace) (rest out : List ℕ) (left : Option (List ℕ))
-      → place ≡ place_in reader → reader.format ≡ format → FrameGives r reader rest out new left → Gives r rest out new left
-  gives_so (Ok true) reader new rest out left is form (some, next, at, gone) = (
+      → s.more ≡ reader.more → s.at ≡ reader.at → reader.format ≡ format → FrameGives r reader rest out new left → Gives r rest out new left
+  gives_so (Ok true) reader new rest out left more at form (some, next, place, gone) = (
     some,
-    (λ i. next_frame (is i).more (sym form i) (is i).at rest) ∙ next,
-    at ∙ (λ i. (sym is i).at + frame_size (form i) rest),
+    (λ i. next_frame (more i) (sym form i) (at i) rest) ∙ next,
+    place ∙ (λ i. sym at i + frame_size (form i) rest),
     gone ∙ ap (λ (f : Format). Some (drop (frame_size f rest) rest)) form,
   )
-  gives_so (Ok false) reader new rest out left is form gives = gives
-  gives_so (Err (Refused fault)) reader new rest out left is form (some, next) = (some, (λ i. next_frame (is i).more (sym form i) (is i).at rest) ∙ next)
-  gives_so (Err Read) reader new rest out left is form (k, gone, lost) = (k, gone, subst (λ (f : Format). IsErr (frame_of f s.at (take k rest))) form (subst (λ (p : VideoPlace). IsErr (frame_of reader.format p.at (take k rest))) (sym is) lost))
+  gives_so (Ok false) reader new rest out left more at form gives = gives
+  gives_so (Err (Refused fault)) reader new rest out left more at form (some, next) = (some, (λ i. next_frame (more i) (sym form i) (at i) rest) ∙ next)
+  gives_so (Err Read) reader new rest out left more at form (k, gone, lost) = (k, gone, subst (λ (f : Format). IsErr (frame_of f s.at (take k rest))) form (subst (λ (a : ℕ). IsErr (frame_of reader.format a (take k rest))) (sym at) lost))
 
   -- ---- the capture: `old` is the desk after the line, `mid` after the read of the frame
 

@@ -29,8 +29,8 @@ use Rattle.group_call.specs.Refused.{unless_left, view_refusal}
 use Rattle.group_call.specs.Viewing.{ViewerRun, told_at, view_delivery, view_packet, view_places}
 use Rattle.group_command.specs.declared.line.OwnEvent.{OwnEvent}
 use Rattle.group_command.specs.declared.line.OwnEvent.TheVariants as own
-use Rattle.group_command.specs.Group.{heard, run_after}
-use Rattle.group_command.specs.Turning.{EventGives}
+use Rattle.group_command.specs.Group.{event_of, heard, run_after, texts_after, view_after}
+use Rattle.group_command.specs.Turning.{EventGives, KeepsCast}
 
 -- ---- by what it answers
 
@@ -154,3 +154,18 @@ few_mbs Cif = omega arith
 
 pub few_places : (cast : Broadcast) → IsCasting cast → places_in cast ≤ 396
 few_places cast k = omega (arith, k.holds.most, few_mbs k.params.format)
+
+-- ---- an event, by which it is
+
+module _ (r : Result Unit Status) (line k : ℕ) (p : Params) (run : Groups) (view : ViewerRun) (Holds : Groups → ViewerRun → Type 0) (cast : Broadcast) (old new : Role → Option (List ℕ)) where
+  abbrev pub Gives : OwnEvent → Type 0
+  Gives e =
+      EventGives r line (event_of e) (view_refusal p run view (event_of e))
+      (HoldsBroadcast p cast (run_after p k run view e) × Holds (run_after p k run view e) (view_after p k run view e))
+      (texts_after p k run view e) old new
+
+  pub of_event : (event said : OwnEvent) → event ≡ said → Gives said → Gives event
+  of_event event said is gives = subst Gives (sym is) gives
+
+pub keeps_cast : (cast : Broadcast) → KeepsCast cast cast
+keeps_cast cast = record { params = refl; sent = refl; kept = refl; casting = λ k. k }

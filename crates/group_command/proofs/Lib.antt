@@ -1,9 +1,14 @@
 pub mod Watching
 pub mod Writing
+pub mod Telling
+pub mod Checking
+pub mod Lined
 pub mod Cutting
 pub mod LineTurns
 pub mod LineTurning
 pub mod Capturing
 pub mod Doing
 pub mod Starting
+pub mod AtPlace
+pub mod Sending
 pub mod RoomTurning

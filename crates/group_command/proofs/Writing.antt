@@ -1,5 +1,5 @@
 -- The texts of a receiver's picture, and those of the counts.
-use Rattle.std.proofs.Common.{◌≡◌, ℕ, zero, suc, ◌+◌, ◌<◌, ◌≤◌, List, [], ◌∷◌, Option, Some, Result, Ok, Err, OnErr, sym, ap, subst, ◌∙◌, arith}
+use Rattle.std.proofs.Common.{◌≡◌, ℕ, zero, suc, ◌+◌, ◌<◌, ◌≤◌, List, [], ◌∷◌, length, codes, Option, Some, Result, Ok, Err, OnErr, sym, ap, subst, ◌∙◌, arith}
 use Rattle.h263_types.specs.declared.format.Format.{Format}
 use Rattle.h263_types.specs.declared.params.Params.{Params}
 use Rattle.h263_types.specs.declared.Mark.{Mark}
@@ -17,10 +17,13 @@ use Rattle.receiver_end.specs.Answers.{mark_of}
 use Rattle.receiver_end.specs.Decoding.{decoding}
 use Rattle.receiver_end.specs.State.{run_of}
 use Rattle.one_way.specs.Seen.{reference_in}
+use Rattle.one_way.specs.Counts.{AreCounted}
+use Rattle.one_way.specs.declared.tally.Tally.{Tally}
+use Rattle.call_command.specs.Counts.{counts_text_of, counts_with}
 use Rattle.group_sender.specs.Holding.{Groups}
 use Rattle.group_call.specs.Viewing.{ViewerRun, view_play}
 use Rattle.group_command.specs.declared.show.OwnRow.{OwnRow}
-use Rattle.group_command.specs.Group.{heads_text, pictures_at, played_texts}
+use Rattle.group_command.specs.Group.{counts_of_view, heads_text, pictures_at, played_texts}
 use Rattle.group_command.specs.Turning.{own_texts}
 
 pub on_err : {T E P : Type 0} (r : Result T E) → P → OnErr r P
@@ -55,6 +58,18 @@ pub row_is : (p : Params) (k : ℕ) (run : Groups) (view : ViewerRun) (number : 
     → own_texts (record { place = k; number = number; mark = mark; reference = reference }) picture ≡ played_texts p k run view
 row_is p k run view number mark reference picture number_is mark_is reference_is shown =
     λ i. then_also (on (pictures_at k) (frame_text (mark_is i) (shown i))) (on Report (picture_text (number_is i) (Some (mark_is i)) (Some (reference_is i)) (Some (49 + k))))
+
+-- the reference of the picture that is played next
+pub reference_next : (run : Groups) (n played : ℕ) → n ≡ played → {reference : Option ℕ} → (n < length run.coded → length run.coded ≤ n + 512 → reference ≡ reference_in run.coded n)
+    → played < length run.coded → length run.coded ≤ played + 512 → reference ≡ reference_in run.coded played
+reference_next run n played is {reference} holds some near =
+    subst (λ (m : ℕ). m < length run.coded → length run.coded ≤ m + 512 → reference ≡ reference_in run.coded m) is holds some near
+
+-- the line of a receiver's counts
+pub counts_are : (p : Params) (k : ℕ) (run : Groups) (view : ViewerRun) (word : List ℕ) (tally : Tally) (played sent : ℕ) → word ≡ (49 + k) ∷ codes " played" → AreCounted tally view.plays
+    → played ≡ (run_of p view.entries).played → sent ≡ length run.coded → counts_with word tally played sent ≡ counts_of_view p run k view
+counts_are p k run view word tally played sent word_is marks played_is sent_is =
+    λ i. counts_text_of (word_is i) (played_is i) (sent_is i) (marks.exact i) (marks.patched i) (marks.held i)
 
 -- ---- the heads
 

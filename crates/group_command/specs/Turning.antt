@@ -16,8 +16,9 @@ use Rattle.call_command.specs.Refused.{fault_of}
 use Rattle.call_command.specs.Standing.{HasTaken}
 use Rattle.desk_program.specs.Ends.{Falls, Gains, GainsFronts, HasCause, IsStop, KeepsRoles, OnEnd, OnGoing, Tells, TurnGives, turn_status}
 use Rattle.desk_program.specs.Run.{Step, left_after}
-use Rattle.desk_program.specs.Texts.{of, on, then_also}
+use Rattle.desk_program.specs.Texts.{no_texts, of, on, then_also}
 use Rattle.group_call.specs.declared.broadcast.Broadcast.{Broadcast}
+use Rattle.group_call.specs.declared.viewer.Viewer.{Viewer}
 use Rattle.group_sender.specs.Holding.{Groups}
 use Rattle.group_call.specs.Refused.{view_refusal}
 use Rattle.group_call.specs.Viewing.{ViewerRun}
@@ -27,8 +28,15 @@ use Rattle.group_command.specs.declared.show.OwnRow.{OwnRow}
 use Rattle.group_command.specs.declared.event.OwnLine.{OwnLine}
 use Rattle.group_command.specs.declared.line.GroupLine.{GroupLine}
 use Rattle.group_command.specs.declared.line.GroupLine.TheVariants.{Quiet, ForAll, Of}
-use Rattle.group_command.specs.Group.{GroupState, after_line, capture_step, event_of, first_behind, group_step, line_step, may_read, pictures_at, run_after, texts_after, view_after}
+use Rattle.group_command.specs.Group.{GroupState, after_line, capture_step, counts_of_view, event_of, first_behind, group_step, line_step, may_read, pictures_at, run_after, texts_after, view_after}
 use Rattle.group_command.specs.Standing.{AreViewing, RoomReady, RoomStands, RoomStandsAt, more_of}
+
+-- ---- a receiver that may be there
+
+-- the line of its counts
+abbrev pub counts_if : Option Viewer → Params → Groups → ℕ → ViewerRun → Role → List ℕ
+counts_if None p run k view = no_texts
+counts_if (Some viewer) p run k view = on Report (counts_of_view p run k view)
 
 -- ---- an event
 

@@ -14,7 +14,7 @@ ghost use Rattle.group_call.specs.Holding.{HoldsBroadcast, HoldsViewer, pictures
 ghost use Rattle.group_call.specs.Viewing.{ViewerRun, no_view};
 ghost use Rattle.group_command.specs.Group.{counts_from, first_behind};
 ghost use Rattle.group_command.specs.Standing.{AllWatch, AreViewing, IsViewing, Watches, and_then};
-ghost use Rattle.group_command.specs.Turning.{KeepsCast, MayTake, OpensFor, OwnGives};
+ghost use Rattle.group_command.specs.Turning.{KeepsCast, MayTake, OpensFor, OwnGives, counts_if};
 
 use crate::event::{OwnLine, own_turn};
 use crate::show::tell_counts;
@@ -83,13 +83,13 @@ fn tell_if<D: Desk>(
 ) -> Result<(), Status>
     requires place { place < 3 }
     requires report { (D.outside desk.old).attached Report ≡ true }
-    ensures ok { (p : Params) (run : Groups) (views : List ViewerRun) → HoldsBroadcast p cast.now run
-        → AllWatch p run (and_then viewer.now []) views
-        → OnOk result (Gains (counts_from p run place views)
+    ensures ok { (p : Params) (run : Groups) (view : ViewerRun) → HoldsBroadcast p cast.now run
+        → IfSome viewer.now (λ v. Watches p run v view)
+        → OnOk result (Gains (counts_if viewer.now p run place view)
         (D.outside desk.old).written (D.outside desk.new).written) }
-    ensures err { (p : Params) (run : Groups) (views : List ViewerRun) → HoldsBroadcast p cast.now run
-        → AllWatch p run (and_then viewer.now []) views
-        → OnErr result (GainsFronts (counts_from p run place views)
+    ensures err { (p : Params) (run : Groups) (view : ViewerRun) → HoldsBroadcast p cast.now run
+        → IfSome viewer.now (λ v. Watches p run v view)
+        → OnErr result (GainsFronts (counts_if viewer.now p run place view)
         (D.outside desk.old).written (D.outside desk.new).written) }
     ensures kind { IfErr result (λ status. status ≡ Status.WriteFault) }
     ensures cause { OnErr result
@@ -192,7 +192,8 @@ impl Viewers {
 
     /// Writes the counts of all.
     pub fn tell<D: Desk>(&self, desk: &mut D, cast: &Broadcast) -> Result<(), Status>
-        requires { (D.outside desk.old).attached Report ≡ true }
+        requires report { (D.outside desk.old).attached Report ≡ true }
+        requires viewing { (sent lines : ℕ) × AreViewing sent lines self.now }
         ensures ok { (p : Params) (run : Groups) (views : List ViewerRun)
             → HoldsBroadcast p cast.now run → AllWatch p run (viewers_in self.now) views
             → OnOk result (Gains (counts_from p run 0 views)

@@ -1,0 +1,43 @@
+use Rattle.std.proofs.Common.{◌≡◌, ℕ, ◌<◌, ◌-◌, length, Option, Some, None, refl, sym, subst, arith}
+use Rattle.group_command.specs.Group.{view_in}
+use Rattle.group_command.proofs.AtPlace.{first_gives, second_count, second_gives, second_there, third_count, third_gives, third_there}
+use Rattle.group_command.proofs.Telling.{first_watched, second_watched, third_watched}
+use Rattle.group_command.proofs.Watching.{if_later, one_line_later, line_before}
+use Rattle.group_command.proofs.viewers.Viewers.own_turn.Goals as goal
+
+pub returns-in-0-clause-viewing : goal.returns-in-0-clause-viewing
+returns-in-0-clause-viewing g c =
+    let self = c.args.self.now in
+    let said = c.args.said in
+    let v = c.requires.viewing in
+    record {
+      first = c.own_turn.ensures.viewing;
+      second = if_later _ (said.line - 1) said.line self.second (line_before said.line) v.second;
+      third = if_later _ (said.line - 1) said.line self.third (line_before said.line) v.third;
+      in_order = v.in_order;
+    }
+
+pub returns-in-0-clause-gives : goal.returns-in-0-clause-gives
+returns-in-0-clause-gives g c = λ p run views half period cast w.
+    let outside = g.D.Desk.outside in
+    let self = c.args.self.now in
+    first_gives c.own_turn.result c.args.said p run views c.own_turn.new.cast (outside c.args.desk.now).written (outside c.own_turn.new.desk).written self.first c.own_turn.new.viewer _ ? w
+    (c.own_turn.ensures.gives p run (view_in views 0) half period cast (first_watched p run self.first _ views w))
+
+pub returns-in-1-clause-count : goal.returns-in-1-clause-count
+returns-in-1-clause-count g c = ?
+
+pub returns-in-1-clause-viewing : goal.returns-in-1-clause-viewing
+returns-in-1-clause-viewing g c = ?
+
+pub returns-in-1-clause-gives : goal.returns-in-1-clause-gives
+returns-in-1-clause-gives g c = ?
+
+pub returns-in_default-clause-count : goal.returns-in_default-clause-count
+returns-in_default-clause-count g c = ?
+
+pub returns-in_default-clause-viewing : goal.returns-in_default-clause-viewing
+returns-in_default-clause-viewing g c = ?
+
+pub returns-in_default-clause-gives : goal.returns-in_default-clause-gives
+returns-in_default-clause-gives g c = ?
