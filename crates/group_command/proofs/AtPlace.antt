@@ -1,5 +1,5 @@
 -- What one receiver does, as what all of them have done.
-use Rattle.std.proofs.Common.{◌≡◌, ◌⊎◌, inl, inr, ℕ, suc, ◌+◌, ◌<◌, Bool, true, List, [], ◌∷◌, length, Option, Some, None, Result, Ok, Err, refl, sym, ap, subst, arith}
+use Rattle.std.proofs.Common.{◌≡◌, ◌⊎◌, inl, inr, ℕ, zero, suc, ◌+◌, ◌<◌, Bool, true, List, [], ◌∷◌, length, Option, Some, None, Result, Ok, Err, refl, sym, ap, subst, arith}
 use Rattle.std.specs.Prelude.{IfSome, is_some, slice_set}
 use Rattle.h263_types.specs.declared.params.Params.{Params}
 use Rattle.h263_outside.specs.declared.desk.Role.{Role}
@@ -24,6 +24,12 @@ event_so : (r : Result Unit Status) (line : ℕ) (e : Event) (refusal : Option R
     → EventGives r line e refusal P texts old new → EventGives r line e refusal Q texts old new
 event_so (Ok u) line e refusal P Q texts old new so gives = (gives.0, so gives.1, gives.2)
 event_so (Err status) line e refusal P Q texts old new so gives = gives
+
+pub place_is_2 : (k : ℕ) → (k ≡ 0 → ⊥) → (k ≡ 1 → ⊥) → k < 3 → k ≡ 2
+place_is_2 zero none one few = absurd (none refl)
+place_is_2 (suc zero) none one few = absurd (one refl)
+place_is_2 (suc (suc zero)) none one few = refl
+place_is_2 (suc (suc (suc k))) none one few = absurd (omega (arith, few))
 
 -- which of them are there
 

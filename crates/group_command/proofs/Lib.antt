@@ -11,4 +11,7 @@ pub mod Doing
 pub mod Starting
 pub mod AtPlace
 pub mod Sending
+pub mod Asking
+pub mod Owning
 pub mod RoomTurning
+pub mod FaultOfVideo

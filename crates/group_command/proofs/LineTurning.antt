@@ -91,13 +91,27 @@ module _ (read : ReadLines) where
       at_test true is = absurd (omega (arith, longer, ap (λ (l : List ℕ). length l) ((bytes_eq-Decides line word).0 is)))
       at_test false is = refl
 
-  pub long_is_bad : (count : ℕ) (line : List ℕ) → 64 < length line → group_line count line ≡ None
-  long_is_bad count line long =
-      ap (λ (b : Bool). if b then Some Quiet else _) (not_short (codes "") line (omega (arith, long)))
-      ∙ ap (λ (b : Bool). if b then Some ForAll else _) (not_short (codes "S") line (omega (arith, long)))
-      ∙ choice (bytes_eq (take 2 line) (codes "1 ")) (of_one 0 (event_in (drop 2 line))) _ None (long_own 0 line long)
-      (choice (bytes_eq (take 2 line) (codes "2 ")) (if nat_le 2 count then of_one 1 (event_in (drop 2 line)) else None) _ None (choice (nat_le 2 count) _ None None (long_own 1 line long) refl)
-      (choice (bytes_eq (take 2 line) (codes "3 ")) (if nat_le 3 count then of_one 2 (event_in (drop 2 line)) else None) None None (choice (nat_le 3 count) _ None None (long_own 2 line long) refl) refl))
+  under_false : {X : Type 0} (c : Bool) (x y : X) → c ≡ false → (if c then x else y) ≡ y
+  under_false true x y is = absurd (cc is)
+  under_false false x y is = refl
+
+  module _ (count : ℕ) (line : List ℕ) where
+    abbrev third_or : Option GroupLine
+    third_or = if bytes_eq (take 2 line) (codes "3 ") then (if nat_le 3 count then of_one 2 (event_in (drop 2 line)) else None) else None
+
+    abbrev second_or : Option GroupLine
+    second_or = if bytes_eq (take 2 line) (codes "2 ") then (if nat_le 2 count then of_one 1 (event_in (drop 2 line)) else None) else third_or
+
+    abbrev first_or : Option GroupLine
+    first_or = if bytes_eq (take 2 line) (codes "1 ") then of_one 0 (event_in (drop 2 line)) else second_or
+
+    pub long_is_bad : 64 < length line → group_line count line ≡ None
+    long_is_bad long =
+        under_false (bytes_eq line (codes "")) (Some Quiet) (if bytes_eq line (codes "S") then Some ForAll else first_or) (not_short (codes "") line (omega (arith, long)))
+        ∙ under_false (bytes_eq line (codes "S")) (Some ForAll) first_or (not_short (codes "S") line (omega (arith, long)))
+        ∙ choice (bytes_eq (take 2 line) (codes "1 ")) (of_one 0 (event_in (drop 2 line))) second_or None (long_own 0 line long)
+        (choice (bytes_eq (take 2 line) (codes "2 ")) (if nat_le 2 count then of_one 1 (event_in (drop 2 line)) else None) third_or None (choice (nat_le 2 count) (of_one 1 (event_in (drop 2 line))) None None (long_own 1 line long) refl)
+        (choice (bytes_eq (take 2 line) (codes "3 ")) (if nat_le 3 count then of_one 2 (event_in (drop 2 line)) else None) None None (choice (nat_le 3 count) (of_one 2 (event_in (drop 2 line))) None None (long_own 2 line long) refl) refl))
 
 -- ---- which step it is
 
@@ -208,7 +222,7 @@ module _ (laws : LineLaws) (s : GroupState) (inputs : Role → List ℕ) (old mi
   -- after a line
   module _ (buf : List ℕ) (found : ℕ × ℕ) (e : BytesGive (Ok (Some found)) reader (inputs Events) buf after (mid.left Events)) (moves : Moves (Ok (Some found)) reader after) where
     pub found_is : (o : Option GroupLine) → group_line (length s.views) (take found.1 buf) ≡ o → group_step s inputs ≡ line_step s inputs o
-    found_is o said = line_is s inputs (inputs Events) o e.0.some (omega (arith, moves.1, at.lines_are)) (ap group_line (length s.views) (sym e.2) ∙ said)
+    found_is o said = line_is s inputs (inputs Events) o e.0.some (omega (arith, moves.1, at.lines_are)) (ap (group_line (length s.views)) (sym e.2) ∙ said)
 
     pub found_number : found.0 ≡ s.lines + 1
     found_number = moves.2 ∙ ap (λ (n : ℕ). n + 1) (sym at.lines_are)

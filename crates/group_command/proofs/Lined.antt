@@ -41,6 +41,6 @@ module _ (count : ℕ) (said : GroupLine) where
   pub line_there : (line : List ℕ) → 1 ≤ count → group_line count line ≡ Some said → IsThere count said
   line_there line some is = by_tests (bytes_eq line (codes "")) (bytes_eq line (codes "S")) (bytes_eq (take 2 line) (codes "1 ")) (bytes_eq (take 2 line) (codes "2 ")) (bytes_eq (take 2 line) (codes "3 ")) (event_in (drop 2 line)) some is
 
-pub said_there : {E : Type 0} {N : E → Type 0} (count : ℕ) (line : List ℕ) (r : Result GroupLine E) → 1 ≤ count → MatchResult r (λ said. group_line count line ≡ Some said) N → IfOk r (IsThere count)
-said_there count line (Ok said) some is = line_there count said line some is
-said_there count line (Err e) some is = tt
+pub said_there : {E : Type 0} (N : E → Type 0) (count : ℕ) (line : List ℕ) (r : Result GroupLine E) → 1 ≤ count → MatchResult r (λ said. group_line count line ≡ Some said) N → IfOk r (IsThere count)
+said_there N count line (Ok said) some is = line_there count said line some is
+said_there N count line (Err e) some is = tt

@@ -1,5 +1,8 @@
 -- A frame that is asked for is sent to all.
-use Rattle.std.proofs.Common.{◌≡◌, ℕ, suc, ◌+◌, ◌-◌, ◌<◌, ◌≤◌, Bool, true, false, List, [], ◌∷◌, ◌++◌, length, drop, Option, Some, None, Result, Ok, Err, refl, sym, ap, subst, ◌∙◌, arith}
+use Rattle.std.proofs.Common.{◌≡◌, ℕ, suc, ◌+◌, ◌-◌, ◌<◌, ◌≤◌, Bool, true, false, List, [], ◌∷◌, ◌++◌, length, drop, Option, Some, None, Result, Ok, Err, refl, sym, ap, subst, ◌∙◌, arith, Global}
+use Rattle.std.specs.declared.vec.Vec.{Vec}
+use Rattle.std.specs.Vec.{with_items}
+use Rattle.std.proofs.lemmas.List.{with_items_is}
 use Rattle.h263_types.specs.Clocks.{half_of, period_of}
 use Rattle.h263_types.specs.declared.format.Format.{Format}
 use Rattle.h263_types.specs.declared.params.Params.{Params}
@@ -40,7 +43,7 @@ or_none_second (Some r) b is = absurd (cc is)
 
 longer : {X : Type 0} (xs ys : List X) (x : X) → ys ≡ xs ++ x ∷ [] → length ys ≡ length xs + 1
 longer [] ys x is = ap (λ l. length l) is
-longer (y ∷ xs) ys x is = ap (λ l. length l) is ∙ ap suc (longer xs (xs ++ x ∷ []) x refl)
+longer (y ∷ xs) ys x is = omega (arith, ap (λ l. length l) is, longer xs (xs ++ x ∷ []) x refl)
 
 pub watch_sent : (p : Params) (run later : Groups) (viewers : List Viewer) (views : List ViewerRun) → length later.coded ≡ length run.coded + 1 → first_behind p run views ≡ None → AllWatch p run viewers views → AllWatch p later viewers views
 watch_sent p run later [] [] more none w = tt
@@ -92,3 +95,7 @@ module _ (m : Room) (line : ℕ) (now old : Outside) (s : GroupState) (inputs : 
         views = subst (λ v. AllWatch s.params later (viewers_in v) s.views) (sym viewers)
             (watch_sent s.params run later (viewers_in m.viewers) s.views (longer run.coded later.coded _ refl) b.none stood.views);
       }
+
+-- a buffer that was lent whole holds what was put there
+pub lent : (v : Vec ℕ Global) (l got : List ℕ) (n : ℕ) → got ≡ (with_items v l).items → length l ≡ n → n ≡ v.len → got ≡ l
+lent v l got n is long whole = is ∙ with_items_is v l (omega (arith, long, whole, v.ok.0))

@@ -1,5 +1,5 @@
 -- Before the first line: the head is read, those of the pictures are written, and nothing has happened.
-use Rattle.std.proofs.Common.{◌≡◌, ◌≢◌, ℕ, ◌+◌, ◌-◌, ◌≤◌, Bool, true, false, List, [], length, take, drop, Option, Some, Result, Ok, Err, IsErr, refl, sym, ap, ◌∙◌, subst, arith}
+use Rattle.std.proofs.Common.{◌≡◌, ◌≢◌, ℕ, zero, suc, ◌+◌, ◌-◌, ◌≤◌, Bool, true, false, List, [], length, take, drop, Option, Some, Result, Ok, Err, IsErr, refl, sym, ap, ◌∙◌, subst, arith}
 use Rattle.std.specs.Prelude.{◌&&◌, nat_le, IfErr, IsErrAnd}
 use Rattle.std.proofs.lemmas.Bool.{leb-true}
 use Rattle.h263_types.specs.declared.format.Format.{Format}
@@ -28,7 +28,7 @@ use Rattle.call_command.specs.Laws.{VideoLaws}
 use Rattle.group_command.specs.declared.room.Room.{Room}
 use Rattle.group_command.specs.declared.terms.GroupTerms.{GroupTerms}
 use Rattle.group_command.specs.Begin.{IsNewRoom}
-use Rattle.group_command.specs.Group.{GroupState, first_state, group_begin, head_step, heads_text, may_read, most_turns}
+use Rattle.group_command.specs.Group.{GroupState, first_state, group_begin, head_step, heads_text, joined_by, may_read, most_turns}
 use Rattle.group_command.specs.Standing.{AreViewing, GroupOpens, RoomReady, RoomStandsAt, more_of, viewers_in}
 
 -- parameters stay in their ranges in another format
@@ -164,3 +164,7 @@ module _ (p : Params) (receivers : ℕ) (video : Y4mPlace) (m : Room) (new : IsN
         few = omega (arith, none);
         viewing = subst (λ (n : ℕ). AreViewing n m.trace.lines m.viewers) (sym new.sent) (subst (λ (n : ℕ). AreViewing 0 n m.viewers) (sym none) new.viewing);
       }
+
+pub none_coded : (k : ℕ) → length (joined_by k).coded ≡ 0
+none_coded zero = refl
+none_coded (suc k) = none_coded k

@@ -1,5 +1,5 @@
 -- The texts of a receiver's picture, and those of the counts.
-use Rattle.std.proofs.Common.{◌≡◌, ℕ, zero, suc, ◌+◌, ◌<◌, ◌≤◌, List, [], ◌∷◌, length, codes, Option, Some, Result, Ok, Err, OnErr, sym, ap, subst, ◌∙◌, arith}
+use Rattle.std.proofs.Common.{◌≡◌, ℕ, zero, suc, ◌+◌, ◌-◌, ◌<◌, ◌≤◌, List, [], ◌∷◌, length, codes, Option, Some, Result, Ok, Err, OnErr, refl, sym, ap, subst, ◌∙◌, arith}
 use Rattle.h263_types.specs.declared.format.Format.{Format}
 use Rattle.h263_types.specs.declared.params.Params.{Params}
 use Rattle.h263_types.specs.declared.Mark.{Mark}
@@ -84,3 +84,18 @@ module _ (turns : TurnLaws) (f : Format) (old mid : Role → Option (List ℕ)) 
   -- a prefix of the first ones is one of all
   pub head_front : (k : ℕ) → GainsFronts (heads_text f k) old mid → GainsFronts (heads_text f (suc k)) old mid
   head_front k fronts = turns.front_of_first (heads_text f k) (on (pictures_at k) (head_text f)) old mid fronts
+
+module _ (turns : TurnLaws) (f : Format) (old mid : Role → Option (List ℕ)) where
+  fronts_up : (d k : ℕ) → GainsFronts (heads_text f k) old mid → GainsFronts (heads_text f (d + k)) old mid
+  fronts_up zero k fronts = fronts
+  fronts_up (suc d) k fronts = head_front turns f old mid (d + k) (fronts_up d k fronts)
+
+  pub heads_front : (k n : ℕ) → k ≤ n → GainsFronts (heads_text f k) old mid → GainsFronts (heads_text f n) old mid
+  heads_front k n le fronts = subst (λ (m : ℕ). GainsFronts (heads_text f m) old mid) (all k n le) (fronts_up (n - k) k fronts)
+    where
+      all : (k n : ℕ) → k ≤ n → n - k + k ≡ n
+      all k n le = omega (arith, le)
+
+  -- none was written before the first
+  pub no_head : Gains (heads_text f 0) old old
+  no_head = turns.no_text old old refl

@@ -1,5 +1,5 @@
 -- The roles of a command, found among all roles by their words.
-use Rattle.std.proofs.Common.{◌≡◌, ℕ, ◌+◌, ◌<◌, ◌++◌, true, false, List, [], ◌∷◌, length, take, drop, set, get_or, Option, Some, None, refl, sym, ap, ◌∙◌}
+use Rattle.std.proofs.Common.{◌≡◌, ℕ, zero, suc, ◌+◌, ◌<◌, ◌++◌, true, false, List, [], ◌∷◌, length, take, drop, set, get_or, Option, Some, None, refl, sym, ap, ◌∙◌}
 use Rattle.std.proofs.lemmas.List.{append_assoc, at_drop_more, map-append}
 use Rattle.std.proofs.lemmas.Grind.{take-set_at}
 use Rattle.std.specs.Borrow.{Bor}
@@ -9,7 +9,7 @@ use Rattle.h263_outside.specs.declared.desk.Role.{Role}
 use Rattle.h263_outside.specs.declared.desk.Role.TheVariants.{Video, Video2, Events, Pictures, Pictures2, Wire}
 use Rattle.command_words.specs.Simple.{Text}
 use Rattle.command_words.specs.declared.command.Command.{Command}
-use Rattle.command_words.specs.declared.command.Command.TheVariants.{Call, Send, Recv, Demo, Rate, Audit, Duplex}
+use Rattle.command_words.specs.declared.command.Command.TheVariants.{Call, Send, Recv, Demo, Rate, Audit, Duplex, Group}
 use Rattle.command_words.specs.Asked.{Asked, HasNames, IsGiven, Lookup, asking, roles, word_for}
 use Rattle.desk_program.specs.Attached.{names}
 use Rattle.h263rps_run.specs.Output.{roles_of, the_word}
@@ -47,6 +47,14 @@ roles_named (Rate target bucket) given names = λ i. there Events (given (codes 
 roles_named (Audit params) given names = λ i. there Events (given (codes "log")) names.0 i ++ []
 roles_named (Duplex params) given names =
     λ i. there Video (given (codes "in1")) names.0 i ++ (there Video2 (given (codes "in2")) names.1.0 i ++ (there Events (given (codes "trace")) names.1.1.0 i ++ (there Pictures (given (codes "out1")) names.1.1.1.0 i ++ (there Pictures2 (given (codes "out2")) names.1.1.1.1.0 i ++ []))))
+roles_named (Group params zero) given names =
+    λ i. there Video (given (codes "in")) names.0 i ++ (there Events (given (codes "trace")) names.1.0 i ++ (there Pictures (given (codes "out")) names.1.1.0 i ++ []))
+roles_named (Group params (suc zero)) given names =
+    λ i. there Video (given (codes "in")) names.0 i ++ (there Events (given (codes "trace")) names.1.0 i ++ (there Pictures (given (codes "out")) names.1.1.0 i ++ []))
+roles_named (Group params (suc (suc zero))) given names =
+    λ i. there Video (given (codes "in")) names.0 i ++ (there Events (given (codes "trace")) names.1.0 i ++ (there Pictures (given (codes "out")) names.1.1.0 i ++ (there Pictures2 (given (codes "out2")) names.1.1.1.0 i ++ [])))
+roles_named (Group params (suc (suc (suc n)))) given names =
+    λ i. there Video (given (codes "in")) names.0 i ++ (there Events (given (codes "trace")) names.1.0 i ++ (there Pictures (given (codes "out")) names.1.1.0 i ++ (there Pictures2 (given (codes "out2")) names.1.1.1.0 i ++ (there Wire (given (codes "out3")) names.1.1.1.1.0 i ++ []))))
 
 -- ---- one after the other
 

@@ -4,7 +4,7 @@ use Rattle.h263_outside.specs.declared.desk.Role.{Role}
 use Rattle.call_report.specs.declared.status.Status.{Status}
 use Rattle.command_words.specs.Clap.{texts}
 use Rattle.command_words.specs.View.{asked_of}
-use Rattle.command_words.specs.declared.command.Command.TheVariants.{Call, Send, Recv, Demo, Rate, Audit, Duplex}
+use Rattle.command_words.specs.declared.command.Command.TheVariants.{Call, Send, Recv, Demo, Rate, Audit, Duplex, Group}
 use Rattle.desk_program.specs.Ends.{IsReadOut, Tells}
 use Rattle.desk_program.specs.Lines.{Finishes}
 use Rattle.h263rps_run.specs.Output.{command_of}
@@ -110,12 +110,22 @@ returns-in-Audit g c =
     (Audit c.in-Audit.params) (sym c.command.ensures ∙ c.in-Audit.is) done.result (outside done.new.desk)
     says.status says.texts says.prefixes says.words says.unopened says.flushed says.causes says.attached says.whole_input says.taken_input
 
-pub returns : goal.returns
-returns g c =
+pub returns-in-Duplex : goal.returns-in-Duplex
+returns-in-Duplex g c =
     let outside = g.D.Desk.outside in
     let done = c.perform-in-Duplex in
     let says = done.ensures in
     performed_run (texts c.args.words.now) (asked_of c.in-Ok.words) c.in-Ok.ensures.answer (outside c.args.desk.now) (outside c.attach_role.new.desk)
     c.attach_role.ensures.rest c.in_default.ensures.ok_faults c.refused_videos.ensures _ c.put_roles-count.ensures.roles
     (Duplex c.in-Duplex.params) (sym c.command.ensures ∙ c.in-Duplex.is) done.result (outside done.new.desk)
+    says.status says.texts says.prefixes says.words says.unopened says.flushed says.causes says.attached says.whole_input says.taken_input
+
+pub returns : goal.returns
+returns g c =
+    let outside = g.D.Desk.outside in
+    let done = c.perform-in-Group in
+    let says = done.ensures in
+    performed_run (texts c.args.words.now) (asked_of c.in-Ok.words) c.in-Ok.ensures.answer (outside c.args.desk.now) (outside c.attach_role.new.desk)
+    c.attach_role.ensures.rest c.in_default.ensures.ok_faults c.refused_videos.ensures _ c.put_roles-count.ensures.roles
+    (Group c.in-Group.params c.in-Group.receivers) (sym c.command.ensures ∙ c.in-Group.is) done.result (outside done.new.desk)
     says.status says.texts says.prefixes says.words says.unopened says.flushed says.causes says.attached says.whole_input says.taken_input
