@@ -1,5 +1,6 @@
 -- The texts of a receiver's picture, and those of the counts.
-use Rattle.std.proofs.Common.{◌≡◌, ℕ, zero, suc, ◌+◌, ◌-◌, ◌<◌, ◌≤◌, List, [], ◌∷◌, length, codes, Option, Some, Result, Ok, Err, OnErr, refl, sym, ap, subst, ◌∙◌, arith}
+use Rattle.std.proofs.Common.{◌≡◌, ◌⊎◌, inl, inr, ℕ, zero, suc, ◌+◌, ◌-◌, ◌<◌, ◌≤◌, List, [], ◌∷◌, length, codes, Option, Some, Result, Ok, Err, OnErr, refl, sym, ap, subst, ◌∙◌, arith}
+use Rattle.std.proofs.lemmas.Bool.{cases_lt}
 use Rattle.h263_types.specs.declared.format.Format.{Format}
 use Rattle.h263_types.specs.declared.params.Params.{Params}
 use Rattle.h263_types.specs.declared.Mark.{Mark}
@@ -86,15 +87,19 @@ module _ (turns : TurnLaws) (f : Format) (old mid : Role → Option (List ℕ)) 
   head_front k fronts = turns.front_of_first (heads_text f k) (on (pictures_at k) (head_text f)) old mid fronts
 
 module _ (turns : TurnLaws) (f : Format) (old mid : Role → Option (List ℕ)) where
-  fronts_up : (d k : ℕ) → GainsFronts (heads_text f k) old mid → GainsFronts (heads_text f (d + k)) old mid
-  fronts_up zero k fronts = fronts
-  fronts_up (suc d) k fronts = head_front turns f old mid (d + k) (fronts_up d k fronts)
-
   pub heads_front : (k n : ℕ) → k ≤ n → GainsFronts (heads_text f k) old mid → GainsFronts (heads_text f n) old mid
-  heads_front k n le fronts = subst (λ (m : ℕ). GainsFronts (heads_text f m) old mid) (all k n le) (fronts_up (n - k) k fronts)
+  heads_front k zero le fronts = subst (λ (m : ℕ). GainsFronts (heads_text f m) old mid) (none k le) fronts
     where
-      all : (k n : ℕ) → k ≤ n → n - k + k ≡ n
-      all k n le = omega (arith, le)
+      none : (k : ℕ) → k ≤ 0 → k ≡ 0
+      none k le = omega (arith, le)
+  heads_front k (suc n) le fronts = by_order (cases_lt k (suc n))
+    where
+      same : (k n : ℕ) → k ≤ n → n ≤ k → k ≡ n
+      same k n le too = omega (arith, le, too)
+
+      by_order : (k < suc n) ⊎ (suc n ≤ k) → GainsFronts (heads_text f (suc n)) old mid
+      by_order (inl less) = head_front turns f old mid n (heads_front k n (omega (arith, less)) fronts)
+      by_order (inr more) = subst (λ (m : ℕ). GainsFronts (heads_text f m) old mid) (same k (suc n) le more) fronts
 
   -- none was written before the first
   pub no_head : Gains (heads_text f 0) old old

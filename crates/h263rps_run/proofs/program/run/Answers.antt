@@ -1,14 +1,22 @@
-use Rattle.std.proofs.Common.{Bool, true, false, ℕ, List, Option, ◌∙◌, sym, ap, subst, arith}
+use Rattle.std.proofs.Common.{Bool, true, false, ℕ, List, [], ◌∷◌, Option, ◌∙◌, sym, ap, subst, arith}
 use Rattle.std.proofs.lemmas.List.{length-take-le}
+use Rattle.std.specs.Prelude.{IsTrue}
+use Rattle.h263_outside.specs.Desk.{with_role}
 use Rattle.h263_outside.specs.declared.desk.Role.{Role}
+use Rattle.h263_outside.specs.declared.desk.Role.TheVariants.{Report}
 use Rattle.call_report.specs.declared.status.Status.{Status}
 use Rattle.command_words.specs.Clap.{texts}
+use Rattle.command_words.specs.Asked.{IsCommand}
+use Rattle.command_words.specs.Simple.{Text}
 use Rattle.command_words.specs.View.{asked_of}
+use Rattle.command_words.specs.declared.command.Command.{Command}
 use Rattle.command_words.specs.declared.command.Command.TheVariants.{Call, Send, Recv, Demo, Rate, Audit, Duplex, Group}
+use Rattle.desk_program.specs.Attached.{AreAttached, are_free}
 use Rattle.desk_program.specs.Ends.{IsReadOut, Tells}
 use Rattle.desk_program.specs.Lines.{Finishes}
-use Rattle.h263rps_run.specs.Output.{command_of}
+use Rattle.h263rps_run.specs.Output.{command_of, roles_of}
 use Rattle.h263rps_run.proofs.Asked.{call_source, performed_run, report_failed, report_alone, run_since, stopped_run}
+use Rattle.h263rps_run.proofs.Grouped.{group_free, group_opens}
 use Rattle.h263rps_run.proofs.program.run.Goals as goal
 
 pub returns-in-Err : goal.returns-in-Err
@@ -109,6 +117,23 @@ returns-in-Audit g c =
     c.attach_role.ensures.rest c.in_default.ensures.ok_faults c.refused_videos.ensures _ c.put_roles-count.ensures.roles
     (Audit c.in-Audit.params) (sym c.command.ensures ∙ c.in-Audit.is) done.result (outside done.new.desk)
     says.status says.texts says.prefixes says.words says.unopened says.flushed says.causes says.attached says.whole_input says.taken_input
+
+-- ---- the roles of a group
+
+pub perform-in-Group-requires-clause-free : goal.perform-in-Group-requires-clause-free
+perform-in-Group-requires-clause-free g c =
+    let a = asked_of c.in-Ok.words in
+    let is = sym c.command.ensures ∙ c.in-Group.is in
+    subst (λ (l : List (Role × Text)). IsTrue (are_free (with_role (λ _. false) Report true) l)) (sym (c.put_roles-count.ensures.roles ∙ ap (λ (k : Command). roles_of k a) is))
+    (group_free c.in-Group.params a c.in-Group.receivers)
+
+pub perform-in-Group-requires-clause-opens : goal.perform-in-Group-requires-clause-opens
+perform-in-Group-requires-clause-opens g c = λ now attached.
+    let a = asked_of c.in-Ok.words in
+    let is = sym c.command.ensures ∙ c.in-Group.is in
+    let ready = subst IsCommand is c.in-Ok.ensures.ready in
+    group_opens c.in-Group.params a c.in-Group.receivers ready.0 ready.1 ready.2 now
+    (subst (λ (l : List (Role × Text)). AreAttached ((Report, []) ∷ l) now) (c.put_roles-count.ensures.roles ∙ ap (λ (k : Command). roles_of k a) is) attached)
 
 pub returns-in-Duplex : goal.returns-in-Duplex
 returns-in-Duplex g c =

@@ -1,4 +1,4 @@
-use Rattle.std.proofs.Common.{◌≡◌, Bool, refl, sym, subst, ◌∙◌}
+use Rattle.std.proofs.Common.{◌≡◌, Bool, refl, sym, ap, subst, ◌∙◌}
 use Rattle.h263_types.specs.declared.format.Format.{Format}
 use Rattle.h263_types.specs.declared.params.Params.{Params}
 use Rattle.h263_outside.specs.declared.desk.Role.{Role}
@@ -7,10 +7,13 @@ use Rattle.call_report.specs.declared.status.Status.TheVariants.{OutOfMemory}
 use Rattle.call_report.specs.Status.{video_stop}
 use Rattle.desk_program.specs.Ends.{Gains, GainsFronts}
 use Rattle.group_command.specs.Begin.{IsNewRoom}
-use Rattle.group_command.specs.Group.{group_begin, group_run, group_step, heads_text, may_read, most_turns}
+use Rattle.group_command.specs.Group.{group_begin, group_run, group_step, heads_text, may_read, most_turns, pictures_at}
 use Rattle.group_command.specs.Standing.{GroupOpens}
 use Rattle.group_command.proofs.Starting.{all_may_come, ends_so, head_stops, heads_cut, heads_go, in_format, ready_first, starved_cause}
 use Rattle.group_command.proofs.begin.GroupCallBegins.start.Goals as goal
+
+pub write_heads-requires-clause-pictures : goal.write_heads-requires-clause-pictures
+write_heads-requires-clause-pictures g c = λ k few. ap (λ (a : Role → Bool). a (pictures_at k)) c.head.ensures.rest.attached ∙ c.requires.opens.pictures k few
 
 pub returns-in_err-video-clause-ends : goal.returns-in_err-video-clause-ends
 returns-in_err-video-clause-ends g c = λ inputs told.
