@@ -87,19 +87,19 @@ module _ (turns : TurnLaws) (f : Format) (old mid : Role → Option (List ℕ)) 
   head_front k fronts = turns.front_of_first (heads_text f k) (on (pictures_at k) (head_text f)) old mid fronts
 
 module _ (turns : TurnLaws) (f : Format) (old mid : Role → Option (List ℕ)) where
+  same : (k n : ℕ) → k ≤ n → n ≤ k → k ≡ n
+  same k n le too = omega (arith, le, too)
+
+  by_order : (k n : ℕ) → k ≤ suc n → (k < suc n → GainsFronts (heads_text f (suc n)) old mid) → GainsFronts (heads_text f k) old mid → (k < suc n) ⊎ (suc n ≤ k) → GainsFronts (heads_text f (suc n)) old mid
+  by_order k n le goes fronts (inl less) = goes less
+  by_order k n le goes fronts (inr more) = subst (λ (m : ℕ). GainsFronts (heads_text f m) old mid) (same k (suc n) le more) fronts
+
   pub heads_front : (k n : ℕ) → k ≤ n → GainsFronts (heads_text f k) old mid → GainsFronts (heads_text f n) old mid
   heads_front k zero le fronts = subst (λ (m : ℕ). GainsFronts (heads_text f m) old mid) (none k le) fronts
     where
       none : (k : ℕ) → k ≤ 0 → k ≡ 0
       none k le = omega (arith, le)
-  heads_front k (suc n) le fronts = by_order (cases_lt k (suc n))
-    where
-      same : (k n : ℕ) → k ≤ n → n ≤ k → k ≡ n
-      same k n le too = omega (arith, le, too)
-
-      by_order : (k < suc n) ⊎ (suc n ≤ k) → GainsFronts (heads_text f (suc n)) old mid
-      by_order (inl less) = head_front turns f old mid n (heads_front k n (omega (arith, less)) fronts)
-      by_order (inr more) = subst (λ (m : ℕ). GainsFronts (heads_text f m) old mid) (same k (suc n) le more) fronts
+  heads_front k (suc n) le fronts = by_order k n le (λ less. head_front turns f old mid n (heads_front k n (omega (arith, less)) fronts)) fronts (cases_lt k (suc n))
 
   -- none was written before the first
   pub no_head : Gains (heads_text f 0) old old

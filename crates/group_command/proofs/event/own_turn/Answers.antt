@@ -30,11 +30,17 @@ returns-in_ok-allow-in-Packet-clause-gives g c = λ p run view half period cast 
     let j = c.in-Packet.place in
     let none : view_refusal p run view (Deliver n j) ≡ None = none_so c.check_number.result (Deliver n j) _ c.in_ok-allow-in-Packet.ensures.ok (c.check_number.ensures.refusal p run view j half cast w.holds) in
     let among = is_cast p run view c.args.cast.now n j period w.near none in
-    of_event (Ok tt) said.line said.place p run view (λ run view. Watches p run c.deliver.new.self view) c.args.cast.now old old said.event (own.Packet n j) c.in-Packet.is
-    (none, (cast, record {
-      holds = c.deliver.ensures.holds p run view cast among w.holds;
-      near = omega (arith, w.near, delivery_plays p (packets_in p run.coded n) n j view);
-    }), c.turn_laws.ensures.no_text old old refl)
+    of_event (Ok tt) said.line said.place p run view (λ run view. Watches p run c.deliver.new.self view) c.args.cast.now old old said.event (own.Packet n j) c.in-Packet.is (
+      none,
+      (
+        cast,
+        record {
+          holds = c.deliver.ensures.holds p run view cast among w.holds;
+          near = omega (arith, w.near, delivery_plays p (packets_in p run.coded n) n j view);
+        },
+      ),
+      c.turn_laws.ensures.no_text old old refl,
+    )
 
 pub returns-in_ok-allow-in-All-clause-gives : goal.returns-in_ok-allow-in-All-clause-gives
 returns-in_ok-allow-in-All-clause-gives g c = λ p run view half period cast w.
@@ -44,11 +50,17 @@ returns-in_ok-allow-in-All-clause-gives g c = λ p run view half period cast w.
     let none : view_refusal p run view (Deliver n 0) ≡ None = none_so c.check_number-in-All.result (Deliver n 0) _ c.in_ok-allow-in-All.ensures.ok (c.check_number-in-All.ensures.refusal p run view 0 half cast w.holds) in
     let among = is_cast p run view c.args.cast.now n 0 period w.near none in
     let packets = packets_in p run.coded n in
-    of_event (Ok tt) said.line said.place p run view (λ run view. Watches p run c.deliver_all.new.self view) c.args.cast.now old old said.event (own.All n) c.in-All.is
-    (none, (cast, record {
-      holds = c.deliver_all.ensures.holds p run view cast among w.holds;
-      near = omega (arith, w.near, places_play p packets n (length packets) view);
-    }), c.turn_laws.ensures.no_text old old refl)
+    of_event (Ok tt) said.line said.place p run view (λ run view. Watches p run c.deliver_all.new.self view) c.args.cast.now old old said.event (own.All n) c.in-All.is (
+      none,
+      (
+        cast,
+        record {
+          holds = c.deliver_all.ensures.holds p run view cast among w.holds;
+          near = omega (arith, w.near, places_play p packets n (length packets) view);
+        },
+      ),
+      c.turn_laws.ensures.no_text old old refl,
+    )
 
 pub returns-in_ok-allow-in-Back-clause-gives : goal.returns-in_ok-allow-in-Back-clause-gives
 returns-in_ok-allow-in-Back-clause-gives g c = λ p run view half period cast w.
@@ -56,11 +68,17 @@ returns-in_ok-allow-in-Back-clause-gives g c = λ p run view half period cast w.
     let said = c.args.said in
     let m = c.in-Back.message in
     let none : view_refusal p run view (Back m) ≡ None = none_so c.check_message.result (Back m) _ c.in_ok-allow-in-Back.ensures.ok (c.check_message.ensures p run view half cast w.holds) in
-    of_event (Ok tt) said.line said.place p run view (λ run view. Watches p run c.args.viewer.now view) c.hear.new.cast old old said.event (own.Back m) c.in-Back.is
-    (none, (subst (λ (o : Option SaidMessage). HoldsBroadcast p c.hear.new.cast (heard p said.place run view o)) (message_kept p run view m none) (c.hear.ensures.holds p run view cast w.holds), record {
-      holds = w.holds;
-      near = omega (arith, w.near, ap (λ l. length l) (own_codes p said.place run view (own.Back m)));
-    }), c.turn_laws.ensures.no_text old old refl)
+    of_event (Ok tt) said.line said.place p run view (λ run view. Watches p run c.args.viewer.now view) c.hear.new.cast old old said.event (own.Back m) c.in-Back.is (
+      none,
+      (
+        subst (λ (o : Option SaidMessage). HoldsBroadcast p c.hear.new.cast (heard p said.place run view o)) (message_kept p run view m none) (c.hear.ensures.holds p run view cast w.holds),
+        record {
+          holds = w.holds;
+          near = omega (arith, w.near, ap (λ l. length l) (own_codes p said.place run view (own.Back m)));
+        },
+      ),
+      c.turn_laws.ensures.no_text old old refl,
+    )
 
 pub returns-in_ok-allow-in-Play-clause-gives : goal.returns-in_ok-allow-in-Play-clause-gives
 returns-in_ok-allow-in-Play-clause-gives g c = λ p run view half period cast w.
