@@ -1,11 +1,10 @@
 -- A line that asks for a frame: it is refused, or the frame is read.
-use Rattle.std.proofs.Common.{◌≡◌, ℕ, ◌+◌, Bool, true, List, length, Option, Some, None, Result, Ok, Err, IsErrAnd, refl, sym, ap, subst, ◌∙◌}
+use Rattle.std.proofs.Common.{◌≡◌, ℕ, ◌+◌, Bool, true, List, Option, Some, None, Result, Ok, Err, IsErrAnd, sym, ap, subst, ◌∙◌}
 use Rattle.h263_types.specs.Clocks.{half_of}
 use Rattle.h263_types.specs.declared.params.Params.{Params}
 use Rattle.h263_outside.specs.Desk.{Outside}
 use Rattle.h263_outside.specs.declared.desk.Role.{Role}
 use Rattle.h263_outside.specs.declared.desk.Role.TheVariants.{Video, Events}
-use Rattle.loss_trace.specs.declared.fault.TraceFault.{TraceFault}
 use Rattle.call_report.specs.declared.status.Status.{Status}
 use Rattle.call_report.specs.declared.status.Status.TheVariants.{TraceRefused}
 use Rattle.call_model.specs.IdealCall.{Event, Send}
@@ -24,7 +23,7 @@ use Rattle.group_command.specs.declared.line.GroupLine.TheVariants.{ForAll}
 use Rattle.group_command.specs.declared.room.Room.{Room}
 use Rattle.group_command.specs.Group.{GroupState, capture_step, first_behind, line_step, may_read, unless}
 use Rattle.group_command.specs.Standing.{AllWatch, RoomStandsAt, viewers_in}
-use Rattle.group_command.specs.Turning.{IsLineTurn, IsRead, TakesFrame, TakesLine}
+use Rattle.group_command.specs.Turning.{IsRead, TakesFrame, TakesLine}
 use Rattle.group_command.proofs.Doing.{none_so}
 use Rattle.group_command.proofs.LineTurning.{line_refused}
 use Rattle.group_command.proofs.LineTurns.{gave_up}

@@ -1,5 +1,5 @@
 -- The refusal of a capture, receiver by receiver.
-use Rattle.std.proofs.Common.{◌≡◌, ℕ, List, [], ◌∷◌, Option, Some, None, Result, Ok, Err, IsErrAnd, refl, sym, ap, subst, ◌∙◌}
+use Rattle.std.proofs.Common.{◌≡◌, List, [], ◌∷◌, Option, None, Result, Err, IsErrAnd, sym, subst}
 use Rattle.h263_types.specs.declared.params.Params.{Params}
 use Rattle.call_model.specs.IdealCall.{Send}
 use Rattle.call_model.specs.Refusals.{Refusal}
@@ -9,8 +9,8 @@ use Rattle.group_sender.specs.Holding.{Groups}
 use Rattle.group_call.specs.declared.viewer.Viewer.{Viewer}
 use Rattle.group_call.specs.Holding.{HoldsViewer}
 use Rattle.group_call.specs.Refused.{view_refusal}
-use Rattle.group_call.specs.Viewing.{ViewerRun, no_view}
-use Rattle.group_command.specs.Group.{first_behind, or_else, view_in}
+use Rattle.group_call.specs.Viewing.{ViewerRun}
+use Rattle.group_command.specs.Group.{first_behind, view_in}
 use Rattle.group_command.specs.Standing.{AllWatch, and_then}
 use Rattle.group_command.proofs.Telling.{err_allowed, or_first, or_found, parted}
 

@@ -1,5 +1,5 @@
 -- An event of a receiver: it is refused, or done.
-use Rattle.std.proofs.Common.{◌≡◌, ◌⊎◌, inl, inr, ℕ, zero, suc, ◌+◌, ◌-◌, ◌*◌, ◌^◌, ◌<◌, ◌≤◌, Bool, true, false, List, [], ◌∷◌, length, map, Option, Some, None, Result, Ok, Err, IsErrAnd, OnOk, OnErr, IfErr, refl, sym, ap, subst, ◌∙◌, arith}
+use Rattle.std.proofs.Common.{◌≡◌, inl, inr, ℕ, zero, suc, ◌+◌, ◌<◌, ◌≤◌, Bool, true, false, List, length, map, Option, Some, None, Result, Ok, Err, IsErrAnd, OnOk, OnErr, IfErr, refl, sym, ap, subst, ◌∙◌, arith}
 use Rattle.std.specs.Prelude.{nat_le, slice_get, if◌then◌else◌}
 use Rattle.std.specs.Option.{option_map_or}
 use Rattle.std.proofs.lemmas.Bool.{leb-false}
@@ -25,7 +25,7 @@ use Rattle.one_way.specs.Refused.{IsAllowed}
 use Rattle.group_sender.specs.Holding.{Groups}
 use Rattle.group_call.specs.declared.broadcast.Broadcast.{Broadcast}
 use Rattle.group_call.specs.Holding.{HoldsBroadcast, IsCast, IsCasting, pictures_in, places_in}
-use Rattle.group_call.specs.Refused.{unless_left, view_refusal}
+use Rattle.group_call.specs.Refused.{view_refusal}
 use Rattle.group_call.specs.Viewing.{ViewerRun, told_at, view_delivery, view_packet, view_places}
 use Rattle.group_command.specs.declared.line.OwnEvent.{OwnEvent}
 use Rattle.group_command.specs.declared.line.OwnEvent.TheVariants as own

@@ -7,7 +7,7 @@ use Rattle.y4m.specs.declared.fault.Y4mFault.{Y4mFault}
 use Rattle.y4m.specs.Frame.{next_frame, frame_size}
 use Rattle.y4m.specs.Head.{head_of, head_size}
 use Rattle.y4m.specs.Laws.{FrameLaws}
-use Rattle.y4m.specs.Video.{fault_of, fault_after_head, most_frames, video_fault}
+use Rattle.y4m.specs.Video.{fault_of, fault_after_head, video_fault}
 use Rattle.loss_trace.specs.Lines.{first_line}
 use Rattle.call_report.specs.declared.status.Status.TheVariants.{VideoRefused, Video2Refused}
 use Rattle.call_model.specs.IdealCall.{Event, Send}

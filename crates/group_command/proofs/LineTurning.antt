@@ -29,7 +29,7 @@ use Rattle.call_command.specs.Call.{bad_line, line_size, line_turn, refused_line
 use Rattle.call_command.specs.Laws.{IsPlayedOut, LineLaws}
 use Rattle.call_command.specs.Standing.{HasTaken, ReadsTrace}
 use Rattle.group_command.specs.declared.line.GroupLine.{GroupLine}
-use Rattle.group_command.specs.declared.line.GroupLine.TheVariants.{Quiet, ForAll, Of}
+use Rattle.group_command.specs.declared.line.GroupLine.TheVariants.{Quiet, ForAll}
 use Rattle.group_command.specs.declared.room.Room.{Room}
 use Rattle.group_command.specs.Group.{GroupState, after_line, all_played, counts_from, group_step, line_step, may_read, trace_step}
 use Rattle.group_command.specs.Lines.{group_line, of_one}

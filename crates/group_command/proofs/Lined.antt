@@ -7,7 +7,7 @@ use Rattle.loss_trace.specs.declared.event.Event.{Event as Line}
 use Rattle.loss_trace.specs.declared.event.Event.TheVariants as says
 use Rattle.loss_trace.specs.Reading.{event_in}
 use Rattle.group_command.specs.declared.line.GroupLine.{GroupLine}
-use Rattle.group_command.specs.declared.line.GroupLine.TheVariants.{Quiet, ForAll, Of}
+use Rattle.group_command.specs.declared.line.GroupLine.TheVariants.{Quiet, ForAll}
 use Rattle.group_command.specs.Lines.{group_line, of_one}
 use Rattle.group_command.specs.Turning.{IsThere}
 

@@ -1,5 +1,5 @@
 -- A line of a receiver: what it says is refused, or done.
-use Rattle.std.proofs.Common.{◌≡◌, ◌⊎◌, inl, inr, ℕ, suc, ◌+◌, ◌-◌, ◌<◌, ◌≤◌, Bool, true, List, [], ◌∷◌, length, Option, Some, None, Result, Ok, Err, refl, sym, ap, subst, ◌∙◌, arith}
+use Rattle.std.proofs.Common.{◌≡◌, inl, inr, ℕ, suc, ◌+◌, ◌<◌, ◌≤◌, Bool, true, List, [], length, Option, Some, None, Result, Ok, Err, refl, sym, ap, subst, ◌∙◌, arith}
 use Rattle.std.specs.Prelude.{slice_set}
 use Rattle.h263_types.specs.Clocks.{half_of, period_of}
 use Rattle.h263_types.specs.declared.clock.Clock.{Clock}
@@ -9,7 +9,7 @@ use Rattle.h263_outside.specs.Desk.{OnlyWrites, Outside}
 use Rattle.h263_outside.specs.declared.desk.Role.{Role}
 use Rattle.h263_outside.specs.declared.desk.Role.TheVariants.{Events}
 use Rattle.call_report.specs.declared.status.Status.{Status}
-use Rattle.call_report.specs.declared.status.Status.TheVariants.{TraceRefused, WriteFault}
+use Rattle.call_report.specs.declared.status.Status.TheVariants.{TraceRefused}
 use Rattle.call_report.specs.Status.{phase}
 use Rattle.call_model.specs.IdealCall.{Event}
 use Rattle.call_model.specs.Refusals.{Refusal}
@@ -18,10 +18,9 @@ use Rattle.call_command.specs.Refused.{fault_of}
 use Rattle.call_command.specs.Standing.{HasTaken}
 use Rattle.desk_program.specs.Ends.{GainsFronts, GivesUp, Went, step_texts}
 use Rattle.desk_program.specs.Run.{Step}
-use Rattle.group_sender.specs.Holding.{Groups}
 use Rattle.group_call.specs.declared.viewer.Viewer.{Viewer}
 use Rattle.group_call.specs.declared.broadcast.Broadcast.{Broadcast}
-use Rattle.group_call.specs.Holding.{HoldsBroadcast, pictures_in, sent_in}
+use Rattle.group_call.specs.Holding.{pictures_in, sent_in}
 use Rattle.group_call.specs.Refused.{view_refusal}
 use Rattle.group_call.specs.Viewing.{ViewerRun}
 use Rattle.group_command.specs.declared.event.OwnLine.{OwnLine}

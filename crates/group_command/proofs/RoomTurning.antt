@@ -3,7 +3,6 @@ use Rattle.std.proofs.Common.{◌≡◌, ◌≢◌, ℕ, zero, suc, ◌+◌, ◌
 use Rattle.h263_outside.specs.Desk.{OnlyReads, Outside, Rose}
 use Rattle.h263_outside.specs.declared.desk.Role.{Role}
 use Rattle.h263_outside.specs.declared.desk.Role.TheVariants.{Events}
-use Rattle.loss_trace.specs.declared.event.Event.{Event as Line}
 use Rattle.loss_trace.specs.declared.fault.TraceFault.TheVariants.{BadLine}
 use Rattle.loss_trace.specs.declared.fault.TraceStop.{TraceStop}
 use Rattle.loss_trace.specs.Place.{TracePlace}
@@ -25,7 +24,7 @@ use Rattle.group_command.specs.declared.line.GroupLine.TheVariants.{Quiet}
 use Rattle.group_command.specs.declared.room.Room.{Room}
 use Rattle.group_command.specs.Group.{GroupState, after_line, group_step, line_step, may_read}
 use Rattle.group_command.specs.Lines.{group_line}
-use Rattle.group_command.specs.Standing.{AreViewing, GroupOpens, RoomReady, RoomStands, RoomStandsAt, more_of, viewers_in}
+use Rattle.group_command.specs.Standing.{GroupOpens, RoomReady, RoomStands, RoomStandsAt, more_of, viewers_in}
 use Rattle.group_command.specs.Turning.{HasLine, IsRead, TakesLine, TakesTurn}
 use Rattle.group_command.proofs.LineTurning.{IsReadAt, found_bad, found_could, found_empty, found_is, found_number, found_taken, passed}
 use Rattle.group_command.proofs.Watching.{viewing_later, watched_count}

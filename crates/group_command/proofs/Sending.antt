@@ -1,17 +1,14 @@
 -- A frame that is asked for is sent to all.
-use Rattle.std.proofs.Common.{◌≡◌, ℕ, suc, ◌+◌, ◌-◌, ◌<◌, ◌≤◌, Bool, true, false, List, [], ◌∷◌, ◌++◌, length, drop, Option, Some, None, Result, Ok, Err, refl, sym, ap, subst, ◌∙◌, arith, Global}
+use Rattle.std.proofs.Common.{◌≡◌, ℕ, ◌+◌, ◌-◌, List, [], ◌∷◌, ◌++◌, length, drop, Option, Some, None, refl, sym, ap, subst, ◌∙◌, arith, Global}
 use Rattle.std.specs.declared.vec.Vec.{Vec}
 use Rattle.std.specs.Vec.{with_items}
 use Rattle.std.proofs.lemmas.List.{with_items_is}
-use Rattle.h263_types.specs.Clocks.{half_of, period_of}
-use Rattle.h263_types.specs.declared.format.Format.{Format}
 use Rattle.h263_types.specs.declared.params.Params.{Params}
 use Rattle.h263_planes.specs.Layout.{picture_of}
 use Rattle.h263_planes.specs.Picture.{Picture}
 use Rattle.h263_outside.specs.Desk.{Outside}
 use Rattle.h263_outside.specs.declared.desk.Role.{Role}
 use Rattle.h263_outside.specs.declared.desk.Role.TheVariants.{Video, Events}
-use Rattle.y4m.specs.Place.{Y4mPlace}
 use Rattle.y4m.specs.Frame.{frame_size}
 use Rattle.call_model.specs.IdealCall.{Send}
 use Rattle.call_model.specs.Refusals.{Refusal}
@@ -19,17 +16,15 @@ use Rattle.call_command.specs.Call.{line_size}
 use Rattle.desk_program.specs.Run.{left_after}
 use Rattle.desk_program.specs.Texts.{and_of, of}
 use Rattle.one_way.specs.Both.{bare, steady}
-use Rattle.receiver_end.specs.State.{run_of}
 use Rattle.group_sender.specs.Holding.{Groups, group_after_code}
-use Rattle.group_call.specs.declared.broadcast.Broadcast.{Broadcast}
 use Rattle.group_call.specs.declared.viewer.Viewer.{Viewer}
-use Rattle.group_call.specs.Holding.{HoldsBroadcast, params_in}
+use Rattle.group_call.specs.Holding.{HoldsBroadcast}
 use Rattle.group_call.specs.Refused.{view_refusal}
 use Rattle.group_call.specs.Viewing.{ViewerRun}
 use Rattle.group_command.specs.declared.room.Room.{Room}
 use Rattle.group_command.specs.Group.{GroupState, after_line, first_behind, or_else, with_frame}
-use Rattle.group_command.specs.Standing.{AllWatch, RoomReady, RoomStands, Watches, viewers_in}
-use Rattle.group_command.specs.Turning.{IsAsked, IsRead}
+use Rattle.group_command.specs.Standing.{AllWatch, RoomStands, viewers_in}
+use Rattle.group_command.specs.Turning.{IsAsked}
 use Rattle.group_command.proofs.Doing.{may_capture}
 
 -- where no receiver is too far behind, none is so after one picture more

@@ -1,5 +1,5 @@
 -- Before the first line: the head is read, those of the pictures are written, and nothing has happened.
-use Rattle.std.proofs.Common.{◌≡◌, ◌≢◌, ℕ, zero, suc, ◌+◌, ◌-◌, ◌≤◌, Bool, true, false, List, [], length, take, drop, Option, Some, Result, Ok, Err, IsErr, refl, sym, ap, ◌∙◌, subst, arith}
+use Rattle.std.proofs.Common.{◌≡◌, ◌≢◌, ℕ, zero, suc, ◌-◌, ◌≤◌, Bool, true, false, List, [], length, take, Option, Result, Ok, Err, IsErr, refl, sym, ap, ◌∙◌, subst, arith}
 use Rattle.std.specs.Prelude.{◌&&◌, nat_le, IfErr, IsErrAnd}
 use Rattle.std.proofs.lemmas.Bool.{leb-true}
 use Rattle.h263_types.specs.declared.format.Format.{Format}
@@ -29,7 +29,7 @@ use Rattle.group_command.specs.declared.room.Room.{Room}
 use Rattle.group_command.specs.declared.terms.GroupTerms.{GroupTerms}
 use Rattle.group_command.specs.Begin.{IsNewRoom}
 use Rattle.group_command.specs.Group.{GroupState, first_state, group_begin, head_step, heads_text, joined_by, may_read, most_turns}
-use Rattle.group_command.specs.Standing.{AreViewing, GroupOpens, RoomReady, RoomStandsAt, more_of, viewers_in}
+use Rattle.group_command.specs.Standing.{AreViewing, GroupOpens, RoomReady, RoomStandsAt, more_of}
 
 -- parameters stay in their ranges in another format
 pub in_format : (p : Params) (f : Format) → IsParams p → IsParams (record p { format = f })

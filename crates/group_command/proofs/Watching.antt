@@ -1,17 +1,15 @@
 -- Receivers, one by one and all of them.
-use Rattle.std.proofs.Common.{◌≡◌, ℕ, zero, suc, ◌+◌, ◌-◌, ◌*◌, ◌<◌, ◌≤◌, Bool, true, false, List, [], ◌∷◌, length, Option, Some, None, refl, sym, ap, subst, ◌∙◌, arith}
-use Rattle.std.specs.Prelude.{IfSome, is_some, nat_le, replicate, slice_get, slice_index_or, slice_set}
-use Rattle.h263_types.specs.Clocks.{half_of}
+use Rattle.std.proofs.Common.{◌≡◌, ℕ, zero, suc, ◌+◌, ◌-◌, ◌<◌, ◌≤◌, true, false, List, [], ◌∷◌, length, Option, Some, None, refl, sym, ap, subst, ◌∙◌, arith}
+use Rattle.std.specs.Prelude.{IfSome, is_some, nat_le, replicate, slice_get, slice_set}
 use Rattle.h263_types.specs.declared.params.Params.{Params}
 use Rattle.group_sender.specs.Holding.{Groups}
 use Rattle.group_call.specs.declared.viewer.Viewer.{Viewer}
 use Rattle.group_call.specs.Holding.{HoldsViewer, told_count}
 use Rattle.group_call.specs.Viewing.{ViewerRun, no_view}
-use Rattle.receiver_end.specs.State.{run_of}
 use Rattle.one_way.specs.Counts.{total_of}
 use Rattle.group_command.specs.declared.viewers.Viewers.{Viewers}
 use Rattle.group_command.specs.Group.{view_in}
-use Rattle.group_command.specs.Standing.{AllWatch, AreViewing, IsViewing, Watches, and_then, viewers_in}
+use Rattle.group_command.specs.Standing.{AllWatch, AreViewing, IsViewing, Watches, and_then}
 
 -- ---- their counts
 

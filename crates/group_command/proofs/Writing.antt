@@ -1,5 +1,5 @@
 -- The texts of a receiver's picture, and those of the counts.
-use Rattle.std.proofs.Common.{◌≡◌, ◌⊎◌, inl, inr, ℕ, zero, suc, ◌+◌, ◌-◌, ◌<◌, ◌≤◌, List, [], ◌∷◌, length, codes, Option, Some, Result, Ok, Err, OnErr, refl, sym, ap, subst, ◌∙◌, arith}
+use Rattle.std.proofs.Common.{◌≡◌, ◌⊎◌, inl, inr, ℕ, zero, suc, ◌+◌, ◌<◌, ◌≤◌, List, ◌∷◌, length, codes, Option, Some, Result, Ok, Err, OnErr, refl, subst, arith}
 use Rattle.std.proofs.lemmas.Bool.{cases_lt}
 use Rattle.h263_types.specs.declared.format.Format.{Format}
 use Rattle.h263_types.specs.declared.params.Params.{Params}
@@ -12,7 +12,7 @@ use Rattle.call_report.specs.Text.{picture_text}
 use Rattle.desk_program.specs.Ends.{Gains, GainsFronts}
 use Rattle.desk_program.specs.Laws.{TurnLaws}
 use Rattle.desk_program.specs.Texts.{on, then_also}
-use Rattle.call_model.specs.Receiving.{played_mark, played_picture}
+use Rattle.call_model.specs.Receiving.{played_mark}
 use Rattle.call_decoding.specs.Rules.{rules_of}
 use Rattle.receiver_end.specs.Answers.{mark_of}
 use Rattle.receiver_end.specs.Decoding.{decoding}

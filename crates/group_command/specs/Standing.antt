@@ -9,7 +9,6 @@ use Rattle.h263_outside.specs.declared.desk.Role.TheVariants.{Video, Events, Rep
 use Rattle.receiver_end.specs.State.{run_of}
 use Rattle.one_way.specs.Counts.{total_of}
 use Rattle.group_sender.specs.Holding.{Groups}
-use Rattle.group_call.specs.declared.broadcast.Broadcast.{Broadcast}
 use Rattle.group_call.specs.declared.viewer.Viewer.{Viewer}
 use Rattle.group_call.specs.Holding.{HoldsBroadcast, HoldsViewer, IsCasting, params_in, pictures_in, sent_in, told_count}
 use Rattle.group_call.specs.Viewing.{ViewerRun}

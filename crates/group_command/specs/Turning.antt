@@ -9,7 +9,7 @@ use Rattle.y4m.specs.Text.{frame_text}
 use Rattle.call_report.specs.declared.status.Status.{Status}
 use Rattle.call_report.specs.declared.status.Status.TheVariants.{TraceRefused, WriteFault}
 use Rattle.call_report.specs.Text.{picture_text}
-use Rattle.call_model.specs.IdealCall.{Event, Send}
+use Rattle.call_model.specs.IdealCall.{Event}
 use Rattle.call_model.specs.Refusals.{Refusal}
 use Rattle.call_command.specs.Call.{line_size}
 use Rattle.call_command.specs.Refused.{fault_of}

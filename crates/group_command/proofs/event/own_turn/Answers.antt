@@ -1,12 +1,11 @@
-use Rattle.std.proofs.Common.{◌≡◌, ℕ, ◌+◌, ◌≤◌, length, Option, None, Ok, refl, ap, subst, arith}
-use Rattle.std.specs.Prelude.{slice_get}
+use Rattle.std.proofs.Common.{◌≡◌, ◌+◌, ◌≤◌, length, Option, None, Ok, refl, ap, subst, arith}
 use Rattle.h263_types.specs.Clocks.{half_of}
 use Rattle.call_model.specs.IdealCall.{Deliver, Play, Back}
 use Rattle.call_model.specs.JoinedRun.{SaidMessage}
 use Rattle.receiver_end.specs.State.{run_of}
 use Rattle.group_call.specs.Holding.{HoldsBroadcast}
 use Rattle.group_call.specs.Refused.{view_refusal}
-use Rattle.group_call.specs.Viewing.{packets_in, told_at}
+use Rattle.group_call.specs.Viewing.{packets_in}
 use Rattle.group_command.specs.declared.line.OwnEvent.TheVariants as own
 use Rattle.group_command.specs.Group.{heard, played_texts}
 use Rattle.group_command.specs.Standing.{Watches}

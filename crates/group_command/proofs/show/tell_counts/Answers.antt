@@ -1,8 +1,6 @@
-use Rattle.std.proofs.Common.{ℕ, List, ◌∷◌, codes, sym, subst, ◌∙◌}
+use Rattle.std.proofs.Common.{ℕ, List, sym, subst, ◌∙◌}
 use Rattle.std.proofs.lemmas.Result.{on_err_weaker, on_ok_weaker}
 use Rattle.h263_outside.specs.declared.desk.Role.TheVariants.{Report}
-use Rattle.call_report.specs.View.{text_of}
-use Rattle.call_command.specs.Counts.{counts_text_of}
 use Rattle.desk_program.specs.Ends.{Gains, GainsFronts}
 use Rattle.desk_program.specs.Texts.{on}
 use Rattle.one_way.specs.Counts.{AreCounted}

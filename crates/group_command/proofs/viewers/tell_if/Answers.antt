@@ -1,4 +1,4 @@
-use Rattle.std.proofs.Common.{Option, Some, OnErr, OnOk, sym, subst}
+use Rattle.std.proofs.Common.{Option, OnErr, OnOk, sym, subst}
 use Rattle.std.specs.Prelude.{IfSome}
 use Rattle.desk_program.specs.Ends.{Gains, GainsFronts}
 use Rattle.group_call.specs.declared.viewer.Viewer.{Viewer}

@@ -1,10 +1,10 @@
-use Rattle.std.proofs.Common.{ℕ, List, length, take, Option, Some, None, Ok, Err, refl, sym, ap, subst, ◌∙◌, arith}
+use Rattle.std.proofs.Common.{ℕ, take, Option, Some, None, Ok, Err, refl, sym, ap, ◌∙◌}
 use Rattle.h263_outside.specs.declared.desk.Role.TheVariants.{Events}
 use Rattle.loss_trace.specs.declared.fault.TraceFault.TheVariants.{BadLine}
 use Rattle.call_report.specs.declared.status.Status.TheVariants.{TraceRefused}
 use Rattle.call_report.specs.Status.{trace_stop}
 use Rattle.group_command.specs.declared.line.GroupLine.{GroupLine}
-use Rattle.group_command.specs.declared.line.GroupLine.TheVariants.{Quiet, ForAll, Of}
+use Rattle.group_command.specs.declared.line.GroupLine.TheVariants.{ForAll, Of}
 use Rattle.group_command.specs.Lines.{group_line}
 use Rattle.group_command.proofs.LineTurning.{read_out, trace_cut, trace_ends, trace_stops}
 use Rattle.group_command.proofs.RoomTurning.{WasRead, has_line, line_bad, line_done, line_empty, moved, ready_after, says, turn_gave_up, turn_is_over, turn_was_cut}

@@ -1,5 +1,4 @@
-use Rattle.std.proofs.Common.{List, Some}
-use Rattle.h263_outside.specs.declared.desk.Role.TheVariants.{Events}
+use Rattle.std.proofs.Common.{Some}
 use Rattle.group_command.specs.declared.line.GroupLine.TheVariants.{Of}
 use Rattle.group_command.specs.declared.room.Room.{Room}
 use Rattle.group_command.specs.Group.{line_step}

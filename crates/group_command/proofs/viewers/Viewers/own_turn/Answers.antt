@@ -1,4 +1,4 @@
-use Rattle.std.proofs.Common.{rules, ◌≡◌, ℕ, ◌<◌, ◌-◌, length, Option, Some, None, refl, sym, subst, arith}
+use Rattle.std.proofs.Common.{rules, ◌≡◌, ◌-◌, arith}
 use Rattle.group_command.specs.Group.{view_in}
 use Rattle.group_command.proofs.AtPlace.{first_gives, second_count, second_gives, second_there, third_count, third_gives, third_there}
 use Rattle.group_command.proofs.Telling.{first_watched, second_watched, third_watched}
