@@ -120,15 +120,15 @@ returns-in-Audit g c =
 
 -- ---- the roles of a group
 
-pub perform-in-Group-requires-clause-free : goal.perform-in-Group-requires-clause-free
-perform-in-Group-requires-clause-free g c =
+pub perform-requires-in-Group-clause-free : goal.perform-requires-in-Group-clause-free
+perform-requires-in-Group-clause-free g c =
     let a = asked_of c.in-Ok.words in
     let is = sym c.command.ensures ∙ c.in-Group.is in
     subst (λ (l : List (Role × Text)). IsTrue (are_free (with_role (λ _. false) Report true) l)) (sym (c.put_roles-count.ensures.roles ∙ ap (λ (k : Command). roles_of k a) is))
     (group_free c.in-Group.params a c.in-Group.receivers)
 
-pub perform-in-Group-requires-clause-opens : goal.perform-in-Group-requires-clause-opens
-perform-in-Group-requires-clause-opens g c = λ now attached.
+pub perform-requires-in-Group-clause-opens : goal.perform-requires-in-Group-clause-opens
+perform-requires-in-Group-clause-opens g c = λ now attached.
     let a = asked_of c.in-Ok.words in
     let is = sym c.command.ensures ∙ c.in-Group.is in
     let ready = subst IsCommand is c.in-Ok.ensures.ready in
