@@ -1,10 +1,9 @@
 -- The roles of a group's command: no two are one, and with them attached it may begin.
-use Rattle.std.proofs.Common.{◌≡◌, ℕ, zero, suc, ◌<◌, ◌≤◌, Bool, true, false, List, [], ◌∷◌, refl, arith}
+use Rattle.std.proofs.Common.{◌≡◌, ℕ, zero, suc, ◌<◌, ◌≤◌, Bool, true, false, [], ◌∷◌, refl, arith}
 use Rattle.std.specs.Prelude.{IsTrue, map, nat_le}
 use Rattle.h263_types.specs.declared.params.Params.{Params}
 use Rattle.h263_types.specs.Params.{IsParams}
 use Rattle.h263_outside.specs.Desk.{Outside, with_role}
-use Rattle.h263_outside.specs.declared.desk.Role.{Role}
 use Rattle.h263_outside.specs.declared.desk.Role.TheVariants.{Video, Events, Pictures, Pictures2, Report, Wire}
 use Rattle.command_words.specs.Asked.{Asked}
 use Rattle.command_words.specs.declared.command.Command.TheVariants.{Group}
