@@ -1,8 +1,8 @@
-use Rattle.std.proofs.Common.{◌≡◌, ℕ, Bool, true, false, List, Option, Some, None, refl, sym}
+use Rattle.std.proofs.Common.{◌≡◌, ℕ, Bool, true, false, List, Some, None, refl, sym}
 use Rattle.std.specs.Prelude.{if◌then◌else◌}
 use Rattle.std.specs.Str.{bytes_eq}
 use Rattle.std.proofs.lemmas.Slice.Eq.{bytes_eq-Decides}
-use Rattle.command_words.specs.Asked.{Row, call, send, recv, demo, rate, audit, duplex, group}
+use Rattle.command_words.specs.Asked.{call, send, recv, demo, rate, audit, duplex, group}
 use Rattle.command_words.proofs.forms.Form.named.Goals as goal
 
 -- another word is not this one
