@@ -1,5 +1,5 @@
 -- What words ask for: a command with its parameters, and the words by which roles are attached.
-use Rattle.std.specs.Prelude.{ℕ, true, false, ◌&&◌, ◌≤◌, List, [], ◌∷◌, Option, Some, None, Result, Ok, Err, is_some, nat_le, IfSome, if◌then◌else◌, codes, find, option_and_then, option_map}
+use Rattle.std.specs.Prelude.{ℕ, true, false, ◌&&◌, ◌≤◌, List, [], ◌∷◌, ◌++◌, Option, Some, None, Result, Ok, Err, is_some, nat_le, IfSome, if◌then◌else◌, codes, find, option_and_then, option_map}
 use Rattle.std.specs.List.{AllByRecursion}
 use Rattle.std.specs.Str.{bytes_eq}
 use Rattle.h263_outside.specs.Desk.{is_role}
@@ -12,7 +12,7 @@ use Rattle.h263_types.specs.declared.params.ParamFault.{ParamFault}
 use Rattle.command_words.specs.Simple.{Text, Options, taken, value}
 use Rattle.command_words.specs.Values.{byte_in, clock_in, format_in, number_in, value_or}
 use Rattle.command_words.specs.declared.command.Command.{Command}
-use Rattle.command_words.specs.declared.command.Command.TheVariants.{Call, Send, Recv, Demo, Rate, Audit, Duplex}
+use Rattle.command_words.specs.declared.command.Command.TheVariants.{Call, Send, Recv, Demo, Rate, Audit, Duplex, Group}
 
 -- the value of each name that is given one
 abbrev pub Lookup : Type 0
@@ -214,9 +214,35 @@ duplex = record {
   asks = duplex_of;
 }
 
+-- how many receivers a group has: a third one comes after a second one
+abbrev pub receivers_by : Option Text → Option Text → Option ℕ
+receivers_by None None = Some 1
+receivers_by None (Some third) = None
+receivers_by (Some second) None = Some 2
+receivers_by (Some second) (Some third) = Some 3
+
+abbrev pub receivers_in : Lookup → Option ℕ
+receivers_in given = receivers_by (given (codes "out2")) (given (codes "out3"))
+
+-- the call of a group has a trace
+abbrev pub group_of : Lookup → Option Command
+group_of given =
+    option_and_then (λ trace. option_and_then (λ params. option_map (λ receivers. Group params receivers)
+    (receivers_in given)) (params_of given))
+    (given (codes "trace"))
+
+abbrev pub group : Row
+group = record {
+  word = codes "group";
+  places = call.places;
+  options = taking_values (codes "quant" ∷ codes "keep" ∷ codes "radius" ∷ codes "limit" ∷ codes "slots"
+      ∷ codes "lead" ∷ codes "messages" ∷ codes "clock" ∷ codes "trace" ∷ codes "out2" ∷ codes "out3" ∷ []);
+  asks = group_of;
+}
+
 -- the commands
 abbrev pub rows : List Row
-rows = call ∷ send ∷ recv ∷ demo ∷ rate ∷ audit ∷ duplex ∷ []
+rows = call ∷ send ∷ recv ∷ demo ∷ rate ∷ audit ∷ duplex ∷ group ∷ []
 
 -- the command with this first word
 abbrev pub row_named : Text → Option Row
@@ -268,6 +294,13 @@ abbrev pub duplex_roles : Roles
 duplex_roles = (Video, codes "in1") ∷ (Video2, codes "in2") ∷ (Events, codes "trace")
     ∷ (Pictures, codes "out1") ∷ (Pictures2, codes "out2") ∷ []
 
+-- of a group of so many receivers
+abbrev pub group_roles : ℕ → Roles
+group_roles receivers =
+    (Video, codes "in") ∷ (Events, codes "trace") ∷ (Pictures, codes "out")
+    ∷ (if nat_le 2 receivers then (Pictures2, codes "out2") ∷ [] else [])
+    ++ (if nat_le 3 receivers then (Wire, codes "out3") ∷ [] else [])
+
 abbrev pub roles : Command → Roles
 roles (Call params false) = plain_roles
 roles (Call params true) = traced_roles
@@ -277,6 +310,7 @@ roles (Demo params seed frames) = []
 roles (Rate target bucket) = log_roles
 roles (Audit params) = log_roles
 roles (Duplex params) = duplex_roles
+roles (Group params receivers) = group_roles receivers
 
 -- the name of a role's word, where there is one
 abbrev pub name_in : Roles → Role → Option Text
@@ -298,6 +332,7 @@ IsCommand (Demo params seed frames) =
 IsCommand (Rate target bucket) = (1 ≤ target) × (target ≤ 999999) × (bucket ≤ 999999)
 IsCommand (Audit params) = IsParams params
 IsCommand (Duplex params) = IsParams params
+IsCommand (Group params receivers) = IsParams params × (1 ≤ receivers) × (receivers ≤ 3)
 
 -- the words by which a command's roles are attached are all there
 abbrev pub IsGiven : Option Text → Type 0

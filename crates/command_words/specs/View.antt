@@ -2,8 +2,8 @@
 use Rattle.clap.specs.Words.{first_value, found_of}
 use Rattle.command_words.specs.declared.words.Words.{Words}
 use Rattle.command_words.specs.declared.forms.Form.{Form}
-use Rattle.command_words.specs.declared.forms.Form.TheVariants.{Call, Send, Recv, Demo, Rate, Audit, Duplex}
-use Rattle.command_words.specs.Asked.{Asked, Row, call, send, recv, demo, rate, audit, duplex}
+use Rattle.command_words.specs.declared.forms.Form.TheVariants.{Call, Send, Recv, Demo, Rate, Audit, Duplex, Group}
+use Rattle.command_words.specs.Asked.{Asked, Row, call, send, recv, demo, rate, audit, duplex, group}
 
 abbrev pub asked_of : Words → Asked
 asked_of w = record { command = w.command; given = first_value (found_of w.given) }
@@ -17,3 +17,4 @@ row_of Demo = demo
 row_of Rate = rate
 row_of Audit = audit
 row_of Duplex = duplex
+row_of Group = group

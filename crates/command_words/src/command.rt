@@ -1,8 +1,8 @@
 //! What a command is asked for: its files, options and numbers.
 use h263_types::Params;
 
-/// What the program is asked for. Each parameter is in its range; of `call`, `send` and `duplex`
-/// the format is QCIF until the video is read.
+/// What the program is asked for. Each parameter is in its range; of `call`, `send`, `duplex` and
+/// `group` the format is QCIF until the video is read.
 #[derive(Clone, Copy, Debug, PartialEq, Eq)]
 pub enum Command {
     /// Both ends over a trace, or over the plain trace of the video where `traced` is false.
@@ -41,5 +41,10 @@ pub enum Command {
     /// The call of two parties over a trace.
     Duplex {
         params: Params,
+    },
+    /// The call of a group over a trace, with 1 to 3 receivers.
+    Group {
+        params: Params,
+        receivers: u32,
     },
 }

@@ -14,6 +14,7 @@ pub(crate) enum Form {
     Rate,
     Audit,
     Duplex,
+    Group,
 }
 
 static CALL_PLACES: [&str; 2] = ["in", "out"];
@@ -48,6 +49,11 @@ static AUDIT_OPTIONS: [&str; 4] = ["format", "slots", "lead", "clock"];
 
 static DUPLEX_PLACES: [&str; 4] = ["in1", "in2", "out1", "out2"];
 
+static GROUP_OPTIONS: [&str; 11] = [
+    "quant", "keep", "radius", "limit", "slots", "lead", "messages", "clock", "trace", "out2",
+    "out3",
+];
+
 static RECV_SWITCHES: [&str; 1] = ["join"];
 
 static NO_SWITCHES: [&str; 0] = [];
@@ -65,6 +71,7 @@ impl Form {
             "rate" => Some(Form::Rate),
             "audit" => Some(Form::Audit),
             "duplex" => Some(Form::Duplex),
+            "group" => Some(Form::Group),
             _ => None,
         }
     }
@@ -74,7 +81,7 @@ impl Form {
         ensures few { length result.now ≤ 16 }
     {
         match self {
-            Form::Call => CALL_PLACES.as_slice(),
+            Form::Call | Form::Group => CALL_PLACES.as_slice(),
             Form::Send => SEND_PLACES.as_slice(),
             Form::Recv => RECV_PLACES.as_slice(),
             Form::Demo => DEMO_PLACES.as_slice(),
@@ -94,6 +101,7 @@ impl Form {
             Form::Demo => DEMO_OPTIONS.as_slice(),
             Form::Rate => RATE_OPTIONS.as_slice(),
             Form::Audit => AUDIT_OPTIONS.as_slice(),
+            Form::Group => GROUP_OPTIONS.as_slice(),
         }
     }
 
@@ -104,7 +112,7 @@ impl Form {
             Form::Recv => RECV_SWITCHES.as_slice(),
             Form::Call | Form::Send => NO_SWITCHES.as_slice(),
             Form::Demo | Form::Rate | Form::Audit => NO_SWITCHES.as_slice(),
-            Form::Duplex => NO_SWITCHES.as_slice(),
+            Form::Duplex | Form::Group => NO_SWITCHES.as_slice(),
         }
     }
 }

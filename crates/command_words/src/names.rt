@@ -1,7 +1,7 @@
 //! The names of the words by which roles are attached.
 ghost use Rattle.std.specs.Prelude.{◌≡◌, option_map};
 ghost use Rattle.command_words.specs.Asked.{name_in, plain_roles, traced_roles, send_roles};
-ghost use Rattle.command_words.specs.Asked.{recv_roles, log_roles, duplex_roles, roles};
+ghost use Rattle.command_words.specs.Asked.{recv_roles, log_roles, duplex_roles, group_roles, roles};
 
 use crate::command::Command;
 use h263_outside::Role;
@@ -71,6 +71,19 @@ fn duplex_name(role: Role) -> Option<&'static str>
     }
 }
 
+fn group_name(receivers: u32, role: Role) -> Option<&'static str>
+    ensures { option_map (λ s. s.now) result ≡ name_in (group_roles receivers) role }
+{
+    match role {
+        Role::Video => Some("in"),
+        Role::Events => Some("trace"),
+        Role::Pictures => Some("out"),
+        Role::Pictures2 if 2 <= receivers => Some("out2"),
+        Role::Wire if 3 <= receivers => Some("out3"),
+        _ => None,
+    }
+}
+
 // The name of the word by which a command attaches a role, if it attaches it by one.
 pub(crate) fn name_of(command: Command, role: Role) -> Option<&'static str>
     ensures { option_map (λ s. s.now) result ≡ name_in (roles command) role }
@@ -84,5 +97,6 @@ pub(crate) fn name_of(command: Command, role: Role) -> Option<&'static str>
         Command::Rate { .. } => log_name(role),
         Command::Audit { .. } => log_name(role),
         Command::Duplex { .. } => duplex_name(role),
+        Command::Group { receivers, .. } => group_name(receivers, role),
     }
 }

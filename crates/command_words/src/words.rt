@@ -4,7 +4,7 @@ ghost use Rattle.std.specs.Prelude.{drop, is_some, option_map, codes};
 ghost use Rattle.h263_types.specs.Params.{IsParams};
 ghost use Rattle.clap.specs.Words.{first_value, found_of};
 ghost use Rattle.command_words.specs.Asked.{asked, asked_by, call_of, send_of, recv_of, demo_of};
-ghost use Rattle.command_words.specs.Asked.{rate_of, audit_of, duplex_of};
+ghost use Rattle.command_words.specs.Asked.{rate_of, audit_of, duplex_of, group_of, receivers_in};
 ghost use Rattle.command_words.specs.Asked.{params_of, coding_of, timing_of, word_for, IsCommand};
 ghost use Rattle.command_words.specs.Asked.{seed_in, frames_in, target_in, target_or_none};
 ghost use Rattle.command_words.specs.Asked.{bucket_in};
@@ -198,6 +198,34 @@ fn duplex(given: &ArgMatches<'_>) -> Option<Command>
     Some(Command::Duplex { params })
 }
 
+// How many receivers a group has: a third one comes after a second one.
+fn receivers(given: &ArgMatches<'_>) -> Option<u32>
+    ensures { result ≡ receivers_in (first_value (found_of given.now)) }
+{
+    if given.get_str("out2").is_none() {
+        if given.get_str("out3").is_none() {
+            Some(1)
+        } else {
+            None
+        }
+    } else if given.get_str("out3").is_none() {
+        Some(2)
+    } else {
+        Some(3)
+    }
+}
+
+// The call of a group has a trace.
+fn group(given: &ArgMatches<'_>) -> Option<Command>
+    ensures value { result ≡ group_of (first_value (found_of given.now)) }
+    ensures ready { IfSome result IsCommand }
+{
+    let _trace = given.get_str("trace")?;
+    let params = params(given)?;
+    let receivers = receivers(given)?;
+    Some(Command::Group { params, receivers })
+}
+
 // What the values of a command's words ask for.
 fn command_of(form: Form, given: &ArgMatches<'_>) -> Option<Command>
     ensures value { result ≡ (row_of form).asks (first_value (found_of given.now)) }
@@ -211,6 +239,7 @@ fn command_of(form: Form, given: &ArgMatches<'_>) -> Option<Command>
         Form::Rate => rate(given),
         Form::Audit => audit(given),
         Form::Duplex => duplex(given),
+        Form::Group => group(given),
     }
 }
 

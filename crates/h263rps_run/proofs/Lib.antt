@@ -1,4 +1,5 @@
 mod Promised
 mod Asked
 mod Named
+mod Grouped
 mod Exits

@@ -10,7 +10,7 @@ use Rattle.call_report.specs.declared.status.Status.TheVariants.{OutOfMemory, Us
 use Rattle.command_words.specs.declared.simple.WordStop.{WordStop}
 use Rattle.command_words.specs.declared.simple.WordStop.TheVariants as stops
 use Rattle.command_words.specs.declared.command.Command.{Command}
-use Rattle.command_words.specs.declared.command.Command.TheVariants.{Call, Send, Recv, Demo, Rate, Audit, Duplex}
+use Rattle.command_words.specs.declared.command.Command.TheVariants.{Call, Send, Recv, Demo, Rate, Audit, Duplex, Group}
 use Rattle.command_words.specs.Simple.{Text}
 use Rattle.command_words.specs.Asked.{Asked, asked, roles}
 use Rattle.desk_program.specs.Run.{Run, run_from, refusal}
@@ -27,6 +27,8 @@ use Rattle.demo_command.specs.declared.terms.DemoTerms.{DemoTerms}
 use Rattle.demo_command.specs.Demo.{demo_begin, demo_step}
 use Rattle.demo_command.specs.Demo as demo
 use Rattle.duplex_command.specs.Begin.{duplex_run}
+use Rattle.group_command.specs.declared.terms.GroupTerms.{GroupTerms}
+use Rattle.group_command.specs.Group.{group_run}
 
 -- ---- the words
 
@@ -74,6 +76,7 @@ source_of (Demo params seed frames) = None
 source_of (Rate target bucket) = Some Events
 source_of (Audit params) = Some Events
 source_of (Duplex params) = Some Events
+source_of (Group params receivers) = Some Events
 
 abbrev pub source_from : Option Asked → Option Role
 source_from None = None
@@ -97,6 +100,10 @@ sending_of params target fit = record { params = params; target = target; fit = 
 abbrev pub demo_terms : Params → ℕ → ℕ → DemoTerms
 demo_terms params seed frames = record { params = params; seed = seed; frames = frames }
 
+-- what a group's call is asked for
+abbrev pub group_terms : Params → ℕ → GroupTerms
+group_terms params receivers = record { params = params; receivers = receivers }
+
 -- what a log is measured against
 abbrev pub bucket_of : ℕ → ℕ → Bucket
 bucket_of target bucket = record { target = target; bucket = bucket }
@@ -116,6 +123,7 @@ run_of (Rate target bucket) inputs =
     run_from (rate_begin (bucket_of target bucket) inputs) rate_step 16777216 inputs
 run_of (Audit params) inputs = run_from (audit_begin params inputs) audit_step 16777216 inputs
 run_of (Duplex params) inputs = duplex_run params inputs
+run_of (Group params receivers) inputs = group_run (group_terms params receivers) inputs
 
 -- what a command gives where the inputs hold these bytes: texts turn by turn, and a status. Where
 -- none was asked for it is Usage.

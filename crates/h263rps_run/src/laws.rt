@@ -6,6 +6,7 @@ use audit_command::laws as audit_command_laws;
 use call_command::laws as call_command_laws;
 use demo_command::laws as demo_command_laws;
 use duplex_command::laws as duplex_command_laws;
+use group_command::laws as group_command_laws;
 use rate_command::laws as rate_command_laws;
 use recv_command::laws as recv_command_laws;
 use send_command::laws as send_command_laws;
@@ -24,4 +25,6 @@ pub fn refused_videos()
     rate_command_laws::no_video_refused();
     audit_command_laws::no_video_refused();
     duplex_command_laws::refused_videos();
+    group_command_laws::refused_videos();
+    group_command_laws::no_second_video();
 }

@@ -13,6 +13,7 @@ use command_words::{Command, WordStop, Words, laws as command_words_laws};
 use demo_command::{Demo, DemoTerms};
 use desk_program::{attach_role, finish, perform};
 use duplex_command::Duplex;
+use group_command::{GroupCall, GroupTerms};
 use h263_outside::{Desk, Role};
 use rate_command::{Bucket, Rate};
 use recv_command::{Join, Recv};
@@ -86,5 +87,8 @@ pub fn run<D: Desk>(alloc: Global, words: &[&str], desk: &mut D) -> Status
         }
         Command::Audit { params } => perform::<D, Audit>(alloc, &params, roles, desk),
         Command::Duplex { params } => perform::<D, Duplex>(alloc, &params, roles, desk),
+        Command::Group { params, receivers } => {
+            perform::<D, GroupCall>(alloc, &GroupTerms { params, receivers }, roles, desk)
+        }
     }
 }

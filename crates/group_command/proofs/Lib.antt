@@ -1,0 +1,17 @@
+pub mod Watching
+pub mod Writing
+pub mod Telling
+pub mod Checking
+pub mod Lined
+pub mod Cutting
+pub mod LineTurns
+pub mod LineTurning
+pub mod Capturing
+pub mod Doing
+pub mod Starting
+pub mod AtPlace
+pub mod Sending
+pub mod Asking
+pub mod Owning
+pub mod RoomTurning
+pub mod FaultOfVideo

@@ -1,0 +1,34 @@
+use Rattle.std.proofs.Common.{ℕ, Some, ap, ◌∙◌}
+use Rattle.std.proofs.lemmas.Result.{on_ok_weaker, on_err_weaker}
+use Rattle.h263_planes.specs.Lent.{picture}
+use Rattle.call_report.specs.Text.{picture_text}
+use Rattle.call_report.specs.View.{text_of}
+use Rattle.group_command.proofs.Writing.{on_err, first_front, both_gain, second_front}
+use Rattle.group_command.proofs.show.show.Goals as goal
+
+pub returns-in_err-put_own_picture-clause-err : goal.returns-in_err-put_own_picture-clause-err
+returns-in_err-put_own_picture-clause-err g c =
+    let outside = g.D.Desk.outside in
+    on_err c.from_residual.result
+    (first_front c.turn_laws.ensures c.args.row.now (picture c.args.picture)
+    (outside c.args.desk.now).written (outside c.put_own_picture.new.desk).written c.in_err-put_own_picture.ensures.err)
+
+pub returns-clause-ok : goal.returns-clause-ok
+returns-clause-ok g c =
+    let outside = g.D.Desk.outside in
+    let row = c.args.row.now in
+    on_ok_weaker c.put_line.result
+    (both_gain c.turn_laws.ensures row (picture c.args.picture)
+    (outside c.args.desk.now).written (outside c.put_own_picture.new.desk).written (outside c.put_line.new.desk).written (text_of c.picture_line-line.result)
+    (c.picture_line-line.ensures ∙ ap (λ (l : ℕ). picture_text row.number (Some row.mark) (Some row.reference) (Some l)) c.digit_of-digit.ensures.value) c.in_ok-put_own_picture.ensures.ok)
+    c.put_line.ensures.ok
+
+pub returns-clause-err : goal.returns-clause-err
+returns-clause-err g c =
+    let outside = g.D.Desk.outside in
+    let row = c.args.row.now in
+    on_err_weaker c.put_line.result
+    (second_front c.turn_laws.ensures row (picture c.args.picture)
+    (outside c.args.desk.now).written (outside c.put_own_picture.new.desk).written (outside c.put_line.new.desk).written (text_of c.picture_line-line.result)
+    (c.picture_line-line.ensures ∙ ap (λ (l : ℕ). picture_text row.number (Some row.mark) (Some row.reference) (Some l)) c.digit_of-digit.ensures.value) c.in_ok-put_own_picture.ensures.ok)
+    c.put_line.ensures.err

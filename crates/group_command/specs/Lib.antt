@@ -1,0 +1,5 @@
+pub mod Lines
+pub mod Group
+pub mod Standing
+pub mod Turning
+pub mod Begin
