@@ -31,7 +31,8 @@ second_of_both true b h = h
 second_of_both false b h = absurd (cc h)
 
 -- what was taken gives each positional word
-taken_gives : (places : List Text) (options : Options) (words : List Text) (given : List Given) → taken places options words ≡ Some given
+taken_gives : (places : List Text) (options : Options) (words : List Text) (given : List Given)
+    → taken places options words ≡ Some given
     → list_all (λ name. gives name given) places ≡ true
 taken_gives places options words given is = go (named_by options places None words) is
   where
@@ -42,7 +43,8 @@ taken_gives places options words given is = go (named_by options places None wor
         (second_of_both (is_once found) (list_all (λ name. gives name found) places) whole)
     chosen found false whole same = absurd (cc same)
 
-    go : (o : Option (List Given)) → whole_or_none places o ≡ Some given → list_all (λ name. gives name given) places ≡ true
+    go : (o : Option (List Given)) → whole_or_none places o ≡ Some given → list_all (λ name. gives name given) places
+        ≡ true
     go None h = absurd (cc h)
     go (Some found) h = chosen found (is_whole places found) refl h
 
@@ -102,14 +104,17 @@ module _ (given : List Given) where
       with_fit target (Some fit) h = with_params target fit (params_of (value given)) h
 
       with_target : (o : Option (Option ℕ)) →
-          option_and_then (λ target. option_and_then (λ fit. option_map (send_with target fit) (params_of (value given)))
+          option_and_then (λ target. option_and_then (λ fit. option_map (send_with target fit)
+          (params_of (value given)))
           (target_or_none (value given (codes "fit")))) o ≡ Some c → named c
       with_target None h = absurd (cc h)
       with_target (Some target) h = with_fit target (target_or_none (value given (codes "fit"))) h
 
       go : (both : Bool) → (if both then None else
-          option_and_then (λ target. option_and_then (λ fit. option_map (send_with target fit) (params_of (value given)))
-          (target_or_none (value given (codes "fit")))) (target_or_none (value given (codes "target")))) ≡ Some c → named c
+          option_and_then (λ target. option_and_then (λ fit. option_map (send_with target fit)
+          (params_of (value given)))
+          (target_or_none (value given (codes "fit")))) (target_or_none (value given (codes "target")))) ≡ Some c
+          → named c
       go true h = absurd (cc h)
       go false h = with_target (target_or_none (value given (codes "target"))) h
 
@@ -135,12 +140,14 @@ module _ (given : List Given) where
   pub demo_named : (c : Command) → demo_of (value given) ≡ Some c → named c
   demo_named c is = with_params (params_of (value given)) is
     where
-      with_frames : (p : Params) (seed : ℕ) (o : Option ℕ) → option_map (λ frames. Demo p seed frames) o ≡ Some c → named c
+      with_frames : (p : Params) (seed : ℕ) (o : Option ℕ) → option_map (λ frames. Demo p seed frames) o ≡ Some c
+          → named c
       with_frames p seed None h = absurd (cc h)
       with_frames p seed (Some n) h = subst named (some_is h) tt
 
       with_seed : (p : Params) (o : Option ℕ) →
-          option_and_then (λ seed. option_map (λ frames. Demo p seed frames) (frames_in (value given (codes "frames")))) o ≡ Some c → named c
+          option_and_then (λ seed. option_map (λ frames. Demo p seed frames) (frames_in (value given (codes "frames"))))
+          o ≡ Some c → named c
       with_seed p None h = absurd (cc h)
       with_seed p (Some seed) h = with_frames p seed (frames_in (value given (codes "frames"))) h
 
@@ -195,10 +202,14 @@ module _ (given : List Given) where
           → option_and_then (λ (trace : Text). option_map (λ params. Duplex params) p) t ≡ Some c → named c
       go p None e h = absurd (cc h)
       go None (Some x) e h = absurd (cc h)
-      go (Some p) (Some x) e h = subst named (some_is h) (video, (video2, (subst IsGiven (sym e) tt, (pictures, (pictures2, tt)))))
+      go (Some p) (Some x) e h = subst named (some_is h) (
+        video,
+        (video2, (subst IsGiven (sym e) tt, (pictures, (pictures2, tt)))),
+      )
 
   pub group_named : (c : Command) → given_all group.places → group_of (value given) ≡ Some c → named c
-  group_named c all is = go (params_of (value given)) (value given (codes "trace")) (value given (codes "out2")) (value given (codes "out3")) refl refl refl is
+  group_named c all is = go (params_of (value given)) (value given (codes "trace")) (value given (codes "out2"))
+      (value given (codes "out3")) refl refl refl is
     where
       video : IsGiven (value given (codes "in"))
       video = first_there (codes "in") (codes "out" ∷ []) all
@@ -206,26 +217,40 @@ module _ (given : List Given) where
       pictures : IsGiven (value given (codes "out"))
       pictures = first_there (codes "out") [] (rest_there (codes "in") (codes "out" ∷ []) all)
 
-      go : (p : Option Params) (t second third : Option Text) → value given (codes "trace") ≡ t → value given (codes "out2") ≡ second → value given (codes "out3") ≡ third
-          → option_and_then (λ (trace : Text). option_and_then (λ (params : Params). option_map (λ receivers. Group params receivers) (receivers_by second third)) p) t ≡ Some c → named c
+      go : (p : Option Params) (t second third : Option Text) → value given (codes "trace") ≡ t
+          → value given (codes "out2") ≡ second → value given (codes "out3") ≡ third
+          → option_and_then (λ (trace : Text). option_and_then (λ (params : Params). option_map
+          (λ receivers. Group params receivers) (receivers_by second third)) p) t ≡ Some c → named c
       go p None second third e two three h = absurd (cc h)
       go None (Some x) second third e two three h = absurd (cc h)
-      go (Some p) (Some x) None None e two three h = subst named (some_is h) (video, (subst IsGiven (sym e) tt, (pictures, tt)))
+      go (Some p) (Some x) None None e two three h = subst named (some_is h) (
+        video,
+        (subst IsGiven (sym e) tt, (pictures, tt)),
+      )
       go (Some p) (Some x) None (Some z) e two three h = absurd (cc h)
-      go (Some p) (Some x) (Some y) None e two three h = subst named (some_is h) (video, (subst IsGiven (sym e) tt, (pictures, (subst IsGiven (sym two) tt, tt))))
+      go (Some p) (Some x) (Some y) None e two three h = subst named (some_is h) (
+        video,
+        (subst IsGiven (sym e) tt, (pictures, (subst IsGiven (sym two) tt, tt))),
+      )
       go (Some p) (Some x) (Some y) (Some z) e two three h =
-          subst named (some_is h) (video, (subst IsGiven (sym e) tt, (pictures, (subst IsGiven (sym two) tt, (subst IsGiven (sym three) tt, tt)))))
+          subst named (some_is h) (
+            video,
+            (subst IsGiven (sym e) tt, (pictures, (subst IsGiven (sym two) tt, (subst IsGiven (sym three) tt, tt)))),
+          )
 
 -- the row's words
 by_row : (row : Row) (words : List Text) (a : Asked)
-    → ((given : List Given) (c : Command) → list_all (λ name. gives name given) row.places ≡ true → row.asks (value given) ≡ Some c → HasNames (asking (value given) c))
+    → ((given : List Given) (c : Command) → list_all (λ name. gives name given) row.places ≡ true
+    → row.asks (value given) ≡ Some c → HasNames (asking (value given) c))
     → asked_by row words ≡ Some a → HasNames a
 by_row row words a names is = go (taken row.places row.options words) refl is
   where
-    at_command : (given : List Given) → taken row.places row.options words ≡ Some given → (o : Option Command) → row.asks (value given) ≡ o
+    at_command : (given : List Given) → taken row.places row.options words ≡ Some given → (o : Option Command)
+        → row.asks (value given) ≡ o
         → option_map (asking (value given)) o ≡ Some a → HasNames a
     at_command given e None found h = absurd (cc h)
-    at_command given e (Some c) found h = subst HasNames (some_is h) (names given c (taken_gives row.places row.options words given e) found)
+    at_command given e (Some c) found h = subst HasNames (some_is h)
+        (names given c (taken_gives row.places row.options words given e) found)
 
     go : (o : Option (List Given)) → taken row.places row.options words ≡ o
         → option_and_then (λ given. option_map (asking (value given)) (row.asks (value given))) o ≡ Some a → HasNames a
@@ -235,19 +260,24 @@ by_row row words a names is = go (taken row.places row.options words) refl is
 pub named_where_asked : (words : List Text) (a : Asked) → asked words ≡ Some a → HasNames a
 named_where_asked [] a is = absurd (cc is)
 named_where_asked (first ∷ words) a is =
-    at_call (bytes_eq call.word first) (bytes_eq send.word first) (bytes_eq recv.word first) (bytes_eq demo.word first) (bytes_eq rate.word first) (bytes_eq audit.word first)
+    at_call (bytes_eq call.word first) (bytes_eq send.word first) (bytes_eq recv.word first) (bytes_eq demo.word first)
+    (bytes_eq rate.word first) (bytes_eq audit.word first)
     (bytes_eq duplex.word first) (bytes_eq group.word first) is
   where
     at_call : (c s r d m u x g : Bool) →
         option_and_then (λ row. asked_by row words)
-        (if c then Some call else if s then Some send else if r then Some recv else if d then Some demo else if m then Some rate else if u then Some audit
+        (if c then Some call else if s then Some send else if r then Some recv else if d then Some demo
+        else if m then Some rate else if u then Some audit
         else if x then Some duplex else if g then Some group else None) ≡ Some a → HasNames a
     at_call true s r d m u x g h = by_row call words a (λ given k all e. call_named given k all e) h
     at_call false true r d m u x g h = by_row send words a (λ given k all e. send_named given k all e) h
     at_call false false true d m u x g h = by_row recv words a (λ given k all e. recv_named given k all e) h
     at_call false false false true m u x g h = by_row demo words a (λ given k all e. demo_named given k e) h
     at_call false false false false true u x g h = by_row rate words a (λ given k all e. rate_named given k all e) h
-    at_call false false false false false true x g h = by_row audit words a (λ given k all e. audit_named given k all e) h
-    at_call false false false false false false true g h = by_row duplex words a (λ given k all e. duplex_named given k all e) h
-    at_call false false false false false false false true h = by_row group words a (λ given k all e. group_named given k all e) h
+    at_call false false false false false true x g h = by_row audit words a (λ given k all e. audit_named given k all e)
+        h
+    at_call false false false false false false true g h =
+        by_row duplex words a (λ given k all e. duplex_named given k all e) h
+    at_call false false false false false false false true h =
+        by_row group words a (λ given k all e. group_named given k all e) h
     at_call false false false false false false false false h = absurd (cc h)

@@ -32,7 +32,8 @@ not_an_err {T} {E} r x is lost = ok_is_none x (subst IsErr is lost)
     ok_is_none : (x : T) → IsErr {T = T} {E = E} (Ok x) → ⊥
     ok_is_none x lost = absurd (cc lost)
 
-next_is : (n : ℕ) (f : Format) (at : ℕ) (rest frame : List ℕ) → next_frame n f at rest ≡ Ok frame → frame_of f at rest ≡ Ok frame
+next_is : (n : ℕ) (f : Format) (at : ℕ) (rest frame : List ℕ) → next_frame n f at rest ≡ Ok frame
+    → frame_of f at rest ≡ Ok frame
 next_is zero f at rest frame is = absurd (cc is)
 next_is (suc n) f at rest frame is = is
 
@@ -50,18 +51,24 @@ module _ (s : GroupState) where
   abbrev captured : List ℕ → ℕ → Result (List ℕ) Y4mFault → Step GroupState
   captured trace size r = captured_step s trace size r
 
-  frame_part : LineLaws → VideoLaws → (trace video : List ℕ) (n : ℕ) (r : Result (List ℕ) Y4mFault) → next_frame s.more format s.at video ≡ r
-      → IsErr (frame_of format s.at (take n video)) → IsPart (step_turns (captured trace (frame_size format video) r)) (some_of trace n)
+  frame_part : LineLaws → VideoLaws → (trace video : List ℕ) (n : ℕ) (r : Result (List ℕ) Y4mFault)
+      → next_frame s.more format s.at video ≡ r
+      → IsErr (frame_of format s.at (take n video))
+      → IsPart (step_turns (captured trace (frame_size format video) r)) (some_of trace n)
   frame_part lines laws trace video n (Ok frame) is lost =
       lines.frame_part trace (frame_size format video) n
-      (λ whole. not_an_err _ frame (laws.frame format s.at n video frame (next_is s.more format s.at video frame is) whole).0 lost)
+      (λ whole. not_an_err _ frame (laws.frame format s.at n video frame (next_is s.more format s.at video frame is)
+      whole).0 lost)
   frame_part lines laws trace video n (Err fault) is lost = tt
 
-  video_part : LineLaws → VideoLaws → (trace video : List ℕ) (n : ℕ) → IsErr (frame_of format s.at (take n video)) → IsPart (step_turns (step_at trace video)) (some_of trace n)
+  video_part : LineLaws → VideoLaws → (trace video : List ℕ) (n : ℕ) → IsErr (frame_of format s.at (take n video))
+      → IsPart (step_turns (step_at trace video)) (some_of trace n)
   video_part lines laws trace [] n lost = tt
-  video_part lines laws trace (b ∷ rest) n lost = frame_part lines laws trace (b ∷ rest) n (next_frame s.more format s.at (b ∷ rest)) refl lost
+  video_part lines laws trace (b ∷ rest) n lost = frame_part lines laws trace (b ∷ rest) n
+      (next_frame s.more format s.at (b ∷ rest)) refl lost
 
-  video_next : (trace video : List ℕ) (r : Result (List ℕ) Y4mFault) → 0 < length video → next_frame s.more format s.at video ≡ r
+  video_next : (trace video : List ℕ) (r : Result (List ℕ) Y4mFault) → 0 < length video
+      → next_frame s.more format s.at video ≡ r
       → step_at trace video ≡ captured trace (frame_size format video) r
   video_next trace [] r some is = absurd (omega arith)
   video_next trace (b ∷ rest) r some is = ap (captured trace (frame_size format (b ∷ rest))) is
@@ -70,13 +77,16 @@ module _ (s : GroupState) where
 
   abbrev pub Gives : Result Bool VideoStop → List ℕ → List ℕ → Y4mPlace → Option (List ℕ) → Type 0
   Gives (Ok true) rest out new left =
-      (0 < length rest) × (next_frame s.more format s.at rest ≡ Ok out) × (new.at ≡ s.at + frame_size format rest) × (left ≡ Some (drop (frame_size format rest) rest))
+      (0 < length rest) × (next_frame s.more format s.at rest ≡ Ok out) × (new.at ≡ s.at + frame_size format rest)
+      × (left ≡ Some (drop (frame_size format rest) rest))
   Gives (Ok false) rest out new left = (rest ≡ []) × (left ≡ Some [])
   Gives (Err (Refused fault)) rest out new left = (0 < length rest) × (next_frame s.more format s.at rest ≡ Err fault)
-  Gives (Err Read) rest out new left = (k : ℕ) × (left ≡ Some (drop k rest)) × IsErr (frame_of format s.at (take k rest))
+  Gives (Err Read) rest out new left = (k : ℕ) × (left ≡ Some (drop k rest))
+      × IsErr (frame_of format s.at (take k rest))
 
   pub gives_so : (r : Result Bool VideoStop) (reader new : Y4mPlace) (rest out : List ℕ) (left : Option (List ℕ))
-      → s.more ≡ reader.more → s.at ≡ reader.at → reader.format ≡ format → FrameGives r reader rest out new left → Gives r rest out new left
+      → s.more ≡ reader.more → s.at ≡ reader.at → reader.format ≡ format → FrameGives r reader rest out new left
+      → Gives r rest out new left
   gives_so (Ok true) reader new rest out left more at form (some, next, place, gone) = (
     some,
     (λ i. next_frame (more i) (sym form i) (at i) rest) ∙ next,
@@ -84,19 +94,28 @@ module _ (s : GroupState) where
     gone ∙ ap (λ (f : Format). Some (drop (frame_size f rest) rest)) form,
   )
   gives_so (Ok false) reader new rest out left more at form gives = gives
-  gives_so (Err (Refused fault)) reader new rest out left more at form (some, next) = (some, (λ i. next_frame (more i) (sym form i) (at i) rest) ∙ next)
-  gives_so (Err Read) reader new rest out left more at form (k, gone, lost) = (k, gone, subst (λ (f : Format). IsErr (frame_of f s.at (take k rest))) form (subst (λ (a : ℕ). IsErr (frame_of reader.format a (take k rest))) (sym at) lost))
+  gives_so (Err (Refused fault)) reader new rest out left more at form (some, next) =
+      (some, (λ i. next_frame (more i) (sym form i) (at i) rest) ∙ next)
+  gives_so (Err Read) reader new rest out left more at form (k, gone, lost) = (
+    k,
+    gone,
+    subst (λ (f : Format). IsErr (frame_of f s.at (take k rest))) form
+        (subst (λ (a : ℕ). IsErr (frame_of reader.format a (take k rest))) (sym at) lost),
+  )
 
   -- ---- the capture: `old` is the desk after the line, `mid` after the read of the frame
 
-  module _ (turns : TurnLaws) (lines : LineLaws) (laws : VideoLaws) (inputs : Role → List ℕ) (before old mid : Outside) (taken : HasTaken inputs before old) (others : (r : Role) → r ≢ Video → mid.left r ≡ old.left r) (same : mid.written ≡ old.written) (reader : Y4mPlace) (out : List ℕ) where
+  module _ (turns : TurnLaws) (lines : LineLaws) (laws : VideoLaws) (inputs : Role → List ℕ) (before old mid : Outside)
+      (taken : HasTaken inputs before old) (others : (r : Role) → r ≢ Video
+      → mid.left r ≡ old.left r) (same : mid.written ≡ old.written) (reader : Y4mPlace) (out : List ℕ) where
     abbrev trace : List ℕ
     trace = inputs Events
 
     abbrev step : Step GroupState
     step = step_at trace (inputs Video)
 
-    video_told : (k : ℕ) → mid.left Video ≡ Some (drop k (inputs Video)) → Tells mid (left_after inputs (some_of trace k))
+    video_told : (k : ℕ) → mid.left Video ≡ Some (drop k (inputs Video))
+        → Tells mid (left_after inputs (some_of trace k))
     video_told k gone =
         turns.both_reads (of Events (line_size trace)) (of Video k) mid inputs
         (turns.one_read Video k old mid (left_after inputs (of Events (line_size trace))) taken.left gone others)
@@ -124,9 +143,11 @@ module _ (s : GroupState) where
     frame_missing line is e = record {
       last = refused_line trace (NoFrame (s.lines + 1));
       is = ap (step_at trace) e.0;
-      by = subst (λ (n : ℕ). EndsBy (refused_line trace (NoFrame (s.lines + 1))) (TraceRefused (NoFrame n)) inputs before mid) (sym is)
+      by = subst (λ (n : ℕ). EndsBy (refused_line trace (NoFrame (s.lines + 1))) (TraceRefused (NoFrame n)) inputs
+          before mid) (sym is)
           (lines.refused (NoFrame (s.lines + 1)) inputs before mid (record {
-            left = turns.none_read Video old mid (left_after inputs (of Events (line_size trace))) taken.left e.0 e.1 others;
+            left = turns.none_read Video old mid (left_after inputs (of Events (line_size trace))) taken.left e.0 e.1
+                others;
             written = same ∙ taken.written;
           }));
     }
@@ -136,7 +157,8 @@ module _ (s : GroupState) where
       abbrev size : ℕ
       size = frame_size format (inputs Video)
 
-      pub frame_sent : (stands : GroupState → (Role → List ℕ) → Type 0) → stands (after_line (with_frame s size out) trace) (left_after inputs (some_of trace size))
+      pub frame_sent : (stands : GroupState → (Role → List ℕ) → Type 0)
+          → stands (after_line (with_frame s size out) trace) (left_after inputs (some_of trace size))
           → Went step stands may_read true inputs before mid
       frame_sent stands kept = record {
         next = after_line (with_frame s size out) trace;
@@ -149,5 +171,7 @@ module _ (s : GroupState) where
         written = turns.no_text before.written mid.written (same ∙ taken.written);
       }
 
-pub given : (r known : Result Bool VideoStop) (reader new : Y4mPlace) (rest out : List ℕ) (left : Option (List ℕ)) → r ≡ known → FrameGives r reader rest out new left → FrameGives known reader rest out new left
-given r known reader new rest out left is gives = subst (λ (x : Result Bool VideoStop). FrameGives x reader rest out new left) is gives
+pub given : (r known : Result Bool VideoStop) (reader new : Y4mPlace) (rest out : List ℕ) (left : Option (List ℕ))
+    → r ≡ known → FrameGives r reader rest out new left → FrameGives known reader rest out new left
+given r known reader new rest out left is gives =
+    subst (λ (x : Result Bool VideoStop). FrameGives x reader rest out new left) is gives

@@ -22,9 +22,11 @@ module _ (p : Params) (run : Groups) (first : Viewer) (second third : Option Vie
   behind views = first_behind p run views
 
   -- the second one is
-  pub later_found : (views : List ViewerRun) → Watch views → (r : Result Unit Told) (told : Told) → IsErrAnd r (λ z. z ≡ told)
+  pub later_found : (views : List ViewerRun) → Watch views → (r : Result Unit Told) (told : Told)
+      → IsErrAnd r (λ z. z ≡ told)
       → (HoldsViewer p first (view_in views 0) → view_refusal p run (view_in views 0) Send ≡ None)
-      → ((front : List ViewerRun) → AllWatch p run (and_then second []) front → IsAllowed (Err told) Send (behind front))
+      → ((front : List ViewerRun) → AllWatch p run (and_then second []) front
+      → IsAllowed (Err told) Send (behind front))
       → IsAllowed r Send (behind views)
   later_found [] w r told is free found = absurd w
   later_found (view ∷ views) w r told is free found =

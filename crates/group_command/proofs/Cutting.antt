@@ -31,7 +31,8 @@ more_size : (n m : ℕ) → n ≤ n + m
 more_size n m = omega arith
 
 module _ (s : GroupState) (trace : List ℕ) where
-  turn_unless : (e : Event) (o : Option Refusal) (step : Step GroupState) → IsLineTurn trace step → IsLineTurn trace (unless s trace e o step)
+  turn_unless : (e : Event) (o : Option Refusal) (step : Step GroupState) → IsLineTurn trace step
+      → IsLineTurn trace (unless s trace e o step)
   turn_unless e None step is = is
   turn_unless e (Some r) step is = tt
 
@@ -41,23 +42,32 @@ module _ (s : GroupState) (trace : List ℕ) where
 
   turn_capture : (rest : List ℕ) → IsLineTurn trace (capture_step s trace rest)
   turn_capture [] = tt
-  turn_capture (b ∷ rest) = turn_captured (frame_size s.params.format (b ∷ rest)) (next_frame s.more s.params.format s.at (b ∷ rest))
+  turn_capture (b ∷ rest) = turn_captured (frame_size s.params.format (b ∷ rest))
+      (next_frame s.more s.params.format s.at (b ∷ rest))
 
 module _ (s : GroupState) (inputs : Role → List ℕ) where
   turn_line : (o : Option GroupLine) → IsLineTurn (inputs Events) (line_step s inputs o)
   turn_line None = tt
   turn_line (Some Quiet) = (refl, same_size (line_size (inputs Events)))
-  turn_line (Some ForAll) = turn_unless s (inputs Events) Send (first_behind s.params s.run s.views) _ (turn_capture s (inputs Events) (inputs Video))
+  turn_line (Some ForAll) = turn_unless s (inputs Events) Send (first_behind s.params s.run s.views) _
+      (turn_capture s (inputs Events) (inputs Video))
   turn_line (Some (Of k e)) =
-      turn_unless s (inputs Events) (event_of e) (view_refusal s.params s.run (view_in s.views k) (event_of e)) _ (refl, same_size (line_size (inputs Events)))
+      turn_unless s (inputs Events) (event_of e) (view_refusal s.params s.run (view_in s.views k) (event_of e)) _ (
+        refl,
+        same_size (line_size (inputs Events)),
+      )
 
-  turn_choice : (b : Bool) (o : Option GroupLine) → IsLineTurn (inputs Events) (if b then line_step s inputs o else Ends (bad_line (TooMany (s.lines + 1))))
+  turn_choice : (b : Bool) (o : Option GroupLine)
+      → IsLineTurn (inputs Events) (if b then line_step s inputs o else Ends (bad_line (TooMany (s.lines + 1))))
   turn_choice true o = turn_line o
   turn_choice false o = tt
 
   turn_trace : (trace : List ℕ) → trace ≡ inputs Events → IsLineTurn (inputs Events) (trace_step s inputs trace)
   turn_trace [] is = tt
-  turn_trace (b ∷ trace) is = turn_choice (nat_lt s.lines 16777216) (group_line (length s.views) (first_line (b ∷ trace)))
+  turn_trace (b ∷ trace) is = turn_choice (nat_lt s.lines 16777216)
+      (group_line (length s.views) (first_line (b ∷ trace)))
 
-pub trace_part : LineLaws → (s : GroupState) (inputs : Role → List ℕ) (k : ℕ) → NoNewline (take k (inputs Events)) → IsPart (step_turns (trace_step s inputs (inputs Events))) (of Events k)
-trace_part laws s inputs k free = laws.line_part (inputs Events) k (step_turns (trace_step s inputs (inputs Events))) free (turn_trace s inputs (inputs Events) refl)
+pub trace_part : LineLaws → (s : GroupState) (inputs : Role → List ℕ) (k : ℕ) → NoNewline (take k (inputs Events))
+    → IsPart (step_turns (trace_step s inputs (inputs Events))) (of Events k)
+trace_part laws s inputs k free = laws.line_part (inputs Events) k (step_turns (trace_step s inputs (inputs Events)))
+    free (turn_trace s inputs (inputs Events) refl)

@@ -53,7 +53,13 @@ part_len (Number n) bytes is = is.few
 parts_len : (parts : List Part) (bytes : List ℕ) → Spell parts bytes → length bytes ≤ most parts
 parts_len [] bytes none = omega (arith, ap (λ (l : List ℕ). length l) none)
 parts_len (part ∷ parts) bytes (front, rest, whole, is, h) =
-    omega (arith, ap (λ (l : List ℕ). length l) whole, length-append front rest, part_len part front is, parts_len parts rest h)
+    omega (
+      arith,
+      ap (λ (l : List ℕ). length l) whole,
+      length-append front rest,
+      part_len part front is,
+      parts_len parts rest h,
+    )
 
 event_len : (event : Line) → most (parts_of event) ≤ 17
 event_len says.Nothing = lit≤ tt
@@ -69,7 +75,12 @@ ReadLines = (line : List ℕ) (event : Line) → event_in line ≡ Some event �
 module _ (read : ReadLines) where
   none_or : (rest : List ℕ) (o : Option Line) → event_in rest ≡ o → 17 < length rest → o ≡ None
   none_or rest None is long = refl
-  none_or rest (Some event) is long = absurd (omega (arith, parts_len (parts_of event) rest (read rest event is), event_len event, long))
+  none_or rest (Some event) is long = absurd (omega (
+    arith,
+    parts_len (parts_of event) rest (read rest event is),
+    event_len event,
+    long,
+  ))
 
   long_own : (k : ℕ) (line : List ℕ) → 64 < length line → of_one k (event_in (drop 2 line)) ≡ None
   long_own k line long = ap (of_one k) (none_or (drop 2 line) (event_in (drop 2 line)) refl (two_less line long))
@@ -88,7 +99,8 @@ module _ (read : ReadLines) where
   not_short word line longer = at_test (bytes_eq line word) refl
     where
       at_test : (t : Bool) → bytes_eq line word ≡ t → t ≡ false
-      at_test true is = absurd (omega (arith, longer, ap (λ (l : List ℕ). length l) ((bytes_eq-Decides line word).0 is)))
+      at_test true is = absurd
+          (omega (arith, longer, ap (λ (l : List ℕ). length l) ((bytes_eq-Decides line word).0 is)))
       at_test false is = refl
 
   under_false : {X : Type 0} (c : Bool) (x y : X) → c ≡ false → (if c then x else y) ≡ y
@@ -97,39 +109,52 @@ module _ (read : ReadLines) where
 
   module _ (count : ℕ) (line : List ℕ) where
     abbrev third_or : Option GroupLine
-    third_or = if bytes_eq (take 2 line) (codes "3 ") then (if nat_le 3 count then of_one 2 (event_in (drop 2 line)) else None) else None
+    third_or = if bytes_eq (take 2 line) (codes "3 ") then (if nat_le 3 count then of_one 2 (event_in (drop 2 line))
+        else None) else None
 
     abbrev second_or : Option GroupLine
-    second_or = if bytes_eq (take 2 line) (codes "2 ") then (if nat_le 2 count then of_one 1 (event_in (drop 2 line)) else None) else third_or
+    second_or = if bytes_eq (take 2 line) (codes "2 ") then (if nat_le 2 count then of_one 1 (event_in (drop 2 line))
+        else None) else third_or
 
     abbrev first_or : Option GroupLine
     first_or = if bytes_eq (take 2 line) (codes "1 ") then of_one 0 (event_in (drop 2 line)) else second_or
 
     pub long_is_bad : 64 < length line → group_line count line ≡ None
     long_is_bad long =
-        under_false (bytes_eq line (codes "")) (Some Quiet) (if bytes_eq line (codes "S") then Some ForAll else first_or) (not_short (codes "") line (omega (arith, long)))
-        ∙ under_false (bytes_eq line (codes "S")) (Some ForAll) first_or (not_short (codes "S") line (omega (arith, long)))
-        ∙ choice (bytes_eq (take 2 line) (codes "1 ")) (of_one 0 (event_in (drop 2 line))) second_or None (long_own 0 line long)
-        (choice (bytes_eq (take 2 line) (codes "2 ")) (if nat_le 2 count then of_one 1 (event_in (drop 2 line)) else None) third_or None (choice (nat_le 2 count) (of_one 1 (event_in (drop 2 line))) None None (long_own 1 line long) refl)
-        (choice (bytes_eq (take 2 line) (codes "3 ")) (if nat_le 3 count then of_one 2 (event_in (drop 2 line)) else None) None None (choice (nat_le 3 count) (of_one 2 (event_in (drop 2 line))) None None (long_own 2 line long) refl) refl))
+        under_false (bytes_eq line (codes "")) (Some Quiet)
+        (if bytes_eq line (codes "S") then Some ForAll else first_or)
+        (not_short (codes "") line (omega (arith, long)))
+        ∙ under_false (bytes_eq line (codes "S")) (Some ForAll) first_or
+        (not_short (codes "S") line (omega (arith, long)))
+        ∙ choice (bytes_eq (take 2 line) (codes "1 ")) (of_one 0 (event_in (drop 2 line))) second_or None
+        (long_own 0 line long)
+        (choice (bytes_eq (take 2 line) (codes "2 "))
+        (if nat_le 2 count then of_one 1 (event_in (drop 2 line)) else None) third_or None
+        (choice (nat_le 2 count) (of_one 1 (event_in (drop 2 line))) None None (long_own 1 line long) refl)
+        (choice (bytes_eq (take 2 line) (codes "3 "))
+        (if nat_le 3 count then of_one 2 (event_in (drop 2 line)) else None) None None
+        (choice (nat_le 3 count) (of_one 2 (event_in (drop 2 line))) None None (long_own 2 line long) refl) refl))
 
 -- ---- which step it is
 
 abbrev chosen : Bool → GroupState → (Role → List ℕ) → Option GroupLine → Step GroupState
 chosen b s inputs o = if b then line_step s inputs o else Ends (bad_line (TooMany (s.lines + 1)))
 
-line_is : (s : GroupState) (inputs : Role → List ℕ) (trace : List ℕ) (o : Option GroupLine) → 0 < length trace → s.lines < 16777216 → group_line (length s.views) (first_line trace) ≡ o
+line_is : (s : GroupState) (inputs : Role → List ℕ) (trace : List ℕ) (o : Option GroupLine) → 0 < length trace
+    → s.lines < 16777216 → group_line (length s.views) (first_line trace) ≡ o
     → trace_step s inputs trace ≡ line_step s inputs o
 line_is s inputs [] o some few is = absurd (omega arith)
 line_is s inputs (b ∷ trace) o some few is =
-    ap (λ (t : Bool). chosen t s inputs (group_line (length s.views) (first_line (b ∷ trace)))) (lt-ltb s.lines 16777216 few)
+    ap (λ (t : Bool). chosen t s inputs (group_line (length s.views) (first_line (b ∷ trace))))
+    (lt-ltb s.lines 16777216 few)
     ∙ ap (line_step s inputs) is
 
 many_is : (s : GroupState) (inputs : Role → List ℕ) (trace : List ℕ) → 0 < length trace → s.lines ≡ 16777216
     → trace_step s inputs trace ≡ Ends (bad_line (TooMany (s.lines + 1)))
 many_is s inputs [] some many = absurd (omega arith)
 many_is s inputs (b ∷ trace) some many =
-    ap (λ (t : Bool). chosen t s inputs (group_line (length s.views) (first_line (b ∷ trace)))) (le-ltb s.lines 16777216 (omega (arith, many)))
+    ap (λ (t : Bool). chosen t s inputs (group_line (length s.views) (first_line (b ∷ trace))))
+    (le-ltb s.lines 16777216 (omega (arith, many)))
 
 -- ---- a line that is done, or refused
 
@@ -145,18 +170,23 @@ module _ (s : GroupState) (inputs : Role → List ℕ) (before mid : Outside) (t
   trace = inputs Events
 
   -- a refused line is taken, and nothing of the videos
-  pub line_refused : LineLaws → (status : Status) (fault : TraceFault) (step : Step GroupState) → status ≡ TraceRefused fault → step ≡ step_of (refused_line trace fault)
+  pub line_refused : LineLaws → (status : Status) (fault : TraceFault) (step : Step GroupState)
+      → status ≡ TraceRefused fault → step ≡ step_of (refused_line trace fault)
       → Ended step status inputs before mid
   line_refused laws status fault step status_is is = record {
     last = refused_line trace fault;
     is = is;
-    by = subst (λ (z : Status). EndsBy (refused_line trace fault) z inputs before mid) (sym status_is) (laws.refused fault inputs before mid taken);
+    by = subst (λ (z : Status). EndsBy (refused_line trace fault) z inputs before mid) (sym status_is)
+        (laws.refused fault inputs before mid taken);
   }
 
   -- one that is done goes on, and writes these texts
-  pub line_goes : (next : GroupState) (texts : Role → List ℕ) (step : Step GroupState) (stands : GroupState → (Role → List ℕ) → Type 0)
-      → step ≡ Goes (after_line next trace) (line_turn trace texts) → stands (after_line next trace) (left_after inputs (of Events (line_size trace)))
-      → (new : Outside) → new.left ≡ mid.left → Gains texts mid.written new.written → Went step stands may_read true inputs before new
+  pub line_goes : (next : GroupState) (texts : Role → List ℕ) (step : Step GroupState) (stands : GroupState
+      → (Role → List ℕ) → Type 0)
+      → step ≡ Goes (after_line next trace) (line_turn trace texts)
+      → stands (after_line next trace) (left_after inputs (of Events (line_size trace)))
+      → (new : Outside) → new.left ≡ mid.left → Gains texts mid.written new.written
+      → Went step stands may_read true inputs before new
   line_goes next texts step stands is kept new still gains = record {
     next = after_line next trace;
     turn = line_turn trace texts;
@@ -190,14 +220,18 @@ pub record IsReadAt (s : GroupState) (reader : TracePlace) : Type 0 where
   pub lines_are : s.lines ≡ reader.lines
   pub ended_is : s.ended ≡ reader.ended
 
-module _ (laws : LineLaws) (s : GroupState) (inputs : Role → List ℕ) (old mid : Outside) (read : ReadsTrace inputs old mid) (reader after : TracePlace) (at : IsReadAt s reader) where
+module _ (laws : LineLaws) (s : GroupState) (inputs : Role
+    → List ℕ) (old mid : Outside) (read : ReadsTrace inputs old mid) (reader after : TracePlace)
+    (at : IsReadAt s reader) where
   going : reader.ended ≡ false → may_read s ≡ true
   going is = ap not (at.ended_is ∙ is)
 
-  bad_ends : (fault : TraceFault) (step : Step GroupState) → step ≡ step_of (bad_line fault) → Ended step (TraceRefused fault) inputs old mid
+  bad_ends : (fault : TraceFault) (step : Step GroupState) → step ≡ step_of (bad_line fault)
+      → Ended step (TraceRefused fault) inputs old mid
   bad_ends fault step is = record { last = bad_line fault; is = is; by = laws.bad fault inputs old mid read }
 
-  pub trace_stops : ReadLines → (buf : List ℕ) (stop : TraceStop) → BytesGive (Err stop) reader (inputs Events) buf after (mid.left Events) → Moves {A = ℕ} (Err stop) reader after
+  pub trace_stops : ReadLines → (buf : List ℕ) (stop : TraceStop)
+      → BytesGive (Err stop) reader (inputs Events) buf after (mid.left Events) → Moves {A = ℕ} (Err stop) reader after
       → GivesUp (phase (trace_stop stop)) (trace_stop stop) (group_step s inputs) (may_read s) inputs old mid
   trace_stops lines buf stops.Read e moves = record {
     part = of Events e.taken;
@@ -208,7 +242,8 @@ module _ (laws : LineLaws) (s : GroupState) (inputs : Role → List ℕ) (old mi
   }
   trace_stops lines buf (stops.Bad line) e moves =
       bad_ends (BadLine line) _
-      (line_is s inputs (inputs Events) None (some_bytes (inputs Events) e.0) (omega (arith, moves.1, at.lines_are)) (long_is_bad lines (length s.views) (first_line (inputs Events)) e.0)
+      (line_is s inputs (inputs Events) None (some_bytes (inputs Events) e.0) (omega (arith, moves.1, at.lines_are))
+      (long_is_bad lines (length s.views) (first_line (inputs Events)) e.0)
       ∙ ap (λ (n : ℕ). step_of (bad_line (BadLine n))) (ap (λ (n : ℕ). n + 1) at.lines_are ∙ sym moves.2))
     where
       some_bytes : (trace : List ℕ) → 64 < length (first_line trace) → 0 < length trace
@@ -220,9 +255,12 @@ module _ (laws : LineLaws) (s : GroupState) (inputs : Role → List ℕ) (old mi
       ∙ ap (λ (n : ℕ). step_of (bad_line (TooMany n))) (omega (arith, at.lines_are, moves.1, moves.2)))
 
   -- after a line
-  module _ (buf : List ℕ) (found : ℕ × ℕ) (e : BytesGive (Ok (Some found)) reader (inputs Events) buf after (mid.left Events)) (moves : Moves (Ok (Some found)) reader after) where
-    pub found_is : (o : Option GroupLine) → group_line (length s.views) (take found.1 buf) ≡ o → group_step s inputs ≡ line_step s inputs o
-    found_is o said = line_is s inputs (inputs Events) o e.0.some (omega (arith, moves.1, at.lines_are)) (ap (group_line (length s.views)) (sym e.2) ∙ said)
+  module _ (buf : List ℕ) (found : ℕ × ℕ) (e : BytesGive (Ok (Some found)) reader (inputs Events) buf after
+      (mid.left Events)) (moves : Moves (Ok (Some found)) reader after) where
+    pub found_is : (o : Option GroupLine) → group_line (length s.views) (take found.1 buf) ≡ o
+        → group_step s inputs ≡ line_step s inputs o
+    found_is o said = line_is s inputs (inputs Events) o e.0.some (omega (arith, moves.1, at.lines_are))
+        (ap (group_line (length s.views)) (sym e.2) ∙ said)
 
     pub found_number : found.0 ≡ s.lines + 1
     found_number = moves.2 ∙ ap (λ (n : ℕ). n + 1) (sym at.lines_are)
@@ -234,19 +272,24 @@ module _ (laws : LineLaws) (s : GroupState) (inputs : Role → List ℕ) (old mi
     found_could = going moves.0
 
     -- a line that says nothing
-    pub found_bad : group_line (length s.views) (take found.1 buf) ≡ None → Ended (group_step s inputs) (TraceRefused (BadLine found.0)) inputs old mid
-    found_bad said = bad_ends (BadLine found.0) _ (found_is None said ∙ ap (λ (n : ℕ). step_of (bad_line (BadLine n))) (sym found_number))
+    pub found_bad : group_line (length s.views) (take found.1 buf) ≡ None
+        → Ended (group_step s inputs) (TraceRefused (BadLine found.0)) inputs old mid
+    found_bad said = bad_ends (BadLine found.0) _ (found_is None said
+        ∙ ap (λ (n : ℕ). step_of (bad_line (BadLine n))) (sym found_number))
 
     -- an empty line
-    pub found_empty : group_line (length s.views) (take found.1 buf) ≡ Some Quiet → (stands : GroupState → (Role → List ℕ) → Type 0)
+    pub found_empty : group_line (length s.views) (take found.1 buf) ≡ Some Quiet
+        → (stands : GroupState → (Role → List ℕ) → Type 0)
         → stands (after_line s (inputs Events)) (left_after inputs (of Events (line_size (inputs Events))))
-        → Gains no_texts mid.written mid.written → Went (group_step s inputs) stands may_read (may_read s) inputs old mid
+        → Gains no_texts mid.written mid.written
+        → Went (group_step s inputs) stands may_read (may_read s) inputs old mid
     found_empty said stands kept silent =
         subst (λ (b : Bool). Went (group_step s inputs) stands may_read b inputs old mid) (sym found_could)
         (line_goes s inputs old mid found_taken s no_texts _ stands (found_is (Some Quiet) said) kept mid refl silent)
 
   -- the end of the trace
-  module _ (buf : List ℕ) (e : BytesGive (Ok None) reader (inputs Events) buf after (mid.left Events)) (over : reader.ended ≡ true → inputs Events ≡ []) (new : Outside) (still : new.left ≡ mid.left) where
+  module _ (buf : List ℕ) (e : BytesGive (Ok None) reader (inputs Events) buf after (mid.left Events))
+      (over : reader.ended ≡ true → inputs Events ≡ []) (new : Outside) (still : new.left ≡ mid.left) where
     out : IsPlayedOut inputs old mid new
     out = laws.over reader inputs old mid new read e over still
 
@@ -256,10 +299,17 @@ module _ (laws : LineLaws) (s : GroupState) (inputs : Role → List ℕ) (old mi
     pub read_out : new.left Events ≡ Some []
     read_out = out.told Events refl ∙ ap (λ (l : List ℕ). Some l) out.nothing
 
-    pub trace_ends : Gains (counts_from s.params s.run 0 s.views) mid.written new.written → Ended (group_step s inputs) Fine inputs old new
-    trace_ends gains = record { last = all_played s; is = end_is; by = out.ends (counts_from s.params s.run 0 s.views) gains }
+    pub trace_ends : Gains (counts_from s.params s.run 0 s.views) mid.written new.written
+        → Ended (group_step s inputs) Fine inputs old new
+    trace_ends gains = record {
+      last = all_played s;
+      is = end_is;
+      by = out.ends (counts_from s.params s.run 0 s.views) gains;
+    }
 
-    pub trace_cut : GainsFronts (counts_from s.params s.run 0 s.views) mid.written new.written → GainsFronts (step_texts (group_step s inputs)) old.written new.written
+    pub trace_cut : GainsFronts (counts_from s.params s.run 0 s.views) mid.written new.written
+        → GainsFronts (step_texts (group_step s inputs)) old.written new.written
     trace_cut gains =
         subst (λ (x : Step GroupState). GainsFronts (step_texts x) old.written new.written) (sym end_is)
-        (subst (λ (w : Role → Option (List ℕ)). GainsFronts (counts_from s.params s.run 0 s.views) w new.written) read.written gains)
+        (subst (λ (w : Role → Option (List ℕ)). GainsFronts (counts_from s.params s.run 0 s.views) w new.written)
+        read.written gains)

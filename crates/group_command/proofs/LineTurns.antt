@@ -17,22 +17,25 @@ module _ (m : Room) (mid new : Outside) (Begins : Outside → GroupState → (Ro
   -- one that gives up
   pub gave_up : (r : Result Bool Status) (status : Status) → IsErrAnd r (λ z. z ≡ status)
       → IsStop status → HasCause status mid.faults new.faults → KeepsRoles mid new
-      → ((old : Outside) (s : GroupState) (inputs : Role → List ℕ) → Begins old s inputs → GivesUp (phase status) status (step s inputs) true inputs old new)
+      → ((old : Outside) (s : GroupState) (inputs : Role → List ℕ) → Begins old s inputs
+      → GivesUp (phase status) status (step s inputs) true inputs old new)
       → IsLineTurn m r mid new Begins step
   gave_up (Ok b) status is stop cause rest gives = absurd is
-  gave_up (Err z) status is stop cause rest gives = subst (λ (w : Status). IsLineTurn m (Err w) mid new Begins step) (sym is) (record {
-    gives = gives;
-    goes_on = tt;
-    ready = tt;
-    stop = stop;
-    cause = cause;
-    rest = rest;
-  })
+  gave_up (Err z) status is stop cause rest gives = subst (λ (w : Status). IsLineTurn m (Err w) mid new Begins step)
+      (sym is) (record {
+        gives = gives;
+        goes_on = tt;
+        ready = tt;
+        stop = stop;
+        cause = cause;
+        rest = rest;
+      })
 
   -- one that can't write
   pub was_cut : (r : Result Bool Status) (status : Status) → IsErrAnd r (λ z. z ≡ status)
       → status ≡ WriteFault → Rose mid.faults.write new.faults.write → KeepsRoles mid new
-      → ((old : Outside) (s : GroupState) (inputs : Role → List ℕ) → Begins old s inputs → GainsFronts (step_texts (step s inputs)) old.written new.written)
+      → ((old : Outside) (s : GroupState) (inputs : Role → List ℕ) → Begins old s inputs
+      → GainsFronts (step_texts (step s inputs)) old.written new.written)
       → IsLineTurn m r mid new Begins step
   was_cut (Ok b) status is kind rose rest gives = absurd is
   was_cut (Err z) status is kind rose rest gives =

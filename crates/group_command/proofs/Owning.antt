@@ -41,7 +41,9 @@ few_viewers None (Some c) = omega arith
 few_viewers (Some b) None = omega arith
 few_viewers (Some b) (Some c) = omega arith
 
-pub may_take : (m : Room) (attached : Role → Bool) (said : OwnLine) (half : ℕ) → RoomReady m attached → HasLine m said.line → said.place < length (viewers_in m.viewers) → half ≡ half_of m.params.clock → MayTake half said m.cast
+pub may_take : (m : Room) (attached : Role → Bool) (said : OwnLine) (half : ℕ) → RoomReady m attached
+    → HasLine m said.line → said.place < length (viewers_in m.viewers) → half ≡ half_of m.params.clock
+    → MayTake half said m.cast
 may_take m attached said half r line there is = record {
   half_few = omega (arith, is, few_half m.params.clock);
   place = omega (arith, there, few_viewers m.viewers.second m.viewers.third);
@@ -52,10 +54,12 @@ may_take m attached said half r line there is = record {
 }
 
 -- the machine is ready after it
-pub ready_own : (m : Room) (cast : Broadcast) (viewers : Viewers) (line : ℕ) (old new : Role → Bool) → RoomReady m old → HasLine m line → new ≡ old → KeepsCast m.cast cast → length (viewers_in viewers) ≡ length (viewers_in m.viewers)
+pub ready_own : (m : Room) (cast : Broadcast) (viewers : Viewers) (line : ℕ) (old new : Role → Bool) → RoomReady m old
+    → HasLine m line → new ≡ old → KeepsCast m.cast cast → length (viewers_in viewers) ≡ length (viewers_in m.viewers)
     → AreViewing (sent_in m.cast) line viewers → RoomReady (record m { cast = cast; viewers = viewers }) new
 ready_own m cast viewers line old new r has same keeps count viewing = record {
-  opens = subst (λ (n : ℕ). GroupOpens n new) (sym count) (subst (λ (a : Role → Bool). GroupOpens (length (viewers_in m.viewers)) a) (sym same) r.opens);
+  opens = subst (λ (n : ℕ). GroupOpens n new) (sym count)
+      (subst (λ (a : Role → Bool). GroupOpens (length (viewers_in m.viewers)) a) (sym same) r.opens);
   in_range = r.in_range;
   format = r.format;
   frame = r.frame;
@@ -64,10 +68,12 @@ ready_own m cast viewers line old new r has same keeps count viewing = record {
   casting = keeps.casting r.casting;
   sent = omega (arith, r.sent, keeps.sent);
   few = r.few;
-  viewing = subst (λ (n : ℕ). AreViewing n m.trace.lines viewers) (sym keeps.sent) (subst (λ (n : ℕ). AreViewing (sent_in m.cast) n viewers) has.number viewing);
+  viewing = subst (λ (n : ℕ). AreViewing n m.trace.lines viewers) (sym keeps.sent)
+      (subst (λ (n : ℕ). AreViewing (sent_in m.cast) n viewers) has.number viewing);
 }
 
-module _ (m : Room) (said : OwnLine) (mid old new : Outside) (s : GroupState) (inputs : Role → List ℕ) (b : IsRead m said.line mid old s inputs) (laws : LineLaws) (only : OnlyWrites mid new) where
+module _ (m : Room) (said : OwnLine) (mid old new : Outside) (s : GroupState) (inputs : Role
+    → List ℕ) (b : IsRead m said.line mid old s inputs) (laws : LineLaws) (only : OnlyWrites mid new) where
   abbrev trace : List ℕ
   trace = inputs Events
 
@@ -88,7 +94,8 @@ module _ (m : Room) (said : OwnLine) (mid old new : Outside) (s : GroupState) (i
 
   abbrev Holds : Broadcast → Viewers → Result Unit Status → Type 0
   Holds cast viewers r =
-      OwnGives r said s.params s.run view (λ run view. AllWatch s.params run (viewers_in viewers) (slice_set s.views said.place view)) cast mid.written new.written
+      OwnGives r said s.params s.run view (λ run view. AllWatch s.params run (viewers_in viewers)
+      (slice_set s.views said.place view)) cast mid.written new.written
 
   -- the conditions of what is said of the event
   pub clock_is : (half : ℕ) → half ≡ half_of m.params.clock → half ≡ half_of s.params.clock
@@ -97,22 +104,33 @@ module _ (m : Room) (said : OwnLine) (mid old new : Outside) (s : GroupState) (i
   pub period_is : pictures_in m.cast ≡ period_of m.params.clock → pictures_in m.cast ≡ period_of s.params.clock
   period_is is = is ∙ ap (λ (p : Params). period_of p.clock) (sym b.stood.params)
 
-  pub own_gave_up : (cast : Broadcast) (viewers : Viewers) (status : Status) → Holds cast viewers (Err status) → GivesUp (phase status) status step true inputs old new
+  pub own_gave_up : (cast : Broadcast) (viewers : Viewers) (status : Status) → Holds cast viewers (Err status)
+      → GivesUp (phase status) status step true inputs old new
   own_gave_up cast viewers status (inl (r, is, told, same)) =
-      let told_so : status ≡ TraceRefused (fault_of (s.lines + 1) e r) = told ∙ ap (λ (n : ℕ). TraceRefused (fault_of n e r)) b.number in
-      let taken : HasTaken inputs old new = record { left = λ role input. ap (λ (l : Role → Option (List ℕ)). l role) only.left ∙ b.taken.left role input; written = same ∙ b.taken.written } in
+      let told_so : status ≡ TraceRefused (fault_of (s.lines + 1) e r) = told
+      ∙ ap (λ (n : ℕ). TraceRefused (fault_of n e r)) b.number in
+      let taken : HasTaken inputs old new =
+      record {
+        left = λ role input. ap (λ (l : Role → Option (List ℕ)). l role) only.left ∙ b.taken.left role input;
+        written = same ∙ b.taken.written;
+      } in
       subst (λ (z : Status). GivesUp (phase z) z step true inputs old new) (sym told_so)
-      (line_refused s inputs old new taken laws (TraceRefused (fault_of (s.lines + 1) e r)) (fault_of (s.lines + 1) e r) step refl
+      (line_refused s inputs old new taken laws (TraceRefused (fault_of (s.lines + 1) e r)) (fault_of (s.lines + 1) e r)
+      step refl
       (ap (λ (o : Option Refusal). unless s trace e o (quiet_step trace texts (with_own s said.place said.event))) is))
   own_gave_up cast viewers status (inr (none, kind, fronts)) =
       subst (λ (z : Status). GivesUp (phase z) z step true inputs old new) (sym kind)
-      (subst (λ (x : Step GroupState). GainsFronts (step_texts x) old.written new.written) (sym (ap (λ (o : Option Refusal). unless s trace e o (quiet_step trace texts (with_own s said.place said.event))) none))
+      (subst (λ (x : Step GroupState). GainsFronts (step_texts x) old.written new.written)
+      (sym (ap (λ (o : Option Refusal). unless s trace e o
+      (quiet_step trace texts (with_own s said.place said.event))) none))
       (subst (λ (w : Role → Option (List ℕ)). GainsFronts texts w new.written) b.taken.written fronts))
 
-  pub own_went : (cast : Broadcast) (viewers : Viewers) → Holds cast viewers (Ok tt) → Went step (RoomStandsAt (record m { cast = cast; viewers = viewers })) may_read true inputs old new
+  pub own_went : (cast : Broadcast) (viewers : Viewers) → Holds cast viewers (Ok tt)
+      → Went step (RoomStandsAt (record m { cast = cast; viewers = viewers })) may_read true inputs old new
   own_went cast viewers (none, done, gains) =
       let stood = b.stood in
-      line_goes s inputs old mid b.taken (with_own s said.place said.event) texts step (RoomStandsAt (record m { cast = cast; viewers = viewers }))
+      line_goes s inputs old mid b.taken (with_own s said.place said.event) texts step
+      (RoomStandsAt (record m { cast = cast; viewers = viewers }))
       (ap (λ (o : Option Refusal). unless s trace e o (quiet_step trace texts (with_own s said.place said.event))) none)
       (record {
         params = stood.params;

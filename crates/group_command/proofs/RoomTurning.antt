@@ -30,10 +30,13 @@ use Rattle.group_command.proofs.LineTurning.{IsReadAt, found_bad, found_could, f
 use Rattle.group_command.proofs.Watching.{viewing_later, watched_count}
 
 -- what the reader says, where its answer is known
-pub says : (r known : Result (Option (ℕ × ℕ)) TraceStop) (old new : TracePlace) (rest buf : List ℕ) (left : Option (List ℕ)) → r ≡ known → BytesGive r old rest buf new left → BytesGive known old rest buf new left
-says r known old new rest buf left is gives = subst (λ (q : Result (Option (ℕ × ℕ)) TraceStop). BytesGive q old rest buf new left) is gives
+pub says : (r known : Result (Option (ℕ × ℕ)) TraceStop) (old new : TracePlace) (rest buf : List ℕ)
+    (left : Option (List ℕ)) → r ≡ known → BytesGive r old rest buf new left → BytesGive known old rest buf new left
+says r known old new rest buf left is gives =
+    subst (λ (q : Result (Option (ℕ × ℕ)) TraceStop). BytesGive q old rest buf new left) is gives
 
-pub moved : (r known : Result (Option (ℕ × ℕ)) TraceStop) (old new : TracePlace) → r ≡ known → Moves r old new → Moves known old new
+pub moved : (r known : Result (Option (ℕ × ℕ)) TraceStop) (old new : TracePlace) → r ≡ known → Moves r old new
+    → Moves known old new
 moved r known old new is moves = subst (λ (q : Result (Option (ℕ × ℕ)) TraceStop). Moves q old new) is moves
 
 -- what holds in any case holds where it is asked
@@ -58,47 +61,72 @@ where_settled (Err status) P p = by_phase (phase status)
 
 module _ (x y : Room) (old new : Outside) where
   -- one that gives up
-  pub turn_gave_up : (r : Result Bool Status) (status : Status) → IsErrAnd r (λ z. z ≡ status) → IsStop status → HasCause status old.faults new.faults → KeepsRoles old new
-      → ((s : GroupState) (inputs : Role → List ℕ) → RoomStandsAt x s inputs → Tells old inputs → GivesUp (phase status) status (group_step s inputs) (may_read s) inputs old new)
+  pub turn_gave_up : (r : Result Bool Status) (status : Status) → IsErrAnd r (λ z. z ≡ status) → IsStop status
+      → HasCause status old.faults new.faults → KeepsRoles old new
+      → ((s : GroupState) (inputs : Role → List ℕ) → RoomStandsAt x s inputs → Tells old inputs
+      → GivesUp (phase status) status (group_step s inputs) (may_read s) inputs old new)
       → TakesTurn x y r old new
   turn_gave_up (Ok b) status is stop cause rest gives = absurd is
-  turn_gave_up (Err z) status is stop cause rest gives = subst (λ (w : Status). TakesTurn x y (Err w) old new) (sym is) (record {
-    gives = gives;
-    whole = λ s inputs k told. tt;
-    falls = tt;
-    ready = tt;
-    stop = stop;
-    cause = cause;
-    rest = rest;
-  })
+  turn_gave_up (Err z) status is stop cause rest gives = subst (λ (w : Status). TakesTurn x y (Err w) old new) (sym is)
+      (record {
+        gives = gives;
+        whole = λ s inputs k told. tt;
+        falls = tt;
+        ready = tt;
+        stop = stop;
+        cause = cause;
+        rest = rest;
+      })
 
   -- one that can't write
-  pub turn_was_cut : (r : Result Bool Status) (status : Status) → IsErrAnd r (λ z. z ≡ status) → status ≡ WriteFault → Rose old.faults.write new.faults.write → KeepsRoles old new
-      → ((s : GroupState) (inputs : Role → List ℕ) → RoomStandsAt x s inputs → Tells old inputs → GainsFronts (step_texts (group_step s inputs)) old.written new.written)
+  pub turn_was_cut : (r : Result Bool Status) (status : Status) → IsErrAnd r (λ z. z ≡ status) → status ≡ WriteFault
+      → Rose old.faults.write new.faults.write → KeepsRoles old new
+      → ((s : GroupState) (inputs : Role → List ℕ) → RoomStandsAt x s inputs → Tells old inputs
+      → GainsFronts (step_texts (group_step s inputs)) old.written new.written)
       → TakesTurn x y r old new
   turn_was_cut (Ok b) status is kind rose rest gives = absurd is
-  turn_was_cut (Err z) status is kind rose rest gives = subst (λ (w : Status). TakesTurn x y (Err w) old new) (sym (is ∙ kind)) (record {
-    gives = gives;
-    whole = λ s inputs k told. tt;
-    falls = tt;
-    ready = tt;
-    stop = tt;
-    cause = rose;
-    rest = rest;
-  })
+  turn_was_cut (Err z) status is kind rose rest gives = subst (λ (w : Status). TakesTurn x y (Err w) old new) (sym (is
+      ∙ kind)) (record {
+        gives = gives;
+        whole = λ s inputs k told. tt;
+        falls = tt;
+        ready = tt;
+        stop = tt;
+        cause = rose;
+        rest = rest;
+      })
 
   -- one that ends the call
   pub turn_is_over : KeepsRoles old new
-      → ((s : GroupState) (inputs : Role → List ℕ) → RoomStandsAt x s inputs → Tells old inputs → Ended (group_step s inputs) Fine inputs old new)
-      → ((s : GroupState) (inputs : Role → List ℕ) → RoomStandsAt x s inputs → Tells old inputs → new.left Events ≡ Some [])
+      → ((s : GroupState) (inputs : Role → List ℕ) → RoomStandsAt x s inputs → Tells old inputs
+      → Ended (group_step s inputs) Fine inputs old new)
+      → ((s : GroupState) (inputs : Role → List ℕ) → RoomStandsAt x s inputs → Tells old inputs
+      → new.left Events ≡ Some [])
       → TakesTurn x y (Ok false) old new
-  turn_is_over rest gives whole = record { gives = gives; whole = whole; falls = tt; ready = tt; stop = tt; cause = tt; rest = rest }
+  turn_is_over rest gives whole = record {
+    gives = gives;
+    whole = whole;
+    falls = tt;
+    ready = tt;
+    stop = tt;
+    cause = tt;
+    rest = rest;
+  }
 
   -- one that goes on
   pub turn_goes_on : more_of y + 1 ≡ more_of x → RoomReady y new.attached → KeepsRoles old new
-      → ((s : GroupState) (inputs : Role → List ℕ) → RoomStandsAt x s inputs → Tells old inputs → Went (group_step s inputs) (RoomStandsAt y) may_read (may_read s) inputs old new)
+      → ((s : GroupState) (inputs : Role → List ℕ) → RoomStandsAt x s inputs → Tells old inputs
+      → Went (group_step s inputs) (RoomStandsAt y) may_read (may_read s) inputs old new)
       → TakesTurn x y (Ok true) old new
-  turn_goes_on falls ready rest gives = record { gives = gives; whole = λ s inputs k told. tt; falls = falls; ready = ready; stop = tt; cause = tt; rest = rest }
+  turn_goes_on falls ready rest gives = record {
+    gives = gives;
+    whole = λ s inputs k told. tt;
+    falls = falls;
+    ready = ready;
+    stop = tt;
+    cause = tt;
+    rest = rest;
+  }
 
 -- ---- after a line was read
 
@@ -119,12 +147,14 @@ falls_so (Err status) old new is = tt
 
 -- what the reader of the trace has done
 pub record WasRead (m : Room) (after : TracePlace) (buf : List ℕ) (found : ℕ × ℕ) (old mid : Outside) : Type 0 where
-  pub gives : (rest : List ℕ) → old.left Events ≡ Some rest → BytesGive (Ok (Some found)) m.trace rest buf after (mid.left Events)
+  pub gives : (rest : List ℕ) → old.left Events ≡ Some rest
+      → BytesGive (Ok (Some found)) m.trace rest buf after (mid.left Events)
   pub moves : Moves (Ok (Some found)) m.trace after
   pub others : (r : Role) → r ≢ Events → mid.left r ≡ old.left r
   pub rest : OnlyReads old mid
 
-module _ (lines : LineLaws) (steps : StepLaws) (m : Room) (after : TracePlace) (buf : List ℕ) (found : ℕ × ℕ) (old mid : Outside) (w : WasRead m after buf found old mid) where
+module _ (lines : LineLaws) (steps : StepLaws) (m : Room) (after : TracePlace) (buf : List ℕ) (found : ℕ
+    × ℕ) (old mid : Outside) (w : WasRead m after buf found old mid) where
   abbrev now : Room
   now = record m { trace = after }
 
@@ -144,7 +174,8 @@ module _ (lines : LineLaws) (steps : StepLaws) (m : Room) (after : TracePlace) (
     counted : length s.views ≡ length (viewers_in m.viewers)
     counted = watched_count s.params s.run (viewers_in m.viewers) s.views k.views
 
-    step_is : (o : Option GroupLine) → group_line (length s.views) (take found.1 buf) ≡ o → group_step s inputs ≡ line_step s inputs o
+    step_is : (o : Option GroupLine) → group_line (length s.views) (take found.1 buf) ≡ o
+        → group_step s inputs ≡ line_step s inputs o
     step_is o said = found_is lines s inputs old mid only m.trace after at buf found e w.moves o said
 
     could : may_read s ≡ true
@@ -164,15 +195,18 @@ module _ (lines : LineLaws) (steps : StepLaws) (m : Room) (after : TracePlace) (
   abbrev pub Says : Option GroupLine → Type 0
   Says o = found.1 ≤ length buf → group_line (length (viewers_in m.viewers)) (take found.1 buf) ≡ o
 
-  said_so : (o : Option GroupLine) → Says o → (s : GroupState) (inputs : Role → List ℕ) (k : RoomStandsAt m s inputs) (told : Tells old inputs)
+  said_so : (o : Option GroupLine) → Says o → (s : GroupState) (inputs : Role → List ℕ) (k : RoomStandsAt m s inputs)
+      (told : Tells old inputs)
       → group_line (length s.views) (take found.1 buf) ≡ o
-  said_so o said s inputs k told = ap (λ (n : ℕ). group_line n (take found.1 buf)) (counted s inputs k told) ∙ said (fits s inputs k told)
+  said_so o said s inputs k told = ap (λ (n : ℕ). group_line n (take found.1 buf)) (counted s inputs k told)
+      ∙ said (fits s inputs k told)
 
   -- a line that says nothing
   pub line_bad : Says None → (s : GroupState) (inputs : Role → List ℕ) → RoomStandsAt m s inputs → Tells old inputs
       → Ended (group_step s inputs) (TraceRefused (BadLine found.0)) inputs old mid
   line_bad said s inputs k told =
-      found_bad lines s inputs old mid (only s inputs k told) m.trace after (at s inputs k told) buf found (e s inputs k told) w.moves (said_so None said s inputs k told)
+      found_bad lines s inputs old mid (only s inputs k told) m.trace after (at s inputs k told) buf found
+      (e s inputs k told) w.moves (said_so None said s inputs k told)
 
   fewer : 16777216 - after.lines + 1 ≡ 16777216 - m.trace.lines
   fewer = omega (arith, w.moves.1, w.moves.3)
@@ -205,19 +239,24 @@ module _ (lines : LineLaws) (steps : StepLaws) (m : Room) (after : TracePlace) (
   line_empty said r silent =
       turn_goes_on m now old mid fewer (ready_after r) (steps.reads old mid w.rest)
       (λ s inputs k told.
-      found_empty lines s inputs old mid (only s inputs k told) m.trace after (at s inputs k told) buf found (e s inputs k told) w.moves (said_so (Some Quiet) said s inputs k told)
+      found_empty lines s inputs old mid (only s inputs k told) m.trace after (at s inputs k told) buf found
+      (e s inputs k told) w.moves (said_so (Some Quiet) said s inputs k told)
       (RoomStandsAt now) (stood s inputs k told) silent)
 
   -- a line that says something
-  pub line_done : (said : GroupLine) → Says (Some said) → (y : Room) (r : Result Bool Status) (new : Outside) → y.trace ≡ after
+  pub line_done : (said : GroupLine) → Says (Some said) → (y : Room) (r : Result Bool Status) (new : Outside)
+      → y.trace ≡ after
       → TakesLine now y found.0 said r mid new → TakesTurn m y r old new
   line_done said said_is y r new trace_is t = record {
     gives = λ s inputs k told.
-        subst (λ (step : Step GroupState). TurnGives r step (RoomStandsAt y) may_read (may_read s) inputs old new) (sym (step_is s inputs k told (Some said) (said_so (Some said) said_is s inputs k told)))
-        (subst (λ (b : Bool). TurnGives r (line_step s inputs (Some said)) (RoomStandsAt y) may_read b inputs old new) (sym (could s inputs k told))
+        subst (λ (step : Step GroupState). TurnGives r step (RoomStandsAt y) may_read (may_read s) inputs old new)
+        (sym (step_is s inputs k told (Some said) (said_so (Some said) said_is s inputs k told)))
+        (subst (λ (b : Bool). TurnGives r (line_step s inputs (Some said)) (RoomStandsAt y) may_read b inputs old new)
+        (sym (could s inputs k told))
         (t.gives old s inputs (line_read s inputs k told)));
     whole = λ s inputs k told. never r (new.left Events ≡ Some []) t.goes_on;
-    falls = falls_so r (more_of m) (more_of y) (ap (λ (reader : TracePlace). 16777216 - reader.lines + 1) trace_is ∙ fewer);
+    falls = falls_so r (more_of m) (more_of y) (ap (λ (reader : TracePlace). 16777216 - reader.lines + 1) trace_is
+        ∙ fewer);
     ready = t.ready;
     stop = t.stop;
     cause = steps.since r old.faults mid.faults new.faults w.rest.faults t.stop t.cause;

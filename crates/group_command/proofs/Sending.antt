@@ -40,18 +40,29 @@ longer : {X : Type 0} (xs ys : List X) (x : X) → ys ≡ xs ++ x ∷ [] → len
 longer [] ys x is = ap (λ l. length l) is
 longer (y ∷ xs) ys x is = omega (arith, ap (λ l. length l) is, longer xs (xs ++ x ∷ []) x refl)
 
-pub watch_sent : (p : Params) (run later : Groups) (viewers : List Viewer) (views : List ViewerRun) → length later.coded ≡ length run.coded + 1 → first_behind p run views ≡ None → AllWatch p run viewers views → AllWatch p later viewers views
+pub watch_sent : (p : Params) (run later : Groups) (viewers : List Viewer) (views : List ViewerRun)
+    → length later.coded ≡ length run.coded + 1 → first_behind p run views ≡ None → AllWatch p run viewers views
+    → AllWatch p later viewers views
 watch_sent p run later [] [] more none w = tt
 watch_sent p run later (viewer ∷ viewers) (view ∷ views) more none w = (
-  record { holds = w.0.holds; near = omega (arith, more, may_capture p run view (or_none_first (view_refusal p run view Send) (first_behind p run views) none)) },
-  watch_sent p run later viewers views more (or_none_second (view_refusal p run view Send) (first_behind p run views) none) w.1,
+  record {
+    holds = w.0.holds;
+    near = omega (
+      arith,
+      more,
+      may_capture p run view (or_none_first (view_refusal p run view Send) (first_behind p run views) none),
+    );
+  },
+  watch_sent p run later viewers views more (or_none_second (view_refusal p run view Send) (first_behind p run views)
+      none) w.1,
 )
 watch_sent p run later [] (view ∷ views) more none w = absurd w
 watch_sent p run later (viewer ∷ viewers) [] more none w = absurd w
 
 -- ---- after the line that asks for it
 
-module _ (m : Room) (line : ℕ) (now old : Outside) (s : GroupState) (inputs : Role → List ℕ) (b : IsAsked m line now old s inputs) where
+module _ (m : Room) (line : ℕ) (now old : Outside) (s : GroupState) (inputs : Role
+    → List ℕ) (b : IsAsked m line now old s inputs) where
   pub asked_more : s.more ≡ m.video.more
   asked_more = b.read.stood.more
 
@@ -71,10 +82,12 @@ module _ (m : Room) (line : ℕ) (now old : Outside) (s : GroupState) (inputs : 
   nothing_more n = omega arith
 
   -- the machine stands where the frame was sent
-  pub sent_stands : (m_new : Room) (out : List ℕ) (shown : Picture) → m_new.params ≡ m.params → m_new.trace ≡ m.trace → m_new.viewers ≡ m.viewers
+  pub sent_stands : (m_new : Room) (out : List ℕ) (shown : Picture) → m_new.params ≡ m.params → m_new.trace ≡ m.trace
+      → m_new.viewers ≡ m.viewers
       → m_new.video.at ≡ s.at + size → m_new.video.more + 1 ≡ m.video.more → shown ≡ picture_of s.params.format out
       → HoldsBroadcast s.params m_new.cast (group_after_code s.params (steady s.params) (bare shown) s.run)
-      → RoomStands m_new (after_line (with_frame s size out) (inputs Events)) (left_after inputs (and_of (of Events (line_size (inputs Events))) (of Video size)) Events)
+      → RoomStands m_new (after_line (with_frame s size out) (inputs Events))
+      (left_after inputs (and_of (of Events (line_size (inputs Events))) (of Video size)) Events)
   sent_stands m_new out shown params trace viewers at fewer shown_is holds =
       let stood = b.read.stood in
       let run = s.run in
@@ -85,12 +98,16 @@ module _ (m : Room) (line : ℕ) (now old : Outside) (s : GroupState) (inputs : 
         more = less m_new.video.more s.more (fewer ∙ sym asked_more);
         lines = stood.lines ∙ ap (λ t. t.lines) (sym trace);
         ended = stood.ended ∙ ap (λ t. t.ended) (sym trace);
-        over = λ ended. ap (λ (n : ℕ). drop n (inputs Events)) (nothing_more (line_size (inputs Events))) ∙ stood.over (ap (λ t. t.ended) (sym trace) ∙ ended);
-        cast = subst (λ (q : Picture). HoldsBroadcast s.params m_new.cast (group_after_code s.params (steady s.params) (bare q) run)) shown_is holds;
+        over = λ ended. ap (λ (n : ℕ). drop n (inputs Events)) (nothing_more (line_size (inputs Events)))
+            ∙ stood.over (ap (λ t. t.ended) (sym trace) ∙ ended);
+        cast = subst (λ (q : Picture). HoldsBroadcast s.params m_new.cast (group_after_code s.params (steady s.params)
+            (bare q) run)) shown_is holds;
         views = subst (λ v. AllWatch s.params later (viewers_in v) s.views) (sym viewers)
-            (watch_sent s.params run later (viewers_in m.viewers) s.views (longer run.coded later.coded _ refl) b.none stood.views);
+            (watch_sent s.params run later (viewers_in m.viewers) s.views (longer run.coded later.coded _ refl) b.none
+            stood.views);
       }
 
 -- a buffer that was lent whole holds what was put there
-pub lent : (v : Vec ℕ Global) (l got : List ℕ) (n : ℕ) → got ≡ (with_items v l).items → length l ≡ n → n ≡ v.len → got ≡ l
+pub lent : (v : Vec ℕ Global) (l got : List ℕ) (n : ℕ) → got ≡ (with_items v l).items → length l ≡ n → n ≡ v.len
+    → got ≡ l
 lent v l got n is long whole = is ∙ with_items_is v l (omega (arith, long, whole, v.ok.0))

@@ -66,25 +66,33 @@ not_an_err {T} {E} r x is lost = ok_is_none x (subst IsErr is lost)
     ok_is_none : (x : T) → IsErr {T = T} {E = E} (Ok x) → ⊥
     ok_is_none x lost = absurd (cc lost)
 
-head_part : VideoLaws → (t : GroupTerms) (video : List ℕ) (k : ℕ) (r : Result Format Y4mFault) → head_of video ≡ r → IsErr (head_of (take k video)) → IsPart (step_turns (head_step t video r)) (of Video k)
-head_part laws t video k (Ok f) is lost = part_of (head_size video) k (λ le. not_an_err _ f (laws.head video f k is le).0 lost)
+head_part : VideoLaws → (t : GroupTerms) (video : List ℕ) (k : ℕ) (r : Result Format Y4mFault) → head_of video ≡ r
+    → IsErr (head_of (take k video)) → IsPart (step_turns (head_step t video r)) (of Video k)
+head_part laws t video k (Ok f) is lost = part_of (head_size video) k
+    (λ le. not_an_err _ f (laws.head video f k is le).0 lost)
 head_part laws t video k (Err fault) is lost = tt
 
 -- ---- an end that is known
 
-pub ends_so : {Machine : Type 0} (r : Result Machine Status) (status : Status) (run : Run) (inputs : Role → List ℕ) (start : Role → Option (List ℕ)) (now : Outside)
-    → IsErrAnd r (λ x. x ≡ status) → HasEnded run silent status inputs start now → IfErr r (λ x. HasEnded run silent x inputs start now)
+pub ends_so : {Machine : Type 0} (r : Result Machine Status) (status : Status) (run : Run) (inputs : Role
+    → List ℕ) (start : Role → Option (List ℕ)) (now : Outside)
+    → IsErrAnd r (λ x. x ≡ status) → HasEnded run silent status inputs start now
+    → IfErr r (λ x. HasEnded run silent x inputs start now)
 ends_so (Ok m) status run inputs start now is ended = absurd is
-ends_so (Err x) status run inputs start now is ended = subst (λ (y : Status). HasEnded run silent y inputs start now) (sym is) ended
+ends_so (Err x) status run inputs start now is ended = subst (λ (y : Status). HasEnded run silent y inputs start now)
+    (sym is) ended
 
 -- a start for which there was no memory, where no call had failed
-pub starved_cause : {Machine : Type 0} (r : Result Machine Status) (old new : Faults) → IsErrAnd r (λ x. x ≡ OutOfMemory) → new ≡ old → HasCause (start_status r) old new
+pub starved_cause : {Machine : Type 0} (r : Result Machine Status) (old new : Faults)
+    → IsErrAnd r (λ x. x ≡ OutOfMemory) → new ≡ old → HasCause (start_status r) old new
 starved_cause (Ok m) old new is quiet = absurd is
 starved_cause (Err x) old new is quiet = subst (λ (y : Status). HasCause y old new) (sym is) quiet
 
 -- ---- the head was read, from old to mid
 
-module _ (turns : TurnLaws) (laws : VideoLaws) (t : GroupTerms) (inputs : Role → List ℕ) (old mid : Outside) (told : Tells old inputs) (others : (r : Role) → r ≢ Video → mid.left r ≡ old.left r) (same : mid.written ≡ old.written) where
+module _ (turns : TurnLaws) (laws : VideoLaws) (t : GroupTerms) (inputs : Role
+    → List ℕ) (old mid : Outside) (told : Tells old inputs) (others : (r : Role) → r ≢ Video
+    → mid.left r ≡ old.left r) (same : mid.written ≡ old.written) where
   pub head_stops : (stop : VideoStop) → HeadGives (Err stop) (inputs Video) (mid.left Video)
       → GivesUp (phase (video_stop stop)) (video_stop stop) (group_begin t inputs) true inputs old mid
   head_stops Read e = record {
@@ -97,19 +105,23 @@ module _ (turns : TurnLaws) (laws : VideoLaws) (t : GroupTerms) (inputs : Role �
   head_stops (Refused fault) e = record {
     last = video_refusal Video no_bytes (VideoRefused fault);
     is = ap (λ (r : Result Format Y4mFault). head_step t (inputs Video) r) e;
-    by = turns.refuses_video Video no_bytes (VideoRefused fault) inputs old mid (λ r input other. others r other ∙ told r input) same;
+    by = turns.refuses_video Video no_bytes (VideoRefused fault) inputs old mid (λ r input other. others r other
+        ∙ told r input) same;
   }
 
   -- the heads of the pictures could not be written
-  pub heads_cut : (f : Format) → head_of (inputs Video) ≡ Ok f → (status : Status) (last : Outside) → status ≡ WriteFault → GainsFronts (heads_text f t.receivers) mid.written last.written
+  pub heads_cut : (f : Format) → head_of (inputs Video) ≡ Ok f → (status : Status) (last : Outside)
+      → status ≡ WriteFault → GainsFronts (heads_text f t.receivers) mid.written last.written
       → GivesUp (phase status) status (group_begin t inputs) true inputs old last
   heads_cut f head status last is fronts =
       subst (λ (y : Status). GivesUp (phase y) y (group_begin t inputs) true inputs old last) (sym is)
-      (subst (λ (step : Step GroupState). GainsFronts (step_texts step) old.written last.written) (sym (ap (λ (r : Result Format Y4mFault). head_step t (inputs Video) r) head))
+      (subst (λ (step : Step GroupState). GainsFronts (step_texts step) old.written last.written)
+      (sym (ap (λ (r : Result Format Y4mFault). head_step t (inputs Video) r) head))
       (subst (λ (w : Role → Option (List ℕ)). GainsFronts (heads_text f t.receivers) w last.written) same fronts))
 
   -- they were
-  module _ (video : Y4mPlace) (m : Room) (new : IsNewRoom (record t.params { format = video.format }) t.receivers video m) (more : video.more ≡ most_frames) (e : HeadGives (Ok video) (inputs Video) (mid.left Video)) where
+  module _ (video : Y4mPlace) (m : Room) (new : IsNewRoom (record t.params { format = video.format }) t.receivers video
+      m) (more : video.more ≡ most_frames) (e : HeadGives (Ok video) (inputs Video) (mid.left Video)) where
     abbrev p : Params
     p = record t.params { format = video.format }
 
@@ -131,24 +143,32 @@ module _ (turns : TurnLaws) (laws : VideoLaws) (t : GroupTerms) (inputs : Role �
       views = new.views;
     }
 
-    pub heads_go : (last : Outside) → last.left ≡ mid.left → Gains (heads_text video.format t.receivers) mid.written last.written
+    pub heads_go : (last : Outside) → last.left ≡ mid.left
+        → Gains (heads_text video.format t.receivers) mid.written last.written
         → Went (group_begin t inputs) (RoomStandsAt m) may_read true inputs old last
     heads_go last still gains = record {
       next = first;
-      turn = record { taken = of Video (head_size (inputs Video)); whole = true; texts = heads_text video.format t.receivers };
+      turn = record {
+        taken = of Video (head_size (inputs Video));
+        whole = true;
+        texts = heads_text video.format t.receivers;
+      };
       could = refl;
       is = ap (λ (r : Result Format Y4mFault). head_step t (inputs Video) r) e.0;
       kept = begun (left_after inputs (of Video (head_size (inputs Video))));
       whole = refl;
-      left = λ r input. ap (λ (l : Role → Option (List ℕ)). l r) still ∙ turns.one_read Video (head_size (inputs Video)) old mid inputs told e.2 others r input;
-      written = subst (λ (w : Role → Option (List ℕ)). Gains (heads_text video.format t.receivers) w last.written) same gains;
+      left = λ r input. ap (λ (l : Role → Option (List ℕ)). l r) still
+          ∙ turns.one_read Video (head_size (inputs Video)) old mid inputs told e.2 others r input;
+      written = subst (λ (w : Role → Option (List ℕ)). Gains (heads_text video.format t.receivers) w last.written) same
+          gains;
     }
 
 module _ (p : Params) (receivers : ℕ) (video : Y4mPlace) (m : Room) (new : IsNewRoom p receivers video m) where
   pub all_may_come : more_of m ≡ most_turns
   all_may_come = ap (λ (n : ℕ). 16777216 - n) new.lines
 
-  pub ready_first : (attached : Role → Bool) → IsParams p → p.format ≡ video.format → video.more ≡ most_frames → GroupOpens receivers attached → RoomReady m attached
+  pub ready_first : (attached : Role → Bool) → IsParams p → p.format ≡ video.format → video.more ≡ most_frames
+      → GroupOpens receivers attached → RoomReady m attached
   ready_first attached params format more opens =
       let none : m.trace.lines ≡ 0 = new.lines in
       let from : m.params ≡ p = new.params in
@@ -162,7 +182,8 @@ module _ (p : Params) (receivers : ℕ) (video : Y4mPlace) (m : Room) (new : IsN
         casting = new.casting;
         sent = omega (arith, new.sent, ap (λ (v : Y4mPlace). v.more) new.video_is, more);
         few = omega (arith, none);
-        viewing = subst (λ (n : ℕ). AreViewing n m.trace.lines m.viewers) (sym new.sent) (subst (λ (n : ℕ). AreViewing 0 n m.viewers) (sym none) new.viewing);
+        viewing = subst (λ (n : ℕ). AreViewing n m.trace.lines m.viewers) (sym new.sent)
+            (subst (λ (n : ℕ). AreViewing 0 n m.viewers) (sym none) new.viewing);
       }
 
 pub none_coded : (k : ℕ) → length (joined_by k).coded ≡ 0

@@ -38,10 +38,12 @@ module _ (turns : TurnLaws) (row : OwnRow) (picture : Picture) (old mid : Role �
   abbrev line : List ℕ
   line = picture_text row.number (Some row.mark) (Some row.reference) (Some (49 + row.place))
 
-  pub first_front : GainsFronts (on role (frame_text row.mark picture)) old mid → GainsFronts (own_texts row picture) old mid
+  pub first_front : GainsFronts (on role (frame_text row.mark picture)) old mid
+      → GainsFronts (own_texts row picture) old mid
   first_front fronts = turns.front_of_first (on role (frame_text row.mark picture)) (on Report line) old mid fronts
 
-  module _ (new : Role → Option (List ℕ)) (text : List ℕ) (text_is : text ≡ line) (first : Gains (on role (frame_text row.mark picture)) old mid) where
+  module _ (new : Role → Option (List ℕ)) (text : List ℕ) (text_is : text
+      ≡ line) (first : Gains (on role (frame_text row.mark picture)) old mid) where
     pub both_gain : Gains (on Report text) mid new → Gains (own_texts row picture) old new
     both_gain gains =
         turns.both_texts (on role (frame_text row.mark picture)) (on Report line) old mid new first
@@ -53,22 +55,31 @@ module _ (turns : TurnLaws) (row : OwnRow) (picture : Picture) (old mid : Role �
         (subst (λ (l : List ℕ). GainsFronts (on Report l) mid new) text_is fronts)
 
 -- the row of a play that is told so
-pub row_is : (p : Params) (k : ℕ) (run : Groups) (view : ViewerRun) (number : ℕ) (mark : Mark) (reference : Option ℕ) (picture : Picture)
-    → number ≡ (run_of p view.entries).played → mark ≡ mark_of (played_mark (decoding p.format) (rules_of p) (run_of p view.entries))
-    → reference ≡ reference_in run.coded (run_of p view.entries).played → picture ≡ (run_of p (view_play p view).entries).screen
-    → own_texts (record { place = k; number = number; mark = mark; reference = reference }) picture ≡ played_texts p k run view
+pub row_is : (p : Params) (k : ℕ) (run : Groups) (view : ViewerRun) (number : ℕ) (mark : Mark) (reference : Option ℕ)
+    (picture : Picture)
+    → number ≡ (run_of p view.entries).played
+    → mark ≡ mark_of (played_mark (decoding p.format) (rules_of p) (run_of p view.entries))
+    → reference ≡ reference_in run.coded (run_of p view.entries).played
+    → picture ≡ (run_of p (view_play p view).entries).screen
+    → own_texts (record { place = k; number = number; mark = mark; reference = reference }) picture
+    ≡ played_texts p k run view
 row_is p k run view number mark reference picture number_is mark_is reference_is shown =
-    λ i. then_also (on (pictures_at k) (frame_text (mark_is i) (shown i))) (on Report (picture_text (number_is i) (Some (mark_is i)) (Some (reference_is i)) (Some (49 + k))))
+    λ i. then_also (on (pictures_at k) (frame_text (mark_is i) (shown i)))
+    (on Report (picture_text (number_is i) (Some (mark_is i)) (Some (reference_is i)) (Some (49 + k))))
 
 -- the reference of the picture that is played next
-pub reference_next : (run : Groups) (n played : ℕ) → n ≡ played → {reference : Option ℕ} → (n < length run.coded → length run.coded ≤ n + 512 → reference ≡ reference_in run.coded n)
+pub reference_next : (run : Groups) (n played : ℕ) → n ≡ played → {reference : Option ℕ}
+    → (n < length run.coded → length run.coded ≤ n + 512 → reference ≡ reference_in run.coded n)
     → played < length run.coded → length run.coded ≤ played + 512 → reference ≡ reference_in run.coded played
 reference_next run n played is {reference} holds some near =
-    subst (λ (m : ℕ). m < length run.coded → length run.coded ≤ m + 512 → reference ≡ reference_in run.coded m) is holds some near
+    subst (λ (m : ℕ). m < length run.coded → length run.coded ≤ m + 512
+    → reference ≡ reference_in run.coded m) is holds some near
 
 -- the line of a receiver's counts
-pub counts_are : (p : Params) (k : ℕ) (run : Groups) (view : ViewerRun) (word : List ℕ) (tally : Tally) (played sent : ℕ) → word ≡ (49 + k) ∷ codes " played" → AreCounted tally view.plays
-    → played ≡ (run_of p view.entries).played → sent ≡ length run.coded → counts_with word tally played sent ≡ counts_of_view p run k view
+pub counts_are : (p : Params) (k : ℕ) (run : Groups) (view : ViewerRun) (word : List ℕ) (tally : Tally)
+    (played sent : ℕ) → word ≡ (49 + k) ∷ codes " played" → AreCounted tally view.plays
+    → played ≡ (run_of p view.entries).played → sent ≡ length run.coded → counts_with word tally played sent
+    ≡ counts_of_view p run k view
 counts_are p k run view word tally played sent word_is marks played_is sent_is =
     λ i. counts_text_of (word_is i) (played_is i) (sent_is i) (marks.exact i) (marks.patched i) (marks.held i)
 
@@ -76,11 +87,15 @@ counts_are p k run view word tally played sent word_is marks played_is sent_is =
 
 module _ (turns : TurnLaws) (f : Format) (old mid : Role → Option (List ℕ)) where
   -- so many heads are written, and the next one, or a prefix of it
-  pub head_more : (k : ℕ) (new : Role → Option (List ℕ)) → Gains (heads_text f k) old mid → Gains (on (pictures_at k) (head_text f)) mid new → Gains (heads_text f (suc k)) old new
-  head_more k new before now = turns.both_texts (heads_text f k) (on (pictures_at k) (head_text f)) old mid new before now
+  pub head_more : (k : ℕ) (new : Role → Option (List ℕ)) → Gains (heads_text f k) old mid
+      → Gains (on (pictures_at k) (head_text f)) mid new → Gains (heads_text f (suc k)) old new
+  head_more k new before now = turns.both_texts (heads_text f k) (on (pictures_at k) (head_text f)) old mid new before
+      now
 
-  pub head_cut : (k : ℕ) (new : Role → Option (List ℕ)) → Gains (heads_text f k) old mid → GainsFronts (on (pictures_at k) (head_text f)) mid new → GainsFronts (heads_text f (suc k)) old new
-  head_cut k new before now = turns.front_of_second (heads_text f k) (on (pictures_at k) (head_text f)) old mid new before now
+  pub head_cut : (k : ℕ) (new : Role → Option (List ℕ)) → Gains (heads_text f k) old mid
+      → GainsFronts (on (pictures_at k) (head_text f)) mid new → GainsFronts (heads_text f (suc k)) old new
+  head_cut k new before now = turns.front_of_second (heads_text f k) (on (pictures_at k) (head_text f)) old mid new
+      before now
 
   -- a prefix of the first ones is one of all
   pub head_front : (k : ℕ) → GainsFronts (heads_text f k) old mid → GainsFronts (heads_text f (suc k)) old mid
@@ -90,16 +105,20 @@ module _ (turns : TurnLaws) (f : Format) (old mid : Role → Option (List ℕ)) 
   same : (k n : ℕ) → k ≤ n → n ≤ k → k ≡ n
   same k n le too = omega (arith, le, too)
 
-  by_order : (k n : ℕ) → k ≤ suc n → (k < suc n → GainsFronts (heads_text f (suc n)) old mid) → GainsFronts (heads_text f k) old mid → (k < suc n) ⊎ (suc n ≤ k) → GainsFronts (heads_text f (suc n)) old mid
+  by_order : (k n : ℕ) → k ≤ suc n → (k < suc n → GainsFronts (heads_text f (suc n)) old mid)
+      → GainsFronts (heads_text f k) old mid → (k < suc n) ⊎ (suc n ≤ k) → GainsFronts (heads_text f (suc n)) old mid
   by_order k n le goes fronts (inl less) = goes less
-  by_order k n le goes fronts (inr more) = subst (λ (m : ℕ). GainsFronts (heads_text f m) old mid) (same k (suc n) le more) fronts
+  by_order k n le goes fronts (inr more) = subst (λ (m : ℕ). GainsFronts (heads_text f m) old mid)
+      (same k (suc n) le more) fronts
 
   pub heads_front : (k n : ℕ) → k ≤ n → GainsFronts (heads_text f k) old mid → GainsFronts (heads_text f n) old mid
   heads_front k zero le fronts = subst (λ (m : ℕ). GainsFronts (heads_text f m) old mid) (none k le) fronts
     where
       none : (k : ℕ) → k ≤ 0 → k ≡ 0
       none k le = omega (arith, le)
-  heads_front k (suc n) le fronts = by_order k n le (λ less. head_front turns f old mid n (heads_front k n (omega (arith, less)) fronts)) fronts (cases_lt k (suc n))
+  heads_front k (suc n) le fronts =
+      by_order k n le (λ less. head_front turns f old mid n (heads_front k n (omega (arith, less)) fronts)) fronts
+      (cases_lt k (suc n))
 
   -- none was written before the first
   pub no_head : Gains (heads_text f 0) old old

@@ -175,7 +175,11 @@ module _ (s : GroupState) (trace : List ℕ) where
   abbrev pub captured_step : ℕ → Result (List ℕ) Y4mFault → Step GroupState
   captured_step size (Ok planes) =
       Goes (after_line (with_frame s size planes) trace)
-      (record { taken = and_of (of Events (line_size trace)) (of Video size); whole = is_closed trace; texts = no_texts })
+      (record {
+        taken = and_of (of Events (line_size trace)) (of Video size);
+        whole = is_closed trace;
+        texts = no_texts;
+      })
   captured_step size (Err fault) =
       Ends (video_refusal Video (of Events (line_size trace)) (VideoRefused fault))
 

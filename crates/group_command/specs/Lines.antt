@@ -25,6 +25,8 @@ group_line count line =
     if bytes_eq line (codes "") then Some Quiet
     else if bytes_eq line (codes "S") then Some ForAll
     else if bytes_eq (take 2 line) (codes "1 ") then of_one 0 (event_in (drop 2 line))
-    else if bytes_eq (take 2 line) (codes "2 ") then (if nat_le 2 count then of_one 1 (event_in (drop 2 line)) else None)
-    else if bytes_eq (take 2 line) (codes "3 ") then (if nat_le 3 count then of_one 2 (event_in (drop 2 line)) else None)
+    else if bytes_eq (take 2 line) (codes "2 ") then (if nat_le 2 count then of_one 1 (event_in (drop 2 line))
+    else None)
+    else if bytes_eq (take 2 line) (codes "3 ") then (if nat_le 3 count then of_one 2 (event_in (drop 2 line))
+    else None)
     else None

@@ -92,7 +92,8 @@ pub record KeepsCast (old new : Broadcast) : Type 0 where
 -- A line was read, which has this number: the machine stood at the state before it, its reader of the
 -- trace has passed it, and nothing else was done since the desk was the old one.
 pub record IsRead (m : Room) (line : ℕ) (now old : Outside) (s : GroupState) (inputs : Role → List ℕ) : Type 0 where
-  pub stood : RoomStands m (after_line s (inputs Events)) (left_after inputs (of Events (line_size (inputs Events))) Events)
+  pub stood : RoomStands m (after_line s (inputs Events))
+      (left_after inputs (of Events (line_size (inputs Events))) Events)
   pub number : line ≡ s.lines + 1
   pub taken : HasTaken inputs old now
 

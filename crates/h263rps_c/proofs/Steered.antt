@@ -25,7 +25,8 @@ aim_is : (p : Params) (first : Option ℕ) (past : List Steering) → (sent_afte
 aim_is p first [] = refl
 aim_is p first (Capture frame ∷ past) =
     let s = sent_after p false first past in
-    ap (aim_after (next_kind p s.run) (counted_bytes (packets_after p (after_sent p frame s).run))) (aim_is p first past)
+    ap (aim_after (next_kind p s.run) (counted_bytes (packets_after p (after_sent p frame s).run)))
+    (aim_is p first past)
 aim_is p first (Feedback bytes ∷ past) = aim_is p first past
 aim_is p first (Target target ∷ past) = refl
 aim_is p first (Quant quant ∷ past) = refl
@@ -42,10 +43,12 @@ pub quantiser_fits : QuantiserFits
 unfolding capture
 quantiser_fits p first frame past pace e =
     let s = sent_after p true first past in
-    ap (λ (f : Option FitPace). quant_after_sizes (target_by s.aim.target f) (first_by s.aim.quant (next_kind p s.run) f)
+    ap (λ (f : Option FitPace). quant_after_sizes (target_by s.aim.target f)
+    (first_by s.aim.quant (next_kind p s.run) f)
     (last_sizes (encoding p) (rules_of p) s.run.run.coded)) e
 
-pub forget_is_intra : ((p : Params) → models.ForgetIsIntra (pictures p.format) (encoding p) (rules_of p)) → ForgetIsIntra
+pub forget_is_intra : ((p : Params) → models.ForgetIsIntra (pictures p.format) (encoding p) (rules_of p))
+    → ForgetIsIntra
 forget_is_intra law p fits first frame past =
     law p (pace_by p (sent_after p fits first (Forget ∷ past))) frame (run_after p fits first past)
 
@@ -67,7 +70,8 @@ below_floor p fits first (Quant quant ∷ later) past = below_floor p fits first
 below_floor p fits first (Forget ∷ later) past =
     let before = below_floor p fits first later past in (before.1, before.1)
 
-pub forget_is_for_good : ((p : Params) → models.NeverBelow (pictures p.format) (encoding p) (rules_of p)) → ForgetIsForGood
+pub forget_is_for_good : ((p : Params) → models.NeverBelow (pictures p.format) (encoding p) (rules_of p))
+    → ForgetIsForGood
 forget_is_for_good law p fits first frame later past m is =
     let all = later ++ Forget ∷ past in
     let low = law p (pace_by p (sent_after p fits first all)) frame (run_after p fits first all) m is in

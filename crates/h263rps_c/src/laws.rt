@@ -9,10 +9,10 @@ use fitted_sender::laws as fitted_laws;
 use h263_types::Mb;
 
 /// A steered sender. At each picture the quantiser follows the target in force then, by the bytes
-/// of the last 16 pictures (`quantiser`), or fits the picture to it (`fitted`). The picture after a forget is coded intra (`intra`), and
-/// no picture from before it is a reference again, whatever comes back later (`for_good`). A sender
-/// that isn't steered, and fits nothing, has the run of its entries, with one target for all
-/// (`plain`).
+/// of the last 16 pictures (`quantiser`), or fits the picture to it (`fitted`). The picture after a
+/// forget is coded intra (`intra`), and no picture from before it is a reference again, whatever
+/// comes back later (`for_good`). A sender that isn't steered, and fits nothing, has the run of its
+/// entries, with one target for all (`plain`).
 pub fn steering()
     ensures quantiser { QuantiserIs }
     ensures fitted { QuantiserFits }

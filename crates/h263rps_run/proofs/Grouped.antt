@@ -14,7 +14,9 @@ use Rattle.h263rps_run.specs.Output.{group_terms, roles_of, the_word}
 use Rattle.h263rps_run.proofs.Named.{group_by}
 
 module _ (params : Params) (a : Asked) where
-  free_by : (two three : Bool) → IsTrue (are_free (with_role (λ _. false) Report true) (map (λ r. (r.0, the_word (a.given r.1))) (group_by two three)))
+  free_by : (two three : Bool)
+      → IsTrue (are_free (with_role (λ _. false) Report true) (map (λ r. (r.0, the_word (a.given r.1)))
+      (group_by two three)))
   free_by false false = refl
   free_by false true = refl
   free_by true false = refl
@@ -23,7 +25,8 @@ module _ (params : Params) (a : Asked) where
   pub group_free : (n : ℕ) → IsTrue (are_free (with_role (λ _. false) Report true) (roles_of (Group params n) a))
   group_free n = free_by (nat_le 2 n) (nat_le 3 n)
 
-  pub group_opens : (n : ℕ) → IsParams params → 1 ≤ n → n ≤ 3 → (now : Outside) → AreAttached ((Report, []) ∷ roles_of (Group params n) a) now → MayBegin (group_terms params n) now.attached
+  pub group_opens : (n : ℕ) → IsParams params → 1 ≤ n → n ≤ 3 → (now : Outside)
+      → AreAttached ((Report, []) ∷ roles_of (Group params n) a) now → MayBegin (group_terms params n) now.attached
   group_opens zero is some few now e = absurd (omega (arith, some))
   group_opens (suc zero) is some few now e = record {
     params = is;

@@ -89,7 +89,8 @@ between_told least most p w through now l h =
     (action_of w (slope_with p w now l) (is_judged now (counted p.packets w l.losses)) through (heard p w now l))
     through now (heard p w now l) (between_heard least most p w now l h)
 
-between_noticed : (least most : ℕ) (p : Picture) (l : Line) → IsBetween least most l → IsBetween least most (noticed p l)
+between_noticed : (least most : ℕ) (p : Picture) (l : Line) → IsBetween least most l
+    → IsBetween least most (noticed p l)
 between_noticed least most p l h =
     record { least_is = h.least_is; most_is = h.most_is; above = h.above; below = h.below }
 

@@ -67,7 +67,8 @@ less_of a b rate l e = omega arith
 
 gives_way : (o : Option ℕ) (p : Picture) (through now : ℕ) (l : Line) → o ≡ Some 2
     → let m = turned (cutting_action o (slope_with p false now l)
-    (is_judged now (counted p.packets false l.losses)) through (heard p false now l)) through now (heard p false now l) in
+    (is_judged now (counted p.packets false l.losses)) through (heard p false now l)) through now
+    (heard p false now l) in
     (m.rate ≤ max (l.rate * 2 / 8) l.least) × (m.paused ≡ min (now + 200000000) 18446744073709551615)
 gives_way None p through now l e = cc
 gives_way (Some n) p through now l e =

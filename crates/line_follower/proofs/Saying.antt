@@ -111,7 +111,8 @@ never_sent b start number now w es h =
 
 -- ---- told twice
 
-some_of : (b : Bool) (q p : Picture) → cond b (let x : Option Picture = Some q in x) None ≡ Some p → (b ≡ true) × (q ≡ p)
+some_of : (b : Bool) (q p : Picture) → cond b (let x : Option Picture = Some q in x) None ≡ Some p
+    → (b ≡ true) × (q ≡ p)
 some_of true q p e = let s : q ≡ p = cc in (refl, s)
 some_of false q p e = cc
 

@@ -12,7 +12,8 @@ places-preserved c =
       sent = c.join.ensures.sent ∙ before.sent;
       kept = c.join.ensures.kept ∙ before.kept;
       casting = c.join.ensures.ready before.casting;
-      holds = subst (λ (k : ℕ). HoldsBroadcast c.args.params.now c.join.new.self (joined_by k)) next (c.join.ensures.holds c.args.params.now (joined_by c.places.place) before.holds);
+      holds = subst (λ (k : ℕ). HoldsBroadcast c.args.params.now c.join.new.self (joined_by k)) next
+          (c.join.ensures.holds c.args.params.now (joined_by c.places.place) before.holds);
     }
 
 pub returns-clause-params : goal.returns-clause-params

@@ -1,3 +1,4 @@
+-- One event of a receiver, by its kind: what is done, or which refusal ends the run.
 use Rattle.std.proofs.Common.{◌≡◌, ◌+◌, ◌≤◌, length, Option, None, Ok, refl, ap, subst, arith}
 use Rattle.h263_types.specs.Clocks.{half_of}
 use Rattle.call_model.specs.IdealCall.{Deliver, Play, Back}
@@ -17,9 +18,12 @@ returns-in_err-allow-in-Play-clause-gives g c = λ p run view half period cast w
     let old = (g.D.Desk.outside c.args.desk.now).written in
     let said = c.args.said in
     let r = c.from_residual-in_err-allow-in-Play.result in
-    of_event r said.line said.place p run view (λ run view. Watches p run c.args.viewer.now view) c.args.cast.now old old said.event own.Play c.in-Play.is
-    (refused_gives said.line Play (view_refusal p run view Play) _ (played_texts p said.place run view) old old r c.in_err-allow-in-Play.field-0.0 c.check_shown.result
-    c.from_residual-in_err-allow-in-Play.ensures.1 c.in_err-allow-in-Play.ensures.err (c.check_shown.ensures.refusal p run view cast w.holds) refl)
+    of_event r said.line said.place p run view (λ run view. Watches p run c.args.viewer.now view) c.args.cast.now old
+    old said.event own.Play c.in-Play.is
+    (refused_gives said.line Play (view_refusal p run view Play) _ (played_texts p said.place run view) old old r
+    c.in_err-allow-in-Play.field-0.0 c.check_shown.result
+    c.from_residual-in_err-allow-in-Play.ensures.1 c.in_err-allow-in-Play.ensures.err
+    (c.check_shown.ensures.refusal p run view cast w.holds) refl)
 
 pub returns-in_ok-allow-in-Packet-clause-gives : goal.returns-in_ok-allow-in-Packet-clause-gives
 returns-in_ok-allow-in-Packet-clause-gives g c = λ p run view half period cast w.
@@ -27,9 +31,11 @@ returns-in_ok-allow-in-Packet-clause-gives g c = λ p run view half period cast 
     let said = c.args.said in
     let n = c.in-Packet.number in
     let j = c.in-Packet.place in
-    let none : view_refusal p run view (Deliver n j) ≡ None = none_so c.check_number.result (Deliver n j) _ c.in_ok-allow-in-Packet.ensures.ok (c.check_number.ensures.refusal p run view j half cast w.holds) in
+    let none : view_refusal p run view (Deliver n j) ≡ None = none_so c.check_number.result (Deliver n j)
+    _ c.in_ok-allow-in-Packet.ensures.ok (c.check_number.ensures.refusal p run view j half cast w.holds) in
     let among = is_cast p run view c.args.cast.now n j period w.near none in
-    of_event (Ok tt) said.line said.place p run view (λ run view. Watches p run c.deliver.new.self view) c.args.cast.now old old said.event (own.Packet n j) c.in-Packet.is (
+    of_event (Ok tt) said.line said.place p run view (λ run view. Watches p run c.deliver.new.self view) c.args.cast.now
+    old old said.event (own.Packet n j) c.in-Packet.is (
       none,
       (
         cast,
@@ -46,10 +52,12 @@ returns-in_ok-allow-in-All-clause-gives g c = λ p run view half period cast w.
     let old = (g.D.Desk.outside c.args.desk.now).written in
     let said = c.args.said in
     let n = c.in-All.number in
-    let none : view_refusal p run view (Deliver n 0) ≡ None = none_so c.check_number-in-All.result (Deliver n 0) _ c.in_ok-allow-in-All.ensures.ok (c.check_number-in-All.ensures.refusal p run view 0 half cast w.holds) in
+    let none : view_refusal p run view (Deliver n 0) ≡ None = none_so c.check_number-in-All.result (Deliver n 0)
+    _ c.in_ok-allow-in-All.ensures.ok (c.check_number-in-All.ensures.refusal p run view 0 half cast w.holds) in
     let among = is_cast p run view c.args.cast.now n 0 period w.near none in
     let packets = packets_in p run.coded n in
-    of_event (Ok tt) said.line said.place p run view (λ run view. Watches p run c.deliver_all.new.self view) c.args.cast.now old old said.event (own.All n) c.in-All.is (
+    of_event (Ok tt) said.line said.place p run view (λ run view. Watches p run c.deliver_all.new.self view)
+    c.args.cast.now old old said.event (own.All n) c.in-All.is (
       none,
       (
         cast,
@@ -66,11 +74,14 @@ returns-in_ok-allow-in-Back-clause-gives g c = λ p run view half period cast w.
     let old = (g.D.Desk.outside c.args.desk.now).written in
     let said = c.args.said in
     let m = c.in-Back.message in
-    let none : view_refusal p run view (Back m) ≡ None = none_so c.check_message.result (Back m) _ c.in_ok-allow-in-Back.ensures.ok (c.check_message.ensures p run view half cast w.holds) in
-    of_event (Ok tt) said.line said.place p run view (λ run view. Watches p run c.args.viewer.now view) c.hear.new.cast old old said.event (own.Back m) c.in-Back.is (
+    let none : view_refusal p run view (Back m) ≡ None = none_so c.check_message.result (Back m)
+    _ c.in_ok-allow-in-Back.ensures.ok (c.check_message.ensures p run view half cast w.holds) in
+    of_event (Ok tt) said.line said.place p run view (λ run view. Watches p run c.args.viewer.now view) c.hear.new.cast
+    old old said.event (own.Back m) c.in-Back.is (
       none,
       (
-        subst (λ (o : Option SaidMessage). HoldsBroadcast p c.hear.new.cast (heard p said.place run view o)) (message_kept p run view m none) (c.hear.ensures.holds p run view cast w.holds),
+        subst (λ (o : Option SaidMessage). HoldsBroadcast p c.hear.new.cast (heard p said.place run view o))
+            (message_kept p run view m none) (c.hear.ensures.holds p run view cast w.holds),
         record {
           holds = w.holds;
           near = omega (arith, w.near, ap (λ l. length l) (own_codes p said.place run view (own.Back m)));
@@ -87,10 +98,14 @@ returns-in_ok-allow-in-Play-clause-gives g c = λ p run view half period cast w.
     let said = c.args.said in
     let done = c.play_next.ensures in
     let played = (run_of p view.entries).played in
-    let none : view_refusal p run view Play ≡ None = none_so c.check_shown.result Play _ c.in_ok-allow-in-Play.ensures.ok (c.check_shown.ensures.refusal p run view cast w.holds) in
+    let none : view_refusal p run view Play
+    ≡ None = none_so c.check_shown.result Play _ c.in_ok-allow-in-Play.ensures.ok
+    (c.check_shown.ensures.refusal p run view cast w.holds) in
     let some = may_play p run view none in
     let close : length run.coded ≤ played + 512 = omega (arith, w.near, half, c.requires.event.half_few) in
     let near : length run.coded ≤ played + 1 + half_of p.clock = omega (arith, w.near) in
-    of_event c.play_next.result said.line said.place p run view (λ run view. Watches p run c.play_next.new.viewer view) c.args.cast.now old new said.event own.Play c.in-Play.is
-    (written_gives said.line Play (view_refusal p run view Play) _ (played_texts p said.place run view) old new c.play_next.result none (cast, record { holds = done.holds p view w.holds; near = near })
+    of_event c.play_next.result said.line said.place p run view (λ run view. Watches p run c.play_next.new.viewer view)
+    c.args.cast.now old new said.event own.Play c.in-Play.is
+    (written_gives said.line Play (view_refusal p run view Play) _ (played_texts p said.place run view) old new
+    c.play_next.result none (cast, record { holds = done.holds p view w.holds; near = near })
     (done.ok p run view cast w.holds some close) (done.err p run view cast w.holds some close) done.kind)

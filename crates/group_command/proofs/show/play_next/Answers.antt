@@ -12,21 +12,25 @@ returns-clause-ok g c = λ p run view cast h some near.
     let outside = g.D.Desk.outside in
     let next = (c.played.ensures.view p view h) in
     let after = c.play-played.ensures.holds p view h in
-    let row = row_is p c.args.place run view c.play-played.result.number c.play-played.result.mark c.reference_of-reference.result (picture c.shown.result)
+    let row = row_is p c.args.place run view c.play-played.result.number c.play-played.result.mark
+    c.reference_of-reference.result (picture c.shown.result)
     (c.play-played.ensures.number ∙ sym c.played.ensures.count ∙ next) (c.play-played.ensures.mark p view h)
     (reference_next run c.played.result _ next (c.reference_of-reference.ensures p run cast) some near)
     (c.shown.ensures.view p (view_play p view) after)
     in
-    on_ok_weaker c.show.result (λ gains. subst (λ (t : Role → List ℕ). Gains t (outside c.args.desk.now).written (outside c.show.new.desk).written) row gains) c.show.ensures.ok
+    on_ok_weaker c.show.result (λ gains. subst (λ (t : Role → List ℕ). Gains t (outside c.args.desk.now).written
+    (outside c.show.new.desk).written) row gains) c.show.ensures.ok
 
 pub returns-clause-err : goal.returns-clause-err
 returns-clause-err g c = λ p run view cast h some near.
     let outside = g.D.Desk.outside in
     let next = (c.played.ensures.view p view h) in
     let after = c.play-played.ensures.holds p view h in
-    let row = row_is p c.args.place run view c.play-played.result.number c.play-played.result.mark c.reference_of-reference.result (picture c.shown.result)
+    let row = row_is p c.args.place run view c.play-played.result.number c.play-played.result.mark
+    c.reference_of-reference.result (picture c.shown.result)
     (c.play-played.ensures.number ∙ sym c.played.ensures.count ∙ next) (c.play-played.ensures.mark p view h)
     (reference_next run c.played.result _ next (c.reference_of-reference.ensures p run cast) some near)
     (c.shown.ensures.view p (view_play p view) after)
     in
-    on_err_weaker c.show.result (λ gains. subst (λ (t : Role → List ℕ). GainsFronts t (outside c.args.desk.now).written (outside c.show.new.desk).written) row gains) c.show.ensures.err
+    on_err_weaker c.show.result (λ gains. subst (λ (t : Role → List ℕ). GainsFronts t (outside c.args.desk.now).written
+    (outside c.show.new.desk).written) row gains) c.show.ensures.err

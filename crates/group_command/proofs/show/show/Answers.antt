@@ -19,8 +19,11 @@ returns-clause-ok g c =
     let row = c.args.row.now in
     on_ok_weaker c.put_line.result
     (both_gain c.turn_laws.ensures row (picture c.args.picture)
-    (outside c.args.desk.now).written (outside c.put_own_picture.new.desk).written (outside c.put_line.new.desk).written (text_of c.picture_line-line.result)
-    (c.picture_line-line.ensures ∙ ap (λ (l : ℕ). picture_text row.number (Some row.mark) (Some row.reference) (Some l)) c.digit_of-digit.ensures.value) c.in_ok-put_own_picture.ensures.ok)
+    (outside c.args.desk.now).written (outside c.put_own_picture.new.desk).written (outside c.put_line.new.desk).written
+    (text_of c.picture_line-line.result)
+    (c.picture_line-line.ensures
+    ∙ ap (λ (l : ℕ). picture_text row.number (Some row.mark) (Some row.reference) (Some l))
+    c.digit_of-digit.ensures.value) c.in_ok-put_own_picture.ensures.ok)
     c.put_line.ensures.ok
 
 pub returns-clause-err : goal.returns-clause-err
@@ -29,6 +32,9 @@ returns-clause-err g c =
     let row = c.args.row.now in
     on_err_weaker c.put_line.result
     (second_front c.turn_laws.ensures row (picture c.args.picture)
-    (outside c.args.desk.now).written (outside c.put_own_picture.new.desk).written (outside c.put_line.new.desk).written (text_of c.picture_line-line.result)
-    (c.picture_line-line.ensures ∙ ap (λ (l : ℕ). picture_text row.number (Some row.mark) (Some row.reference) (Some l)) c.digit_of-digit.ensures.value) c.in_ok-put_own_picture.ensures.ok)
+    (outside c.args.desk.now).written (outside c.put_own_picture.new.desk).written (outside c.put_line.new.desk).written
+    (text_of c.picture_line-line.result)
+    (c.picture_line-line.ensures
+    ∙ ap (λ (l : ℕ). picture_text row.number (Some row.mark) (Some row.reference) (Some l))
+    c.digit_of-digit.ensures.value) c.in_ok-put_own_picture.ensures.ok)
     c.put_line.ensures.err

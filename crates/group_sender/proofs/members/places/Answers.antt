@@ -1,4 +1,4 @@
--- The sixteen places stand empty, or memory was refused to one of them.
+-- The members so far are nobody's, in the room that was taken for sixteen.
 use Rattle.std.proofs.Common.{◌≡◌, ℕ, ◌+◌, ◌∙◌, ◌++◌, ◌∷◌, [], List, inl, inr, ap, arith, length, get_or, refl, subst, sym}
 use Rattle.std.proofs.lemmas.Bool.{cases_lt}
 use Rattle.std.proofs.lemmas.List.{get_or_append_left, get_or-replicate, length-append, length-replicate}

@@ -14,7 +14,8 @@ pub returns-clause-intra : goal.returns-clause-intra
 returns-clause-intra c = forget_is_intra (λ p. c.forgetting.ensures.intra (pictures p.format) (encoding p) (rules_of p))
 
 pub returns-clause-for_good : goal.returns-clause-for_good
-returns-clause-for_good c = forget_is_for_good (λ p. c.forgetting.ensures.never (pictures p.format) (encoding p) (rules_of p))
+returns-clause-for_good c = forget_is_for_good (λ p. c.forgetting.ensures.never (pictures p.format) (encoding p)
+    (rules_of p))
 
 pub returns-clause-plain : goal.returns-clause-plain
 returns-clause-plain c = plain_is_run c.one_target.ensures

@@ -7,4 +7,5 @@ use Rattle.h263rps_c.proofs.resetting.h263rps_raw_sender_reset.Goals as goal
 pub returns-in-Ok-clause-steers : goal.returns-in-Ok-clause-steers
 returns-in-Ok-clause-steers c = λ p fits first past before status.
     let ok : IsOk c.send_anew.result = search rules in
-    c.send_anew.ensures.steers p fits first past (subst (λ (o : Option End). HoldsSteered p fits first past o) c.end_mut.ensures.value before) ok
+    c.send_anew.ensures.steers p fits first past (subst (λ (o : Option End). HoldsSteered p fits first past o)
+    c.end_mut.ensures.value before) ok

@@ -13,11 +13,13 @@ returns-in-Ok-clause-unnoted c = λ status one.
 
 pub returns-in-Ok-clause-steers : goal.returns-in-Ok-clause-steers
 returns-in-Ok-clause-steers c = λ p fits first past before.
-    c.feedback.ensures.steers p fits first past (subst (λ (o : Option End). HoldsSteered p fits first past o) c.end_mut.ensures.value before)
+    c.feedback.ensures.steers p fits first past (subst (λ (o : Option End). HoldsSteered p fits first past o)
+    c.end_mut.ensures.value before)
 
 pub returns-in-Ok-clause-replies : goal.returns-in-Ok-clause-replies
 returns-in-Ok-clause-replies c = λ p fits first past before. record {
   told = c.in-Ok.answer;
-  is_reply = c.in-Ok.ensures.replies p fits first past (subst (λ (o : Option End). HoldsSteered p fits first past o) c.end_mut.ensures.value before);
+  is_reply = c.in-Ok.ensures.replies p fits first past (subst (λ (o : Option End). HoldsSteered p fits first past o)
+      c.end_mut.ensures.value before);
   is_told = c.of.ensures;
 }

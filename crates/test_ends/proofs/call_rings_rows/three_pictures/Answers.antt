@@ -1,4 +1,4 @@
--- Three pictures are put into the ring, which stays as long as it was.
+-- The ring has room for each packet that is put, by its law.
 use Rattle.std.proofs.Common.{ℕ, List, [], ◌∷◌, arith}
 use Rattle.test_ends.proofs.call_rings_rows.three_pictures.Goals as goal
 

@@ -1,3 +1,4 @@
+-- A line is a frame for all or the event of the receiver that it names, or ends the run.
 use Rattle.std.proofs.Common.{ℕ, take, Option, Some, None, Ok, Err, refl, sym, ap, ◌∙◌}
 use Rattle.h263_outside.specs.declared.desk.Role.TheVariants.{Events}
 use Rattle.loss_trace.specs.declared.fault.TraceFault.TheVariants.{BadLine}
@@ -17,10 +18,20 @@ returns-in_err-line g c =
     let mid = outside c.raw.new.desk in
     let m = c.args.self.now in
     let stop = c.in_err-line.field-0.0 in
-    turn_gave_up m _ old mid c.from_residual.result (trace_stop stop) c.from_residual.ensures.1 (c.turning.ensures.steps.trace_stops stop)
-    (c.turning.ensures.steps.trace_cause stop old.faults mid.faults (λ is. c.in_err-line.ensures.cause (ap (λ e. Err e) is))) (c.turning.ensures.steps.reads old mid c.raw.ensures.rest)
+    turn_gave_up m _ old mid c.from_residual.result (trace_stop stop) c.from_residual.ensures.1
+    (c.turning.ensures.steps.trace_stops stop)
+    (c.turning.ensures.steps.trace_cause stop old.faults mid.faults
+    (λ is. c.in_err-line.ensures.cause (ap (λ e. Err e) is)))
+    (c.turning.ensures.steps.reads old mid c.raw.ensures.rest)
     (λ s inputs k told.
-    trace_stops c.turning.ensures.lines s inputs old mid (record { told = told; others = c.raw.ensures.others; written = c.raw.ensures.rest.written }) m.trace c.raw.new.self (record { lines_are = k.lines; ended_is = k.ended }) c.turning.ensures.read c.raw.new.buf stop
+    trace_stops c.turning.ensures.lines s inputs old mid (record {
+      told = told;
+      others = c.raw.ensures.others;
+      written = c.raw.ensures.rest.written;
+    }) m.trace c.raw.new.self (record {
+      lines_are = k.lines;
+      ended_is = k.ended;
+    }) c.turning.ensures.read c.raw.new.buf stop
     (c.in_err-line.ensures.gives (inputs Events) (told Events refl)) c.in_err-line.ensures.moves)
 
 pub returns-in_err-tell : goal.returns-in_err-tell
@@ -30,12 +41,24 @@ returns-in_err-tell g c =
     let mid = outside c.raw.new.desk in
     let new = outside c.tell.new.desk in
     let m = c.args.self.now in
-    turn_was_cut m _ old new c.from_residual-in_err-tell.result c.in_err-tell.field-0.0 c.from_residual-in_err-tell.ensures.1 c.in_err-tell.ensures.kind
-    (c.turning.ensures.rose old.faults.write mid.faults.write new.faults.write c.raw.ensures.rest.faults.write c.in_err-tell.ensures.cause)
-    (c.turning.ensures.steps.both old mid new (c.turning.ensures.steps.reads old mid c.raw.ensures.rest) (c.turning.ensures.steps.writes mid new c.tell.ensures.rest))
+    turn_was_cut m _ old new c.from_residual-in_err-tell.result c.in_err-tell.field-0.0
+    c.from_residual-in_err-tell.ensures.1 c.in_err-tell.ensures.kind
+    (c.turning.ensures.rose old.faults.write mid.faults.write new.faults.write c.raw.ensures.rest.faults.write
+    c.in_err-tell.ensures.cause)
+    (c.turning.ensures.steps.both old mid new (c.turning.ensures.steps.reads old mid c.raw.ensures.rest)
+    (c.turning.ensures.steps.writes mid new c.tell.ensures.rest))
     (λ s inputs k told.
-    let e = says (Ok c.in_ok-line.field-0) (Ok None) m.trace c.raw.new.self (inputs Events) c.raw.new.buf _ (ap (λ (o : Option (ℕ × ℕ)). Ok o) c.in_default.is) (c.in_ok-line.ensures.gives (inputs Events) (told Events refl)) in
-    trace_cut c.turning.ensures.lines s inputs old mid (record { told = told; others = c.raw.ensures.others; written = c.raw.ensures.rest.written }) m.trace c.raw.new.self (record { lines_are = k.lines; ended_is = k.ended }) c.raw.new.buf e k.over
+    let e = says (Ok c.in_ok-line.field-0) (Ok None) m.trace c.raw.new.self (inputs Events) c.raw.new.buf _
+    (ap (λ (o : Option (ℕ × ℕ)). Ok o) c.in_default.is) (c.in_ok-line.ensures.gives (inputs Events)
+    (told Events refl)) in
+    trace_cut c.turning.ensures.lines s inputs old mid (record {
+      told = told;
+      others = c.raw.ensures.others;
+      written = c.raw.ensures.rest.written;
+    }) m.trace c.raw.new.self (record {
+      lines_are = k.lines;
+      ended_is = k.ended;
+    }) c.raw.new.buf e k.over
     new c.tell.ensures.rest.left (c.in_err-tell.ensures.err s.params s.run s.views k.cast k.views))
 
 pub returns-in_default : goal.returns-in_default
@@ -45,14 +68,34 @@ returns-in_default g c =
     let mid = outside c.raw.new.desk in
     let new = outside c.tell.new.desk in
     let m = c.args.self.now in
-    turn_is_over m _ old new (c.turning.ensures.steps.both old mid new (c.turning.ensures.steps.reads old mid c.raw.ensures.rest) (c.turning.ensures.steps.writes mid new c.tell.ensures.rest))
+    turn_is_over m _ old new (c.turning.ensures.steps.both old mid new
+    (c.turning.ensures.steps.reads old mid c.raw.ensures.rest)
+    (c.turning.ensures.steps.writes mid new c.tell.ensures.rest))
     (λ s inputs k told.
-    let e = says (Ok c.in_ok-line.field-0) (Ok None) m.trace c.raw.new.self (inputs Events) c.raw.new.buf _ (ap (λ (o : Option (ℕ × ℕ)). Ok o) c.in_default.is) (c.in_ok-line.ensures.gives (inputs Events) (told Events refl)) in
-    trace_ends c.turning.ensures.lines s inputs old mid (record { told = told; others = c.raw.ensures.others; written = c.raw.ensures.rest.written }) m.trace c.raw.new.self (record { lines_are = k.lines; ended_is = k.ended }) c.raw.new.buf e k.over
+    let e = says (Ok c.in_ok-line.field-0) (Ok None) m.trace c.raw.new.self (inputs Events) c.raw.new.buf _
+    (ap (λ (o : Option (ℕ × ℕ)). Ok o) c.in_default.is) (c.in_ok-line.ensures.gives (inputs Events)
+    (told Events refl)) in
+    trace_ends c.turning.ensures.lines s inputs old mid (record {
+      told = told;
+      others = c.raw.ensures.others;
+      written = c.raw.ensures.rest.written;
+    }) m.trace c.raw.new.self (record {
+      lines_are = k.lines;
+      ended_is = k.ended;
+    }) c.raw.new.buf e k.over
     new c.tell.ensures.rest.left (c.in_ok-tell.ensures.ok s.params s.run s.views k.cast k.views))
     (λ s inputs k told.
-    let e = says (Ok c.in_ok-line.field-0) (Ok None) m.trace c.raw.new.self (inputs Events) c.raw.new.buf _ (ap (λ (o : Option (ℕ × ℕ)). Ok o) c.in_default.is) (c.in_ok-line.ensures.gives (inputs Events) (told Events refl)) in
-    read_out c.turning.ensures.lines s inputs old mid (record { told = told; others = c.raw.ensures.others; written = c.raw.ensures.rest.written }) m.trace c.raw.new.self (record { lines_are = k.lines; ended_is = k.ended }) c.raw.new.buf e k.over new c.tell.ensures.rest.left)
+    let e = says (Ok c.in_ok-line.field-0) (Ok None) m.trace c.raw.new.self (inputs Events) c.raw.new.buf _
+    (ap (λ (o : Option (ℕ × ℕ)). Ok o) c.in_default.is) (c.in_ok-line.ensures.gives (inputs Events)
+    (told Events refl)) in
+    read_out c.turning.ensures.lines s inputs old mid (record {
+      told = told;
+      others = c.raw.ensures.others;
+      written = c.raw.ensures.rest.written;
+    }) m.trace c.raw.new.self (record {
+      lines_are = k.lines;
+      ended_is = k.ended;
+    }) c.raw.new.buf e k.over new c.tell.ensures.rest.left)
 
 -- ---- after a line
 
@@ -66,7 +109,8 @@ capture-requires g c =
     let is = ap (λ (o : Option (ℕ × ℕ)). Ok o) c.in-Some.is in
     ready_after c.turning.ensures.lines c.turning.ensures.steps m c.raw.new.self c.raw.new.buf found old mid
     (record {
-      gives = λ rest left. says (Ok c.in_ok-line.field-0) (Ok (Some found)) m.trace c.raw.new.self rest c.raw.new.buf _ is (c.in_ok-line.ensures.gives rest left);
+      gives = λ rest left. says (Ok c.in_ok-line.field-0) (Ok (Some found)) m.trace c.raw.new.self rest c.raw.new.buf
+          _ is (c.in_ok-line.ensures.gives rest left);
       moves = moved (Ok c.in_ok-line.field-0) (Ok (Some found)) m.trace c.raw.new.self is c.in_ok-line.ensures.moves;
       others = c.raw.ensures.others;
       rest = c.raw.ensures.rest;
@@ -82,7 +126,8 @@ own-requires-clause-ready g c =
     let is = ap (λ (o : Option (ℕ × ℕ)). Ok o) c.in-Some.is in
     ready_after c.turning.ensures.lines c.turning.ensures.steps m c.raw.new.self c.raw.new.buf found old mid
     (record {
-      gives = λ rest left. says (Ok c.in_ok-line.field-0) (Ok (Some found)) m.trace c.raw.new.self rest c.raw.new.buf _ is (c.in_ok-line.ensures.gives rest left);
+      gives = λ rest left. says (Ok c.in_ok-line.field-0) (Ok (Some found)) m.trace c.raw.new.self rest c.raw.new.buf
+          _ is (c.in_ok-line.ensures.gives rest left);
       moves = moved (Ok c.in_ok-line.field-0) (Ok (Some found)) m.trace c.raw.new.self is c.in_ok-line.ensures.moves;
       others = c.raw.ensures.others;
       rest = c.raw.ensures.rest;
@@ -98,7 +143,8 @@ own-requires-clause-line g c =
     let is = ap (λ (o : Option (ℕ × ℕ)). Ok o) c.in-Some.is in
     has_line c.turning.ensures.lines c.turning.ensures.steps m c.raw.new.self c.raw.new.buf found old mid
     (record {
-      gives = λ rest left. says (Ok c.in_ok-line.field-0) (Ok (Some found)) m.trace c.raw.new.self rest c.raw.new.buf _ is (c.in_ok-line.ensures.gives rest left);
+      gives = λ rest left. says (Ok c.in_ok-line.field-0) (Ok (Some found)) m.trace c.raw.new.self rest c.raw.new.buf
+          _ is (c.in_ok-line.ensures.gives rest left);
       moves = moved (Ok c.in_ok-line.field-0) (Ok (Some found)) m.trace c.raw.new.self is c.in_ok-line.ensures.moves;
       others = c.raw.ensures.others;
       rest = c.raw.ensures.rest;
@@ -114,14 +160,17 @@ returns-in-Ok-Quiet g c =
     let is = ap (λ (o : Option (ℕ × ℕ)). Ok o) c.in-Some.is in
     let was : WasRead m c.raw.new.self c.raw.new.buf found old mid =
     record {
-      gives = λ rest left. says (Ok c.in_ok-line.field-0) (Ok (Some found)) m.trace c.raw.new.self rest c.raw.new.buf _ is (c.in_ok-line.ensures.gives rest left);
+      gives = λ rest left. says (Ok c.in_ok-line.field-0) (Ok (Some found)) m.trace c.raw.new.self rest c.raw.new.buf
+          _ is (c.in_ok-line.ensures.gives rest left);
       moves = moved (Ok c.in_ok-line.field-0) (Ok (Some found)) m.trace c.raw.new.self is c.in_ok-line.ensures.moves;
       others = c.raw.ensures.others;
       rest = c.raw.ensures.rest;
     }
     in
     line_empty c.turning.ensures.lines c.turning.ensures.steps m c.raw.new.self c.raw.new.buf found old mid was
-    (λ le. ap (λ (n : ℕ). group_line n (take found.1 c.raw.new.buf)) (sym c.count.ensures) ∙ c.in-Ok-Quiet.ensures.said le ∙ ap (λ (o : GroupLine). Some o) c.in-Ok-Quiet.field-0-is) c.requires (c.turning.ensures.turns.no_text mid.written mid.written refl)
+    (λ le. ap (λ (n : ℕ). group_line n (take found.1 c.raw.new.buf)) (sym c.count.ensures)
+    ∙ c.in-Ok-Quiet.ensures.said le ∙ ap (λ (o : GroupLine). Some o) c.in-Ok-Quiet.field-0-is) c.requires
+    (c.turning.ensures.turns.no_text mid.written mid.written refl)
 
 pub returns-in-Ok-ForAll : goal.returns-in-Ok-ForAll
 returns-in-Ok-ForAll g c =
@@ -133,14 +182,16 @@ returns-in-Ok-ForAll g c =
     let is = ap (λ (o : Option (ℕ × ℕ)). Ok o) c.in-Some.is in
     let was : WasRead m c.raw.new.self c.raw.new.buf found old mid =
     record {
-      gives = λ rest left. says (Ok c.in_ok-line.field-0) (Ok (Some found)) m.trace c.raw.new.self rest c.raw.new.buf _ is (c.in_ok-line.ensures.gives rest left);
+      gives = λ rest left. says (Ok c.in_ok-line.field-0) (Ok (Some found)) m.trace c.raw.new.self rest c.raw.new.buf
+          _ is (c.in_ok-line.ensures.gives rest left);
       moves = moved (Ok c.in_ok-line.field-0) (Ok (Some found)) m.trace c.raw.new.self is c.in_ok-line.ensures.moves;
       others = c.raw.ensures.others;
       rest = c.raw.ensures.rest;
     }
     in
     line_done c.turning.ensures.lines c.turning.ensures.steps m c.raw.new.self c.raw.new.buf found old mid was ForAll
-    (λ le. ap (λ (n : ℕ). group_line n (take found.1 c.raw.new.buf)) (sym c.count.ensures) ∙ c.in-Ok-ForAll.ensures.said le ∙ ap (λ (o : GroupLine). Some o) c.in-Ok-ForAll.field-0-is)
+    (λ le. ap (λ (n : ℕ). group_line n (take found.1 c.raw.new.buf)) (sym c.count.ensures)
+    ∙ c.in-Ok-ForAll.ensures.said le ∙ ap (λ (o : GroupLine). Some o) c.in-Ok-ForAll.field-0-is)
     c.capture.new.self c.capture.result (outside c.capture.new.desk) c.capture.ensures.trace c.capture.ensures.takes
 
 pub returns-in-Ok-Of : goal.returns-in-Ok-Of
@@ -153,14 +204,17 @@ returns-in-Ok-Of g c =
     let is = ap (λ (o : Option (ℕ × ℕ)). Ok o) c.in-Some.is in
     let was : WasRead m c.raw.new.self c.raw.new.buf found old mid =
     record {
-      gives = λ rest left. says (Ok c.in_ok-line.field-0) (Ok (Some found)) m.trace c.raw.new.self rest c.raw.new.buf _ is (c.in_ok-line.ensures.gives rest left);
+      gives = λ rest left. says (Ok c.in_ok-line.field-0) (Ok (Some found)) m.trace c.raw.new.self rest c.raw.new.buf
+          _ is (c.in_ok-line.ensures.gives rest left);
       moves = moved (Ok c.in_ok-line.field-0) (Ok (Some found)) m.trace c.raw.new.self is c.in_ok-line.ensures.moves;
       others = c.raw.ensures.others;
       rest = c.raw.ensures.rest;
     }
     in
-    line_done c.turning.ensures.lines c.turning.ensures.steps m c.raw.new.self c.raw.new.buf found old mid was (Of c.in-Ok-Of.place c.in-Ok-Of.event)
-    (λ le. ap (λ (n : ℕ). group_line n (take found.1 c.raw.new.buf)) (sym c.count.ensures) ∙ c.in-Ok-Of.ensures.said le ∙ ap (λ (o : GroupLine). Some o) c.in-Ok-Of.field-0-is)
+    line_done c.turning.ensures.lines c.turning.ensures.steps m c.raw.new.self c.raw.new.buf found old mid was
+    (Of c.in-Ok-Of.place c.in-Ok-Of.event)
+    (λ le. ap (λ (n : ℕ). group_line n (take found.1 c.raw.new.buf)) (sym c.count.ensures) ∙ c.in-Ok-Of.ensures.said le
+    ∙ ap (λ (o : GroupLine). Some o) c.in-Ok-Of.field-0-is)
     c.own.new.self c.own.result (outside c.own.new.desk) c.own.ensures.trace c.own.ensures.takes
 
 pub returns-in-Err : goal.returns-in-Err
@@ -173,7 +227,8 @@ returns-in-Err g c =
     let is = ap (λ (o : Option (ℕ × ℕ)). Ok o) c.in-Some.is in
     let was : WasRead m c.raw.new.self c.raw.new.buf found old mid =
     record {
-      gives = λ rest left. says (Ok c.in_ok-line.field-0) (Ok (Some found)) m.trace c.raw.new.self rest c.raw.new.buf _ is (c.in_ok-line.ensures.gives rest left);
+      gives = λ rest left. says (Ok c.in_ok-line.field-0) (Ok (Some found)) m.trace c.raw.new.self rest c.raw.new.buf
+          _ is (c.in_ok-line.ensures.gives rest left);
       moves = moved (Ok c.in_ok-line.field-0) (Ok (Some found)) m.trace c.raw.new.self is c.in_ok-line.ensures.moves;
       others = c.raw.ensures.others;
       rest = c.raw.ensures.rest;

@@ -1,3 +1,4 @@
+-- The event is that of the viewer at the place, and the others stay.
 use Rattle.std.proofs.Common.{rules, ◌≡◌, ◌-◌, arith}
 use Rattle.group_command.specs.Group.{view_in}
 use Rattle.group_command.proofs.AtPlace.{first_gives, second_count, second_gives, second_there, third_count, third_gives, third_there}
@@ -21,7 +22,8 @@ pub returns-in-0-clause-gives : goal.returns-in-0-clause-gives
 returns-in-0-clause-gives g c = λ p run views half period cast w.
     let outside = g.D.Desk.outside in
     let self = c.args.self.now in
-    first_gives c.own_turn.result c.args.said p run views c.own_turn.new.cast (outside c.args.desk.now).written (outside c.own_turn.new.desk).written self.first c.own_turn.new.viewer _ c.in-0.is w
+    first_gives c.own_turn.result c.args.said p run views c.own_turn.new.cast (outside c.args.desk.now).written
+    (outside c.own_turn.new.desk).written self.first c.own_turn.new.viewer _ c.in-0.is w
     (c.own_turn.ensures.gives p run (view_in views 0) half period cast (first_watched p run self.first _ views w))
 
 -- ---- the second one
@@ -29,7 +31,11 @@ returns-in-0-clause-gives g c = λ p run views half period cast w.
 pub returns-in-1-clause-count : goal.returns-in-1-clause-count
 returns-in-1-clause-count g c =
     let self = c.args.self.now in
-    let there = second_there self.second self.third c.requires.viewing.in_order (omega (arith, c.requires.there, c.in-1.is)) in
+    let there = second_there self.second self.third c.requires.viewing.in_order (omega (
+      arith,
+      c.requires.there,
+      c.in-1.is,
+    )) in
     second_count self.second c.turn_if.new.viewer self.third there c.turn_if.ensures.there
 
 pub returns-in-1-clause-viewing : goal.returns-in-1-clause-viewing
@@ -48,10 +54,16 @@ pub returns-in-1-clause-gives : goal.returns-in-1-clause-gives
 returns-in-1-clause-gives g c = λ p run views half period cast w.
     let outside = g.D.Desk.outside in
     let self = c.args.self.now in
-    let there = second_there self.second self.third c.requires.viewing.in_order (omega (arith, c.requires.there, c.in-1.is)) in
-    second_gives c.turn_if.result c.args.said p run views c.turn_if.new.cast (outside c.args.desk.now).written (outside c.turn_if.new.desk).written self.first self.second c.turn_if.new.viewer self.third
+    let there = second_there self.second self.third c.requires.viewing.in_order (omega (
+      arith,
+      c.requires.there,
+      c.in-1.is,
+    )) in
+    second_gives c.turn_if.result c.args.said p run views c.turn_if.new.cast (outside c.args.desk.now).written
+    (outside c.turn_if.new.desk).written self.first self.second c.turn_if.new.viewer self.third
     c.in-1.is there c.turn_if.ensures.there w
-    (c.turn_if.ensures.gives p run (view_in views 1) half period cast (second_watched p run self.first self.second self.third views w))
+    (c.turn_if.ensures.gives p run (view_in views 1) half period cast
+    (second_watched p run self.first self.second self.third views w))
 
 -- ---- the third one
 
@@ -83,6 +95,9 @@ returns-in_default-clause-gives g c = λ p run views half period cast w.
     let order = c.requires.viewing.in_order in
     let is : c.args.said.place ≡ 2 = search rules in
     let there = third_there self.second self.third (omega (arith, c.requires.there, is)) in
-    third_gives c.turn_if-in_default.result c.args.said p run views c.turn_if-in_default.new.cast (outside c.args.desk.now).written (outside c.turn_if-in_default.new.desk).written self.first self.second self.third c.turn_if-in_default.new.viewer
+    third_gives c.turn_if-in_default.result c.args.said p run views c.turn_if-in_default.new.cast
+    (outside c.args.desk.now).written (outside c.turn_if-in_default.new.desk).written self.first self.second
+    self.third c.turn_if-in_default.new.viewer
     is (order there) there c.turn_if-in_default.ensures.there w
-    (c.turn_if-in_default.ensures.gives p run (view_in views 2) half period cast (third_watched p run self.first self.second self.third views order w))
+    (c.turn_if-in_default.ensures.gives p run (view_in views 2) half period cast
+    (third_watched p run self.first self.second self.third views order w))

@@ -5,4 +5,5 @@ use Rattle.h263rps_c.proofs.ends.End.code.Goals as goal
 
 pub returns-in-Sending-clause-steers : goal.returns-in-Sending-clause-steers
 returns-in-Sending-clause-steers c = λ p fits first past messages before read coded.
-    c.code.ensures.steers p fits first past messages (subst (λ (e : End). HoldsSteered p fits first past (Some e)) c.in-Sending.is before) read coded
+    c.code.ensures.steers p fits first past messages (subst (λ (e : End). HoldsSteered p fits first past (Some e))
+    c.in-Sending.is before) read coded

@@ -5,8 +5,10 @@ use Rattle.h263rps_c.proofs.ends.End.feedback.Goals as goal
 
 pub returns-in-Sending-clause-steers : goal.returns-in-Sending-clause-steers
 returns-in-Sending-clause-steers c = λ p fits first past before.
-    c.feedback.ensures.steers p fits first past (subst (λ (e : End). HoldsSteered p fits first past (Some e)) c.in-Sending.is before)
+    c.feedback.ensures.steers p fits first past (subst (λ (e : End). HoldsSteered p fits first past (Some e))
+    c.in-Sending.is before)
 
 pub returns-in-Sending-clause-replies : goal.returns-in-Sending-clause-replies
 returns-in-Sending-clause-replies c = λ p fits first past before.
-    c.feedback.ensures.replies p fits first past (subst (λ (e : End). HoldsSteered p fits first past (Some e)) c.in-Sending.is before)
+    c.feedback.ensures.replies p fits first past (subst (λ (e : End). HoldsSteered p fits first past (Some e))
+    c.in-Sending.is before)

@@ -5,4 +5,5 @@ use Rattle.h263rps_c.proofs.ends.End.forget.Goals as goal
 
 pub returns-in-Sending-clause-steers : goal.returns-in-Sending-clause-steers
 returns-in-Sending-clause-steers c = λ p fits first past before ok.
-    c.forget.ensures.steers p fits first past (subst (λ (e : End). HoldsSteered p fits first past (Some e)) c.in-Sending.is before)
+    c.forget.ensures.steers p fits first past (subst (λ (e : End). HoldsSteered p fits first past (Some e))
+    c.in-Sending.is before)

@@ -8,4 +8,5 @@ use Rattle.h263rps_c.proofs.ends.End.send_anew.Goals as goal
 pub returns-in-Sending-clause-steers : goal.returns-in-Sending-clause-steers
 returns-in-Sending-clause-steers c = λ p fits first past before ok.
     let held = subst (λ (e : End). HoldsSteered p fits first past (Some e)) c.in-Sending.is before in
-    subst (λ (b : Bool). Steers p b c.args.target [] c.restart.new.self) held.fits_as (c.restart.ensures.steers p held.params ok)
+    subst (λ (b : Bool). Steers p b c.args.target [] c.restart.new.self) held.fits_as
+    (c.restart.ensures.steers p held.params ok)

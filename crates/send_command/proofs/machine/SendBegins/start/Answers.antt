@@ -1,3 +1,4 @@
+-- The sender stands before its first picture, or the run ends by the video's fault or for want of memory.
 use Rattle.std.proofs.Common.{◌≡◌, ℕ, ◌-◌, true, Bool, refl, sym, ap, ◌∙◌, subst, arith}
 use Rattle.h263_outside.specs.declared.desk.Role.{Role}
 use Rattle.h263_outside.specs.declared.desk.Role.TheVariants.{Video, Events, Wire, Report}
@@ -24,9 +25,11 @@ returns-in_err-video-clause-ends g c = λ inputs told.
     let setup = c.args.setup.now in
     let stop = c.in_err-video.field-0.0 in
     let first = send_begin setup inputs in
-    if_err (λ (s : Status). HasEnded (run_from first send_step most_entries inputs) silent s inputs old.written new) c.from_residual.result (video_stop stop) c.from_residual.ensures.1
+    if_err (λ (s : Status). HasEnded (run_from first send_step most_entries inputs) silent s inputs old.written new)
+    c.from_residual.result (video_stop stop) c.from_residual.ensures.1
     (c.run_laws.ensures.gives_up first send_step most_entries inputs old new (video_stop stop)
-    (head_stops c.turn_laws.ensures setup inputs old new told c.head.ensures.others c.head.ensures.rest.written c.cut_after.ensures.head stop (c.in_err-video.ensures.gives (inputs Video) (told Video refl))))
+    (head_stops c.turn_laws.ensures setup inputs old new told c.head.ensures.others c.head.ensures.rest.written
+    c.cut_after.ensures.head stop (c.in_err-video.ensures.gives (inputs Video) (told Video refl))))
 
 pub returns-clause-goes : goal.returns-clause-goes
 returns-clause-goes g c = λ inputs told.
@@ -36,7 +39,15 @@ returns-clause-goes g c = λ inputs told.
     let reader = c.in_ok-video.video in
     let started = c.in_ok-sender.ensures in
     let state = c.in_ok-sender.sender in
-    let new : Send = record { video = reader; log = c.new.result; sender = c.in_ok-sender.sender; aim = c.start-aim.result; tally = c.new-2.result; frame = c.in_ok-frame.frame; bytes = c.in_ok-bytes.bytes } in
+    let new : Send = record {
+      video = reader;
+      log = c.new.result;
+      sender = c.in_ok-sender.sender;
+      aim = c.start-aim.result;
+      tally = c.new-2.result;
+      frame = c.in_ok-frame.frame;
+      bytes = c.in_ok-bytes.bytes;
+    } in
     let e = c.in_ok-video.ensures.gives (inputs Video) (told Video refl) in
     let params_is : record p { format = reader.format } ≡ state.params =
     (λ i. record p { format = sym c.format.ensures i }) ∙ sym started.params
@@ -44,8 +55,10 @@ returns-clause-goes g c = λ inputs told.
     let aim_is : aim_at_start setup reader.format ≡ c.start-aim.result =
     (λ i. aim_at_start setup (sym c.format.ensures i)) ∙ sym c.start-aim.ensures.value
     in
-    c.run_laws.ensures.begins new (send_begin setup inputs) send_step (λ _. true) most_entries inputs (outside c.args.desk.now) (outside c.head.new.desk) (ap (λ (n : ℕ). most_entries - n) c.new.ensures.entries)
-    (head_goes c.turn_laws.ensures setup inputs (outside c.args.desk.now) (outside c.head.new.desk) told c.head.ensures.others c.head.ensures.rest.written reader (SendStands new) e
+    c.run_laws.ensures.begins new (send_begin setup inputs) send_step (λ _. true) most_entries inputs
+    (outside c.args.desk.now) (outside c.head.new.desk) (ap (λ (n : ℕ). most_entries - n) c.new.ensures.entries)
+    (head_goes c.turn_laws.ensures setup inputs (outside c.args.desk.now) (outside c.head.new.desk) told
+    c.head.ensures.others c.head.ensures.rest.written reader (SendStands new) e
     (record {
       is = λ i. record {
         params = params_is i;
@@ -60,7 +73,13 @@ returns-clause-goes g c = λ inputs told.
     }))
 
 none_of : (n : ℕ) → IsOf n no_counts
-none_of n = record { sent = omega arith; packets = omega arith; noted = omega arith; outdated = omega arith; refused = omega arith }
+none_of n = record {
+  sent = omega arith;
+  packets = omega arith;
+  noted = omega arith;
+  outdated = omega arith;
+  refused = omega arith;
+}
 
 pub returns-clause-ready : goal.returns-clause-ready
 returns-clause-ready g c =
@@ -74,7 +93,13 @@ returns-clause-ready g c =
         report = ap (λ (f : Role → Bool). f Report) attached ∙ c.requires.report;
         format = ap (λ (q : Params). q.format) started.params ∙ c.format.ensures;
         aim = c.start-aim.ensures.ready;
-        frame = omega (arith, c.in_ok-frame.ensures.len, c.in_ok-frame.frame.ok.0, c.size.ensures, ap size_of_picture c.format.ensures);
+        frame = omega (
+          arith,
+          c.in_ok-frame.ensures.len,
+          c.in_ok-frame.frame.ok.0,
+          c.size.ensures,
+          ap size_of_picture c.format.ensures,
+        );
         bytes = omega (arith, c.in_ok-bytes.ensures.len, c.in_ok-bytes.bytes.ok.0);
         side = c.new.ensures.side;
         count = omega (arith, c.in_ok-video.ensures.more, started.sent);
@@ -85,4 +110,5 @@ returns-clause-ready g c =
 pub returns-in_err-sender-clause-cause : goal.returns-in_err-sender-clause-cause
 returns-in_err-sender-clause-cause g c =
     let outside = g.D.Desk.outside in
-    starved_cause c.from_residual-in_err-sender.result (outside c.args.desk.now).faults (outside c.head.new.desk).faults c.from_residual-in_err-sender.ensures.1 c.in_ok-video.ensures.ok_faults
+    starved_cause c.from_residual-in_err-sender.result (outside c.args.desk.now).faults (outside c.head.new.desk).faults
+    c.from_residual-in_err-sender.ensures.1 c.in_ok-video.ensures.ok_faults
