@@ -1,12 +1,10 @@
 #include "gsth263rps.h"
 
-static const struct
-{
-  const gchar *name;
+static const struct {
+  const gchar * name;
   gint width, height;
-} formats[] = {
-  {"none", 0, 0}, {"sub-qcif", 128, 96}, {"qcif", 176, 144}, {"cif", 352, 288}
-};
+} formats[] = { { "none", 0, 0 }, { "sub-qcif", 128, 96 }, { "qcif", 176, 144 },
+  { "cif", 352, 288 } };
 
 guint
 gst_h263rps_format_of_size (gint width, gint height)
@@ -40,7 +38,7 @@ gst_h263rps_format_name (guint format)
 const gchar *
 gst_h263rps_mark_name (guint mark)
 {
-  static const gchar *const names[] = { "exact", "patched", "held" };
+  static const gchar * const names[] = { "exact", "patched", "held" };
 
   return mark < G_N_ELEMENTS (names) ? names[mark] : "none";
 }
@@ -50,5 +48,6 @@ gst_h263rps_mark_name (guint mark)
 gchar *
 gst_h263rps_new_stream_id (const gchar * what)
 {
-  return g_strdup_printf ("%08x%08x%08x/%s", g_random_int (), g_random_int (), g_random_int (), what);
+  return g_strdup_printf ("%08x%08x%08x/%s", g_random_int (), g_random_int (), g_random_int (),
+      what);
 }

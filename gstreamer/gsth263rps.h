@@ -14,26 +14,26 @@ G_BEGIN_DECLS
 #define GST_H263RPS_META_NAME "GstH263RpsMeta"
 
 #define GST_H263RPS_RTP_CAPS \
-    "application/x-rtp, media = (string) video, clock-rate = (int) 90000, " \
-    "encoding-name = (string) H263-2000"
+  "application/x-rtp, media = (string) video, clock-rate = (int) 90000, " \
+  "encoding-name = (string) H263-2000"
 
 /* While a speaker was heard this lately (in ns), or a picture of a format complete, no other counts. */
 #define GST_H263RPS_SILENT (GST_SECOND / 2)
 
 G_GNUC_INTERNAL
-guint         gst_h263rps_format_of_size (gint width, gint height);
+guint gst_h263rps_format_of_size (gint width, gint height);
 
 G_GNUC_INTERNAL
-void          gst_h263rps_size_of_format (guint format, gint * width, gint * height);
+void gst_h263rps_size_of_format (guint format, gint * width, gint * height);
 
 G_GNUC_INTERNAL
-const gchar * gst_h263rps_format_name    (guint format);
+const gchar * gst_h263rps_format_name (guint format);
 
 G_GNUC_INTERNAL
-const gchar * gst_h263rps_mark_name      (guint mark);
+const gchar * gst_h263rps_mark_name (guint mark);
 
 G_GNUC_INTERNAL
-gchar *       gst_h263rps_new_stream_id  (const gchar * what);
+gchar * gst_h263rps_new_stream_id (const gchar * what);
 
 G_END_DECLS
 

@@ -16,7 +16,7 @@ GstH263RpsCall *
 gst_h263rps_call_new (const h263rps_params * params, gint fps_n, gint fps_d, GstClockTime wait,
     guint32 * fault)
 {
-  GstH263RpsCall *call = g_new0 (GstH263RpsCall, 1);
+  GstH263RpsCall * call = g_new0 (GstH263RpsCall, 1);
 
   call->params = *params;
   call->size = h263rps_picture_size (params->format);
@@ -91,8 +91,8 @@ gst_h263rps_call_due (GstH263RpsCall * call)
 static GstBufferPool *
 new_pool (guint size)
 {
-  GstBufferPool *pool = gst_buffer_pool_new ();
-  GstStructure *config = gst_buffer_pool_get_config (pool);
+  GstBufferPool * pool = gst_buffer_pool_new ();
+  GstStructure * config = gst_buffer_pool_get_config (pool);
 
   gst_buffer_pool_config_set_params (config, NULL, size, 0, 0);
   gst_buffer_pool_set_config (pool, config);
@@ -113,7 +113,7 @@ new_pool (guint size)
 GstBuffer *
 gst_h263rps_call_picture (GstH263RpsCall * call, const h263rps_lent * shown)
 {
-  GstBuffer *buffer = NULL;
+  GstBuffer * buffer = NULL;
 
   if (!call->pool)
     call->pool = new_pool (call->size);

@@ -27,8 +27,7 @@ typedef struct _GstH263RpsCall GstH263RpsCall;
  *
  * What the rest holds is the call's own.
  */
-struct _GstH263RpsCall
-{
+struct _GstH263RpsCall {
   h263rps_session session;
   h263rps_params params;
   gsize size;
@@ -37,47 +36,44 @@ struct _GstH263RpsCall
   guint64 completed;
   GstClockTime complete;
   gint64 next;
-  GstH263RpsTape *tape;
+  GstH263RpsTape * tape;
 
-  struct
-  {
+  struct {
     guint32 timestamp;
     gboolean is_known;
   } captures[GST_H263RPS_REFERENCES];
   guint32 last, last_timestamp;
   gboolean has_last;
-  GstBufferPool *pool;
+  GstBufferPool * pool;
 };
 
 G_GNUC_INTERNAL
-GstH263RpsCall * gst_h263rps_call_new         (const h263rps_params * params, gint fps_n,
-                                               gint fps_d, GstClockTime wait, guint32 * fault);
+GstH263RpsCall * gst_h263rps_call_new (const h263rps_params * params, gint fps_n, gint fps_d,
+    GstClockTime wait, guint32 * fault);
 
 G_GNUC_INTERNAL
-void             gst_h263rps_call_free        (GstH263RpsCall * call);
+void gst_h263rps_call_free (GstH263RpsCall * call);
 
 G_GNUC_INTERNAL
-void             gst_h263rps_call_reset       (GstH263RpsCall * call, GstClockTime now);
+void gst_h263rps_call_reset (GstH263RpsCall * call, GstClockTime now);
 
 G_GNUC_INTERNAL
-gboolean         gst_h263rps_call_followed    (GstH263RpsCall * call, guint32 * source);
+gboolean gst_h263rps_call_followed (GstH263RpsCall * call, guint32 * source);
 
 G_GNUC_INTERNAL
-void             gst_h263rps_call_turn        (GstH263RpsCall * call, guint run);
+void gst_h263rps_call_turn (GstH263RpsCall * call, guint run);
 
 G_GNUC_INTERNAL
-GstClockTime     gst_h263rps_call_due         (GstH263RpsCall * call);
+GstClockTime gst_h263rps_call_due (GstH263RpsCall * call);
 
 G_GNUC_INTERNAL
-GstBuffer *      gst_h263rps_call_picture     (GstH263RpsCall * call, const h263rps_lent * shown);
+GstBuffer * gst_h263rps_call_picture (GstH263RpsCall * call, const h263rps_lent * shown);
 
 G_GNUC_INTERNAL
-void             gst_h263rps_call_note_time   (GstH263RpsCall * call, guint reference,
-                                               guint32 timestamp);
+void gst_h263rps_call_note_time (GstH263RpsCall * call, guint reference, guint32 timestamp);
 
 G_GNUC_INTERNAL
-gboolean         gst_h263rps_call_take_time   (GstH263RpsCall * call, guint32 number,
-                                               guint32 * timestamp);
+gboolean gst_h263rps_call_take_time (GstH263RpsCall * call, guint32 number, guint32 * timestamp);
 
 G_END_DECLS
 

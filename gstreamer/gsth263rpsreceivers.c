@@ -84,7 +84,7 @@ is_lately (const GstH263RpsReceiver * receiver, gint64 now)
 static void
 enter (GstH263RpsReceivers * self, guint place, gint64 now)
 {
-  GstH263RpsReceiver *receiver = &self->places[place];
+  GstH263RpsReceiver * receiver = &self->places[place];
 
   receiver->is_in = TRUE;
   receiver->since = now;
@@ -97,7 +97,7 @@ enter (GstH263RpsReceivers * self, guint place, gint64 now)
 static void
 go (GstH263RpsReceivers * self, guint place, gint64 now)
 {
-  GstH263RpsReceiver *receiver = &self->places[place];
+  GstH263RpsReceiver * receiver = &self->places[place];
 
   receiver->is_in = FALSE;
   receiver->since = now;
@@ -150,16 +150,17 @@ has_spoken (GstH263RpsReceivers * self, guint32 ssrc, gint64 now)
  * Returns: the place, or -1
  */
 gint
-gst_h263rps_receivers_hear (GstH263RpsReceivers * self, guint32 ssrc, gint64 now, gboolean * is_other)
+gst_h263rps_receivers_hear (GstH263RpsReceivers * self, guint32 ssrc, gint64 now,
+    gboolean * is_other)
 {
   gint place = gst_h263rps_receivers_find (self, ssrc);
-  GstH263RpsReceiver *receiver;
+  GstH263RpsReceiver * receiver;
 
   *is_other = FALSE;
   if (place < 0) {
     place = free_place (self, now);
-    if (place < 0 || (self->most > 1 && !self->places[place].is_first
-            && !has_spoken (self, ssrc, now)))
+    if (place < 0
+        || (self->most > 1 && !self->places[place].is_first && !has_spoken (self, ssrc, now)))
       return -1;
     receiver = &self->places[place];
     *is_other = receiver->is_taken;
@@ -225,7 +226,7 @@ gst_h263rps_receivers_settle (GstH263RpsReceivers * self, gint64 now)
   guint i;
 
   for (i = 0; i < self->most; i++) {
-    GstH263RpsReceiver *receiver = &self->places[i];
+    GstH263RpsReceiver * receiver = &self->places[i];
 
     if (!receiver->is_in)
       continue;

@@ -28,17 +28,16 @@ typedef struct _GstH263RpsReceivers GstH263RpsReceivers;
  * @late: us of the stream in which it was known to have none of the last pictures
  * @line: what the line to it carries; empty where it isn't followed
  */
-struct _GstH263RpsReceiver
-{
+struct _GstH263RpsReceiver {
   guint32 ssrc;
   gboolean is_taken, is_first, is_in;
   gint64 heard, since, pause, silent, late;
   h263rps_line line;
   gboolean has_fir;
-  guint8 fir;                   /* the number of the last full intra request */
+  guint8 fir; /* the number of the last full intra request */
   gboolean has_block;
-  GstH263RpsBlock block;        /* how the stream arrives */
-  GstClockTime round_trip;      /* by reports */
+  GstH263RpsBlock block;   /* how the stream arrives */
+  GstClockTime round_trip; /* by reports */
 };
 
 /**
@@ -49,15 +48,13 @@ struct _GstH263RpsReceiver
  * @joined: how many came in, without the first one
  * @left: how many left
  */
-struct _GstH263RpsReceivers
-{
+struct _GstH263RpsReceivers {
   GstH263RpsReceiver places[H263RPS_PLACES];
   guint most;
   guint32 anew, gone;
   gint64 last;
   guint64 joined, left;
-  struct
-  {
+  struct {
     guint32 ssrc;
     guint count;
     gint64 since;
@@ -65,23 +62,23 @@ struct _GstH263RpsReceivers
 };
 
 G_GNUC_INTERNAL
-void gst_h263rps_receivers_begin  (GstH263RpsReceivers * self, guint most);
+void gst_h263rps_receivers_begin (GstH263RpsReceivers * self, guint most);
 
 G_GNUC_INTERNAL
-void gst_h263rps_receivers_clear  (GstH263RpsReceivers * self);
+void gst_h263rps_receivers_clear (GstH263RpsReceivers * self);
 
 G_GNUC_INTERNAL
-gint gst_h263rps_receivers_find   (GstH263RpsReceivers * self, guint32 ssrc);
+gint gst_h263rps_receivers_find (GstH263RpsReceivers * self, guint32 ssrc);
 
 G_GNUC_INTERNAL
-gint gst_h263rps_receivers_hear   (GstH263RpsReceivers * self, guint32 ssrc, gint64 now,
-                                   gboolean * is_other);
+gint gst_h263rps_receivers_hear (GstH263RpsReceivers * self, guint32 ssrc, gint64 now,
+    gboolean * is_other);
 
 G_GNUC_INTERNAL
 gboolean gst_h263rps_receivers_counts (GstH263RpsReceivers * self, guint32 ssrc, gint64 now);
 
 G_GNUC_INTERNAL
-void gst_h263rps_receivers_bye    (GstH263RpsReceivers * self, guint32 ssrc, gint64 now);
+void gst_h263rps_receivers_bye (GstH263RpsReceivers * self, guint32 ssrc, gint64 now);
 
 G_GNUC_INTERNAL
 void gst_h263rps_receivers_forget (GstH263RpsReceivers * self, gint place);
@@ -90,7 +87,7 @@ G_GNUC_INTERNAL
 void gst_h263rps_receivers_settle (GstH263RpsReceivers * self, gint64 now);
 
 G_GNUC_INTERNAL
-void gst_h263rps_receivers_sent   (GstH263RpsReceivers * self, guint32 waited, gint64 now);
+void gst_h263rps_receivers_sent (GstH263RpsReceivers * self, guint32 waited, gint64 now);
 
 G_GNUC_INTERNAL
 guint gst_h263rps_receivers_count (GstH263RpsReceivers * self);

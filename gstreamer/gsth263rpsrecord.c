@@ -6,34 +6,32 @@
 #include <stdlib.h>
 #include <string.h>
 
-struct _GstH263RpsRecord
-{
+struct _GstH263RpsRecord {
   gchar *folder, *end;
-  gchar *names[GST_H263RPS_RECORD_FILES];
-  FILE *files[GST_H263RPS_RECORD_FILES];
-  FILE *times[GST_H263RPS_RECORD_FILES];
-  gint fault;                   /* errno of the write that failed */
-  gint64 flushed;               /* in us */
+  gchar * names[GST_H263RPS_RECORD_FILES];
+  FILE * files[GST_H263RPS_RECORD_FILES];
+  FILE * times[GST_H263RPS_RECORD_FILES];
+  gint fault;     /* errno of the write that failed */
+  gint64 flushed; /* in us */
 };
 
-static const struct
-{
+static const struct {
   const gchar *key, *suffix;
   const gchar *send, *recv;
   gboolean send_times, recv_times;
 } kinds[GST_H263RPS_RECORD_FILES] = {
-  {"log", ".log", "send", "recv", TRUE, TRUE},
-  {"wire", ".log", "packets", "messages", TRUE, TRUE},
-  {"video", ".y4m", "captured", "shown", FALSE, TRUE},
-  {"report", ".txt", "send", "recv", FALSE, FALSE},
-  {"steps", ".steps", "send", NULL, FALSE, FALSE},
+  { "log", ".log", "send", "recv", TRUE, TRUE },
+  { "wire", ".log", "packets", "messages", TRUE, TRUE },
+  { "video", ".y4m", "captured", "shown", FALSE, TRUE },
+  { "report", ".txt", "send", "recv", FALSE, FALSE },
+  { "steps", ".steps", "send", NULL, FALSE, FALSE },
 };
 
 static FILE *
 open_file (GstH263RpsRecord * record, const gchar * name, const gchar * mode, GError ** error)
 {
-  gchar *path = g_build_filename (record->folder, name, NULL);
-  FILE *file = g_fopen (path, mode);
+  gchar * path = g_build_filename (record->folder, name, NULL);
+  FILE * file = g_fopen (path, mode);
 
   if (!file)
     g_set_error (error, G_FILE_ERROR, g_file_error_from_errno (errno), "%s: %s", path,
@@ -78,7 +76,7 @@ check (GstH263RpsRecord * record, FILE * file)
 static gboolean
 open_kind (GstH263RpsRecord * record, gint kind, guint number, GError ** error)
 {
-  const gchar *stem = stem_of (record, kind);
+  const gchar * stem = stem_of (record, kind);
   gchar *name, *times;
 
   if (!stem)
@@ -106,7 +104,7 @@ open_kind (GstH263RpsRecord * record, gint kind, guint number, GError ** error)
 GstH263RpsRecord *
 gst_h263rps_record_new (const gchar * end, const gchar * folder, guint number, GError ** error)
 {
-  GstH263RpsRecord *record;
+  GstH263RpsRecord * record;
   gint kind;
 
   if (g_mkdir_with_parents (folder, 0777) != 0) {
@@ -168,7 +166,7 @@ void
 gst_h263rps_record_entry (GstH263RpsRecord * record, GstH263RpsRecordFile file, gchar letter,
     const guint8 * body, gsize length, GstClockTime when)
 {
-  FILE *to = record ? record->files[file] : NULL;
+  FILE * to = record ? record->files[file] : NULL;
 
   if (!to || length > G_MAXUINT16)
     return;
@@ -217,12 +215,12 @@ void
 gst_h263rps_record_frame (GstH263RpsRecord * record, const gchar * mark, const guint8 * samples,
     gsize size, GstClockTime when)
 {
-  FILE *file = record ? record->files[GST_H263RPS_RECORD_VIDEO] : NULL;
+  FILE * file = record ? record->files[GST_H263RPS_RECORD_VIDEO] : NULL;
 
   if (!file)
     return;
   if (mark) {
-    gchar *capitals = g_ascii_strup (mark, -1);
+    gchar * capitals = g_ascii_strup (mark, -1);
 
     fprintf (file, "FRAME X%s\n", capitals);
     g_free (capitals);
@@ -236,8 +234,8 @@ gst_h263rps_record_frame (GstH263RpsRecord * record, const gchar * mark, const g
 }
 
 void
-gst_h263rps_record_line (GstH263RpsRecord * record, GstH263RpsRecordFile file,
-    const gchar * format, ...)
+gst_h263rps_record_line (GstH263RpsRecord * record, GstH263RpsRecordFile file, const gchar * format,
+    ...)
 {
   va_list args;
 
@@ -255,8 +253,8 @@ gst_h263rps_record_line (GstH263RpsRecord * record, GstH263RpsRecordFile file,
 void
 gst_h263rps_record_facts (GstH263RpsRecord * record, const gchar * format, ...)
 {
-  gchar *name = g_strconcat (record->end, ".runs", NULL);
-  FILE *file = record->fault ? NULL : open_file (record, name, "a", NULL);
+  gchar * name = g_strconcat (record->end, ".runs", NULL);
+  FILE * file = record->fault ? NULL : open_file (record, name, "a", NULL);
   va_list args;
   gint kind;
 

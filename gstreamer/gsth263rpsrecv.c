@@ -86,8 +86,7 @@ GST_DEBUG_CATEGORY_STATIC (h263rpsrecv_debug);
 #define PAR_N 12
 #define PAR_D 11
 
-enum
-{
+enum {
   PROP_0,
   PROP_LATENCY,
   PROP_SLOTS,
@@ -104,31 +103,28 @@ enum
   PROP_STATS
 };
 
-typedef enum
-{
+typedef enum {
   SAY_MESSAGE,
-  SAY_INTRA,                    /* an intra picture is wanted */
-  SAY_REPORT,                   /* how the stream arrives */
-  SAY_MISSING                   /* these packets are wanted */
+  SAY_INTRA,  /* an intra picture is wanted */
+  SAY_REPORT, /* how the stream arrives */
+  SAY_MISSING /* these packets are wanted */
 } Say;
 
 /* What waits to be said. */
-typedef struct
-{
+typedef struct {
   Say say;
   h263rps_message message;
   guint32 about;
   guint pt;
-  gboolean is_carried;          /* a message that the sender's next header may have */
-  guint clock;                  /* ..of a stream with this picture clock */
+  gboolean is_carried; /* a message that the sender's next header may have */
+  guint clock;         /* ..of a stream with this picture clock */
   GstH263RpsBlock block;
   h263rps_nack nack;
-  guint round_trip;             /* ..in so many ms */
-  GstClockTime again;           /* when they are asked for a second time */
+  guint round_trip;   /* ..in so many ms */
+  GstClockTime again; /* when they are asked for a second time */
 } Pending;
 
-typedef struct
-{
+typedef struct {
   guint64 marks[3], heard[6], unshown;
   guint64 malformed, other_payload_type, other_format, other_source, ahead, too_fast, paused;
   guint64 said, session_refused, dropped_messages, intra_asked, runs, rivals;
@@ -137,17 +133,15 @@ typedef struct
 
 /* A packet that came, with what it says of itself. The element's room has its bytes, with the payload
  * type that the library knows. */
-typedef struct
-{
-  GstBuffer *buffer;
+typedef struct {
+  GstBuffer * buffer;
   gsize length;
   guint32 ssrc, timestamp;
   guint16 sequence;
   guint8 pt;
 } Arrival;
 
-struct _GstH263RpsRecv
-{
+struct _GstH263RpsRecv {
   GstElement parent;
 
   GstPad *sinkpad, *srcpad, *rtcp_srcpad, *rtcp_sinkpad;
@@ -157,7 +151,7 @@ struct _GstH263RpsRecv
   gboolean repair;
   gint64 ts_offset;
   gchar *cname, *record_location;
-  GObject *session;
+  GObject * session;
   gulong session_handlers[2];
   GWeakRef sender;
 
@@ -174,21 +168,21 @@ struct _GstH263RpsRecv
 
   /* by format and clock, those of which something came; and the one whose pictures are shown */
   GstH263RpsCall *calls[CALLS], *shown;
-  guint pt;                     /* the last packet's that was heard */
-  guint8 *room;
-  GstCaps *ntp_caps;            /* of the sender's times */
+  guint pt; /* the last packet's that was heard */
+  guint8 * room;
+  GstCaps * ntp_caps; /* of the sender's times */
   guint recorded;
-  gchar *record_fault;          /* what is to be told of the record, or NULL */
-  guint32 call_fault;           /* why no session could be started, or 0 */
+  gchar * record_fault; /* what is to be told of the record, or NULL */
+  guint32 call_fault;   /* why no session could be started, or 0 */
   gboolean is_call_fault_told;
   gboolean has_rival, is_rival_told;
-  guint32 rivals[2];            /* the stream that is followed, and the other one */
+  guint32 rivals[2]; /* the stream that is followed, and the other one */
 
   /* pictures, with new caps before them, for the task */
   GQueue out;
-  GstCaps *new_caps;
+  GstCaps * new_caps;
   gboolean needs_stream_start, needs_segment;
-  GstClockTime earliest;        /* by QoS: a picture before it would come too late, or NONE */
+  GstClockTime earliest; /* by QoS: a picture before it would come too late, or NONE */
 
   /* what is to be said, and what the session will take */
   Pending pending[MOST_PENDING];
@@ -199,45 +193,35 @@ struct _GstH263RpsRecv
   gboolean has_asked;
 
   Counts counts;
-  GstH263RpsReception reception;        /* of the stream that is followed */
-  GstH263RpsRepair asking;      /* ..and what was asked for of it */
-  gint header;                  /* the temporal reference of the last header that was heard, or -1 */
-  GstClockTime headers_at;      /* when one had messages last, or NONE */
+  GstH263RpsReception reception; /* of the stream that is followed */
+  GstH263RpsRepair asking;       /* ..and what was asked for of it */
+  gint header;             /* the temporal reference of the last header that was heard, or -1 */
+  GstClockTime headers_at; /* when one had messages last, or NONE */
   GstClockTime next_report;
-  GstH263RpsMeter meter;        /* all pictures, and those that are exact */
+  GstH263RpsMeter meter; /* all pictures, and those that are exact */
 
-  GMutex rtcp_lock;             /* one push at a time on rtcp_src */
+  GMutex rtcp_lock; /* one push at a time on rtcp_src */
   gboolean is_rtcp_begun;
 };
 
-static GstStaticPadTemplate sink_template = GST_STATIC_PAD_TEMPLATE ("sink",
-    GST_PAD_SINK,
-    GST_PAD_ALWAYS,
-    GST_STATIC_CAPS (GST_H263RPS_RTP_CAPS)
-    );
+static GstStaticPadTemplate sink_template = GST_STATIC_PAD_TEMPLATE ("sink", GST_PAD_SINK,
+    GST_PAD_ALWAYS, GST_STATIC_CAPS (GST_H263RPS_RTP_CAPS));
 
-static GstStaticPadTemplate src_template = GST_STATIC_PAD_TEMPLATE ("src",
-    GST_PAD_SRC,
+static GstStaticPadTemplate src_template = GST_STATIC_PAD_TEMPLATE ("src", GST_PAD_SRC,
     GST_PAD_ALWAYS,
-    GST_STATIC_CAPS ("video/x-raw, format = (string) I420, "
+    GST_STATIC_CAPS (
+        "video/x-raw, format = (string) I420, "
         "width = (int) 128, height = (int) 96, framerate = (fraction) [ 1/1, 120/1 ]; "
         "video/x-raw, format = (string) I420, "
         "width = (int) 176, height = (int) 144, framerate = (fraction) [ 1/1, 120/1 ]; "
         "video/x-raw, format = (string) I420, "
-        "width = (int) 352, height = (int) 288, framerate = (fraction) [ 1/1, 120/1 ]")
-    );
+        "width = (int) 352, height = (int) 288, framerate = (fraction) [ 1/1, 120/1 ]"));
 
-static GstStaticPadTemplate rtcp_src_template = GST_STATIC_PAD_TEMPLATE ("rtcp_src",
-    GST_PAD_SRC,
-    GST_PAD_ALWAYS,
-    GST_STATIC_CAPS ("application/x-rtcp")
-    );
+static GstStaticPadTemplate rtcp_src_template = GST_STATIC_PAD_TEMPLATE ("rtcp_src", GST_PAD_SRC,
+    GST_PAD_ALWAYS, GST_STATIC_CAPS ("application/x-rtcp"));
 
-static GstStaticPadTemplate rtcp_sink_template = GST_STATIC_PAD_TEMPLATE ("rtcp_sink",
-    GST_PAD_SINK,
-    GST_PAD_ALWAYS,
-    GST_STATIC_CAPS ("application/x-rtcp")
-    );
+static GstStaticPadTemplate rtcp_sink_template = GST_STATIC_PAD_TEMPLATE ("rtcp_sink", GST_PAD_SINK,
+    GST_PAD_ALWAYS, GST_STATIC_CAPS ("application/x-rtcp"));
 
 #define gst_h263rps_recv_parent_class parent_class
 G_DEFINE_TYPE (GstH263RpsRecv, gst_h263rps_recv, GST_TYPE_ELEMENT);
@@ -249,7 +233,7 @@ GST_ELEMENT_REGISTER_DEFINE (h263rpsrecv, "h263rpsrecv", GST_RANK_NONE, GST_TYPE
 static GstClockTime
 clock_time (GstH263RpsRecv * self)
 {
-  GstClock *clock = gst_element_get_clock (GST_ELEMENT (self));
+  GstClock * clock = gst_element_get_clock (GST_ELEMENT (self));
   GstClockTime now;
 
   if (!clock)
@@ -282,7 +266,7 @@ wake (GstH263RpsRecv * self)
 static Pending *
 new_pending (GstH263RpsRecv * self, Say say, guint32 about)
 {
-  Pending *pending;
+  Pending * pending;
 
   if (self->pending_count == MOST_PENDING) {
     self->counts.dropped_messages++;
@@ -300,7 +284,7 @@ new_pending (GstH263RpsRecv * self, Say say, guint32 about)
 static void
 note_message (GstH263RpsRecv * self, guint32 about, const h263rps_message * message)
 {
-  Pending *pending = message->length ? new_pending (self, SAY_MESSAGE, about) : NULL;
+  Pending * pending = message->length ? new_pending (self, SAY_MESSAGE, about) : NULL;
   guint32 source;
 
   if (!pending)
@@ -328,7 +312,7 @@ static void
 note_missing (GstH263RpsRecv * self, guint32 about, const h263rps_nack * nack,
     GstClockTime round_trip, GstClockTime now)
 {
-  Pending *pending = new_pending (self, SAY_MISSING, about);
+  Pending * pending = new_pending (self, SAY_MISSING, about);
 
   self->counts.asked += gst_h263rps_repair_ask (&self->asking, nack, now);
   if (!pending)
@@ -360,7 +344,7 @@ ask_for_missing (GstH263RpsRecv * self, GstH263RpsCall * call, GstClockTime now)
 static void
 note_report (GstH263RpsRecv * self, GstClockTime now)
 {
-  Pending *pending;
+  Pending * pending;
 
   if (GST_CLOCK_TIME_IS_VALID (self->next_report) && now < self->next_report)
     return;
@@ -375,11 +359,10 @@ note_report (GstH263RpsRecv * self, GstClockTime now)
 /* Under the lock: a packet of the stream that is followed came, and is reported on. One that was asked
  * for was lost all the same, and its way isn't the line's. */
 static void
-note_reception (GstH263RpsRecv * self, const Arrival * arrival, gboolean is_taken,
-    GstClockTime now)
+note_reception (GstH263RpsRecv * self, const Arrival * arrival, gboolean is_taken, GstClockTime now)
 {
-  GstReferenceTimestampMeta *meta =
-      gst_buffer_get_reference_timestamp_meta (arrival->buffer, self->ntp_caps);
+  GstReferenceTimestampMeta * meta = gst_buffer_get_reference_timestamp_meta (arrival->buffer,
+      self->ntp_caps);
 
   if (!self->reception.begun || self->reception.ssrc != arrival->ssrc)
     memset (&self->asking, 0, sizeof self->asking);
@@ -398,7 +381,7 @@ note_reception (GstH263RpsRecv * self, const Arrival * arrival, gboolean is_take
 static GstBuffer *
 new_rtcp (GstH263RpsRecv * self, const Pending * pending)
 {
-  GstBuffer *buffer;
+  GstBuffer * buffer;
 
   switch (pending->say) {
     case SAY_REPORT:
@@ -447,7 +430,7 @@ push_again (GstH263RpsRecv * self, Pending * pending)
 static gboolean
 say_again (GstH263RpsRecv * self, GstClockTime now)
 {
-  Pending *pending = g_queue_peek_head (&self->again);
+  Pending * pending = g_queue_peek_head (&self->again);
 
   if (!pending || pending->again > now)
     return FALSE;
@@ -462,11 +445,11 @@ say_again (GstH263RpsRecv * self, GstClockTime now)
 static void
 request_packet (GstH263RpsRecv * self, const Pending * pending, guint16 sequence)
 {
-  gst_pad_push_event (self->sinkpad, gst_event_new_custom (GST_EVENT_CUSTOM_UPSTREAM,
-          gst_structure_new ("GstRTPRetransmissionRequest",
-              "seqnum", G_TYPE_UINT, (guint) sequence, "ssrc", G_TYPE_UINT, pending->about,
-              "deadline", G_TYPE_UINT, self->latency, "delay", G_TYPE_UINT, 0,
-              "avg-rtt", G_TYPE_UINT, pending->round_trip, NULL)));
+  gst_pad_push_event (self->sinkpad,
+      gst_event_new_custom (GST_EVENT_CUSTOM_UPSTREAM,
+          gst_structure_new ("GstRTPRetransmissionRequest", "seqnum", G_TYPE_UINT, (guint) sequence,
+              "ssrc", G_TYPE_UINT, pending->about, "deadline", G_TYPE_UINT, self->latency, "delay",
+              G_TYPE_UINT, 0, "avg-rtt", G_TYPE_UINT, pending->round_trip, NULL)));
 }
 
 /* As an rtpjitterbuffer asks: a session sends a NACK then, and an rtprtxreceive knows by it of what
@@ -524,8 +507,8 @@ static void
 say_pending (GstH263RpsRecv * self)
 {
   Pending pending[MOST_PENDING];
-  GstH263RpsSend *sender;
-  GObject *session;
+  GstH263RpsSend * sender;
+  GObject * session;
   gboolean hears;
   guint count, i;
 
@@ -566,7 +549,7 @@ on_sending_rtcp (GObject * session, GstBuffer * compound, gboolean is_early, Gst
 {
   guint own_ssrc = 0;
   gboolean is_added = FALSE, has_room = TRUE;
-  Pending *pending;
+  Pending * pending;
 
   g_object_get (session, "internal-ssrc", &own_ssrc, NULL);
   g_mutex_lock (&self->lock);
@@ -590,22 +573,21 @@ caps_of (const GstH263RpsCall * call)
   gint width, height;
 
   gst_h263rps_size_of_format (call->params.format, &width, &height);
-  return gst_caps_new_simple ("video/x-raw", "format", G_TYPE_STRING, "I420",
-      "width", G_TYPE_INT, width, "height", G_TYPE_INT, height,
-      "framerate", GST_TYPE_FRACTION, call->fps_n, call->fps_d,
-      "interlace-mode", G_TYPE_STRING, "progressive",
-      "pixel-aspect-ratio", GST_TYPE_FRACTION, PAR_N, PAR_D, NULL);
+  return gst_caps_new_simple ("video/x-raw", "format", G_TYPE_STRING, "I420", "width", G_TYPE_INT,
+      width, "height", G_TYPE_INT, height, "framerate", GST_TYPE_FRACTION, call->fps_n, call->fps_d,
+      "interlace-mode", G_TYPE_STRING, "progressive", "pixel-aspect-ratio", GST_TYPE_FRACTION,
+      PAR_N, PAR_D, NULL);
 }
 
 static void
 mark_buffer (GstBuffer * buffer, const h263rps_turn * turn)
 {
-  GstCustomMeta *meta = gst_buffer_add_custom_meta (buffer, GST_H263RPS_META_NAME);
+  GstCustomMeta * meta = gst_buffer_add_custom_meta (buffer, GST_H263RPS_META_NAME);
 
   if (meta)
-    gst_structure_set (gst_custom_meta_get_structure (meta),
-        "mark", G_TYPE_STRING, gst_h263rps_mark_name (turn->answer.kind),
-        "number", G_TYPE_UINT, turn->answer.number, "ssrc", G_TYPE_UINT, turn->source, NULL);
+    gst_structure_set (gst_custom_meta_get_structure (meta), "mark", G_TYPE_STRING,
+        gst_h263rps_mark_name (turn->answer.kind), "number", G_TYPE_UINT, turn->answer.number,
+        "ssrc", G_TYPE_UINT, turn->source, NULL);
   if (turn->answer.kind != H263RPS_EXACT)
     GST_BUFFER_FLAG_SET (buffer, GST_BUFFER_FLAG_CORRUPTED);
   GST_BUFFER_OFFSET (buffer) = turn->answer.number;
@@ -649,7 +631,7 @@ most_out (GstH263RpsRecv * self)
 static void
 queue_picture (GstH263RpsRecv * self, GstBuffer * buffer)
 {
-  GList *item;
+  GList * item;
   guint count = 0, most = most_out (self);
 
   for (item = self->out.head; item; item = item->next)
@@ -674,7 +656,7 @@ static void
 show_picture (GstH263RpsRecv * self, GstH263RpsCall * call, const h263rps_turn * turn,
     const h263rps_lent * shown, GstClockTime due)
 {
-  GstBuffer *buffer = gst_h263rps_call_picture (call, shown);
+  GstBuffer * buffer = gst_h263rps_call_picture (call, shown);
 
   stamp_buffer (self, call, buffer, turn, due);
   mark_buffer (buffer, turn);
@@ -699,7 +681,7 @@ static void
 check_record (GstH263RpsRecv * self, GstH263RpsTape * tape)
 {
   gint fault = gst_h263rps_record_fault (tape->record);
-  gchar *words;
+  gchar * words;
 
   if (!fault)
     return;
@@ -713,7 +695,7 @@ check_record (GstH263RpsRecv * self, GstH263RpsTape * tape)
 static void
 tell_record_fault (GstH263RpsRecv * self)
 {
-  gchar *words;
+  gchar * words;
 
   g_mutex_lock (&self->lock);
   words = g_steal_pointer (&self->record_fault);
@@ -737,10 +719,9 @@ wait_of (GstH263RpsRecv * self)
 static GstH263RpsWindow
 senders_window (GstH263RpsRecv * self)
 {
-  GstH263RpsWindow window = {
-    .slots = self->caps_slots >= 0 ? (guint) self->caps_slots : self->slots,
-    .lead = self->caps_lead >= 0 ? (guint) self->caps_lead : self->lead
-  };
+  GstH263RpsWindow window = { .slots = self->caps_slots >= 0 ? (guint) self->caps_slots
+                                                             : self->slots,
+    .lead = self->caps_lead >= 0 ? (guint) self->caps_lead : self->lead };
 
   return window;
 }
@@ -764,7 +745,7 @@ static void
 check_window (GstH263RpsRecv * self)
 {
   GstH263RpsWindow window;
-  gchar *fault;
+  gchar * fault;
 
   g_mutex_lock (&self->lock);
   window = senders_window (self);
@@ -783,7 +764,7 @@ check_window (GstH263RpsRecv * self)
 static gchar *
 record_folder (GstH263RpsRecv * self)
 {
-  gchar *folder;
+  gchar * folder;
 
   GST_OBJECT_LOCK (self);
   folder = g_strdup (self->record_location);
@@ -795,9 +776,9 @@ record_folder (GstH263RpsRecv * self)
 static GstH263RpsRecord *
 new_record (GstH263RpsRecv * self, const GstH263RpsCall * call)
 {
-  gchar *folder = record_folder (self);
-  GstH263RpsRecord *record = NULL;
-  GError *error = NULL;
+  gchar * folder = record_folder (self);
+  GstH263RpsRecord * record = NULL;
+  GError * error = NULL;
   gint width, height;
 
   if (folder && self->recorded < MOST_RECORDED)
@@ -816,12 +797,13 @@ static void
 begin_record (GstH263RpsRecv * self, GstH263RpsCall * call, const h263rps_turn * turn,
     GstClockTime when)
 {
-  GstH263RpsTape *tape = call->tape;
-  GstH263RpsRecord *record = new_record (self, call);
+  GstH263RpsTape * tape = call->tape;
+  GstH263RpsRecord * record = new_record (self, call);
 
   gst_h263rps_tape_begin (tape, record, turn->answer.number, when);
   if (record)
-    gst_h263rps_record_facts (record, "\"format\": \"%s\", \"rate\": \"%d/%d\", "
+    gst_h263rps_record_facts (record,
+        "\"format\": \"%s\", \"rate\": \"%d/%d\", "
         "\"clock\": \"%s\", \"messages\": %u, \"slots\": %u, \"lead\": %u, \"wait\": %.6f, "
         "\"source\": %u, \"skipped\": %u, \"first\": %u",
         gst_h263rps_format_name (call->params.format), call->fps_n, call->fps_d,
@@ -851,9 +833,9 @@ begin_call (GstH263RpsRecv * self, const h263rps_start * start)
 {
   GstH263RpsWindow window = senders_window (self);
   h263rps_params params = { 0 };
-  GstH263RpsCall *call;
+  GstH263RpsCall * call;
   guint32 fault;
-  gchar *folder;
+  gchar * folder;
 
   /* What can't be was told when the caps came. */
   if (!gst_h263rps_window_own (&window, wait_of (self), self->fps_n, self->fps_d)
@@ -978,7 +960,8 @@ play_due (GstH263RpsRecv * self, GstH263RpsCall * call, GstClockTime now)
 {
   guint i;
 
-  for (i = 0; i < call->params.slots && play_next (self, call, now); i++);
+  for (i = 0; i < call->params.slots && play_next (self, call, now); i++)
+    ;
   if (i > 0)
     ask_for_missing (self, call, now);
 }
@@ -1037,7 +1020,7 @@ keep_packet (GstH263RpsRecv * self, GstH263RpsCall * call, const Arrival * arriv
 static void
 hear_header (GstH263RpsRecv * self, const Arrival * arrival, GstClockTime now)
 {
-  GstH263RpsSend *sender = g_weak_ref_get (&self->sender);
+  GstH263RpsSend * sender = g_weak_ref_get (&self->sender);
   h263rps_start start;
 
   if (!sender)
@@ -1056,7 +1039,7 @@ static void
 note_heard (GstH263RpsRecv * self, GstH263RpsCall * call, const Arrival * arrival,
     const h263rps_arrived * arrived, GstClockTime now)
 {
-  const h263rps_answer *answer = &arrived->answer;
+  const h263rps_answer * answer = &arrived->answer;
   gboolean is_shown;
   guint32 source;
 
@@ -1127,8 +1110,8 @@ give (GstH263RpsRecv * self, GstH263RpsCall * call, const Arrival * arrival,
   if (self->sender_ssrc == DEFAULT_SENDER_SSRC)
     h263rps_session_arrival (&call->session, self->room, arrival->length, now, arrived);
   else
-    h263rps_session_arrival_of (&call->session, self->sender_ssrc, self->room, arrival->length,
-        now, arrived);
+    h263rps_session_arrival_of (&call->session, self->sender_ssrc, self->room, arrival->length, now,
+        arrived);
 }
 
 /* Where its picture is too far ahead, those before it are played first. */
@@ -1142,14 +1125,15 @@ hand_in (GstH263RpsRecv * self, GstH263RpsCall * call, const Arrival * arrival,
     note_rival (self, call, arrival->ssrc);
   if (arrived->verdict != H263RPS_AHEAD)
     return;
-  while (play_next (self, call, now));
+  while (play_next (self, call, now))
+    ;
   give (self, call, arrival, arrived, now);
 }
 
 static void
 take_packet (GstH263RpsRecv * self, const Arrival * arrival, GstClockTime now)
 {
-  GstH263RpsCall *call;
+  GstH263RpsCall * call;
   h263rps_arrived arrived;
   h263rps_start start;
 
@@ -1202,15 +1186,16 @@ tell_rival (GstH263RpsRecv * self)
     GST_ELEMENT_WARNING (self, STREAM, FAILED,
         ("Another stream comes beside the one that is followed, which stays on the screen."),
         ("followed %08x, the other one %08x", rivals[0], rivals[1]));
-  gst_element_post_message (GST_ELEMENT (self), gst_message_new_element (GST_OBJECT (self),
-          gst_structure_new ("h263rps-rival", "ssrc", G_TYPE_UINT, rivals[0],
-              "rival", G_TYPE_UINT, rivals[1], NULL)));
+  gst_element_post_message (GST_ELEMENT (self),
+      gst_message_new_element (GST_OBJECT (self),
+          gst_structure_new ("h263rps-rival", "ssrc", G_TYPE_UINT, rivals[0], "rival", G_TYPE_UINT,
+              rivals[1], NULL)));
 }
 
 static GstFlowReturn
 gst_h263rps_recv_chain (GstPad * pad, GstObject * parent, GstBuffer * buffer)
 {
-  GstH263RpsRecv *self = GST_H263RPS_RECV (parent);
+  GstH263RpsRecv * self = GST_H263RPS_RECV (parent);
   GstFlowReturn flow = GST_FLOW_OK;
   Arrival arrival;
   /* The time here, and not the buffer's: what was held up before is late all the same. */
@@ -1262,7 +1247,7 @@ hear_byes (GstH263RpsRecv * self, GstRTCPBuffer * rtcp, GstClockTime now)
   guint i;
 
   for (more = gst_rtcp_buffer_get_first_packet (rtcp, &packet); more;
-      more = gst_rtcp_packet_move_to_next (&packet)) {
+       more = gst_rtcp_packet_move_to_next (&packet)) {
     if (gst_rtcp_packet_get_type (&packet) != GST_RTCP_TYPE_BYE)
       continue;
     for (i = 0; i < gst_rtcp_packet_bye_get_ssrc_count (&packet); i++)
@@ -1294,7 +1279,7 @@ hear_reports (GstH263RpsRecv * self, GstRTCPBuffer * rtcp, GstClockTime now)
   if (!self->shown || !gst_h263rps_call_followed (self->shown, &source))
     return;
   for (more = gst_rtcp_buffer_get_first_packet (rtcp, &packet); more;
-      more = gst_rtcp_packet_move_to_next (&packet)) {
+       more = gst_rtcp_packet_move_to_next (&packet)) {
     if (gst_h263rps_rtcp_read_info (&packet, &info) && info.ssrc == source)
       gst_h263rps_reception_info (&self->reception, &info, now);
   }
@@ -1303,7 +1288,7 @@ hear_reports (GstH263RpsRecv * self, GstRTCPBuffer * rtcp, GstClockTime now)
 static GstFlowReturn
 gst_h263rps_recv_rtcp_chain (GstPad * pad, GstObject * parent, GstBuffer * buffer)
 {
-  GstH263RpsRecv *self = GST_H263RPS_RECV (parent);
+  GstH263RpsRecv * self = GST_H263RPS_RECV (parent);
   GstRTCPBuffer rtcp = GST_RTCP_BUFFER_INIT;
   GstClockTime now = clock_time (self);
 
@@ -1334,7 +1319,7 @@ gst_h263rps_recv_rtcp_event (GstPad * pad, GstObject * parent, GstEvent * event)
 static void
 push_begin (GstH263RpsRecv * self)
 {
-  gchar *id;
+  gchar * id;
 
   if (!self->needs_stream_start)
     return;
@@ -1384,7 +1369,7 @@ push_next (GstH263RpsRecv * self, GstMiniObject * next)
 static void
 wait_until (GstH263RpsRecv * self, GstClockTime when)
 {
-  GstClock *clock = gst_element_get_clock (GST_ELEMENT (self));
+  GstClock * clock = gst_element_get_clock (GST_ELEMENT (self));
   GstClockID id;
 
   if (!clock)
@@ -1419,7 +1404,7 @@ static GstClockTime
 next_time (GstH263RpsRecv * self)
 {
   GstClockTime due = self->shown ? gst_h263rps_call_due (self->shown) : GST_CLOCK_TIME_NONE;
-  const Pending *pending = g_queue_peek_head (&self->again);
+  const Pending * pending = g_queue_peek_head (&self->again);
 
   return pending ? MIN (due, pending->again) : due;
 }
@@ -1428,9 +1413,9 @@ next_time (GstH263RpsRecv * self)
 static void
 gst_h263rps_recv_loop (gpointer data)
 {
-  GstH263RpsRecv *self = GST_H263RPS_RECV (data);
+  GstH263RpsRecv * self = GST_H263RPS_RECV (data);
   GstFlowReturn flow = GST_FLOW_OK;
-  GstMiniObject *next;
+  GstMiniObject * next;
   GstClockTime due;
 
   g_mutex_lock (&self->lock);
@@ -1496,7 +1481,7 @@ begin_task_state (GstH263RpsRecv * self, gboolean is_flushed)
 static gboolean
 gst_h263rps_recv_activate_mode (GstPad * pad, GstObject * parent, GstPadMode mode, gboolean active)
 {
-  GstH263RpsRecv *self = GST_H263RPS_RECV (parent);
+  GstH263RpsRecv * self = GST_H263RPS_RECV (parent);
 
   if (mode != GST_PAD_MODE_PUSH)
     return FALSE;
@@ -1540,7 +1525,7 @@ read_rate (GstH263RpsRecv * self, const gchar * text)
 static gint
 number_in (const GstStructure * structure, const gchar * name, guint least, guint most)
 {
-  const gchar *text = gst_structure_get_string (structure, name);
+  const gchar * text = gst_structure_get_string (structure, name);
   guint64 number;
 
   if (!text || !g_ascii_string_to_unsigned (text, 10, least, most, &number, NULL))
@@ -1552,7 +1537,7 @@ number_in (const GstStructure * structure, const gchar * name, guint least, guin
 static void
 read_caps (GstH263RpsRecv * self, GstCaps * caps)
 {
-  const GstStructure *structure = gst_caps_get_structure (caps, 0);
+  const GstStructure * structure = gst_caps_get_structure (caps, 0);
   gint pt = 0, slots, lead, fps_n, fps_d;
 
   gst_structure_get_int (structure, "payload", &pt);
@@ -1574,12 +1559,12 @@ read_caps (GstH263RpsRecv * self, GstCaps * caps)
 static gboolean
 gst_h263rps_recv_sink_event (GstPad * pad, GstObject * parent, GstEvent * event)
 {
-  GstH263RpsRecv *self = GST_H263RPS_RECV (parent);
+  GstH263RpsRecv * self = GST_H263RPS_RECV (parent);
   gboolean result = TRUE;
 
   switch (GST_EVENT_TYPE (event)) {
-    case GST_EVENT_CAPS:{
-      GstCaps *caps;
+    case GST_EVENT_CAPS: {
+      GstCaps * caps;
 
       gst_event_parse_caps (event, &caps);
       read_caps (self, caps);
@@ -1619,8 +1604,8 @@ hear_qos (GstH263RpsRecv * self, GstEvent * event)
 
   gst_event_parse_qos (event, NULL, NULL, &difference, &timestamp);
   g_mutex_lock (&self->lock);
-  self->earliest = GST_CLOCK_TIME_IS_VALID (timestamp) && difference > 0
-      ? timestamp + difference : GST_CLOCK_TIME_NONE;
+  self->earliest = GST_CLOCK_TIME_IS_VALID (timestamp) && difference > 0 ? timestamp + difference
+                                                                         : GST_CLOCK_TIME_NONE;
   g_mutex_unlock (&self->lock);
   gst_event_unref (event);
   return TRUE;
@@ -1629,7 +1614,7 @@ hear_qos (GstH263RpsRecv * self, GstEvent * event)
 static gboolean
 gst_h263rps_recv_src_event (GstPad * pad, GstObject * parent, GstEvent * event)
 {
-  GstH263RpsRecv *self = GST_H263RPS_RECV (parent);
+  GstH263RpsRecv * self = GST_H263RPS_RECV (parent);
   guint32 source;
 
   if (GST_EVENT_TYPE (event) == GST_EVENT_QOS)
@@ -1651,9 +1636,9 @@ gst_h263rps_recv_src_event (GstPad * pad, GstObject * parent, GstEvent * event)
 static GstIterator *
 gst_h263rps_recv_iterate_links (GstPad * pad, GstObject * parent)
 {
-  GstH263RpsRecv *self = GST_H263RPS_RECV (parent);
-  GstPad *other;
-  GstIterator *iterator;
+  GstH263RpsRecv * self = GST_H263RPS_RECV (parent);
+  GstPad * other;
+  GstIterator * iterator;
   GValue value = G_VALUE_INIT;
 
   if (pad == self->rtcp_srcpad || pad == self->rtcp_sinkpad)
@@ -1669,7 +1654,7 @@ gst_h263rps_recv_iterate_links (GstPad * pad, GstObject * parent)
 static gboolean
 gst_h263rps_recv_src_query (GstPad * pad, GstObject * parent, GstQuery * query)
 {
-  GstH263RpsRecv *self = GST_H263RPS_RECV (parent);
+  GstH263RpsRecv * self = GST_H263RPS_RECV (parent);
   GstClockTime least, most, own = self->latency * GST_MSECOND;
   gboolean is_live;
 
@@ -1689,7 +1674,7 @@ static void
 set_session (GstH263RpsRecv * self, GObject * session)
 {
   gulong old_handlers[2];
-  GObject *old;
+  GObject * old;
 
   if (session) {
     if (g_signal_lookup ("on-sending-rtcp", G_OBJECT_TYPE (session)) == 0) {
@@ -1711,19 +1696,17 @@ set_session (GstH263RpsRecv * self, GObject * session)
     g_object_unref (old);
   }
   if (session) {
-    self->session_handlers[0] =
-        g_signal_connect_object (session, "on-sending-rtcp", G_CALLBACK (on_sending_rtcp), self,
-        0);
-    self->session_handlers[1] =
-        g_signal_connect_object (session, "on-bye-ssrc", G_CALLBACK (on_bye), self, 0);
+    self->session_handlers[0] = g_signal_connect_object (session, "on-sending-rtcp",
+        G_CALLBACK (on_sending_rtcp), self, 0);
+    self->session_handlers[1] = g_signal_connect_object (session, "on-bye-ssrc",
+        G_CALLBACK (on_bye), self, 0);
   }
 }
 
 static void
-gst_h263rps_recv_set_property (GObject * object, guint id, const GValue * value,
-    GParamSpec * pspec)
+gst_h263rps_recv_set_property (GObject * object, guint id, const GValue * value, GParamSpec * pspec)
 {
-  GstH263RpsRecv *self = GST_H263RPS_RECV (object);
+  GstH263RpsRecv * self = GST_H263RPS_RECV (object);
 
   if (id == PROP_SESSION) {
     set_session (self, g_value_get_object (value));
@@ -1783,18 +1766,18 @@ add_rates (GstH263RpsRecv * self, GstStructure * stats)
 {
   GstClockTime now = clock_time (self);
 
-  gst_structure_set (stats,
-      "bit-rate", G_TYPE_UINT64, gst_h263rps_meter_bitrate (&self->meter, now),
-      "exact-share", G_TYPE_DOUBLE, gst_h263rps_meter_share (&self->meter, now),
-      "round-trip", G_TYPE_UINT64, self->asking.is_known ? self->asking.trip : GST_CLOCK_TIME_NONE,
-      "jitter", G_TYPE_UINT64, self->reception.begun
-      ? gst_h263rps_reception_jitter (&self->reception) : GST_CLOCK_TIME_NONE, NULL);
+  gst_structure_set (stats, "bit-rate", G_TYPE_UINT64,
+      gst_h263rps_meter_bitrate (&self->meter, now), "exact-share", G_TYPE_DOUBLE,
+      gst_h263rps_meter_share (&self->meter, now), "round-trip", G_TYPE_UINT64,
+      self->asking.is_known ? self->asking.trip : GST_CLOCK_TIME_NONE, "jitter", G_TYPE_UINT64,
+      self->reception.begun ? gst_h263rps_reception_jitter (&self->reception) : GST_CLOCK_TIME_NONE,
+      NULL);
 }
 
 static GstStructure *
 create_stats (GstH263RpsRecv * self)
 {
-  GstStructure *stats;
+  GstStructure * stats;
   Counts counts;
   guint32 ssrc = 0;
 
@@ -1805,38 +1788,29 @@ create_stats (GstH263RpsRecv * self)
   stats = gst_structure_new_empty ("application/x-h263rpsrecv-stats");
   add_rates (self, stats);
   g_mutex_unlock (&self->lock);
-  gst_structure_set (stats,
-      "ssrc", G_TYPE_UINT, ssrc,
-      "exact", G_TYPE_UINT64, counts.marks[H263RPS_EXACT],
-      "patched", G_TYPE_UINT64, counts.marks[H263RPS_PATCHED],
-      "held", G_TYPE_UINT64, counts.marks[H263RPS_HELD],
-      "unshown", G_TYPE_UINT64, counts.unshown,
-      "taken", G_TYPE_UINT64, counts.heard[H263RPS_TAKEN] + counts.heard[H263RPS_COMPLETED],
-      "completed", G_TYPE_UINT64, counts.heard[H263RPS_COMPLETED],
-      "late", G_TYPE_UINT64, counts.heard[H263RPS_LATE],
-      "early", G_TYPE_UINT64, counts.heard[H263RPS_EARLY],
-      "repeat", G_TYPE_UINT64, counts.heard[H263RPS_REPEAT],
-      "refused", G_TYPE_UINT64, counts.heard[H263RPS_REFUSED],
-      "malformed", G_TYPE_UINT64, counts.malformed,
-      "other-payload-type", G_TYPE_UINT64, counts.other_payload_type,
-      "other-format", G_TYPE_UINT64, counts.other_format,
-      "other-source", G_TYPE_UINT64, counts.other_source,
-      "ahead", G_TYPE_UINT64, counts.ahead,
-      "too-fast", G_TYPE_UINT64, counts.too_fast,
-      "paused", G_TYPE_UINT64, counts.paused,
-      "said", G_TYPE_UINT64, counts.said,
-      "session-refused", G_TYPE_UINT64, counts.session_refused,
-      "dropped-messages", G_TYPE_UINT64, counts.dropped_messages,
-      "intra-asked", G_TYPE_UINT64, counts.intra_asked,
-      "runs", G_TYPE_UINT64, counts.runs, "rivals", G_TYPE_UINT64, counts.rivals,
-      "asked", G_TYPE_UINT64, counts.asked, "repaired", G_TYPE_UINT64, counts.repaired, NULL);
+  gst_structure_set (stats, "ssrc", G_TYPE_UINT, ssrc, "exact", G_TYPE_UINT64,
+      counts.marks[H263RPS_EXACT], "patched", G_TYPE_UINT64, counts.marks[H263RPS_PATCHED], "held",
+      G_TYPE_UINT64, counts.marks[H263RPS_HELD], "unshown", G_TYPE_UINT64, counts.unshown, "taken",
+      G_TYPE_UINT64, counts.heard[H263RPS_TAKEN] + counts.heard[H263RPS_COMPLETED], "completed",
+      G_TYPE_UINT64, counts.heard[H263RPS_COMPLETED], "late", G_TYPE_UINT64,
+      counts.heard[H263RPS_LATE], "early", G_TYPE_UINT64, counts.heard[H263RPS_EARLY], "repeat",
+      G_TYPE_UINT64, counts.heard[H263RPS_REPEAT], "refused", G_TYPE_UINT64,
+      counts.heard[H263RPS_REFUSED], "malformed", G_TYPE_UINT64, counts.malformed,
+      "other-payload-type", G_TYPE_UINT64, counts.other_payload_type, "other-format", G_TYPE_UINT64,
+      counts.other_format, "other-source", G_TYPE_UINT64, counts.other_source, "ahead",
+      G_TYPE_UINT64, counts.ahead, "too-fast", G_TYPE_UINT64, counts.too_fast, "paused",
+      G_TYPE_UINT64, counts.paused, "said", G_TYPE_UINT64, counts.said, "session-refused",
+      G_TYPE_UINT64, counts.session_refused, "dropped-messages", G_TYPE_UINT64,
+      counts.dropped_messages, "intra-asked", G_TYPE_UINT64, counts.intra_asked, "runs",
+      G_TYPE_UINT64, counts.runs, "rivals", G_TYPE_UINT64, counts.rivals, "asked", G_TYPE_UINT64,
+      counts.asked, "repaired", G_TYPE_UINT64, counts.repaired, NULL);
   return stats;
 }
 
 static void
 gst_h263rps_recv_get_property (GObject * object, guint id, GValue * value, GParamSpec * pspec)
 {
-  GstH263RpsRecv *self = GST_H263RPS_RECV (object);
+  GstH263RpsRecv * self = GST_H263RPS_RECV (object);
 
   if (id == PROP_STATS) {
     g_value_take_boxed (value, create_stats (self));
@@ -1901,7 +1875,7 @@ set_playing (GstH263RpsRecv * self, gboolean is_playing)
 static GstStateChangeReturn
 gst_h263rps_recv_change_state (GstElement * element, GstStateChange transition)
 {
-  GstH263RpsRecv *self = GST_H263RPS_RECV (element);
+  GstH263RpsRecv * self = GST_H263RPS_RECV (element);
   GstStateChangeReturn result;
 
   switch (transition) {
@@ -1935,7 +1909,8 @@ gst_h263rps_recv_change_state (GstElement * element, GstStateChange transition)
     self->is_rtcp_begun = FALSE;
   }
   /* Pictures come by the clock, so there is none before it runs. */
-  if (result == GST_STATE_CHANGE_SUCCESS && (transition == GST_STATE_CHANGE_READY_TO_PAUSED
+  if (result == GST_STATE_CHANGE_SUCCESS
+      && (transition == GST_STATE_CHANGE_READY_TO_PAUSED
           || transition == GST_STATE_CHANGE_PLAYING_TO_PAUSED))
     result = GST_STATE_CHANGE_NO_PREROLL;
   return result;
@@ -1944,7 +1919,7 @@ gst_h263rps_recv_change_state (GstElement * element, GstStateChange transition)
 static gboolean
 gst_h263rps_recv_set_clock (GstElement * element, GstClock * clock)
 {
-  GstH263RpsRecv *self = GST_H263RPS_RECV (element);
+  GstH263RpsRecv * self = GST_H263RPS_RECV (element);
 
   g_mutex_lock (&self->lock);
   self->is_clock_new = clock != NULL && clock != GST_ELEMENT_CLOCK (element);
@@ -1962,7 +1937,7 @@ gst_h263rps_recv_dispose (GObject * object)
 static void
 gst_h263rps_recv_finalize (GObject * object)
 {
-  GstH263RpsRecv *self = GST_H263RPS_RECV (object);
+  GstH263RpsRecv * self = GST_H263RPS_RECV (object);
 
   forget_calls (self);
   g_queue_clear_full (&self->out, (GDestroyNotify) gst_mini_object_unref);
@@ -1984,7 +1959,7 @@ gst_h263rps_recv_finalize (GObject * object)
 static void
 add_pads (GstH263RpsRecv * self)
 {
-  GstElement *element = GST_ELEMENT (self);
+  GstElement * element = GST_ELEMENT (self);
 
   self->sinkpad = gst_pad_new_from_static_template (&sink_template, "sink");
   gst_pad_set_chain_function (self->sinkpad, gst_h263rps_recv_chain);
@@ -2046,12 +2021,11 @@ gst_h263rps_recv_init (GstH263RpsRecv * self)
 static void
 gst_h263rps_recv_class_init (GstH263RpsRecvClass * klass)
 {
-  GObjectClass *object_class = G_OBJECT_CLASS (klass);
-  GstElementClass *element_class = GST_ELEMENT_CLASS (klass);
-  const GParamFlags ready =
-      G_PARAM_READWRITE | G_PARAM_STATIC_STRINGS | GST_PARAM_MUTABLE_READY;
-  const GParamFlags playing =
-      G_PARAM_READWRITE | G_PARAM_STATIC_STRINGS | GST_PARAM_MUTABLE_PLAYING;
+  GObjectClass * object_class = G_OBJECT_CLASS (klass);
+  GstElementClass * element_class = GST_ELEMENT_CLASS (klass);
+  const GParamFlags ready = G_PARAM_READWRITE | G_PARAM_STATIC_STRINGS | GST_PARAM_MUTABLE_READY;
+  const GParamFlags playing = G_PARAM_READWRITE | G_PARAM_STATIC_STRINGS
+      | GST_PARAM_MUTABLE_PLAYING;
 
   GST_DEBUG_CATEGORY_INIT (h263rpsrecv_debug, "h263rpsrecv", 0, "H.263 RPS receiver");
 
@@ -2078,16 +2052,15 @@ gst_h263rps_recv_class_init (GstH263RpsRecvClass * klass)
    * window, slots less lead less 1; the receiver's own slots and lead follow from it.
    */
   g_object_class_install_property (object_class, PROP_SLOTS,
-      g_param_spec_uint ("slots", "Slots", "The sender's slots, where the caps don't say", 2,
-          64, DEFAULT_SLOTS, ready));
+      g_param_spec_uint ("slots", "Slots", "The sender's slots, where the caps don't say", 2, 64,
+          DEFAULT_SLOTS, ready));
   /**
    * GstH263RpsRecv:lead:
    *
    * The sender's lead, where the caps of the packets don't say (x-lead).
    */
   g_object_class_install_property (object_class, PROP_LEAD,
-      g_param_spec_uint ("lead", "Lead",
-          "The sender's lead, where the caps don't say", 0, 62,
+      g_param_spec_uint ("lead", "Lead", "The sender's lead, where the caps don't say", 0, 62,
           DEFAULT_LEAD, ready));
   /**
    * GstH263RpsRecv:messages:

@@ -77,7 +77,8 @@ gst_h263rps_repair_came (GstH263RpsRepair * repair, guint16 sequence, GstClockTi
   first = now - repair->asked[at].first;
   last = now - repair->asked[at].last;
   repair->asked[at].is_open = FALSE;
-  learn (repair, repair->is_known && apart (last, repair->trip) < apart (first, repair->trip)
-      ? last : first, now);
+  learn (repair,
+      repair->is_known && apart (last, repair->trip) < apart (first, repair->trip) ? last : first,
+      now);
   return TRUE;
 }

@@ -19,13 +19,11 @@ typedef struct _GstH263RpsRepair GstH263RpsRepair;
  * @told: when an answer came last, or was waited for
  * @asked: the packets that were asked for last
  */
-struct _GstH263RpsRepair
-{
+struct _GstH263RpsRepair {
   GstClockTime trip, told;
   gboolean is_known;
 
-  struct
-  {
+  struct {
     GstClockTime first, last;
     guint16 sequence;
     gboolean is_open;
@@ -36,12 +34,11 @@ G_GNUC_INTERNAL
 GstClockTime gst_h263rps_repair_trip (const GstH263RpsRepair * repair, GstClockTime now);
 
 G_GNUC_INTERNAL
-guint        gst_h263rps_repair_ask  (GstH263RpsRepair * repair, const h263rps_nack * nack,
-                                      GstClockTime now);
+guint gst_h263rps_repair_ask (GstH263RpsRepair * repair, const h263rps_nack * nack,
+    GstClockTime now);
 
 G_GNUC_INTERNAL
-gboolean     gst_h263rps_repair_came (GstH263RpsRepair * repair, guint16 sequence,
-                                      GstClockTime now);
+gboolean gst_h263rps_repair_came (GstH263RpsRepair * repair, guint16 sequence, GstClockTime now);
 
 G_END_DECLS
 

@@ -16,12 +16,11 @@
 /* Of what srtpenc allows (libsrtp's window has at least 64 packets). */
 #define NEWEST_OF_SRTP 60
 
-typedef enum
-{
+typedef enum {
   WAY_PLAIN,
-  WAY_SECURE,                   /* srtpenc, which repeats what is new enough */
-  WAY_CLOSED,                   /* srtpenc that takes a repeat for an attack, and ends the call */
-  WAY_OTHER                     /* rtprtxsend, which repeats by itself (RFC 4588) */
+  WAY_SECURE, /* srtpenc, which repeats what is new enough */
+  WAY_CLOSED, /* srtpenc that takes a repeat for an attack, and ends the call */
+  WAY_OTHER   /* rtprtxsend, which repeats by itself (RFC 4588) */
 } Way;
 
 /**
@@ -30,26 +29,25 @@ typedef enum
  * Packets go out by two threads, the stream's and that of the repeats: one at a time, under @pushing.
  * What waits is under @lock. Repeats take as many bytes as the stream, and no more at once than @most.
  */
-struct _GstH263RpsRepeater
-{
-  GstPad *pad;
+struct _GstH263RpsRepeater {
+  GstPad * pad;
   gulong probe;
   GRecMutex pushing, running;
-  GstTask *task;
+  GstTask * task;
 
   GMutex lock;
   GCond cond;
   h263rps_repeats kept;
   GstClockTime times[KEPT];
-  gint64 sent[KEPT];            /* when it went out first, in us */
-  gint64 repeats[KEPT];         /* and again last */
-  gint64 in_time;               /* what went out longer ago would come too late */
+  gint64 sent[KEPT];    /* when it went out first, in us */
+  gint64 repeats[KEPT]; /* and again last */
+  gint64 in_time;       /* what went out longer ago would come too late */
   guint16 newest;
   GQueue waiting;
   guint64 credit, most;
   gboolean is_stopping;
   Way way;
-  gint64 looked;                /* when the way was looked at, in us */
+  gint64 looked; /* when the way was looked at, in us */
   GstH263RpsRepeatCounts counts;
 };
 
@@ -77,8 +75,8 @@ keep (GstH263RpsRepeater * repeater, GstBuffer * packet)
 static GstPadProbeReturn
 on_list (GstPad * pad, GstPadProbeInfo * info, gpointer data)
 {
-  GstH263RpsRepeater *repeater = data;
-  GstBufferList *list = GST_PAD_PROBE_INFO_BUFFER_LIST (info);
+  GstH263RpsRepeater * repeater = data;
+  GstBufferList * list = GST_PAD_PROBE_INFO_BUFFER_LIST (info);
   guint i;
 
   g_mutex_lock (&repeater->lock);
@@ -94,7 +92,7 @@ on_list (GstPad * pad, GstPadProbeInfo * info, gpointer data)
 static Way
 way_of_rtx (GstElement * element)
 {
-  GstStructure *map = NULL;
+  GstStructure * map = NULL;
   gboolean repeats;
 
   g_object_get (element, "payload-type-map", &map, NULL);
@@ -106,8 +104,8 @@ way_of_rtx (GstElement * element)
 static Way
 way_of_element (GstElement * element)
 {
-  GstElementFactory *factory = gst_element_get_factory (element);
-  const gchar *name = factory ? GST_OBJECT_NAME (factory) : NULL;
+  GstElementFactory * factory = gst_element_get_factory (element);
+  const gchar * name = factory ? GST_OBJECT_NAME (factory) : NULL;
   gboolean allows = FALSE;
 
   if (g_strcmp0 (name, "rtprtxsend") == 0)
@@ -123,7 +121,7 @@ static Way way_from (GstPad * pad, guint * steps);
 static Way
 way_through (GstPad * peer, guint * steps)
 {
-  GstIterator *links = gst_pad_iterate_internal_links (peer);
+  GstIterator * links = gst_pad_iterate_internal_links (peer);
   GValue value = G_VALUE_INIT;
   Way way = WAY_PLAIN;
 
@@ -140,8 +138,8 @@ way_through (GstPad * peer, guint * steps)
 static Way
 way_from (GstPad * pad, guint * steps)
 {
-  GstPad *peer = ++*steps <= MOST_STEPS ? gst_pad_get_peer (pad) : NULL;
-  GstElement *element;
+  GstPad * peer = ++*steps <= MOST_STEPS ? gst_pad_get_peer (pad) : NULL;
+  GstElement * element;
   Way way = WAY_PLAIN;
 
   if (!peer)
@@ -192,8 +190,8 @@ gst_h263rps_repeater_may (GstH263RpsRepeater * repeater, gboolean * is_closed)
 static gboolean
 is_allowed (GstH263RpsRepeater * repeater, guint16 sequence)
 {
-  return repeater->way == WAY_PLAIN || (repeater->way == WAY_SECURE
-      && (guint16) (repeater->newest - sequence) < NEWEST_OF_SRTP);
+  return repeater->way == WAY_PLAIN
+      || (repeater->way == WAY_SECURE && (guint16) (repeater->newest - sequence) < NEWEST_OF_SRTP);
 }
 
 /* A packet is asked for. */
@@ -202,14 +200,13 @@ gst_h263rps_repeater_ask (GstH263RpsRepeater * repeater, guint16 sequence)
 {
   h263rps_lent found = { NULL, 0 };
   gint64 now = g_get_monotonic_time ();
-  GstBuffer *buffer;
+  GstBuffer * buffer;
 
   g_mutex_lock (&repeater->lock);
   if (now - repeater->repeats[sequence % KEPT] < SOON)
     goto done;
   repeater->counts.asked++;
-  if (now - repeater->sent[sequence % KEPT] > repeater->in_time
-      || !is_allowed (repeater, sequence)
+  if (now - repeater->sent[sequence % KEPT] > repeater->in_time || !is_allowed (repeater, sequence)
       || h263rps_repeats_find (&repeater->kept, sequence, &found) != H263RPS_OK
       || found.length == 0)
     goto done;
@@ -235,8 +232,8 @@ done:
 static void
 repeat_next (gpointer data)
 {
-  GstH263RpsRepeater *repeater = data;
-  GstBuffer *buffer;
+  GstH263RpsRepeater * repeater = data;
+  GstBuffer * buffer;
 
   g_mutex_lock (&repeater->lock);
   while (!repeater->is_stopping && g_queue_is_empty (&repeater->waiting))
@@ -256,7 +253,7 @@ repeat_next (gpointer data)
 GstH263RpsRepeater *
 gst_h263rps_repeater_new (GstPad * pad)
 {
-  GstH263RpsRepeater *repeater = g_new0 (GstH263RpsRepeater, 1);
+  GstH263RpsRepeater * repeater = g_new0 (GstH263RpsRepeater, 1);
 
   repeater->pad = pad;
   g_rec_mutex_init (&repeater->pushing);
@@ -266,7 +263,8 @@ gst_h263rps_repeater_new (GstPad * pad)
   g_queue_init (&repeater->waiting);
   repeater->task = gst_task_new (repeat_next, repeater, NULL);
   gst_task_set_lock (repeater->task, &repeater->running);
-  repeater->probe = gst_pad_add_probe (pad, GST_PAD_PROBE_TYPE_BUFFER_LIST, on_list, repeater, NULL);
+  repeater->probe = gst_pad_add_probe (pad, GST_PAD_PROBE_TYPE_BUFFER_LIST, on_list, repeater,
+      NULL);
   return repeater;
 }
 

@@ -18,46 +18,42 @@ typedef struct _GstH263RpsRepeater GstH263RpsRepeater;
  * @bytes: theirs
  * @refused: those that didn't, though they were still there: the stream had sent too little meanwhile
  */
-struct _GstH263RpsRepeatCounts
-{
+struct _GstH263RpsRepeatCounts {
   guint64 asked, repeated, bytes, refused;
 };
 
 G_GNUC_INTERNAL
-GstH263RpsRepeater * gst_h263rps_repeater_new    (GstPad * pad);
+GstH263RpsRepeater * gst_h263rps_repeater_new (GstPad * pad);
 
 G_GNUC_INTERNAL
-void                 gst_h263rps_repeater_free   (GstH263RpsRepeater * repeater);
+void gst_h263rps_repeater_free (GstH263RpsRepeater * repeater);
 
 G_GNUC_INTERNAL
-void                 gst_h263rps_repeater_start  (GstH263RpsRepeater * repeater);
+void gst_h263rps_repeater_start (GstH263RpsRepeater * repeater);
 
 G_GNUC_INTERNAL
-void                 gst_h263rps_repeater_stop   (GstH263RpsRepeater * repeater);
+void gst_h263rps_repeater_stop (GstH263RpsRepeater * repeater);
 
 G_GNUC_INTERNAL
-gboolean             gst_h263rps_repeater_begin  (GstH263RpsRepeater * repeater, guint longest,
-                                                  gint64 in_time);
+gboolean gst_h263rps_repeater_begin (GstH263RpsRepeater * repeater, guint longest, gint64 in_time);
 
 G_GNUC_INTERNAL
-void                 gst_h263rps_repeater_limit  (GstH263RpsRepeater * repeater, guint64 bytes);
+void gst_h263rps_repeater_limit (GstH263RpsRepeater * repeater, guint64 bytes);
 
 G_GNUC_INTERNAL
-void                 gst_h263rps_repeater_lock   (GstH263RpsRepeater * repeater);
+void gst_h263rps_repeater_lock (GstH263RpsRepeater * repeater);
 
 G_GNUC_INTERNAL
-void                 gst_h263rps_repeater_unlock (GstH263RpsRepeater * repeater);
+void gst_h263rps_repeater_unlock (GstH263RpsRepeater * repeater);
 
 G_GNUC_INTERNAL
-gboolean             gst_h263rps_repeater_may    (GstH263RpsRepeater * repeater,
-                                                  gboolean * is_closed);
+gboolean gst_h263rps_repeater_may (GstH263RpsRepeater * repeater, gboolean * is_closed);
 
 G_GNUC_INTERNAL
-void                 gst_h263rps_repeater_ask    (GstH263RpsRepeater * repeater, guint16 sequence);
+void gst_h263rps_repeater_ask (GstH263RpsRepeater * repeater, guint16 sequence);
 
 G_GNUC_INTERNAL
-void                 gst_h263rps_repeater_counts (GstH263RpsRepeater * repeater,
-                                                  GstH263RpsRepeatCounts * counts);
+void gst_h263rps_repeater_counts (GstH263RpsRepeater * repeater, GstH263RpsRepeatCounts * counts);
 
 G_END_DECLS
 

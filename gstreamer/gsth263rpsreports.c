@@ -113,7 +113,7 @@ gst_h263rps_reception_jitter (const GstH263RpsReception * reception)
 gboolean
 gst_h263rps_reception_ntp (const GstH263RpsReception * reception, guint32 rtp, GstClockTime * ntp)
 {
-  const GstH263RpsSenderInfo *info = &reception->info;
+  const GstH263RpsSenderInfo * info = &reception->info;
   gint64 since = (gint32) (rtp - info->rtp);
 
   if (!reception->has_info || info->ssrc != reception->ssrc)
@@ -167,8 +167,8 @@ gboolean
 gst_h263rps_session_block (GObject * session, guint32 about, GstH263RpsBlock * block,
     GstClockTime * round_trip)
 {
-  GstStructure *stats = NULL;
-  const GValue *sources;
+  GstStructure * stats = NULL;
+  const GValue * sources;
   gboolean is_found = FALSE;
   guint i;
 
@@ -178,7 +178,7 @@ gst_h263rps_session_block (GObject * session, guint32 about, GstH263RpsBlock * b
   sources = gst_structure_get_value (stats, "source-stats");
   /* A GValueArray, whose type's macro is deprecated. */
   if (sources && g_type_is_a (G_VALUE_TYPE (sources), g_type_from_name ("GValueArray"))) {
-    GValueArray *array = g_value_get_boxed (sources);
+    GValueArray * array = g_value_get_boxed (sources);
 
     for (i = 0; array && i < array->n_values && !is_found; i++)
       is_found = read_source (gst_value_get_structure (&array->values[i]), about, block,
@@ -204,7 +204,7 @@ GstClockTime
 gst_h263rps_report_interval (guint bitrate)
 {
   gdouble mean = bitrate ? CLAMP ((gdouble) SHARE / bitrate, LEAST_INTERVAL, MOST_INTERVAL)
-      : LEAST_INTERVAL;
+                         : LEAST_INTERVAL;
 
   return mean * g_random_double_range (0.5, 1.5) * GST_SECOND;
 }

@@ -25,8 +25,7 @@ typedef struct _GstH263RpsSenderInfo GstH263RpsSenderInfo;
  *
  * What a sender report says of a stream.
  */
-struct _GstH263RpsSenderInfo
-{
+struct _GstH263RpsSenderInfo {
   guint32 ssrc;
   guint64 ntp;
   guint32 rtp, packets, octets;
@@ -44,8 +43,7 @@ struct _GstH263RpsSenderInfo
  *
  * A report block: how a stream arrives.
  */
-struct _GstH263RpsBlock
-{
+struct _GstH263RpsBlock {
   guint32 ssrc;
   guint8 fraction;
   gint32 lost;
@@ -58,8 +56,7 @@ struct _GstH263RpsBlock
  * How a stream arrives (RFC 3550, A.3 and A.8), and the last sender report of it. Where a session
  * hears the reports, its time comes with the packets, and @info_at is none.
  */
-struct _GstH263RpsReception
-{
+struct _GstH263RpsReception {
   guint32 ssrc;
   guint32 base, highest;
   guint64 came, came_before, expected_before;
@@ -75,10 +72,8 @@ struct _GstH263RpsReception
  *
  * Bytes, and pictures in all and of a kind, by the second.
  */
-struct _GstH263RpsMeter
-{
-  struct
-  {
+struct _GstH263RpsMeter {
+  struct {
     guint64 bytes;
     guint all, kind;
   } seconds[GST_H263RPS_METER_SECONDS + 1];
@@ -87,50 +82,49 @@ struct _GstH263RpsMeter
 };
 
 G_GNUC_INTERNAL
-void         gst_h263rps_reception_packet (GstH263RpsReception * reception, guint32 ssrc,
-                                           guint16 sequence, guint32 timestamp, GstClockTime now);
+void gst_h263rps_reception_packet (GstH263RpsReception * reception, guint32 ssrc, guint16 sequence,
+    guint32 timestamp, GstClockTime now);
 
 G_GNUC_INTERNAL
-void         gst_h263rps_reception_info   (GstH263RpsReception * reception,
-                                           const GstH263RpsSenderInfo * info, GstClockTime now);
+void gst_h263rps_reception_info (GstH263RpsReception * reception, const GstH263RpsSenderInfo * info,
+    GstClockTime now);
 
 G_GNUC_INTERNAL
-void         gst_h263rps_reception_time   (GstH263RpsReception * reception, guint32 rtp,
-                                           GstClockTime ntp);
+void gst_h263rps_reception_time (GstH263RpsReception * reception, guint32 rtp, GstClockTime ntp);
 
 G_GNUC_INTERNAL
-void         gst_h263rps_reception_block  (GstH263RpsReception * reception,
-                                           GstH263RpsBlock * block, GstClockTime now);
+void gst_h263rps_reception_block (GstH263RpsReception * reception, GstH263RpsBlock * block,
+    GstClockTime now);
 
 G_GNUC_INTERNAL
 GstClockTime gst_h263rps_reception_jitter (const GstH263RpsReception * reception);
 
 G_GNUC_INTERNAL
-gboolean     gst_h263rps_reception_ntp    (const GstH263RpsReception * reception, guint32 rtp,
-                                           GstClockTime * ntp);
+gboolean gst_h263rps_reception_ntp (const GstH263RpsReception * reception, guint32 rtp,
+    GstClockTime * ntp);
 
 G_GNUC_INTERNAL
-GstClockTime gst_h263rps_round_trip       (guint64 ntp, const GstH263RpsBlock * block);
+GstClockTime gst_h263rps_round_trip (guint64 ntp, const GstH263RpsBlock * block);
 
 G_GNUC_INTERNAL
-gboolean     gst_h263rps_session_block    (GObject * session, guint32 about,
-                                           GstH263RpsBlock * block, GstClockTime * round_trip);
+gboolean gst_h263rps_session_block (GObject * session, guint32 about, GstH263RpsBlock * block,
+    GstClockTime * round_trip);
 
 G_GNUC_INTERNAL
-guint64      gst_h263rps_ntp_now          (void);
+guint64 gst_h263rps_ntp_now (void);
 
 G_GNUC_INTERNAL
-GstClockTime gst_h263rps_report_interval  (guint bitrate);
+GstClockTime gst_h263rps_report_interval (guint bitrate);
 
 G_GNUC_INTERNAL
-void         gst_h263rps_meter_add        (GstH263RpsMeter * meter, GstClockTime now,
-                                           guint64 bytes, guint all, guint kind);
+void gst_h263rps_meter_add (GstH263RpsMeter * meter, GstClockTime now, guint64 bytes, guint all,
+    guint kind);
 
 G_GNUC_INTERNAL
-guint64      gst_h263rps_meter_bitrate    (const GstH263RpsMeter * meter, GstClockTime now);
+guint64 gst_h263rps_meter_bitrate (const GstH263RpsMeter * meter, GstClockTime now);
 
 G_GNUC_INTERNAL
-gdouble      gst_h263rps_meter_share      (const GstH263RpsMeter * meter, GstClockTime now);
+gdouble gst_h263rps_meter_share (const GstH263RpsMeter * meter, GstClockTime now);
 
 G_END_DECLS
 

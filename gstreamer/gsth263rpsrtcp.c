@@ -29,7 +29,7 @@ add_rpsi (GstRTCPBuffer * rtcp, guint32 speaker, guint32 about, guint pt,
 {
   GstRTCPPacket packet;
   guint words = (2 + message->length + 3) / 4;
-  guint8 *fci;
+  guint8 * fci;
 
   if (!add_feedback (rtcp, &packet, GST_RTCP_TYPE_PSFB, GST_RTCP_PSFB_TYPE_RPSI, speaker, about))
     return FALSE;
@@ -55,8 +55,8 @@ void
 gst_h263rps_rtcp_begin (GstPad * pad)
 {
   GstSegment segment;
-  GstCaps *caps = gst_caps_new_empty_simple ("application/x-rtcp");
-  gchar *id = gst_h263rps_new_stream_id ("rtcp");
+  GstCaps * caps = gst_caps_new_empty_simple ("application/x-rtcp");
+  gchar * id = gst_h263rps_new_stream_id ("rtcp");
 
   gst_segment_init (&segment, GST_FORMAT_TIME);
   gst_pad_push_event (pad, gst_event_new_stream_start (id));
@@ -99,7 +99,7 @@ gst_h263rps_rtcp_new_rpsi (guint32 speaker, guint32 about, guint pt,
     const h263rps_message * message)
 {
   GstRTCPBuffer rtcp = GST_RTCP_BUFFER_INIT;
-  GstBuffer *buffer = gst_rtcp_buffer_new (RTCP_ROOM);
+  GstBuffer * buffer = gst_rtcp_buffer_new (RTCP_ROOM);
 
   gst_rtcp_buffer_map (buffer, GST_MAP_READWRITE, &rtcp);
   add_rpsi (&rtcp, speaker, about, pt, message);
@@ -119,7 +119,7 @@ gst_h263rps_rtcp_new_pli (guint32 speaker, guint32 about)
 {
   GstRTCPBuffer rtcp = GST_RTCP_BUFFER_INIT;
   GstRTCPPacket packet;
-  GstBuffer *buffer = gst_rtcp_buffer_new (RTCP_ROOM);
+  GstBuffer * buffer = gst_rtcp_buffer_new (RTCP_ROOM);
 
   gst_rtcp_buffer_map (buffer, GST_MAP_READWRITE, &rtcp);
   add_feedback (&rtcp, &packet, GST_RTCP_TYPE_PSFB, GST_RTCP_PSFB_TYPE_PLI, speaker, about);
@@ -140,8 +140,8 @@ gst_h263rps_rtcp_new_nack (guint32 speaker, guint32 about, const h263rps_nack * 
 {
   GstRTCPBuffer rtcp = GST_RTCP_BUFFER_INIT;
   GstRTCPPacket packet;
-  GstBuffer *buffer = gst_rtcp_buffer_new (RTCP_ROOM);
-  guint8 *fci;
+  GstBuffer * buffer = gst_rtcp_buffer_new (RTCP_ROOM);
+  guint8 * fci;
 
   gst_rtcp_buffer_map (buffer, GST_MAP_READWRITE, &rtcp);
   add_feedback (&rtcp, &packet, GST_RTCP_TYPE_RTPFB, GST_RTCP_RTPFB_TYPE_NACK, speaker, about);
@@ -164,7 +164,7 @@ gst_h263rps_rtcp_new_bye (guint32 source)
 {
   GstRTCPBuffer rtcp = GST_RTCP_BUFFER_INIT;
   GstRTCPPacket packet;
-  GstBuffer *buffer = gst_rtcp_buffer_new (RTCP_ROOM);
+  GstBuffer * buffer = gst_rtcp_buffer_new (RTCP_ROOM);
 
   gst_rtcp_buffer_map (buffer, GST_MAP_READWRITE, &rtcp);
   gst_rtcp_buffer_add_packet (&rtcp, GST_RTCP_TYPE_RR, &packet);
@@ -263,7 +263,7 @@ gst_h263rps_rtcp_new_sender_report (const GstH263RpsSenderInfo * info, const gch
 {
   GstRTCPBuffer rtcp = GST_RTCP_BUFFER_INIT;
   GstRTCPPacket packet;
-  GstBuffer *buffer = gst_rtcp_buffer_new (REPORT_ROOM);
+  GstBuffer * buffer = gst_rtcp_buffer_new (REPORT_ROOM);
 
   gst_rtcp_buffer_map (buffer, GST_MAP_READWRITE, &rtcp);
   gst_rtcp_buffer_add_packet (&rtcp, GST_RTCP_TYPE_SR, &packet);
@@ -288,7 +288,7 @@ gst_h263rps_rtcp_new_receiver_report (guint32 speaker, const GstH263RpsBlock * b
 {
   GstRTCPBuffer rtcp = GST_RTCP_BUFFER_INIT;
   GstRTCPPacket packet;
-  GstBuffer *buffer = gst_rtcp_buffer_new (REPORT_ROOM);
+  GstBuffer * buffer = gst_rtcp_buffer_new (REPORT_ROOM);
 
   gst_rtcp_buffer_map (buffer, GST_MAP_READWRITE, &rtcp);
   gst_rtcp_buffer_add_packet (&rtcp, GST_RTCP_TYPE_RR, &packet);

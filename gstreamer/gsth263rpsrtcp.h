@@ -13,58 +13,56 @@
 G_BEGIN_DECLS
 
 G_GNUC_INTERNAL
-void        gst_h263rps_rtcp_begin    (GstPad * pad);
+void gst_h263rps_rtcp_begin (GstPad * pad);
 
 G_GNUC_INTERNAL
-gboolean    gst_h263rps_rtcp_query    (GstPad * pad, GstObject * parent, GstQuery * query);
+gboolean gst_h263rps_rtcp_query (GstPad * pad, GstObject * parent, GstQuery * query);
 
 G_GNUC_INTERNAL
-gchar *     gst_h263rps_rtcp_new_name (void);
+gchar * gst_h263rps_rtcp_new_name (void);
 
 G_GNUC_INTERNAL
 GstBuffer * gst_h263rps_rtcp_new_rpsi (guint32 speaker, guint32 about, guint pt,
-                                       const h263rps_message * message);
+    const h263rps_message * message);
 
 G_GNUC_INTERNAL
-GstBuffer * gst_h263rps_rtcp_new_pli  (guint32 speaker, guint32 about);
+GstBuffer * gst_h263rps_rtcp_new_pli (guint32 speaker, guint32 about);
 
 G_GNUC_INTERNAL
 GstBuffer * gst_h263rps_rtcp_new_nack (guint32 speaker, guint32 about, const h263rps_nack * nack);
 
 G_GNUC_INTERNAL
-GstBuffer * gst_h263rps_rtcp_new_bye  (guint32 source);
+GstBuffer * gst_h263rps_rtcp_new_bye (guint32 source);
 
 G_GNUC_INTERNAL
-gboolean    gst_h263rps_rtcp_add_rpsi (GstBuffer * compound, guint32 speaker, guint32 about,
-                                       guint pt, const h263rps_message * message);
+gboolean gst_h263rps_rtcp_add_rpsi (GstBuffer * compound, guint32 speaker, guint32 about, guint pt,
+    const h263rps_message * message);
 
 G_GNUC_INTERNAL
-gboolean    gst_h263rps_rtcp_read_fci (h263rps_message * message, const guint8 * fci,
-                                       gsize length);
+gboolean gst_h263rps_rtcp_read_fci (h263rps_message * message, const guint8 * fci, gsize length);
 
 G_GNUC_INTERNAL
-gboolean    gst_h263rps_rtcp_next_asked (const guint8 * fci, gsize length, gsize * at,
-                                         guint16 * sequence);
+gboolean gst_h263rps_rtcp_next_asked (const guint8 * fci, gsize length, gsize * at,
+    guint16 * sequence);
 
 G_GNUC_INTERNAL
-GstBuffer * gst_h263rps_rtcp_new_sender_report   (const GstH263RpsSenderInfo * info,
-                                                  const gchar * name);
+GstBuffer * gst_h263rps_rtcp_new_sender_report (const GstH263RpsSenderInfo * info,
+    const gchar * name);
 
 G_GNUC_INTERNAL
 GstBuffer * gst_h263rps_rtcp_new_receiver_report (guint32 speaker, const GstH263RpsBlock * block,
-                                                  const gchar * name);
+    const gchar * name);
 
 G_GNUC_INTERNAL
-gboolean    gst_h263rps_rtcp_read_info           (GstRTCPPacket * packet,
-                                                  GstH263RpsSenderInfo * info);
+gboolean gst_h263rps_rtcp_read_info (GstRTCPPacket * packet, GstH263RpsSenderInfo * info);
 
 G_GNUC_INTERNAL
-gboolean    gst_h263rps_rtcp_read_block          (GstRTCPPacket * packet, guint32 about,
-                                                  guint32 * speaker, GstH263RpsBlock * block);
+gboolean gst_h263rps_rtcp_read_block (GstRTCPPacket * packet, guint32 about, guint32 * speaker,
+    GstH263RpsBlock * block);
 
 G_GNUC_INTERNAL
-gboolean    gst_h263rps_rtcp_read_fir            (const guint8 * fci, gsize length, guint32 about,
-                                                  guint8 * number);
+gboolean gst_h263rps_rtcp_read_fir (const guint8 * fci, gsize length, guint32 about,
+    guint8 * number);
 
 G_END_DECLS
 

@@ -70,7 +70,10 @@ GST_DEBUG_CATEGORY_STATIC (h263rpssend_debug);
 
 #define MOST_TARGET 999999
 /* The bytes a second at which a line is tried first, by the format, and the share of it that is least. */
-#define FIRST_RATES { 0, 27000, 54000, 180000 }
+#define FIRST_RATES \
+  { \
+    0, 27000, 54000, 180000 \
+  }
 #define LEAST_SHARE 30
 /* While no message comes back for so long, a picture goes out only each so often (after RFC 8083): what
  * nobody is seen to receive mustn't fill a line that may be full. */
@@ -103,8 +106,7 @@ GST_DEBUG_CATEGORY_STATIC (h263rpssend_debug);
 /* Repeats have no more bits at once than the stream in this share of a second. */
 #define AT_ONCE 2
 
-enum
-{
+enum {
   PROP_0,
   PROP_BITRATE,
   PROP_ADAPT,
@@ -122,15 +124,13 @@ enum
   PROP_STATS
 };
 
-typedef struct
-{
+typedef struct {
   guint64 coded, intra, packets, bytes, distance;
   guint64 noted, old, malformed, stale, other_speaker, dropped;
   guint64 runs, intra_asked, intra_refused, left_out, carried;
 } Counts;
 
-struct _GstH263RpsSend
-{
+struct _GstH263RpsSend {
   GstRTPBasePayload parent;
 
   GstPad *rtcp_sinkpad, *rtcp_srcpad;
@@ -140,7 +140,7 @@ struct _GstH263RpsSend
   gboolean adapt, custom_clock, repair;
   guint64 min_force_key_unit_interval;
   gchar *cname, *record_location;
-  GObject *session;
+  GObject * session;
   gulong session_handler;
 
   /* the run: of the streaming thread, between READY and PAUSED */
@@ -148,63 +148,53 @@ struct _GstH263RpsSend
   h263rps_params params;
   GstVideoInfo info;
   gsize size;
-  guint8 *packed;
-  GstH263RpsRepeater *repeater;
-  gboolean is_closed_told;      /* that repeats would end the call */
-  GstH263RpsRecord *record;
+  guint8 * packed;
+  GstH263RpsRepeater * repeater;
+  gboolean is_closed_told; /* that repeats would end the call */
+  GstH263RpsRecord * record;
   guint recorded;
-  gint64 run_at;                /* when it began, in us; 0 once it is told that it is alone */
+  gint64 run_at; /* when it began, in us; 0 once it is told that it is alone */
   gboolean is_rtcp_begun;
-  GstClockTime next_report;     /* running time */
+  GstClockTime next_report; /* running time */
 
   /* what came back, for the streaming thread, and the counts: under this lock */
   GMutex lock;
   h263rps_message waiting[MOST_WAITING];
   guint8 said_by[MOST_WAITING]; /* the places of who said them */
   guint waiting_count;
-  h263rps_message carried[MOST_CARRIED];        /* the oldest first */
+  h263rps_message carried[MOST_CARRIED]; /* the oldest first */
   guint carried_count;
-  gint64 picture_at, begun_at;  /* when the last picture was coded, and the first one, in us; or 0 */
+  gint64 picture_at, begun_at; /* when the last picture was coded, and the first one, in us; or 0 */
   guint32 ssrc;
   GstH263RpsReceivers receivers;
-  gint64 intra_at;              /* when an intra picture was asked for last, in us */
-  gboolean adapts;              /* whether the lines are followed */
-  guint most;                   /* bytes a picture, at most */
-  gint64 next;                  /* the number of the next picture */
-  GstClockTime sent_at[TIMES], trip;    /* when a picture went out; the round trip by messages */
-  GstClockTime unheard_at, last_at;     /* the first picture since a message, or NONE; the last one */
+  gint64 intra_at;                   /* when an intra picture was asked for last, in us */
+  gboolean adapts;                   /* whether the lines are followed */
+  guint most;                        /* bytes a picture, at most */
+  gint64 next;                       /* the number of the next picture */
+  GstClockTime sent_at[TIMES], trip; /* when a picture went out; the round trip by messages */
+  GstClockTime unheard_at, last_at;  /* the first picture since a message, or NONE; the last one */
   GstH263RpsMeter meter;
-  Counts counts, begun;         /* ..and as the run began */
+  Counts counts, begun; /* ..and as the run began */
 };
 
-static GstStaticPadTemplate sink_template = GST_STATIC_PAD_TEMPLATE ("sink",
-    GST_PAD_SINK,
+static GstStaticPadTemplate sink_template = GST_STATIC_PAD_TEMPLATE ("sink", GST_PAD_SINK,
     GST_PAD_ALWAYS,
-    GST_STATIC_CAPS ("video/x-raw, format = (string) I420, "
+    GST_STATIC_CAPS (
+        "video/x-raw, format = (string) I420, "
         "width = (int) 128, height = (int) 96, framerate = (fraction) [ 1/1, 120/1 ]; "
         "video/x-raw, format = (string) I420, "
         "width = (int) 176, height = (int) 144, framerate = (fraction) [ 1/1, 120/1 ]; "
         "video/x-raw, format = (string) I420, "
-        "width = (int) 352, height = (int) 288, framerate = (fraction) [ 1/1, 120/1 ]")
-    );
+        "width = (int) 352, height = (int) 288, framerate = (fraction) [ 1/1, 120/1 ]"));
 
-static GstStaticPadTemplate src_template = GST_STATIC_PAD_TEMPLATE ("src",
-    GST_PAD_SRC,
-    GST_PAD_ALWAYS,
-    GST_STATIC_CAPS (GST_H263RPS_RTP_CAPS ", payload = (int) [ 96, 127 ]")
-    );
+static GstStaticPadTemplate src_template = GST_STATIC_PAD_TEMPLATE ("src", GST_PAD_SRC,
+    GST_PAD_ALWAYS, GST_STATIC_CAPS (GST_H263RPS_RTP_CAPS ", payload = (int) [ 96, 127 ]"));
 
-static GstStaticPadTemplate rtcp_sink_template = GST_STATIC_PAD_TEMPLATE ("rtcp_sink",
-    GST_PAD_SINK,
-    GST_PAD_ALWAYS,
-    GST_STATIC_CAPS ("application/x-rtcp")
-    );
+static GstStaticPadTemplate rtcp_sink_template = GST_STATIC_PAD_TEMPLATE ("rtcp_sink", GST_PAD_SINK,
+    GST_PAD_ALWAYS, GST_STATIC_CAPS ("application/x-rtcp"));
 
-static GstStaticPadTemplate rtcp_src_template = GST_STATIC_PAD_TEMPLATE ("rtcp_src",
-    GST_PAD_SRC,
-    GST_PAD_ALWAYS,
-    GST_STATIC_CAPS ("application/x-rtcp")
-    );
+static GstStaticPadTemplate rtcp_src_template = GST_STATIC_PAD_TEMPLATE ("rtcp_src", GST_PAD_SRC,
+    GST_PAD_ALWAYS, GST_STATIC_CAPS ("application/x-rtcp"));
 
 #define gst_h263rps_send_parent_class parent_class
 G_DEFINE_TYPE (GstH263RpsSend, gst_h263rps_send, GST_TYPE_RTP_BASE_PAYLOAD);
@@ -225,9 +215,10 @@ finish_run (GstH263RpsSend * self)
     g_mutex_lock (&self->lock);
     gst_h263rps_record_line (self->record, GST_H263RPS_RECORD_REPORT,
         "sent %" G_GUINT64_FORMAT " packets %" G_GUINT64_FORMAT " noted %" G_GUINT64_FORMAT
-        " old %" G_GUINT64_FORMAT " refused %" G_GUINT64_FORMAT, self->counts.coded - self->begun.coded,
-        self->counts.packets - self->begun.packets, self->counts.noted - self->begun.noted,
-        self->counts.old - self->begun.old, self->counts.malformed - self->begun.malformed);
+        " old %" G_GUINT64_FORMAT " refused %" G_GUINT64_FORMAT,
+        self->counts.coded - self->begun.coded, self->counts.packets - self->begun.packets,
+        self->counts.noted - self->begun.noted, self->counts.old - self->begun.old,
+        self->counts.malformed - self->begun.malformed);
     g_mutex_unlock (&self->lock);
   }
   if (self->group.kind)
@@ -297,8 +288,7 @@ is_heard_enough (GstH263RpsSend * self, GstClockTime now)
   if (!GST_CLOCK_TIME_IS_VALID (self->unheard_at))
     return TRUE;
   silent = now - self->unheard_at;
-  return silent < UNHEARD
-      || now - self->last_at >= (silent < UNHEARD_LONG ? RARELY : SELDOM);
+  return silent < UNHEARD || now - self->last_at >= (silent < UNHEARD_LONG ? RARELY : SELDOM);
 }
 
 /* Under the lock: whether the lines, where they are followed, carry more. */
@@ -425,8 +415,8 @@ read_params (GstH263RpsSend * self, guint format)
 static void
 begin_record (GstH263RpsSend * self)
 {
-  GError *error = NULL;
-  gchar *folder;
+  GError * error = NULL;
+  gchar * folder;
 
   GST_OBJECT_LOCK (self);
   folder = g_strdup (self->record_location);
@@ -434,7 +424,8 @@ begin_record (GstH263RpsSend * self)
   if (!folder)
     return;
   if (self->receivers.most > 1) {
-    GST_ELEMENT_WARNING (self, RESOURCE, SETTINGS, ("A call with several receivers isn't recorded."), (NULL));
+    GST_ELEMENT_WARNING (self, RESOURCE, SETTINGS,
+        ("A call with several receivers isn't recorded."), (NULL));
     g_free (folder);
     return;
   }
@@ -457,8 +448,8 @@ check_record (GstH263RpsSend * self)
 
   if (!fault)
     return;
-  GST_ELEMENT_WARNING (self, RESOURCE, WRITE, ("The recording ends here: %s.",
-          g_strerror (fault)), (NULL));
+  GST_ELEMENT_WARNING (self, RESOURCE, WRITE, ("The recording ends here: %s.", g_strerror (fault)),
+      (NULL));
   g_clear_pointer (&self->record, gst_h263rps_record_free);
 }
 
@@ -469,7 +460,8 @@ record_facts (GstH263RpsSend * self, guint packets)
   guint last, first;
 
   g_object_get (self, "seqnum", &last, "timestamp", &first, NULL);
-  gst_h263rps_record_facts (self->record, "\"format\": \"%s\", \"rate\": \"%d/%d\", "
+  gst_h263rps_record_facts (self->record,
+      "\"format\": \"%s\", \"rate\": \"%d/%d\", "
       "\"clock\": \"%s\", \"target\": %u, \"quant\": %u, \"limit\": %u, \"slots\": %u, "
       "\"lead\": %u, \"source\": %u, \"first_sequence\": %u, \"first_time\": %u",
       gst_h263rps_format_name (self->params.format), self->info.fps_n, self->info.fps_d,
@@ -525,11 +517,11 @@ begin_run (GstH263RpsSend * self)
 static gboolean
 set_outcaps (GstH263RpsSend * self)
 {
-  static const gchar *const sizes[] = { NULL, "sqcif", "qcif", "cif" };
-  GstRTPBasePayload *payload = GST_RTP_BASE_PAYLOAD (self);
+  static const gchar * const sizes[] = { NULL, "sqcif", "qcif", "cif" };
+  GstRTPBasePayload * payload = GST_RTP_BASE_PAYLOAD (self);
   gchar rate[G_ASCII_DTOSTR_BUF_SIZE];
-  gchar *slots = g_strdup_printf ("%u", self->params.slots);
-  gchar *lead = g_strdup_printf ("%u", self->params.lead);
+  gchar * slots = g_strdup_printf ("%u", self->params.slots);
+  gchar * lead = g_strdup_printf ("%u", self->params.lead);
   gboolean result, repair;
 
   GST_OBJECT_LOCK (self);
@@ -537,15 +529,11 @@ set_outcaps (GstH263RpsSend * self)
   GST_OBJECT_UNLOCK (self);
   g_ascii_formatd (rate, sizeof rate, "%.6g", (gdouble) self->info.fps_n / self->info.fps_d);
   gst_rtp_base_payload_set_options (payload, "video", TRUE, "H263-2000", 90000);
-  result = gst_rtp_base_payload_set_outcaps (payload,
-      sizes[self->params.format], G_TYPE_STRING, "1",
-      "k", G_TYPE_STRING, "1", "n", G_TYPE_STRING, "4",
-      "x-slots", G_TYPE_STRING, slots, "x-lead", G_TYPE_STRING, lead,
-      "a-framerate", G_TYPE_STRING, rate,
-      "rtcp-fb-ack-rpsi", G_TYPE_BOOLEAN, TRUE,
-      "rtcp-fb-nack-rpsi", G_TYPE_BOOLEAN, TRUE,
-      "rtcp-fb-nack-pli", G_TYPE_BOOLEAN, TRUE,
-      "rtcp-fb-nack", G_TYPE_BOOLEAN, repair, NULL);
+  result = gst_rtp_base_payload_set_outcaps (payload, sizes[self->params.format], G_TYPE_STRING,
+      "1", "k", G_TYPE_STRING, "1", "n", G_TYPE_STRING, "4", "x-slots", G_TYPE_STRING, slots,
+      "x-lead", G_TYPE_STRING, lead, "a-framerate", G_TYPE_STRING, rate, "rtcp-fb-ack-rpsi",
+      G_TYPE_BOOLEAN, TRUE, "rtcp-fb-nack-rpsi", G_TYPE_BOOLEAN, TRUE, "rtcp-fb-nack-pli",
+      G_TYPE_BOOLEAN, TRUE, "rtcp-fb-nack", G_TYPE_BOOLEAN, repair, NULL);
   g_free (slots);
   g_free (lead);
   return result;
@@ -594,7 +582,7 @@ begin_anew (GstH263RpsSend * self)
 static gboolean
 gst_h263rps_send_set_caps (GstRTPBasePayload * payload, GstCaps * caps)
 {
-  GstH263RpsSend *self = GST_H263RPS_SEND (payload);
+  GstH263RpsSend * self = GST_H263RPS_SEND (payload);
   GstVideoInfo info;
   gboolean is_same;
 
@@ -636,8 +624,9 @@ static gint
 place_of_speaker (GstH263RpsSend * self, guint32 speaker)
 {
   gboolean is_other;
-  gint place = gst_h263rps_receivers_hear (&self->receivers, speaker, g_get_monotonic_time (), &is_other);
-  h263rps_line *line;
+  gint place = gst_h263rps_receivers_hear (&self->receivers, speaker, g_get_monotonic_time (),
+      &is_other);
+  h263rps_line * line;
 
   if (place < 0) {
     self->counts.other_speaker++;
@@ -745,7 +734,7 @@ hear_full_intra (GstH263RpsSend * self, guint32 speaker, const guint8 * fci, gsi
   g_mutex_lock (&self->lock);
   if (gst_h263rps_rtcp_read_fir (fci, length, self->ssrc, &number)
       && counts_speaker (self, speaker, self->ssrc)) {
-    GstH263RpsReceiver *receiver = receiver_of (self, speaker);
+    GstH263RpsReceiver * receiver = receiver_of (self, speaker);
 
     counts = !receiver->has_fir || number != receiver->fir;
     receiver->has_fir = TRUE;
@@ -788,7 +777,7 @@ hear_report (GstH263RpsSend * self, GstRTCPPacket * packet)
   g_mutex_lock (&self->lock);
   if (gst_h263rps_rtcp_read_block (packet, self->ssrc, &speaker, &block)
       && counts_speaker (self, speaker, self->ssrc)) {
-    GstH263RpsReceiver *receiver = receiver_of (self, speaker);
+    GstH263RpsReceiver * receiver = receiver_of (self, speaker);
 
     receiver->has_block = TRUE;
     receiver->block = block;
@@ -865,7 +854,7 @@ hear_packets (GstH263RpsSend * self, GstRTCPBuffer * rtcp)
   gboolean more;
 
   for (more = gst_rtcp_buffer_get_first_packet (rtcp, &packet); more;
-      more = gst_rtcp_packet_move_to_next (&packet)) {
+       more = gst_rtcp_packet_move_to_next (&packet)) {
     if (gst_rtcp_packet_get_type (&packet) == GST_RTCP_TYPE_RTPFB) {
       if (gst_rtcp_packet_fb_get_type (&packet) == GST_RTCP_RTPFB_TYPE_NACK)
         hear_missing (self, gst_rtcp_packet_fb_get_sender_ssrc (&packet),
@@ -888,7 +877,7 @@ hear_packets (GstH263RpsSend * self, GstRTCPBuffer * rtcp)
 static GstFlowReturn
 gst_h263rps_send_rtcp_chain (GstPad * pad, GstObject * parent, GstBuffer * buffer)
 {
-  GstH263RpsSend *self = GST_H263RPS_SEND (parent);
+  GstH263RpsSend * self = GST_H263RPS_SEND (parent);
   GstRTCPBuffer rtcp = GST_RTCP_BUFFER_INIT;
 
   if (gst_buffer_get_size (buffer) > 0 && gst_rtcp_buffer_validate_reduced (buffer)
@@ -938,7 +927,8 @@ on_feedback_rtcp (GObject * session, guint type, guint fbtype, guint speaker, gu
 static gboolean
 is_soon (GstH263RpsSend * self)
 {
-  gint64 period = gst_util_uint64_scale (G_USEC_PER_SEC, self->info.fps_d, MAX (self->info.fps_n, 1));
+  gint64 period = gst_util_uint64_scale (G_USEC_PER_SEC, self->info.fps_d,
+      MAX (self->info.fps_n, 1));
   gint64 away = self->picture_at + period - g_get_monotonic_time ();
 
   return self->picture_at != 0 && away <= SOON && away >= -LATE;
@@ -1054,7 +1044,8 @@ tell_messages (GstH263RpsSend * self)
   for (i = 0; i < count; i++) {
     h263rps_reply reply;
 
-    if (h263rps_group_feedback (&self->group, said_by[i], waiting[i].bytes, waiting[i].length, &reply))
+    if (h263rps_group_feedback (&self->group, said_by[i], waiting[i].bytes, waiting[i].length,
+            &reply))
       continue;
     gst_h263rps_record_entry (self->record, GST_H263RPS_RECORD_LOG, 'B', waiting[i].bytes,
         waiting[i].length, running_time (self));
@@ -1099,7 +1090,7 @@ steer (GstH263RpsSend * self, guint target)
 static gboolean
 is_packed (GstVideoFrame * frame)
 {
-  const guint8 *next = GST_VIDEO_FRAME_COMP_DATA (frame, 0);
+  const guint8 * next = GST_VIDEO_FRAME_COMP_DATA (frame, 0);
   guint c;
 
   for (c = 0; c < 3; c++) {
@@ -1114,14 +1105,14 @@ is_packed (GstVideoFrame * frame)
 static const guint8 *
 packed_samples (GstH263RpsSend * self, GstVideoFrame * frame)
 {
-  guint8 *to = self->packed;
+  guint8 * to = self->packed;
   guint c;
   gint y;
 
   if (is_packed (frame))
     return GST_VIDEO_FRAME_COMP_DATA (frame, 0);
   for (c = 0; c < 3; c++) {
-    const guint8 *from = GST_VIDEO_FRAME_COMP_DATA (frame, c);
+    const guint8 * from = GST_VIDEO_FRAME_COMP_DATA (frame, c);
 
     for (y = 0; y < GST_VIDEO_FRAME_COMP_HEIGHT (frame, c); y++) {
       memcpy (to, from, GST_VIDEO_FRAME_COMP_WIDTH (frame, c));
@@ -1135,7 +1126,7 @@ packed_samples (GstH263RpsSend * self, GstVideoFrame * frame)
 static guint32
 code_picture (GstH263RpsSend * self, GstVideoFrame * frame, h263rps_coded * coded)
 {
-  const guint8 *samples = packed_samples (self, frame);
+  const guint8 * samples = packed_samples (self, frame);
   h263rps_message carried[MOST_CARRIED];
   guint count = take_carried (self, carried);
   guint32 status;
@@ -1160,12 +1151,12 @@ static GstBufferList *
 packets_of (GstH263RpsSend * self, const h263rps_coded * coded, GstBuffer * picture,
     guint64 * bytes)
 {
-  GstBufferList *list = gst_buffer_list_new_sized (coded->packets);
+  GstBufferList * list = gst_buffer_list_new_sized (coded->packets);
   guint i;
 
   *bytes = 0;
   for (i = 0; i < coded->packets; i++) {
-    GstBuffer *packet = gst_buffer_new_allocate (NULL, self->params.limit, NULL);
+    GstBuffer * packet = gst_buffer_new_allocate (NULL, self->params.limit, NULL);
     GstMapInfo map;
     gsize count = 0;
 
@@ -1196,8 +1187,8 @@ read_info (GstH263RpsSend * self, GstH263RpsSenderInfo * info, GstClockTime now,
   g_object_get (self, "timestamp", &timestamp, NULL);
   info->ssrc = GST_RTP_BASE_PAYLOAD (self)->current_ssrc;
   info->ntp = gst_h263rps_ntp_now ();
-  info->rtp = timestamp + (now > captured ? gst_util_uint64_scale (now - captured, 90000,
-          GST_SECOND) : 0);
+  info->rtp = timestamp
+      + (now > captured ? gst_util_uint64_scale (now - captured, 90000, GST_SECOND) : 0);
   g_mutex_lock (&self->lock);
   info->packets = self->counts.packets - self->begun.packets;
   info->octets = self->counts.bytes - self->begun.bytes - RTP_HEADER * info->packets;
@@ -1208,7 +1199,7 @@ static void
 send_report (GstH263RpsSend * self, GstClockTime now, GstClockTime captured)
 {
   GstH263RpsSenderInfo info;
-  GstBuffer *buffer;
+  GstBuffer * buffer;
 
   read_info (self, &info, now, captured);
   GST_OBJECT_LOCK (self);
@@ -1221,7 +1212,7 @@ send_report (GstH263RpsSend * self, GstClockTime now, GstClockTime captured)
 static void
 report_picture (GstH263RpsSend * self, GstClockTime pts)
 {
-  GstSegment *segment = &GST_RTP_BASE_PAYLOAD (self)->segment;
+  GstSegment * segment = &GST_RTP_BASE_PAYLOAD (self)->segment;
   GstClockTime now = running_time (self);
   GstClockTime captured = gst_segment_to_running_time (segment, GST_FORMAT_TIME, pts);
 
@@ -1246,7 +1237,7 @@ tell_alone (GstH263RpsSend * self)
   self->run_at = 0;
   GST_ELEMENT_WARNING (self, STREAM, ENCODE, ("No message comes back, so each picture is intra."),
       ("Is rtcp_sink linked, or session set? Does the other side select reference pictures "
-          "(in SDP: ack rpsi, nack rpsi)?"));
+       "(in SDP: ack rpsi, nack rpsi)?"));
 }
 
 static void
@@ -1270,9 +1261,9 @@ count_picture (GstH263RpsSend * self, const h263rps_coded * coded, guint64 bytes
 static GstFlowReturn
 gst_h263rps_send_handle_buffer (GstRTPBasePayload * payload, GstBuffer * buffer)
 {
-  GstH263RpsSend *self = GST_H263RPS_SEND (payload);
+  GstH263RpsSend * self = GST_H263RPS_SEND (payload);
   GstVideoFrame frame;
-  GstBufferList *list;
+  GstBufferList * list;
   h263rps_coded coded;
   GstClockTime pts = GST_BUFFER_PTS (buffer);
   guint32 status;
@@ -1305,8 +1296,8 @@ gst_h263rps_send_handle_buffer (GstRTPBasePayload * payload, GstBuffer * buffer)
   list = packets_of (self, &coded, buffer, &bytes);
   count_picture (self, &coded, bytes);
   gst_buffer_unref (buffer);
-  GST_LOG_OBJECT (self, "picture %u, %u packets, %" G_GUINT64_FORMAT " bytes, %s %u",
-      coded.number, coded.packets, bytes, coded.intra ? "intra" : "from", coded.reference);
+  GST_LOG_OBJECT (self, "picture %u, %u packets, %" G_GUINT64_FORMAT " bytes, %s %u", coded.number,
+      coded.packets, bytes, coded.intra ? "intra" : "from", coded.reference);
   gst_h263rps_repeater_lock (self->repeater);
   flow = gst_rtp_base_payload_push_list (payload, list);
   gst_h263rps_repeater_unlock (self->repeater);
@@ -1337,7 +1328,7 @@ refused:
 static gboolean
 gst_h263rps_send_sink_event (GstRTPBasePayload * payload, GstEvent * event)
 {
-  GstH263RpsSend *self = GST_H263RPS_SEND (payload);
+  GstH263RpsSend * self = GST_H263RPS_SEND (payload);
 
   if (gst_video_event_is_force_key_unit (event))
     ask_for_intra (self, TRUE, 0);
@@ -1368,8 +1359,8 @@ is_own_request (GstH263RpsSend * self, const GstStructure * structure, guint16 *
 static gboolean
 gst_h263rps_send_src_event (GstRTPBasePayload * payload, GstEvent * event)
 {
-  GstH263RpsSend *self = GST_H263RPS_SEND (payload);
-  const GstStructure *structure = gst_event_get_structure (event);
+  GstH263RpsSend * self = GST_H263RPS_SEND (payload);
+  const GstStructure * structure = gst_event_get_structure (event);
   guint16 sequence;
 
   if (gst_video_event_is_force_key_unit (event)) {
@@ -1398,10 +1389,10 @@ gst_h263rps_send_src_event (GstRTPBasePayload * payload, GstEvent * event)
 static GstIterator *
 gst_h263rps_send_iterate_links (GstPad * pad, GstObject * parent)
 {
-  GstH263RpsSend *self = GST_H263RPS_SEND (parent);
-  GstRTPBasePayload *payload = GST_RTP_BASE_PAYLOAD (self);
-  GstPad *other;
-  GstIterator *iterator;
+  GstH263RpsSend * self = GST_H263RPS_SEND (parent);
+  GstRTPBasePayload * payload = GST_RTP_BASE_PAYLOAD (self);
+  GstPad * other;
+  GstIterator * iterator;
   GValue value = G_VALUE_INIT;
 
   if (pad == self->rtcp_sinkpad || pad == self->rtcp_srcpad)
@@ -1419,7 +1410,7 @@ gst_h263rps_send_iterate_links (GstPad * pad, GstObject * parent)
 static void
 set_session (GstH263RpsSend * self, GObject * session)
 {
-  GObject *old;
+  GObject * old;
   gulong old_handler;
 
   if (session) {
@@ -1441,16 +1432,14 @@ set_session (GstH263RpsSend * self, GObject * session)
     g_object_unref (old);
   }
   if (session)
-    self->session_handler =
-        g_signal_connect_object (session, "on-feedback-rtcp", G_CALLBACK (on_feedback_rtcp), self,
-        0);
+    self->session_handler = g_signal_connect_object (session, "on-feedback-rtcp",
+        G_CALLBACK (on_feedback_rtcp), self, 0);
 }
 
 static void
-gst_h263rps_send_set_property (GObject * object, guint id, const GValue * value,
-    GParamSpec * pspec)
+gst_h263rps_send_set_property (GObject * object, guint id, const GValue * value, GParamSpec * pspec)
 {
-  GstH263RpsSend *self = GST_H263RPS_SEND (object);
+  GstH263RpsSend * self = GST_H263RPS_SEND (object);
 
   if (id == PROP_SESSION) {
     set_session (self, g_value_get_object (value));
@@ -1510,11 +1499,11 @@ gst_h263rps_send_set_property (GObject * object, guint id, const GValue * value,
 static GstH263RpsReceiver *
 read_receivers (GstH263RpsSend * self, guint32 * rate)
 {
-  GstH263RpsReceiver *worst = NULL;
+  GstH263RpsReceiver * worst = NULL;
   guint i;
 
   for (i = 0; i < self->receivers.most; i++) {
-    GstH263RpsReceiver *receiver = &self->receivers.places[i];
+    GstH263RpsReceiver * receiver = &self->receivers.places[i];
     guint32 least;
 
     if (!receiver->is_in)
@@ -1533,8 +1522,8 @@ add_reports (GstH263RpsSend * self, GstStructure * stats)
 {
   GstH263RpsBlock block = { 0 };
   GstClockTime round_trip = GST_CLOCK_TIME_NONE, trip;
-  GstH263RpsReceiver *worst;
-  GObject *session;
+  GstH263RpsReceiver * worst;
+  GObject * session;
   guint64 bitrate, joined, left;
   guint limit, count;
   guint32 rate = G_MAXUINT32;
@@ -1566,18 +1555,18 @@ add_reports (GstH263RpsSend * self, GstStructure * stats)
   if (!GST_CLOCK_TIME_IS_VALID (round_trip))
     round_trip = trip;
   gst_structure_set (stats, "bit-rate", G_TYPE_UINT64, bitrate, "target-bit-rate", G_TYPE_UINT64,
-      8 * (guint64) rate, "round-trip", G_TYPE_UINT64, round_trip, "jitter", G_TYPE_UINT64, has_block
-      ? gst_util_uint64_scale (block.jitter, GST_SECOND, 90000) : GST_CLOCK_TIME_NONE,
-      "fraction-lost", G_TYPE_DOUBLE, has_block ? block.fraction / 256.0 : -1.0,
-      "receivers", G_TYPE_UINT, count, "joined", G_TYPE_UINT64, joined, "left", G_TYPE_UINT64, left, NULL);
+      8 * (guint64) rate, "round-trip", G_TYPE_UINT64, round_trip, "jitter", G_TYPE_UINT64,
+      has_block ? gst_util_uint64_scale (block.jitter, GST_SECOND, 90000) : GST_CLOCK_TIME_NONE,
+      "fraction-lost", G_TYPE_DOUBLE, has_block ? block.fraction / 256.0 : -1.0, "receivers",
+      G_TYPE_UINT, count, "joined", G_TYPE_UINT64, joined, "left", G_TYPE_UINT64, left, NULL);
 }
 
 /* The base class's statistics and those of the call. */
 static GstStructure *
 create_stats (GstH263RpsSend * self)
 {
-  GParamSpec *pspec = g_object_class_find_property (G_OBJECT_CLASS (parent_class), "stats");
-  GstStructure *stats;
+  GParamSpec * pspec = g_object_class_find_property (G_OBJECT_CLASS (parent_class), "stats");
+  GstStructure * stats;
   GValue value = G_VALUE_INIT;
   GstH263RpsRepeatCounts repeats;
   Counts counts;
@@ -1593,26 +1582,16 @@ create_stats (GstH263RpsSend * self)
   g_mutex_unlock (&self->lock);
   gst_h263rps_repeater_counts (self->repeater, &repeats);
   predicted = counts.coded - counts.intra;
-  gst_structure_set (stats,
-      "coded", G_TYPE_UINT64, counts.coded,
-      "intra", G_TYPE_UINT64, counts.intra,
-      "packets", G_TYPE_UINT64, counts.packets,
-      "bytes", G_TYPE_UINT64, counts.bytes,
+  gst_structure_set (stats, "coded", G_TYPE_UINT64, counts.coded, "intra", G_TYPE_UINT64,
+      counts.intra, "packets", G_TYPE_UINT64, counts.packets, "bytes", G_TYPE_UINT64, counts.bytes,
       "mean-distance", G_TYPE_DOUBLE, predicted ? (gdouble) counts.distance / predicted : 0.0,
-      "noted", G_TYPE_UINT64, counts.noted,
-      "old", G_TYPE_UINT64, counts.old,
-      "malformed", G_TYPE_UINT64, counts.malformed,
-      "stale", G_TYPE_UINT64, counts.stale,
-      "other-speaker", G_TYPE_UINT64, counts.other_speaker,
-      "dropped", G_TYPE_UINT64, counts.dropped,
-      "runs", G_TYPE_UINT64, counts.runs,
-      "intra-asked", G_TYPE_UINT64, counts.intra_asked,
-      "intra-refused", G_TYPE_UINT64, counts.intra_refused,
-      "left-out", G_TYPE_UINT64, counts.left_out,
-      "carried", G_TYPE_UINT64, counts.carried,
-      "asked", G_TYPE_UINT64, repeats.asked,
-      "repeated", G_TYPE_UINT64, repeats.repeated,
-      "repeats-refused", G_TYPE_UINT64, repeats.refused, NULL);
+      "noted", G_TYPE_UINT64, counts.noted, "old", G_TYPE_UINT64, counts.old, "malformed",
+      G_TYPE_UINT64, counts.malformed, "stale", G_TYPE_UINT64, counts.stale, "other-speaker",
+      G_TYPE_UINT64, counts.other_speaker, "dropped", G_TYPE_UINT64, counts.dropped, "runs",
+      G_TYPE_UINT64, counts.runs, "intra-asked", G_TYPE_UINT64, counts.intra_asked, "intra-refused",
+      G_TYPE_UINT64, counts.intra_refused, "left-out", G_TYPE_UINT64, counts.left_out, "carried",
+      G_TYPE_UINT64, counts.carried, "asked", G_TYPE_UINT64, repeats.asked, "repeated",
+      G_TYPE_UINT64, repeats.repeated, "repeats-refused", G_TYPE_UINT64, repeats.refused, NULL);
   add_reports (self, stats);
   return stats;
 }
@@ -1620,7 +1599,7 @@ create_stats (GstH263RpsSend * self)
 static void
 gst_h263rps_send_get_property (GObject * object, guint id, GValue * value, GParamSpec * pspec)
 {
-  GstH263RpsSend *self = GST_H263RPS_SEND (object);
+  GstH263RpsSend * self = GST_H263RPS_SEND (object);
 
   if (id == PROP_STATS) {
     g_value_take_boxed (value, create_stats (self));
@@ -1678,7 +1657,7 @@ gst_h263rps_send_get_property (GObject * object, guint id, GValue * value, GPara
 static GstStateChangeReturn
 gst_h263rps_send_change_state (GstElement * element, GstStateChange transition)
 {
-  GstH263RpsSend *self = GST_H263RPS_SEND (element);
+  GstH263RpsSend * self = GST_H263RPS_SEND (element);
   GstStateChangeReturn result;
 
   if (transition == GST_STATE_CHANGE_READY_TO_PAUSED) {
@@ -1712,7 +1691,7 @@ gst_h263rps_send_dispose (GObject * object)
 static void
 gst_h263rps_send_finalize (GObject * object)
 {
-  GstH263RpsSend *self = GST_H263RPS_SEND (object);
+  GstH263RpsSend * self = GST_H263RPS_SEND (object);
 
   finish_run (self);
   gst_h263rps_receivers_clear (&self->receivers);
@@ -1726,7 +1705,7 @@ gst_h263rps_send_finalize (GObject * object)
 static void
 gst_h263rps_send_init (GstH263RpsSend * self)
 {
-  GstRTPBasePayload *payload = GST_RTP_BASE_PAYLOAD (self);
+  GstRTPBasePayload * payload = GST_RTP_BASE_PAYLOAD (self);
 
   self->bitrate = DEFAULT_BITRATE;
   self->adapt = DEFAULT_ADAPT;
@@ -1761,13 +1740,12 @@ gst_h263rps_send_init (GstH263RpsSend * self)
 static void
 gst_h263rps_send_class_init (GstH263RpsSendClass * klass)
 {
-  GObjectClass *object_class = G_OBJECT_CLASS (klass);
-  GstElementClass *element_class = GST_ELEMENT_CLASS (klass);
-  GstRTPBasePayloadClass *payload_class = GST_RTP_BASE_PAYLOAD_CLASS (klass);
-  const GParamFlags ready =
-      G_PARAM_READWRITE | G_PARAM_STATIC_STRINGS | GST_PARAM_MUTABLE_READY;
-  const GParamFlags playing =
-      G_PARAM_READWRITE | G_PARAM_STATIC_STRINGS | GST_PARAM_MUTABLE_PLAYING;
+  GObjectClass * object_class = G_OBJECT_CLASS (klass);
+  GstElementClass * element_class = GST_ELEMENT_CLASS (klass);
+  GstRTPBasePayloadClass * payload_class = GST_RTP_BASE_PAYLOAD_CLASS (klass);
+  const GParamFlags ready = G_PARAM_READWRITE | G_PARAM_STATIC_STRINGS | GST_PARAM_MUTABLE_READY;
+  const GParamFlags playing = G_PARAM_READWRITE | G_PARAM_STATIC_STRINGS
+      | GST_PARAM_MUTABLE_PLAYING;
 
   GST_DEBUG_CATEGORY_INIT (h263rpssend_debug, "h263rpssend", 0, "H.263 RPS sender");
 
@@ -1811,8 +1789,8 @@ gst_h263rps_send_class_init (GstH263RpsSendClass * klass)
    * How far the motion search goes from the samples' own place, each way.
    */
   g_object_class_install_property (object_class, PROP_RADIUS,
-      g_param_spec_uint ("radius", "Radius", "Samples that the motion search goes, each way",
-          0, 15, DEFAULT_RADIUS, ready));
+      g_param_spec_uint ("radius", "Radius", "Samples that the motion search goes, each way", 0, 15,
+          DEFAULT_RADIUS, ready));
   /**
    * GstH263RpsSend:slots:
    *
@@ -1821,8 +1799,7 @@ gst_h263rps_send_class_init (GstH263RpsSendClass * klass)
    * tell it (x-slots).
    */
   g_object_class_install_property (object_class, PROP_SLOTS,
-      g_param_spec_uint ("slots", "Slots", "Pictures that are kept", 2, 64, DEFAULT_SLOTS,
-          ready));
+      g_param_spec_uint ("slots", "Slots", "Pictures that are kept", 2, 64, DEFAULT_SLOTS, ready));
   /**
    * GstH263RpsSend:lead:
    *
@@ -1863,8 +1840,9 @@ gst_h263rps_send_class_init (GstH263RpsSendClass * klass)
    * carry no messages, and nothing is recorded.
    */
   g_object_class_install_property (object_class, PROP_MAX_RECEIVERS,
-      g_param_spec_uint ("max-receivers", "Maximum of receivers", "Receivers that pictures are coded for",
-          1, H263RPS_PLACES, DEFAULT_MAX_RECEIVERS, ready));
+      g_param_spec_uint ("max-receivers", "Maximum of receivers",
+          "Receivers that pictures are coded for", 1, H263RPS_PLACES, DEFAULT_MAX_RECEIVERS,
+          ready));
   /**
    * GstH263RpsSend:min-force-key-unit-interval:
    *
@@ -1872,8 +1850,8 @@ gst_h263rps_send_class_init (GstH263RpsSendClass * klass)
    */
   g_object_class_install_property (object_class, PROP_MIN_FORCE_KEY_UNIT_INTERVAL,
       g_param_spec_uint64 ("min-force-key-unit-interval", "Minimum force key unit interval",
-          "Least time between intra pictures that are asked for, in nanoseconds",
-          0, G_MAXINT64, DEFAULT_MIN_FORCE_KEY_UNIT_INTERVAL, playing));
+          "Least time between intra pictures that are asked for, in nanoseconds", 0, G_MAXINT64,
+          DEFAULT_MIN_FORCE_KEY_UNIT_INTERVAL, playing));
   /**
    * GstH263RpsSend:session:
    *
@@ -1890,8 +1868,8 @@ gst_h263rps_send_class_init (GstH263RpsSendClass * klass)
    * are played at the same time. Drawn at random by default.
    */
   g_object_class_install_property (object_class, PROP_CNAME,
-      g_param_spec_string ("cname", "CNAME", "The canonical name of the sender reports (default == random)",
-          NULL, ready));
+      g_param_spec_string ("cname", "CNAME",
+          "The canonical name of the sender reports (default == random)", NULL, ready));
   /**
    * GstH263RpsSend:record-location:
    *

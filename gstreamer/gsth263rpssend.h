@@ -16,11 +16,10 @@ GST_ELEMENT_REGISTER_DECLARE (h263rpssend);
 /* The messages of this party's receiver, and those in the headers of the other one's pictures. */
 G_GNUC_INTERNAL
 gboolean gst_h263rps_send_carry (GstH263RpsSend * self, const h263rps_message * message,
-                                 guint clock);
+    guint clock);
 
 G_GNUC_INTERNAL
-void     gst_h263rps_send_hear  (GstH263RpsSend * self, const h263rps_message * messages,
-                                 guint count);
+void gst_h263rps_send_hear (GstH263RpsSend * self, const h263rps_message * messages, guint count);
 
 G_END_DECLS
 

@@ -10,8 +10,7 @@
 #define UNKNOWN_RUN -2
 
 /* A packet, with its answer, or a play without a picture. */
-typedef struct
-{
+typedef struct {
   gchar letter;
   guint kind, number;
   h263rps_message message;
@@ -23,7 +22,7 @@ typedef struct
 GstH263RpsTape *
 gst_h263rps_tape_new (void)
 {
-  GstH263RpsTape *tape = g_new0 (GstH263RpsTape, 1);
+  GstH263RpsTape * tape = g_new0 (GstH263RpsTape, 1);
 
   g_queue_init (&tape->followed);
   g_queue_init (&tape->tried);
@@ -34,7 +33,7 @@ gst_h263rps_tape_new (void)
 static Entry *
 new_entry (const h263rps_answer * answer, const guint8 * bytes, gsize length, GstClockTime when)
 {
-  Entry *entry = g_malloc (sizeof *entry + length);
+  Entry * entry = g_malloc (sizeof *entry + length);
 
   entry->letter = length ? 'K' : 'P';
   entry->kind = answer->kind;
@@ -62,7 +61,7 @@ record_message (GstH263RpsTape * tape, const h263rps_message * message, GstClock
 static void
 write_followed (GstH263RpsTape * tape, gboolean is_late)
 {
-  Entry *entry;
+  Entry * entry;
 
   while ((entry = g_queue_peek_head (&tape->followed))
       && (!is_late || (entry->letter == 'K' && entry->kind == H263RPS_LATE))) {
@@ -186,7 +185,7 @@ gst_h263rps_tape_begins (const GstH263RpsTape * tape, const h263rps_turn * turn)
 static void
 note_joined (GstH263RpsTape * tape)
 {
-  const Entry *entry = g_queue_peek_head (&tape->followed);
+  const Entry * entry = g_queue_peek_head (&tape->followed);
   h263rps_start start;
 
   tape->joined = 0;
@@ -209,13 +208,13 @@ gst_h263rps_tape_begin (GstH263RpsTape * tape, GstH263RpsRecord * record, guint 
     GstClockTime when)
 {
   guint first = number, plays = 0, i;
-  GList *item;
+  GList * item;
 
   write_followed (tape, TRUE);
   end_record (tape);
   note_joined (tape);
   for (item = tape->followed.tail; item; item = item->prev) {
-    const Entry *entry = item->data;
+    const Entry * entry = item->data;
 
     if (entry->letter == 'P') {
       first = entry->number;
@@ -235,7 +234,7 @@ static void
 write_play (GstH263RpsTape * tape, const h263rps_answer * answer, const h263rps_lent * shown,
     GstClockTime when)
 {
-  const gchar *mark = gst_h263rps_mark_name (answer->kind);
+  const gchar * mark = gst_h263rps_mark_name (answer->kind);
 
   tape->marks[answer->kind]++;
   gst_h263rps_record_entry (tape->record, GST_H263RPS_RECORD_LOG, 'P', NULL, 0, when);

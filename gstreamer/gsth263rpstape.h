@@ -19,9 +19,8 @@ typedef struct _GstH263RpsTape GstH263RpsTape;
  *
  * What the rest holds is the tape's own.
  */
-struct _GstH263RpsTape
-{
-  GstH263RpsRecord *record;
+struct _GstH263RpsTape {
+  GstH263RpsRecord * record;
   guint skipped, joined;
 
   GQueue followed, tried;
@@ -33,29 +32,28 @@ struct _GstH263RpsTape
 };
 
 G_GNUC_INTERNAL
-GstH263RpsTape * gst_h263rps_tape_new    (void);
+GstH263RpsTape * gst_h263rps_tape_new (void);
 
 G_GNUC_INTERNAL
-void             gst_h263rps_tape_free   (GstH263RpsTape * tape);
+void gst_h263rps_tape_free (GstH263RpsTape * tape);
 
 G_GNUC_INTERNAL
-void             gst_h263rps_tape_packet (GstH263RpsTape * tape, const h263rps_arrived * arrived,
-                                          const guint8 * bytes, gsize length, GstClockTime now,
-                                          GstClockTime when);
+void gst_h263rps_tape_packet (GstH263RpsTape * tape, const h263rps_arrived * arrived,
+    const guint8 * bytes, gsize length, GstClockTime now, GstClockTime when);
 
 G_GNUC_INTERNAL
-void             gst_h263rps_tape_turn   (GstH263RpsTape * tape, guint run);
+void gst_h263rps_tape_turn (GstH263RpsTape * tape, guint run);
 
 G_GNUC_INTERNAL
-gboolean         gst_h263rps_tape_begins (const GstH263RpsTape * tape, const h263rps_turn * turn);
+gboolean gst_h263rps_tape_begins (const GstH263RpsTape * tape, const h263rps_turn * turn);
 
 G_GNUC_INTERNAL
-void             gst_h263rps_tape_begin  (GstH263RpsTape * tape, GstH263RpsRecord * record,
-                                          guint number, GstClockTime when);
+void gst_h263rps_tape_begin (GstH263RpsTape * tape, GstH263RpsRecord * record, guint number,
+    GstClockTime when);
 
 G_GNUC_INTERNAL
-void             gst_h263rps_tape_play   (GstH263RpsTape * tape, const h263rps_turn * turn,
-                                          const h263rps_lent * shown, GstClockTime when);
+void gst_h263rps_tape_play (GstH263RpsTape * tape, const h263rps_turn * turn,
+    const h263rps_lent * shown, GstClockTime when);
 
 G_END_DECLS
 

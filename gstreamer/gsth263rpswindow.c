@@ -67,13 +67,17 @@ gst_h263rps_window_fault (const GstH263RpsWindow * window, GstClockTime wait, gi
 
   if (most < 0)
     return g_strdup_printf ("The sender's %u slots don't hold its lead of %u: slots are at least "
-        "lead + 2.", window->slots, window->lead);
+                            "lead + 2.",
+        window->slots, window->lead);
   if (gst_h263rps_window_own (&own, wait, fps_n, fps_d))
     return NULL;
   milliseconds = most > LEAST_AHEAD
-      ? gst_util_uint64_scale (1000, (most - LEAST_AHEAD) * fps_d, fps_n) : 0;
+      ? gst_util_uint64_scale (1000, (most - LEAST_AHEAD) * fps_d, fps_n)
+      : 0;
   return g_strdup_printf ("A latency of %" G_GUINT64_FORMAT " ms is %u pictures, and beside the "
-      "sender's window (slots %u, lead %u) there is room for %" G_GUINT64_FORMAT " ms: take a "
-      "smaller latency, or fewer slots at the sender.", wait / GST_MSECOND,
-      pictures_in (wait, fps_n, fps_d), window->slots, window->lead, milliseconds);
+                          "sender's window (slots %u, lead %u) there is room for %" G_GUINT64_FORMAT
+                          " ms: take a "
+                          "smaller latency, or fewer slots at the sender.",
+      wait / GST_MSECOND, pictures_in (wait, fps_n, fps_d), window->slots, window->lead,
+      milliseconds);
 }

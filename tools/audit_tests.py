@@ -78,9 +78,7 @@ class AuditLogTest(unittest.TestCase):
         self.made(CALLS / "lossy.send.log", CALLS / "lossy.wire")
         wanted = self.log.read_bytes()
         tool("pcap_of_log").main([str(self.log), str(self.room / "call.pcap")])
-        self.assertEqual(
-            self.made(self.room / "call.pcap"), f"audit {self.log} --format=qcif --clock=standard"
-        )
+        self.assertEqual(self.made(self.room / "call.pcap"), f"audit {self.log} --format=qcif --clock=standard")
         self.assertEqual(self.log.read_bytes(), wanted)
 
     def test_one_stream_of_a_live_call_is_taken(self) -> None:
@@ -107,14 +105,15 @@ class AuditLogTest(unittest.TestCase):
         ]
         path = self.capture(found)
         self.assert_refused(
-            f"{path}: port 5004: it has the streams 0x5 of {SENDER}, 0x6 of {RECEIVER}: "
-            "--ssrc chooses one",
+            f"{path}: port 5004: it has the streams 0x5 of {SENDER}, 0x6 of {RECEIVER}: " "--ssrc chooses one",
             path,
         )
         self.assert_refused(
             f"{path}: port 5004: no RTP packet with SSRC 0x9 was captured, "
             "but 3 of SSRC 0x5, 1 of SSRC 0x6: --ssrc chooses",
-            "--ssrc", "0x9", path,
+            "--ssrc",
+            "0x9",
+            path,
         )
         self.assert_refused(
             f"{path}: port 5014: no RTP packet was captured, but 4 to port 5004: --port chooses", "--port", 5014, path

@@ -121,9 +121,7 @@ class BrowserTest(Room):
 
     def shows(self, browser: Browser, name: str, number: int) -> bytes:
         samples = f"page.player.videos.{name}.samples({number})"
-        return b64decode(
-            browser.value(f"{samples}.then(found => btoa(String.fromCharCode(...found)))")
-        )
+        return b64decode(browser.value(f"{samples}.then(found => btoa(String.fromCharCode(...found)))"))
 
     def assert_shows_all(self, page: Path, numbers: tuple[int, ...]) -> None:
         told = call_of(page)["ways"][0]
@@ -213,9 +211,7 @@ class BrowserTest(Room):
         gone = "['captured', 'shown'].filter(name => page.player.figures[name].hidden)"
         self.assertEqual(browser.value(gone), ["captured"])
         change = "dispatchEvent(new Event('change'))"
-        browser.value(
-            f"(way => {{ way.value = 1; way.{change}; }})(document.getElementById('way'))"
-        )
+        browser.value(f"(way => {{ way.value = 1; way.{change}; }})(document.getElementById('way'))")
         self.assertEqual(self.settled(browser), (0, "Picture 0 of 0 to 4, intra"))
         self.assertEqual(browser.value(gone), ["shown"])
 

@@ -26,7 +26,21 @@ from calltools import errors
 from calltools.network import captured, loss, pcap, rtp
 from calltools.recording import logs
 from calltools.report import quality
-from calltools.campaign import advice, calling, content, curves, engines, intervals, jitter, jobs, measures, places, plan, progress, table
+from calltools.campaign import (
+    advice,
+    calling,
+    content,
+    curves,
+    engines,
+    intervals,
+    jitter,
+    jobs,
+    measures,
+    places,
+    plan,
+    progress,
+    table,
+)
 from stub_program import STUB
 from tool_modules import TOOLS, tool
 
@@ -60,9 +74,7 @@ def python_with(module: str) -> Optional[str]:
     for python in (sys.executable, "/usr/bin/python3"):
         if (
             Path(python).exists()
-            and not subprocess.run(
-                [python, "-c", f"import {module}"], capture_output=True
-            ).returncode
+            and not subprocess.run([python, "-c", f"import {module}"], capture_output=True).returncode
         ):
             return python
     return None
@@ -102,12 +114,8 @@ class CampaignTest(Room):
         own = [python, TOOLS / "campaign", self.plan, self.room / name, "--program", self.program]
         return [str(word) for word in (*own, *more)]
 
-    def run_it(
-        self, name: str, *more: object, python: str = sys.executable
-    ) -> subprocess.CompletedProcess:
-        return subprocess.run(
-            self.words(name, *more, python=python), capture_output=True, text=True
-        )
+    def run_it(self, name: str, *more: object, python: str = sys.executable) -> subprocess.CompletedProcess:
+        return subprocess.run(self.words(name, *more, python=python), capture_output=True, text=True)
 
     def rows(self, name: str) -> list[dict]:
         found = table.opened(self.room / name)
@@ -122,9 +130,7 @@ class CampaignTest(Room):
     def wait_for_rows(self, name: str, count: int) -> None:
         end = time.monotonic() + 60
         while time.monotonic() < end:
-            with contextlib.suppress(sqlite3.Error), contextlib.closing(
-                sqlite3.connect(self.room / name)
-            ) as base:
+            with contextlib.suppress(sqlite3.Error), contextlib.closing(sqlite3.connect(self.room / name)) as base:
                 if base.execute("SELECT count(*) FROM calls").fetchone()[0] >= count:
                     return
             time.sleep(0.02)
@@ -193,9 +199,7 @@ class CampaignTest(Room):
             "--no-dashboard",
         )
         one = ["--nthreads", "1", "--no-nanny", "--no-dashboard", "--local-directory"]
-        workers = [
-            self.start(python, "worker", address, *one, self.room / f"worker{n}") for n in range(2)
-        ]
+        workers = [self.start(python, "worker", address, *one, self.room / f"worker{n}") for n in range(2)]
         words = self.words("dask.sqlite", "--scheduler", address, python=python)
         run = subprocess.Popen(words, stdout=subprocess.PIPE, stderr=subprocess.PIPE, text=True)
         self.wait_for_rows("dask.sqlite", 3)
@@ -207,9 +211,7 @@ class CampaignTest(Room):
 
     def start(self, python: str, kind: str, *words: object) -> subprocess.Popen:
         asked = [python, "-m", f"distributed.cli.dask_{kind}", *map(str, words)]
-        process = subprocess.Popen(
-            asked, cwd=self.room, stdout=subprocess.DEVNULL, stderr=subprocess.DEVNULL
-        )
+        process = subprocess.Popen(asked, cwd=self.room, stdout=subprocess.DEVNULL, stderr=subprocess.DEVNULL)
         self.addCleanup(process.wait)
         self.addCleanup(process.kill)
         return process
@@ -219,9 +221,7 @@ class CampaignTest(Room):
             self.skipTest("Dask's distributed is there")
         run = self.run_it("calls.csv", "--scheduler", "tcp://127.0.0.1:1")
         self.assertEqual(run.returncode, 1)
-        self.assertRegex(
-            run.stderr, f"^--scheduler: distributed is missing in {sys.executable}: .*python3.*\n$"
-        )
+        self.assertRegex(run.stderr, f"^--scheduler: distributed is missing in {sys.executable}: .*python3.*\n$")
         self.assertFalse((self.room / "calls.csv").exists())
 
     def test_a_call_that_fails_is_a_row_with_its_words(self) -> None:
@@ -229,9 +229,7 @@ class CampaignTest(Room):
         run = self.run_it("calls.csv", "--processes", 1)
         self.assertRegex(run.stdout, "^done 0 failed 12 in ")
         found = {(row["status"], row["words"], row["exact"]) for row in self.rows("calls.csv")}
-        self.assertEqual(
-            found, {("failed", "BadInput: send: status 5: video refused: size at byte 3", None)}
-        )
+        self.assertEqual(found, {("failed", "BadInput: send: status 5: video refused: size at byte 3", None)})
         self.assertEqual(self.run_it("calls.csv").stdout, "done 0 failed 0\n")
         self.assertRegex(self.run_it("calls.csv", "--retry").stdout, "^done 0 failed 12 in ")
         self.assertEqual(len(self.rows("calls.csv")), 12)
@@ -286,9 +284,7 @@ class CampaignTest(Room):
         path = self.room / "calls.csv"
         data = path.read_bytes()
         path.write_bytes(data[:-20])
-        self.assertIn(
-            "calls 12 there 11 to run 1\n", self.run_it("calls.csv", "--processes", 1).stderr
-        )
+        self.assertIn("calls 12 there 11 to run 1\n", self.run_it("calls.csv", "--processes", 1).stderr)
         with open(path, newline="") as file:
             self.assertEqual(len({row["key"] for row in csv.DictReader(file)}), 12)
 
@@ -309,11 +305,7 @@ class CampaignTest(Room):
     @unittest.skipUnless(shutil.which("ffmpeg"), "ffmpeg isn't there")
     def test_a_plain_sender_keeps_its_losses(self) -> None:
         """With nothing lost all is exact; a lost picture spoils those after it up to the next intra one."""
-        text = (
-            TWELVE.replace("rate = 0.3", "rate = [0, 0.3]")
-            .replace("back = [4, 6, 8]", "")
-            .replace("[10, 16]", "16")
-        )
+        text = TWELVE.replace("rate = 0.3", "rate = [0, 0.3]").replace("back = [4, 6, 8]", "").replace("[10, 16]", "16")
         self.plan.write_text(text + '\n[[sender]]\nkind = "plain"\nevery = 8\n')
         self.assertRegex(self.run_it("calls.csv", "--processes", 1).stdout, "^done 3 failed 0 in ")
         clean, *lossy = self.rows("calls.csv")
@@ -359,9 +351,7 @@ class CampaignTest(Room):
             bar.line(2.0),
             "[############..................] 4 of 10, 1 failed, 2.0 a second, 3 s left",
         )
-        self.assertEqual(
-            [progress.duration(it) for it in (59.4, 61, 7_260)], ["59 s", "1 min 1 s", "2 h 1 min"]
-        )
+        self.assertEqual([progress.duration(it) for it in (59.4, 61, 7_260)], ["59 s", "1 min 1 s", "2 h 1 min"])
 
 
 class PlanTest(Room):
@@ -456,9 +446,7 @@ class PlanTest(Room):
             self.assert_bad(f"{path}: {told}", plan.read_plan, path)
 
     def test_a_plan_is_each_choice(self) -> None:
-        text = TWELVE.replace(
-            "slots = [10, 16]", "slots = { from = 10, to = 16, step = 3 }\nlead = [0, 3]"
-        )
+        text = TWELVE.replace("slots = [10, 16]", "slots = { from = 10, to = 16, step = 3 }\nlead = [0, 3]")
         found = plan.read_plan(self.file("plan.toml", text.encode()))
         self.assertEqual([it.values["back"] for it in found.networks], [4, 6, 8])
         self.assertEqual(
@@ -503,9 +491,7 @@ class AdviceTest(Room):
         return row | {"exact": exact, "longest": longest, "bytes": size, "psnr": 35.0, **more}
 
     def of(self, rows: list[dict], *asked: Any, by_bytes: bool = False) -> list[str]:
-        return advice.words_of(
-            advice.advised(advice.found_in(rows), advice.Asked(*asked), by_bytes)
-        )
+        return advice.words_of(advice.advised(advice.found_in(rows), advice.Asked(*asked), by_bytes))
 
     def test_the_cheapest_and_the_runner_up(self) -> None:
         """By a table made by hand: the least delay counts first, then bytes; what misses anything is out."""
@@ -532,9 +518,7 @@ class AdviceTest(Room):
         self.assertEqual(told[1], "nothing meets it")
         self.assertRegex(told[2], "^nearest    --lead 3 .* --target 600: ")
         self.assertEqual(told[3], "misses     80.0 % exact")
-        self.assertEqual(
-            self.of([], 0.5)[1], "nothing to advise: no call with acknowledgements is done"
-        )
+        self.assertEqual(self.of([], 0.5)[1], "nothing to advise: no call with acknowledgements is done")
         only = self.of([self.row(0.9, 1, 10)], 0.5)
         self.assertEqual(only[2], "runner-up  none: nothing else meets it")
 
@@ -542,9 +526,7 @@ class AdviceTest(Room):
         rows = [self.row(exact, 1, 900, draw=draw) for draw, exact in enumerate((0.96, 0.97, 0.98))]
         self.assertRegex(self.of(rows, 0.94)[1], r"^take .* 97.0 ± 2.5 % exact")
         told = self.of(rows, 0.96)
-        self.assertEqual(
-            told[3], "misses     97.0 % exact, but by 3 draws perhaps 94.5 %: more would tell"
-        )
+        self.assertEqual(told[3], "misses     97.0 % exact, but by 3 draws perhaps 94.5 %: more would tell")
         rows.append(self.row(0.5, 9, 900, network="train"))
         self.assertRegex(self.of(rows, 0.6)[3], "^misses     50.0 % exact$")
         rows = [
@@ -576,9 +558,7 @@ class AdviceTest(Room):
 
     def test_means_by_a_column(self) -> None:
         """A plain sender is a line of its own; one value has no interval, and a failed call none."""
-        rows = [self.row(exact, 1, 900, rate=0.1) for exact in (0.8, 0.9, 1.0)] + [
-            self.row(1.0, 0, 900, rate=0)
-        ]
+        rows = [self.row(exact, 1, 900, rate=0.1) for exact in (0.8, 0.9, 1.0)] + [self.row(1.0, 0, 900, rate=0)]
         rows += [
             self.row(0.5, 1, 900, rate=0.1, sender="plain", every=10),
             {**self.row(0, 0, 0, rate=0), "status": "failed"},
@@ -602,9 +582,7 @@ class AdviceTest(Room):
         found = intervals.interval_of([1, 2, 3])
         self.assertAlmostEqual(found.half, 4.303 / 3**0.5, places=3)
         self.assertEqual(intervals.interval_of([5]).low, 5)
-        self.assertAlmostEqual(
-            intervals.interval_of([0, 1] * 50).half, 1.96 * 0.50252 / 10, places=4
-        )
+        self.assertAlmostEqual(intervals.interval_of([0, 1] * 50).half, 1.96 * 0.50252 / 10, places=4)
 
 
 class LossModelsTest(Room):
@@ -650,13 +628,9 @@ class LossModelsTest(Room):
 
 
 class TraceOfPcapTest(Room):
-    def packet(
-        self, sequence: int, ticks: int, milliseconds: float, kind: int = 96
-    ) -> pcap.Datagram:
+    def packet(self, sequence: int, ticks: int, milliseconds: float, kind: int = 96) -> pcap.Datagram:
         head = bytes([0x80, kind]) + struct.pack(">HII", sequence & 0xFFFF, ticks & 0xFFFFFFFF, 7)
-        return pcap.Datagram(
-            round(milliseconds * 10**6), ("192.0.2.1", 5004), ("192.0.2.2", 5004), head
-        )
+        return pcap.Datagram(round(milliseconds * 10**6), ("192.0.2.1", 5004), ("192.0.2.2", 5004), head)
 
     def capture(self, packets: list[pcap.Datagram]) -> Path:
         path = self.room / "call.pcap"
@@ -688,12 +662,7 @@ class TraceOfPcapTest(Room):
             if line == "S" or len(ticks) >= 12 and line == "P":
                 ticks.append([])
             ticks[-1].append(line)
-        came = {
-            line: number
-            for number, tick in enumerate(ticks)
-            for line in tick
-            if line.startswith("D")
-        }
+        came = {line: number for number, tick in enumerate(ticks) for line in tick if line.startswith("D")}
         wanted = {f"D {n}.*": n + {3: 1, 8: 2}.get(n, 0) for n in range(12) if n not in (5, 6)}
         self.assertEqual(came, wanted)
         self.assertEqual(Counter(line[0] for line in told), Counter(S=12, P=12, D=10, B=12))
@@ -723,9 +692,7 @@ class TraceOfPcapTest(Room):
         self.run_tool("pcap_of_log", log, capture, "--times", times)
         with open(capture, "rb") as file:
             found = [it.time // 10**6 for it in pcap.read_capture(file, "recv.pcap") if it]
-        self.assertEqual(
-            found, [10 * number for number, it in enumerate(entries) if it.letter == logs.PACKET]
-        )
+        self.assertEqual(found, [10 * number for number, it in enumerate(entries) if it.letter == logs.PACKET])
         times.write_text("0.5\n")
         told = f"{times}: its end: 1 times of {len(entries)} entries"
         self.assert_bad(told, self.run_tool, "pcap_of_log", log, capture, "--times", times)
@@ -757,9 +724,7 @@ class TraceOfPcapTest(Room):
             path = self.capture(packets)
             self.assert_bad(f"{path}: {told}", self.run_tool, "trace_of_pcap", path)
         path = self.file("noise", bytes(range(256)))
-        self.assert_bad(
-            f"{path}: byte 0: this is neither pcap nor pcapng", self.run_tool, "trace_of_pcap", path
-        )
+        self.assert_bad(f"{path}: byte 0: this is neither pcap nor pcapng", self.run_tool, "trace_of_pcap", path)
 
     def test_packets_that_come_twice_or_late_count_once(self) -> None:
         packets = self.pictures({}, set(), 6)

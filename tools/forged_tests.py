@@ -94,7 +94,9 @@ class ForgedCall(SimulatedCall):
     def __init__(self, streams: float, is_whole: bool = False, record: Optional[Path] = None) -> None:
         self.counts = Counts()
         self.time = CountingClock(self.counts)
-        super().__init__({0: 2_000}, target=1_800, time=self.time, library=self.counts.library, record=record, clock="custom")
+        super().__init__(
+            {0: 2_000}, target=1_800, time=self.time, library=self.counts.library, record=record, clock="custom"
+        )
         self._draws, self._late = random.Random(9), late_packets(is_whole)
         for place in range(round((FORGED[1] - FORGED[0]) * streams)):
             self.clock.at(FORGED[0] + place / streams, self._forge)
@@ -207,7 +209,9 @@ class ForgedTest(Calls):
             for _ in range(int(streams)):
                 numbers = [draws.getrandbits(bits) for bits in (16, 32, 32)]
                 for step, data in enumerate(late):
-                    forged = rtp.renumbered(data, numbers[0] + step, numbers[1] + rtp.TICKS_A_PICTURE * step, numbers[2])
+                    forged = rtp.renumbered(
+                        data, numbers[0] + step, numbers[1] + rtp.TICKS_A_PICTURE * step, numbers[2]
+                    )
                     other.sendto(forged, ("127.0.0.1", port))
             if count in (29, 329):
                 status = Path(f"/proc/{call.process.pid}/status").read_text()

@@ -215,9 +215,16 @@ class HostileTest(Room):
         noise = self.file(odd, b"noise")
         out = self.room / "out"
         tried = {
-            "psnr": [noise, noise], "log_of_pcap": [noise, out], "trace_of_pcap": [noise, out], "audit_log": [noise, out],
-            "pcap_of_log": [noise, out], "chart_of_report": [noise, out], "report_json": [noise], "page_of_call": [noise, out],
-            "times_of_call": [self.room / "none" / odd], "record_of_elements": [self.room / "none" / odd],
+            "psnr": [noise, noise],
+            "log_of_pcap": [noise, out],
+            "trace_of_pcap": [noise, out],
+            "audit_log": [noise, out],
+            "pcap_of_log": [noise, out],
+            "chart_of_report": [noise, out],
+            "report_json": [noise],
+            "page_of_call": [noise, out],
+            "times_of_call": [self.room / "none" / odd],
+            "record_of_elements": [self.room / "none" / odd],
         }
         for name, words in tried.items():
             self.refused(told, name, *words)
@@ -244,7 +251,9 @@ class HostileTest(Room):
             return path
 
         empty, out = sparse(self.room / "empty"), self.room / "out"
-        log, video = self.file("one.log", b"S\0\0"), self.file("one.y4m", b"YUV4MPEG2 W128 H96\nFRAME\n" + bytes(18_432))
+        log, video = self.file("one.log", b"S\0\0"), self.file(
+            "one.y4m", b"YUV4MPEG2 W128 H96\nFRAME\n" + bytes(18_432)
+        )
         told = "line 1: it is longer than 8,192 letters"
         self.refused(told, "report_json", empty)
         self.refused(told, "chart_of_report", empty, out)

@@ -62,7 +62,9 @@ class PartsTest(unittest.TestCase):
             self.assertEqual(rtcp.read_rtcp(data), said)
             for cut in range(len(data)):
                 self.assertIsNone(rtcp.read_rtcp(data[:cut]))
-        self.assertEqual(rtcp.feedback_bytes(rtcp.Feedback(1, 2, bytes(3))).hex(), "83ce0004000000010000000218600000000000" + "00")
+        self.assertEqual(
+            rtcp.feedback_bytes(rtcp.Feedback(1, 2, bytes(3))).hex(), "83ce0004000000010000000218600000000000" + "00"
+        )
         self.assertEqual(rtcp.read_rtcp(rtcp.bye_bytes(7)), rtcp.Bye(7))
         missing = rtcp.Missing(1, 2, ((65_535, 1), (7, 0x8000)))
         data = rtcp.missing_bytes(missing)
@@ -79,7 +81,13 @@ class PartsTest(unittest.TestCase):
         packet = example_packets()[0]
         start = picture_start.picture_start(packet)
         self.assertEqual((start.format, start.clock, start.period), ("sub-qcif", "standard", 256))
-        for bad in (packet[:20], b"\0" + packet[1:], packet[:1] + b"\x61" + packet[2:], packet[:12] + b"\0" + packet[13:], packet[:14] + bytes(60)):
+        for bad in (
+            packet[:20],
+            b"\0" + packet[1:],
+            packet[:1] + b"\x61" + packet[2:],
+            packet[:12] + b"\0" + packet[13:],
+            packet[:14] + bytes(60),
+        ):
             self.assertIsNone(picture_start.picture_start(bad))
         draws = random.Random(2)
         for _ in range(5_000):
@@ -98,7 +106,9 @@ class PartsTest(unittest.TestCase):
         self.assertIsNone(rtp.payload_of(bytes([0x8F]) + packet[1:40]))
 
     def test_an_interrupted_tool_ends_without_a_word(self) -> None:
-        code = "import signal, sys; from calltools import errors; errors.run(lambda _: signal.raise_signal(signal.SIGINT))"
+        code = (
+            "import signal, sys; from calltools import errors; errors.run(lambda _: signal.raise_signal(signal.SIGINT))"
+        )
         # A test that runs in the background ignores SIGINT, and so would what it starts.
         usual = functools.partial(signal.signal, signal.SIGINT, signal.SIG_DFL)
         run = subprocess.run([sys.executable, "-c", code], cwd=TOOLS, capture_output=True, preexec_fn=usual)
@@ -476,7 +486,12 @@ class CallsTest(Calls):
     def test_without_ffmpeg(self) -> None:
         video = self.video(2)
         for words in (("--camera", "test"), ("--camera", video), ("--camera", video, "--screen", "out.mkv")):
-            call = self.run_call("--format", "sub-qcif", *words, env={"PATH": str(self.room), "DISPLAY": ":0", "H263RPS_LIBRARY": str(LIBRARY)})
+            call = self.run_call(
+                "--format",
+                "sub-qcif",
+                *words,
+                env={"PATH": str(self.room), "DISPLAY": ":0", "H263RPS_LIBRARY": str(LIBRARY)},
+            )
             told = r"^ff(mpeg|play): not on this machine: so --(camera|screen) takes a Y4M file.*\n$"
             self.assertEqual(call.status, 1)
             self.assertRegex(call.told, told)
@@ -491,7 +506,9 @@ class CallsTest(Calls):
             parties.append(self.start(*ends, *words))
         reports = [self.room / own / "recv.txt" for own in ("127.0.0.1", "127.0.0.2")]
         until = time.monotonic() + 30
-        while time.monotonic() < until and not all(path.exists() and path.read_text().count("exact") > 15 for path in reports):
+        while time.monotonic() < until and not all(
+            path.exists() and path.read_text().count("exact") > 15 for path in reports
+        ):
             time.sleep(0.1)
         parties[0].interrupt()
         for call, own in zip(parties, ("127.0.0.1", "127.0.0.2")):
@@ -522,10 +539,24 @@ class CallsTest(Calls):
         """The screen's party comes when the stream is at picture 300 or so, after a wrap."""
         port = free_port()
         ends = ("--port", port, "--format", "sub-qcif", "--rate", 120, "--wait", 50)
-        camera = self.start(*ends, "--at", "127.0.0.1", "--with", "127.0.0.2", "--one-way", "camera", "--camera", self.video(600))
+        camera = self.start(
+            *ends, "--at", "127.0.0.1", "--with", "127.0.0.2", "--one-way", "camera", "--camera", self.video(600)
+        )
         time.sleep(2.5)
         folder = self.room / "call"
-        screen = self.start(*ends, "--at", "127.0.0.2", "--with", "127.0.0.1", "--one-way", "screen", "--screen", self.room / "out.y4m", "--record", folder)
+        screen = self.start(
+            *ends,
+            "--at",
+            "127.0.0.2",
+            "--with",
+            "127.0.0.1",
+            "--one-way",
+            "screen",
+            "--screen",
+            self.room / "out.y4m",
+            "--record",
+            folder,
+        )
         self.assertEqual([call.ended().status for call in (camera, screen)], [0, 0], screen.told)
         self.assertEqual(camera.count("sent", "sent"), 600)
         run = self.assert_played_again(folder)["recv"][0]
@@ -838,12 +869,29 @@ class CallsTest(Calls):
 
     def test_another_format_or_clock_is_told(self) -> None:
         for words, told in (
-            (("--format", "sub-qcif"), "the other side sends sub-qcif in the standard clock, and this call is qcif in the standard clock"),
-            (("--format", "qcif", "--clock", "custom"), "the other side sends qcif in the custom clock, and this call is qcif in the standard clock"),
+            (
+                ("--format", "sub-qcif"),
+                "the other side sends sub-qcif in the standard clock, and this call is qcif in the standard clock",
+            ),
+            (
+                ("--format", "qcif", "--clock", "custom"),
+                "the other side sends qcif in the custom clock, and this call is qcif in the standard clock",
+            ),
         ):
             port, video = free_port(), self.video(40, words[1])
             camera = self.start("--port", port, "--with", "127.0.0.2", "--one-way", "camera", "--camera", video, *words)
-            ends = ("--at", "127.0.0.2", "--with", "127.0.0.1", "--one-way", "screen", "--screen", "none", "--seconds", 2.5)
+            ends = (
+                "--at",
+                "127.0.0.2",
+                "--with",
+                "127.0.0.1",
+                "--one-way",
+                "screen",
+                "--screen",
+                "none",
+                "--seconds",
+                2.5,
+            )
             screen = self.start("--port", port, *ends)
             self.assertEqual([call.ended().status for call in (camera, screen)], [0, 0])
             self.assertEqual(screen.told.count(told), 1, screen.told)
@@ -870,8 +918,14 @@ class CallsTest(Calls):
         for words, told in (
             ((*ends, "--port", port), f"127.0.0.1: port {port}: it is taken"),
             ((*ends, "--with", "host.invalid"), "host.invalid: port 5004: no such host: .*"),
-            ((*ends, "--with", "192.0.2.7"), "--with: 192.0.2.7: it isn't reached from 127.0.0.1: give --at and this machine's address"),
-            ((*ends, "--at", "192.0.2.66", "--with", "192.0.2.7"), "192.0.2.66: port 5004: Cannot assign requested address"),
+            (
+                (*ends, "--with", "192.0.2.7"),
+                "--with: 192.0.2.7: it isn't reached from 127.0.0.1: give --at and this machine's address",
+            ),
+            (
+                (*ends, "--at", "192.0.2.66", "--with", "192.0.2.7"),
+                "192.0.2.66: port 5004: Cannot assign requested address",
+            ),
             ((*ends, "--wait", 200, "--lead", 3), "--lead: 3: it can't hold --wait 200, for which 7 is the least"),
             ((*ends, "--loss", 0.9), "--loss: 0.9: bursts of 1 are too short for so much loss"),
             ((*ends, "--one-way", "screen"), "--one-way: screen: it needs --with and the other machine"),
@@ -879,7 +933,10 @@ class CallsTest(Calls):
             (("--camera", "/dev/video99", "--screen", "none"), "/dev/video99: no camera: is one plugged in.*"),
             (("--camera", none.with_suffix(".y4m"), "--screen", "none"), f"{none}.y4m: No such file or directory"),
             ((*ends[:4], "--format", "qcif"), f"{video}: the head: 128 x 96, and the call is qcif, 176 x 144"),
-            ((*ends, "--screen", "window"), "--screen: window: there is no display here, so --screen takes a Y4M file, - or none"),
+            (
+                (*ends, "--screen", "window"),
+                "--screen: window: there is no display here, so --screen takes a Y4M file, - or none",
+            ),
             ((*ends, "--screen", none / "x.y4m"), f"{none}/x.y4m: No such file or directory"),
         ):
             call = Call([*words], env={"PATH": os.environ["PATH"], "H263RPS_LIBRARY": str(LIBRARY)}).ended()
@@ -901,13 +958,18 @@ class CallsTest(Calls):
         call = self.start("--port", free_port(), *ends, "--seconds", 6, "--metrics", free)
         self.wait_for_metrics(free)
         with socket.create_connection(("127.0.0.1", free)) as silent:
-            answers = [self.fetched(free, *words) for words in (("/metrics", "localhost"), ("/", "127.0.0.1"), ("/metrics", "evil.example"))]
+            answers = [
+                self.fetched(free, *words)
+                for words in (("/metrics", "localhost"), ("/", "127.0.0.1"), ("/metrics", "evil.example"))
+            ]
             silent.close()
         self.assertEqual(call.ended().status, 0, call.told)
         self.assertEqual([status for status, _ in answers], [200, 404, 403])
         text = answers[0][1]
         for line in text.splitlines():
-            self.assertRegex(line, r'^(# (HELP|TYPE) h263rps_[a-z_]+ .+|h263rps_[a-z_]+({[a-z]+="[a-z ]+"})? [0-9.e+-]+)$')
+            self.assertRegex(
+                line, r'^(# (HELP|TYPE) h263rps_[a-z_]+ .+|h263rps_[a-z_]+({[a-z]+="[a-z ]+"})? [0-9.e+-]+)$'
+            )
         told = dict(line.rsplit(" ", 1) for line in text.splitlines() if not line.startswith("#"))
         self.assertGreater(float(told["h263rps_pictures_sent_total"]), 30)
         self.assertGreater(float(told['h263rps_bits_per_second{way="out"}']), 1_000)
@@ -956,7 +1018,9 @@ class CallsTest(Calls):
         head, frames = video.split(b"\n", 1)
         size = len(frames) // 50
         port = free_port()
-        call = self.start("--port", port, "--format", "sub-qcif", "--camera", "-", "--screen", "none", given=subprocess.PIPE)
+        call = self.start(
+            "--port", port, "--format", "sub-qcif", "--camera", "-", "--screen", "none", given=subprocess.PIPE
+        )
         camera = call.process.stdin
         assert camera
         camera.write(head + b"\n")

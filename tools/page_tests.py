@@ -291,9 +291,7 @@ class PageTest(Room):
         report_of = self.file("report", lines.encode())
         page = self.page(report_of, "--shown", video, "--megabytes", 1)
         size = page.stat().st_size
-        self.assertEqual(
-            self.said, f"the page has {size:,} bytes: fewer --pictures make it shorter\n"
-        )
+        self.assertEqual(self.said, f"the page has {size:,} bytes: fewer --pictures make it shorter\n")
 
     def test_without_the_library_it_is_said_how_to_get_it(self) -> None:
         """No page is left then; and input that is refused is so without it."""
@@ -301,7 +299,10 @@ class PageTest(Room):
         path = {**os.environ, "PYTHONPATH": str(self.room)}
         page = self.room / "page.html"
         how = "PIL: the library isn't there: apt install python3-pil, for /usr/bin/python3"
-        for call, told in ((BURST, f"page_of_call: {how}"), (VIDEO, f"{VIDEO}: line 3: it is longer than 8,192 letters")):
+        for call, told in (
+            (BURST, f"page_of_call: {how}"),
+            (VIDEO, f"{VIDEO}: line 3: it is longer than 8,192 letters"),
+        ):
             words = [TOOLS / "page_of_call", call, page, "--shown", VIDEO]
             run = subprocess.run(words, capture_output=True, text=True, env=path)
             self.assertEqual((run.returncode, run.stdout, run.stderr), (1, "", f"{told}\n"))

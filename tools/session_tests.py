@@ -56,12 +56,19 @@ class Call:
         library = own_library.loaded()
         lead = lead_of(scenario)
         settings = live_settings.Settings(
-            format="sub-qcif", rate=Fraction(scenario.rate, scenario.second), wait=scenario.wait,
-            lead=lead, slots=live_settings.slots_for(lead, None),
+            format="sub-qcif",
+            rate=Fraction(scenario.rate, scenario.second),
+            wait=scenario.wait,
+            lead=lead,
+            slots=live_settings.slots_for(lead, None),
         )
         self.tally, clock = Tally(), self.clock
         self.context = CallContext(
-            clock, settings, Recorder(record, 0.0, {}), self.tally, self.said.append,  # type: ignore[arg-type]
+            clock,
+            settings,
+            Recorder(record, 0.0, {}),
+            self.tally,
+            self.said.append,  # type: ignore[arg-type]
             _counted(library, self.turns),
         )
         self.end = receiving.Receiving(self.context)

@@ -60,8 +60,10 @@ class Party:
         """The sending part of the pipeline. The receiving one is added when the other side's stream comes."""
         camera = f"videotestsrc is-live=true pattern=ball ! {CAPS} ! h263rpssend name=send-{name} repair=false"
         packets = "application/x-rtp,media=video,encoding-name=H263-2000,payload=96"
-        return f"{camera} ! {packets} ! netsim drop-probability={loss} ! " \
+        return (
+            f"{camera} ! {packets} ! netsim drop-probability={loss} ! "
             f"webrtcbin name=rtc-{name} bundle-policy=max-bundle latency=0 "
+        )
 
     def session(self) -> Any:
         """The inner session of this party's one stream."""
@@ -89,7 +91,9 @@ class Party:
     def take(self, description: Any) -> None:
         """The other side's description. One that doesn't select reference pictures is sent intra ones alone."""
         if not knows_feedback(description.sdp.as_text()):
-            print(f"{self.name}: the other side doesn't say ack rpsi, nack rpsi: each picture is intra", file=sys.stderr)
+            print(
+                f"{self.name}: the other side doesn't say ack rpsi, nack rpsi: each picture is intra", file=sys.stderr
+            )
         self.rtc.emit("set-remote-description", description, Gst.Promise.new())
 
     def _on_pad(self, _: Gst.Element, pad: Gst.Pad) -> None:
@@ -118,7 +122,9 @@ class Party:
     def _sync(self) -> None:
         """The offset by which a session plays one party's streams at the same time is that of the element, too."""
         if self._buffer:
-            self._kept.append(self._buffer.bind_property("ts-offset", self.recv, "ts-offset", GObject.BindingFlags.SYNC_CREATE))
+            self._kept.append(
+                self._buffer.bind_property("ts-offset", self.recv, "ts-offset", GObject.BindingFlags.SYNC_CREATE)
+            )
 
     def count(self, name: str) -> int:
         """A count of what this party shows."""

@@ -32,11 +32,10 @@
 
 #define MOST 65536
 
-typedef struct
-{
+typedef struct {
   gdouble loss, burst;
   gboolean is_losing;
-  GRand *rand;
+  GRand * rand;
   guint64 passed, lost, bytes;
 } Line;
 
@@ -45,27 +44,23 @@ static gint seed = 1, cycles = 1, bitrate = 0, step = 0;
 static gboolean by_session, is_flushed, asks_intra, by_psnr;
 static gchar *new_caps, *key, *shown_name, *captured_name;
 
-static GOptionEntry options[] = {
-  {"loss", 0, 0, G_OPTION_ARG_DOUBLE, &loss, NULL, NULL},
-  {"burst", 0, 0, G_OPTION_ARG_DOUBLE, &burst, NULL, NULL},
-  {"seed", 0, 0, G_OPTION_ARG_INT, &seed, NULL, NULL},
-  {"session", 0, 0, G_OPTION_ARG_NONE, &by_session, NULL, NULL},
-  {"cycles", 0, 0, G_OPTION_ARG_INT, &cycles, NULL, NULL},
-  {"flush", 0, 0, G_OPTION_ARG_NONE, &is_flushed, NULL, NULL},
-  {"switch", 0, 0, G_OPTION_ARG_STRING, &new_caps, NULL, NULL},
-  {"bitrate", 0, 0, G_OPTION_ARG_INT, &bitrate, NULL, NULL},
-  {"step", 0, 0, G_OPTION_ARG_INT, &step, NULL, NULL},
-  {"intra", 0, 0, G_OPTION_ARG_NONE, &asks_intra, NULL, NULL},
-  {"key", 0, 0, G_OPTION_ARG_STRING, &key, NULL, NULL},
-  {"shown", 0, 0, G_OPTION_ARG_STRING, &shown_name, NULL, NULL},
-  {"captured", 0, 0, G_OPTION_ARG_STRING, &captured_name, NULL, NULL},
-  {"psnr", 0, 0, G_OPTION_ARG_NONE, &by_psnr, NULL, NULL},
-  {NULL}
-};
+static GOptionEntry options[] = { { "loss", 0, 0, G_OPTION_ARG_DOUBLE, &loss, NULL, NULL },
+  { "burst", 0, 0, G_OPTION_ARG_DOUBLE, &burst, NULL, NULL },
+  { "seed", 0, 0, G_OPTION_ARG_INT, &seed, NULL, NULL },
+  { "session", 0, 0, G_OPTION_ARG_NONE, &by_session, NULL, NULL },
+  { "cycles", 0, 0, G_OPTION_ARG_INT, &cycles, NULL, NULL },
+  { "flush", 0, 0, G_OPTION_ARG_NONE, &is_flushed, NULL, NULL },
+  { "switch", 0, 0, G_OPTION_ARG_STRING, &new_caps, NULL, NULL },
+  { "bitrate", 0, 0, G_OPTION_ARG_INT, &bitrate, NULL, NULL },
+  { "step", 0, 0, G_OPTION_ARG_INT, &step, NULL, NULL },
+  { "intra", 0, 0, G_OPTION_ARG_NONE, &asks_intra, NULL, NULL },
+  { "key", 0, 0, G_OPTION_ARG_STRING, &key, NULL, NULL },
+  { "shown", 0, 0, G_OPTION_ARG_STRING, &shown_name, NULL, NULL },
+  { "captured", 0, 0, G_OPTION_ARG_STRING, &captured_name, NULL, NULL },
+  { "psnr", 0, 0, G_OPTION_ARG_NONE, &by_psnr, NULL, NULL }, { NULL } };
 
 /* Of each picture by its number, from the time of the capture. */
-typedef struct
-{
+typedef struct {
   gint64 captured, played;
   guint wanted, shown;
   guint8 *camera, *screen;
@@ -79,8 +74,8 @@ static gint64 step_at;
 static GstClockTime first_capture = GST_CLOCK_TIME_NONE, period;
 static FILE *shown, *captured;
 static GMutex lock;
-static GMainLoop *loop;
-static GstElement *pipeline;
+static GMainLoop * loop;
+static GstElement * pipeline;
 static gboolean is_failed;
 static Line line, back;
 
@@ -120,7 +115,7 @@ sum_of (GstBuffer * buffer)
 static guint8 *
 copy_of (GstBuffer * buffer)
 {
-  guint8 *copy = g_malloc0 (size);
+  guint8 * copy = g_malloc0 (size);
 
   gst_buffer_extract (buffer, 0, copy, size);
   return copy;
@@ -130,9 +125,9 @@ copy_of (GstBuffer * buffer)
 static guint
 number_of (GstPad * pad, GstBuffer * buffer)
 {
-  GstEvent *event = gst_pad_get_sticky_event (pad, GST_EVENT_SEGMENT, 0);
+  GstEvent * event = gst_pad_get_sticky_event (pad, GST_EVENT_SEGMENT, 0);
   GstClockTime at = GST_BUFFER_PTS (buffer);
-  const GstSegment *segment;
+  const GstSegment * segment;
 
   if (event) {
     gst_event_parse_segment (event, &segment);
@@ -154,7 +149,7 @@ number_of (GstPad * pad, GstBuffer * buffer)
 static GstPadProbeReturn
 on_capture (GstPad * pad, GstPadProbeInfo * info, gpointer data)
 {
-  GstBuffer *buffer = GST_PAD_PROBE_INFO_BUFFER (info);
+  GstBuffer * buffer = GST_PAD_PROBE_INFO_BUFFER (info);
   guint number;
 
   g_mutex_lock (&lock);
@@ -174,7 +169,7 @@ on_capture (GstPad * pad, GstPadProbeInfo * info, gpointer data)
 static GstPadProbeReturn
 on_wanted (GstPad * pad, GstPadProbeInfo * info, gpointer data)
 {
-  GstBuffer *buffer = GST_PAD_PROBE_INFO_BUFFER (info);
+  GstBuffer * buffer = GST_PAD_PROBE_INFO_BUFFER (info);
   guint number;
 
   g_mutex_lock (&lock);
@@ -200,14 +195,14 @@ note_mark (const gchar * mark)
 static GstPadProbeReturn
 on_shown (GstPad * pad, GstPadProbeInfo * info, gpointer data)
 {
-  GstBuffer *buffer = GST_PAD_PROBE_INFO_BUFFER (info);
-  GstCustomMeta *meta = gst_buffer_get_custom_meta (buffer, "GstH263RpsMeta");
+  GstBuffer * buffer = GST_PAD_PROBE_INFO_BUFFER (info);
+  GstCustomMeta * meta = gst_buffer_get_custom_meta (buffer, "GstH263RpsMeta");
   guint number;
 
   g_mutex_lock (&lock);
   number = number_of (pad, buffer);
   if (meta) {
-    GstStructure *structure = gst_custom_meta_get_structure (meta);
+    GstStructure * structure = gst_custom_meta_get_structure (meta);
     gboolean is_exact = g_str_equal (gst_structure_get_string (structure, "mark"), "exact");
 
     note_mark (gst_structure_get_string (structure, "mark"));
@@ -234,7 +229,7 @@ on_shown (GstPad * pad, GstPadProbeInfo * info, gpointer data)
 static GstPadProbeReturn
 on_line (GstPad * pad, GstPadProbeInfo * info, gpointer data)
 {
-  Line *it = data;
+  Line * it = data;
   gdouble drawn = g_rand_double (it->rand);
 
   if (it->is_losing)
@@ -250,8 +245,8 @@ on_line (GstPad * pad, GstPadProbeInfo * info, gpointer data)
 static gboolean
 hook (const gchar * name, const gchar * pad_name, GstPadProbeCallback call, gpointer data)
 {
-  GstElement *element = named (name);
-  GstPad *pad;
+  GstElement * element = named (name);
+  GstPad * pad;
 
   if (!element)
     return FALSE;
@@ -276,8 +271,8 @@ hook_line (Line * it, const gchar * name)
 static gboolean
 on_message (GstBus * bus, GstMessage * message, gpointer data)
 {
-  GError *error = NULL;
-  gchar *more = NULL;
+  GError * error = NULL;
+  gchar * more = NULL;
 
   switch (GST_MESSAGE_TYPE (message)) {
     case GST_MESSAGE_EOS:
@@ -317,9 +312,9 @@ on_time (gpointer data)
 static void
 flush_receiver (void)
 {
-  GstElement *element = named ("recv");
+  GstElement * element = named ("recv");
   GstPad *pad = gst_element_get_static_pad (element, "sink"), *peer = gst_pad_get_peer (pad);
-  GstElement *source = gst_pad_get_parent_element (peer);
+  GstElement * source = gst_pad_get_parent_element (peer);
 
   gst_element_send_event (source, gst_event_new_flush_start ());
   g_usleep (50000);
@@ -333,11 +328,11 @@ flush_receiver (void)
 static void
 ask_for_intra (void)
 {
-  GstElement *element = named ("send");
-  GstPad *pad = gst_element_get_static_pad (element, "src");
+  GstElement * element = named ("send");
+  GstPad * pad = gst_element_get_static_pad (element, "src");
 
-  gst_pad_send_event (pad, gst_video_event_new_upstream_force_key_unit (GST_CLOCK_TIME_NONE, TRUE,
-          1));
+  gst_pad_send_event (pad,
+      gst_video_event_new_upstream_force_key_unit (GST_CLOCK_TIME_NONE, TRUE, 1));
   gst_object_unref (pad);
   gst_object_unref (element);
 }
@@ -345,7 +340,7 @@ ask_for_intra (void)
 static void
 step_delay (const gchar * name)
 {
-  GstElement *element = named (name);
+  GstElement * element = named (name);
 
   if (!element)
     return;
@@ -356,7 +351,7 @@ step_delay (const gchar * name)
 static gboolean
 on_half (gpointer data)
 {
-  GstElement *element;
+  GstElement * element;
 
   if (step) {
     g_mutex_lock (&lock);
@@ -375,7 +370,7 @@ on_half (gpointer data)
     gst_object_unref (element);
   }
   if (new_caps && (element = named ("caps"))) {
-    GstCaps *caps = gst_caps_from_string (new_caps);
+    GstCaps * caps = gst_caps_from_string (new_caps);
 
     g_object_set (element, "caps", caps, NULL);
     gst_caps_unref (caps);
@@ -388,7 +383,7 @@ static void
 use_session (const gchar * element_name, const gchar * session_name)
 {
   GstElement *element = named (element_name), *session = named (session_name);
-  GObject *inner;
+  GObject * inner;
 
   g_object_get (session, "internal-session", &inner, NULL);
   g_object_set (inner, "rtcp-reduced-size", TRUE, NULL);
@@ -401,10 +396,12 @@ use_session (const gchar * element_name, const gchar * session_name)
 static GstCaps *
 on_request_key (GstElement * decoder, guint ssrc, gpointer data)
 {
-  gchar *text = g_strdup_printf ("application/x-srtp, srtp-key = (buffer) %s, "
+  gchar * text = g_strdup_printf (
+      "application/x-srtp, srtp-key = (buffer) %s, "
       "srtp-cipher = (string) aes-128-icm, srtp-auth = (string) hmac-sha1-80, "
-      "srtcp-cipher = (string) aes-128-icm, srtcp-auth = (string) hmac-sha1-80", key);
-  GstCaps *caps = gst_caps_from_string (text);
+      "srtcp-cipher = (string) aes-128-icm, srtcp-auth = (string) hmac-sha1-80",
+      key);
+  GstCaps * caps = gst_caps_from_string (text);
 
   g_free (text);
   return caps;
@@ -413,7 +410,7 @@ on_request_key (GstElement * decoder, guint ssrc, gpointer data)
 static void
 use_key (const gchar * name)
 {
-  GstElement *element = named (name);
+  GstElement * element = named (name);
 
   if (!element)
     return;
@@ -426,7 +423,7 @@ use_key (const gchar * name)
 static gboolean
 tell_field (GQuark name, const GValue * value, gpointer of)
 {
-  gchar *text = gst_value_serialize (value);
+  gchar * text = gst_value_serialize (value);
 
   printf ("%s.%s %s\n", (const gchar *) of, g_quark_to_string (name), text);
   g_free (text);
@@ -436,8 +433,8 @@ tell_field (GQuark name, const GValue * value, gpointer of)
 static void
 tell_stats (const gchar * name)
 {
-  GstElement *element = named (name);
-  GstStructure *stats = NULL;
+  GstElement * element = named (name);
+  GstStructure * stats = NULL;
 
   if (!element)
     return;
@@ -451,7 +448,7 @@ tell_stats (const gchar * name)
 }
 
 static int
-by_size (const void *one, const void *other)
+by_size (const void * one, const void * other)
 {
   gdouble a = *(const gdouble *) one, b = *(const gdouble *) other;
 
@@ -472,8 +469,8 @@ tell_ways (void)
   if (count == 0)
     return;
   qsort (ways, count, sizeof *ways, by_size);
-  printf ("way.least %.2f\nway.median %.2f\nway.99 %.2f\nway.most %.2f\n", ways[0],
-      ways[count / 2], ways[count * 99 / 100], ways[count - 1]);
+  printf ("way.least %.2f\nway.median %.2f\nway.99 %.2f\nway.most %.2f\n", ways[0], ways[count / 2],
+      ways[count * 99 / 100], ways[count - 1]);
 }
 
 /* How many of the coder's pictures are shown as it has them, and the longest row of others. */
@@ -483,7 +480,7 @@ tell_equal (void)
   guint equal = 0, row = 0, most = 0, wanted = 0, number;
 
   for (number = 0; number < MOST; number++) {
-    const Picture *it = &pictures[number];
+    const Picture * it = &pictures[number];
 
     if (!it->is_wanted)
       continue;
@@ -498,13 +495,13 @@ tell_equal (void)
 static void
 tell_psnr (void)
 {
-  const guint8 *screen = NULL;
+  const guint8 * screen = NULL;
   gdouble error = 0;
   guint number, count = 0;
   gsize i;
 
   for (number = 0; number < MOST; number++) {
-    const guint8 *camera = pictures[number].camera;
+    const guint8 * camera = pictures[number].camera;
 
     if (pictures[number].screen)
       screen = pictures[number].screen;
@@ -531,8 +528,9 @@ tell (gdouble wall, gboolean has_wanted)
       marks[0], marks[1], marks[2], longest, others);
   if (step)
     printf ("after.shown %u\nafter.exact %u\n", after_shown, after_exact);
-  printf ("line.passed %" G_GUINT64_FORMAT "\nline.lost %" G_GUINT64_FORMAT "\nline.bytes %"
-      G_GUINT64_FORMAT "\n", line.passed, line.lost, line.bytes);
+  printf ("line.passed %" G_GUINT64_FORMAT "\nline.lost %" G_GUINT64_FORMAT
+          "\nline.bytes %" G_GUINT64_FORMAT "\n",
+      line.passed, line.lost, line.bytes);
   printf ("back.passed %" G_GUINT64_FORMAT "\nback.lost %" G_GUINT64_FORMAT "\n", back.passed,
       back.lost);
   tell_ways ();
@@ -540,8 +538,9 @@ tell (gdouble wall, gboolean has_wanted)
     tell_equal ();
   tell_psnr ();
   printf ("processor %.3f\nseconds %.3f\npeak %ld\n",
-      used.ru_utime.tv_sec + used.ru_stime.tv_sec + (used.ru_utime.tv_usec +
-          used.ru_stime.tv_usec) / 1e6, wall, used.ru_maxrss);
+      used.ru_utime.tv_sec + used.ru_stime.tv_sec
+          + (used.ru_utime.tv_usec + used.ru_stime.tv_usec) / 1e6,
+      wall, used.ru_maxrss);
   g_mutex_unlock (&lock);
 }
 
@@ -552,7 +551,7 @@ cycle (guint number, gdouble seconds)
 {
   static const GstState states[] = { GST_STATE_NULL, GST_STATE_READY, GST_STATE_PAUSED };
   guint timer, half;
-  GSource *source;
+  GSource * source;
 
   gst_element_set_state (pipeline, GST_STATE_PLAYING);
   timer = g_timeout_add ((guint) (1000 * seconds), on_time, NULL);
@@ -569,11 +568,11 @@ cycle (guint number, gdouble seconds)
 }
 
 int
-main (int argc, char **argv)
+main (int argc, char ** argv)
 {
-  GOptionContext *context = g_option_context_new ("SECONDS PIPELINE");
-  GError *error = NULL;
-  GstBus *bus;
+  GOptionContext * context = g_option_context_new ("SECONDS PIPELINE");
+  GError * error = NULL;
+  GstBus * bus;
   guint watch, i;
   gint64 began;
   gboolean has_wanted;

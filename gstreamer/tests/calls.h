@@ -12,8 +12,9 @@
 /* Each test has what it wants of these. */
 #pragma GCC diagnostic ignored "-Wunused-function"
 
-#define CAPS(width, height) "video/x-raw, format = (string) I420, width = (int) " #width \
-    ", height = (int) " #height ", framerate = (fraction) 60/1"
+#define CAPS(width, height) \
+  "video/x-raw, format = (string) I420, width = (int) " #width ", height = (int) " #height \
+  ", framerate = (fraction) 60/1"
 #define SUB_QCIF CAPS (128, 96)
 #define QCIF CAPS (176, 144)
 #define PERIOD (GST_SECOND / 60)
@@ -23,18 +24,17 @@
 #define SLOTS 63
 
 /* Both ends with a harness for each pair of pads. */
-typedef struct
-{
+typedef struct {
   GstElement *send, *recv;
   GstHarness *out, *back, *in, *said;
   guint captured, size;
-  gint64 next;                  /* the next picture's time, in us */
+  gint64 next; /* the next picture's time, in us */
 } Call;
 
 static GstHarness *
 quick_harness (GstElement * element, const gchar * sink, const gchar * src)
 {
-  GstHarness *harness = gst_harness_new_with_element (element, sink, src);
+  GstHarness * harness = gst_harness_new_with_element (element, sink, src);
 
   gst_harness_use_systemclock (harness);
   return harness;
@@ -44,7 +44,7 @@ static void
 set_size (Call * call, const gchar * caps)
 {
   GstVideoInfo info;
-  GstCaps *parsed = gst_caps_from_string (caps);
+  GstCaps * parsed = gst_caps_from_string (caps);
 
   gst_video_info_from_caps (&info, parsed);
   gst_caps_unref (parsed);
@@ -95,7 +95,7 @@ end_call (Call * call)
 static GstBuffer *
 picture_of (const Call * call)
 {
-  GstBuffer *buffer = gst_buffer_new_allocate (NULL, call->size, NULL);
+  GstBuffer * buffer = gst_buffer_new_allocate (NULL, call->size, NULL);
   GstMapInfo map;
   gsize i;
 
@@ -119,8 +119,8 @@ capture (Call * call)
 static void
 pass_caps (Call * call)
 {
-  GstPad *pad = gst_element_get_static_pad (call->send, "src");
-  GstCaps *caps = gst_pad_get_current_caps (pad);
+  GstPad * pad = gst_element_get_static_pad (call->send, "src");
+  GstCaps * caps = gst_pad_get_current_caps (pad);
 
   gst_harness_set_src_caps (call->in, caps);
   gst_object_unref (pad);
@@ -130,7 +130,7 @@ pass_caps (Call * call)
 static void
 pass_on (Call * call, gboolean is_lost)
 {
-  GstBuffer *buffer;
+  GstBuffer * buffer;
 
   while ((buffer = gst_harness_try_pull (call->out))) {
     if (is_lost)
@@ -165,7 +165,7 @@ run_call (Call * call, guint pictures, guint lose)
 static guint64
 count_of (GstElement * element, const gchar * name)
 {
-  GstStructure *stats;
+  GstStructure * stats;
   guint64 count = 0;
 
   g_object_get (element, "stats", &stats, NULL);
@@ -177,7 +177,7 @@ count_of (GstElement * element, const gchar * name)
 static guint
 ssrc_of (GstElement * element)
 {
-  GstStructure *stats;
+  GstStructure * stats;
   guint ssrc = 0;
 
   g_object_get (element, "stats", &stats, NULL);
@@ -230,23 +230,21 @@ drain (void)
 #define LINE_ROOM 200000
 
 /* What is on its way, with the time at which it comes, in us. */
-typedef struct
-{
-  GstBuffer *buffer;
+typedef struct {
+  GstBuffer * buffer;
   gint64 at;
 } Sent;
 
-typedef struct
-{
+typedef struct {
   Call call;
   GQueue there, back;
   guint rate;
-  gint64 step, delays[2], begun;        /* before and after the step, in us */
-  guint lines[2];               /* likewise, in kbit/s, or 0 */
-  gint64 line_free;             /* when what is on the line has gone */
-  guint64 dropped, bytes;       /* packets by the line; what was sent */
+  gint64 step, delays[2], begun; /* before and after the step, in us */
+  guint lines[2];                /* likewise, in kbit/s, or 0 */
+  gint64 line_free;              /* when what is on the line has gone */
+  guint64 dropped, bytes;        /* packets by the line; what was sent */
   gdouble loss;
-  GRand *rand;
+  GRand * rand;
   gboolean is_lost[MOST], is_exact[MOST];
   gint64 captured[MOST];
 } Way;
@@ -254,8 +252,9 @@ typedef struct
 static void
 begin_way (Way * way, guint rate, guint before, guint after, gdouble loss)
 {
-  gchar *caps = g_strdup_printf ("video/x-raw, format = (string) I420, width = (int) 128, "
-      "height = (int) 96, framerate = (fraction) %u/1", rate);
+  gchar * caps = g_strdup_printf ("video/x-raw, format = (string) I420, width = (int) 128, "
+                                  "height = (int) 96, framerate = (fraction) %u/1",
+      rate);
 
   memset (way, 0, sizeof *way);
   begin_call (&way->call);
@@ -276,7 +275,7 @@ begin_way (Way * way, guint rate, guint before, guint after, gdouble loss)
 static void
 put (Way * way, GQueue * queue, GstBuffer * buffer, gint64 now)
 {
-  Sent *sent = g_new (Sent, 1);
+  Sent * sent = g_new (Sent, 1);
 
   sent->buffer = buffer;
   sent->at = now + way->delays[now - way->begun >= way->step];
@@ -304,7 +303,7 @@ pass_line (Way * way, gsize size, gint64 now, gint64 * gone)
 static void
 bring (GQueue * queue, GstHarness * to, gint64 now)
 {
-  Sent *sent;
+  Sent * sent;
 
   while ((sent = g_queue_peek_head (queue)) && sent->at <= now) {
     gst_harness_push (to, sent->buffer);
@@ -317,7 +316,7 @@ static void
 carry (Way * way)
 {
   gint64 now = g_get_monotonic_time (), gone;
-  GstBuffer *buffer;
+  GstBuffer * buffer;
 
   while ((buffer = gst_harness_try_pull (way->call.out))) {
     way->bytes += gst_buffer_get_size (buffer);
@@ -361,11 +360,11 @@ drive (Way * way, guint pictures)
 static void
 read_marks (Way * way)
 {
-  GstBuffer *buffer;
+  GstBuffer * buffer;
 
   while ((buffer = gst_harness_try_pull (way->call.in))) {
-    GstStructure *structure = gst_custom_meta_get_structure (gst_buffer_get_custom_meta (buffer,
-            "GstH263RpsMeta"));
+    GstStructure * structure = gst_custom_meta_get_structure (
+        gst_buffer_get_custom_meta (buffer, "GstH263RpsMeta"));
     guint number = MOST;
 
     gst_structure_get_uint (structure, "number", &number);
@@ -388,13 +387,14 @@ assert_whole (Way * way, gint64 from)
     came++;
     exact += way->is_exact[i];
   }
-  fail_unless (came > 0 && exact * 20 >= came * 19 - 20, "%u of %u pictures are exact", exact, came);
+  fail_unless (came > 0 && exact * 20 >= came * 19 - 20, "%u of %u pictures are exact", exact,
+      came);
 }
 
 static void
 end_way (Way * way)
 {
-  Sent *sent;
+  Sent * sent;
 
   while ((sent = g_queue_pop_head (&way->there)) || (sent = g_queue_pop_head (&way->back))) {
     gst_buffer_unref (sent->buffer);

@@ -9,7 +9,15 @@ gi.require_version("Gst", "1.0")
 gi.require_version("GstSdp", "1.0")
 from gi.repository import Gst, GstSdp  # noqa: E402
 
-WANTED = {"encoding-name": "H263-2000", "k": "1", "n": "4", "qcif": "1", "x-slots": "39", "x-lead": "6", "a-framerate": "29.97"}
+WANTED = {
+    "encoding-name": "H263-2000",
+    "k": "1",
+    "n": "4",
+    "qcif": "1",
+    "x-slots": "39",
+    "x-lead": "6",
+    "a-framerate": "29.97",
+}
 
 
 def main(path: str) -> int:

@@ -8,31 +8,38 @@
 
 GST_START_TEST (test_templates)
 {
-  static const struct
-  {
+  static const struct {
     const gchar *element, *pad, *caps;
     gboolean is_taken;
   } rows[] = {
-    {"h263rpssend", "sink", SUB_QCIF, TRUE},
-    {"h263rpssend", "sink", QCIF, TRUE},
-    {"h263rpssend", "sink", CAPS (352, 288), TRUE},
-    {"h263rpssend", "sink", CAPS (640, 480), FALSE},
-    {"h263rpssend", "sink", CAPS (176, 96), FALSE},
-    {"h263rpssend", "sink", "video/x-raw, format = (string) NV12, width = (int) 176, "
-          "height = (int) 144, framerate = (fraction) 30/1", FALSE},
-    {"h263rpssend", "sink", "video/x-raw, format = (string) I420, width = (int) 176, "
-          "height = (int) 144, framerate = (fraction) 0/1", FALSE},
-    {"h263rpsrecv", "sink", "application/x-rtp, media = (string) video, "
-          "clock-rate = (int) 90000, encoding-name = (string) H263-2000", TRUE},
-    {"h263rpsrecv", "sink", "application/x-rtp, media = (string) video, "
-          "clock-rate = (int) 90000, encoding-name = (string) H264", FALSE},
+    { "h263rpssend", "sink", SUB_QCIF, TRUE },
+    { "h263rpssend", "sink", QCIF, TRUE },
+    { "h263rpssend", "sink", CAPS (352, 288), TRUE },
+    { "h263rpssend", "sink", CAPS (640, 480), FALSE },
+    { "h263rpssend", "sink", CAPS (176, 96), FALSE },
+    { "h263rpssend", "sink",
+        "video/x-raw, format = (string) NV12, width = (int) 176, "
+        "height = (int) 144, framerate = (fraction) 30/1",
+        FALSE },
+    { "h263rpssend", "sink",
+        "video/x-raw, format = (string) I420, width = (int) 176, "
+        "height = (int) 144, framerate = (fraction) 0/1",
+        FALSE },
+    { "h263rpsrecv", "sink",
+        "application/x-rtp, media = (string) video, "
+        "clock-rate = (int) 90000, encoding-name = (string) H263-2000",
+        TRUE },
+    { "h263rpsrecv", "sink",
+        "application/x-rtp, media = (string) video, "
+        "clock-rate = (int) 90000, encoding-name = (string) H264",
+        FALSE },
   };
   guint i;
 
   for (i = 0; i < G_N_ELEMENTS (rows); i++) {
-    GstElement *element = gst_element_factory_make (rows[i].element, NULL);
-    GstPad *pad = gst_element_get_static_pad (element, rows[i].pad);
-    GstCaps *caps = gst_caps_from_string (rows[i].caps);
+    GstElement * element = gst_element_factory_make (rows[i].element, NULL);
+    GstPad * pad = gst_element_get_static_pad (element, rows[i].pad);
+    GstCaps * caps = gst_caps_from_string (rows[i].caps);
 
     fail_unless (gst_pad_query_accept_caps (pad, caps) == rows[i].is_taken, "row %u", i);
     gst_caps_unref (caps);
@@ -44,13 +51,12 @@ GST_END_TEST;
 
 GST_START_TEST (test_caps_of_packets)
 {
-  static const gchar *const fields[][2] = {
-    {"sqcif", "1"}, {"k", "1"}, {"n", "4"}, {"x-slots", "63"}, {"x-lead", "30"},
-    {"a-framerate", "60"}, {"encoding-name", "H263-2000"}
-  };
+  static const gchar * const fields[][2] = { { "sqcif", "1" }, { "k", "1" }, { "n", "4" },
+    { "x-slots", "63" }, { "x-lead", "30" }, { "a-framerate", "60" },
+    { "encoding-name", "H263-2000" } };
   Call call;
-  GstCaps *caps;
-  GstPad *pad;
+  GstCaps * caps;
+  GstPad * pad;
   guint i;
 
   begin_call (&call);
@@ -58,8 +64,8 @@ GST_START_TEST (test_caps_of_packets)
   pad = gst_element_get_static_pad (call.send, "src");
   caps = gst_pad_get_current_caps (pad);
   for (i = 0; i < G_N_ELEMENTS (fields); i++)
-    fail_unless_equals_string (gst_structure_get_string (gst_caps_get_structure (caps, 0),
-            fields[i][0]), fields[i][1]);
+    fail_unless_equals_string (
+        gst_structure_get_string (gst_caps_get_structure (caps, 0), fields[i][0]), fields[i][1]);
   gst_caps_unref (caps);
   gst_object_unref (pad);
   end_call (&call);
@@ -71,15 +77,15 @@ GST_END_TEST;
 static guint
 marked (Call * call, const gchar * mark)
 {
-  GstBuffer *buffer;
+  GstBuffer * buffer;
   guint count = 0;
 
   while ((buffer = gst_harness_try_pull (call->in))) {
-    GstCustomMeta *meta = gst_buffer_get_custom_meta (buffer, "GstH263RpsMeta");
-    const gchar *is = gst_structure_get_string (gst_custom_meta_get_structure (meta), "mark");
+    GstCustomMeta * meta = gst_buffer_get_custom_meta (buffer, "GstH263RpsMeta");
+    const gchar * is = gst_structure_get_string (gst_custom_meta_get_structure (meta), "mark");
 
-    fail_unless (g_str_equal (is, "exact")
-        != GST_BUFFER_FLAG_IS_SET (buffer, GST_BUFFER_FLAG_CORRUPTED));
+    fail_unless (
+        g_str_equal (is, "exact") != GST_BUFFER_FLAG_IS_SET (buffer, GST_BUFFER_FLAG_CORRUPTED));
     fail_unless_equals_int (gst_buffer_get_size (buffer), call->size);
     count += g_str_equal (is, mark);
     gst_buffer_unref (buffer);
@@ -120,8 +126,8 @@ GST_END_TEST;
 
 GST_START_TEST (test_events_in_order)
 {
-  static const GstEventType wanted[] =
-      { GST_EVENT_STREAM_START, GST_EVENT_CAPS, GST_EVENT_SEGMENT };
+  static const GstEventType wanted[] = { GST_EVENT_STREAM_START, GST_EVENT_CAPS,
+    GST_EVENT_SEGMENT };
   Call call;
   guint i;
 
@@ -129,7 +135,7 @@ GST_START_TEST (test_events_in_order)
   run_call (&call, 10, 0);
   drain ();
   for (i = 0; i < G_N_ELEMENTS (wanted); i++) {
-    GstEvent *event = gst_harness_try_pull_event (call.in);
+    GstEvent * event = gst_harness_try_pull_event (call.in);
 
     fail_unless (event != NULL);
     fail_unless_equals_int (GST_EVENT_TYPE (event), wanted[i]);
@@ -142,7 +148,7 @@ GST_END_TEST;
 GST_START_TEST (test_end_of_stream)
 {
   Call call;
-  GstEvent *event;
+  GstEvent * event;
   gboolean is_ended = FALSE;
 
   begin_call (&call);
@@ -257,7 +263,7 @@ rpsi_of (guint32 speaker, guint32 about, guint8 first)
 {
   GstRTCPBuffer rtcp = GST_RTCP_BUFFER_INIT;
   GstRTCPPacket packet;
-  GstBuffer *buffer = gst_rtcp_buffer_new (64);
+  GstBuffer * buffer = gst_rtcp_buffer_new (64);
   /* "Picture 0 came": with no marker it is refused. */
   const guint8 fci[] = { 24, 96, first, 0x00, 0x20, 0, 0, 0 };
 
@@ -306,8 +312,8 @@ fir_of (guint32 speaker, guint32 about, guint8 number)
 {
   GstRTCPBuffer rtcp = GST_RTCP_BUFFER_INIT;
   GstRTCPPacket packet;
-  GstBuffer *buffer = gst_rtcp_buffer_new (64);
-  guint8 *fci;
+  GstBuffer * buffer = gst_rtcp_buffer_new (64);
+  guint8 * fci;
 
   gst_rtcp_buffer_map (buffer, GST_MAP_READWRITE, &rtcp);
   gst_rtcp_buffer_add_packet (&rtcp, GST_RTCP_TYPE_PSFB, &packet);
@@ -356,7 +362,7 @@ GST_END_TEST;
 static gdouble
 number_of (GstElement * element, const gchar * name)
 {
-  GstStructure *stats;
+  GstStructure * stats;
   gdouble number = 0;
 
   g_object_get (element, "stats", &stats, NULL);
@@ -369,7 +375,7 @@ number_of (GstElement * element, const gchar * name)
 static guint
 pass_reports (Call * call, GstHarness * reports, GstHarness * heard)
 {
-  GstBuffer *buffer;
+  GstBuffer * buffer;
   guint count = 0;
 
   while ((buffer = gst_harness_try_pull (reports))) {
@@ -391,14 +397,14 @@ pass_reports (Call * call, GstHarness * reports, GstHarness * heard)
 static guint
 assert_times (Call * call)
 {
-  GstCaps *caps = gst_caps_new_empty_simple ("timestamp/x-ntp");
+  GstCaps * caps = gst_caps_new_empty_simple ("timestamp/x-ntp");
   guint64 now = (guint64) g_get_real_time () * 1000 + 2208988800 * GST_SECOND;
   guint64 us = g_get_monotonic_time ();
-  GstBuffer *buffer;
+  GstBuffer * buffer;
   guint count = 0;
 
   while ((buffer = gst_harness_try_pull (call->in))) {
-    GstReferenceTimestampMeta *meta = gst_buffer_get_reference_timestamp_meta (buffer, caps);
+    GstReferenceTimestampMeta * meta = gst_buffer_get_reference_timestamp_meta (buffer, caps);
 
     if (meta) {
       gint64 ago = (gint64) (us * 1000) - (gint64) GST_BUFFER_PTS (buffer);
@@ -450,8 +456,8 @@ GST_END_TEST;
 /* Junk at the pads of reports costs a count. */
 GST_START_TEST (test_wrong_reports)
 {
-  GRand *rand = g_rand_new_with_seed (3);
-  GstHarness *heard;
+  GRand * rand = g_rand_new_with_seed (3);
+  GstHarness * heard;
   Call call;
   guint i;
 
@@ -461,7 +467,7 @@ GST_START_TEST (test_wrong_reports)
   run_call (&call, 20, 0);
   for (i = 0; i < 4000; i++) {
     gsize length = 4 * g_rand_int_range (rand, 0, 24), k;
-    GstBuffer *buffer = gst_buffer_new_allocate (NULL, length, NULL);
+    GstBuffer * buffer = gst_buffer_new_allocate (NULL, length, NULL);
     GstMapInfo map;
 
     gst_buffer_map (buffer, &map, GST_MAP_WRITE);
@@ -493,7 +499,7 @@ GST_START_TEST (test_ts_offset)
 
   for (i = 0; i < 2; i++) {
     gint64 begun = g_get_monotonic_time ();
-    GstBuffer *buffer;
+    GstBuffer * buffer;
     Call call;
 
     begin_call (&call);
@@ -507,15 +513,16 @@ GST_START_TEST (test_ts_offset)
     end_call (&call);
   }
   fail_unless (times[1] > times[0] + 500 * GST_MSECOND && times[1] < times[0] + 1200 * GST_MSECOND,
-      "%" GST_TIME_FORMAT ", %" GST_TIME_FORMAT, GST_TIME_ARGS (times[0]), GST_TIME_ARGS (times[1]));
+      "%" GST_TIME_FORMAT ", %" GST_TIME_FORMAT, GST_TIME_ARGS (times[0]),
+      GST_TIME_ARGS (times[1]));
 }
 GST_END_TEST;
 
 /* A sender that nobody answers says so once, and sends intra pictures. */
 GST_START_TEST (test_nobody_answers)
 {
-  GstBus *bus = gst_bus_new ();
-  GstMessage *message;
+  GstBus * bus = gst_bus_new ();
+  GstMessage * message;
   Call call;
   guint i;
 
@@ -540,7 +547,7 @@ GST_END_TEST;
 
 GST_START_TEST (test_wrong_datagrams)
 {
-  GRand *rand = g_rand_new_with_seed (1);
+  GRand * rand = g_rand_new_with_seed (1);
   Call call;
   guint i, j;
 
@@ -548,7 +555,7 @@ GST_START_TEST (test_wrong_datagrams)
   run_call (&call, 20, 0);
   for (i = 0; i < 2000; i++) {
     gsize length = g_rand_int_range (rand, 0, i % 100 == 0 ? 65000 : 80), k;
-    GstBuffer *buffer = gst_buffer_new_allocate (NULL, length, NULL);
+    GstBuffer * buffer = gst_buffer_new_allocate (NULL, length, NULL);
     GstMapInfo map;
 
     gst_buffer_map (buffer, &map, GST_MAP_WRITE);
@@ -578,7 +585,7 @@ GST_END_TEST;
 /* Packets of the call itself, changed in bits, under its own SSRC and others. */
 GST_START_TEST (test_changed_packets)
 {
-  GRand *rand = g_rand_new_with_seed (2);
+  GRand * rand = g_rand_new_with_seed (2);
   Call call;
   guint i;
 
@@ -623,7 +630,7 @@ GST_END_TEST;
 GST_START_TEST (test_forged_streams)
 {
   Call call, forged;
-  GstBuffer *buffer;
+  GstBuffer * buffer;
   guint i;
 
   begin_call (&call);
@@ -661,7 +668,7 @@ GST_END_TEST;
 GST_START_TEST (test_a_former_stream_is_followed_again)
 {
   Call call, forged;
-  GstBuffer *buffer;
+  GstBuffer * buffer;
   guint i;
 
   begin_call (&call);
@@ -690,7 +697,7 @@ GST_END_TEST;
 static void
 pass_forged (Call * forged, Call * call)
 {
-  GstBuffer *buffer;
+  GstBuffer * buffer;
 
   capture (forged);
   while ((buffer = gst_harness_try_pull (forged->out)))
@@ -761,7 +768,7 @@ GST_END_TEST;
 static void
 count_told (GstBus * bus, guint * warned, guint * told)
 {
-  GstMessage *message;
+  GstMessage * message;
 
   *warned = *told = 0;
   while ((message = gst_bus_pop (bus))) {
@@ -774,9 +781,9 @@ count_told (GstBus * bus, guint * warned, guint * told)
 /* A whole stream of a stranger's beside a live one isn't shown, and it is told once a second. */
 GST_START_TEST (test_a_rival_is_told)
 {
-  GstBus *bus = gst_bus_new ();
+  GstBus * bus = gst_bus_new ();
   Call call, forged;
-  GstBuffer *buffer;
+  GstBuffer * buffer;
   guint i, warned, told, ssrc;
 
   begin_call (&call);
@@ -797,8 +804,9 @@ GST_START_TEST (test_a_rival_is_told)
   assert_nearly (call.recv, "exact", 170);
   assert_count (call.recv, "runs", 1);
   while ((buffer = gst_harness_try_pull (call.in))) {
-    gst_structure_get_uint (gst_custom_meta_get_structure (gst_buffer_get_custom_meta (buffer,
-                "GstH263RpsMeta")), "ssrc", &ssrc);
+    gst_structure_get_uint (
+        gst_custom_meta_get_structure (gst_buffer_get_custom_meta (buffer, "GstH263RpsMeta")),
+        "ssrc", &ssrc);
     fail_unless_equals_int (ssrc, ssrc_of (call.send));
     gst_buffer_unref (buffer);
   }
@@ -810,10 +818,9 @@ GST_START_TEST (test_a_rival_is_told)
 GST_END_TEST;
 
 /* Another stream's packets, and junk, by a thread of their own. */
-typedef struct
-{
-  GstHarness *in;
-  GstBuffer *packet;
+typedef struct {
+  GstHarness * in;
+  GstBuffer * packet;
   gint is_over;
   guint64 sent;
 } Flood;
@@ -822,13 +829,13 @@ static gpointer
 flood (gpointer data)
 {
   static const guint8 junk[12] = { 0x80, 96, 1, 2, 3 };
-  Flood *it = data;
+  Flood * it = data;
   guint i;
 
   while (!g_atomic_int_get (&it->is_over)) {
     for (i = 0; i < 50; i++) {
-      gst_harness_push (it->in, i % 2 ? gst_buffer_copy_deep (it->packet)
-          : gst_buffer_new_memdup (junk, sizeof junk));
+      gst_harness_push (it->in,
+          i % 2 ? gst_buffer_copy_deep (it->packet) : gst_buffer_new_memdup (junk, sizeof junk));
       it->sent++;
     }
     g_usleep (1000);
@@ -841,7 +848,7 @@ flood (gpointer data)
 GST_START_TEST (test_junk_at_a_high_rate)
 {
   Call call, forged;
-  GThread *thread;
+  GThread * thread;
   Flood it = { NULL };
 
   begin_call (&call);
@@ -869,7 +876,7 @@ GST_END_TEST;
 static void
 deliver (Call * call, GQueue * packets)
 {
-  GstBuffer *buffer;
+  GstBuffer * buffer;
 
   while ((buffer = g_queue_pop_head (packets)))
     gst_harness_push (call->in, buffer);
@@ -881,7 +888,7 @@ deliver (Call * call, GQueue * packets)
 GST_START_TEST (test_a_way_that_gets_longer)
 {
   GQueue sent[20];
-  GstBuffer *buffer;
+  GstBuffer * buffer;
   Call call;
   guint i;
 
@@ -911,12 +918,11 @@ GST_END_TEST;
 /* The way takes 250 ms from the third second on, for 30 before: two seconds later all is whole. */
 GST_START_TEST (test_a_step_of_delay)
 {
-  static const struct
-  {
+  static const struct {
     guint rate;
     gdouble loss;
-  } rows[] = { {5, 0}, {10, 0}, {30, 0.3} };
-  Way *way = g_new (Way, 1);
+  } rows[] = { { 5, 0 }, { 10, 0 }, { 30, 0.3 } };
+  Way * way = g_new (Way, 1);
 
   begin_way (way, rows[__i__].rate, 30, 250, rows[__i__].loss);
   drive (way, 10 * way->rate);
@@ -930,7 +936,7 @@ GST_END_TEST;
  * before its picture is played, however late it comes. */
 GST_START_TEST (test_no_latency_on_a_way)
 {
-  Way *way = g_new (Way, 1);
+  Way * way = g_new (Way, 1);
 
   begin_way (way, 30, 30, 30, 0);
   g_object_set (way->call.send, "bitrate", 150000, NULL);
@@ -960,7 +966,7 @@ GST_END_TEST;
 static void
 assert_warned (GstBus * bus)
 {
-  GstMessage *message = gst_bus_pop_filtered (bus, GST_MESSAGE_WARNING);
+  GstMessage * message = gst_bus_pop_filtered (bus, GST_MESSAGE_WARNING);
 
   fail_unless (message != NULL);
   gst_message_unref (message);
@@ -971,10 +977,10 @@ assert_warned (GstBus * bus)
  * goes on. */
 GST_START_TEST (test_a_record_without_room)
 {
-  gchar *folder = g_dir_make_tmp ("h263rps-XXXXXX", NULL);
-  gchar *shown = g_build_filename (folder, "shown.y4m", NULL);
-  gchar *captured = g_build_filename (folder, "captured.y4m", NULL);
-  const gchar *folders[] = { "/proc/call", folder };
+  gchar * folder = g_dir_make_tmp ("h263rps-XXXXXX", NULL);
+  gchar * shown = g_build_filename (folder, "shown.y4m", NULL);
+  gchar * captured = g_build_filename (folder, "captured.y4m", NULL);
+  const gchar * folders[] = { "/proc/call", folder };
   guint i;
 
   fail_unless (symlink ("/dev/full", shown) == 0 && symlink ("/dev/full", captured) == 0);
@@ -1026,7 +1032,7 @@ lines_of (const gchar * folder, const gchar * name)
  * one that is followed again has none of its pictures from then on. */
 GST_START_TEST (test_records_of_two_streams)
 {
-  gchar *folder = g_dir_make_tmp ("h263rps-XXXXXX", NULL);
+  gchar * folder = g_dir_make_tmp ("h263rps-XXXXXX", NULL);
   Call call, forged;
   guint i, first;
 
@@ -1093,11 +1099,11 @@ flush (Call * call)
  * (tests/recipes). */
 GST_START_TEST (test_a_mixture)
 {
-  GRand *rand = g_rand_new_with_seed (77);
-  const gchar *named = g_getenv ("RECORDS");
-  gchar *folder = named ? g_strdup (named) : g_dir_make_tmp ("h263rps-XXXXXX", NULL);
+  GRand * rand = g_rand_new_with_seed (77);
+  const gchar * named = g_getenv ("RECORDS");
+  gchar * folder = named ? g_strdup (named) : g_dir_make_tmp ("h263rps-XXXXXX", NULL);
   gint64 quiet[3] = { 0 };
-  GstBuffer *buffer;
+  GstBuffer * buffer;
   Call calls[3];
   guint i, k;
 
@@ -1142,8 +1148,8 @@ GST_END_TEST;
 static void
 assert_told (GstBus * bus, const gchar * part)
 {
-  GstMessage *message = gst_bus_pop_filtered (bus, GST_MESSAGE_ERROR);
-  GError *error = NULL;
+  GstMessage * message = gst_bus_pop_filtered (bus, GST_MESSAGE_ERROR);
+  GError * error = NULL;
 
   fail_unless (message != NULL, "nothing is told of %s", part);
   gst_message_parse_error (message, &error, NULL);
@@ -1157,30 +1163,30 @@ assert_told (GstBus * bus, const gchar * part)
  * that can't be held beside the sender's window. */
 GST_START_TEST (test_an_impossible_pair)
 {
-  static const struct
-  {
+  static const struct {
     const gchar *slots, *lead;
     guint latency;
-    const gchar *told;
+    const gchar * told;
   } rows[] = {
-    {"2", "62", 100, "slots are at least lead + 2"},
-    {"39", "38", 100, "slots are at least lead + 2"},
-    {"39", "6", 1100, "there is room for 1000 ms"},
-    {"64", "0", 100, "there is room for 0 ms"},
-    {"39", "6", 1000, NULL},
-    {"64", "62", 2000, NULL},
-    {"2", "0", 0, NULL},
+    { "2", "62", 100, "slots are at least lead + 2" },
+    { "39", "38", 100, "slots are at least lead + 2" },
+    { "39", "6", 1100, "there is room for 1000 ms" },
+    { "64", "0", 100, "there is room for 0 ms" },
+    { "39", "6", 1000, NULL },
+    { "64", "62", 2000, NULL },
+    { "2", "0", 0, NULL },
   };
   guint i;
 
   for (i = 0; i < G_N_ELEMENTS (rows); i++) {
-    GstBus *bus = gst_bus_new ();
-    GstElement *recv = gst_element_factory_make ("h263rpsrecv", NULL);
-    GstHarness *in;
-    gchar *caps = g_strdup_printf ("application/x-rtp, media = (string) video, "
+    GstBus * bus = gst_bus_new ();
+    GstElement * recv = gst_element_factory_make ("h263rpsrecv", NULL);
+    GstHarness * in;
+    gchar * caps = g_strdup_printf (
+        "application/x-rtp, media = (string) video, "
         "clock-rate = (int) 90000, encoding-name = (string) H263-2000, payload = (int) 96, "
-        "a-framerate = (string) 30, x-slots = (string) %s, x-lead = (string) %s", rows[i].slots,
-        rows[i].lead);
+        "a-framerate = (string) 30, x-slots = (string) %s, x-lead = (string) %s",
+        rows[i].slots, rows[i].lead);
 
     g_object_set (recv, "latency", rows[i].latency, NULL);
     in = quick_harness (recv, "sink", "src");
@@ -1202,7 +1208,7 @@ GST_END_TEST;
 /* A lead of 0 is one; and packets of a pair that can't be harm nothing. */
 GST_START_TEST (test_what_the_caps_say)
 {
-  GstBus *bus = gst_bus_new ();
+  GstBus * bus = gst_bus_new ();
   Call call;
 
   begin_call (&call);
@@ -1217,7 +1223,8 @@ GST_START_TEST (test_what_the_caps_say)
   begin_call (&call);
   gst_element_set_bus (call.recv, bus);
   run_call (&call, 1, 0);
-  gst_harness_set_src_caps_str (call.in, "application/x-rtp, media = (string) video, "
+  gst_harness_set_src_caps_str (call.in,
+      "application/x-rtp, media = (string) video, "
       "clock-rate = (int) 90000, encoding-name = (string) H263-2000, payload = (int) 96, "
       "x-slots = (string) 2, x-lead = (string) 62");
   run_call (&call, 30, 0);
@@ -1233,7 +1240,7 @@ GST_END_TEST;
 GST_START_TEST (test_own_lead)
 {
   GQueue sent[60];
-  GstBuffer *buffer;
+  GstBuffer * buffer;
   Call call;
   guint i;
 
@@ -1265,7 +1272,7 @@ GST_END_TEST;
 GST_START_TEST (test_other_payload_type)
 {
   Call call;
-  GstBuffer *buffer;
+  GstBuffer * buffer;
 
   begin_call (&call);
   run_call (&call, 5, 0);
@@ -1289,8 +1296,8 @@ GST_END_TEST;
 GST_START_TEST (test_latency)
 {
   Call call;
-  GstQuery *query = gst_query_new_latency ();
-  GstPad *pad;
+  GstQuery * query = gst_query_new_latency ();
+  GstPad * pad;
   GstClockTime least;
   gboolean is_live;
 
@@ -1320,8 +1327,7 @@ GST_START_TEST (test_qos)
   begin_call (&call);
   run_call (&call, 10, 0);
   fail_unless (gst_harness_push_upstream_event (call.in,
-          gst_event_new_qos (GST_QOS_TYPE_UNDERFLOW, 1.0, 60 * GST_SECOND,
-              gst_util_get_timestamp ())));
+      gst_event_new_qos (GST_QOS_TYPE_UNDERFLOW, 1.0, 60 * GST_SECOND, gst_util_get_timestamp ())));
   run_call (&call, 10, 0);
   drain ();
   /* They are played, and not shown. */
@@ -1354,8 +1360,8 @@ GST_END_TEST;
 
 GST_START_TEST (test_states)
 {
-  static const GstState states[] =
-      { GST_STATE_READY, GST_STATE_PLAYING, GST_STATE_NULL, GST_STATE_PAUSED, GST_STATE_PLAYING };
+  static const GstState states[] = { GST_STATE_READY, GST_STATE_PLAYING, GST_STATE_NULL,
+    GST_STATE_PAUSED, GST_STATE_PLAYING };
   Call call;
   guint i;
 
@@ -1373,10 +1379,10 @@ GST_END_TEST;
 GST_START_TEST (test_wrong_settings)
 {
   Call call;
-  GObject *other = G_OBJECT (gst_element_factory_make ("identity", NULL));
-  GObject *session;
-  GstBus *bus = gst_bus_new ();
-  GstMessage *message;
+  GObject * other = G_OBJECT (gst_element_factory_make ("identity", NULL));
+  GObject * session;
+  GstBus * bus = gst_bus_new ();
+  GstMessage * message;
 
   begin_call (&call);
   g_object_set (call.send, "session", other, NULL);
@@ -1420,7 +1426,7 @@ GST_START_TEST (test_strides)
     buffer = packed;
     if (with_gaps) {
       GstMapInfo from, to;
-      const guint8 *row;
+      const guint8 * row;
 
       buffer = gst_buffer_new_allocate (NULL, 192 * 144 * 3 / 2, NULL);
       gst_buffer_map (packed, &from, GST_MAP_READ);
@@ -1450,8 +1456,8 @@ GST_END_TEST;
 static Suite *
 elements_suite (void)
 {
-  Suite *suite = suite_create ("h263rps");
-  TCase *chain = tcase_create ("elements");
+  Suite * suite = suite_create ("h263rps");
+  TCase * chain = tcase_create ("elements");
 
   tcase_set_timeout (chain, 120);
   suite_add_tcase (suite, chain);

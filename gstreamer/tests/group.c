@@ -15,8 +15,8 @@ acknowledgement (guint32 speaker, guint32 about, guint reference)
 {
   GstRTCPBuffer rtcp = GST_RTCP_BUFFER_INIT;
   GstRTCPPacket fb;
-  GstBuffer *buffer = gst_rtcp_buffer_new (64);
-  guint8 *fci;
+  GstBuffer * buffer = gst_rtcp_buffer_new (64);
+  guint8 * fci;
 
   gst_rtcp_buffer_map (buffer, GST_MAP_READWRITE, &rtcp);
   gst_rtcp_buffer_add_packet (&rtcp, GST_RTCP_TYPE_PSFB, &fb);
@@ -40,7 +40,7 @@ goodbye (guint32 speaker)
 {
   GstRTCPBuffer rtcp = GST_RTCP_BUFFER_INIT;
   GstRTCPPacket bye;
-  GstBuffer *buffer = gst_rtcp_buffer_new (64);
+  GstBuffer * buffer = gst_rtcp_buffer_new (64);
 
   gst_rtcp_buffer_map (buffer, GST_MAP_READWRITE, &rtcp);
   gst_rtcp_buffer_add_packet (&rtcp, GST_RTCP_TYPE_BYE, &bye);
@@ -52,7 +52,7 @@ goodbye (guint32 speaker)
 static guint
 receivers_of (GstElement * send)
 {
-  GstStructure *stats;
+  GstStructure * stats;
   guint count = 0;
 
   g_object_get (send, "stats", &stats, NULL);
@@ -87,7 +87,7 @@ end_sender (Call * call)
 static void
 add_packets (Call * call, GChecksum * sum)
 {
-  GstBuffer *buffer;
+  GstBuffer * buffer;
   GstMapInfo map;
 
   while ((buffer = gst_harness_try_pull (call->out))) {
@@ -103,11 +103,11 @@ add_packets (Call * call, GChecksum * sum)
  * place is that of the first one who is silent. With room for one and for sixteen the packets are the same. */
 GST_START_TEST (test_a_group_of_one)
 {
-  gchar *sums[2];
+  gchar * sums[2];
   guint k, i;
 
   for (k = 0; k < 2; k++) {
-    GChecksum *sum = g_checksum_new (G_CHECKSUM_SHA256);
+    GChecksum * sum = g_checksum_new (G_CHECKSUM_SHA256);
     Call call;
 
     begin_sender (&call, k ? 16 : 1);
@@ -154,8 +154,9 @@ GST_START_TEST (test_a_flood_of_strangers)
       gst_harness_push (call.back, goodbye (g_random_int_range (1000, G_MAXINT32)));
   }
   fail_unless_equals_int (receivers_of (call.send), 2);
-  fail_unless (count_of (call.send, "intra") == intra, "%" G_GUINT64_FORMAT " pictures are intra, and not %"
-      G_GUINT64_FORMAT, count_of (call.send, "intra"), intra);
+  fail_unless (count_of (call.send, "intra") == intra,
+      "%" G_GUINT64_FORMAT " pictures are intra, and not %" G_GUINT64_FORMAT,
+      count_of (call.send, "intra"), intra);
   assert_count (call.send, "other-speaker", 2 + 80 * 250);
   assert_count (call.send, "joined", 1);
   assert_count (call.send, "left", 0);
@@ -207,17 +208,15 @@ GST_END_TEST;
 
 /* ---- three receivers ---- */
 
-typedef struct
-{
-  GstElement *recv;
+typedef struct {
+  GstElement * recv;
   GstHarness *in, *said;
   GQueue there, back;
   gdouble loss;
-  GRand *rand;
+  GRand * rand;
 } Party;
 
-typedef struct
-{
+typedef struct {
   Call call;
   Party parties[RECEIVERS];
 } Room;
@@ -230,10 +229,11 @@ begin_room (Room * room, gdouble loss)
   memset (room, 0, sizeof *room);
   begin_sender (&room->call, RECEIVERS);
   g_object_set (room->call.send, "slots", SLOTS, "lead", LEAD, NULL);
-  set_size (&room->call, "video/x-raw, format = (string) I420, width = (int) 128, height = (int) 96, "
+  set_size (&room->call,
+      "video/x-raw, format = (string) I420, width = (int) 128, height = (int) 96, "
       "framerate = (fraction) 30/1");
   for (i = 0; i < RECEIVERS; i++) {
-    Party *party = &room->parties[i];
+    Party * party = &room->parties[i];
 
     party->recv = gst_element_factory_make ("h263rpsrecv", NULL);
     g_object_set (party->recv, "latency", LATE, "ssrc", 21 + i, NULL);
@@ -250,7 +250,7 @@ begin_room (Room * room, gdouble loss)
 static void
 put_on (Party * party, GQueue * queue, GstBuffer * buffer, gint64 now)
 {
-  Sent *sent;
+  Sent * sent;
 
   if (g_rand_double (party->rand) < party->loss) {
     gst_buffer_unref (buffer);
@@ -267,7 +267,7 @@ static void
 carry_room (Room * room)
 {
   gint64 now = g_get_monotonic_time ();
-  GstBuffer *buffer;
+  GstBuffer * buffer;
   guint i;
 
   while ((buffer = gst_harness_try_pull (room->call.out))) {
@@ -276,7 +276,7 @@ carry_room (Room * room)
     gst_buffer_unref (buffer);
   }
   for (i = 0; i < RECEIVERS; i++) {
-    Party *party = &room->parties[i];
+    Party * party = &room->parties[i];
 
     bring (&party->there, party->in, now);
     while ((buffer = gst_harness_try_pull (party->said)))
@@ -296,8 +296,8 @@ drive_room (Room * room, guint pictures)
       carry_room (room);
     capture (&room->call);
     if (i == 0) {
-      GstPad *pad = gst_element_get_static_pad (room->call.send, "src");
-      GstCaps *caps = gst_pad_get_current_caps (pad);
+      GstPad * pad = gst_element_get_static_pad (room->call.send, "src");
+      GstCaps * caps = gst_pad_get_current_caps (pad);
 
       for (k = 0; k < RECEIVERS; k++)
         gst_harness_set_src_caps (room->parties[k].in, gst_caps_ref (caps));
@@ -317,7 +317,8 @@ share_of (Party * party)
 {
   guint64 exact = count_of (party->recv, "exact");
 
-  return 100.0 * exact / MAX (exact + count_of (party->recv, "patched") + count_of (party->recv, "held"), 1);
+  return 100.0 * exact
+      / MAX (exact + count_of (party->recv, "patched") + count_of (party->recv, "held"), 1);
 }
 
 static void
@@ -326,8 +327,8 @@ end_room (Room * room)
   guint i;
 
   for (i = 0; i < RECEIVERS; i++) {
-    Party *party = &room->parties[i];
-    Sent *sent;
+    Party * party = &room->parties[i];
+    Sent * sent;
 
     while ((sent = g_queue_pop_head (&party->there)) || (sent = g_queue_pop_head (&party->back))) {
       gst_buffer_unref (sent->buffer);
@@ -348,15 +349,16 @@ GST_START_TEST (test_one_of_three_loses)
   guint k, i;
 
   for (k = 0; k < 2; k++) {
-    Room *room = g_new (Room, 1);
+    Room * room = g_new (Room, 1);
 
     begin_room (room, k ? 0.1 : 0);
     drive_room (room, 12 * RATE);
     for (i = 0; i < RECEIVERS; i++)
       shares[k][i] = share_of (&room->parties[i]);
-    g_print ("%s: %.1f, %.1f and %.1f %% exact, %u receivers, %" G_GUINT64_FORMAT " of %" G_GUINT64_FORMAT
-        " pictures intra, %" G_GUINT64_FORMAT " bytes\n", k ? "one loses 10 %" : "nobody loses", shares[k][0],
-        shares[k][1], shares[k][2], receivers_of (room->call.send), count_of (room->call.send, "intra"),
+    g_print ("%s: %.1f, %.1f and %.1f %% exact, %u receivers, %" G_GUINT64_FORMAT
+             " of %" G_GUINT64_FORMAT " pictures intra, %" G_GUINT64_FORMAT " bytes\n",
+        k ? "one loses 10 %" : "nobody loses", shares[k][0], shares[k][1], shares[k][2],
+        receivers_of (room->call.send), count_of (room->call.send, "intra"),
         count_of (room->call.send, "coded"), count_of (room->call.send, "bytes"));
     fail_unless_equals_int (receivers_of (room->call.send), RECEIVERS);
     fail_unless (count_of (room->call.send, "intra") < 3 * RATE);
@@ -371,8 +373,8 @@ GST_END_TEST;
 static Suite *
 group_suite (void)
 {
-  Suite *suite = suite_create ("group");
-  TCase *group = tcase_create ("group");
+  Suite * suite = suite_create ("group");
+  TCase * group = tcase_create ("group");
 
   suite_add_tcase (suite, group);
   tcase_set_timeout (group, 120);

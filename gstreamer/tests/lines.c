@@ -7,7 +7,8 @@ begin_line (Way * way, guint before, guint after, gint64 step)
 {
   memset (way, 0, sizeof *way);
   begin_call_with (&way->call, FALSE);
-  set_size (&way->call, "video/x-raw, format = (string) I420, width = (int) 176, height = (int) 144, "
+  set_size (&way->call,
+      "video/x-raw, format = (string) I420, width = (int) 176, height = (int) 144, "
       "framerate = (fraction) 30/1");
   way->rate = 30;
   way->delays[0] = way->delays[1] = 30000;
@@ -18,9 +19,8 @@ begin_line (Way * way, guint before, guint after, gint64 step)
   way->begun = g_get_monotonic_time ();
 }
 
-typedef struct
-{
-  gint64 at[MOST];              /* from the start, in us */
+typedef struct {
+  gint64 at[MOST]; /* from the start, in us */
   gboolean is_exact[MOST];
   guint count;
 } Shown;
@@ -29,8 +29,8 @@ typedef struct
 static Shown *
 read_shown (Way * way)
 {
-  Shown *shown = g_new0 (Shown, 1);
-  GstBuffer *buffer;
+  Shown * shown = g_new0 (Shown, 1);
+  GstBuffer * buffer;
 
   while ((buffer = gst_harness_try_pull (way->call.in))) {
     shown->at[shown->count] = (gint64) (GST_BUFFER_PTS (buffer) / 1000) - way->begun;
@@ -62,17 +62,19 @@ assert_exact (const Shown * shown, guint from, guint to, guint percent, guint ea
 static void
 print_rates (Way * way)
 {
-  g_print ("dropped %" G_GUINT64_FORMAT " packets, sent %" G_GUINT64_FORMAT " kbit/s, left out %"
-      G_GUINT64_FORMAT " of %u pictures, at the end %" G_GUINT64_FORMAT " kbit/s\n", way->dropped,
-      8 * way->bytes * way->rate / way->call.captured / 1000, count_of (way->call.send, "left-out"),
-      way->call.captured, count_of (way->call.send, "target-bit-rate") / 1000);
+  g_print ("dropped %" G_GUINT64_FORMAT " packets, sent %" G_GUINT64_FORMAT
+           " kbit/s, left out %" G_GUINT64_FORMAT " of %u pictures, at the end %" G_GUINT64_FORMAT
+           " kbit/s\n",
+      way->dropped, 8 * way->bytes * way->rate / way->call.captured / 1000,
+      count_of (way->call.send, "left-out"), way->call.captured,
+      count_of (way->call.send, "target-bit-rate") / 1000);
 }
 
 GST_START_TEST (test_a_narrow_line)
 {
   static const guint lines[] = { 300, 150, 1000 };
-  Way *way = g_new (Way, 1);
-  Shown *shown;
+  Way * way = g_new (Way, 1);
+  Shown * shown;
 
   begin_line (way, lines[__i__], lines[__i__], 0);
   drive (way, 25 * way->rate);
@@ -88,8 +90,8 @@ GST_END_TEST;
 
 GST_START_TEST (test_a_line_that_gets_narrow)
 {
-  Way *way = g_new (Way, 1);
-  Shown *shown;
+  Way * way = g_new (Way, 1);
+  Shown * shown;
   guint i;
 
   begin_line (way, 1000, 200, 8 * G_USEC_PER_SEC);
@@ -108,11 +110,12 @@ GST_END_TEST;
 /* The way takes 250 ms from the eighth second on, for 30 before, at five pictures a second. */
 GST_START_TEST (test_a_step_of_delay_at_defaults)
 {
-  Way *way = g_new (Way, 1);
-  Shown *shown;
+  Way * way = g_new (Way, 1);
+  Shown * shown;
 
   begin_line (way, 0, 0, 8 * G_USEC_PER_SEC);
-  set_size (&way->call, "video/x-raw, format = (string) I420, width = (int) 176, height = (int) 144, "
+  set_size (&way->call,
+      "video/x-raw, format = (string) I420, width = (int) 176, height = (int) 144, "
       "framerate = (fraction) 5/1");
   way->rate = 5;
   way->delays[1] = 250000;
@@ -159,8 +162,8 @@ GST_END_TEST;
 static Suite *
 lines_suite (void)
 {
-  Suite *suite = suite_create ("h263rps lines");
-  TCase *chain = tcase_create ("lines");
+  Suite * suite = suite_create ("h263rps lines");
+  TCase * chain = tcase_create ("lines");
 
   suite_add_tcase (suite, chain);
   tcase_set_timeout (chain, 60);

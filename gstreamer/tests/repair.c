@@ -7,11 +7,12 @@
 /* Four of a hundred packets are lost each way; those whose answers come in time are sent again. */
 GST_START_TEST (test_repair)
 {
-  Way *way = g_new (Way, 1);
+  Way * way = g_new (Way, 1);
   guint64 repaired;
 
   begin_way (way, 30, 25, 25, 0.04);
-  set_size (&way->call, "video/x-raw, format = (string) I420, width = (int) 176, "
+  set_size (&way->call,
+      "video/x-raw, format = (string) I420, width = (int) 176, "
       "height = (int) 144, framerate = (fraction) 30/1");
   drive (way, 10 * way->rate);
   repaired = count_of (way->call.recv, "repaired");
@@ -33,7 +34,7 @@ GST_END_TEST;
 /* Where an answer would come too late hardly anything is asked for, and none of it is asked for twice. */
 GST_START_TEST (test_no_repair_on_a_long_way)
 {
-  Way *way = g_new (Way, 1);
+  Way * way = g_new (Way, 1);
 
   begin_way (way, 30, 150, 150, 0.1);
   drive (way, 10 * way->rate);
@@ -72,8 +73,8 @@ nacks_of (guint32 speaker, guint32 about, guint16 packet, guint16 following, gui
 {
   GstRTCPBuffer rtcp = GST_RTCP_BUFFER_INIT;
   GstRTCPPacket fb;
-  GstBuffer *buffer = gst_rtcp_buffer_new (64 + 4 * fields);
-  guint8 *fci;
+  GstBuffer * buffer = gst_rtcp_buffer_new (64 + 4 * fields);
+  guint8 * fci;
   guint i;
 
   gst_rtcp_buffer_map (buffer, GST_MAP_READWRITE, &rtcp);
@@ -167,7 +168,7 @@ GST_START_TEST (test_a_flood_of_requests)
 {
   guint64 bytes = 0, repeated = 0;
   guint i, j, about, limit = 430000 / 16;
-  GstBuffer *buffer;
+  GstBuffer * buffer;
   guint16 newest = 0;
   Call call;
 
@@ -195,8 +196,8 @@ GST_START_TEST (test_a_flood_of_requests)
   assert_at_least (call.send, "asked", 1000);
   assert_at_least (call.send, "repeats-refused", 1000);
   fail_unless (repeated > 0);
-  fail_unless (repeated <= bytes + limit, "%" G_GUINT64_FORMAT " bytes are repeated, of %"
-      G_GUINT64_FORMAT, repeated, bytes);
+  fail_unless (repeated <= bytes + limit,
+      "%" G_GUINT64_FORMAT " bytes are repeated, of %" G_GUINT64_FORMAT, repeated, bytes);
   end_call (&call);
 }
 GST_END_TEST;
@@ -208,11 +209,11 @@ GST_START_TEST (test_repeats_through_srtp)
 
   for (allows = 0; allows < 2; allows++) {
     GstElement *bin = gst_bin_new (NULL), *send = gst_element_factory_make ("h263rpssend", NULL);
-    GstElement *secure = gst_element_factory_make ("srtpenc", NULL);
+    GstElement * secure = gst_element_factory_make ("srtpenc", NULL);
     GstHarness *out, *back;
-    GstBus *bus = gst_bus_new ();
+    GstBus * bus = gst_bus_new ();
     GstBuffer *key = gst_buffer_new_allocate (NULL, 30, NULL), *buffer;
-    GstMessage *message;
+    GstMessage * message;
     GstPad *pad, *in;
     Call call = { 0 };
     guint i;
@@ -277,7 +278,7 @@ bye_of (guint32 source)
 {
   GstRTCPBuffer rtcp = GST_RTCP_BUFFER_INIT;
   GstRTCPPacket packet;
-  GstBuffer *buffer = gst_rtcp_buffer_new (64);
+  GstBuffer * buffer = gst_rtcp_buffer_new (64);
 
   gst_rtcp_buffer_map (buffer, GST_MAP_READWRITE, &rtcp);
   gst_rtcp_buffer_add_packet (&rtcp, GST_RTCP_TYPE_BYE, &packet);
@@ -289,7 +290,7 @@ bye_of (guint32 source)
 static GstHarness *
 new_reports (Call * call)
 {
-  GstHarness *reports = quick_harness (call->recv, "rtcp_sink", NULL);
+  GstHarness * reports = quick_harness (call->recv, "rtcp_sink", NULL);
 
   gst_harness_set_src_caps_str (reports, "application/x-rtcp");
   return reports;
@@ -299,7 +300,7 @@ new_reports (Call * call)
 static void
 pass_other (Call * other, Call * call, guint pictures)
 {
-  GstBuffer *buffer;
+  GstBuffer * buffer;
   guint i;
 
   for (i = 0; i < pictures; i++) {
@@ -318,7 +319,7 @@ GST_START_TEST (test_a_stream_ends)
 
   for (i = 0; i < 4; i++) {
     gboolean is_meant = i % 2;
-    GstHarness *reports;
+    GstHarness * reports;
     Call call, other;
 
     begin_call (&call);
@@ -342,7 +343,7 @@ GST_END_TEST;
 static gboolean
 says_bye (GstHarness * reports, guint32 source)
 {
-  GstBuffer *buffer;
+  GstBuffer * buffer;
   gboolean is_said = FALSE, more;
 
   while ((buffer = gst_harness_try_pull (reports))) {
@@ -352,7 +353,7 @@ says_bye (GstHarness * reports, guint32 source)
     fail_unless (gst_rtcp_buffer_validate (buffer));
     gst_rtcp_buffer_map (buffer, GST_MAP_READ, &rtcp);
     for (more = gst_rtcp_buffer_get_first_packet (&rtcp, &packet); more;
-        more = gst_rtcp_packet_move_to_next (&packet))
+         more = gst_rtcp_packet_move_to_next (&packet))
       is_said |= gst_rtcp_packet_get_type (&packet) == GST_RTCP_TYPE_BYE
           && gst_rtcp_packet_bye_get_nth_ssrc (&packet, 0) == source;
     gst_rtcp_buffer_unmap (&rtcp);
@@ -364,7 +365,7 @@ says_bye (GstHarness * reports, guint32 source)
 /* A sender says where its stream ends: with another size, and at the end. */
 GST_START_TEST (test_a_sender_says_bye)
 {
-  GstHarness *reports;
+  GstHarness * reports;
   Call call;
   guint first;
 
@@ -416,7 +417,7 @@ GST_END_TEST;
 static guint
 talk (Call * a, Call * b, guint pictures)
 {
-  GstBuffer *buffer;
+  GstBuffer * buffer;
   guint i, said = 0;
 
   for (i = 0; i < pictures; i++) {
@@ -477,8 +478,8 @@ GST_END_TEST;
 static Suite *
 repair_suite (void)
 {
-  Suite *suite = suite_create ("h263rps repair");
-  TCase *chain = tcase_create ("repair");
+  Suite * suite = suite_create ("h263rps repair");
+  TCase * chain = tcase_create ("repair");
 
   suite_add_tcase (suite, chain);
   tcase_set_timeout (chain, 60);

@@ -14,9 +14,9 @@ static size_t length;
 static unsigned others;
 
 static FILE *
-opened (const char *name)
+opened (const char * name)
 {
-  FILE *file = fopen (name, "rb");
+  FILE * file = fopen (name, "rb");
 
   if (!file) {
     perror (name);
@@ -41,7 +41,7 @@ entry (FILE * file)
 
 /* The next frame of a Y4M file, whose first line has been read; its line in `line`. */
 static int
-frame (FILE * file, char *line, size_t room, uint8_t * samples, size_t size)
+frame (FILE * file, char * line, size_t room, uint8_t * samples, size_t size)
 {
   return fgets (line, (int) room, file) && fread (samples, 1, size, file) == size;
 }
@@ -52,8 +52,7 @@ compare (int is_equal)
   others += !is_equal;
 }
 
-typedef struct
-{
+typedef struct {
   unsigned number, value;
   char word[16];
   int is_there;
@@ -66,7 +65,7 @@ next_step (FILE * file, Step * step)
 }
 
 static int
-send (char **words)
+send (char ** words)
 {
   static uint8_t picture[352 * 288 * 3 / 2], packet[9000];
   h263rps_params params;
@@ -128,7 +127,7 @@ send (char **words)
 }
 
 static void
-compare_message (const h263rps_message * message, FILE * wire, unsigned *messages)
+compare_message (const h263rps_message * message, FILE * wire, unsigned * messages)
 {
   if (!message->length)
     return;
@@ -138,9 +137,9 @@ compare_message (const h263rps_message * message, FILE * wire, unsigned *message
 }
 
 static int
-recv (char **words)
+recv (char ** words)
 {
-  static const char *const marks[] = { "FRAME XEXACT\n", "FRAME XPATCHED\n", "FRAME XHELD\n" };
+  static const char * const marks[] = { "FRAME XEXACT\n", "FRAME XPATCHED\n", "FRAME XHELD\n" };
   static uint8_t picture[352 * 288 * 3 / 2], packet[65536];
   h263rps_params params;
   h263rps_end end = { 0 };
@@ -187,7 +186,7 @@ recv (char **words)
 }
 
 int
-main (int argc, char **argv)
+main (int argc, char ** argv)
 {
   if (argc == 13 && strcmp (argv[1], "send") == 0)
     return send (argv + 2);

@@ -30,12 +30,16 @@ MOST_APART = 60.0
 
 def sender(way: int, is_own: bool) -> str:
     """Sound by rtpbin, and pictures by it or by the element's own pads, `way` later."""
-    camera = "videotestsrc is-live=true pattern=ball ! video/x-raw,width=176,height=144,framerate=30/1 ! h263rpssend name=s"
+    camera = (
+        "videotestsrc is-live=true pattern=ball ! video/x-raw,width=176,height=144,framerate=30/1 ! h263rpssend name=s"
+    )
     later = f"netsim delay-probability=1 min-delay={way} max-delay={way + 1} ! udpsink host=127.0.0.1 port={PORTS['video']} sync=false async=false"
     reports = f"udpsink host=127.0.0.1 port={PORTS['video-rtcp']} sync=false async=false"
-    sound = f"audiotestsrc is-live=true samplesperbuffer=960 ! audio/x-raw,rate=48000,channels=1 ! opusenc ! rtpopuspay pt=97 ! b.send_rtp_sink_1 " \
-        f"b.send_rtp_src_1 ! udpsink host=127.0.0.1 port={PORTS['audio']} sync=false async=false " \
+    sound = (
+        f"audiotestsrc is-live=true samplesperbuffer=960 ! audio/x-raw,rate=48000,channels=1 ! opusenc ! rtpopuspay pt=97 ! b.send_rtp_sink_1 "
+        f"b.send_rtp_src_1 ! udpsink host=127.0.0.1 port={PORTS['audio']} sync=false async=false "
         f"b.send_rtcp_src_1 ! udpsink host=127.0.0.1 port={PORTS['audio-rtcp']} sync=false async=false"
+    )
     bin = 'rtpbin name=b rtp-profile=avpf sdes="application/x-rtp-source-sdes,cname=(string)one"'
     back = f"udpsrc port={PORTS['back']} caps=application/x-rtcp ! s.rtcp_sink"
     if is_own:
@@ -68,8 +72,10 @@ class Screens:
     def _on_pad(self, _: Gst.Element, pad: Gst.Pad) -> None:
         session = int(pad.get_name().split("_")[3]) if pad.get_name().startswith("recv_rtp_src_") else -1
         if session == 0:
-            text = f"h263rpsrecv name=v latency=100 ! fakesink name=video async=false sync=true signal-handoffs=true v.rtcp_src ! " \
+            text = (
+                f"h263rpsrecv name=v latency=100 ! fakesink name=video async=false sync=true signal-handoffs=true v.rtcp_src ! "
                 f"udpsink host=127.0.0.1 port={PORTS['back']} sync=false async=false"
+            )
         elif session == 1:
             text = "rtpopusdepay name=d ! opusdec ! fakesink name=audio async=false sync=true signal-handoffs=true"
         else:
@@ -78,7 +84,9 @@ class Screens:
         first = screen.get_by_name("v" if session == 0 else "d")
         screen.add_pad(Gst.GhostPad.new("sink", first.get_static_pad("sink")))
         if session == 0:
-            self._kept.append(self._buffers[0].bind_property("ts-offset", first, "ts-offset", GObject.BindingFlags.SYNC_CREATE))
+            self._kept.append(
+                self._buffers[0].bind_property("ts-offset", first, "ts-offset", GObject.BindingFlags.SYNC_CREATE)
+            )
         name = "video" if session == 0 else "audio"
         screen.get_by_name(name).connect("handoff", self._shown, name)
         self._kept.append(screen)

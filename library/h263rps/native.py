@@ -19,7 +19,8 @@ if TYPE_CHECKING:
         """An array of numpy, in which an older checker of types sees no buffer."""
 
         @property
-        def __array_interface__(self) -> Any: ...
+        def __array_interface__(self) -> Any:
+            ...
 
     # bytes, bytearray, memoryview, array, mmap, an array of numpy: bytes that lie in one piece.
     Buffer = Union[ReadableBuffer, _Array]
@@ -55,10 +56,7 @@ class Message(ctypes.Structure):
 
 class Answer(ctypes.Structure):
     _fields_ = [
-        *[
-            (name, ctypes.c_uint32)
-            for name in ("kind", "fault", "at", "number", "predicted", "reference")
-        ],
+        *[(name, ctypes.c_uint32) for name in ("kind", "fault", "at", "number", "predicted", "reference")],
         ("message", Message),
     ]
 
@@ -74,10 +72,7 @@ class CodedPicture(ctypes.Structure):
 
 class PacketStart(ctypes.Structure):
     _fields_ = [
-        *[
-            (name, ctypes.c_uint32)
-            for name in ("format", "clock", "temporal_reference", "intra", "reference", "count")
-        ],
+        *[(name, ctypes.c_uint32) for name in ("format", "clock", "temporal_reference", "intra", "reference", "count")],
         ("messages", Message * 4),
     ]
 
@@ -87,9 +82,7 @@ class Lent(ctypes.Structure):
 
 
 class Bounds(ctypes.Structure):
-    _fields_ = [
-        (name, ctypes.c_uint32) for name in ("first", "least", "most", "finest", "period")
-    ]
+    _fields_ = [(name, ctypes.c_uint32) for name in ("first", "least", "most", "finest", "period")]
 
 
 class FitPace(ctypes.Structure):
@@ -109,10 +102,7 @@ class Timing(ctypes.Structure):
 
 class Arrival(ctypes.Structure):
     _fields_ = [
-        *[
-            (name, ctypes.c_uint32)
-            for name in ("verdict", "cause", "run", "source", "ahead", "rival")
-        ],
+        *[(name, ctypes.c_uint32) for name in ("verdict", "cause", "run", "source", "ahead", "rival")],
         ("answer", Answer),
     ]
 
@@ -154,10 +144,7 @@ class _View(ctypes.Structure):
         ("itemsize", ctypes.c_ssize_t),
         ("readonly", ctypes.c_int),
         ("ndim", ctypes.c_int),
-        *[
-            (name, ctypes.c_void_p)
-            for name in ("format", "shape", "strides", "suboffsets", "internal")
-        ],
+        *[(name, ctypes.c_void_p) for name in ("format", "shape", "strides", "suboffsets", "internal")],
     ]
 
 

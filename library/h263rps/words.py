@@ -29,7 +29,16 @@ CAUSES: tuple[Cause, ...] = ("long", "malformed", "other pictures", "too fast", 
 RUNS: tuple[Run, ...] = ("followed", "former", "tried")
 # The parameters, the first ten in the order of their numbers in `enum h263rps_param`.
 PARAMS = (
-    "quant", "keep", "radius", "limit", "slots", "lead", "messages", "format", "clock", "target",
+    "quant",
+    "keep",
+    "radius",
+    "limit",
+    "slots",
+    "lead",
+    "messages",
+    "format",
+    "clock",
+    "target",
     "pace",
 )
 # What a start names: a parameter, the number at which a receiver begins, the struct's size, or a

@@ -56,12 +56,12 @@ enum h263rps_status {
     H263RPS_NO_PACKET = 9,    /* the picture that was coded last has no packet of this number */
     H263RPS_SHORT_ROOM = 10,  /* the packet is longer than the room; `limit` bytes always do */
     /* of this header alone */
-    H263RPS_NULL = 11,        /* a pointer is null */
-    H263RPS_TOO_LONG = 12,    /* a length is above PTRDIFF_MAX */
+    H263RPS_NULL = 11,     /* a pointer is null */
+    H263RPS_TOO_LONG = 12, /* a length is above PTRDIFF_MAX */
     /* the library's again */
-    H263RPS_NO_START = 13,    /* the bytes don't begin as a packet of any format does */
-    H263RPS_NO_STREAM = 14,   /* the session's run has no stream */
-    H263RPS_NO_RECEIVER = 15  /* nobody is at this place of the group */
+    H263RPS_NO_START = 13,   /* the bytes don't begin as a packet of any format does */
+    H263RPS_NO_STREAM = 14,  /* the session's run has no stream */
+    H263RPS_NO_RECEIVER = 15 /* nobody is at this place of the group */
 };
 
 /* The sizes of pictures. */
@@ -99,8 +99,8 @@ enum h263rps_param {
     H263RPS_PARAM_NUMBER = 11, /* h263rps_receiver_start_at() alone: above 1,048,576 */
     H263RPS_PARAM_SIZE = 12,   /* not the size of h263rps_params in a version that is known */
     /* h263rps_session_start() alone */
-    H263RPS_PARAM_RATE = 13,   /* not 1 to 65,536 pictures in 1 to 4,096 seconds */
-    H263RPS_PARAM_WAIT = 14,   /* more pictures come in the wait than `lead` holds */
+    H263RPS_PARAM_RATE = 13, /* not 1 to 65,536 pictures in 1 to 4,096 seconds */
+    H263RPS_PARAM_WAIT = 14, /* more pictures come in the wait than `lead` holds */
     /* any start */
     H263RPS_PARAM_PACE = 15
 };
@@ -125,42 +125,42 @@ enum h263rps_mark {
 /* Why a packet is refused. From H263RPS_BYTES_ENDED on its bytes are at fault, at bit `at`. The
  * numbers of sections are those of H.263 (2005), where no other document is named. */
 enum h263rps_fault {
-    H263RPS_OTHER_CLOCK = 1,       /* it is of the other picture clock */
-    H263RPS_HEADER_DIFFERS = 2,    /* its picture's packets so far had another header */
-    H263RPS_MISSING_REFERENCE = 3, /* the picture that it refers to isn't complete here */
-    H263RPS_OVERLAP = 4,           /* a part of it was taken before */
-    H263RPS_BYTES_ENDED = 100, /* the bits end inside a field or a word */
-    H263RPS_BYTES_BAD_CODE = 101, /* no word of the table begins here */
-    H263RPS_BYTES_BAD_DC = 102, /* INTRADC of 0 or 128 (H.263, 5.4.1) */
-    H263RPS_BYTES_BAD_LEVEL = 103, /* an escape whose LEVEL is 0 or -128 (5.4.2) */
-    H263RPS_BYTES_PAST_END = 104, /* an event after the last coefficient of its block (5.4.2) */
+    H263RPS_OTHER_CLOCK = 1,          /* it is of the other picture clock */
+    H263RPS_HEADER_DIFFERS = 2,       /* its picture's packets so far had another header */
+    H263RPS_MISSING_REFERENCE = 3,    /* the picture that it refers to isn't complete here */
+    H263RPS_OVERLAP = 4,              /* a part of it was taken before */
+    H263RPS_BYTES_ENDED = 100,        /* the bits end inside a field or a word */
+    H263RPS_BYTES_BAD_CODE = 101,     /* no word of the table begins here */
+    H263RPS_BYTES_BAD_DC = 102,       /* INTRADC of 0 or 128 (H.263, 5.4.1) */
+    H263RPS_BYTES_BAD_LEVEL = 103,    /* an escape whose LEVEL is 0 or -128 (5.4.2) */
+    H263RPS_BYTES_PAST_END = 104,     /* an event after the last coefficient of its block (5.4.2) */
     H263RPS_BYTES_FOUR_VECTORS = 105, /* a macroblock with four vectors (5.3.2) */
-    H263RPS_BYTES_BAD_VECTOR = 106, /* a vector that points out of its reach (5.3.7, 6.1.1) */
+    H263RPS_BYTES_BAD_VECTOR = 106,   /* a vector that points out of its reach (5.3.7, 6.1.1) */
     /* a bit against start code emulation that isn't as it must be (5.1.4, Annex K) */
     H263RPS_BYTES_MARKER = 107,
     H263RPS_BYTES_ADDRESS = 108, /* a slice's macroblock address (MBA, Annex K) */
-    H263RPS_BYTES_QUANT = 109, /* a quantiser of 0 (PQUANT 5.1.19, SQUANT Annex K) */
+    H263RPS_BYTES_QUANT = 109,   /* a quantiser of 0 (PQUANT 5.1.19, SQUANT Annex K) */
     /* a slice that names another reference than its picture (TRPI and TRP, Annex N) */
     H263RPS_BYTES_SLICE_REFERENCE = 110,
-    H263RPS_BYTES_BCI = 111, /* a back-channel indication that is neither 1 nor 01 (BCI 5.1.16) */
+    H263RPS_BYTES_BCI = 111,   /* a back-channel indication that is neither 1 nor 01 (BCI 5.1.16) */
     H263RPS_BYTES_EMPTY = 112, /* a slice with no macroblock */
-    H263RPS_BYTES_TRAILING = 113, /* more than padding after the picture's last macroblock */
-    H263RPS_BYTES_NO_START = 114, /* not the rest of a start code (5.1.1, Annex K) */
-    H263RPS_BYTES_PICTURE_TYPE = 115, /* PTYPE isn't the extended one (5.1.3) */
-    H263RPS_BYTES_UFEP = 116, /* UFEP isn't 001 (5.1.4.1) */
+    H263RPS_BYTES_TRAILING = 113,      /* more than padding after the picture's last macroblock */
+    H263RPS_BYTES_NO_START = 114,      /* not the rest of a start code (5.1.1, Annex K) */
+    H263RPS_BYTES_PICTURE_TYPE = 115,  /* PTYPE isn't the extended one (5.1.3) */
+    H263RPS_BYTES_UFEP = 116,          /* UFEP isn't 001 (5.1.4.1) */
     H263RPS_BYTES_SOURCE_FORMAT = 117, /* another source format than the three (5.1.4.2) */
     /* a source format of the three that isn't the expected one (5.1.4.2) */
     H263RPS_BYTES_OTHER_FORMAT = 118,
     H263RPS_BYTES_MODES = 119, /* the optional modes aren't Annexes K and N alone (5.1.4.2) */
     H263RPS_BYTES_PICTURE_KIND = 120, /* a picture that is neither I nor P (5.1.4.3) */
-    H263RPS_BYTES_RESAMPLING = 121, /* resampling, Annexes P and Q (5.1.4.3) */
-    H263RPS_BYTES_CPM = 122, /* continuous presence multipoint (CPM 5.1.20) */
-    H263RPS_BYTES_DIVISOR = 123, /* a custom picture clock whose divisor is 0 (CPCFC 5.1.7) */
-    H263RPS_BYTES_SLICE_MODE = 124, /* slices that are rectangular or in any order (SSS 5.1.10) */
+    H263RPS_BYTES_RESAMPLING = 121,   /* resampling, Annexes P and Q (5.1.4.3) */
+    H263RPS_BYTES_CPM = 122,          /* continuous presence multipoint (CPM 5.1.20) */
+    H263RPS_BYTES_DIVISOR = 123,      /* a custom picture clock whose divisor is 0 (CPCFC 5.1.7) */
+    H263RPS_BYTES_SLICE_MODE = 124,   /* slices that are rectangular or in any order (SSS 5.1.10) */
     /* another mode of the back channel than the four (RPSMF 5.1.13) */
     H263RPS_BYTES_RPSMF = 125,
     H263RPS_BYTES_INTRA_REFERENCE = 126, /* an I picture that names a reference (TRPI 5.1.14) */
-    H263RPS_BYTES_NO_REFERENCE = 127, /* a P picture that names none (TRPI 5.1.14) */
+    H263RPS_BYTES_NO_REFERENCE = 127,    /* a P picture that names none (TRPI 5.1.14) */
     /* a temporal reference of more than eight bits, in the standard clock (TRP 5.1.15) */
     H263RPS_BYTES_HIGH_BITS = 128,
     H263RPS_BYTES_MESSAGES = 129, /* a back-channel message with a fault (BCM 5.1.17, Annex N) */
@@ -175,10 +175,10 @@ enum h263rps_fault {
     /* a packet that ends inside its RTP header, the sources or the extension after it (RFC
        3550, 5.1, 5.3.1) */
     H263RPS_BYTES_SHORT = 135,
-    H263RPS_BYTES_VERSION = 136, /* another version of RTP than 2 */
-    H263RPS_BYTES_PADDING = 137, /* RTP padding whose count doesn't fit */
+    H263RPS_BYTES_VERSION = 136,      /* another version of RTP than 2 */
+    H263RPS_BYTES_PADDING = 137,      /* RTP padding whose count doesn't fit */
     H263RPS_BYTES_PAYLOAD_TYPE = 138, /* another payload type */
-    H263RPS_BYTES_SOURCE = 139 /* another source */
+    H263RPS_BYTES_SOURCE = 139        /* another source */
 };
 
 /* `kind` of the answer to a message. Only the first changes the sender. */
@@ -272,9 +272,9 @@ typedef struct h263rps_message {
 
 /* A receiver's answer to a packet or a play. */
 typedef struct h263rps_answer {
-    uint32_t kind;   /* enum h263rps_heard, of a play enum h263rps_mark */
-    uint32_t fault;  /* enum h263rps_fault where a packet is refused, else 0 */
-    uint32_t at;     /* the bit of a fault of its bytes, else 0 */
+    uint32_t kind;  /* enum h263rps_heard, of a play enum h263rps_mark */
+    uint32_t fault; /* enum h263rps_fault where a packet is refused, else 0 */
+    uint32_t at;    /* the bit of a fault of its bytes, else 0 */
     /* of a play: that of the picture that is shown, from 0; of a packet: that of its picture, and 0
      * where its bytes are at fault, the clock is the other one, or the picture is before the call */
     uint32_t number;
@@ -463,8 +463,8 @@ uint32_t h263rps_raw_group_code(h263rps_group *group, const uint8_t *picture, si
                                 h263rps_coded *coded);
 uint32_t h263rps_raw_group_packet(h263rps_group *group, uint32_t number, uint8_t *room,
                                   size_t length, size_t *count);
-uint32_t h263rps_raw_group_feedback(h263rps_group *group, uint32_t receiver,
-                                    const uint8_t *message, size_t length, h263rps_reply *reply);
+uint32_t h263rps_raw_group_feedback(h263rps_group *group, uint32_t receiver, const uint8_t *message,
+                                    size_t length, h263rps_reply *reply);
 uint32_t h263rps_raw_group_waiting_for(h263rps_group *group, uint32_t *receiver);
 uint32_t h263rps_raw_group_reference(h263rps_group *group, uint32_t *number);
 uint32_t h263rps_raw_group_target(h263rps_group *group, uint32_t bytes);
@@ -1026,8 +1026,8 @@ static inline uint32_t h263rps_group_feedback(h263rps_group *group, uint32_t rec
     uint32_t status = h263rps_may_pass(message, length);
     if (!group || !reply) return H263RPS_NULL;
     if (status) return status;
-    return h263rps_raw_group_feedback(group, receiver,
-                                      length ? (const uint8_t *)message : &nothing, length, reply);
+    return h263rps_raw_group_feedback(group, receiver, length ? (const uint8_t *)message : &nothing,
+                                      length, reply);
 }
 
 /* Writes to `receiver` the first place whose receiver is known to have none of the pictures to which
@@ -1399,9 +1399,8 @@ static inline uint32_t h263rps_session_arrival_of(h263rps_session *session, uint
     uint32_t status = h263rps_may_pass(bytes, length);
     if (!session || !arrived) return H263RPS_NULL;
     if (status) return status;
-    return h263rps_raw_session_arrival_of(session, source,
-                                          length ? (const uint8_t *)bytes : &nothing, length, now,
-                                          arrived);
+    return h263rps_raw_session_arrival_of(
+        session, source, length ? (const uint8_t *)bytes : &nothing, length, now, arrived);
 }
 
 /* Writes to `nack` the next packets of the followed stream that are missing and could still come

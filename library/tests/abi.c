@@ -334,8 +334,8 @@ uint32_t h263rps_raw_group_code(h263rps_group *group, const uint8_t *picture, si
                                 h263rps_coded *coded);
 uint32_t h263rps_raw_group_packet(h263rps_group *group, uint32_t number, uint8_t *room,
                                   size_t length, size_t *count);
-uint32_t h263rps_raw_group_feedback(h263rps_group *group, uint32_t receiver,
-                                    const uint8_t *message, size_t length, h263rps_reply *reply);
+uint32_t h263rps_raw_group_feedback(h263rps_group *group, uint32_t receiver, const uint8_t *message,
+                                    size_t length, h263rps_reply *reply);
 uint32_t h263rps_raw_group_waiting_for(h263rps_group *group, uint32_t *receiver);
 uint32_t h263rps_raw_group_reference(h263rps_group *group, uint32_t *number);
 uint32_t h263rps_raw_group_target(h263rps_group *group, uint32_t bytes);

@@ -199,7 +199,8 @@ static void datagrams(void) {
     want("another end", h263rps_raw_repeats_find(&sender, 7, &lent), H263RPS_OTHER_END);
     want("another end", h263rps_raw_repeats_finish(&sender), H263RPS_OTHER_END);
     want("another end", h263rps_raw_line_finish(&sender), H263RPS_OTHER_END);
-    want("code", h263rps_sender_code(&sender, picture, sizeof picture, &ack, 1, &coded), H263RPS_OK);
+    want("code", h263rps_sender_code(&sender, picture, sizeof picture, &ack, 1, &coded),
+         H263RPS_OK);
     want("packet", h263rps_sender_packet(&sender, 0, room, sizeof room, &count), H263RPS_OK);
     h263rps_packet_label(room, count, 7, 96);
     want("another source", h263rps_packet_start(room, count, &start), H263RPS_NO_START);

@@ -97,8 +97,8 @@ int main(int argc, char **argv) {
             }
             for (; from < to; from++) {
                 const text *packet = &packets[from];
-                must("packet", h263rps_receiver_packet(&receiver, packet->bytes, packet->length,
-                                                       &answer));
+                must("packet",
+                     h263rps_receiver_packet(&receiver, packet->bytes, packet->length, &answer));
                 refused += answer.kind == H263RPS_REFUSED;
                 received.packets++;
                 received.bytes += packet->length;
@@ -121,8 +121,8 @@ int main(int argc, char **argv) {
             fwrite(shown.samples, 1, shown.length, out);
         } else if (line[0] == 'B') {
             const text *message = &messages[k];
-            must("feedback", h263rps_sender_feedback(&sender, message->bytes, message->length,
-                                                     &reply));
+            must("feedback",
+                 h263rps_sender_feedback(&sender, message->bytes, message->length, &reply));
             sent.noted[reply.kind]++;
         }
     }
@@ -131,8 +131,9 @@ int main(int argc, char **argv) {
     must("statistics", h263rps_receiver_statistics(&receiver, &counted));
     if (memcmp(&counted, &received, sizeof received)) return 5;
     printf("pictures %u packets %zu exact %u patched %u held %u refused %u messages %zu "
-           "seconds %.3f\n", pictures, packet_count, marks[0], marks[1], marks[2], refused,
-           message_count, (double)(clock() - begin) / CLOCKS_PER_SEC);
+           "seconds %.3f\n",
+           pictures, packet_count, marks[0], marks[1], marks[2], refused, message_count,
+           (double)(clock() - begin) / CLOCKS_PER_SEC);
     must("finish", h263rps_sender_finish(&sender));
     must("finish", h263rps_receiver_finish(&receiver));
     let_go(packets, packet_count);

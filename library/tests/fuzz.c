@@ -18,7 +18,8 @@ enum { SIZE = 18432, ROOM = 9000, PAGE = 4096, MOST = 17 * PAGE, KEPT = 256 };
 
 /* ---- memory that is filled, and counted ------------------------------------------------------ */
 
-static int fill = -1; /* what the library's memory is filled with; -1: the caller isn't the library */
+static int fill =
+    -1; /* what the library's memory is filled with; -1: the caller isn't the library */
 static long held;
 
 void *__real_malloc(size_t n);
@@ -60,7 +61,9 @@ void *__wrap_realloc(void *p, size_t n) {
 
 static const uint8_t *input, *input_end;
 
-static uint8_t drawn(void) { return input < input_end ? *input++ : 0; }
+static uint8_t drawn(void) {
+    return input < input_end ? *input++ : 0;
+}
 
 static uint32_t number(uint32_t below) {
     uint32_t high = drawn();
@@ -90,7 +93,8 @@ static uint8_t shown[2][SIZE];
 
 #ifdef REPLAY
 static FILE *log_file, *out_file, *wire_file;
-static uint32_t counts[9]; /* exact, patched, held, taken, completed, late, early, repeat, refused */
+static uint32_t
+    counts[9]; /* exact, patched, held, taken, completed, late, early, repeat, refused */
 static void entry(FILE *file, char letter, const uint8_t *bytes, size_t length) {
     uint8_t head[3] = {(uint8_t)letter, (uint8_t)(length >> 8), (uint8_t)length};
     fwrite(head, 1, 3, file);
@@ -99,10 +103,13 @@ static void entry(FILE *file, char letter, const uint8_t *bytes, size_t length) 
 #endif
 
 /* One of the last that were kept, by how many came after it. */
-static uint32_t kept_before(uint32_t count) { return (count - 1 - number(KEPT)) % KEPT; }
+static uint32_t kept_before(uint32_t count) {
+    return (count - 1 - number(KEPT)) % KEPT;
+}
 
 static void keep_message(const h263rps_message *message) {
-    check(message->length == 0 || message->length == 3 || message->length == 5, "a message's length");
+    check(message->length == 0 || message->length == 3 || message->length == 5,
+          "a message's length");
     if (!message->length) return;
     messages[message_count++ % KEPT] = *message;
 #ifdef REPLAY
@@ -156,7 +163,8 @@ static const uint8_t *picture(void) {
     uint32_t state = drawn(), noise = drawn() % 8;
     for (int i = 0; i < SIZE; i++) {
         state = state * 1664525 + 1013904223;
-        samples[i] = (uint8_t)((i + 3 * (int)sent) % 200 + (noise ? (state >> 24) % (4 * noise) : 0));
+        samples[i] =
+            (uint8_t)((i + 3 * (int)sent) % 200 + (noise ? (state >> 24) % (4 * noise) : 0));
     }
     return samples;
 }
@@ -184,8 +192,9 @@ static void code(void) {
         status = h263rps_sender_packet(&sender, i, kept->bytes, params.limit, &kept->length);
         check(status == H263RPS_OK && kept->length <= params.limit, "a packet");
     }
-    check(h263rps_sender_packet(&sender, coded.packets, shown[0], SIZE, &(size_t){0})
-          == H263RPS_NO_PACKET, "a packet too many");
+    check(h263rps_sender_packet(&sender, coded.packets, shown[0], SIZE, &(size_t){0}) ==
+              H263RPS_NO_PACKET,
+          "a packet too many");
 }
 
 /* Gives both receivers a packet, once against the page before it and once against the one after. */
@@ -195,7 +204,8 @@ static void hear(const uint8_t *bytes, size_t length) {
         uint8_t *at = i ? page + MOST - length : page;
         memcpy(at, bytes, length);
         memset(&answers[i], 0xAB, sizeof answers[i]);
-        check(h263rps_receiver_packet(&receivers[i], at, length, &answers[i]) == H263RPS_OK, "a packet");
+        check(h263rps_receiver_packet(&receivers[i], at, length, &answers[i]) == H263RPS_OK,
+              "a packet");
     }
     check(!memcmp(&answers[0], &answers[1], sizeof answers[0]), "two answers to a packet");
     check(answers[0].kind <= H263RPS_REFUSED, "the kind of an answer");
@@ -315,7 +325,8 @@ static void call_wrongly(void) {
     check(h263rps_sender_code(&receivers[0], shown[0], SIZE, NULL, 0, &coded) == wanted,
           "a receiver codes");
     check(h263rps_sender_feedback(&receivers[0], "abc", 3, &reply) == wanted, "a receiver is told");
-    check(h263rps_sender_sent(&receivers[0], &count) == wanted && count == 77, "a receiver's count");
+    check(h263rps_sender_sent(&receivers[0], &count) == wanted && count == 77,
+          "a receiver's count");
     check(h263rps_sender_known(&receivers[0], &count) == wanted && count == 77, "a receiver knows");
     check(h263rps_sender_reset(&receivers[0], 0) == wanted, "a receiver's reset as a sender");
     check(h263rps_receiver_reset(&sender, 0) == wanted, "a sender's reset as a receiver");
@@ -331,13 +342,19 @@ static void call_wrongly(void) {
 /* One call, or the ends anew. */
 static void step(void) {
     switch (drawn() % 16) {
-    case 0: case 1: code(); break;
-    case 2: case 3: case 4: case 5: hear_made(0); break;
+    case 0:
+    case 1: code(); break;
+    case 2:
+    case 3:
+    case 4:
+    case 5: hear_made(0); break;
     case 6: hear_made(1); break;
     case 7: hear_made(1 + drawn() % 4); break;
     case 8: hear_bytes(); break;
-    case 9: case 10: play(); break;
-    case 11: case 12: feedback(0); break;
+    case 9:
+    case 10: play(); break;
+    case 11:
+    case 12: feedback(0); break;
     case 13: feedback(1 + drawn() % 3); break;
     case 14: steer(); break;
     default: call_wrongly(); break;
@@ -346,8 +363,8 @@ static void step(void) {
 
 int LLVMFuzzerTestOneInput(const uint8_t *data, size_t size) {
     if (!page) {
-        uint8_t *room = (uint8_t *)mmap(NULL, MOST + 2 * PAGE, PROT_NONE,
-                                        MAP_PRIVATE | MAP_ANONYMOUS, -1, 0);
+        uint8_t *room =
+            (uint8_t *)mmap(NULL, MOST + 2 * PAGE, PROT_NONE, MAP_PRIVATE | MAP_ANONYMOUS, -1, 0);
         page = room + PAGE;
         check(room != MAP_FAILED && !mprotect(page, MOST, PROT_READ | PROT_WRITE), "a page");
     }
@@ -385,8 +402,8 @@ int main(int argc, char **argv) {
            counts[0] + counts[1] + counts[2], counts[0], counts[1], counts[2],
            counts[3] + counts[4], counts[5], counts[6], counts[7], counts[8]);
     words = opened(argv[5]);
-    fprintf(words, "--format sub-qcif --slots %u --lead %u --messages %u --clock %s\n", params.slots,
-            params.lead, params.messages, params.clock ? "custom" : "standard");
+    fprintf(words, "--format sub-qcif --slots %u --lead %u --messages %u --clock %s\n",
+            params.slots, params.lead, params.messages, params.clock ? "custom" : "standard");
     finish();
     return fclose(words) || fclose(log_file) || fclose(out_file) || fclose(wire_file);
 }

@@ -39,7 +39,8 @@ static void code(h263rps_group *group, uint32_t number, struct made *made) {
     want("code", h263rps_group_code(group, picture(number), SIZE, NULL, 0, &made->coded), 0);
     want("its number", made->coded.number, number);
     for (uint32_t i = 0; i < made->coded.packets && i < MOST; i++)
-        want("packet", h263rps_group_packet(group, i, made->packets[i], ROOM, &made->lengths[i]), 0);
+        want("packet", h263rps_group_packet(group, i, made->packets[i], ROOM, &made->lengths[i]),
+             0);
 }
 
 /* An acknowledgement of one of the first 256 pictures: TR and RTR are its number. */
@@ -78,8 +79,8 @@ static void hears(struct member *member, const struct made *made, uint32_t loss)
             lost++;
             continue;
         }
-        want("a packet is heard", h263rps_receiver_packet(&member->end, made->packets[i],
-                                                          made->lengths[i], &answer), 0);
+        want("a packet is heard",
+             h263rps_receiver_packet(&member->end, made->packets[i], made->lengths[i], &answer), 0);
         say(member, number, &answer.message);
     }
     want("play", h263rps_receiver_play(&member->end, member->shown, SIZE, &answer), 0);
@@ -101,8 +102,10 @@ static void comes_back(h263rps_group *group, uint32_t receiver, uint32_t number,
     uint32_t at = number % TRIP;
     h263rps_reply reply;
     for (uint32_t i = 0; i < member->count[at]; i++)
-        want("feedback", h263rps_group_feedback(group, receiver, member->said[at][i].bytes,
-                                                member->said[at][i].length, &reply), wanted);
+        want("feedback",
+             h263rps_group_feedback(group, receiver, member->said[at][i].bytes,
+                                    member->said[at][i].length, &reply),
+             wanted);
     member->count[at] = 0;
 }
 
@@ -146,8 +149,8 @@ static void three(void) {
     }
     want("all of the first", members[0].exact, PICTURES);
     want("the others lose some", members[1].exact < PICTURES && members[2].exact < 110, 1);
-    want("what is whole is exact", members[1].exact == members[1].whole
-                                       && members[2].exact == members[2].whole, 1);
+    want("what is whole is exact",
+         members[1].exact == members[1].whole && members[2].exact == members[2].whole, 1);
     want("most are predicted", intra < PICTURES / 4, 1);
     want("statistics", h263rps_group_statistics(&group, &counted), 0);
     want("pictures that were intra", (uint32_t)counted.coded[0], intra);
@@ -179,13 +182,19 @@ static void one(void) {
     want("start", h263rps_receiver_start(&receiver, &params, NULL), 0);
     want("join", h263rps_group_join(&group, 7), 0);
     for (uint32_t n = 0; n < PICTURES; n++) {
-        if (n == 40) want("target", h263rps_group_target(&group, 1200) | h263rps_sender_target(&sender, 1200), 0);
-        if (n == 80) want("quantiser", h263rps_group_quant(&group, 20) | h263rps_sender_quant(&sender, 20), 0);
+        if (n == 40)
+            want("target",
+                 h263rps_group_target(&group, 1200) | h263rps_sender_target(&sender, 1200), 0);
+        if (n == 80)
+            want("quantiser", h263rps_group_quant(&group, 20) | h263rps_sender_quant(&sender, 20),
+                 0);
         for (int i = 0; i < 2; i++) {
             h263rps_message *back = &said[n % TRIP][i];
             if (!back->length) continue;
-            want("feedback", h263rps_group_feedback(&group, 7, back->bytes, back->length, &reply), 0);
-            want("feedback", h263rps_sender_feedback(&sender, back->bytes, back->length, &other), 0);
+            want("feedback", h263rps_group_feedback(&group, 7, back->bytes, back->length, &reply),
+                 0);
+            want("feedback", h263rps_sender_feedback(&sender, back->bytes, back->length, &other),
+                 0);
             want("one reply", reply.kind == other.kind && reply.fault == other.fault, 1);
             back->length = 0;
         }
@@ -208,8 +217,10 @@ static void one(void) {
     want("statistics", h263rps_sender_statistics(&sender, &as_sender), 0);
     want("one count", memcmp(&counted, &as_sender, sizeof counted), 0);
     want("predicted", counted.coded[0] < PICTURES / 4, 1);
-    want("finish", h263rps_group_finish(&group) | h263rps_sender_finish(&sender)
-                       | h263rps_receiver_finish(&receiver), 0);
+    want("finish",
+         h263rps_group_finish(&group) | h263rps_sender_finish(&sender) |
+             h263rps_receiver_finish(&receiver),
+         0);
 }
 
 /* ---- who has what, by hand -------------------------------------------------------------------- */
@@ -276,8 +287,10 @@ static void not_started(h263rps_group *group) {
     want("sent", h263rps_group_sent(group, &count), H263RPS_NOT_STARTED);
     want("statistics", h263rps_group_statistics(group, &statistics), H263RPS_NOT_STARTED);
     want("finish", h263rps_group_finish(group), H263RPS_NOT_STARTED);
-    want("nothing is written", count == 77 && length == 77 && statistics.packets == 77
-                                   && coded.number == 0xAAAAAAAA && reply.kind == 0xAAAAAAAA, 1);
+    want("nothing is written",
+         count == 77 && length == 77 && statistics.packets == 77 && coded.number == 0xAAAAAAAA &&
+             reply.kind == 0xAAAAAAAA,
+         1);
 }
 
 static void null(h263rps_group *group) {
@@ -332,7 +345,8 @@ static void wrong_calls(void) {
     for (uint32_t place = 16; place; place *= 3) {
         want("no place", h263rps_group_join(&group, place), H263RPS_BAD_PARAMS);
         want("no place", h263rps_group_leave(&group, place), H263RPS_BAD_PARAMS);
-        want("no place", h263rps_group_feedback(&group, place, "abc", 3, &reply), H263RPS_BAD_PARAMS);
+        want("no place", h263rps_group_feedback(&group, place, "abc", 3, &reply),
+             H263RPS_BAD_PARAMS);
         if (place > UINT32_MAX / 3) break;
     }
     want("nobody there", h263rps_group_feedback(&group, 3, "abc", 3, &reply), H263RPS_NO_RECEIVER);
@@ -345,7 +359,8 @@ static void wrong_calls(void) {
     want("no bytes", h263rps_group_feedback(&group, 3, NULL, 0, &reply), H263RPS_OK);
     want("no message", reply.fault, H263RPS_MESSAGE_LENGTH);
     for (int i = 1; i < 5; i++) back[i] = back[0];
-    want("short", h263rps_group_code(&group, shown, SIZE - 1, NULL, 0, &coded), H263RPS_WRONG_LENGTH);
+    want("short", h263rps_group_code(&group, shown, SIZE - 1, NULL, 0, &coded),
+         H263RPS_WRONG_LENGTH);
     want("five", h263rps_group_code(&group, shown, SIZE, back, 5, &coded), H263RPS_BAD_MESSAGES);
     back[1].bytes[0] = 0;
     want("none", h263rps_group_code(&group, shown, SIZE, back, 2, &coded), H263RPS_BAD_MESSAGES);
@@ -353,7 +368,8 @@ static void wrong_calls(void) {
     want("code", h263rps_group_code(&group, shown, SIZE, back, 1, &coded), H263RPS_OK);
     want("the first", coded.number == 0 && coded.intra == 1, 1);
     want("short room", h263rps_group_packet(&group, 0, room, 10, &length), H263RPS_SHORT_ROOM);
-    want("the last", h263rps_group_packet(&group, coded.packets, room, ROOM, &length), H263RPS_NO_PACKET);
+    want("the last", h263rps_group_packet(&group, coded.packets, room, ROOM, &length),
+         H263RPS_NO_PACKET);
     want("packet", h263rps_group_packet(&group, 0, room, ROOM, &length), H263RPS_OK);
     want("too great a target", h263rps_group_target(&group, 1000000), H263RPS_BAD_PARAMS);
     want("no quantiser", h263rps_group_quant(&group, 0), H263RPS_BAD_PARAMS);
@@ -373,6 +389,8 @@ int main(void) {
     one();
     wrong_calls();
     want("its text", strcmp(h263rps_status_text(H263RPS_NO_RECEIVER), "no status") == 0, 0);
-    if (!wrong) printf("what each receiver of a group shows is the sender's own, and a group of one is a sender\n");
+    if (!wrong)
+        printf(
+            "what each receiver of a group shows is the sender's own, and a group of one is a sender\n");
     return wrong;
 }

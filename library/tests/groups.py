@@ -161,4 +161,6 @@ if __name__ == "__main__":
     one()
     fits()
     wrong()
-    print(f"of 100 pictures {exact} are exact at three receivers, the last of which joins late; a group of one is a sender")
+    print(
+        f"of 100 pictures {exact} are exact at three receivers, the last of which joins late; a group of one is a sender"
+    )

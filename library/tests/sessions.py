@@ -181,8 +181,13 @@ class Camera:
     def _labelled(self, packet: bytes, now: int) -> bytes:
         stamp = (self._offset + int(now * 9 / 100_000 * self.drift)) % (1 << 32)
         sequence = (self._sequence + int.from_bytes(packet[2:4], "big")) % 65536
-        return (packet[:2] + sequence.to_bytes(2, "big") + stamp.to_bytes(4, "big")
-                + self.source.to_bytes(4, "big") + packet[12:])
+        return (
+            packet[:2]
+            + sequence.to_bytes(2, "big")
+            + stamp.to_bytes(4, "big")
+            + self.source.to_bytes(4, "big")
+            + packet[12:]
+        )
 
 
 def changed(chance: random.Random, packet: bytes) -> bytes:

@@ -33,8 +33,15 @@ static void are(const char *what, const uint32_t *got, const uint32_t *wanted, i
         are(what, got, wanted_, (int)(sizeof wanted_ / sizeof *wanted_)); \
     } while (0)
 
-static const h263rps_params asked = {.size = 32, .format = 1, .quant = 8, .keep = 64, .radius = 7,
-                                     .messages = 1, .limit = 1400, .slots = 16, .lead = 3};
+static const h263rps_params asked = {.size = 32,
+                                     .format = 1,
+                                     .quant = 8,
+                                     .keep = 64,
+                                     .radius = 7,
+                                     .messages = 1,
+                                     .limit = 1400,
+                                     .slots = 16,
+                                     .lead = 3};
 static const h263rps_answer untouched = {77, 77, 77, 77, 77, 77, {{7, 7, 7, 7, 7}, 7}};
 static const uint8_t ack_0[3] = {0xC0, 0x04, 0x00}, three[3] = {1, 2, 3};
 static const uint8_t one = 77;
@@ -248,8 +255,8 @@ static void sent(h263rps_end *sender, h263rps_end *receiver, uint32_t got[4]) {
         got[0] |= h263rps_raw_sender_packet(sender, i, room, ROOM, &count);
         got[0] |= h263rps_raw_receiver_packet(receiver, room, count, &heard);
     }
-    got[0] |= h263rps_raw_sender_feedback(sender, heard.message.bytes, heard.message.length,
-                                          &reply);
+    got[0] |=
+        h263rps_raw_sender_feedback(sender, heard.message.bytes, heard.message.length, &reply);
     got[1] = heard.kind;
     number = heard.number;
     got[0] |= h263rps_raw_receiver_play(receiver, picture, SIZE, &heard);
@@ -349,8 +356,7 @@ static void starts_of_packets(void) {
     kept = start;
     is("three bytes", h263rps_raw_packet_start(three, 3, &start), 13);
     is("its numbers stay", memcmp(&start, &kept, offsetof(h263rps_start, messages)) == 0, 1);
-    is("its messages stay",
-       memcmp(start.messages, kept.messages, sizeof start.messages) == 0, 1);
+    is("its messages stay", memcmp(start.messages, kept.messages, sizeof start.messages) == 0, 1);
     h263rps_raw_sender_finish(&sender);
 }
 
@@ -412,8 +418,7 @@ static void messages_for_a_header(void) {
     for (int i = 0; i < 8; i++) {
         const h263rps_message places[2] = {{{7, 7, 7, 7, 7}, 0},
                                            {{0xC0, 0x04}, (uint8_t)rows[i][0]}};
-        is("code", h263rps_raw_sender_code(&sender, picture, SIZE, places, 2, &coded),
-           rows[i][1]);
+        is("code", h263rps_raw_sender_code(&sender, picture, SIZE, places, 2, &coded), rows[i][1]);
     }
     h263rps_raw_sender_finish(&sender);
 }

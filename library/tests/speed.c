@@ -204,7 +204,8 @@ int main(int argc, char **argv) {
     double sending = send(count), receiving = receive(count, &exact), turns = in_turn(count);
     double each = 1e6 / (double)count;
     printf("Cif frames %zu bytes %zu exact %zu send %.1f receive %.1f call %.1f in_turn %.1f "
-           "refused_ns %.1f\n", count, bytes / count, exact, each * sending, each * receiving,
+           "refused_ns %.1f\n",
+           count, bytes / count, exact, each * sending, each * receiving,
            each * (sending + receiving), each * turns, 1e9 * refuse() / REFUSALS);
     return 0;
 }

@@ -46,7 +46,8 @@ static void none(void) {
 /* An acknowledgement of a picture: TR and RTR are its number by the clock. */
 static h263rps_message acknowledgement(uint32_t reference) {
     uint32_t bits = 3u << 22 | reference << 11 | 1u << 10 | reference;
-    h263rps_message message = {{(uint8_t)(bits >> 16), (uint8_t)(bits >> 8), (uint8_t)bits, 0, 0}, 3};
+    h263rps_message message = {{(uint8_t)(bits >> 16), (uint8_t)(bits >> 8), (uint8_t)bits, 0, 0},
+                               3};
     return message;
 }
 
@@ -64,11 +65,12 @@ static void pictures(uint32_t clock, uint32_t period) {
     params.quant = 2;
     want("start", h263rps_sender_start(&sender, &params, NULL), H263RPS_OK);
     for (uint32_t number = 0; number < 300; number++) {
-        h263rps_message back[4] = {acknowledgement(number % period), LONG,
-                                   acknowledgement(7), LONG};
+        h263rps_message back[4] = {acknowledgement(number % period), LONG, acknowledgement(7),
+                                   LONG};
         h263rps_coded coded;
         h263rps_reply reply;
-        for (uint32_t i = 0; i < SIZE; i++) picture[i] = (uint8_t)(128 + (i * i + 31 * number) % 64);
+        for (uint32_t i = 0; i < SIZE; i++)
+            picture[i] = (uint8_t)(128 + (i * i + 31 * number) % 64);
         want("code", h263rps_sender_code(&sender, picture, SIZE, back, number % 5, &coded), 0);
         for (uint32_t i = 0; i < coded.packets; i++, packets++) {
             uint8_t room[ROOM];
@@ -85,8 +87,10 @@ static void pictures(uint32_t clock, uint32_t period) {
             want("count", start.count, number % 5);
             for (uint32_t k = 0; k < 4; k++) {
                 h263rps_message nothing = {{0, 0, 0, 0, 0}, 0};
-                want("a message", memcmp(&start.messages[k], k < number % 5 ? &back[k] : &nothing,
-                                         sizeof nothing), 0);
+                want("a message",
+                     memcmp(&start.messages[k], k < number % 5 ? &back[k] : &nothing,
+                            sizeof nothing),
+                     0);
             }
             want("cut", h263rps_packet_start(room, 20, &start), H263RPS_NO_START);
         }

@@ -41,8 +41,8 @@ static void code(h263rps_end *sender, uint32_t number, struct made *made) {
     want("code", h263rps_sender_code(sender, picture(number), SIZE, NULL, 0, &made->coded), 0);
     want("its number", made->coded.number, number);
     for (uint32_t i = 0; i < made->coded.packets && i < MOST; i++) {
-        want("packet", h263rps_sender_packet(sender, i, made->packets[i], ROOM,
-                                             &made->lengths[i]), 0);
+        want("packet", h263rps_sender_packet(sender, i, made->packets[i], ROOM, &made->lengths[i]),
+             0);
         made->bytes += made->lengths[i];
     }
 }
@@ -68,8 +68,8 @@ static void forgetting(void) {
     code(&sender, 1, &made);
     want("predicted", made.coded.intra, 0);
     want("forget", h263rps_sender_forget(&sender), 0);
-    want("the packets stay", h263rps_sender_packet(&sender, 0, made.packets[0], ROOM,
-                                                   &made.lengths[0]), 0);
+    want("the packets stay",
+         h263rps_sender_packet(&sender, 0, made.packets[0], ROOM, &made.lengths[0]), 0);
     code(&sender, 2, &made);
     want("intra on request", made.coded.intra, 1);
     acknowledge(&sender, 1);
@@ -149,13 +149,14 @@ static void joining(void) {
         code(&sender, number, &made);
         want("the first is intra", made.coded.intra, number == 700);
         for (uint32_t i = 0; i < made.coded.packets; i++) {
-            want("packet", h263rps_receiver_packet(&receiver, made.packets[i], made.lengths[i],
-                                                   &answer), 0);
+            want("packet",
+                 h263rps_receiver_packet(&receiver, made.packets[i], made.lengths[i], &answer), 0);
             last = answer.kind;
         }
         want("completed", last, H263RPS_COMPLETED);
-        want("feedback", h263rps_sender_feedback(&sender, answer.message.bytes,
-                                                 answer.message.length, &reply), 0);
+        want("feedback",
+             h263rps_sender_feedback(&sender, answer.message.bytes, answer.message.length, &reply),
+             0);
         want("noted", reply.kind, H263RPS_NOTED);
         want("play", h263rps_receiver_play(&receiver, shown, SIZE, &answer), 0);
         want("exact", answer.kind, H263RPS_EXACT);
@@ -172,11 +173,11 @@ static void pass(h263rps_end *sender, h263rps_end *receiver, uint32_t number, st
     h263rps_reply reply;
     code(sender, number, made);
     for (uint32_t i = 0; i < made->coded.packets; i++)
-        want("packet", h263rps_receiver_packet(receiver, made->packets[i], made->lengths[i],
-                                               &answer), 0);
+        want("packet",
+             h263rps_receiver_packet(receiver, made->packets[i], made->lengths[i], &answer), 0);
     want("completed", answer.kind == H263RPS_COMPLETED && answer.number == number, 1);
-    want("feedback", h263rps_sender_feedback(sender, answer.message.bytes, answer.message.length,
-                                             &reply), 0);
+    want("feedback",
+         h263rps_sender_feedback(sender, answer.message.bytes, answer.message.length, &reply), 0);
     want("play", h263rps_receiver_play(receiver, shown, SIZE, &answer), 0);
     want("exact", answer.kind == H263RPS_EXACT && answer.number == number, 1);
     want("predicted", answer.predicted, !made->coded.intra);

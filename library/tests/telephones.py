@@ -32,9 +32,7 @@ class Side:
 
     def __init__(self, program: str, own: int, other: int) -> None:
         words = [program, str(own), "127.0.0.1", str(other), "10"]
-        self.process = subprocess.Popen(
-            words, stdin=subprocess.PIPE, stdout=subprocess.PIPE, stderr=subprocess.PIPE
-        )
+        self.process = subprocess.Popen(words, stdin=subprocess.PIPE, stdout=subprocess.PIPE, stderr=subprocess.PIPE)
         self.shown = b""
         self.camera = threading.Thread(target=self.feed)
         self.screen = threading.Thread(target=self.watch)

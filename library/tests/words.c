@@ -7,7 +7,8 @@
 int main(void) {
     uint32_t n;
     for (n = 0; n < 200; n++)
-        if (strcmp(h263rps_status_text(n), "no status")) printf("status %s\n", h263rps_status_text(n));
+        if (strcmp(h263rps_status_text(n), "no status"))
+            printf("status %s\n", h263rps_status_text(n));
     for (n = 0; n < 200; n++)
         if (strcmp(h263rps_fault_text(n), "no fault"))
             printf("fault %u %s\n", (unsigned)n, h263rps_fault_text(n));

@@ -48,9 +48,10 @@ static void layout(void) {
     want("clock", filled.clock, H263RPS_STANDARD_CLOCK);
     want("target", filled.target, 0);
     want("no format", h263rps_defaults(4, &filled), H263RPS_BAD_PARAMS);
-    want("sizes", (uint32_t)(h263rps_picture_size(0) + h263rps_picture_size(1)
-                             + h263rps_picture_size(2) + h263rps_picture_size(3)
-                             + h263rps_picture_size(4)), 18432 + 38016 + 152064);
+    want("sizes",
+         (uint32_t)(h263rps_picture_size(0) + h263rps_picture_size(1) + h263rps_picture_size(2) +
+                    h263rps_picture_size(3) + h263rps_picture_size(4)),
+         18432 + 38016 + 152064);
 }
 
 static uint32_t start(int receives, h263rps_end *end, const h263rps_params *asked,
@@ -63,7 +64,8 @@ static uint32_t start(int receives, h263rps_end *end, const h263rps_params *aske
 static void parameters(int receives) {
     uint32_t fault = 77;
     h263rps_end end = {0};
-#define BAD(field, value, number) do { \
+#define BAD(field, value, number) \
+    do { \
         h263rps_params asked = params; \
         asked.field = value; \
         want(#field, start(receives, &end, &asked, &fault), H263RPS_BAD_PARAMS); \
@@ -174,8 +176,8 @@ static void lent_pictures(h263rps_end *end) {
 /* Packets that were refused for their bytes, and pictures that were held. */
 static void counts_of_receiver(h263rps_end *end, uint32_t packets, uint32_t bytes,
                                uint32_t pictures) {
-    h263rps_statistics is, wanted = {packets, bytes, {0, 0, 0, 0, 0, packets}, {packets},
-                                     {0, 0, pictures}, {0}, {0}};
+    h263rps_statistics is,
+        wanted = {packets, bytes, {0, 0, 0, 0, 0, packets}, {packets}, {0, 0, pictures}, {0}, {0}};
     want("null", h263rps_receiver_statistics(end, NULL), H263RPS_NULL);
     want("null", h263rps_receiver_statistics(NULL, &is), H263RPS_NULL);
     want("statistics", h263rps_receiver_statistics(end, &is), H263RPS_OK);
@@ -279,7 +281,9 @@ static void labels(void) {
         static const uint8_t source[4] = {0xFE, 0xDC, 0xBA, 0x98};
         int is_source = i >= 8 && i < 12;
         want("label", room[i],
-             i == 1 ? (kept[1] & 0x80u) | 127u : is_source ? source[i - 8] : kept[i]);
+             i == 1      ? (kept[1] & 0x80u) | 127u
+             : is_source ? source[i - 8]
+                         : kept[i]);
     }
     want("back", h263rps_packet_label(room, 12, H263RPS_SSRC, H263RPS_PAYLOAD_TYPE), H263RPS_OK);
     want("as it was", memcmp(room, kept, count), 0);

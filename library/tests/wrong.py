@@ -42,7 +42,6 @@ def counts(receiver: Receiver) -> tuple[int, int, int]:
     return told.heard["refused"], told.faults["bytes"], told.played["held"]
 
 
-
 def misspelt(name: str) -> bool:
     """Whether a start refuses this parameter by its name."""
     try:
@@ -196,9 +195,7 @@ with Sender(Params.of("qcif")) as sender:
 
 # A header has the messages of the places that aren't empty.
 with Sender(Params.of("qcif")) as sender:
-    plain, empty, one = (
-        sender.packets(sender.code(bytes(38016), back))[0] for back in ([], [b""], [b"", ACK, b""])
-    )
+    plain, empty, one = (sender.packets(sender.code(bytes(38016), back))[0] for back in ([], [b""], [b"", ACK, b""]))
     wanted("(True, True)", lambda: (len(plain) == len(empty), len(empty) < len(one)))
 
 # Another SSRC and payload type, and back.

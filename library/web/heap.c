@@ -33,9 +33,13 @@ extern unsigned char __heap_base;
 static block *first_free;
 static uintptr_t heap_end; /* where the memory ends that this list has the keeping of */
 
-static size_t rounded(size_t size, size_t to) { return (size + to - 1) / to * to; }
+static size_t rounded(size_t size, size_t to) {
+    return (size + to - 1) / to * to;
+}
 
-static block *after(block *it) { return (block *)((char *)it + it->size); }
+static block *after(block *it) {
+    return (block *)((char *)it + it->size);
+}
 
 /* Puts a block among the free ones, in its place, and joins it to those that it touches. */
 static void put_back(block *it) {
@@ -115,7 +119,9 @@ static got got_at(void *at) {
     return it;
 }
 
-got rattle_alloc(size_t size, size_t least) { return got_at(malloc(size ? size : least)); }
+got rattle_alloc(size_t size, size_t least) {
+    return got_at(malloc(size ? size : least));
+}
 
 got rattle_realloc(void *at, size_t old, size_t size, size_t least) {
     size_t room = ((block *)at - 1)->size - UNIT;
@@ -130,4 +136,6 @@ got rattle_realloc(void *at, size_t old, size_t size, size_t least) {
     return got_at(to);
 }
 
-void rattle_dealloc(void *at) { free(at); }
+void rattle_dealloc(void *at) {
+    free(at);
+}

@@ -150,7 +150,10 @@ def figure_of(rates: list[float], found: list[tuple[Way, list[Point]]]) -> str:
 
     parts = []
     for value in range(least, most + 1, 5):
-        parts += [svg.line(left, y(value), left + width, y(value)), svg.text(left - 6, y(value) + 4, f"{value} dB", "end")]
+        parts += [
+            svg.line(left, y(value), left + width, y(value)),
+            svg.text(left - 6, y(value) + 4, f"{value} dB", "end"),
+        ]
     parts += [svg.text(x(rate), top + height + 16, f"{100 * rate:g} %") for rate in rates]
     parts.append(svg.text(left + width / 2, top + height + 34, "pictures and messages lost"))
     for way, points in found:

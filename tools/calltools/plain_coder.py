@@ -57,12 +57,12 @@ def sliced(limit: int) -> tuple[object, ...]:
     return ("-c:v", "h263p", "-structured_slices", 1, "-ps", limit - HEADER_BYTES)
 
 
-def coded(
-    video: Path, size: Size, quant: int, every: int, room: Path, coder: Sequence[object] = _WHOLE
-) -> PlainStream:
+def coded(video: Path, size: Size, quant: int, every: int, room: Path, coder: Sequence[object] = _WHOLE) -> PlainStream:
     """Codes a video at one quantiser, one picture in `every` by itself, and decodes it with nothing lost."""
     path = room / "plain.h263"
-    ffmpeg("-i", video, *coder, "-qmin", 1, "-qscale:v", quant, "-g", every, "-sc_threshold", 10**9, "-f", "h263", path)
+    ffmpeg(
+        "-i", video, *coder, "-qmin", 1, "-qscale:v", quant, "-g", every, "-sc_threshold", 10**9, "-f", "h263", path
+    )
     pictures = pictures_of(path.read_bytes())
     shown = decoded(pictures, size, room)
     if len(shown) != len(pictures):
@@ -116,9 +116,7 @@ def shown_of(stream: PlainStream, arrived: list[bool], size: Size, room: Path) -
     return shown_of_parts(stream, came, size, room)
 
 
-def shown_of_parts(
-    stream: PlainStream, came: list[Optional[bytes]], size: Size, room: Path
-) -> Iterator[bytes]:
+def shown_of_parts(stream: PlainStream, came: list[Optional[bytes]], size: Size, room: Path) -> Iterator[bytes]:
     """The same of pictures of which perhaps a part came; what is missing inside one is concealed by ffmpeg."""
     first = next((n for n, part in enumerate(came) if part and stream.intra[n]), len(came))
     kept = [part if number >= first else None for number, part in enumerate(came)]

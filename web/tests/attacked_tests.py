@@ -64,14 +64,18 @@ class AttackedTest(unittest.TestCase):
     def test_a_stranger_s_link_and_one_that_points_elsewhere(self) -> None:
         """A link rings, and sends nothing by itself. Answered, loopback and multicast are asked nothing, a machine of the
         network gets STUN alone, and few of it."""
-        with socket.socket(socket.AF_INET, socket.SOCK_DGRAM) as loop, socket.socket(socket.AF_INET, socket.SOCK_DGRAM) as other:
+        with socket.socket(socket.AF_INET, socket.SOCK_DGRAM) as loop, socket.socket(
+            socket.AF_INET, socket.SOCK_DGRAM
+        ) as other:
             try:
                 host = own_address()
             except OSError:
                 self.skipTest("this machine has no address but loopback")
             loop.bind(("127.0.0.1", 0))
             other.bind((host, 0))
-            lines = [way("127.0.0.1", loop.getsockname()[1], n) for n in range(50)] + [way(host, other.getsockname()[1], 60)]
+            lines = [way("127.0.0.1", loop.getsockname()[1], n) for n in range(50)] + [
+                way(host, other.getsockname()[1], 60)
+            ]
             with rung(*lines, way("224.0.0.251", 5353, 61), way("169.254.169.254", 80, 62)) as (page, _):
                 time.sleep(4)
                 self.assertEqual((came(loop), came(other)), ([], []))
@@ -91,7 +95,10 @@ class AttackedTest(unittest.TestCase):
 
     def test_descriptions_of_something_else(self) -> None:
         """More media, no encryption, nothing at all: no call."""
-        for more in (["m=video 9 UDP/TLS/RTP/SAVPF 96", "c=IN IP4 0.0.0.0"], ["m=application 9 UDP/DTLS/SCTP webrtc-datachannel"]):
+        for more in (
+            ["m=video 9 UDP/TLS/RTP/SAVPF 96", "c=IN IP4 0.0.0.0"],
+            ["m=application 9 UDP/DTLS/SCTP webrtc-datachannel"],
+        ):
             with rung(*more) as (page, _):
                 page.press("accept")
                 page.until(lambda: page.text("someone_told") == BAD)

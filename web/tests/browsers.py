@@ -13,8 +13,13 @@ from selenium.webdriver.chrome.service import Service
 from selenium.webdriver.support.ui import WebDriverWait
 
 PAGE = Path(os.environ.get("TELEPHONE", Path(__file__).resolve().parents[1] / "telephone.html"))
-FLAGS = ("--headless=new", "--no-sandbox", "--disable-gpu", "--allow-loopback-in-peer-connection",
-         "--autoplay-policy=no-user-gesture-required")
+FLAGS = (
+    "--headless=new",
+    "--no-sandbox",
+    "--disable-gpu",
+    "--allow-loopback-in-peer-connection",
+    "--autoplay-policy=no-user-gesture-required",
+)
 CAMERA = ("--use-fake-device-for-media-stream", "--use-fake-ui-for-media-stream")
 # Where the tests leave what they saw, to be looked at.
 PICTURES = os.environ.get("PICTURES")
@@ -23,7 +28,9 @@ PICTURES = os.environ.get("PICTURES")
 class Page:
     """A browser with the page."""
 
-    def __init__(self, *flags: str, language: str = "en", address: str = "", camera: bool = True, within: str = "") -> None:
+    def __init__(
+        self, *flags: str, language: str = "en", address: str = "", camera: bool = True, within: str = ""
+    ) -> None:
         options = Options()
         if within:
             options.binary_location = browser_within(within)
@@ -32,7 +39,9 @@ class Page:
             options.add_argument(flag)
         if "--refused" in flags:
             kinds = ("media_stream_camera", "media_stream_mic")
-            options.add_experimental_option("prefs", {f"profile.default_content_setting_values.{it}": 2 for it in kinds})
+            options.add_experimental_option(
+                "prefs", {f"profile.default_content_setting_values.{it}": 2 for it in kinds}
+            )
         options.set_capability("goog:loggingPrefs", {"browser": "ALL"})
         self.driver = webdriver.Chrome(service=Service("/usr/bin/chromedriver"), options=options)
         self.driver.set_window_size(1280, 1000)
@@ -170,7 +179,20 @@ class NamespacesTest(CallTest):
                 self.skipTest("no network namespaces can be had")
             self.addCleanup(subprocess.run, ["ip", "netns", "del", name])
         ways = [f"{name}_way" for name in self.names]
-        self.ip("link", "add", ways[0], "netns", self.names[0], "type", "veth", "peer", "name", ways[1], "netns", self.names[1])
+        self.ip(
+            "link",
+            "add",
+            ways[0],
+            "netns",
+            self.names[0],
+            "type",
+            "veth",
+            "peer",
+            "name",
+            ways[1],
+            "netns",
+            self.names[1],
+        )
         for name, device, host in zip(self.names, ways, ("192.0.2.6", "192.0.2.7")):
             self.ip("-n", name, "addr", "add", f"{host}/24", "dev", device)
             for it in (device, "lo"):

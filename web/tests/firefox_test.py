@@ -14,8 +14,11 @@ import aiohttp
 PAGE = Path(__file__).resolve().parents[1] / "telephone.html"
 PORT = 9333
 PREFERENCES = {
-    "media.navigator.streams.fake": True, "media.navigator.permission.disabled": True, "remote.active-protocols": 1,
-    "media.peerconnection.ice.loopback": True, "media.peerconnection.ice.obfuscate_host_addresses": False,
+    "media.navigator.streams.fake": True,
+    "media.navigator.permission.disabled": True,
+    "remote.active-protocols": 1,
+    "media.peerconnection.ice.loopback": True,
+    "media.peerconnection.ice.obfuscate_host_addresses": False,
 }
 
 
@@ -86,7 +89,11 @@ with tempfile.TemporaryDirectory() as profile:
     lines = (f"user_pref({json.dumps(name)}, {json.dumps(value)});\n" for name, value in PREFERENCES.items())
     (Path(profile) / "user.js").write_text("".join(lines))
     words = ["firefox-esr", "--headless", "--profile", profile, "--remote-debugging-port", str(PORT), "about:blank"]
-    how = {"stdout": subprocess.DEVNULL, "stderr": subprocess.DEVNULL, "env": {**os.environ, "HOME": profile, "LANG": "C.UTF-8"}}
+    how = {
+        "stdout": subprocess.DEVNULL,
+        "stderr": subprocess.DEVNULL,
+        "env": {**os.environ, "HOME": profile, "LANG": "C.UTF-8"},
+    }
     with subprocess.Popen(words, **how) as browser:
         try:
             asyncio.run(main())

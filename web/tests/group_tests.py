@@ -42,7 +42,9 @@ class ThreeTest(CallTest):
         self.ip("-n", self.hub, "link", "add", "bridge", "type", "bridge")
         self.ip("-n", self.hub, "link", "set", "bridge", "up")
         for place, (name, host) in enumerate(zip(self.names, HOSTS)):
-            self.ip("link", "add", "way", "netns", name, "type", "veth", "peer", "name", f"to_{place}", "netns", self.hub)
+            self.ip(
+                "link", "add", "way", "netns", name, "type", "veth", "peer", "name", f"to_{place}", "netns", self.hub
+            )
             self.ip("-n", self.hub, "link", "set", f"to_{place}", "master", "bridge", "up")
             self.ip("-n", name, "addr", "add", f"{host}/24", "dev", "way")
             for it in ("way", "lo"):
@@ -61,10 +63,17 @@ class ThreeTest(CallTest):
         """From now on so much is lost of what comes to this one, and of what comes from it to the others."""
         for at, name in enumerate(self.names):
             source = [] if at == place else ["-s", HOSTS[place]]
-            chance = ["-m", "statistic", "--mode", "random", "--probability", str(percent / 100)] if percent < 100 else []
+            chance = (
+                ["-m", "statistic", "--mode", "random", "--probability", str(percent / 100)] if percent < 100 else []
+            )
             rule = ["INPUT", "-p", "udp", *source, *chance, "-j", "DROP"]
             for words in (["-F", "INPUT"], ["-A", *rule] if percent else []):
-                if words and subprocess.run(["ip", "netns", "exec", name, "iptables", *words], capture_output=True).returncode:
+                if (
+                    words
+                    and subprocess.run(
+                        ["ip", "netns", "exec", name, "iptables", *words], capture_output=True
+                    ).returncode
+                ):
                     self.skipTest("iptables isn't there")
 
     def page(self, place: int) -> Page:

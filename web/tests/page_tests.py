@@ -24,7 +24,9 @@ def code_of(**said: object) -> str:
 
 
 # A browser whose memories have 32 bits alone takes no module that asks for more.
-NO_LONG_MEMORY = "WebAssembly.validate = () => false; WebAssembly.Memory = class { constructor() { throw new TypeError(); } };"
+NO_LONG_MEMORY = (
+    "WebAssembly.validate = () => false; WebAssembly.Memory = class { constructor() { throw new TypeError(); } };"
+)
 
 
 class PageTest(CallTest):
@@ -40,7 +42,10 @@ class PageTest(CallTest):
             self.assert_share(page, 94)
             self.assertEqual(page.text("fault"), "")
             self.assertRegex(figures, r"[1-9]\d* packets of sound")
-            self.assertEqual(page.run("return document.getElementById('other_frame').dataset.mark") in ("exact", "patched", "held"), True)
+            self.assertEqual(
+                page.run("return document.getElementById('other_frame').dataset.mark") in ("exact", "patched", "held"),
+                True,
+            )
             page.slide("loss", 0)
             page.slide("jitter", 0)
             time.sleep(14)
@@ -73,7 +78,9 @@ class PageTest(CallTest):
             lossy = self.moves(page)
             print(f"10 % lost: {page.text('share')}, VP8 moves in {lossy} %; {page.text('figures')}")
             self.assertLess(lossy, page.share())
-            self.assertRegex(page.text("figures"), r"VP8: camera to screen \d+ ms, to code [\d.]+ ms, [1-9]\d* key frames$")
+            self.assertRegex(
+                page.text("figures"), r"VP8: camera to screen \d+ ms, to code [\d.]+ ms, [1-9]\d* key frames$"
+            )
             page.slide("loss", 0)
             page.press("beside")
             self.assertFalse(page.driver.find_element("id", "ordinary_view").is_displayed())
@@ -155,20 +162,30 @@ class PageTest(CallTest):
             page.until(lambda: page.text("state") == "Ready")
             self.assertEqual(page.run(names), [])
             blocked = page.driver.execute_async_script(
-                "const done = arguments[0]; fetch('https://example.org').then(() => done('fetched'), () => done('refused'))")
+                "const done = arguments[0]; fetch('https://example.org').then(() => done('fetched'), () => done('refused'))"
+            )
             self.assertEqual(blocked, "refused")
-        outer = PAGE.with_name("outer.html") if os.access(PAGE.parent, os.W_OK) else Path(tempfile.gettempdir(), "outer.html")
+        outer = (
+            PAGE.with_name("outer.html")
+            if os.access(PAGE.parent, os.W_OK)
+            else Path(tempfile.gettempdir(), "outer.html")
+        )
         outer.write_text(f"<iframe id=inner src={json.dumps(PAGE.as_uri())}></iframe>")
         try:
             with Page(address=outer.as_uri()) as page:
                 page.driver.switch_to.frame("inner")
-                page.until(lambda: page.text("fault") == "The telephone doesn’t run inside another page. Open it by itself.")
+                page.until(
+                    lambda: page.text("fault") == "The telephone doesn’t run inside another page. Open it by itself."
+                )
         finally:
             outer.unlink()
 
     def test_a_browser_without_long_memory(self) -> None:
         """As Safari has none: the page says so in words, in its language, and nothing else goes wrong."""
-        told = {"en": "This browser has no 64-bit WebAssembly memory", "de": "Dieser Browser hat keinen 64-Bit-Speicher"}
+        told = {
+            "en": "This browser has no 64-bit WebAssembly memory",
+            "de": "Dieser Browser hat keinen 64-Bit-Speicher",
+        }
         for language, words in told.items():
             with Page(language=language, address="about:blank") as page:
                 page.driver.execute_cdp_cmd("Page.addScriptToEvaluateOnNewDocument", {"source": NO_LONG_MEMORY})
@@ -186,11 +203,15 @@ class PageTest(CallTest):
             own = page.value("link").split("#call=")[1]
             for code, told in [
                 (own, "That is a link for a call, and not the code that answers it."),
-                ("abc", bad), ("%%%", bad), (own[:200], bad), ("A" * 9000, bad),
+                ("abc", bad),
+                ("%%%", bad),
+                (own[:200], bad),
+                ("A" * 9000, bad),
                 (code_of(type="answer", sdp="v=0", name="x"), bad),
                 (code_of(type="answer", sdp="x" * 100_000, name="x"), bad),
                 (code_of(type="answer", sdp=5, name="x"), bad),
-                (code_of(type="answer", name=[]), bad), (code_of(type="pranswer", sdp="v=0", name=""), bad),
+                (code_of(type="answer", name=[]), bad),
+                (code_of(type="pranswer", sdp="v=0", name=""), bad),
             ]:
                 page.fill("answer_code", code)
                 page.press("connect")
@@ -245,7 +266,10 @@ class TwoPartiesTest(NamespacesTest):
             call_by_link(bob, ada, "Bob")
             self.assertEqual(ada.text("state"), "A call with Bob")
             bob.driver.refresh()
-            bob.until(lambda: bob.text("news") == "This page was loaded anew in a call with the other side. Make a new link to go on.")
+            bob.until(
+                lambda: bob.text("news")
+                == "This page was loaded anew in a call with the other side. Make a new link to go on."
+            )
             ada.until(lambda: ada.text("news").startswith("The connection was lost."), 30)
             self.assertEqual(ada.complaints(), [])
 

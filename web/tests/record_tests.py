@@ -52,12 +52,16 @@ class RecordTest(unittest.TestCase):
         (way_of,) = recorded_ways.ways_of(record)
         marks = [picture.mark for picture in way_of.pictures]
         fates = [packet.fate for packet in way_of.packets]
-        print(f"{len(marks)} pictures, {marks.count('exact')} exact; {len(fates)} packets, {fates.count('lost')} lost; "
-              f"{len(way_of.messages)} messages; {sum(it.stat().st_size for it in folder.iterdir()):,} bytes")
+        print(
+            f"{len(marks)} pictures, {marks.count('exact')} exact; {len(fates)} packets, {fates.count('lost')} lost; "
+            f"{len(way_of.messages)} messages; {sum(it.stat().st_size for it in folder.iterdir()):,} bytes"
+        )
         self.assertGreater(len(marks), 20)
         self.assertGreater(marks.count("exact"), len(marks) // 2)
         self.assertGreater(fates.count("taken"), fates.count("lost"))
-        self.assertTrue(all(picture.captured is not None and picture.played > picture.captured for picture in way_of.pictures))
+        self.assertTrue(
+            all(picture.captured is not None and picture.played > picture.captured for picture in way_of.pictures)
+        )
         self.read_again(record)
 
     def test_another_wait_is_another_run(self) -> None:
@@ -69,7 +73,11 @@ class RecordTest(unittest.TestCase):
 
     def read_again(self, record: recorded.Record) -> None:
         folder = record.folder
-        tools = [["times_of_call", folder], ["page_of_call", folder, self.room / "page.html"], ["audit_log", folder, self.room / "audit.log"]]
+        tools = [
+            ["times_of_call", folder],
+            ["page_of_call", folder, self.room / "page.html"],
+            ["audit_log", folder, self.room / "audit.log"],
+        ]
         for name, *words in tools:
             run = subprocess.run([sys.executable, TOP / "tools" / name, *words], capture_output=True, text=True)
             self.assertEqual(run.returncode, 0, (name, run.stderr))

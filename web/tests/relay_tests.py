@@ -33,8 +33,18 @@ class RelayTest(CallTest):
             self.ip("-n", name, "link", "set", "lo", "up")
             self.ip("-n", name, "route", "add", "default", "via", f"{net}.1")
         subprocess.run(["ip", "netns", "exec", relay, "sysctl", "-qw", "net.ipv4.ip_forward=0"], check=True)
-        words = ["-n", "--lt-cred-mech", "--user=ada:tea", "--realm=relay", "--no-tls", "--no-dtls", "--no-cli", "--log-file=stdout",
-                 *(f"--listening-ip={net}.1" for net in NETS.values()), *(f"--relay-ip={net}.1" for net in NETS.values())]
+        words = [
+            "-n",
+            "--lt-cred-mech",
+            "--user=ada:tea",
+            "--realm=relay",
+            "--no-tls",
+            "--no-dtls",
+            "--no-cli",
+            "--log-file=stdout",
+            *(f"--listening-ip={net}.1" for net in NETS.values()),
+            *(f"--relay-ip={net}.1" for net in NETS.values()),
+        ]
         how = {"stdout": subprocess.DEVNULL, "stderr": subprocess.DEVNULL}
         server = subprocess.Popen(["ip", "netns", "exec", relay, "turnserver", *words], **how)
         self.addCleanup(lambda: (server.terminate(), server.wait()))

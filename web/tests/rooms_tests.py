@@ -247,7 +247,10 @@ class LookTest(unittest.TestCase):
         self.looks(ada, "room_small")
         for page, name in ((ada, "Ada"), (bob, "")):
             page.press("room_enter")
-            page.until(lambda: page.text("room_told") in ("Put in a word for the room first.", "Geben Sie zuerst ein Wort für den Raum ein."))
+            page.until(
+                lambda: page.text("room_told")
+                in ("Put in a word for the room first.", "Geben Sie zuerst ein Wort für den Raum ein.")
+            )
             page.fill("room_name", name)
             page.fill("room_word", "tea")
             page.press("room_enter")
@@ -289,7 +292,9 @@ class ServerTest(unittest.TestCase):
     def run_pages(self, act: Callable[[Joining], Awaitable[None]]) -> None:
         async def run() -> None:
             async with aiohttp.ClientSession() as session:
-                await act(lambda **words: session.ws_connect(f"{self.address}rooms", **{"origin": self.address[:-1], **words}))
+                await act(
+                    lambda **words: session.ws_connect(f"{self.address}rooms", **{"origin": self.address[:-1], **words})
+                )
 
         asyncio.run(asyncio.wait_for(run(), 120))
 
@@ -307,17 +312,24 @@ class ServerTest(unittest.TestCase):
 
     def test_strangers_are_refused(self) -> None:
         """Another name that leads here, another page, another path, another method, a body."""
-        own, upgrade = f"Host: localhost:{self.port}\n", "Upgrade: websocket\nConnection: Upgrade\nSec-WebSocket-Version: 13\nSec-WebSocket-Key: AAAAAAAAAAAAAAAAAAAAAA==\n"
+        own, upgrade = (
+            f"Host: localhost:{self.port}\n",
+            "Upgrade: websocket\nConnection: Upgrade\nSec-WebSocket-Version: 13\nSec-WebSocket-Key: AAAAAAAAAAAAAAAAAAAAAA==\n",
+        )
         for head, wanted in [
-            ("GET / HTTP/1.1\nHost: evil.example\n\n", b"403"), ("GET / HTTP/1.1\nHost: localhost:1\n\n", b"403"),
-            (f"GET / HTTP/1.1\nHost: localhost:{self.port}@evil\n\n", b"40"), ("GET / HTTP/1.1\n\n", b"40"),
+            ("GET / HTTP/1.1\nHost: evil.example\n\n", b"403"),
+            ("GET / HTTP/1.1\nHost: localhost:1\n\n", b"403"),
+            (f"GET / HTTP/1.1\nHost: localhost:{self.port}@evil\n\n", b"40"),
+            ("GET / HTTP/1.1\n\n", b"40"),
             (f"GET /rooms HTTP/1.1\n{own}{upgrade}\n", b"403"),
             (f"GET /rooms HTTP/1.1\n{own}{upgrade}Origin: null\n\n", b"403"),
             (f"GET /rooms HTTP/1.1\n{own}{upgrade}Origin: http://evil.example\n\n", b"403"),
             (f"GET /rooms HTTP/1.1\n{own}{upgrade}Origin: https://localhost:{self.port}\n\n", b"403"),
-            (f"GET /../tools/rooms HTTP/1.1\n{own}\n", b"404"), (f"POST / HTTP/1.1\n{own}Content-Length: 0\n\n", b"405"),
+            (f"GET /../tools/rooms HTTP/1.1\n{own}\n", b"404"),
+            (f"POST / HTTP/1.1\n{own}Content-Length: 0\n\n", b"405"),
             (f"GET /rooms HTTP/1.1\n{own}Origin: http://localhost:{self.port}\n\n", b"400"),
-            ("\0" * 64 + "\n\n", b"400"), (f"GET / HTTP/1.1\n{own}X: {'a' * 70_000}\n\n", b"400"),
+            ("\0" * 64 + "\n\n", b"400"),
+            (f"GET / HTTP/1.1\n{own}X: {'a' * 70_000}\n\n", b"400"),
         ]:
             self.assertIn(wanted, self.ask(head)[:16], head[:60])
 
@@ -325,11 +337,26 @@ class ServerTest(unittest.TestCase):
         """16 MB, one letter too many, wrong fields, no JSON, no text: each ends its own page, and no other one."""
         enter = {"is": "enter", "room": "a", "name": "b", "key": ""}
         wrong = [
-            "x" * (1 << 24), "x" * 16_385, "", "[]", "5", "null", "{", "[" * 10_000, json.dumps({**enter, "room": "a" * 41}),
-            json.dumps({**enter, "more": "x"}), json.dumps({**enter, "name": 5}), json.dumps({"is": "enter"}),
-            json.dumps({**enter, "key": "x" * 65}), json.dumps({"is": "bye"}), json.dumps({"is": []}), json.dumps({"is": "decline"}),
-            json.dumps({"is": "offer", "to": "", "sdp": "x" * 12_001, "proof": ""}), json.dumps({"is": "decline", "to": "x" * 17}),
-            json.dumps({"is": "offer", "to": "", "sdp": "", "proof": "x" * 65}), json.dumps({"is": "offer", "sdp": "", "proof": ""}),
+            "x" * (1 << 24),
+            "x" * 16_385,
+            "",
+            "[]",
+            "5",
+            "null",
+            "{",
+            "[" * 10_000,
+            json.dumps({**enter, "room": "a" * 41}),
+            json.dumps({**enter, "more": "x"}),
+            json.dumps({**enter, "name": 5}),
+            json.dumps({"is": "enter"}),
+            json.dumps({**enter, "key": "x" * 65}),
+            json.dumps({"is": "bye"}),
+            json.dumps({"is": []}),
+            json.dumps({"is": "decline"}),
+            json.dumps({"is": "offer", "to": "", "sdp": "x" * 12_001, "proof": ""}),
+            json.dumps({"is": "decline", "to": "x" * 17}),
+            json.dumps({"is": "offer", "to": "", "sdp": "", "proof": "x" * 65}),
+            json.dumps({"is": "offer", "sdp": "", "proof": ""}),
             json.dumps({"is": "candidate", "to": "", "candidate": "x" * 601, "mid": ""}),
         ]
 
@@ -368,8 +395,12 @@ class ServerTest(unittest.TestCase):
                 for place, (page, name) in enumerate(zip(pages, "abcde")):
                     self.assertEqual(await self.enters(page, name), {"is": "full" if name == "e" else "entered"})
                     for other in range(min(place, 4) if place < 4 else 0):
-                        self.assertEqual(await page.receive_json(), {"is": "came", "name": "abcd"[other], "from": numbers[other]})
-                        self.assertEqual(await pages[other].receive_json(), {"is": "came", "name": name, "from": numbers[place]})
+                        self.assertEqual(
+                            await page.receive_json(), {"is": "came", "name": "abcd"[other], "from": numbers[other]}
+                        )
+                        self.assertEqual(
+                            await pages[other].receive_json(), {"is": "came", "name": name, "from": numbers[place]}
+                        )
                 for page, name in ((pages[4], "e"), (pages[1], "b"), (pages[2], "c")):
                     for to in (numbers[0], numbers[3], numbers[4], "nobody"):
                         await page.send_json({"is": "offer", "to": to, "sdp": f"of {name}", "proof": ""})
@@ -385,11 +416,15 @@ class ServerTest(unittest.TestCase):
 
         async def act(join: Joining) -> None:
             async with join() as one, join() as old, join() as new, join() as thief:
-                self.assertEqual([(await self.enters(page, name))["is"] for page, name in ((one, "a"), (old, "b"))], ["entered"] * 2)
+                self.assertEqual(
+                    [(await self.enters(page, name))["is"] for page, name in ((one, "a"), (old, "b"))], ["entered"] * 2
+                )
                 came = {"is": "came", "name": "b", "from": logic.number_of("b")}
                 self.assertEqual((await one.receive_json(), (await old.receive_json())["is"]), (came, "came"))
                 self.assertEqual((await self.enters(new, "b"))["is"], "entered")
-                self.assertEqual([await one.receive_json() for _ in range(2)], [{"is": "left", "from": came["from"]}, came])
+                self.assertEqual(
+                    [await one.receive_json() for _ in range(2)], [{"is": "left", "from": came["from"]}, came]
+                )
                 await self.enters(thief, "b", came["from"])
                 self.assertNotEqual((await one.receive_json())["from"], came["from"])
                 await old.send_json({"is": "cancel", "to": logic.number_of("a")})
@@ -435,11 +470,34 @@ class ServerTest(unittest.TestCase):
     def test_any_words(self) -> None:
         """100,000 texts, words of which a piece is changed: each is read or refused, and nothing else happens."""
         chance = random.Random(5)
-        true_ones = [json.dumps(words) for words in (
-            {"is": "enter", "room": "a", "name": "b", "key": "c"}, {"is": "offer", "to": "1", "sdp": "v=0", "proof": ""},
-            {"is": "candidate", "to": "1", "candidate": "candidate:1 1 udp 1 192.0.2.7 9 typ host", "mid": "0"}, {"is": "leave"},
-        )]
-        parts = ['{', '}', '"is"', ':', '"', ',', '1', '[', ']', 'null', '\\ud800', 'x', '', '\\', '1e999', '"name":"x",', '\0']
+        true_ones = [
+            json.dumps(words)
+            for words in (
+                {"is": "enter", "room": "a", "name": "b", "key": "c"},
+                {"is": "offer", "to": "1", "sdp": "v=0", "proof": ""},
+                {"is": "candidate", "to": "1", "candidate": "candidate:1 1 udp 1 192.0.2.7 9 typ host", "mid": "0"},
+                {"is": "leave"},
+            )
+        ]
+        parts = [
+            "{",
+            "}",
+            '"is"',
+            ":",
+            '"',
+            ",",
+            "1",
+            "[",
+            "]",
+            "null",
+            "\\ud800",
+            "x",
+            "",
+            "\\",
+            "1e999",
+            '"name":"x",',
+            "\0",
+        ]
         read = 0
         for _ in range(100_000):
             text = chance.choice(true_ones)

@@ -122,14 +122,26 @@ class Run:
 
     def do_play(self, _: str) -> None:
         played = self.receiver.play()
-        print("played", played.mark, played.number, or_none(played.reference), played.message.hex(), sum_of(played.picture))
+        print(
+            "played",
+            played.mark,
+            played.number,
+            or_none(played.reference),
+            played.message.hex(),
+            sum_of(played.picture),
+        )
         self.keep(played.message)
 
     def come(self, datagram: bytes, now: int) -> None:
         verdict = "ahead"
         while verdict == "ahead":
             arrived = self.session.arrival(datagram, now, self.source)
-            verdict, heard = arrived.verdict, (or_none(arrived.kind), int(arrived.fault), arrived.at, arrived.message.hex())
+            verdict, heard = arrived.verdict, (
+                or_none(arrived.kind),
+                int(arrived.fault),
+                arrived.at,
+                arrived.message.hex(),
+            )
             taken = map(or_none, (arrived.cause, arrived.run, arrived.source, arrived.ahead))
             print("arrived", verdict, *taken, int(arrived.is_rival), *heard)
             self.keep(arrived.message)

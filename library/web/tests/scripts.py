@@ -73,7 +73,9 @@ def lossy(draws: random.Random, video: str, pictures: int, **params: object) -> 
         made.append("play")
         made += [f"last {draws.choice([0, 0, 0, 1, 2, 9])}" for _ in range(3) if draws.random() > 0.1]
         if draws.random() < 0.05:
-            made.append(draws.choice(["forget", f"target {draws.choice([0, 900, 6000])}", f"hear {max(number - 3, 0)}.0"]))
+            made.append(
+                draws.choice(["forget", f"target {draws.choice([0, 900, 6000])}", f"hear {max(number - 3, 0)}.0"])
+            )
     return [*made, "reset 1800", "code", "hear 0.*", "play"]
 
 
@@ -91,7 +93,10 @@ def changed(draws: random.Random, video: str, count: int, **params: object) -> l
             edits = " ".join(edit(draws) for _ in range(draws.choice([1, 1, 2, 4])))
             made.append(f"changed {draws.randrange(1 << 16)} {edits}")
             count -= 1
-        made += [f"bytes {draws.randbytes(draws.randrange(200)).hex()}", f"reply {draws.randbytes(draws.randrange(6)).hex()}"]
+        made += [
+            f"bytes {draws.randbytes(draws.randrange(200)).hex()}",
+            f"reply {draws.randbytes(draws.randrange(6)).hex()}",
+        ]
         made += [f"hear {number}.*", "play", "last 0"]
         number += 1
     return made
@@ -111,7 +116,9 @@ class SessionScript:
     def at(self, time: float, step: str) -> None:
         self.steps.append((time, len(self.steps), step.replace("NOW", str(round(SECOND * time)))))
 
-    def stream(self, begin: float, end: float, rate: float, first: int, source: int = OWN, loss: float = 0.0, **more: float) -> int:
+    def stream(
+        self, begin: float, end: float, rate: float, first: int, source: int = OWN, loss: float = 0.0, **more: float
+    ) -> int:
         """Pictures from this number on, whose way gets longer by `step` in the middle, and whose packets jitter."""
         number, draws = first, self.draws
         for number in range(first, first + int((end - begin) * rate)):
@@ -137,14 +144,20 @@ class SessionScript:
         """Changed packets, of three streams and of any time, and bytes of chance."""
         for _ in range(count):
             time = self.draws.uniform(begin, end)
-            source, ticks = self.draws.choice([OWN, OWN, OTHER, 5]), self.draws.choice([time, time + 1.5, self.draws.uniform(0, 40_000)])
+            source, ticks = self.draws.choice([OWN, OWN, OTHER, 5]), self.draws.choice(
+                [time, time + 1.5, self.draws.uniform(0, 40_000)]
+            )
             edits = " ".join(edit(self.draws) for _ in range(self.draws.choice([1, 2, 4])))
             self.at(time, f"garble {self.draws.randrange(1 << 16)} {source} {round(TICKS * ticks) % 2**32} NOW {edits}")
             self.at(time, f"datagram NOW {self.draws.randbytes(self.draws.randrange(60)).hex()}")
 
     def text(self, video: str, rate: int, second: int, wait: float, **sender: object) -> list[str]:
         timing = {"rate": rate, "second": second, "wait": round(SECOND * wait)}
-        begun = [f"sender {json.dumps(self.params | sender)}", f"session {json.dumps(self.params | timing)}", f"video {video}"]
+        begun = [
+            f"sender {json.dumps(self.params | sender)}",
+            f"session {json.dumps(self.params | timing)}",
+            f"video {video}",
+        ]
         end = max(time for time, _, _ in self.steps)
         turns = [(0.013 * n, -1, f"turn {round(SECOND * 0.013 * n)}") for n in range(int((end + 2) / 0.013))]
         return begun + [step for _, _, step in sorted(self.steps + turns)]
@@ -155,9 +168,11 @@ def sessions(draws: random.Random, folder: Path) -> dict[str, list[str]]:
     made = {}
     few = {"format": "sub-qcif", "slots": 24, "lead": 12}
     for name, rate, second, wait, more in [
-        ("few_and_longer", 5, 1, 0.1, {"step": 0.22}), ("lost_and_longer", 30000, 1001, 0.1, {"step": 0.22, "loss": 0.3}),
+        ("few_and_longer", 5, 1, 0.1, {"step": 0.22}),
+        ("lost_and_longer", 30000, 1001, 0.1, {"step": 0.22, "loss": 0.3}),
         ("lost_and_again", 30000, 1001, 0.1, {"loss": 0.2, "again": 0.8, "jitter": 0.02}),
-        ("ahead", 30000, 1001, 0.1, {"ahead": 1.9}), ("jitter", 25, 1, 0.06, {"jitter": 0.2, "loss": 0.05}),
+        ("ahead", 30000, 1001, 0.1, {"ahead": 1.9}),
+        ("jitter", 25, 1, 0.06, {"jitter": 0.2, "loss": 0.05}),
         ("no_wait", 10, 1, 0.0, {"step": 0.25, "jitter": 0.01}),
     ]:
         script = SessionScript(draws, **few)
@@ -179,7 +194,9 @@ def sessions(draws: random.Random, folder: Path) -> dict[str, list[str]]:
             script.at(146.55, f"sender {json.dumps(script.params | words)}")
             script.stream(146.6, 147.6, 30.0, number)
             script.junk(100.1, 147.5, 1_500)
-            made[f"session_{format}_{'custom' if clock else 'standard'}"] = script.text(f"{folder}/{format}.y4m", 30, 1, 0.1, **words)
+            made[f"session_{format}_{'custom' if clock else 'standard'}"] = script.text(
+                f"{folder}/{format}.y4m", 30, 1, 0.1, **words
+            )
     return made
 
 

@@ -84,9 +84,7 @@ class Found:
 
     def line(self) -> str:
         """The choice and what it came to."""
-        chosen = " ".join(
-            f"--{name} {value}" for name, value in self.options.items() if value is not None
-        )
+        chosen = " ".join(f"--{name} {value}" for name, value in self.options.items() if value is not None)
         half = f" ± {100 * self.exact.half:.1f}" if self.exact.count > 1 else ""
         psnr = "" if self.psnr is None else f", {self.psnr:.1f} dB"
         exact = f"{100 * self.exact.mean:.1f}{half} % exact"
@@ -110,9 +108,7 @@ def found_in(rows: Iterable[Row]) -> list[Found]:
     choices: dict[tuple[object, ...], list[Row]] = defaultdict(list)
     for row in rows:
         if row["sender"] == "acknowledged":
-            choices[(*(row[name] for name in CHOSEN + _ALSO), row["hold"], row["delay"])].append(
-                row
-            )
+            choices[(*(row[name] for name in CHOSEN + _ALSO), row["hold"], row["delay"])].append(row)
     found = [_found(many) for many in choices.values() if any(_counts(row) for row in many)]
     return found
 
@@ -169,18 +165,14 @@ def words_of(advice: Advice) -> list[str]:
     calls = sum(one.calls for one in advice.found)
     lines = [f"asked: {advice.asked.words()}; {len(advice.found)} choices, {calls} calls"]
     if any(one.places < most for one in advice.found):
-        lines.append(
-            "not every choice was tried on each network and video: the campaign isn't at its end"
-        )
+        lines.append("not every choice was tried on each network and video: the campaign isn't at its end")
     if not advice.found:
         return lines + ["nothing to advise: no call with acknowledgements is done"]
     if advice.best:
         lines.append(f"take       {advice.best.line()}")
         second = advice.second.line() if advice.second else "none: nothing else meets it"
         return lines + [f"runner-up  {second}"]
-    nearest = min(
-        advice.found, key=lambda one: (len(one.misses(advice.asked)), -one.exact.low, one.bytes)
-    )
+    nearest = min(advice.found, key=lambda one: (len(one.misses(advice.asked)), -one.exact.low, one.bytes))
     lines.append("nothing meets it")
     lines.append(f"nearest    {nearest.line()}")
     return lines + [f"misses     {'; '.join(nearest.misses(advice.asked))}"]

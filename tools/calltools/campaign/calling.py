@@ -96,9 +96,7 @@ def _own_measured(job: Job, store: Store, room: Path, trace: list[str]) -> Row:
         packets = packets_of_pictures(read_log(file, "packets.log"), "packets.log")
     came = in_time(trace, int(job.options["lead"]))
     whole = [all(map(here.has, range(len(many)))) for here, many in zip(came, packets)]
-    shown = [
-        Shown(picture.mark or "held", is_whole) for picture, is_whole in zip(report.pictures, whole)
-    ]
+    shown = [Shown(picture.mark or "held", is_whole) for picture, is_whole in zip(report.pictures, whole)]
     found = marks_measured(shown) | references_measured(report.pictures)
     found["bytes"] = sum(len(it) for many in packets for it in many) / len(packets)
     found["packets_sent"] = sum(map(len, packets)) / len(packets)
@@ -184,9 +182,7 @@ class _Plain:
 
 
 @lru_cache(maxsize=8)
-def _stream(
-    chosen: _Plain, target: Optional[int], quant: int
-) -> tuple[plain_coder.PlainStream, y4m.Size]:
+def _stream(chosen: _Plain, target: Optional[int], quant: int) -> tuple[plain_coder.PlainStream, y4m.Size]:
     """The plain stream at the quantiser, or at the least one that keeps the target."""
     if target is None:
         return _coded(chosen, quant)
@@ -210,9 +206,7 @@ def _coded(chosen: _Plain, quant: int) -> tuple[plain_coder.PlainStream, y4m.Siz
     with open(chosen.video, "rb") as file:
         size = y4m.Y4mReader(file, str(chosen.video)).size
     with tempfile.TemporaryDirectory(prefix="campaign-") as room:
-        stream = plain_coder.coded(
-            _named_y4m(chosen.video, Path(room)), size, quant, chosen.every, Path(room), coder
-        )
+        stream = plain_coder.coded(_named_y4m(chosen.video, Path(room)), size, quant, chosen.every, Path(room), coder)
     if len(stream.pictures) != chosen.pictures:
         raise BadInput(
             "ffmpeg",

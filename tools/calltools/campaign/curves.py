@@ -42,9 +42,7 @@ def sender_words(row: Row) -> str:
     """A sender in words."""
     if row["sender"] == "plain":
         return f"ffmpeg, an intra picture in {row['every']}"
-    return {"acknowledged": "acknowledged references", "intra": "intra pictures alone"}[
-        row["sender"]
-    ]
+    return {"acknowledged": "acknowledged references", "intra": "intra pictures alone"}[row["sender"]]
 
 
 def _told(row: Row, name: str) -> str:
@@ -69,9 +67,7 @@ def chosen(rows: Sequence[Row], where: dict[str, str]) -> list[Row]:
             raise BadInput("--where", name, f"none of {', '.join(LABELS)}")
     wanted = {name: value.split(",") for name, value in where.items()}
     return [
-        row
-        for row in rows
-        if all(row[name] is None or _number(row[name]) in values for name, values in wanted.items())
+        row for row in rows if all(row[name] is None or _number(row[name]) in values for name, values in wanted.items())
     ]
 
 
@@ -81,9 +77,7 @@ def points_of(rows: Sequence[Row], curves: Curves) -> dict[str, Lines]:
     used = [
         row
         for row in rows
-        if row["status"] == "done"
-        and row[curves.by] is not None
-        and _is_number(row[curves.measure])
+        if row["status"] == "done" and row[curves.by] is not None and _is_number(row[curves.measure])
     ]
     if not used:
         raise BadInput("the figure", "its rows", "no call of the table is in it")
@@ -92,15 +86,10 @@ def points_of(rows: Sequence[Row], curves: Curves) -> dict[str, Lines]:
     found: dict[str, dict[str, dict[Any, list[float]]]] = {name: {} for name in names}
     for row in used:
         told = [_told(row, it) for it in curves.lines if it != "every" and row[it] is not None]
-        line = found[_panel(row, curves)].setdefault(
-            ", ".join(told) or "all calls", defaultdict(list)
-        )
+        line = found[_panel(row, curves)].setdefault(", ".join(told) or "all calls", defaultdict(list))
         line[row[curves.by]].append(row[curves.measure])
     return {
-        panel: {
-            line: {place: interval_of(points[place]) for place in sorted(points)}
-            for line, points in lines.items()
-        }
+        panel: {line: {place: interval_of(points[place]) for place in sorted(points)} for line, points in lines.items()}
         for panel, lines in found.items()
     }
 
@@ -115,9 +104,7 @@ def _panel(row: Row, curves: Curves) -> str:
 
 def table_of(panels: dict[str, Lines], curves: Curves) -> list[str]:
     """The same as a table in Markdown: means, and half of their intervals."""
-    places = sorted(
-        {place for lines in panels.values() for points in lines.values() for place in points}
-    )
+    places = sorted({place for lines in panels.values() for points in lines.values() for place in points})
     told = [f"{100 * it:g} %" if curves.by in SHARES else _number(it) for it in places]
     rows = [
         "| " + " | ".join([curves.panels or "", curves.measure, *told]) + " |",

@@ -51,9 +51,7 @@ def on_processes(jobs: Sequence[Job], store: Store, processes: int) -> Iterator[
         context = multiprocessing.get_context("spawn")
         pool = concurrent.futures.ProcessPoolExecutor(processes, context, _quiet)
         try:
-            running = {
-                pool.submit(_run_here, job, str(store.folder)): key for key, job in left.items()
-            }
+            running = {pool.submit(_run_here, job, str(store.folder)): key for key, job in left.items()}
             for future in concurrent.futures.as_completed(running):
                 key = running[future]
                 try:
@@ -153,9 +151,7 @@ class Cluster:
         names = (job.program, job.video, job.trace)
         parts = {name: self._part(name, store) for name in names}
         options = {"pure": False, "retries": 0}
-        return self._client.submit(
-            _run_there, job, self._tools, parts, key=f"call-{job.key}", **options
-        )
+        return self._client.submit(_run_there, job, self._tools, parts, key=f"call-{job.key}", **options)
 
     def _part(self, name: str, store: Store) -> Any:
         # The scheduler has the bytes, so that no death of a worker takes them away.

@@ -89,11 +89,7 @@ def _draw_lines(axis: Any, lines: Lines, curves: Curves, styles: dict[str, int])
         # The first is seen below one that lies on it.
         look |= {"lw": 1.5, "markersize": 4} if style else {"lw": 4, "markersize": 8}
         # Side by side, so that none hides another.
-        across = (
-            [it + (style - len(styles) / 2) * _APART * span for it in points]
-            if span
-            else list(points)
-        )
+        across = [it + (style - len(styles) / 2) * _APART * span for it in points] if span else list(points)
         halves = _halves(found, curves.measure in SHARES)
         means = [it.mean for it in found]
         axis.errorbar(across, means, halves, label=name, capsize=3, elinewidth=1.5, **look)
@@ -107,9 +103,7 @@ def _draw_lines(axis: Any, lines: Lines, curves: Curves, styles: dict[str, int])
 
 def _wants_powers(panels: dict[str, Lines], measure: str) -> bool:
     """Whether means lie so far apart that a scale of powers shows them."""
-    means = [
-        it.mean for lines in panels.values() for points in lines.values() for it in points.values()
-    ]
+    means = [it.mean for lines in panels.values() for points in lines.values() for it in points.values()]
     return measure not in SHARES and min(means) > 0 and max(means) > 30 * min(means)
 
 

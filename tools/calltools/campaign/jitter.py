@@ -16,9 +16,7 @@ class BoundedJitter:
     The delay and the deviation are in pictures.
     """
 
-    def __init__(
-        self, losses: Losses, delay: float, deviation: float, draws: random.Random
-    ) -> None:
+    def __init__(self, losses: Losses, delay: float, deviation: float, draws: random.Random) -> None:
         self._losses, self._draws = losses, draws
         self._delay, self._deviation = delay, deviation
         self._newest = 0.0

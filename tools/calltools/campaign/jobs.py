@@ -106,15 +106,11 @@ class Jobs:
         out = io.BytesIO()
         y4m.write_head(out, size)
         count = self._plan.pictures or 60
-        for frame in made_video.frames(
-            size, count, video.made["noise"], video.made["seed"], video.made["step"]
-        ):
+        for frame in made_video.frames(size, count, video.made["noise"], video.made["seed"], video.made["step"]):
             y4m.write_frame(out, frame)
         return out.getvalue()
 
-    def _of_video(
-        self, draw: int, label: str, video: str, pictures: int, form: str
-    ) -> Iterator[Job]:
+    def _of_video(self, draw: int, label: str, video: str, pictures: int, form: str) -> Iterator[Job]:
         for network in self._plan.networks:
             if draw > 1 and not network.is_drawn():
                 continue
@@ -130,9 +126,7 @@ class Jobs:
                     }
                     labels |= {"sender": sender.kind, "every": sender.every, "loss": network.kind}
                     given = {"format": form, **{key: str(value) for key, value in options.items()}}
-                    yield Job(
-                        self._name, labels, given, self._plan.measures, self._program, video, lines
-                    )
+                    yield Job(self._name, labels, given, self._plan.measures, self._program, video, lines)
 
     def _trace(
         self,
@@ -168,22 +162,16 @@ class Jobs:
         lines = lone_ends.read_trace(path)
         sent = lines.count("S")
         if not 0 < sent <= pictures:
-            raise BadInput(
-                str(path), "its end", f"it sends {sent} pictures, and the video has {pictures}"
-            )
+            raise BadInput(str(path), "its end", f"it sends {sent} pictures, and the video has {pictures}")
         if sent != lines.count("P"):
             raise BadInput(str(path), "its end", "it doesn't show each picture that it sends")
         return lines
 
     @cache
-    def _drawn_lines(
-        self, network: plans.Network, timing: Timing, draw: int, pictures: int
-    ) -> list[str]:
+    def _drawn_lines(self, network: plans.Network, timing: Timing, draw: int, pictures: int) -> list[str]:
         return list(self._drawn(network, timing, draw, pictures))
 
-    def _drawn(
-        self, network: plans.Network, timing: Timing, draw: int, pictures: int
-    ) -> Iterator[str]:
+    def _drawn(self, network: plans.Network, timing: Timing, draw: int, pictures: int) -> Iterator[str]:
         if network.kind == "capture":
             heard = self._heard(network)
             skip = captured.seeded_skip(heard, draw)
@@ -193,9 +181,7 @@ class Jobs:
         late = random.Random(f"delays {draw}")
         if "delay_ms" in network.values or "deviation_ms" in network.values:
             delay = float(network.values.get("delay_ms", 0)) / 1_000 / PERIOD
-            fates = BoundedJitter(
-                forth, delay, float(network.values.get("deviation_ms", 0)) / 1_000 / PERIOD, late
-            )
+            fates = BoundedJitter(forth, delay, float(network.values.get("deviation_ms", 0)) / 1_000 / PERIOD, late)
         else:
             fates = Drawn(forth, timing.delay, timing.jitter, late)
         return trace_of_fates(pictures, timing, fates, back)
@@ -207,17 +193,13 @@ class Jobs:
         packets = values.get("packets", 1)
         if network.kind == "capture" and "packets" not in values:
             packets = captured.packets_a_picture(self._heard(network))
-        return Timing(
-            packets, delay, values.get("jitter", 0), values.get("hold", lead), values.get("back", 0)
-        )
+        return Timing(packets, delay, values.get("jitter", 0), values.get("hold", lead), values.get("back", 0))
 
     @cache
     def _heard(self, network: plans.Network) -> list[captured.Heard]:
         assert network.file
         chosen = {key: network.values.get(key) for key in ("port", "ssrc", "clock")}
-        return captured.heard_in(
-            network.file, chosen["port"] or 5004, chosen["ssrc"], chosen["clock"]
-        )
+        return captured.heard_in(network.file, chosen["port"] or 5004, chosen["ssrc"], chosen["clock"])
 
     def _losses(self, network: plans.Network, seed: str) -> loss.Losses:
         draws, values = random.Random(seed), network.values

@@ -37,9 +37,7 @@ def marks_measured(shown: Sequence[Shown]) -> dict[str, Optional[float]]:
     """Shares of the marks, and the runs of pictures that aren't exact."""
     marks = [it.mark for it in shown]
     runs = runs_not_exact(marks)
-    found: dict[str, Optional[float]] = {
-        mark: marks.count(mark) / len(marks) for mark in ("exact", "patched", "held")
-    }
+    found: dict[str, Optional[float]] = {mark: marks.count(mark) / len(marks) for mark in ("exact", "patched", "held")}
     found["longest"] = max(runs, default=0)
     found["losses"] = len(runs)
     found["recovery"] = sum(runs) / len(runs) if runs else None

@@ -221,9 +221,7 @@ class _Reader:
             raise self.fault(at, f"{at[-1]}: the range has more than {MOST_CALLS:,} values")
         return list(range(given["from"], given["to"] + 1, step))
 
-    def product(
-        self, at: places.Path, table: dict[str, Any], kinds: Mapping[str, Kind]
-    ) -> list[dict[str, Any]]:
+    def product(self, at: places.Path, table: dict[str, Any], kinds: Mapping[str, Kind]) -> list[dict[str, Any]]:
         """Each choice of a value for every key that the table has."""
         names = [name for name in kinds if name in table]
         lists = [self.values((*at, name), kinds[name], table[name]) for name in names]
@@ -247,11 +245,7 @@ class _Reader:
         """The name of a table, which no other one has."""
         name: str = self.one((*at, "name"), Words(), table.get("name", ""))
         if not _NAME.fullmatch(name):
-            told = (
-                "has no name"
-                if not name
-                else f"{name!r} is no name: letters, digits, spaces and ._+-"
-            )
+            told = "has no name" if not name else f"{name!r} is no name: letters, digits, spaces and ._+-"
             raise self.fault((*at, "name"), told)
         if name in used:
             raise self.fault((*at, "name"), f"the name {name} is there twice")
@@ -315,9 +309,7 @@ def _plan(reader: _Reader, document: dict[str, Any], text: str) -> Plan:
     return plan
 
 
-def _tables(
-    reader: _Reader, document: dict[str, Any], name: str
-) -> Iterator[tuple[places.Path, Any]]:
+def _tables(reader: _Reader, document: dict[str, Any], name: str) -> Iterator[tuple[places.Path, Any]]:
     tables = document.get(name, [])
     if not isinstance(tables, list):
         raise reader.fault((name,), f"{name} is a table of an array: [[{name}]]")
@@ -360,9 +352,7 @@ def _networks(reader: _Reader, at: places.Path, table: Any, used: set[str]) -> l
         own: dict[str, Kind] = {**_COMMON, **_HOLD, **_CAPTURE}
         reader.known(at, table, {"name", "capture", *own})
         file = reader.file((*at, "capture"), table["capture"])
-        return [
-            Network(name, line, kind, values, file) for values in reader.product(at, table, own)
-        ]
+        return [Network(name, line, kind, values, file) for values in reader.product(at, table, own)]
     return _models(reader, at, table, name)
 
 
@@ -421,9 +411,7 @@ def _options(reader: _Reader, document: dict[str, Any]) -> list[dict[str, Any]]:
 
 
 def _check(reader: _Reader, plan: Plan) -> None:
-    calls = (
-        len(plan.videos) * len(plan.networks) * len(plan.senders) * len(plan.options) * plan.draws
-    )
+    calls = len(plan.videos) * len(plan.networks) * len(plan.senders) * len(plan.options) * plan.draws
     if calls > MOST_CALLS:
         raise reader.fault((), f"it has {calls:,} calls, more than {MOST_CALLS:,}")
     for network in plan.networks:

@@ -95,9 +95,7 @@ class _SqliteTable:
         except sqlite3.DatabaseError as fault:
             raise BadInput(str(path), "no table", str(fault)) from None
         if found != list(COLUMNS):
-            raise BadInput(
-                str(path), "its columns", "they aren't those of a campaign of this edition"
-            )
+            raise BadInput(str(path), "its columns", "they aren't those of a campaign of this edition")
 
     def rows(self) -> Iterator[Row]:
         try:
@@ -109,9 +107,7 @@ class _SqliteTable:
     def add(self, row: Row) -> None:
         marks = ", ".join("?" * len(COLUMNS))
         with self._base:
-            self._base.execute(
-                f"INSERT OR IGNORE INTO calls VALUES ({marks})", [row[it] for it in COLUMNS]
-            )
+            self._base.execute(f"INSERT OR IGNORE INTO calls VALUES ({marks})", [row[it] for it in COLUMNS])
 
     def drop(self, keys: list[str]) -> None:
         with self._base:
@@ -165,9 +161,7 @@ class _CsvTable:
         try:
             return int(text) if kind == "INTEGER" else float(text)
         except ValueError:
-            raise BadInput(
-                str(self._path), f"line {number}", f"{name}: {text!r} is no number"
-            ) from None
+            raise BadInput(str(self._path), f"line {number}", f"{name}: {text!r} is no number") from None
 
     def add(self, row: Row) -> None:
         if row["key"] in self._keys:
@@ -195,10 +189,7 @@ def _kind(name: str) -> str:
 
 def _line(values: list[object]) -> str:
     # A row is one line, whatever its words are.
-    flat = [
-        value.replace("\n", " ").replace("\r", " ") if isinstance(value, str) else value
-        for value in values
-    ]
+    flat = [value.replace("\n", " ").replace("\r", " ") if isinstance(value, str) else value for value in values]
     out = io.StringIO()
     csv.writer(out, lineterminator="\n").writerow(flat)
     return out.getvalue()
@@ -210,7 +201,9 @@ def checked(table: Table, path: Path, plan: str, is_added: bool) -> dict[str, Op
     found: dict[str, Optional[str]] = {}
     for row in table.rows():
         if row["plan"] != plan and not is_added:
-            told = "it has rows of another plan, or of this one before it was changed: --add keeps them and adds to them"
+            told = (
+                "it has rows of another plan, or of this one before it was changed: --add keeps them and adds to them"
+            )
             raise BadInput(str(path), "its rows", told)
         found[row["key"]] = row["status"]
     return found

@@ -29,7 +29,8 @@ void coder_close(struct coder *it) {
 }
 
 /* A coder of 30000/1001 pictures a second, in one thread. `options` are NAME=VALUE, with a semicolon in between. */
-struct coder *coder_open(const char *name, int width, int height, int64_t rate, int64_t buffer, const char *options) {
+struct coder *coder_open(const char *name, int width, int height, int64_t rate, int64_t buffer,
+                         const char *options) {
     const AVCodec *codec = avcodec_find_encoder_by_name(name);
     AVDictionary *words = NULL;
     struct coder *it;
@@ -63,13 +64,15 @@ struct coder *coder_open(const char *name, int width, int height, int64_t rate, 
     return it;
 }
 
-static void copied(uint8_t *out, int out_step, const uint8_t *in, int in_step, int width, int height) {
-    for (int row = 0; row < height; row++) memcpy(out + (size_t)row * out_step, in + (size_t)row * in_step, width);
+static void copied(uint8_t *out, int out_step, const uint8_t *in, int in_step, int width,
+                   int height) {
+    for (int row = 0; row < height; row++)
+        memcpy(out + (size_t)row * out_step, in + (size_t)row * in_step, width);
 }
 
 /* Codes a picture, and returns how many bytes it has, or -1. `flags` are libvpx's. */
-int coder_code(struct coder *it, const uint8_t *picture, int64_t number, int key, unsigned flags, uint8_t *room, int length,
-               int *is_key) {
+int coder_code(struct coder *it, const uint8_t *picture, int64_t number, int key, unsigned flags,
+               uint8_t *room, int length, int *is_key) {
     int count = 0;
     char text[16];
     if (av_frame_make_writable(it->frame) < 0) return -1;

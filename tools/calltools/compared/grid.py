@@ -12,7 +12,18 @@ from . import coders, videos
 from .call import Call, Line, Receiver, Sender, Video
 from .network import MILLISECOND, Network, PER, RATE
 from .ours import OurReceiver, OurSender, Ours
-from .rivals import AcknowledgingReceiver, AcknowledgingSender, ChainReceiver, Coded, H264, KeptCoder, Kind, LiveCoder, RivalSender, VP8
+from .rivals import (
+    AcknowledgingReceiver,
+    AcknowledgingSender,
+    ChainReceiver,
+    Coded,
+    H264,
+    KeptCoder,
+    Kind,
+    LiveCoder,
+    RivalSender,
+    VP8,
+)
 
 # On the wire, messages included, in bits a second.
 RATES = {"qcif": 128_000, "cif": 384_000}

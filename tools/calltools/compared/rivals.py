@@ -6,7 +6,19 @@ from typing import Callable, Optional, Protocol
 
 from ..y4m import Size
 from .coders import Decoder, Encoder
-from .network import LIMIT, MILLISECOND, Message, Network, Packet, RTP_HEADER, SECOND, UNDER_RTP, loss_of_picture, not_there, selection
+from .network import (
+    LIMIT,
+    MILLISECOND,
+    Message,
+    Network,
+    Packet,
+    RTP_HEADER,
+    SECOND,
+    UNDER_RTP,
+    loss_of_picture,
+    not_there,
+    selection,
+)
 
 # A packet that was asked for is given up after so long, and a key picture asked for.
 _GIVE_UP = SECOND

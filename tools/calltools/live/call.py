@@ -86,17 +86,13 @@ class LiveCall:
         self._server = MetricsServer(asked.metrics) if asked.metrics else None
         self.fault: Optional[BadInput] = None
         self._is_ending = self._is_over = False
-        context = CallContext(
-            self.loop, self._settings, self._recorder, self.tally, self.say, asked.library
-        )
+        context = CallContext(self.loop, self._settings, self._recorder, self.tally, self.say, asked.library)
         self.parties = [Party(context, line) for line in self._network.lines]
         for party in self.parties:
             party.on_end, party.on_fault = self.end, self._failed
         camera, screen = asked.camera, asked.screen
         self._camera = camera_of(self.loop, self._settings, camera) if camera else None
-        self._screen = (
-            screen_of(self.loop, self._settings, screen, "h263rps") if screen else None
-        )
+        self._screen = screen_of(self.loop, self._settings, screen, "h263rps") if screen else None
 
     def _facts(self) -> dict[str, Any]:
         asked = self._asked

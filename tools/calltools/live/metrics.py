@@ -58,7 +58,9 @@ class Metrics:
         return [
             *_lines("pictures_shown_total", "counter", "Pictures that were shown, by their marks.", marks),
             *_lines("pictures_sent_total", "counter", "Pictures that were coded and sent.", [Sample(tally.coded)]),
-            *_lines("frames_left_out_total", "counter", "Frames for which the line had no room.", [Sample(tally.thinned)]),
+            *_lines(
+                "frames_left_out_total", "counter", "Frames for which the line had no room.", [Sample(tally.thinned)]
+            ),
             *_ways("packets_total", "counter", "Packets of RTP.", tally.packets_out, tally.packets_in),
             *_ways("messages_total", "counter", "Messages of the back channel.", tally.messages_out, tally.messages_in),
             *_ways("bytes_total", "counter", "Bytes of datagrams.", tally.bytes_out, tally.bytes_in),
@@ -73,12 +75,19 @@ class Metrics:
         share = (now[1] - exact) / (now[2] - shown) if now[2] > shown else None
         return [
             *_lines("call_seconds", "gauge", "Since the call began.", [Sample(second)]),
-            *_lines("wait_seconds", "gauge", "From the earliest arrival of a picture to its play.", [Sample(self._wait)]),
+            *_lines(
+                "wait_seconds", "gauge", "From the earliest arrival of a picture to its play.", [Sample(self._wait)]
+            ),
             *_lines("exact_ratio", "gauge", "Exact pictures of those of the last ten seconds.", _known(share)),
             *_ways("bits_per_second", "gauge", "Bits of datagrams in the last second.", *rates),
             *_lines("round_trip_seconds", "gauge", "By the other party's reports.", _known(heard.round_trip)),
             *_lines("jitter_seconds", "gauge", "Of what comes in (RFC 3550, A.8).", _known(heard.jitter)),
-            *_lines("lost_ratio", "gauge", "Packets lost of what goes out, by the other party's last report.", _known(heard.loss)),
+            *_lines(
+                "lost_ratio",
+                "gauge",
+                "Packets lost of what goes out, by the other party's last report.",
+                _known(heard.loss),
+            ),
         ]
 
 

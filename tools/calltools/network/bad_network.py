@@ -36,13 +36,9 @@ class BadNetwork:
 class BadLink:
     """One way through the network."""
 
-    def __init__(
-        self, loop: Loop, network: BadNetwork, name: str, out: Callable[[bytes], None]
-    ) -> None:
+    def __init__(self, loop: Loop, network: BadNetwork, name: str, out: Callable[[bytes], None]) -> None:
         self._loop, self._network, self._out = loop, network, out
-        self._losses = GilbertElliott(
-            network.loss, network.burst, random.Random(f"{name} {network.seed}")
-        )
+        self._losses = GilbertElliott(network.loss, network.burst, random.Random(f"{name} {network.seed}"))
         self._draws = random.Random(f"{name} times {network.seed}")
         self._waiting: list[tuple[float, int, bytes]] = []
         self._free = 0.0  # when the line has sent what it took

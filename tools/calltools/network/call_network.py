@@ -61,9 +61,7 @@ class Lines:
 class CallNetwork(Lines):
     """Sockets without encryption. Messages have the port after that of the packets."""
 
-    def __init__(
-        self, loop: Loop, at: Address, other: Optional[Address], network: BadNetwork
-    ) -> None:
+    def __init__(self, loop: Loop, at: Address, other: Optional[Address], network: BadNetwork) -> None:
         self._loop = loop
         self._channels: list[Channel] = []
         self.lines = [self._to(at, other)] if other else self._alone(at, network)

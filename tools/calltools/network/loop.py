@@ -102,4 +102,3 @@ class Loop:
             call()
 
         self.on_readable(ours.fileno(), came)
-

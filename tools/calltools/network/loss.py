@@ -57,9 +57,7 @@ class Elliott:
     of the states in the long run. Gilbert's channel of 1960 is the one with no loss in the good state.
     """
 
-    def __init__(
-        self, to_bad: float, to_good: float, in_good: float, in_bad: float, draws: random.Random
-    ) -> None:
+    def __init__(self, to_bad: float, to_good: float, in_good: float, in_bad: float, draws: random.Random) -> None:
         self._change = {False: to_bad, True: to_good}
         self._lost = {False: in_good, True: in_bad}
         self._draws = draws

@@ -90,9 +90,7 @@ class Feed:
 class Source:
     """What comes out of a pipe, handed on as it comes."""
 
-    def __init__(
-        self, loop: Loop, file: int, on_bytes: Callable[[bytes], None], on_end: Call
-    ) -> None:
+    def __init__(self, loop: Loop, file: int, on_bytes: Callable[[bytes], None], on_end: Call) -> None:
         os.set_blocking(file, False)
         self._loop, self._file, self._on_bytes, self._on_end = loop, file, on_bytes, on_end
         self.is_closed = False

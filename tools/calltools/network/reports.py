@@ -56,9 +56,7 @@ class Report:
 def _block_bytes(block: ReportBlock) -> bytes:
     lost = max(-0x800000, min(block.lost, 0x7FFFFF)) & 0xFFFFFF
     word = block.fraction << 24 | lost
-    return _BLOCK.pack(
-        block.source, word, block.highest, block.jitter, block.last, block.delay
-    )
+    return _BLOCK.pack(block.source, word, block.highest, block.jitter, block.last, block.delay)
 
 
 def _report_bytes(report: Report) -> bytes:

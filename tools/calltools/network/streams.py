@@ -29,9 +29,7 @@ def stream_of(datagram: Optional[Datagram], port: int) -> Optional[Stream]:
     return Stream(datagram.source[0], port, header.source)
 
 
-def stream_in(
-    found: Sequence[Optional[Datagram]], port: int, source: Optional[int], path: str
-) -> Stream:
+def stream_in(found: Sequence[Optional[Datagram]], port: int, source: Optional[int], path: str) -> Stream:
     """The only stream of a capture to this port, or the one with this SSRC."""
     streams = {stream for datagram in found if (stream := stream_of(datagram, port))}
     streams = {stream for stream in streams if source in (None, stream.source)}

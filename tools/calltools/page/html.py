@@ -83,9 +83,7 @@ def counts_of(ways: Sequence[way.Way]) -> str:
     for told in ways:
         marks = [picture.mark for picture in told.pictures]
         counts = ", ".join(f"{marks.count(mark)} {mark}" for mark in MARKS if mark in marks)
-        words.append(
-            ": ".join(part for part in (told.name, counts or f"{len(marks)} sent") if part)
-        )
+        words.append(": ".join(part for part in (told.name, counts or f"{len(marks)} sent") if part))
     return "; ".join(words)
 
 

@@ -78,9 +78,7 @@ def _message(datagram: Datagram, stream: Stream, port: int) -> Optional[bytes]:
     return said.message if isinstance(said, rtcp.Feedback) and said.about == stream.source else None
 
 
-def entries_of_capture(
-    found: Sequence[Optional[Datagram]], stream: Stream, message_port: int
-) -> list[logs.Entry]:
+def entries_of_capture(found: Sequence[Optional[Datagram]], stream: Stream, message_port: int) -> list[logs.Entry]:
     """The log of an audit by a capture, in its order. Packets get the program's SSRC."""
     entries: list[logs.Entry] = []
     for datagram in found:

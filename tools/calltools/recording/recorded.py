@@ -59,7 +59,9 @@ class Record:
     def tell_cut(self) -> None:
         """Says on the standard error that the call has no end, if that is so."""
         if self.is_cut:
-            print(f"{shown(str(self.folder))}: the recording was cut off: what is whole of it is taken", file=sys.stderr)
+            print(
+                f"{shown(str(self.folder))}: the recording was cut off: what is whole of it is taken", file=sys.stderr
+            )
 
     @property
     def size(self) -> Size:
@@ -144,9 +146,7 @@ def _check_runs(path: Path, command: str, runs: object, names: tuple[str, ...]) 
                 raise BadInput(str(path), place, f"{name} names no file of the folder")
         for name in ("source", "first_sequence", "first_time", "skipped", "joined"):
             number_of = run.get(name)
-            if number_of is not None and (
-                type(number_of) is not int or not 0 <= number_of < 1 << 32
-            ):
+            if number_of is not None and (type(number_of) is not int or not 0 <= number_of < 1 << 32):
                 raise BadInput(str(path), place, f"{name} is no number of 32 bits")
         options = run.get("options", [])
         if not isinstance(options, list) or not all(isinstance(word, str) for word in options):

@@ -60,9 +60,7 @@ def sender_of(record: Record, place: int) -> Sender:
     for number, timed in enumerate(entries_of(record, run["wire"])):
         header = rtp.rtp_header(timed.entry.body)
         if header is None:
-            raise BadInput(
-                str(record.path(run["wire"])), f"entry {number}", "this is no RTP packet"
-            )
+            raise BadInput(str(record.path(run["wire"])), f"entry {number}", "this is no RTP packet")
         picture = header.timestamp // rtp.TICKS_A_PICTURE
         packets.append(SentPacket(picture, len(timed.entry.body), timed.time))
     return Sender(
@@ -73,11 +71,7 @@ def sender_of(record: Record, place: int) -> Sender:
         pictures=pictures_of(record, run["report"]),
         captured=[timed.time for timed in entries if timed.entry.letter == logs.CAPTURE],
         packets=packets,
-        heard=[
-            Heard(timed.entry.body, timed.time)
-            for timed in entries
-            if timed.entry.letter == logs.MESSAGE
-        ],
+        heard=[Heard(timed.entry.body, timed.time) for timed in entries if timed.entry.letter == logs.MESSAGE],
         rates=rates_of(record, run),
         frames=video_of(record, run["video"]),
     )
@@ -148,14 +142,10 @@ def receiver_of(record: Record, place: int) -> Receiver:
 
 
 def _lead_of(record: Record, place: int) -> int:
-    words = [
-        word for word in record.runs("recv")[place].get("options", []) if word.startswith("--lead=")
-    ]
+    words = [word for word in record.runs("recv")[place].get("options", []) if word.startswith("--lead=")]
     lead = words[-1][len("--lead=") :] if words else str(_LEAD)
     if not re.fullmatch("[0-9]{1,6}", lead):
-        raise BadInput(
-            str(record.path("call.json")), f"recv, run {place + 1}", "its lead is no number"
-        )
+        raise BadInput(str(record.path("call.json")), f"recv, run {place + 1}", "its lead is no number")
     return int(lead)
 
 
@@ -182,9 +172,7 @@ def _came(entries: list[Timed], joined: int) -> list[CamePacket]:
     return found
 
 
-def _said(
-    record: Record, run: dict[str, Any], played: list[Optional[float]], joined: int
-) -> list[Said]:
+def _said(record: Record, run: dict[str, Any], played: list[Optional[float]], joined: int) -> list[Said]:
     # A message is about the picture of the last play, or an open one: the nearest with its TR.
     found, plays = [], 0
     for number, timed in enumerate(entries_of(record, run["wire"])):

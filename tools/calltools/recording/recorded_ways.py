@@ -30,12 +30,8 @@ def ends_of(record: Record, other: Optional[Record] = None) -> Ends:
     """All runs of a call. `other` is the folder of the other machine: its sender's pictures come
     here, and ours go there."""
     records = [record] if other is None else [record, other]
-    senders = [
-        (at, sender_of(at, number)) for at in records for number in range(len(at.runs("send")))
-    ]
-    receivers = [
-        (at, receiver_of(at, number)) for at in records for number in range(len(at.runs("recv")))
-    ]
+    senders = [(at, sender_of(at, number)) for at in records for number in range(len(at.runs("send")))]
+    receivers = [(at, receiver_of(at, number)) for at in records for number in range(len(at.runs("recv")))]
     joined, received, heard = [], [], set()
     for at, receiver in receivers:
         if not receiver.packets:
@@ -176,9 +172,7 @@ class Joined:
             fate = _fate(sent.picture - self.offset, packet, self.receiver.lead, place in taken)
             came.add(place)
             taken.update([place] if fate == "taken" else [])
-            yield way.Packet(
-                sent.picture, fate, _add(sent.time, self.shift), packet.time, sent.size
-            )
+            yield way.Packet(sent.picture, fate, _add(sent.time, self.shift), packet.time, sent.size)
         for place, sent in enumerate(self.sender.packets):
             if place not in came:
                 yield way.Packet(sent.picture, "lost", _add(sent.time, self.shift), None, sent.size)
@@ -254,10 +248,7 @@ def _sent_only(record: Record, sender: Sender) -> way.Way:
         )
         for line in sender.pictures
     ]
-    packets = [
-        way.Packet(packet.picture, "passed", packet.time, None, packet.size)
-        for packet in sender.packets
-    ]
+    packets = [way.Packet(packet.picture, "passed", packet.time, None, packet.size) for packet in sender.packets]
     name = f"sent by {_run_name(record, sender.number)}"
     return way.Way(name, record.size, record.period, pictures, packets, captured=sender.frames)
 
@@ -269,11 +260,7 @@ class _CameOnly:
     def __init__(self, record: Record, receiver: Receiver) -> None:
         self.record, self.receiver = record, receiver
         self.start = min(
-            (
-                packet.time - packet.stamp / _SECOND
-                for packet in receiver.packets
-                if packet.time is not None
-            ),
+            (packet.time - packet.stamp / _SECOND for packet in receiver.packets if packet.time is not None),
             default=0.0,
         )
 
@@ -320,9 +307,7 @@ class _CameOnly:
             )
             for line in receiver.pictures
         ]
-        messages = [
-            way.Message(said.picture, said.is_ack, "passed", said.time) for said in receiver.said
-        ]
+        messages = [way.Message(said.picture, said.is_ack, "passed", said.time) for said in receiver.said]
         return way.Way(
             f"shown to {_run_name(self.record, receiver.number)}",
             self.record.size,

@@ -156,9 +156,7 @@ class Recorder:
         """Whether anything is recorded."""
         return bool(self._folder) and not self.fault
 
-    def run(
-        self, end: str, facts: dict[str, Any], is_kept: bool = True, has_targets: bool = False
-    ) -> RunRecord:
+    def run(self, end: str, facts: dict[str, Any], is_kept: bool = True, has_targets: bool = False) -> RunRecord:
         """A new run of `send` or `recv`; `facts` may be filled later on."""
         run = self._begun(end, facts, has_targets)
         if is_kept:

@@ -67,9 +67,7 @@ class Way:
 
     def section(self, start: int, count: int) -> "Way":
         """The way of this many pictures from place `start` on, as far as each video has them."""
-        count = min(
-            [count, *(len(video) - start for video in (self.captured, self.shown) if video)]
-        )
+        count = min([count, *(len(video) - start for video in (self.captured, self.shown) if video)])
         pictures = self.pictures[start : start + max(count, 0)]
         kept = {picture.number for picture in pictures}
         return replace(

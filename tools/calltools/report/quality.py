@@ -74,10 +74,11 @@ def curve_of(luma: list[float], pictures: Optional[list[Picture]]) -> str:
     width = max(left + step * len(luma) + 20, 320)
     parts = []
     for level in range(least, most + 1, 10):
-        parts += [svg.line(left, y(level), width - 20, y(level)), svg.text(left - 6, y(level) + 4, f"{level} dB", "end")]
-    parts += [
-        svg.text(x(number), top + height + 16, str(number), size=10) for number in range(0, len(luma), 10)
-    ]
+        parts += [
+            svg.line(left, y(level), width - 20, y(level)),
+            svg.text(left - 6, y(level) + 4, f"{level} dB", "end"),
+        ]
+    parts += [svg.text(x(number), top + height + 16, str(number), size=10) for number in range(0, len(luma), 10)]
     parts.append(svg.path("M " + " L ".join(f"{x(n):g} {y(value):.1f}" for n, value in enumerate(shown)), svg.LIGHT, 2))
     marks = [picture.mark for picture in pictures] if pictures else [None] * len(luma)
     for number, (value, mark) in enumerate(zip(shown, marks)):

@@ -37,9 +37,7 @@ class _Teller:
         self.pictures, self.lead, self.sizes = pictures, lead, sizes
         self.captured: list[float] = []
         self.played: list[float] = []
-        self.came: dict[
-            int, float
-        ] = {}  # of each picture, when the last packet came that was taken
+        self.came: dict[int, float] = {}  # of each picture, when the last packet came that was taken
         self.heard: dict[int, float] = {}  # of each message by its number
         self._packets: dict[int, list[way.Packet]] = {}
         self._places: dict[int, set[str]] = {}  # of each picture, what was delivered
