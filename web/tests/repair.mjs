@@ -99,4 +99,5 @@ const [near, nearAlone, far, farAlone] = [[0.025, true], [0.025, false], [0.15, 
 must(near.share >= 99, "a round trip of 50 ms: at least 99 % are wanted");
 must(nearAlone.share < 96, "without repair fewer must be exact, or this shows nothing");
 must(Math.abs(far.share - farAlone.share) < 1, "a round trip beyond the wait: repair must change nothing");
-must(far.again < 0.01 * (far.bytes / LIMIT), "a round trip beyond the wait: hardly a packet may be sent again");
+// A try every two seconds may ask for a picture of several packets.
+must(far.again < 0.02 * (far.bytes / LIMIT), "a round trip beyond the wait: hardly a packet may be sent again");
