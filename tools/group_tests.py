@@ -9,7 +9,8 @@ import unittest
 from dataclasses import dataclass, field
 from pathlib import Path
 
-from calltools import contents, library, logs, program, y4m
+from calltools import formula_videos, library, program, y4m
+from calltools.recording import logs
 from live_tests import needs_library
 
 PROGRAM = Path(os.environ.get("H263RPS_PROGRAM", program.OWN))
@@ -112,7 +113,7 @@ class GroupTest(unittest.TestCase):
         self.addCleanup(room.cleanup)
         self.room = Path(room.name)
         size = y4m.Size(*y4m.FORMATS[FORMAT])
-        content = next(it for it in contents.CONTENTS if it.name == "textures")
+        content = next(it for it in formula_videos.CONTENTS if it.name == "textures")
         self.frames = list(content.frames(size, PICTURES))
         with open(self.room / "video", "wb") as file:
             y4m.write_head(file, size)
