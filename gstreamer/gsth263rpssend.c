@@ -60,7 +60,7 @@ GST_DEBUG_CATEGORY_STATIC (h263rpssend_debug);
 #define DEFAULT_BITRATE 430000
 #define DEFAULT_ADAPT TRUE
 #define DEFAULT_QUANT 8
-#define DEFAULT_RADIUS 7
+#define DEFAULT_RADIUS 15
 #define DEFAULT_SLOTS 39
 #define DEFAULT_LEAD 6
 #define DEFAULT_CUSTOM_CLOCK FALSE
@@ -462,11 +462,11 @@ record_facts (GstH263RpsSend * self, guint packets)
   g_object_get (self, "seqnum", &last, "timestamp", &first, NULL);
   gst_h263rps_record_facts (self->record,
       "\"format\": \"%s\", \"rate\": \"%d/%d\", "
-      "\"clock\": \"%s\", \"target\": %u, \"quant\": %u, \"limit\": %u, \"slots\": %u, "
-      "\"lead\": %u, \"source\": %u, \"first_sequence\": %u, \"first_time\": %u",
+      "\"clock\": \"%s\", \"target\": %u, \"quant\": %u, \"radius\": %u, \"limit\": %u, "
+      "\"slots\": %u, \"lead\": %u, \"source\": %u, \"first_sequence\": %u, \"first_time\": %u",
       gst_h263rps_format_name (self->params.format), self->info.fps_n, self->info.fps_d,
       self->params.clock ? "custom" : "standard", self->params.target, self->params.quant,
-      self->params.limit, self->params.slots, self->params.lead,
+      self->params.radius, self->params.limit, self->params.slots, self->params.lead,
       GST_RTP_BASE_PAYLOAD (self)->current_ssrc, (guint) (guint16) (last - packets + 1), first);
 }
 

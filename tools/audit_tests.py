@@ -146,12 +146,17 @@ class AuditLogTest(unittest.TestCase):
             (self.room / name).write_bytes((CALLS / file).read_bytes())
         (self.room / "send.steps").write_bytes(b"")
         run = {"log": "send.log", "wire": "packets.log", "video": "v.y4m", "report": "r.txt", "steps": "send.steps"}
-        run |= {"slots": 39, "lead": 6, "clock": "standard", "target": 900, "quant": 8, "limit": 1400}
+        run |= {"slots": 39, "lead": 6, "clock": "standard", "target": 900, "quant": 8, "radius": 15, "limit": 1400}
         run |= {"format": "sub-qcif", "rate": "30/1"}
         (self.room / "send.runs").write_text(json.dumps(run) + "\n")
         tool("record_of_elements").main([str(self.room)])
         wanted = f"audit {self.log} --format=sub-qcif --clock=standard --slots=39 --lead=6"
         self.assertEqual(self.made(self.room), wanted)
+        self.assertIn("--radius=15", json.loads((self.room / "call.json").read_text())["send"][0]["options"])
+        # Of an element of 2.0.
+        (self.room / "send.runs").write_text(json.dumps({name: run[name] for name in run if name != "radius"}) + "\n")
+        tool("record_of_elements").main([str(self.room)])
+        self.assertIn("--radius=7", json.loads((self.room / "call.json").read_text())["send"][0]["options"])
         (self.room / "send.runs").write_text(json.dumps({**run, "slots": "3 --format=cif", "lead": "\033]0;"}) + "\n")
         tool("record_of_elements").main([str(self.room)])
         self.assertEqual(self.made(self.room), f"audit {self.log} --format=sub-qcif --clock=standard")

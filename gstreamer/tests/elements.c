@@ -1095,8 +1095,8 @@ flush (Call * call)
 }
 
 /* Three senders, one of another format, fall silent now and then, and all are heard at one receiver,
- * which is flushed at times. What it records in the folder that RECORDS names is its library's own
- * (tests/recipes). */
+ * which is flushed at times. What it and the last sender record in the folder that RECORDS names is
+ * their library's own (tests/recipes). */
 GST_START_TEST (test_a_mixture)
 {
   GRand * rand = g_rand_new_with_seed (77);
@@ -1109,6 +1109,7 @@ GST_START_TEST (test_a_mixture)
 
   for (k = 0; k < 3; k++)
     begin_call (&calls[k]);
+  g_object_set (calls[2].send, "radius", 3, "record-location", folder, NULL);
   set_size (&calls[2], QCIF);
   g_object_set (calls[0].recv, "latency", 150, "record-location", folder, NULL);
   for (i = 0; i < 2000; i++) {

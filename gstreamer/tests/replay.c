@@ -1,7 +1,7 @@
 /* Makes the calls that an element made, by its record, on the library alone, and says how many
  * packets, pictures and messages are other than the element's.
  *
- *   replay send FORMAT SLOTS LEAD QUANT TARGET LIMIT CLOCK captured.y4m send.log send.steps packets.log
+ *   replay send FORMAT SLOTS LEAD QUANT RADIUS TARGET LIMIT CLOCK captured.y4m send.log send.steps packets.log
  *   replay recv FORMAT SLOTS LEAD MESSAGES CLOCK FIRST recv.log shown.y4m messages.log */
 #include <stdio.h>
 #include <stdlib.h>
@@ -82,14 +82,15 @@ send (char ** words)
   params.slots = (uint32_t) atoi (words[1]);
   params.lead = (uint32_t) atoi (words[2]);
   params.quant = (uint8_t) atoi (words[3]);
-  params.target = (uint32_t) atoi (words[4]);
+  params.radius = (uint8_t) atoi (words[4]);
+  params.target = (uint32_t) atoi (words[5]);
   params.pace = H263RPS_FOLLOWS;
-  params.limit = (uint32_t) atoi (words[5]);
-  params.clock = (uint32_t) atoi (words[6]);
-  video = opened (words[7]);
-  log = opened (words[8]);
-  steps = opened (words[9]);
-  wire = opened (words[10]);
+  params.limit = (uint32_t) atoi (words[6]);
+  params.clock = (uint16_t) atoi (words[7]);
+  video = opened (words[8]);
+  log = opened (words[9]);
+  steps = opened (words[10]);
+  wire = opened (words[11]);
   size = h263rps_picture_size (params.format);
   if (h263rps_sender_start (&end, &params, NULL) || !fgets (line, sizeof line, video))
     return 2;
@@ -188,7 +189,7 @@ recv (char ** words)
 int
 main (int argc, char ** argv)
 {
-  if (argc == 13 && strcmp (argv[1], "send") == 0)
+  if (argc == 14 && strcmp (argv[1], "send") == 0)
     return send (argv + 2);
   if (argc == 11 && strcmp (argv[1], "recv") == 0)
     return recv (argv + 2);

@@ -58,12 +58,13 @@ class SendingRun:
 
     def _started(self) -> Any:
         library, settings = self._context.library, self._settings
-        own = {"target": settings.target, "quant": settings.quant, "limit": settings.limit}
+        own = {"target": settings.target, "quant": settings.quant, "radius": settings.radius}
         # As `send --target` does, by which a record is replayed.
         own["pace"] = library.PACES["follows"]
-        shared = {"slots": settings.slots, "lead": settings.lead, "clock": library.CLOCKS[settings.clock]}
+        shared = {"limit": settings.limit, "slots": settings.slots, "lead": settings.lead}
+        clock = library.CLOCKS[settings.clock]
         try:
-            return library.Sender(library.Params.of(settings.format, **own, **shared))
+            return library.Sender(library.Params.of(settings.format, clock=clock, **own, **shared))
         except library.Refused as fault:
             raise BadInput("the library", "no sender", str(fault)) from fault
 

@@ -35,6 +35,7 @@ class Settings:
     slots: int = 39
     target: int = 1_800
     quant: int = 8
+    radius: int = 15
     limit: int = 1_400
     most_pictures: int = MOST_PICTURES
     # Whether the target follows the line; it is the first one then.
@@ -68,8 +69,8 @@ class Settings:
     def send_options(self) -> list[str]:
         """The words of `send`. It always has a target: a line that is too narrow for intra
         pictures would else never carry one whole, and each next one would be intra again."""
-        own = [f"--target={self.target}", f"--quant={self.quant}", f"--limit={self.limit}"]
-        return own + self._shared()
+        own = [f"--target={self.target}", f"--quant={self.quant}", f"--radius={self.radius}"]
+        return own + [f"--limit={self.limit}"] + self._shared()
 
     def recv_options(self) -> list[str]:
         """The words of `recv`."""
