@@ -1,17 +1,24 @@
 """PSNR of pictures, and its drawing beside a report."""
 
+import importlib
 import math
 from dataclasses import dataclass
-from typing import Optional
+from typing import Any, Optional
 
 from . import svg
 from .picture_lines import MARKS, Picture
 from ..y4m import Size
 
-try:  # the sums are the same with it, and quicker
-    import numpy
-except ImportError:
-    numpy = None
+
+def _module_or_none(name: str) -> Any:
+    try:
+        return importlib.import_module(name)
+    except ImportError:
+        return None
+
+
+# The sums are the same with it, and quicker.
+numpy = _module_or_none("numpy")
 
 _SQUARES = [difference * difference for difference in range(256)]
 MOST_DRAWN = 60.0
