@@ -5,7 +5,7 @@
 
 import { Repeats, SSRC } from "../../library/web/h263rps.js";
 import { Budget } from "./budget.js";
-import { LIMIT } from "./call_settings.js";
+import { LIMIT, RATE } from "./call_settings.js";
 
 /** The first two bytes of such a packet: version 2, format 1, transport feedback. No RTP packet of a call begins so. */
 const NACK = 0x81cd;
@@ -17,6 +17,8 @@ const MOST_FIELDS = 65;
 const KEPT_PACKETS = 512;
 /** So many milliseconds later it is asked a second time, since what asks may be lost, too. */
 export const ASKED_TWICE = 5;
+/** By so many pictures the shortest time on the way may be too long. */
+const LATE_PICTURES = 2;
 /** Within so many seconds a packet is sent again once. */
 const ANSWERED = 0.02;
 /** Seconds that a packet takes that is asked for, before the first one came. */
@@ -62,23 +64,43 @@ function askedIn(view) {
   return places.flatMap((at) => sequencesOf({ packet: view.getUint16(at), following: view.getUint16(at + 2) }));
 }
 
-/** The packets that went out last. */
+/** The packets that went out last: an older one than its picture waits would fill the line for nothing. */
 export class SentPackets {
   #repeats = newRepeats();
+  /** When they went out, by their sequence numbers, the oldest first. */
+  #times = new Map();
 
-  keep(packet) {
+  /** Of pictures that wait so many seconds. */
+  constructor(wait) {
+    this.wait = wait;
+  }
+
+  keep(packet, time) {
+    for (const [sequence, when] of this.#times) {
+      if (this.#isInTime(when, time)) break;
+      this.#times.delete(sequence);
+    }
+    const sequence = new DataView(packet.buffer, packet.byteOffset).getUint16(2);
+    this.#times.delete(sequence);
+    this.#times.set(sequence, time);
     this.#repeats.keep(packet);
   }
 
-  /** A copy of the newest one with this sequence number; null where it isn't kept. */
-  find(sequence) {
-    return this.#repeats.find(sequence);
+  /** A copy of the newest one with this sequence number; null where it isn't kept, or its picture waits no longer. */
+  find(sequence, time) {
+    const when = this.#times.get(sequence) ?? -Infinity;
+    return this.#isInTime(when, time) ? this.#repeats.find(sequence) : null;
+  }
+
+  #isInTime(when, time) {
+    return when >= time - this.wait - LATE_PICTURES / RATE;
   }
 
   /** None of them is kept any longer. */
   forget() {
     this.close();
     this.#repeats = newRepeats();
+    this.#times.clear();
   }
 
   close() {
@@ -114,7 +136,7 @@ export class Repairs {
 
   #again(sequence, time) {
     if (this.#answered.has(sequence)) return null;
-    const packet = this.#sent.find(sequence);
+    const packet = this.#sent.find(sequence, time);
     if (!packet || !this.#budget.take(packet.length)) return null;
     this.#answered.set(sequence, time);
     return packet;

@@ -23,15 +23,16 @@ export class Sending {
   #pen;
   #began = null;
   #captured = [];
-  #sent = new SentPackets();
+  #sent;
   /** When the last picture was captured. */
   last = -Infinity;
   /** Seconds that the last picture took to become planes, and to be coded. */
   took = { planes: 0, code: 0 };
 
-  /** Pictures of this format, of so many bytes at the most, of which a record may be kept. */
-  constructor(format, record = null, target = TARGETS[format]) {
+  /** Pictures of this format, of so many bytes at the most, that wait so many seconds; a record of them may be kept. */
+  constructor(format, wait, record = null, target = TARGETS[format]) {
     Object.assign(this, { record, target });
+    this.#sent = new SentPackets(wait);
     const [width, height] = SIZES[format];
     Object.assign(this, { width, height });
     const params = Params.of(format, { target, limit: LIMIT, slots: SLOTS, lead: LEAD });
@@ -50,6 +51,11 @@ export class Sending {
 
   leave(place) {
     this.#receivers.leave(place, now());
+  }
+
+  /** So many seconds pictures wait from now on. */
+  setWait(wait) {
+    this.#sent.wait = wait;
   }
 
   /** What was sent so far is sent nobody again. */
@@ -78,7 +84,7 @@ export class Sending {
     if (this.record) this.#note(coded, packets, time, target);
     this.took = { planes: filled - time, code: now() - filled };
     const ticks = Math.round((time - this.#began) * TICKS);
-    return { packets: packets.map((packet) => this.#kept(stamped(packet, ticks))), to };
+    return { packets: packets.map((packet) => this.#kept(stamped(packet, ticks), time)), to };
   }
 
   /** Whether all who are waited for can take a picture. */
@@ -88,8 +94,8 @@ export class Sending {
     return !receivers.inside.some((place) => full.includes(place)) && receivers.hasRoom;
   }
 
-  #kept(packet) {
-    this.#sent.keep(packet);
+  #kept(packet, time) {
+    this.#sent.keep(packet, time);
     return packet;
   }
 

@@ -77,7 +77,7 @@ class Ends {
     this.#format = format;
     this.#wait = wait;
     this.#record = kept ? new Record(now(), { format, wait, target: TARGETS[format], ...kept }) : null;
-    this.#sending = new Sending(format, this.#record);
+    this.#sending = new Sending(format, wait, this.#record);
     this.#timers.push(setInterval(() => this.#tellCounts(), TOLD_EACH));
   }
 
@@ -181,6 +181,7 @@ class Ends {
   /** Only a call with oneself changes it. To a session that began anew the next picture says all. */
   wait({ wait }) {
     this.#wait = wait;
+    this.#sending?.setWait(wait);
     const isAnew = [...this.#parties.values()].map(({ receiving }) => receiving.setWait(wait));
     if (isAnew.some(Boolean)) this.#sending.forget();
   }

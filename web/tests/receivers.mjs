@@ -21,7 +21,7 @@ const openLine = () => ({ target: TARGET, hasRoom: true, sent: () => {}, told: (
 class Room {
   #group = new Group(Params.of("qcif", { target: TARGET, limit: LIMIT, slots: SLOTS, lead: LEAD }));
   #receivers = new Receivers(this.#group);
-  #sent = new SentPackets();
+  #sent = new SentPackets(WAIT);
   #parties = new Map();
   #begin = now();
   /** How often one left the group, and how many pictures were intra. */
@@ -77,7 +77,7 @@ class Room {
     const packets = this.#group.packets(coded);
     for (const packet of packets) {
       new DataView(packet.buffer).setUint32(4, Math.round((now() - this.#begin) * TICKS));
-      this.#sent.keep(packet);
+      this.#sent.keep(packet, now());
     }
     this.#receivers.sent(coded.number, packets, this.#receivers.places, now());
     this.#send(packets, this.#receivers.places);

@@ -19,7 +19,7 @@ class Call {
   #chance = chanceOf(7);
   #other = chanceOf(8);
   #sender = new Sender(Params.of("qcif", { target: TARGET, limit: LIMIT, slots: SLOTS, lead: LEAD }));
-  #sent = new SentPackets();
+  #sent = new SentPackets(WAIT);
   #repairs = new Repairs(this.#sent, TARGET * RATE);
   #receiving;
   asked = 0;
@@ -55,7 +55,7 @@ class Call {
     const packets = this.#sender.packets(this.#sender.code(picture));
     for (const packet of packets) {
       new DataView(packet.buffer).setUint32(4, Math.round((now() - this.begin) * TICKS));
-      this.#sent.keep(packet);
+      this.#sent.keep(packet, now());
     }
     this.#send(packets, this.#chance);
   }
@@ -99,5 +99,4 @@ const [near, nearAlone, far, farAlone] = [[0.025, true], [0.025, false], [0.15, 
 must(near.share >= 99, "a round trip of 50 ms: at least 99 % are wanted");
 must(nearAlone.share < 96, "without repair fewer must be exact, or this shows nothing");
 must(Math.abs(far.share - farAlone.share) < 1, "a round trip beyond the wait: repair must change nothing");
-// A try every two seconds may ask for a picture of several packets.
-must(far.again < 0.02 * (far.bytes / LIMIT), "a round trip beyond the wait: hardly a packet may be sent again");
+must(far.again === 0, "a round trip beyond the wait: no packet may be sent again");
