@@ -115,7 +115,8 @@ class ThreeTest(CallTest):
             page.press("room_accept")
         for page in pages:
             self.until_others(page, 2)
-        self.assertEqual(ada.text("state"), "A call with Bob and Cleo")
+        # By who is connected first.
+        self.assertIn(ada.text("state"), ("A call with Bob and Cleo", "A call with Cleo and Bob"))
         time.sleep(10)
         before = self.shares(pages)
         print(f"with no loss: {', '.join(re.findall(r'[0-9]+ kbit/s', page.text('figures'))[0] for page in pages)}")
