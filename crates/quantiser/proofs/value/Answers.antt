@@ -1,4 +1,4 @@
-use Rattle.std.proofs.Common.{◌≡◌, ℕ, ℤ, pos, unsigned_abs, ◌≤◌, ◌+ℤ◌, ◌*ℤ◌, ◌-◌, ◌*◌, ◌%◌, ◌∙◌, ap, subst, arith}
+use Rattle.std.proofs.Common.{ℕ, ℤ, ◌-◌, ◌%◌, ◌∙◌, ap, arith}
 use Rattle.std.specs.Int.{int_signum}
 use Rattle.std.proofs.lemmas.Int.{ints}
 use Rattle.h263_types.specs.Blocks.{IsValue}

@@ -1,9 +1,8 @@
-use Rattle.std.proofs.Common.{◌∙◌, ℤ, pos, ◌+ℤ◌, ◌*ℤ◌, ◌≡◌, ℕ, List, lit≤, w16, arith}
+use Rattle.std.proofs.Common.{◌≡◌, ◌∙◌, ℤ, pos, ◌+ℤ◌, ◌*ℤ◌, List, map, lit≤, arith, w16, of_z}
 use Rattle.std.proofs.lemmas.Int.{ints}
 use Rattle.idct8.specs.Vectors.{lane, EightWithin}
 use Rattle.idct8.proofs.Vectors.{Words, plus16, sum_words16, own_words, numbers16, numbers_small16}
 use lib.Lanes.{zip2}
-use Rattle.std.proofs.Common.{map, of_z}
 use Rattle.idct8.proofs.sixteenths.doubled_thrice.Goals as goal
 
 -- the words that are doubled three times

@@ -1,9 +1,9 @@
 -- The first and the fifth row of the basis are 2048 with a sign at each place: so the sums are multiples of 2^11.
-use Rattle.std.proofs.Common.{◌≡◌, ◌∙◌, ◌^◌, ap, lit≤, lit<, ℕ, ℤ, [], ◌∷◌, pos, ◌+ℤ◌, ◌-ℤ◌, ◌*ℤ◌, arith, refl, sym}
+use Rattle.std.proofs.Common.{◌≡◌, ◌∙◌, ◌^◌, lit≤, lit<, ℤ, [], ◌∷◌, pos, ◌+ℤ◌, ◌-ℤ◌, ◌*ℤ◌, arith, refl, sym}
 use Rattle.std.proofs.lemmas.Int.{ints}
 use Rattle.std.specs.Int.{int_shr}
 use Rattle.idct8.specs.declared.passes.Direction.TheVariants.{Forward}
-use Rattle.idct8.specs.Vectors.{lane, list_at, row_at}
+use Rattle.idct8.specs.Vectors.{lane, row_at}
 use Rattle.idct8.specs.Passes.{pass_at}
 use Rattle.idct8.proofs.Near.{first_none}
 use Rattle.idct8.proofs.Rotations.{sum_of, forward_sum_0, forward_sum_4}

@@ -1,4 +1,4 @@
-use Rattle.std.proofs.Common.{rules, ◌≡◌, ◌∙◌, ◌<◌, ℕ, ℤ, get_or, pos, arith, below_more, w16, to_z, of_z, FitsSigned, ap, sym}
+use Rattle.std.proofs.Common.{rules, ◌≡◌, ◌∙◌, ℕ, ℤ, get_or, pos, arith, below_more, w16, to_z, of_z, FitsSigned, ap, sym}
 use Rattle.std.proofs.lemmas.Int.{ints, to_z-of_z}
 use Rattle.std.proofs.lemmas.Nat.{le_or_l, le_or_r}
 use Rattle.picture_recon.proofs.values.bits_of_all.Goals as goal
