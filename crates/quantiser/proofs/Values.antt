@@ -74,7 +74,8 @@ kept_steps q (negsuc n) h l =
     omega (arith, ints, most)
 
 pub same_steps : (q : ℕ) (z f g : ℤ) → q ≤ 31 → IsLevel z → f ≡ pos q → g ≡ z →
-    to_z w32 (of_z w32 (to_z w32 (of_z w32 (pos 2 *ℤ to_z w32 (of_z w32 f))) *ℤ to_z w32 (of_z w32 g))) ≡ pos (2 * q) *ℤ z
+    to_z w32 (of_z w32 (to_z w32 (of_z w32 (pos 2 *ℤ to_z w32 (of_z w32 f))) *ℤ to_z w32 (of_z w32 g)))
+    ≡ pos (2 * q) *ℤ z
 same_steps q z f g h l e d =
     let first : to_z w32 (of_z w32 (pos 2 *ℤ to_z w32 (of_z w32 f))) ≡ pos (2 * q) = omega (arith, ints, e, h) in
     let second : to_z w32 (of_z w32 g) ≡ z = omega (arith, ints, d, l.low, l.high) in
@@ -88,7 +89,8 @@ pub steps_and_rest : (q : ℕ) (z : ℤ) → 1 ≤ q → pos (2 * q) *ℤ z +ℤ
 steps_and_rest q (pos zero) h = omega (arith, ints)
 steps_and_rest q (pos (suc n)) h =
     let one : min (suc n) 1 ≡ 1 = omega arith in
-    subst (λ (m : ℕ). pos (2 * q) *ℤ pos (suc n) +ℤ pos m *ℤ pos (q - (1 - q % 2)) ≡ pos m *ℤ pos (value_size q (suc n)))
+    subst (λ (m : ℕ). pos (2 * q) *ℤ pos (suc n) +ℤ pos m *ℤ pos (q - (1 - q % 2))
+    ≡ pos m *ℤ pos (value_size q (suc n)))
     (sym one) (let e : q * (2 * suc n + 1) ≡ 2 * q * suc n + q = omega arith in omega (arith, ints, e, h))
 steps_and_rest q (negsuc n) h =
     let e : q * (2 * suc n + 1) ≡ 2 * q * suc n + q = omega arith in omega (arith, ints, e, h)

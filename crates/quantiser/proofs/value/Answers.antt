@@ -13,7 +13,8 @@ overflow_add-steps c =
     let sign = c.from-sign.ensures ∙ same_sign z c.signum.result (c.signum.ensures.value ∙ ap int_signum level) in
     let steps = same_steps q z c.from.result c.from-2.result c.requires.quant.high c.requires.level c.from.ensures
     (c.from-2.ensures ∙ level) in
-    let rest = same_product z _ _ (q - (1 - q % 2)) sign c.rest_of_value.ensures.rest (omega (arith, c.requires.quant.high)) in
+    let rest = same_product z _ _ (q - (1 - q % 2)) sign c.rest_of_value.ensures.rest
+    (omega (arith, c.requires.quant.high)) in
     sum_fits q z _ _ c.requires.quant.low c.requires.quant.high c.requires.level steps rest
 
 pub returns-clause-value : goal.returns-clause-value
@@ -28,6 +29,7 @@ returns-clause-value c =
     let sign = c.from-sign.ensures ∙ same_sign z c.signum.result (c.signum.ensures.value ∙ ap int_signum level) in
     let steps = same_steps q z c.from.result c.from-2.result c.requires.quant.high c.requires.level c.from.ensures
     (c.from-2.ensures ∙ level) in
-    let rest = same_product z _ _ (q - (1 - q % 2)) sign c.rest_of_value.ensures.rest (omega (arith, c.requires.quant.high)) in
+    let rest = same_product z _ _ (q - (1 - q % 2)) sign c.rest_of_value.ensures.rest
+    (omega (arith, c.requires.quant.high)) in
     kept_value c.clamp.result range ∙ c.clamp.ensures.value
     ∙ same_value q z _ (kept_sum q z _ _ c.requires.quant.low c.requires.quant.high c.requires.level steps rest)

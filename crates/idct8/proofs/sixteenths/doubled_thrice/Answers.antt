@@ -9,7 +9,8 @@ use Rattle.idct8.proofs.sixteenths.doubled_thrice.Goals as goal
 eight : (v : List ℤ) → EightWithin 2040 v → Words w16 16320
     (zip2 plus16 (zip2 plus16 (zip2 plus16 (map (of_z w16) v) (map (of_z w16) v))
     (zip2 plus16 (map (of_z w16) v) (map (of_z w16) v)))
-    (zip2 plus16 (zip2 plus16 (map (of_z w16) v) (map (of_z w16) v)) (zip2 plus16 (map (of_z w16) v) (map (of_z w16) v))))
+    (zip2 plus16 (zip2 plus16 (map (of_z w16) v) (map (of_z w16) v))
+    (zip2 plus16 (map (of_z w16) v) (map (of_z w16) v))))
     (λ i. lane v i +ℤ lane v i +ℤ (lane v i +ℤ lane v i) +ℤ (lane v i +ℤ lane v i +ℤ (lane v i +ℤ lane v i)))
 eight v h =
     let one = own_words w16 2040 v h in

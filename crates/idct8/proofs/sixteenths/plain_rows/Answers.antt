@@ -56,14 +56,16 @@ taken a b p q = omega (arith, ints)
 eighth : (z d n : ℤ) → n ≡ pos 8 *ℤ d → z ≡ pos 2048 *ℤ d → n ≡ int_shr (z +ℤ pos 128) 8
 eighth z d n e f = e ∙ sym (first_none z d f)
 
-first_is : (c0 c1 c2 c3 c4 c5 c6 c7 : ℤ) {n p0 p1 p2 p3 : ℤ} → p0 ≡ c0 +ℤ c7 → p1 ≡ c1 +ℤ c6 → p2 ≡ c2 +ℤ c5 → p3 ≡ c3 +ℤ c4
+first_is : (c0 c1 c2 c3 c4 c5 c6 c7 : ℤ) {n p0 p1 p2 p3 : ℤ} → p0 ≡ c0 +ℤ c7 → p1 ≡ c1 +ℤ c6 → p2 ≡ c2 +ℤ c5
+    → p3 ≡ c3 +ℤ c4
     → n ≡ pos 8 *ℤ (p0 +ℤ p3 +ℤ (p1 +ℤ p2))
     → n ≡ int_shr (pass_at Forward (c0 ∷ c1 ∷ c2 ∷ c3 ∷ c4 ∷ c5 ∷ c6 ∷ c7 ∷ []) 0 +ℤ pos 128) 8
 first_is c0 c1 c2 c3 c4 c5 c6 c7 {n} {p0} {p1} {p2} {p3} h0 h1 h2 h3 e =
     eighth (pass_at Forward (c0 ∷ c1 ∷ c2 ∷ c3 ∷ c4 ∷ c5 ∷ c6 ∷ c7 ∷ []) 0) (p0 +ℤ p3 +ℤ (p1 +ℤ p2)) n e
     (sym (forward_sum_0 c0 c1 c2 c3 c4 c5 c6 c7 (sym (added p0 p3 p1 p2)) refl refl h0 h1 h2 h3))
 
-middle_is : (c0 c1 c2 c3 c4 c5 c6 c7 : ℤ) {n p0 p1 p2 p3 : ℤ} → p0 ≡ c0 +ℤ c7 → p1 ≡ c1 +ℤ c6 → p2 ≡ c2 +ℤ c5 → p3 ≡ c3 +ℤ c4
+middle_is : (c0 c1 c2 c3 c4 c5 c6 c7 : ℤ) {n p0 p1 p2 p3 : ℤ} → p0 ≡ c0 +ℤ c7 → p1 ≡ c1 +ℤ c6 → p2 ≡ c2 +ℤ c5
+    → p3 ≡ c3 +ℤ c4
     → n ≡ pos 8 *ℤ (p0 +ℤ p3 -ℤ (p1 +ℤ p2))
     → n ≡ int_shr (pass_at Forward (c0 ∷ c1 ∷ c2 ∷ c3 ∷ c4 ∷ c5 ∷ c6 ∷ c7 ∷ []) 4 +ℤ pos 128) 8
 middle_is c0 c1 c2 c3 c4 c5 c6 c7 {n} {p0} {p1} {p2} {p3} h0 h1 h2 h3 e =

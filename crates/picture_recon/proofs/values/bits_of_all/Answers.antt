@@ -5,7 +5,8 @@ use Rattle.picture_recon.proofs.values.bits_of_all.Goals as goal
 
 -- only 0 has no bits
 zero : (z : ℤ) (n : ℕ) → FitsSigned w16 z → n ≡ of_z w16 (to_z w16 (of_z w16 z)) → n ≡ 0 → z ≡ pos 0
-zero z n fits e f = sym (to_z-of_z w16 z fits) ∙ sym (to_z-of_z w16 (to_z w16 (of_z w16 z)) (omega (arith, ints))) ∙ ap (to_z w16) (sym e ∙ f)
+zero z n fits e f = sym (to_z-of_z w16 z fits) ∙ sym (to_z-of_z w16 (to_z w16 (of_z w16 z)) (omega (arith, ints)))
+    ∙ ap (to_z w16) (sym e ∙ f)
 
 pub loop-at-preserved : goal.loop-at-preserved
 loop-at-preserved c none =
