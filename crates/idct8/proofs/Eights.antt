@@ -1,5 +1,5 @@
 -- What holds of each of eight vectors that stand in a list.
-use Rattle.std.proofs.Common.{refl, ◌≡◌, ◌≢◌, ◌∙◌, ap, sym, subst, arith, ℕ, ◌+◌, ◌<◌, ℤ, List, [], ◌∷◌, length, slice_set, get_or-set_same, get_or-set_other, below_more}
+use Rattle.std.proofs.Common.{refl, ◌≡◌, ◌≢◌, ◌∙◌, ap, sym, subst, arith, ℕ, ◌+◌, ◌<◌, ℤ, List, [], ◌∷◌, length, length-set, slice_set, get_or-set_same, get_or-set_other, below_more}
 use Rattle.idct8.specs.declared.passes.Row.{Row}
 use Rattle.idct8.specs.declared.passes.Sum.{Sum}
 use Rattle.idct8.specs.Vectors.{lane, list_at, row_at, sum_at}
@@ -65,6 +65,22 @@ two_rows P f g rows k v w room_f room_g differ apart before own =
     (row_other once (g k) (g j) w (apart j hj).3 ∙ row_other rows (f k) (g j) v (apart j hj).2)
     (before j hj))
     (both (P k) (row_other once (g k) (f k) w differ ∙ row_same rows (f k) v room_f) (row_same once (g k) w room_g) own)
+
+-- the first and the fifth one in the place of two others
+pub first_and_middle : (P : ℕ → List ℤ → Type 0) (rows : List Row) (v w : List ℤ) → length rows ≡ 8
+    → ((j : ℕ) → j < 8 → P j (row_at rows j)) → P 0 v → P 4 w →
+    (j : ℕ) → j < 8 → P j (row_at (slice_set (slice_set rows 0 (row_with v)) 4 (row_with w)) j)
+first_and_middle P rows v w long before p q =
+    let once : List Row = slice_set rows 0 (row_with v) in
+    let other = λ (j : ℕ) (a : j ≢ 0) (b : j ≢ 4) (h : j < 8). subst (P j)
+    (sym (row_other once 4 j w b ∙ row_other rows 0 j v a)) (before j h) in
+    below_eight (λ j. P j (row_at (slice_set once 4 (row_with w)) j))
+    (subst (P 0) (sym (row_other once 4 0 w (omega arith) ∙ row_same rows 0 v (omega (arith, long)))) p)
+    (other 1 (omega arith) (omega arith) (omega arith)) (other 2 (omega arith) (omega arith) (omega arith))
+    (other 3 (omega arith) (omega arith) (omega arith))
+    (subst (P 4) (sym (row_same once 4 w (omega (arith, long, length-set rows 0 (row_with v))))) q)
+    (other 5 (omega arith) (omega arith) (omega arith)) (other 6 (omega arith) (omega arith) (omega arith))
+    (other 7 (omega arith) (omega arith) (omega arith))
 
 -- lane j of the list of lane i
 pub listed : (rows : List Row) (i j : ℕ) → j < 8 → lane (list_at rows i) j ≡ lane (row_at rows j) i

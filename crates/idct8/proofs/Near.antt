@@ -160,7 +160,7 @@ plain_sum f =
     ∙ sym (factor_sum (pos 2048) 8 f)
 
 -- the first rounding of a multiple of 2^8, and the second of one of 2^13
-first_none : (z d : ℤ) → z ≡ pos 2048 *ℤ d → int_shr (z +ℤ pos 128) 8 ≡ pos 8 *ℤ d
+pub first_none : (z d : ℤ) → z ≡ pos 2048 *ℤ d → int_shr (z +ℤ pos 128) 8 ≡ pos 8 *ℤ d
 first_none z d e = omega (arith, ints, small_bits (z +ℤ pos 128), e)
 
 second_none : (z d : ℤ) → z ≡ pos 16384 *ℤ d → int_shr (z +ℤ pos 4096) 13 ≡ pos 2 *ℤ d

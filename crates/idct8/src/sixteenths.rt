@@ -1,7 +1,7 @@
 //! The forward transform nearly: a pass over columns and one over rows, each rounded to 16 bits. It
 //! gives sixteenths of coefficients, which bracket them
 //! ([`near_brackets`](crate::laws::near_brackets)).
-ghost use Rattle.std.specs.Prelude.{◌≡◌, ℕ, ◌*◌, ◌^◌, ◌<◌, All, length, pos, ◌+ℤ◌, ◌-ℤ◌};
+ghost use Rattle.std.specs.Prelude.{◌≡◌, ℕ, ◌*◌, ◌^◌, ◌<◌, All, length, pos, ◌+ℤ◌, ◌-ℤ◌, ◌*ℤ◌};
 ghost use Rattle.std.specs.Int.{int_shr};
 ghost use Rattle.idct8.specs.Near.{down_at, near_at};
 ghost use Rattle.idct8.specs.Passes.{pass_at};
@@ -60,7 +60,74 @@ fn down(samples: &[i16; 64]) -> Rows
         → v < 8 → x < 8 → lane (row_at result v) x ≡ down_at samples.now v x }
     ensures size { RowsWithin 16320 result }
 {
-    first_rows(pass(Direction::Forward, rows(samples)))
+    let r = rows(samples);
+    let mut rounded = first_rows(pass(Direction::Forward, r));
+    let (first, middle) = plain_rows(r);
+    rounded[0] = Row { lanes: first };
+    rounded[4] = Row { lanes: middle };
+    rounded
+}
+
+// Rows 0 and 4 of the pass over columns, all of whose factors are 2048 or -2048: so their sums are
+// eight times plain ones, which fit 16 bits, and nothing is rounded.
+#[inline(always)]
+fn plain_rows(r: Rows) -> (i16x8, i16x8)
+    requires { RowsWithin 255 r }
+    ensures first { (x : ℕ) → x < 8
+        → lane result.0 x ≡ int_shr (pass_at Forward (list_at r x) 0 +ℤ pos (2 ^ 7)) 8 }
+    ensures middle { (x : ℕ) → x < 8
+        → lane result.1 x ≡ int_shr (pass_at Forward (list_at r x) 4 +ℤ pos (2 ^ 7)) 8 }
+    ensures first_size { EightWithin 16320 result.0 }
+    ensures middle_size { EightWithin 16320 result.1 }
+{
+    eight_times(
+        mirrored_sum(r[0].lanes, r[7].lanes),
+        mirrored_sum(r[1].lanes, r[6].lanes),
+        mirrored_sum(r[2].lanes, r[5].lanes),
+        mirrored_sum(r[3].lanes, r[4].lanes),
+    )
+}
+
+// The sum of a sample and the one that mirrors it, in eight columns.
+#[inline(always)]
+fn mirrored_sum(a: i16x8, b: i16x8) -> i16x8
+    requires a { EightWithin 255 a }
+    requires b { EightWithin 255 b }
+    ensures sum { (i : ℕ) → i < 8 → lane result i ≡ lane a i +ℤ lane b i }
+    ensures size { EightWithin 510 result }
+{
+    a + b
+}
+
+// Eight times the sum of four numbers, and eight times that of the outer two less the inner two.
+#[inline(always)]
+fn eight_times(p0: i16x8, p1: i16x8, p2: i16x8, p3: i16x8) -> (i16x8, i16x8)
+    requires p0 { EightWithin 510 p0 }
+    requires p1 { EightWithin 510 p1 }
+    requires p2 { EightWithin 510 p2 }
+    requires p3 { EightWithin 510 p3 }
+    ensures sum { (i : ℕ) → i < 8
+        → lane result.0 i ≡ pos 8 *ℤ (lane p0 i +ℤ lane p3 i +ℤ (lane p1 i +ℤ lane p2 i)) }
+    ensures difference { (i : ℕ) → i < 8
+        → lane result.1 i ≡ pos 8 *ℤ (lane p0 i +ℤ lane p3 i -ℤ (lane p1 i +ℤ lane p2 i)) }
+    ensures sum_size { EightWithin 16320 result.0 }
+    ensures difference_size { EightWithin 16320 result.1 }
+{
+    let outer = p0 + p3;
+    let inner = p1 + p2;
+    (doubled_thrice(outer + inner), doubled_thrice(outer - inner))
+}
+
+// Eight times eight numbers.
+#[inline(always)]
+fn doubled_thrice(v: i16x8) -> i16x8
+    requires { EightWithin 2040 v }
+    ensures product { (i : ℕ) → i < 8 → lane result i ≡ pos 8 *ℤ lane v i }
+    ensures size { EightWithin 16320 result }
+{
+    let two = v + v;
+    let four = two + two;
+    four + four
 }
 
 // The pass over rows, which stand as columns.
@@ -150,6 +217,7 @@ fn second_rounded(v: i32x8) -> i16x8
 #[inline(always)]
 fn first_rows(s: Sums) -> Rows
     requires { SumsWithin 4177920 s }
+    ensures long { length result ≡ 8 }
     ensures numbers { (k i : ℕ) → k < 8
         → i < 8 → lane (row_at result k) i ≡ int_shr (lane (sum_at s k) i +ℤ pos (2 ^ 7)) 8 }
     ensures size { RowsWithin 16320 result }

@@ -15,8 +15,8 @@ use h263_types::{Block, Format};
 use idct8::laws as idct8_laws;
 use quantiser::laws as quantiser_laws;
 
-// Draws the blocks of intra macroblock `at`, whose marks are given. Luma stands apart from the colours, so that each is
-// compiled for its plane.
+// Draws the blocks of intra macroblock `at`, whose marks are given. `two_intra` is asked in one place, so that it is
+// compiled there: as a call it takes more than to tell the planes apart.
 #[inline(always)]
 pub(crate) fn draw_blocks(
     quant: u8,
@@ -39,15 +39,12 @@ pub(crate) fn draw_blocks(
         (λ b old y x. intra_sample quant (block_in blocks.now b) y x)
         (work out.old) (work out.new) }
 {
-    for pair in 0..2u32 {
+    for pair in 0..3u32 {
         let block = 2 * pair;
         let (one, next) = two_intra(quant, blocks, marks, block);
         put_block(out, format, at, block, &one);
         put_block(out, format, at, block + 1, &next);
     }
-    let (cb, cr) = two_intra(quant, blocks, marks, 4);
-    put_block(out, format, at, 4, &cb);
-    put_block(out, format, at, 5, &cr);
 }
 
 // Adds what the levels of an inter macroblock's blocks stand for to the samples of macroblock `at`.

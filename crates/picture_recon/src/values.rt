@@ -1,5 +1,5 @@
 //! The values and the samples of one block.
-ghost use Rattle.std.specs.Prelude.{◌≡◌, ℕ, ◌+◌, ◌*◌, ◌<◌, ◌≤◌, pos, ◌+ℤ◌, ◌*ℤ◌, All, length, slice_index, slice_index_or, unsigned_abs};
+ghost use Rattle.std.specs.Prelude.{◌≡◌, ℕ, ◌+◌, ◌*◌, ◌<◌, ◌≤◌, pos, ◌+ℤ◌, ◌*ℤ◌, All, length, slice_index, slice_index_or};
 ghost use Rattle.h263_types.specs.Blocks.{IsDc, IsInterBlock, IsIntraBlock, IsLevel, IsQuant, IsValue, level_at};
 ghost use Rattle.idct8.specs.Ranges.{Within};
 ghost use Rattle.idct8.specs.Transform.{inverse_at, rounded};
@@ -141,22 +141,22 @@ pub(crate) fn marks_of_few(blocks: &[Block; 6]) -> [u64; 6]
 fn marks_or_none(block: &Block) -> u64
     ensures { AreMarked block.now.levels result }
 {
-    if largest(block.levels) == 0 {
+    if bits_of_all(block.levels) == 0 {
         return 0;
     }
     marks_of(*block)
 }
 
-// The largest size of the levels.
+// The bits that any of the levels has.
 #[inline(always)]
-fn largest(levels: [i16; 64]) -> u16
-    ensures { (k : ℕ) → k < 64 → unsigned_abs (slice_index_or levels k (pos 0)) ≤ result }
+fn bits_of_all(levels: [i16; 64]) -> u16
+    ensures { result ≡ 0 → (k : ℕ) → k < 64 → slice_index_or levels k (pos 0) ≡ pos 0 }
 {
-    let mut largest: u16 = 0;
+    let mut bits: u16 = 0;
     for at in 0..64 {
-        largest = largest.max(levels[at].unsigned_abs());
+        bits |= levels[at].cast_unsigned();
     }
-    largest
+    bits
 }
 
 // Which levels aren't 0: bit k is for place k of the zigzag order.

@@ -1,7 +1,8 @@
 -- The value of a level, by its size and its sign.
-use Rattle.std.proofs.Common.{◌≡◌, ℕ, zero, suc, ◌^◌, ◌≤◌, min, ℤ, pos, negsuc, neg_ℤ, ◌*ℤ◌, unsigned_abs, arith, ap, sym, subst, ◌∙◌, to_z, of_z, w16, w32}
+use Rattle.std.proofs.Common.{◌≡◌, ℕ, zero, suc, ◌+◌, ◌-◌, ◌*◌, ◌%◌, ◌^◌, ◌≤◌, min, ◌+ℤ◌, ℤ, pos, negsuc, neg_ℤ, ◌*ℤ◌, unsigned_abs, arith, ap, sym, subst, ◌∙◌, to_z, of_z, w16, w32, FitsSigned}
 use Rattle.std.specs.Int.{int_max, int_min, int_signum}
-use Rattle.std.proofs.lemmas.Int.{ints, clamps}
+use Rattle.std.proofs.lemmas.Int.{ints, clamps, to_z-of_z}
+use Rattle.std.proofs.Math.Nat.{mul-le-mul}
 use Rattle.h263_types.specs.Blocks.{IsLevel, IsValue}
 use Rattle.quantiser.specs.Levels.{signed_of, value_of, value_size}
 
@@ -56,3 +57,73 @@ same_product z sign size n e h within =
 
 pub signed_same : (a b s : ℤ) (n : ℕ) → a ≡ s → b ≡ pos n → signed_of a b ≡ signed_of s (pos n)
 signed_same a b s n first second = cc (first, second)
+
+-- ---- twice the quantiser times a level, and the rest
+
+-- the steps are kept
+kept_steps : (q : ℕ) (z : ℤ) → q ≤ 31 → IsLevel z → to_z w32 (of_z w32 (pos (2 * q) *ℤ z)) ≡ pos (2 * q) *ℤ z
+kept_steps q (pos n) h l =
+    let twice : 2 * q ≤ 62 = omega (arith, h) in
+    let below : n ≤ 127 = omega (arith, ints, l.high) in
+    let most : 2 * q * n ≤ 62 * 127 = mul-le-mul twice below in
+    omega (arith, ints, most)
+kept_steps q (negsuc n) h l =
+    let twice : 2 * q ≤ 62 = omega (arith, h) in
+    let below : suc n ≤ 127 = omega (arith, ints, l.low) in
+    let most : 2 * q * suc n ≤ 62 * 127 = mul-le-mul twice below in
+    omega (arith, ints, most)
+
+pub same_steps : (q : ℕ) (z f g : ℤ) → q ≤ 31 → IsLevel z → f ≡ pos q → g ≡ z →
+    to_z w32 (of_z w32 (to_z w32 (of_z w32 (pos 2 *ℤ to_z w32 (of_z w32 f))) *ℤ to_z w32 (of_z w32 g)))
+    ≡ pos (2 * q) *ℤ z
+same_steps q z f g h l e d =
+    let first : to_z w32 (of_z w32 (pos 2 *ℤ to_z w32 (of_z w32 f))) ≡ pos (2 * q) = omega (arith, ints, e, h) in
+    let second : to_z w32 (of_z w32 g) ≡ z = omega (arith, ints, d, l.low, l.high) in
+    ap (λ (k : ℤ). to_z w32 (of_z w32 (k *ℤ to_z w32 (of_z w32 g)))) first
+    ∙ ap (λ (k : ℤ). to_z w32 (of_z w32 (pos (2 * q) *ℤ k))) second
+    ∙ kept_steps q z h l
+
+-- steps and rest are the value
+pub steps_and_rest : (q : ℕ) (z : ℤ) → 1 ≤ q → pos (2 * q) *ℤ z +ℤ int_signum z *ℤ pos (q - (1 - q % 2))
+    ≡ int_signum z *ℤ pos (value_size q (unsigned_abs z))
+steps_and_rest q (pos zero) h = omega (arith, ints)
+steps_and_rest q (pos (suc n)) h =
+    let one : min (suc n) 1 ≡ 1 = omega arith in
+    subst (λ (m : ℕ). pos (2 * q) *ℤ pos (suc n) +ℤ pos m *ℤ pos (q - (1 - q % 2))
+    ≡ pos m *ℤ pos (value_size q (suc n)))
+    (sym one) (let e : q * (2 * suc n + 1) ≡ 2 * q * suc n + q = omega arith in omega (arith, ints, e, h))
+steps_and_rest q (negsuc n) h =
+    let e : q * (2 * suc n + 1) ≡ 2 * q * suc n + q = omega arith in omega (arith, ints, e, h)
+
+size_most : (q : ℕ) (z : ℤ) → q ≤ 31 → IsLevel z → value_size q (unsigned_abs z) ≤ 2 ^ 13
+size_most q (pos n) h l =
+    let below : 2 * n + 1 ≤ 255 = omega (arith, ints, l.high) in
+    omega (arith, mul-le-mul h below)
+size_most q (negsuc n) h l =
+    let below : 2 * suc n + 1 ≤ 255 = omega (arith, ints, l.low) in
+    omega (arith, mul-le-mul h below)
+
+fits_product : (z : ℤ) (n : ℕ) → n ≤ 2 ^ 13 → FitsSigned w32 (int_signum z *ℤ pos n)
+fits_product (pos zero) n h = omega (arith, ints)
+fits_product (pos (suc k)) n h =
+    let one : min (suc k) 1 ≡ 1 = omega arith in
+    subst (λ (m : ℕ). FitsSigned w32 (pos m *ℤ pos n)) (sym one) (omega (arith, ints))
+fits_product (negsuc k) n h = omega (arith, ints)
+
+-- the sum of the steps and of what the value has more
+pub sum_is : (q : ℕ) (z a b : ℤ) → 1 ≤ q → a ≡ pos (2 * q) *ℤ z → b ≡ int_signum z *ℤ pos (q - (1 - q % 2))
+    → a +ℤ b ≡ int_signum z *ℤ pos (value_size q (unsigned_abs z))
+sum_is q z a b h e f =
+    let both : a +ℤ b ≡ pos (2 * q) *ℤ z +ℤ int_signum z *ℤ pos (q - (1 - q % 2)) = cc (e, f) in
+    both ∙ steps_and_rest q z h
+
+pub sum_fits : (q : ℕ) (z a b : ℤ) → 1 ≤ q → q ≤ 31 → IsLevel z → a ≡ pos (2 * q) *ℤ z
+    → b ≡ int_signum z *ℤ pos (q - (1 - q % 2)) → FitsSigned w32 (a +ℤ b)
+sum_fits q z a b low high l e f =
+    subst (FitsSigned w32) (sym (sum_is q z a b low e f))
+    (fits_product z (value_size q (unsigned_abs z)) (size_most q z high l))
+
+pub kept_sum : (q : ℕ) (z a b : ℤ) → 1 ≤ q → q ≤ 31 → IsLevel z → a ≡ pos (2 * q) *ℤ z
+    → b ≡ int_signum z *ℤ pos (q - (1 - q % 2))
+    → to_z w32 (of_z w32 (a +ℤ b)) ≡ int_signum z *ℤ pos (value_size q (unsigned_abs z))
+kept_sum q z a b low high l e f = to_z-of_z w32 (a +ℤ b) (sum_fits q z a b low high l e f) ∙ sum_is q z a b low e f

@@ -23,9 +23,9 @@ mod coefficients;
 pub mod laws;
 mod scan;
 
-ghost use Rattle.std.specs.Prelude.{◌≡◌, ℕ, ◌≤◌, pos, unsigned_abs};
+ghost use Rattle.std.specs.Prelude.{◌≡◌, ℕ, ◌-◌, ◌%◌, pos, ◌≤ℤ◌};
 ghost use Rattle.h263_types.specs.Blocks.{IsLevel, IsQuant, IsValue};
-ghost use Rattle.quantiser.specs.Levels.{value_of, value_size};
+ghost use Rattle.quantiser.specs.Levels.{value_of};
 
 pub use coefficients::{
     Factor, factor_of, level_inter, level_inter_by_factor, level_intra, level_intra_by_factor,
@@ -42,19 +42,17 @@ pub fn value(quant: u8, level: i16) -> i16
     ensures range { IsValue result }
 {
     let sign = i32::from(level.signum());
-    (sign * size_of_value(quant, level)).clamp(-2048, 2047) as i16
+    let steps = 2 * i32::from(quant) * i32::from(level);
+    (steps + sign * rest_of_value(quant)).clamp(-2048, 2047) as i16
 }
 
-// The size of the value of a level that isn't 0, before its limit. There is no branch on the sign,
-// since it is as often one as the other.
+// What the size of a level's value has more than its steps of twice the quantiser. There is no
+// branch on the sign, since it is as often one as the other.
 #[inline(always)]
-fn size_of_value(quant: u8, level: i16) -> i32
+fn rest_of_value(quant: u8) -> i32
     requires quant { IsQuant quant }
-    requires level { IsLevel level }
-    ensures size { result ≡ pos (value_size quant (unsigned_abs level)) }
-    ensures most { value_size quant (unsigned_abs level) ≤ 8192 }
+    ensures rest { result ≡ pos (quant - (1 - quant % 2)) }
+    ensures most { result ≤ℤ pos 31 }
 {
-    let quant = u32::from(quant);
-    let size = quant * (2 * u32::from(level.unsigned_abs()) + 1) - (1 - quant % 2);
-    size as i32
+    i32::from(quant - (1 - quant % 2))
 }
