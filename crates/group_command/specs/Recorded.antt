@@ -1,6 +1,6 @@
 -- What a group's call over a recorded trace comes to, as a whole: one picture for all at each capture, and the
 -- ideal call of each receiver over the events of the lines that are accepted.
-use Rattle.std.specs.Prelude.{◌≡◌, ◌↔◌, ◌⊎◌, ℕ, zero, suc, ◌+◌, ◌<◌, ◌≤◌, Bool, true, ◌==◌, codes, List, [], ◌∷◌, ◌++◌, length, slice_get, Option, Some, None, if◌then◌else◌}
+use Rattle.std.specs.Prelude.{◌≡◌, ◌↔◌, ◌⊎◌, ℕ, zero, suc, ◌+◌, ◌<◌, ◌≤◌, Bool, true, ◌==◌, codes, List, [], ◌∷◌, ◌++◌, length, drop, slice_get, Option, Some, None, if◌then◌else◌}
 use Rattle.std.specs.Option.{option_map_or}
 use Rattle.h263_types.specs.declared.blocks.Mb.{Mb}
 use Rattle.h263_types.specs.declared.params.Params.{Params}
@@ -30,9 +30,10 @@ use Rattle.call_encoding.specs.Frames.{Frame}
 use Rattle.call_encoding.specs.Messages.{write_message}
 use Rattle.coded_call.specs.Coding.{coding}
 use Rattle.receiver_end.specs.Answers.{mark_of}
-use Rattle.desk_program.specs.Run.{Run, text_of}
+use Rattle.desk_program.specs.Run.{Run, taken_of, text_of}
 use Rattle.one_way.specs.Counts.{count_of, one_exact, one_held, one_patched}
 use Rattle.one_way.specs.Seen.{reference_in}
+use Rattle.call_command.specs.Call.{line_size}
 use Rattle.call_command.specs.Counts.{counts_text_of}
 use Rattle.call_command.specs.Recorded.{capture_told, film, read_out, shown_text, told}
 use Rattle.call_command.specs.Refused.{fault_of}
@@ -291,7 +292,8 @@ module _ (p : Params) (count : ℕ) (frames : List Frame) where
 
 -- The lines that it accepts are the first ones of the trace, one in each turn but the first, which reads the
 -- head, and each of them says what may happen there. Over their events the run is the calls of so many
--- receivers of the frames of the video, and it ends because of the line after them.
+-- receivers of the frames of the video, and it ends because of the line after them. Where it refuses the
+-- video, just that line is taken of the trace.
 pub record FollowsItsTrace (p : Params) (count : ℕ) (inputs : Role → List ℕ) (run : Run) : Type 0 where
   pub lines : List GroupLine
   pub refused : List GroupLine
@@ -303,3 +305,5 @@ pub record FollowsItsTrace (p : Params) (count : ℕ) (inputs : Role → List �
   pub end : IsEnd p count (film p (video_frames (inputs Video))) (video_fault (inputs Video))
       (group_fault count 16777216 1 (inputs Events)) (length lines + 1)
       (with_all_said p count (film p (video_frames (inputs Video))) [] lines) refused run.last.status
+  pub others : (fault : Y4mFault) → run.last.status ≡ VideoRefused fault
+      → run.last.taken Events ≡ Some (line_size (drop (taken_of run.turns Events) (inputs Events)))
