@@ -35,7 +35,7 @@ use Rattle.group_command.specs.Recorded.{FollowsItsTrace, Happening, IsEnd, Show
 use Rattle.group_command.proofs.Arriving.{exact_is, shows_is}
 use Rattle.group_command.proofs.Lives as life
 use Rattle.group_command.proofs.Lived.{all_start}
-use Rattle.group_command.proofs.Recorded.{Comes, RunLaws, most, run_comes}
+use Rattle.group_command.proofs.Recorded.{Comes, RunLaws, in_places, run_comes}
 
 video_is : (video : List ℕ) (f : Format) → head_of video ≡ Ok f
     → video_frames video ≡ frames_of f 1048576 (head_size video) (drop (head_size video) video)
@@ -122,7 +122,7 @@ module _ (t : GroupTerms) (f : Format) (inputs : Role → List ℕ) where
     comes =
         run_comes p count frames broken laws some few frame_laws 16777216 [] (replicate count no_view) size 1048576 0
         false (left_after inputs (of Video size))
-        (all_start p count frames laws.groups (most p count frames broken laws some few))
+        (all_start p count frames laws.groups (in_places p count frames broken laws some few))
         (record {
           ahead = ap (λ (l : List (Coded Style Mb Picture)). drop (length l) frames) (life.none_coded count)
               ∙ ap (film p) (video_is (inputs Video) f head);

@@ -25,6 +25,7 @@ use Rattle.call_model.specs.Refusals.{NoFrame as NoPicture, NoneWhereItMayHappen
 use Rattle.call_decoding.specs.Rules.{rules_of}
 use Rattle.call_decoding.specs.Styles.{Style}
 use Rattle.call_encoding.specs.Frames.{Frame}
+use Rattle.receiver_end.specs.State as receiver_end
 use Rattle.desk_program.specs.Run.{Run, Step, Turn, left_after, follow, run_of, silence, taken_of, text_of, texts_of}
 use Rattle.desk_program.specs.Run.Step.{Ends}
 use Rattle.desk_program.specs.Texts.{and_of, no_texts, of, on}
@@ -127,8 +128,8 @@ pub record RunLaws (p : Params) : Type 0 where
 
 module _ (p : Params) (count : ℕ) (frames : List Frame) (broken : Option Y4mFault) (laws : RunLaws p) (some : 1 ≤ count)
     (few : count ≤ 3) where
-  most : count ≤ 16
-  most = omega (arith, few)
+  pub in_places : count ≤ 16
+  in_places = omega (arith, few)
 
   abbrev group : List Happening → Groups
   group past = group_after p count frames past
@@ -137,7 +138,7 @@ module _ (p : Params) (count : ℕ) (frames : List Frame) (broken : Option Y4mFa
   call k past = call_at p count frames k past
 
   abbrev Live : List Happening → List ViewerRun → Type 0
-  Live past views = AllLive p count frames laws.groups most past views
+  Live past views = AllLive p count frames laws.groups in_places past views
 
   abbrev With : List Happening → GroupLine → List Happening
   With past line = with_said p count frames past line
@@ -428,7 +429,7 @@ module _ (p : Params) (count : ℕ) (frames : List Frame) (broken : Option Y4mFa
             let may = (laws.none (length frames) c (Deliver n j)).0 (sym (packet_is p laws.groups.views k (group past)
             (events_at k past) (view k) (lives k there) (length frames) n j) ∙ o) in
             own_goes (own.Packet n j) (group past) (Reached k n j ∷ past) refl (there, may) refl refl
-            (all_reached p count frames laws.groups most past views all k n j there may) refl
+            (all_reached p count frames laws.groups in_places past views all k n j there may) refl
             (silent_pictures (Reached k n j ∷ past)
             (λ i. packet_shows p (group past).coded (eqb k i) n j (events_at i past)))
             (sym (append-nil (rows past)))
@@ -451,9 +452,9 @@ module _ (p : Params) (count : ℕ) (frames : List Frame) (broken : Option Y4mFa
             let m = length (slices_at (group past).coded n) in
             let may = (laws.none (length frames) c (Deliver n 0)).0 (sym (packet_is p laws.groups.views k (group past)
             (events_at k past) (view k) (lives k there) (length frames) n 0) ∙ o) in
-            let same = group_slices p count frames laws.groups most past views all k n m in
+            let same = group_slices p count frames laws.groups in_places past views all k n m in
             own_goes (own.All n) (group past) (slices n m) refl (there, may) refl (sym same)
-            (all_slices p count frames laws.groups most past views all k n there may)
+            (all_slices p count frames laws.groups in_places past views all k n there may)
             (ap (λ (g : Groups). g.coded) same)
             (silent_pictures (slices n m) (λ i. slices_show n m i))
             (slices_rows n m ∙ sym (append-nil (rows past)))
@@ -469,7 +470,7 @@ module _ (p : Params) (count : ℕ) (frames : List Frame) (broken : Option Y4mFa
             let note = slice_get c.said m in
             own_goes (own.Back m) (after_note p k note (group past)) (Returned k m ∷ past) refl (there, may)
             (heard_is p laws.groups.views k (group past) (events_at k past) (view k) (lives k there) m) refl
-            (all_returned p count frames laws.groups most past views all k m may.0 there may.1 may.2)
+            (all_returned p count frames laws.groups in_places past views all k m may.0 there may.1 may.2)
             (note_codes p k note (group past))
             (silent_pictures (Returned k m ∷ past)
             (λ i. ap (λ (l : List (Coded Style Mb Picture)).
@@ -490,7 +491,7 @@ module _ (p : Params) (count : ℕ) (frames : List Frame) (broken : Option Y4mFa
             let l = lives k there in
             let may = (laws.none (length frames) c Play).0 (sym (play_is p laws.groups.views k (group past)
             (events_at k past) (view k) l (length frames)) ∙ o) in
-            let some_sent = omega (
+            let some_sent : (receiver_end.run_of p (view k).entries).played < length (group past).coded = omega (
               arith,
               may,
               played_is p laws.groups.views k (group past) (events_at k past) (view k) l,
@@ -500,7 +501,7 @@ module _ (p : Params) (count : ℕ) (frames : List Frame) (broken : Option Y4mFa
             ≡ shown_texts k c.played (reference_in c.coded c.played) (next_shown p c) =
             texts_are p laws.groups.views k (group past) (events_at k past) (view k) l some_sent k in
             own_goes own.Play (group past) (Played k ∷ past) refl (there, may) refl refl
-            (played_by_all p count frames laws.groups most past views all k there may) refl
+            (played_by_all p count frames laws.groups in_places past views all k there may) refl
             (λ i below. shown_more p (group past).coded (events_at i past) (eqb k i)
             ∙ ap (λ (t : Text). shown_text (call i past).plays ++ t) (own_shown i (eqb k i) refl
             ∙ sym (pictures_texts k i c.played (reference_in c.coded c.played) (next_shown p c)
@@ -569,7 +570,7 @@ module _ (p : Params) (count : ℕ) (frames : List Frame) (broken : Option Y4mFa
             omega (arith, many, ap (λ (l : List (Coded Style Mb Picture)). length l) (lives k below).own),
             (near k below).1,
           ) in
-          let live = all_captured p count frames laws.groups most past views all x there (λ k below. (near k below).1) in
+          let live = all_captured p count frames laws.groups in_places past views all x there (λ k below. (near k below).1) in
           let run_is : group_after_code p (steady p) x (group past) ≡ group (Captured ∷ past) =
           ap (λ (q : Option Frame). one_sends p q (group past)) (sym there) in
           let long : length (group (Captured ∷ past)).coded ≡ suc n =
@@ -653,13 +654,13 @@ module _ (p : Params) (count : ℕ) (frames : List Frame) (broken : Option Y4mFa
       last_choice false step room many = comes_faulty past views all [] _ (lines + 1) (inputs Events)
           (λ next taken. silence) _ _ refl
 
-      last_comes : (trace : List ℕ) → lines + 0 ≡ 16777216
-          → Comes past [] (group_fault count 0 (lines + 1) trace) (lines + 1) (inputs Events)
-          (follow (trace_step here inputs trace) (λ next taken. silence))
+      last_comes : (text : List ℕ) → lines + 0 ≡ 16777216
+          → Comes past [] (group_fault count 0 (lines + 1) text) (lines + 1) (inputs Events)
+          (follow (trace_step here inputs text) (λ next taken. silence))
       unfolding group_fault
       last_comes [] room = comes_end past views all (lines + 1) at more lines ended (inputs Events)
           (λ next taken. silence)
-      last_comes (b ∷ trace) room = last_choice (nat_lt lines 16777216) _ room refl
+      last_comes (b ∷ text) room = last_choice (nat_lt lines 16777216) _ room refl
 
       module _ (n : ℕ) where
         abbrev on_with : GroupState → (Role → ℕ) → Run
