@@ -1,6 +1,6 @@
 -- A whole run of a group's call over a recorded trace.
-use Rattle.std.proofs.Common.{◌≡◌, inl, inr, ℕ, zero, suc, ◌+◌, ◌<◌, ◌≤◌, Bool, false, List, [], ◌∷◌, ◌++◌, length, drop, Option, Some, Result, Ok, refl, sym, ap, subst, ◌∙◌, arith}
-use Rattle.std.specs.Prelude.{replicate, slice_get}
+use Rattle.std.proofs.Common.{◌≡◌, inl, inr, ℕ, zero, suc, ◌+◌, ◌<◌, ◌≤◌, false, List, [], ◌++◌, length, drop, Option, Some, Result, Ok, refl, sym, ap, subst, ◌∙◌, arith}
+use Rattle.std.specs.Prelude.{replicate}
 use Rattle.std.proofs.lemmas.List.{append-nil, append_assoc}
 use Rattle.std.proofs.lemmas.Option.{slice_get_cases}
 use Rattle.h263_types.specs.declared.blocks.Mb.{Mb}
@@ -17,7 +17,6 @@ use Rattle.y4m.specs.Video.{fault_after_head, fault_of, frames_after_head, frame
 use Rattle.call_model.specs.Before.{ArrivedByEvents, CountsByEvents, ExactByEvents, Sends, ShownByEvents}
 use Rattle.call_model.specs.Coding.{pictures_of}
 use Rattle.call_model.specs.CodedPictures.{Coded, picture_at}
-use Rattle.call_model.specs.IdealCall.{Call, Event}
 use Rattle.call_model.specs.Numbers.{AllBelowIs}
 use Rattle.call_command.specs.Call.{line_size}
 use Rattle.call_command.specs.Recorded.{film}
@@ -27,11 +26,10 @@ use Rattle.call_encoding.specs.Frames.{Frame}
 use Rattle.coded_call.specs.Coding.{coding}
 use Rattle.desk_program.specs.Run.{Run, left_after, follow, run_of, taken_of, texts_of}
 use Rattle.desk_program.specs.Texts.{of}
-use Rattle.group_sender.specs.Holding.{Groups}
 use Rattle.group_call.specs.Viewing.{no_view}
 use Rattle.group_command.specs.declared.terms.GroupTerms.{GroupTerms}
-use Rattle.group_command.specs.Group.{GroupState, first_state, group_run, group_step, head_step, heads_text, joined_by, pictures_at, view_in}
-use Rattle.group_command.specs.Recorded.{FollowsItsTrace, Happening, IsEnd, ShowsWhatReached, call_at, call_with, counts_lines, events_at, group_after, group_fault, group_lines, one_by_one, play_lines, with_all_said}
+use Rattle.group_command.specs.Group.{GroupState, first_state, group_run, group_step, head_step, heads_text, pictures_at, view_in}
+use Rattle.group_command.specs.Recorded.{FollowsItsTrace, Happening, IsEnd, ShowsWhatReached, call_with, events_at, group_after, group_fault, group_lines, one_by_one, with_all_said}
 use Rattle.group_command.proofs.Arriving.{exact_is, shows_is}
 use Rattle.group_command.proofs.Lives as life
 use Rattle.group_command.proofs.Lived.{all_start}

@@ -1,12 +1,11 @@
 -- All receivers of a group, event by event.
-use Rattle.std.proofs.Common.{◌≡◌, ℕ, zero, suc, ◌+◌, ◌<◌, ◌≤◌, Bool, true, false, List, [], ◌∷◌, ◌++◌, length, Option, Some, None, refl, sym, ap, subst, ◌∙◌, arith, eqb, if◌then◌else◌}
-use Rattle.std.specs.Prelude.{slice_get, slice_index_or, slice_set, replicate}
+use Rattle.std.proofs.Common.{◌≡◌, ℕ, zero, suc, ◌+◌, ◌<◌, ◌≤◌, Bool, true, false, List, [], ◌∷◌, length, Option, Some, refl, sym, ap, subst, ◌∙◌, arith, eqb}
+use Rattle.std.specs.Prelude.{slice_get, slice_set, replicate}
 use Rattle.std.proofs.lemmas.Bool.{eq-eqb, eqb-true}
 use Rattle.std.proofs.lemmas.List.{get_or-set_other, get_or-set_same, get_or-replicate, length-replicate, length-set}
 use Rattle.h263_types.specs.declared.blocks.Mb.{Mb}
 use Rattle.h263_types.specs.declared.params.Params.{Params}
 use Rattle.h263_planes.specs.Picture.{Picture}
-use Rattle.call_model.specs.CodedPictures.{Coded}
 use Rattle.call_model.specs.IdealCall.{Call, Event, Send, Deliver, Play, Back, NumberedMessage, about, slices_at}
 use Rattle.call_model.specs.TwoStores.{travelling}
 use Rattle.call_decoding.specs.Rules.{rules_of}
@@ -92,7 +91,7 @@ module _ (p : Params) (count : ℕ) (frames : List Frame) (laws : GroupLaws p) (
               (sym (get_or-set_same views k view no_view below)) own)
           by_test false is =
               let apart : k ≡ i → ⊥ = λ same. let wrong : true ≡ false = sym (eq-eqb k i same) ∙ is in
-                  absurd (cc wrong)
+              absurd (cc wrong)
               in
               subst (λ (v : ViewerRun). Lived i (group past2) (events_at i past2) v)
               (sym (get_or-set_other views k i view no_view (λ e. apart (sym e)))) (others i less apart)
@@ -155,9 +154,11 @@ module _ (p : Params) (count : ℕ) (frames : List Frame) (laws : GroupLaws p) (
         let events = events_at k (slices k n m) in
         subst (λ (b : Bool). Lived k run (if_own b (Deliver n m) events)
         (view_places p (packets_in p run.coded n) n (suc m) (view k)) × IsNear k run (if_own b (Deliver n m) events) n)
-        (sym (same_place k))
-        (life.reaches p laws.views k n m run events (view_places p (packets_in p run.coded n) n m (view k)) before.0
-        before.1, before.1)
+        (sym (same_place k)) (
+          life.reaches p laws.views k n m run events (view_places p (packets_in p run.coded n) n m (view k)) before.0
+              before.1,
+          before.1,
+        )
 
     pub all_slices : (k n : ℕ) → k < count → IsNear k run (events_at k past) n
         → AllLive (slices k n (length (slices_at run.coded n)))

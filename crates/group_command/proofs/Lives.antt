@@ -1,35 +1,29 @@
 -- The life of a receiver of a group, event by event: its run is that of its ideal call.
-use Rattle.std.proofs.Common.{◌≡◌, ◌≢◌, ℕ, zero, suc, ◌+◌, ◌-◌, ◌<◌, ◌≤◌, Bool, true, false, List, [], ◌∷◌, ◌++◌, length, Option, Some, None, refl, sym, ap, subst, ◌∙◌, arith, nat_lt, if◌then◌else◌}
-use Rattle.std.specs.Prelude.{map, slice_get, take}
+use Rattle.std.proofs.Common.{◌≡◌, ℕ, zero, suc, ◌+◌, ◌-◌, ◌<◌, ◌≤◌, List, [], ◌∷◌, ◌++◌, length, Option, Some, None, refl, sym, ap, subst, ◌∙◌, arith, if◌then◌else◌}
+use Rattle.std.specs.Prelude.{slice_get, take}
 use Rattle.std.specs.Option.{option_map_or}
 use Rattle.std.proofs.lemmas.Bool.{le-ltb}
-use Rattle.std.proofs.lemmas.List.{append-nil, append_assoc, length-append, length-set, get_or-set_same, get_or-set_other, take-append-le}
+use Rattle.std.proofs.lemmas.List.{append-nil, append_assoc, length-append, length-set}
 use Rattle.h263_types.specs.declared.blocks.Mb.{Mb}
 use Rattle.h263_types.specs.declared.params.Params.{Params}
 use Rattle.h263_types.specs.Params.{IsParams}
 use Rattle.h263_planes.specs.Picture.{Picture}
-use Rattle.call_model.specs.Coding.{Shown, pictures_of}
+use Rattle.call_model.specs.Coding.{pictures_of}
 use Rattle.call_model.specs.CodedPictures.{Coded, capture}
-use Rattle.call_model.specs.IdealCall.{AllMayHappenFrom, Call, Event, Send, Deliver, Play, Back, NumberedMessage, Source, about, after, call_from, shown_at}
-use Rattle.call_model.specs.JoinedRun.{SaidMessage}
+use Rattle.call_model.specs.IdealCall.{AllMayHappenFrom, Call, Event, Send, Deliver, Play, Back, NumberedMessage, Source, about, after, call_from}
 use Rattle.call_model.specs.Lawful.{IsPace}
-use Rattle.call_model.specs.Receiving.{played_shown}
 use Rattle.call_model.specs.Sending.{header_of, packets_before, packets_of}
-use Rattle.call_model.specs.TwoStores.{told_of, travelling}
+use Rattle.call_model.specs.TwoStores.{travelling}
 use Rattle.call_decoding.specs.Rules.{rules_of}
-use Rattle.call_decoding.specs.Samples.{pictures}
 use Rattle.call_decoding.specs.Styles.{Style}
 use Rattle.call_encoding.specs.Encoding.{encoding}
 use Rattle.call_encoding.specs.Frames.{Frame}
 use Rattle.call_encoding.specs.Messages.{write_message}
 use Rattle.coded_call.specs.Coding.{coding}
-use Rattle.receiver_end.specs.Decoding.{decoding}
-use Rattle.receiver_end.specs.State.{run_of}
 use Rattle.one_way.specs.Both.{bare, steady}
 use Rattle.group_sender.specs.Holding.{Groups, group_after_code, group_after_saying, next_of_group}
 use Rattle.group_sender.specs.InACall.{AreLived, Arrives, ComesBack, Done, Lived, Plays, group_entries, lived_events, lived_source}
-use Rattle.group_sender.specs.Parties.{nobody, party_at}
-use Rattle.group_sender.specs.Running.{CaptureAll, FeedbackOf, GroupEntry, JoinsAt, after_join, group_run, no_group}
+use Rattle.group_sender.specs.Running.{CaptureAll, FeedbackOf, GroupEntry, JoinsAt, after_join, group_run}
 use Rattle.group_call.specs.Following.{ViewerFollows, ViewersFollow, view_lived}
 use Rattle.group_call.specs.Hearing.{ViewerIsHeard, ViewersAreHeard}
 use Rattle.group_call.specs.Viewing.{ViewerRun, no_view, packets_in, view_delivery, view_packet, view_play}

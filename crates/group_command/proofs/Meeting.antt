@@ -1,12 +1,11 @@
 -- What is seen of a receiver of a group is what its ideal call says: its refusals, texts and counts.
-use Rattle.std.proofs.Common.{◌≡◌, ℕ, zero, suc, ◌+◌, ◌<◌, ◌≤◌, Bool, true, false, List, [], ◌∷◌, ◌++◌, length, Option, Some, None, refl, sym, ap, subst, ◌∙◌, arith, eqb, if◌then◌else◌}
+use Rattle.std.proofs.Common.{◌≡◌, ℕ, zero, suc, ◌+◌, ◌<◌, Bool, true, false, List, [], ◌∷◌, ◌++◌, length, Option, Some, None, refl, sym, ap, ◌∙◌, arith, eqb, if◌then◌else◌}
 use Rattle.std.specs.Prelude.{map, slice_get, nat_le, codes}
 use Rattle.std.specs.Option.{option_map_or}
 use Rattle.std.proofs.lemmas.List.{append-nil, length-map}
 use Rattle.h263_types.specs.declared.blocks.Mb.{Mb}
 use Rattle.h263_types.specs.declared.params.Params.{Params}
 use Rattle.h263_planes.specs.Picture.{Picture}
-use Rattle.h263_outside.specs.declared.desk.Role.{Role}
 use Rattle.h263_outside.specs.declared.desk.Role.TheVariants.{Report}
 use Rattle.y4m.specs.Text.{frame_text}
 use Rattle.call_report.specs.Text.{Text, picture_text}
@@ -15,8 +14,8 @@ use Rattle.call_model.specs.CodedPictures.{Coded}
 use Rattle.call_model.specs.IdealCall.{Call, Event, Send, Deliver, Play, Back, NumberedMessage, about, slices_at}
 use Rattle.call_model.specs.JoinedRun.{SaidMessage}
 use Rattle.call_model.specs.Refusals.{Refusal, Far, first_refusal, refusal_in}
-use Rattle.call_model.specs.Sending.{header_of, packets_before, packets_of}
-use Rattle.call_model.specs.TwoStores.{told_of, travelling}
+use Rattle.call_model.specs.Sending.{header_of, packets_of}
+use Rattle.call_model.specs.TwoStores.{told_of}
 use Rattle.call_rings.specs.Messages.{kept_messages}
 use Rattle.call_decoding.specs.Rules.{rules_of}
 use Rattle.call_decoding.specs.Styles.{Style}
@@ -33,7 +32,7 @@ use Rattle.group_sender.specs.Holding.{Groups, group_after_saying}
 use Rattle.group_call.specs.Refused.{unless_left, view_refusal}
 use Rattle.group_call.specs.Viewing.{ViewerRun, packets_in}
 use Rattle.group_command.specs.Group.{counts_of_view, heard, pictures_at, played_texts, shown_texts}
-use Rattle.group_command.specs.Recorded.{after_note, call_with, counts_line, if_own, next_shown, play_line}
+use Rattle.group_command.specs.Recorded.{after_note, call_with, counts_line, if_own, next_shown}
 use Rattle.group_command.proofs.Lives as life
 use Rattle.group_command.proofs.Lives.{Lives, ViewLaws}
 

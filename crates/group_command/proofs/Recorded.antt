@@ -1,6 +1,6 @@
 -- The run of a group's call over a recorded trace, line by line.
-use Rattle.std.proofs.Common.{◌≡◌, ◌↔◌, ◌⊎◌, inl, inr, ℕ, zero, suc, ◌+◌, ◌-◌, ◌<◌, ◌≤◌, Bool, true, false, not, List, [], ◌∷◌, ◌++◌, length, drop, Option, Some, None, Result, Ok, Err, refl, sym, ap, subst, ◌∙◌, arith, eqb, nat_lt, if◌then◌else◌}
-use Rattle.std.specs.Prelude.{map, nat_le, slice_get, slice_set}
+use Rattle.std.proofs.Common.{◌≡◌, inl, inr, ℕ, zero, suc, ◌+◌, ◌-◌, ◌<◌, ◌≤◌, Bool, true, false, not, List, [], ◌∷◌, ◌++◌, length, drop, Option, Some, None, Result, Ok, Err, refl, sym, ap, subst, ◌∙◌, arith, eqb, nat_lt, if◌then◌else◌}
+use Rattle.std.specs.Prelude.{slice_get, slice_set}
 use Rattle.std.proofs.lemmas.Bool.{eqb-true, ltb-false, ltb-true}
 use Rattle.std.proofs.lemmas.List.{append-nil, append_assoc, drop-drop}
 use Rattle.h263_types.specs.declared.blocks.Mb.{Mb}
@@ -42,13 +42,13 @@ use Rattle.group_command.specs.declared.line.GroupLine.{GroupLine}
 use Rattle.group_command.specs.declared.line.GroupLine.TheVariants.{Quiet, ForAll, Of}
 use Rattle.group_command.specs.declared.line.OwnEvent.{OwnEvent}
 use Rattle.group_command.specs.declared.line.OwnEvent.TheVariants as own
-use Rattle.group_command.specs.Group.{GroupState, after_line, all_played, capture_step, captured_step, counts_from, event_of, first_behind, group_step, line_step, or_else, own_step, pictures_at, quiet_step, run_after, shown_texts, texts_after, trace_step, unless, view_after, view_in, with_frame, with_own}
+use Rattle.group_command.specs.Group.{GroupState, all_played, capture_step, captured_step, counts_from, event_of, first_behind, group_step, line_step, or_else, own_step, pictures_at, quiet_step, run_after, shown_texts, texts_after, trace_step, unless, view_after, view_in, with_own}
 use Rattle.group_command.specs.Lines.{group_line}
 use Rattle.group_command.specs.Turning.{IsThere}
-use Rattle.group_command.specs.Recorded.{Captured, Happening, IsEnd, IsRefusedForAll, LineMayBe, LinesMayBe, Played, Reached, Returned, after_note, and_line, bad_line_or, call_at, call_with, counts_lines, events_at, far_from, group_after, group_fault, group_lines, if_own, next_shown, own_refusal, play_lines, with_all_said, with_said, with_slices}
+use Rattle.group_command.specs.Recorded.{Captured, Happening, IsEnd, LineMayBe, LinesMayBe, Played, Reached, Returned, after_note, and_line, bad_line_or, call_at, call_with, counts_lines, events_at, far_from, group_after, group_fault, group_lines, if_own, next_shown, own_refusal, play_lines, with_all_said, with_said, with_slices}
 use Rattle.group_command.proofs.Lined.{line_there}
 use Rattle.group_command.proofs.Lives as life
-use Rattle.group_command.proofs.Lived.{AllLive, GroupLaws, all_captured, all_played as played_by_all, all_reached, all_returned, all_slices, group_slices, others_slices}
+use Rattle.group_command.proofs.Lived.{AllLive, GroupLaws, all_captured, all_played as played_by_all, all_reached, all_returned, all_slices, group_slices}
 use Rattle.group_command.proofs.Meeting.{coded_is, counts_are, heard_is, if_shown, in_ring, message_is, packet_is, pictures_texts, play_is, played_is, report_texts, send_is, shown_more, texts_are}
 
 -- ---- lists
@@ -401,8 +401,11 @@ module _ (p : Params) (count : ℕ) (frames : List Frame) (broken : Option Y4mFa
             ++ texts_after p k (group past) (view k) e (pictures_at i))
             → rows past2 ≡ rows past ++ texts_after p k (group past) (view k) e Report
             → Takes (Of k e) (quiet_step trace (texts_after p k (group past) (view k) e)
-            (record s { run = run_after p k (group past) (view k) e; views = slice_set views k
-            (view_after p k (group past) (view k) e); }))
+            (record s {
+              run = run_after p k (group past) (view k) e;
+              views = slice_set views k
+                  (view_after p k (group past) (view k) e);
+            }))
         own_goes e run2 past2 is may run_is group_is live coded pictures report =
             comes_more (Of k e) E F (lines + 1) past past2 trace _
             (line_turn trace (texts_after p k (group past) (view k) e)) _ is may refl pictures report

@@ -1,25 +1,24 @@
 -- The reference of each picture of a group, by what its receivers have told.
-use Rattle.std.proofs.Common.{◌≡◌, ◌↔◌, ◌⊎◌, inl, inr, ℕ, zero, suc, ◌+◌, ◌<◌, ◌≤◌, Bool, true, false, ◌&&◌, List, [], ◌∷◌, ◌++◌, length, Option, Some, None, refl, sym, ap, subst, ◌∙◌, arith, eqb, if◌then◌else◌}
+use Rattle.std.proofs.Common.{◌≡◌, inl, inr, ℕ, zero, suc, ◌<◌, ◌≤◌, Bool, true, false, List, [], ◌∷◌, ◌++◌, length, Option, Some, refl, sym, ap, subst, ◌∙◌, arith, eqb, if◌then◌else◌}
 use Rattle.std.specs.Prelude.{nat_le, replicate, slice_get, slice_index_or}
-use Rattle.std.specs.Option.{option_map_or}
 use Rattle.std.proofs.lemmas.Bool.{and_from, and_parts, cases_lt, eq-eqb, eqb-true, le-leb}
 use Rattle.std.proofs.lemmas.List.{get_or-set_other, get_or-set_same, length-set}
 use Rattle.h263_types.specs.declared.blocks.Mb.{Mb}
 use Rattle.h263_types.specs.declared.params.Params.{Params}
 use Rattle.h263_planes.specs.Picture.{Picture}
-use Rattle.call_model.specs.CodedPictures.{Coded, depth_at, is_among}
+use Rattle.call_model.specs.CodedPictures.{Coded, is_among}
 use Rattle.call_decoding.specs.Rules.{rules_of}
 use Rattle.call_decoding.specs.Samples.{pictures}
 use Rattle.call_decoding.specs.Styles.{Style}
 use Rattle.call_encoding.specs.Encoding.{encoding}
 use Rattle.call_encoding.specs.Frames.{Frame}
 use Rattle.one_way.specs.Both.{steady}
-use Rattle.group_sender.specs.Holding.{Groups, group_after_code, group_after_saying, next_of_group}
+use Rattle.group_sender.specs.Holding.{Groups, group_after_code, next_of_group}
 use Rattle.group_sender.specs.Laws.{AllHaveIs, IsNewestOfAll, ReferenceIsNewestOfAll}
 use Rattle.group_sender.specs.Parties.{Party, all_have, nobody, party_after_saying, party_at, party_has, party_joined, with_party_at}
 use Rattle.group_call.specs.One.{one_sends}
 use Rattle.group_command.specs.Group.{joined_by}
-use Rattle.group_command.specs.Recorded.{AllHaveTold, Captured, Happening, IsNewestTold, RefersToNewest, call_at, group_after}
+use Rattle.group_command.specs.Recorded.{AllHaveTold, Happening, IsNewestTold, RefersToNewest, call_at, group_after}
 use Rattle.group_command.proofs.Lives.{none_coded}
 
 -- ---- the receivers' places
