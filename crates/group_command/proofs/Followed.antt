@@ -146,8 +146,8 @@ module _ (t : GroupTerms) (f : Format) (inputs : Role → List ℕ) where
     shows : (k : ℕ) → k < count → ShowsWhatReached p coded (events_at k past)
     shows k below =
         let happened = events_at k past in
-        let near = life.near_now p laws.groups.views k (group_after p count frames past) happened (view_in comes.views k)
-        (lives k below) in
+        let near = life.near_now p laws.groups.views k (group_after p count frames past) happened
+        (view_in comes.views k) (lives k below) in
         let c = call_with p coded happened in
         record {
           exact = exact_is (pictures_of (coding p)) (rules_of p) (one_by_one coded) (length coded) (sends_all coded)
@@ -170,7 +170,8 @@ module _ (t : GroupTerms) (f : Format) (inputs : Role → List ℕ) where
           may = comes.may;
           end = end_is;
           others = λ fault is. comes.others fault is
-              ∙ ap (λ (n : ℕ). Some (line_size (drop n (inputs Events)))) (sym (none_before (taken_of run.turns Events)));
+              ∙ ap (λ (n : ℕ). Some (line_size (drop n (inputs Events))))
+              (sym (none_before (taken_of run.turns Events)));
           taken = omega (arith, comes.taken);
           are_viewers = record {
             near = λ k below. life.near_now p laws.groups.views k (group_after p count frames past) (events_at k past)

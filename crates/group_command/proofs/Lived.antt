@@ -202,7 +202,8 @@ module _ (p : Params) (count : ℕ) (frames : List Frame) (laws : GroupLaws p) (
         (λ i less apart. subst (λ (g : Groups). Lived i g (if_own (eqb k i) (Back m) (events_at i past)) (view i)) is
         (to_other k i apart _ (Back m) (events_at i past) (view i)
         (life.others_say p laws.views i k bytes run (events_at i past) (view i) apart (all.lives i less))))
-        (subst (λ (g : Groups). PartiesAre count g.parties) is (parties_said count k _ run.parties few most all.parties))
+        (subst (λ (g : Groups). PartiesAre count g.parties) is
+        (parties_said count k _ run.parties few most all.parties))
         all.refer
 
     -- ---- a capture
@@ -220,7 +221,8 @@ module _ (p : Params) (count : ℕ) (frames : List Frame) (laws : GroupLaws p) (
           parties = subst (λ (g : Groups). PartiesAre count g.parties) is all.parties;
           refer = (
             refers p count frames laws.references past all.parties most
-                (λ k few. (life.heard p laws.views k run (events_at k past) (view k) (all.lives k few)).knows) frame there,
+                (λ k few. (life.heard p laws.views k run (events_at k past) (view k) (all.lives k few)).knows)
+                frame there,
             all.refer,
           );
         }

@@ -409,7 +409,8 @@ module _ (p : Params) (count : ℕ) (frames : List Frame) (broken : Option Y4mFa
         own_goes e run2 past2 is may run_is group_is live coded pictures report =
             comes_more (Of k e) E F (lines + 1) past past2 trace _
             (line_turn trace (texts_after p k (group past) (view k) e)) _ is may refl pictures report
-            (go past2 (run_after p k (group past) (view k) e) (slice_set views k (view_after p k (group past) (view k) e))
+            (go past2 (run_after p k (group past) (view k) e)
+            (slice_set views k (view_after p k (group past) (view k) e))
             at more (not (is_closed trace)) (of Events size) (inputs Video) (run_is ∙ group_is) live gone refl
             (record {
               ahead = ap (λ (l : List (Coded Style Mb Picture)). drop (length l) frames) coded ∙ on.ahead;
@@ -466,7 +467,8 @@ module _ (p : Params) (count : ℕ) (frames : List Frame) (broken : Option Y4mFa
             → Takes (Of k (own.Back m)) (quiet_step trace no_texts (with_own s k (own.Back m)))
         back_goes m o =
             let left = length frames in
-            let message = message_is p laws.groups.views k (group past) (events_at k past) (view k) (lives k there) left m
+            let message = message_is p laws.groups.views k (group past) (events_at k past) (view k)
+            (lives k there) left m
             in
             let may = (laws.none left c (Back m)).0 (in_ring (length c.said) (length (group past).coded) m
             (refusal_in (rules_of p) left c (Back m)) (sym message ∙ o)) in
@@ -550,7 +552,8 @@ module _ (p : Params) (count : ℕ) (frames : List Frame) (broken : Option Y4mFa
           let nothing : ahead_of more at (inputs Video) ≡ [] =
           ap (λ (l : List ℕ). ahead_of more at l) video ∙ ap (λ (l : List (List ℕ)). film p l) stops.0
           in
-          let fault_is : Some fault ≡ broken = sym (ap (λ (l : List ℕ). fault_at more at l) video ∙ stops.1) ∙ on.fault in
+          let fault_is : Some fault ≡ broken =
+          sym (ap (λ (l : List ℕ). fault_at more at l) video ∙ stops.1) ∙ on.fault in
           comes_stopped past views all (ForAll ∷ E) F (lines + 1) trace rest _ _ (λ text. refl)
           (λ other same. refl)
           (inr (o, none_left nothing, ap (λ (x : Option Y4mFault). capture_told x (lines + 1 + 0) NoPicture) fault_is))
@@ -573,7 +576,8 @@ module _ (p : Params) (count : ℕ) (frames : List Frame) (broken : Option Y4mFa
             omega (arith, many, ap (λ (l : List (Coded Style Mb Picture)). length l) (lives k below).own),
             (near k below).1,
           ) in
-          let live = all_captured p count frames laws.groups in_places past views all x there (λ k below. (near k below).1) in
+          let live = all_captured p count frames laws.groups in_places past views all x there
+          (λ k below. (near k below).1) in
           let run_is : group_after_code p (steady p) x (group past) ≡ group (Captured ∷ past) =
           ap (λ (q : Option Frame). one_sends p q (group past)) (sym there) in
           let long : length (group (Captured ∷ past)).coded ≡ suc n =

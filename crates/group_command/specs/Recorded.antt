@@ -106,8 +106,8 @@ call_with p coded past = call_from (pictures_of (coding p)) (rules_of p) (one_by
 -- a message of the receiver at place k comes back, if it was said
 abbrev pub after_note : Params → ℕ → Option NumberedMessage → Groups → Groups
 after_note p k note run =
-    option_map_or (λ (note : NumberedMessage). group_after_saying p k (write_message (travelling (rules_of p) note)) run)
-    note run
+    option_map_or
+    (λ (note : NumberedMessage). group_after_saying p k (write_message (travelling (rules_of p) note)) run) note run
 
 -- After these events of a call a picture that was played is marked exact where all its packets were
 -- delivered while it was open, and nowhere else, and was then shown as the sender has it.
