@@ -3,3 +3,4 @@ pub mod Holding
 pub mod Refused
 pub mod Following
 pub mod One
+pub mod Hearing

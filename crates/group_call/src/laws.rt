@@ -3,6 +3,7 @@
 ghost use Rattle.h263_types.specs.declared.params.Params.{Params};
 ghost use Rattle.h263_types.specs.Params.{IsParams};
 ghost use Rattle.group_call.specs.Following.{ViewersFollow};
+ghost use Rattle.group_call.specs.Hearing.{ViewersAreHeard};
 ghost use Rattle.group_call.specs.One.{OneIsACall};
 
 use back_messages::MessageFault;
@@ -10,7 +11,7 @@ use call_decoding::laws::are_rules;
 use call_decoding::{Pictured, Styled};
 use call_encoding::Framed;
 use coded_call::laws::is_coding;
-use group_sender::laws::{group, one_is_a_sender};
+use group_sender::laws::{each_is_heard, group, one_is_a_sender};
 use h263_bits::Fault;
 use h263_types::Mb;
 use one_way::laws::ends_run;
@@ -24,6 +25,16 @@ pub fn viewers_follow()
     is_coding();
     are_rules();
     group::<Framed, Styled, Mb, Pictured, Fault, MessageFault>();
+}
+
+/// Each such receiver says what its ideal call says, each message about its picture, and the group
+/// knows of it what that call's sender knows.
+pub fn viewers_are_heard()
+    ensures { (p : Params) → IsParams p → ViewersAreHeard p }
+{
+    is_coding();
+    are_rules();
+    each_is_heard::<Framed, Styled, Mb, Pictured, Fault, MessageFault>();
 }
 
 /// A group of one is a call: over the same events its pictures, its receiver, what that says and what

@@ -15,3 +15,10 @@ pub mod Asking
 pub mod Owning
 pub mod RoomTurning
 pub mod FaultOfVideo
+pub mod Arriving
+pub mod Lives
+pub mod Meeting
+pub mod Referring
+pub mod Lived
+pub mod Recorded
+pub mod Followed

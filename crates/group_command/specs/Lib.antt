@@ -3,3 +3,4 @@ pub mod Group
 pub mod Standing
 pub mod Turning
 pub mod Begin
+pub mod Recorded

@@ -5,5 +5,6 @@ pub mod Lawful
 pub mod OneReceiver
 pub mod FirstLate
 pub mod Encoded
+pub mod Hearing
 pub mod Living
 pub mod Intra

@@ -14,13 +14,16 @@ use Rattle.call_model.specs.CodedPictures.{Coded, capture, depth_at, is_among, p
 use Rattle.call_model.specs.IdealCall.{Event, Send, Play, Back, NumberedMessage, Call, Source, AllMayHappenFrom, about, call_from, told_full}
 use Rattle.call_model.specs.Lawful.{IsChosen, IsCoding, IsMade, IsPace, IsRules}
 use Rattle.call_model.specs.Sending.{bytes_in, known_by_feedback, last_sizes, made_known, packets_of}
+use Rattle.call_model.specs.Says.{SaysAsTheCall}
 use Rattle.call_model.specs.Sound.{AllSound, AnySoundSender, IsSoundPicture}
 use Rattle.call_model.specs.TwoStores.{travelling}
+use Rattle.group_sender.specs.Hearing.{GroupIsHeard}
 use Rattle.group_sender.specs.InACall.{AreLived, Lived, Done, Arrives, Plays, ComesBack, GroupIsFollowed, began_at, group_entries, lived_events, lived_source}
 use Rattle.group_sender.specs.Laws.{IsNewestOfAll}
 use Rattle.group_sender.specs.Parties.{Party, all_have, nobody, party_after_saying, party_at, party_joined, with_party_at}
 use Rattle.group_sender.specs.Running.{GroupEntry, CaptureAll, FeedbackOf, JoinsAt, LeavesAt, GroupRun, after_feedback_of, group_run, next_for_all}
 use Rattle.group_sender.proofs.Encoded.{IsOfEncoder, packet_is_read, picture_by_slices, slice_get_both, slice_get_last, slice_get_left, slice_get_push}
+use Rattle.group_sender.proofs.Hearing.{says_the_notes}
 use Rattle.group_sender.proofs.Lawful.{all_have_is, reference_is}
 
 both_true : (a b : Bool) → (a && b) ≡ true → (a ≡ true) × (b ≡ true)
@@ -166,6 +169,7 @@ module _ {Frame Style Mb Picture Fault MessageFault : Type 0}
     present : (party_at g.parties k).present ≡ true
     since : (party_at g.parties k).since ≡ joined
     told : (m : ℕ) → is_among (party_at g.parties k).told m ≡ true → is_among c.known m ≡ true
+    knows : (party_at g.parties k).told ≡ c.known
     sound : AllSound coding.decoding rules source packets past
 
   blank_is_sound : (c : Call Style Mb Picture) → IsSoundPicture (pictures_of coding) rules c blank
@@ -195,6 +199,11 @@ module _ {Frame Style Mb Picture Fault MessageFault : Type 0}
         ),
       )
 
+  -- before it joined nothing came back of it
+  began_knows : (n : ℕ) → (call (began_at n)).known ≡ []
+  began_knows zero = refl
+  began_knows (suc n) = began_knows n
+
   -- another's place changes
   other_place : (c : Call Style Mb Picture) (g : GroupRun Style Mb Picture) (past : List Event) (j : ℕ) (p : Party)
       → (j ≡ k → ⊥) → Goes c g past
@@ -211,6 +220,7 @@ module _ {Frame Style Mb Picture Fault MessageFault : Type 0}
         present = ap (λ (q : Party). q.present) stays ∙ at.present;
         since = ap (λ (q : Party). q.since) stays ∙ at.since;
         told = λ m is. at.told m (sym (ap (λ (q : Party). is_among q.told m) stays) ∙ is);
+        knows = ap (λ (q : Party). q.told) stays ∙ at.knows;
         sound = at.sound;
       }
 
@@ -283,6 +293,7 @@ module _ {Frame Style Mb Picture Fault MessageFault : Type 0}
         present = at.present;
         since = at.since;
         told = at.told;
+        knows = at.knows;
         sound = (
           λ y is. subst (λ (z : Coded Style Mb Picture). IsSoundPicture (pictures_of coding) rules c z)
               (some_same x y (sym source_is ∙ is)) sound_x,
@@ -336,6 +347,7 @@ module _ {Frame Style Mb Picture Fault MessageFault : Type 0}
             ap (λ (l : List ℕ). is_among l m) known ∙ list_any-append (λ j. eqb j m) (told_full note) c.known
             ∙ or_known (is_among numbers m) (is_among party.told m) (is_among (told_full note) m)
             (is_among c.known m) mine (λ t. sym (ap (λ (l : List ℕ). is_among l m) are) ∙ t) (at.told m);
+        knows = ap (λ (q : Party). q.told) here ∙ (λ i. are i ++ at.knows i) ∙ sym known;
         sound = (tt, at.sound);
       }
 
@@ -360,6 +372,7 @@ module _ {Frame Style Mb Picture Fault MessageFault : Type 0}
         present = ap (λ (q : Party). q.present) here;
         since = ap (λ (q : Party). q.since) here;
         told = λ m is. let wrong : false ≡ true = sym (ap (λ (q : Party). is_among q.told m) here) ∙ is in cc;
+        knows = ap (λ (q : Party). q.told) here ∙ sym (began_knows joined);
         sound = b.1;
       }
   goes (Done (CaptureAll pace f) ∷ past) fair near front =
@@ -388,6 +401,7 @@ module _ {Frame Style Mb Picture Fault MessageFault : Type 0}
         present = at.present;
         since = at.since;
         told = at.told;
+        knows = at.knows;
         sound = (
           λ x is.
               let own : slice_get (group past).coded n ≡ Some x = sym (at.same n fair.0) ∙ is in
@@ -406,6 +420,7 @@ module _ {Frame Style Mb Picture Fault MessageFault : Type 0}
         present = at.present;
         since = at.since;
         told = at.told;
+        knows = at.knows;
         sound = (tt, at.sound);
       }
   goes (ComesBack i bytes ∷ past) fair near front =
@@ -423,4 +438,19 @@ group_is_followed coding rules lawful ruled greatest_is follow k before lived fr
     record {
       follows = follow _ _ count _ near at.sound;
       own = at.same;
+    }
+
+pub group_is_heard : {Frame Style Mb Picture Fault MessageFault : Type 0}
+    (coding : Coding Frame Style Mb Picture Fault MessageFault) (rules : Rules)
+    → IsCoding coding rules → IsRules rules → GreatestIs → AnySoundSender coding.decoding rules
+    → SaysAsTheCall coding.decoding rules → GroupIsHeard coding rules
+group_is_heard coding rules lawful ruled greatest_is follow says k before lived frame quant count placed range fair near
+    =
+    let coded = (group_run (pictures_of coding) coding.encoding rules (group_entries k before lived)).coded in
+    let at = goes coding rules lawful ruled greatest_is follow k before frame quant range coded count placed lived fair
+    near (λ n x is. is) in
+    record {
+      says = says_the_notes coding rules follow says _ (λ _ n. packets_of coding.encoding rules coded n) count _ near
+          at.sound;
+      knows = at.knows;
     }

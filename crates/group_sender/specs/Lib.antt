@@ -4,3 +4,4 @@ pub mod Standing
 pub mod Holding
 pub mod Laws
 pub mod InACall
+pub mod Hearing

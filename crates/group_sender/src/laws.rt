@@ -1,6 +1,7 @@
 //! What holds of every group. Each law is the contract of a function that does nothing.
 ghost use Rattle.call_model.specs.Coding.{Coding, Encoding, Pictures, Rules};
 ghost use Rattle.call_model.specs.Lawful.{IsCoding, IsRules};
+ghost use Rattle.group_sender.specs.Hearing.{GroupIsHeard};
 ghost use Rattle.group_sender.specs.InACall.{GroupIsFollowed};
 ghost use Rattle.group_sender.specs.Laws.{AllHaveIs, FeedbackChangesOne, JoinChangesOne};
 ghost use Rattle.group_sender.specs.Laws.{JoinerHasNone, LeaveChangesOne, LeaverFrees};
@@ -52,4 +53,15 @@ pub fn group<Frame, Style, Mb, Picture, Fault, MessageFault>()
 {
     call_model_laws::searches();
     call_model_laws::any_sound_sender::<Style, Mb, Picture, Fault>();
+}
+
+/// In such a call each receiver says what its call says, each message about its picture (`says`),
+/// and the sender knows of it what its call knows (`knows`).
+pub fn each_is_heard<Frame, Style, Mb, Picture, Fault, MessageFault>()
+    ensures { (coding : Coding Frame Style Mb Picture Fault MessageFault) (rules : Rules)
+        → IsCoding coding rules → IsRules rules → GroupIsHeard coding rules }
+{
+    call_model_laws::searches();
+    call_model_laws::any_sound_sender::<Style, Mb, Picture, Fault>();
+    call_model_laws::says::<Style, Mb, Picture, Fault>();
 }
