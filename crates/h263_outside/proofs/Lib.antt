@@ -2,6 +2,6 @@ pub mod Left
 pub mod Gains
 pub mod Roles
 pub mod Inputs
-pub mod Outputs
+pub mod Given
 pub mod Fronts
 pub mod Writes

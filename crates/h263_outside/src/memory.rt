@@ -199,8 +199,9 @@ fn new_output(alloc: Global, room: usize) -> Result<Output, AllocError>
 #[tactic(auto, unfolding(crate::specs::Memory::memory_outside, crate::specs::Memory::setup_of))]
 impl MemoryDesk {
     ghost use Rattle.std.specs.Prelude.{Some};
-    ghost use Rattle.h263_outside.specs.Desk.{IsInput, IsOutput, NoneAttached, with_role};
-    ghost use Rattle.h263_outside.specs.Memory.{memory_outside, blank_outside, setup_of, new_setup, LacksPut};
+    ghost use Rattle.h263_outside.specs.Desk.{IsInput, IsOutput, NoneAttached, appended, with_role};
+    ghost use Rattle.h263_outside.specs.Memory.{memory_outside, blank_outside, setup_of, new_setup};
+    ghost use Rattle.h263_outside.specs.Memory.{LacksPut, count_told, moved_count};
 
     /// A desk on which one call moves at most `piece` bytes, with the memory for `room` bytes of
     /// each output.
@@ -288,6 +289,44 @@ impl MemoryDesk {
         }
     }
 
+    // Attaches a role by this name.
+    fn give(&mut self, role: Role, name: Vec<u8>)
+        ensures outside { memory_outside self.new ≡ record (memory_outside self.old) {
+          attached = with_role (memory_outside self.old).attached role true;
+          name = with_role (memory_outside self.old).name role (Some name.items);
+        } }
+        ensures setup { setup_of self.new ≡ setup_of self.old }
+    {
+        match role {
+            Role::Video => self.video.attach(name),
+            Role::Events => self.events.attach(name),
+            Role::Pictures => self.pictures.attach(name),
+            Role::Wire => self.wire.attach(name),
+            Role::Report => self.report.attach(name),
+            Role::Video2 => self.video2.attach(name),
+            Role::Pictures2 => self.pictures2.attach(name),
+        }
+    }
+
+    // Puts the first bytes on an output, and answers how many.
+    fn put_out(&mut self, role: Role, bytes: &[u8]) -> usize
+        requires { IsOutput role }
+        ensures count { result ≡ moved_count
+            ((setup_of self.old).room role - count_told ((memory_outside self.old).written role))
+            (setup_of self.old).piece (length bytes.now) }
+        ensures outside { memory_outside self.new ≡ record (memory_outside self.old)
+            { written = appended (memory_outside self.old).written role (take result bytes.now) } }
+        ensures setup { setup_of self.new ≡ setup_of self.old }
+    {
+        match role {
+            Role::Pictures => self.pictures.write(self.piece, bytes),
+            Role::Wire => self.wire.write(self.piece, bytes),
+            Role::Report => self.report.write(self.piece, bytes),
+            Role::Pictures2 => self.pictures2.write(self.piece, bytes),
+            _ => unreachable!(),
+        }
+    }
+
     /// What was written on an output, and nothing for an input.
     pub fn text(&self, role: Role) -> &[u8]
         ensures output { IsOutput role → (memory_outside self.now).written role ≡ Some result.now }
@@ -349,15 +388,7 @@ impl Desk for MemoryDesk {
             return Err(Unattached::Failed);
         }
         let name = name.as_bytes().to_vec(self.alloc)?;
-        match role {
-            Role::Video => self.video.attach(name),
-            Role::Events => self.events.attach(name),
-            Role::Pictures => self.pictures.attach(name),
-            Role::Wire => self.wire.attach(name),
-            Role::Report => self.report.attach(name),
-            Role::Video2 => self.video2.attach(name),
-            Role::Pictures2 => self.pictures2.attach(name),
-        }
+        self.give(role, name);
         Ok(())
     }
 
@@ -439,25 +470,8 @@ impl Desk for MemoryDesk {
             self.calls.write_faults = raised(self.calls.write_faults);
             return Err(Failed);
         }
-        match role {
-            Role::Pictures => {
-                let count = self.pictures.write(self.piece, bytes);
-                self.calls.told(count)
-            }
-            Role::Wire => {
-                let count = self.wire.write(self.piece, bytes);
-                self.calls.told(count)
-            }
-            Role::Report => {
-                let count = self.report.write(self.piece, bytes);
-                self.calls.told(count)
-            }
-            Role::Pictures2 => {
-                let count = self.pictures2.write(self.piece, bytes);
-                self.calls.told(count)
-            }
-            _ => unreachable!(),
-        }
+        let count = self.put_out(role, bytes);
+        self.calls.told(count)
     }
 
     fn flush(&mut self) -> Result<(), Failed>

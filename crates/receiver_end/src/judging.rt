@@ -1,9 +1,12 @@
 //! Whether a slice is taken.
-ghost use Rattle.std.specs.Prelude.{◌≡◌, ◌↔◌, ◌+◌, ◌^◌, ◌≤◌, true, Ok, IfOk, IfSome, is_some};
+ghost use Rattle.std.specs.Prelude.{◌≡◌, ◌↔◌, ◌+◌, ◌^◌, ◌<◌, ◌≤◌, true, Ok, IfOk, IfSome, is_some};
+ghost use Rattle.std.specs.Prelude.{nat_le};
 ghost use Rattle.h263_types.specs.declared.blocks.Mb.{Mb};
 ghost use Rattle.h263_types.specs.Blocks.{IsHeadOf};
 ghost use Rattle.call_model.specs.Coding as call;
+ghost use Rattle.call_model.specs.Coding.{window};
 ghost use Rattle.call_model.specs.Receiving.{piece_number};
+ghost use Rattle.call_model.specs.Sending.{nearest_below};
 ghost use Rattle.call_model.specs.ReceiverStanding.{heard_by_kept};
 ghost use Rattle.call_model.specs.Stands.{judged, reference_is_kept};
 ghost use Rattle.call_decoding.specs.Rules.{rules_of};
@@ -44,6 +47,26 @@ impl Kept {
     ghost use Rattle.receiver_end.specs.Steps.{IsFresh, IsFreshOf, IsJudged, IsReferenceOf};
     ghost use Rattle.receiver_end.specs.Steps.{IsUntaken, Spells};
 
+    // The picture below an open one that a TRP names, if there is one.
+    fn named_below(&self, number: u32, rest: u16) -> Option<u32>
+        requires fits { Fits self.now }
+        requires number { number ≤ 2 ^ 21 }
+        ensures below { IfSome result (λ m. m < number) }
+        ensures value { result ≡ nearest_below (rules_of self.now.params) number rest }
+    {
+        nearest_below(number, rest, self.params.clock)
+    }
+
+    // Whether a picture is in the window of an open one.
+    fn reaches(&self, number: u32, m: u32) -> bool
+        requires fits { Fits self.now }
+        requires number { number ≤ 2 ^ 21 }
+        requires below { m < number }
+        ensures { result ≡ nat_le number (m + window (rules_of self.now.params)) }
+    {
+        number <= m + (self.params.slots - self.params.lead - 1)
+    }
+
     // The reference that the header of an open picture names, if it names one. None where that one
     // isn't complete, or not in the window.
     fn reference_of(&self, number: u32, header: &Header) -> Option<Option<u32>>
@@ -57,8 +80,8 @@ impl Kept {
         let Some(rest) = header.trp else {
             return Some(None);
         };
-        let m = nearest_below(number, rest, self.params.clock)?;
-        if number > m + (self.params.slots - self.params.lead - 1) {
+        let m = self.named_below(number, rest)?;
+        if !self.reaches(number, m) {
             return None;
         }
         if self.holds(m) {

@@ -1,4 +1,4 @@
-use Rattle.std.proofs.Common.{◌+◌, ◌≤◌, length, ap, subst, arith}
+use Rattle.std.proofs.Common.{◌+◌, ◌≤◌, length, refl, ap, subst, arith}
 use Rattle.h263_types.specs.declared.format.Format.{Format}
 use Rattle.h263_types.specs.Blocks.{IsHeadOf}
 use Rattle.h263_types.specs.Sizes.{mbs_of}
@@ -26,6 +26,18 @@ returns-in-Ok-clause-stands c = λ past bytes stands read.
     (c.are_rules.ensures r.params c.requires.fits.params))
     c.take.new.self c.in-Ok.fresh.number c.take.ensures.params c.in-Ok.ensures.fresh.0
     (c.in-Ok.ensures.answer (piece_in piece mbs) (spelled piece mbs inside)) (c.take.ensures.after past stands)
+
+pub returns-in-Err-clause-fits : goal.returns-in-Err-clause-fits
+returns-in-Err-clause-fits c = c.requires.fits
+
+pub returns-in-Err-clause-params : goal.returns-in-Err-clause-params
+returns-in-Err-clause-params c = refl
+
+pub returns-in-Err-clause-played : goal.returns-in-Err-clause-played
+returns-in-Err-clause-played c = refl
+
+pub returns-in-Err-clause-same : goal.returns-in-Err-clause-same
+returns-in-Err-clause-same c = λ untaken. refl
 
 pub returns-in-Err-clause-stands : goal.returns-in-Err-clause-stands
 returns-in-Err-clause-stands c = λ past bytes stands read.
