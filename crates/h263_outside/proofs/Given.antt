@@ -78,7 +78,8 @@ pub nothing_written : (written : Role → Option (List ℕ)) (role : Role) (byte
     → now ≡ appended written role (take count bytes) → OnErr r (now ≡ written)
 nothing_written written role bytes count now (Ok k) none e = tt
 nothing_written written role bytes count now (Err fault) none e =
-    e ∙ ap (λ (n : ℕ). appended written role (take n bytes)) (none.0 refl) ∙ same_roles _ _ (λ r. appended_none written role r)
+    e ∙ ap (λ (n : ℕ). appended written role (take n bytes)) (none.0 refl)
+    ∙ same_roles _ _ (λ r. appended_none written role r)
 
 -- what was written is told by the answer
 pub written_by : (written : Role → Option (List ℕ)) (role : Role) (bytes : List ℕ) (count : ℕ)
