@@ -29,7 +29,7 @@ use Rattle.desk_program.specs.Texts.{of}
 use Rattle.group_call.specs.Viewing.{no_view}
 use Rattle.group_command.specs.declared.terms.GroupTerms.{GroupTerms}
 use Rattle.group_command.specs.Group.{GroupState, first_state, group_run, group_step, head_step, heads_text, pictures_at, view_in}
-use Rattle.group_command.specs.Recorded.{FollowsItsTrace, Happening, IsEnd, ShowsWhatReached, call_with, events_at, group_after, group_fault, group_lines, one_by_one, with_all_said}
+use Rattle.group_command.specs.Recorded.{FollowsItsTrace, Happening, IsEnd, ShowsWhatReached, call_with, events_at, group_at, lines_fault, group_lines, one_by_one, with_all_said}
 use Rattle.group_command.proofs.Arriving.{exact_is, shows_is}
 use Rattle.group_command.proofs.Lives as life
 use Rattle.group_command.proofs.Lived.{all_start}
@@ -116,7 +116,7 @@ module _ (t : GroupTerms) (f : Format) (inputs : Role → List ℕ) where
     one_more n = omega arith
 
     comes : Comes p count frames broken laws some few [] (group_lines count 16777216 (inputs Events))
-        (group_fault count 16777216 1 (inputs Events)) 1 (inputs Events) run
+        (lines_fault count 16777216 1 (inputs Events)) 1 (inputs Events) run
     comes =
         run_comes p count frames broken laws some few frame_laws 16777216 [] (replicate count no_view) size 1048576 0
         false (left_after inputs (of Video size))
@@ -132,21 +132,21 @@ module _ (t : GroupTerms) (f : Format) (inputs : Role → List ℕ) where
     past = with_all_said p count frames [] comes.lines
 
     abbrev coded : List (Coded Style Mb Picture)
-    coded = (group_after p count frames past).coded
+    coded = (group_at p count frames past).coded
 
-    end_is : IsEnd p count frames broken (group_fault count 16777216 1 (inputs Events)) (length comes.lines + 1) past
+    end_is : IsEnd p count frames broken (lines_fault count 16777216 1 (inputs Events)) (length comes.lines + 1) past
         comes.refused run.last.status
-    end_is = subst (λ (m : ℕ). IsEnd p count frames broken (group_fault count 16777216 1 (inputs Events)) m past
+    end_is = subst (λ (m : ℕ). IsEnd p count frames broken (lines_fault count 16777216 1 (inputs Events)) m past
         comes.refused run.last.status) (one_more (length comes.lines)) comes.end
 
-    lives : (k : ℕ) → k < count → life.Lives p laws.groups.views k (group_after p count frames past) (events_at k past)
+    lives : (k : ℕ) → k < count → life.Lives p laws.groups.views k (group_at p count frames past) (events_at k past)
         (view_in comes.views k)
     lives k below = comes.live.lives k below
 
     shows : (k : ℕ) → k < count → ShowsWhatReached p coded (events_at k past)
     shows k below =
         let happened = events_at k past in
-        let near = life.near_now p laws.groups.views k (group_after p count frames past) happened
+        let near = life.near_now p laws.groups.views k (group_at p count frames past) happened
         (view_in comes.views k) (lives k below) in
         let c = call_with p coded happened in
         record {
@@ -174,7 +174,7 @@ module _ (t : GroupTerms) (f : Format) (inputs : Role → List ℕ) where
               (sym (none_before (taken_of run.turns Events)));
           taken = omega (arith, comes.taken);
           are_viewers = record {
-            near = λ k below. life.near_now p laws.groups.views k (group_after p count frames past) (events_at k past)
+            near = λ k below. life.near_now p laws.groups.views k (group_at p count frames past) (events_at k past)
                 (view_in comes.views k) (lives k below);
             same = λ k below. (lives k below).own;
             references = comes.live.refer;

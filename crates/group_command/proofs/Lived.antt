@@ -17,7 +17,7 @@ use Rattle.group_sender.specs.Holding.{Groups}
 use Rattle.group_call.specs.One.{one_sends}
 use Rattle.group_call.specs.Viewing.{ViewerRun, no_view, packets_in, view_delivery, view_picture, view_places, view_play}
 use Rattle.group_command.specs.Group.{joined_by, view_in}
-use Rattle.group_command.specs.Recorded.{AllReferToNewest, Captured, Happening, Played, Reached, Returned, after_note, call_at, call_with, events_at, group_after, if_own, with_slices}
+use Rattle.group_command.specs.Recorded.{AllReferToNewest, Captured, Happening, Played, Reached, Returned, after_note, call_at, call_with, events_at, group_at, if_own, with_slices}
 use Rattle.group_command.proofs.Lives as life
 use Rattle.group_command.proofs.Lives.{Lives, ViewLaws, starts_in}
 use Rattle.group_command.proofs.Meeting.{packets_count}
@@ -41,7 +41,7 @@ pub record GroupLaws (p : Params) : Type 0 where
 
 module _ (p : Params) (count : ℕ) (frames : List Frame) (laws : GroupLaws p) (most : count ≤ 16) where
   abbrev group : List Happening → Groups
-  group past = group_after p count frames past
+  group past = group_at p count frames past
 
   abbrev call : ℕ → List Happening → Call Style Mb Picture
   call k past = call_at p count frames k past

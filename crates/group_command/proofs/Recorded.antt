@@ -45,7 +45,7 @@ use Rattle.group_command.specs.declared.line.OwnEvent.TheVariants as own
 use Rattle.group_command.specs.Group.{GroupState, all_played, capture_step, captured_step, counts_from, event_of, first_behind, group_step, line_step, or_else, own_step, pictures_at, quiet_step, run_after, shown_texts, texts_after, trace_step, unless, view_after, view_in, with_own}
 use Rattle.group_command.specs.Lines.{group_line}
 use Rattle.group_command.specs.Turning.{IsThere}
-use Rattle.group_command.specs.Recorded.{Captured, Happening, IsEnd, LineMayBe, LinesMayBe, Played, Reached, Returned, after_note, and_line, bad_line_or, call_at, call_with, counts_lines, events_at, far_from, group_after, group_fault, group_lines, if_own, next_shown, own_refusal, play_lines, with_all_said, with_said, with_slices}
+use Rattle.group_command.specs.Recorded.{Captured, Happening, IsEnd, LineMayBe, LinesMayBe, Played, Reached, Returned, after_note, and_line, bad_line_or, call_at, call_with, counts_lines, events_at, far_from, group_at, lines_fault, group_lines, if_own, next_shown, its_refusal, play_lines, with_all_said, with_said, with_slices}
 use Rattle.group_command.proofs.Lined.{line_there}
 use Rattle.group_command.proofs.Lives as life
 use Rattle.group_command.proofs.Lived.{AllLive, GroupLaws, all_captured, all_played as played_by_all, all_reached, all_returned, all_slices, group_slices}
@@ -132,7 +132,7 @@ module _ (p : Params) (count : ℕ) (frames : List Frame) (broken : Option Y4mFa
   in_places = omega (arith, few)
 
   abbrev group : List Happening → Groups
-  group past = group_after p count frames past
+  group past = group_at p count frames past
 
   abbrev call : ℕ → List Happening → Call Style Mb Picture
   call k past = call_at p count frames k past
@@ -422,7 +422,7 @@ module _ (p : Params) (count : ℕ) (frames : List Frame) (broken : Option Y4mFa
             → i < count → shown_text (call i past2).plays ≡ shown_text (call i past).plays ++ []
         silent_pictures past2 same i below = ap shown_text (same i) ∙ sym (append-nil (shown_text (call i past).plays))
 
-        told_at : (e : OwnEvent) (r : Refusal) → own_refusal p count frames k past (event_of e) ≡ Some r
+        told_at : (e : OwnEvent) (r : Refusal) → its_refusal p count frames k past (event_of e) ≡ Some r
             → IsEnd p count frames broken F (lines + 1 + 0) past (Of k e ∷ E)
             (TraceRefused (fault_of (lines + 1) (event_of e) r))
         told_at e r is = (r, is, numbered (event_of e) r)
@@ -645,7 +645,7 @@ module _ (p : Params) (count : ℕ) (frames : List Frame) (broken : Option Y4mFa
         → left_after inputs taken Events ≡ later_lines (inputs Events) → left_after inputs taken Video ≡ left
         → IsOn past2 at2 more2 left
         → Comes past2 (group_lines count n (later_lines (inputs Events)))
-        (group_fault count n (lines + 1 + 1) (later_lines (inputs Events))) (lines + 1 + 1)
+        (lines_fault count n (lines + 1 + 1) (later_lines (inputs Events))) (lines + 1 + 1)
         (left_after inputs taken Events)
         (run_of group_step n (state run2 views2 at2 more2 (lines + 1) ended2) (left_after inputs taken))
 
@@ -662,9 +662,9 @@ module _ (p : Params) (count : ℕ) (frames : List Frame) (broken : Option Y4mFa
           (λ next taken. silence) _ _ refl
 
       last_comes : (text : List ℕ) → lines + 0 ≡ 16777216
-          → Comes past [] (group_fault count 0 (lines + 1) text) (lines + 1) (inputs Events)
+          → Comes past [] (lines_fault count 0 (lines + 1) text) (lines + 1) (inputs Events)
           (follow (trace_step here inputs text) (λ next taken. silence))
-      unfolding group_fault
+      unfolding lines_fault
       last_comes [] room = comes_end past views all (lines + 1) at more lines ended (inputs Events)
           (λ next taken. silence)
       last_comes (b ∷ text) room = last_choice (nat_lt lines 16777216) _ room refl
@@ -678,7 +678,7 @@ module _ (p : Params) (count : ℕ) (frames : List Frame) (broken : Option Y4mFa
             → Comes past (and_line (group_line count (first_line (byte ∷ trace)))
             (group_lines count n (later_lines (byte ∷ trace))))
             (bad_line_or (group_line count (first_line (byte ∷ trace))) (lines + 1)
-            (group_fault count n (lines + 1 + 1) (later_lines (byte ∷ trace)))) (lines + 1) (inputs Events)
+            (lines_fault count n (lines + 1 + 1) (later_lines (byte ∷ trace)))) (lines + 1) (inputs Events)
             (follow (or_many b lines (line_step here inputs (group_line (length views) (first_line (byte ∷ trace)))))
             on_with)
         choice_comes false byte trace is go room many = absurd (omega (arith, ltb-false lines 16777216 many, room))
@@ -687,20 +687,20 @@ module _ (p : Params) (count : ℕ) (frames : List Frame) (broken : Option Y4mFa
             subst (λ (c : ℕ). Comes past (and_line (group_line count line)
             (group_lines count n (later_lines (byte ∷ trace))))
             (bad_line_or (group_line count line) (lines + 1)
-            (group_fault count n (lines + 1 + 1) (later_lines (byte ∷ trace)))) (lines + 1) (inputs Events)
+            (lines_fault count n (lines + 1 + 1) (later_lines (byte ∷ trace)))) (lines + 1) (inputs Events)
             (follow (line_step here inputs (group_line c line)) on_with)) (sym all.long)
             (subst (λ (l : List ℕ). Comes past (and_line (group_line count line) (group_lines count n (later_lines l)))
-            (bad_line_or (group_line count line) (lines + 1) (group_fault count n (lines + 1 + 1) (later_lines l)))
+            (bad_line_or (group_line count line) (lines + 1) (lines_fault count n (lines + 1 + 1) (later_lines l)))
             (lines + 1) (inputs Events) (follow (line_step here inputs (group_line count line)) on_with)) is
             (line_comes frame_laws past views all at more lines ended inputs on
             (group_lines count n (later_lines (inputs Events)))
-            (group_fault count n (lines + 1 + 1) (later_lines (inputs Events))) on_with go (group_line count line)
+            (lines_fault count n (lines + 1 + 1) (later_lines (inputs Events))) on_with go (group_line count line)
             (λ said found. line_there count said line some found)))
 
         step_comes : (trace : List ℕ) → inputs Events ≡ trace → GoesOn n lines inputs → lines + suc n ≡ 16777216
-            → Comes past (group_lines count (suc n) trace) (group_fault count (suc n) (lines + 1) trace) (lines + 1)
+            → Comes past (group_lines count (suc n) trace) (lines_fault count (suc n) (lines + 1) trace) (lines + 1)
             (inputs Events) (follow (trace_step here inputs trace) on_with)
-        unfolding group_lines group_fault
+        unfolding group_lines lines_fault
         step_comes [] is go room = comes_end past views all (lines + 1) at more lines ended (inputs Events) on_with
         step_comes (byte ∷ trace) is go room = choice_comes (nat_lt lines 16777216) byte trace is go room refl
 
@@ -709,19 +709,19 @@ module _ (p : Params) (count : ℕ) (frames : List Frame) (broken : Option Y4mFa
 
     pub run_comes : (n : ℕ) (past : List Happening) (views : List ViewerRun) (at more lines : ℕ) (ended : Bool)
         (inputs : Role → List ℕ) → Live past views → IsOn past at more (inputs Video) → lines + n ≡ 16777216
-        → Comes past (group_lines count n (inputs Events)) (group_fault count n (lines + 1) (inputs Events)) (lines + 1)
+        → Comes past (group_lines count n (inputs Events)) (lines_fault count n (lines + 1) (inputs Events)) (lines + 1)
         (inputs Events) (run_of group_step n (state (group past) views at more lines ended) inputs)
-    unfolding run_of group_lines group_fault
+    unfolding run_of group_lines lines_fault
     run_comes zero past views at more lines ended inputs all on room =
         last_comes past views all at more lines ended inputs on (inputs Events) room
     run_comes (suc n) past views at more lines ended inputs all on room =
         step_comes past views all at more lines ended inputs on n (inputs Events) refl
         (λ past2 run2 views2 at2 more2 ended2 taken left is live gone seen on2.
         subst (λ (g : Groups). Comes past2 (group_lines count n (later_lines (inputs Events)))
-        (group_fault count n (lines + 1 + 1) (later_lines (inputs Events))) (lines + 1 + 1)
+        (lines_fault count n (lines + 1 + 1) (later_lines (inputs Events))) (lines + 1 + 1)
         (left_after inputs taken Events)
         (run_of group_step n (state g views2 at2 more2 (lines + 1) ended2) (left_after inputs taken))) (sym is)
-        (subst (λ (l : List ℕ). Comes past2 (group_lines count n l) (group_fault count n (lines + 1 + 1) l)
+        (subst (λ (l : List ℕ). Comes past2 (group_lines count n l) (lines_fault count n (lines + 1 + 1) l)
         (lines + 1 + 1) (left_after inputs taken Events)
         (run_of group_step n (state (group past2) views2 at2 more2 (lines + 1) ended2) (left_after inputs taken))) gone
         (run_comes n past2 views2 at2 more2 (lines + 1) ended2 (left_after inputs taken) live

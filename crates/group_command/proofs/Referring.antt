@@ -18,7 +18,7 @@ use Rattle.group_sender.specs.Laws.{AllHaveIs, IsNewestOfAll, ReferenceIsNewestO
 use Rattle.group_sender.specs.Parties.{Party, all_have, nobody, party_after_saying, party_at, party_has, party_joined, with_party_at}
 use Rattle.group_call.specs.One.{one_sends}
 use Rattle.group_command.specs.Group.{joined_by}
-use Rattle.group_command.specs.Recorded.{AllHaveTold, Happening, IsNewestTold, RefersToNewest, call_at, group_after}
+use Rattle.group_command.specs.Recorded.{AllHaveTold, Happening, IsNewestTold, RefersToNewest, call_at, group_at}
 use Rattle.group_command.proofs.Lives.{none_coded}
 
 -- ---- the receivers' places
@@ -119,7 +119,7 @@ last_is (z ∷ xs) x y is = last_is xs x y is
 
 module _ (p : Params) (count : ℕ) (frames : List Frame) (laws : ReferenceLaws p) (past : List Happening) where
   abbrev run : Groups
-  run = group_after p count frames past
+  run = group_at p count frames past
 
   module _ (are : PartiesAre count run.parties) (most : count ≤ 16)
       (knows : (k : ℕ) → k < count → (party_at run.parties k).told ≡ (call_at p count frames k past).known) where

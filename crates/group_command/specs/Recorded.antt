@@ -67,12 +67,12 @@ group_lines count (suc n) (b ∷ text) =
     and_line (group_line count (first_line (b ∷ text))) (group_lines count n (later_lines (b ∷ text)))
 
 -- the first fault, where the lines are numbered from this one on
-unfoldable pub group_fault : (count more line : ℕ) → List ℕ → Option TraceFault
-group_fault count n line [] = None
-group_fault count zero line (b ∷ text) = Some (TooMany line)
-group_fault count (suc n) line (b ∷ text) =
+unfoldable pub lines_fault : (count more line : ℕ) → List ℕ → Option TraceFault
+lines_fault count n line [] = None
+lines_fault count zero line (b ∷ text) = Some (TooMany line)
+lines_fault count (suc n) line (b ∷ text) =
     bad_line_or (group_line count (first_line (b ∷ text))) line
-    (group_fault count n (line + 1) (later_lines (b ∷ text)))
+    (lines_fault count n (line + 1) (later_lines (b ∷ text)))
 
 -- ---- what happens
 
@@ -109,13 +109,14 @@ after_note p k note run =
     option_map_or
     (λ (note : NumberedMessage). group_after_saying p k (write_message (travelling (rules_of p) note)) run) note run
 
--- After these events of a call a picture that was played is marked exact where all its packets were
--- delivered while it was open, and nowhere else, and was then shown as the sender has it.
+-- each packet of picture n was delivered while the picture was open
 abbrev pub AllReached : Params → List (Coded Style Mb Picture) → List Event → ℕ → Type 0
 AllReached p coded past n =
     (j : ℕ) → j < slices_before (pictures_of (coding p)) (rules_of p) (one_by_one coded) past n
     → WasDelivered (pictures_of (coding p)) (rules_of p) (one_by_one coded) past n j
 
+-- After these events of its call a picture that was played is marked exact where all its packets were
+-- delivered while it was open, and nowhere else, and was then shown as the sender has it.
 pub record ShowsWhatReached (p : Params) (coded : List (Coded Style Mb Picture)) (past : List Event) : Type 0 where
   pub exact : (n : ℕ) → n < played_before past
       → (before.mark_of (pictures_of (coding p)) (rules_of p) (one_by_one coded) past n ≡ Some Exact)
@@ -142,18 +143,18 @@ counts_line k c =
 
 module _ (p : Params) (count : ℕ) (frames : List Frame) where
   -- what the group has coded and knows after these events, the newest first
-  abbrev pub group_after : List Happening → Groups
-  group_after [] = joined_by count
-  group_after (Captured ∷ past) =
-      one_sends p (slice_get frames (length (group_after past).coded)) (group_after past)
-  group_after (Reached k n j ∷ past) = group_after past
-  group_after (Played k ∷ past) = group_after past
-  group_after (Returned k m ∷ past) =
-      after_note p k (slice_get (call_with p (group_after past).coded (events_at k past)).said m) (group_after past)
+  abbrev pub group_at : List Happening → Groups
+  group_at [] = joined_by count
+  group_at (Captured ∷ past) =
+      one_sends p (slice_get frames (length (group_at past).coded)) (group_at past)
+  group_at (Reached k n j ∷ past) = group_at past
+  group_at (Played k ∷ past) = group_at past
+  group_at (Returned k m ∷ past) =
+      after_note p k (slice_get (call_with p (group_at past).coded (events_at k past)).said m) (group_at past)
 
   -- the ideal call of the receiver at place k: its pictures are the group's
   abbrev pub call_at : ℕ → List Happening → Call Style Mb Picture
-  call_at k past = call_with p (group_after past).coded (events_at k past)
+  call_at k past = call_with p (group_at past).coded (events_at k past)
 
   -- ---- lines
 
@@ -165,7 +166,7 @@ module _ (p : Params) (count : ℕ) (frames : List Frame) where
   -- what happened after a line of the receiver at place k
   abbrev pub with_its : ℕ → List Happening → OwnEvent → List Happening
   with_its k past (own.Packet n j) = Reached k n j ∷ past
-  with_its k past (own.All n) = with_slices k n (length (slices_at (group_after past).coded n)) past
+  with_its k past (own.All n) = with_slices k n (length (slices_at (group_at past).coded n)) past
   with_its k past (own.Back m) = Returned k m ∷ past
   with_its k past own.Play = Played k ∷ past
 
@@ -213,19 +214,19 @@ module _ (p : Params) (count : ℕ) (frames : List Frame) where
 
   -- m is the newest picture of which that is so in the window of the next one
   pub record IsNewestTold (past : List Happening) (m : ℕ) : Type 0 where
-    pub sent : m < length (group_after past).coded
-    pub near : length (group_after past).coded ≤ m + window (rules_of p)
+    pub sent : m < length (group_at past).coded
+    pub near : length (group_at past).coded ≤ m + window (rules_of p)
     pub all : AllHaveTold past m
-    pub newest : (j : ℕ) → m < j → j < length (group_after past).coded → AllHaveTold past j → ⊥
+    pub newest : (j : ℕ) → m < j → j < length (group_at past).coded → AllHaveTold past j → ⊥
 
   -- the picture that is captured after these events refers to it, where its chain may grow, and to nothing
   -- else
   abbrev pub RefersToNewest : List Happening → Type 0
   RefersToNewest past =
       (x : Coded Style Mb Picture) (m : ℕ)
-      → slice_get (group_after (Captured ∷ past)).coded (length (group_after past).coded) ≡ Some x
+      → slice_get (group_at (Captured ∷ past)).coded (length (group_at past).coded) ≡ Some x
       → (x.reference ≡ Some m)
-      ↔ (IsNewestTold past m × (depth_at (group_after past).coded m < (rules_of p).chain))
+      ↔ (IsNewestTold past m × (depth_at (group_at past).coded m < (rules_of p).chain))
 
   -- so does each that was captured
   abbrev pub AllReferToNewest : List Happening → Type 0
@@ -242,15 +243,15 @@ module _ (p : Params) (count : ℕ) (frames : List Frame) where
   -- receiver a picture is marked exact where all its packets reached it while it was open, and nowhere else.
   pub record AreViewersOver (past : List Happening) (run : Run) : Type 0 where
     pub near : (k : ℕ) → k < count
-        → AllMayHappenFrom (pictures_of (coding p)) (rules_of p) (one_by_one (group_after past).coded)
-        (length (group_after past).coded) (events_at k past)
-    pub same : (k : ℕ) → k < count → (call_at k past).coded ≡ (group_after past).coded
+        → AllMayHappenFrom (pictures_of (coding p)) (rules_of p) (one_by_one (group_at past).coded)
+        (length (group_at past).coded) (events_at k past)
+    pub same : (k : ℕ) → k < count → (call_at k past).coded ≡ (group_at past).coded
     pub references : AllReferToNewest past
     pub pictures : (k : ℕ) → k < count
         → text_of run (pictures_at k) ≡ head_text p.format ++ shown_text (call_at k past).plays
     pub report : text_of run Report
         ≡ play_lines past ++ told run.last.status (counts_lines count 0 past)
-    pub arrived : (k : ℕ) → k < count → ShowsWhatReached p (group_after past).coded (events_at k past)
+    pub arrived : (k : ℕ) → k < count → ShowsWhatReached p (group_at past).coded (events_at k past)
 
   -- ---- its end
 
@@ -258,7 +259,7 @@ module _ (p : Params) (count : ℕ) (frames : List Frame) where
   abbrev pub far_from : ℕ → ℕ → List Happening → Option Refusal
   far_from zero k past = None
   far_from (suc n) k past =
-      or_else (refusal_in (rules_of p) (length (group_after past).coded + 1) (call_at k past) Send)
+      or_else (refusal_in (rules_of p) (length (group_at past).coded + 1) (call_at k past) Send)
       (far_from n (suc k) past)
 
   -- The capture has that refusal, or, where there is none, no frame is left: since the next one of the
@@ -266,22 +267,22 @@ module _ (p : Params) (count : ℕ) (frames : List Frame) where
   abbrev pub IsRefusedForAll : Option Y4mFault → ℕ → List Happening → Status → Type 0
   IsRefusedForAll broken number past status =
       ((r : Refusal) × (far_from count 0 past ≡ Some r) × (status ≡ TraceRefused (fault_of number Send r)))
-      ⊎ ((far_from count 0 past ≡ None) × (length frames ≤ length (group_after past).coded)
+      ⊎ ((far_from count 0 past ≡ None) × (length frames ≤ length (group_at past).coded)
       × (status ≡ capture_told broken number NoFrame))
 
   -- the refusal of an event of the receiver at place k; a message that has left its ring is far
-  abbrev pub own_refusal : ℕ → List Happening → Event → Option Refusal
-  own_refusal k past (Back m) =
-      unless_left (length (call_at k past).said) (length (group_after past).coded) m
+  abbrev pub its_refusal : ℕ → List Happening → Event → Option Refusal
+  its_refusal k past (Back m) =
+      unless_left (length (call_at k past).said) (length (group_at past).coded) m
       (refusal_in (rules_of p) (length frames) (call_at k past) (Back m))
-  own_refusal k past e = refusal_in (rules_of p) (length frames) (call_at k past) e
+  its_refusal k past e = refusal_in (rules_of p) (length frames) (call_at k past) e
 
   -- a line is refused for its event; one that delivers all packets of a picture for the first one
   abbrev pub IsRefusedLine : Option Y4mFault → ℕ → List Happening → GroupLine → Status → Type 0
   IsRefusedLine broken number past Quiet status = ⊥
   IsRefusedLine broken number past ForAll status = IsRefusedForAll broken number past status
   IsRefusedLine broken number past (Of k e) status =
-      (r : Refusal) × (own_refusal k past (event_of e) ≡ Some r)
+      (r : Refusal) × (its_refusal k past (event_of e) ≡ Some r)
       × (status ≡ TraceRefused (fault_of number (event_of e) r))
 
   -- where the next line, which has this number, says an event, that is refused; where there is none, the
@@ -303,7 +304,7 @@ pub record FollowsItsTrace (p : Params) (count : ℕ) (inputs : Role → List �
   pub are_viewers : AreViewersOver p count (film p (video_frames (inputs Video)))
       (with_all_said p count (film p (video_frames (inputs Video))) [] lines) run
   pub end : IsEnd p count (film p (video_frames (inputs Video))) (video_fault (inputs Video))
-      (group_fault count 16777216 1 (inputs Events)) (length lines + 1)
+      (lines_fault count 16777216 1 (inputs Events)) (length lines + 1)
       (with_all_said p count (film p (video_frames (inputs Video))) [] lines) refused run.last.status
   pub others : (fault : Y4mFault) → run.last.status ≡ VideoRefused fault
       → run.last.taken Events ≡ Some (line_size (drop (taken_of run.turns Events) (inputs Events)))
