@@ -150,15 +150,15 @@ fn flat_but_some(asked: &mut Asked<'_>) -> [u8; SIZE] {
 /// The picture that the next words name.
 pub fn picture(asked: &mut Asked<'_>) -> [u8; SIZE] {
     let word = asked.word();
-    match word.as_bytes() {
-        b"flat" => [asked.number(255) as u8; SIZE],
-        b"flat_but" => flat_but_some(asked),
-        b"texture" => texture_of(asked),
-        b"half_moved" => half_moved(&texture_of(asked)),
-        b"brighter_y" => brighter(false, asked.number(255) as u8),
-        b"brighter_cr" => brighter(true, asked.number(255) as u8),
-        b"moving" => moving(asked.number(2)),
-        b"ramps" => ramps(),
+    match word {
+        "flat" => [asked.number(255) as u8; SIZE],
+        "flat_but" => flat_but_some(asked),
+        "texture" => texture_of(asked),
+        "half_moved" => half_moved(&texture_of(asked)),
+        "brighter_y" => brighter(false, asked.number(255) as u8),
+        "brighter_cr" => brighter(true, asked.number(255) as u8),
+        "moving" => moving(asked.number(2)),
+        "ramps" => ramps(),
         _ => by_formula(word, asked),
     }
 }

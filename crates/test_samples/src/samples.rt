@@ -29,10 +29,10 @@ pub fn vector(asked: &mut Asked<'_>) -> Vector {
 pub fn sample(asked: &mut Asked<'_>) -> (Plane, u32, u32)
     ensures { Inside SubQcif result.0 result.1 result.2 1 }
 {
-    match asked.word().as_bytes() {
-        b"y" => (Plane::Y, asked.number(127), asked.number(95)),
-        b"cb" => (Plane::Cb, asked.number(63), asked.number(47)),
-        b"cr" => (Plane::Cr, asked.number(63), asked.number(47)),
+    match asked.word() {
+        "y" => (Plane::Y, asked.number(127), asked.number(95)),
+        "cb" => (Plane::Cb, asked.number(63), asked.number(47)),
+        "cr" => (Plane::Cr, asked.number(63), asked.number(47)),
         _ => {
             asked.wrong = true;
             (Plane::Y, 0, 0)
