@@ -16,7 +16,7 @@ from calltools.recording import logs
 from tool_modules import TOOLS, tool
 
 # Calls of an independent program: the sender's log, and the packets that it writes.
-CALLS = TOOLS.parent / "crates" / "test_calls" / "data"
+CALLS = TOOLS.parent / "crates" / "test_commands" / "data" / "calls"
 SENDER, RECEIVER = "192.0.2.1", "192.0.2.2"
 
 

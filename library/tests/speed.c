@@ -1,7 +1,7 @@
-/* Times, as `bench` takes them: speed FRAMES [copied]. The video is the made one in CIF. First all
+/* Times: speed FRAMES [copied]. The video is the made one in CIF. First all
  * pictures are coded and heard, and their packets and messages kept. Then a sender alone codes
  * them, and its packets are taken out; then a receiver alone hears them, and plays each, lent or
- * copied. As in `bench`, each frame is made at one place just before its time begins. At last both
+ * copied. Each frame is made at one place just before its time begins. At last both
  * ends take turns, picture by picture, as in a call. Times are in microseconds a picture, but that
  * of a packet that is refused, which is in nanoseconds. */
 #define _POSIX_C_SOURCE 200809L

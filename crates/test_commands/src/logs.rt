@@ -1,122 +1,92 @@
 //! Logs through their reader, and entries that are written.
-ghost use Rattle.std.specs.Prelude.{◌≡◌, ◌≤◌, length, true, vec_len, IfOk};
+ghost use Rattle.std.specs.Prelude.{◌≡◌, ◌≤◌, length, true};
 ghost use Rattle.h263_outside.specs.Memory.{memory_outside};
 ghost use Rattle.h263_outside.specs.declared.desk.Role.TheVariants.{Events};
 
-use crate::desks::desk_with;
-use crate::row::Case;
-use crate::stop::{Stop, refuse};
-use event_logs::{Entry, LogReader, Side, write_entry};
+use crate::case::{Case, Outcome};
+use crate::desks::{compare_desk, desk_with};
+use event_logs::{Entry, LogReader, LogStop, Side, write_entry};
 use h263_outside::{MemoryDesk, Role};
-use std::alloc::Global;
 
-fn side_of(word: &str) -> Result<Side, Stop> {
+fn side_of(word: &str) -> Side {
     match word {
-        "send" => Ok(Side::Send),
-        "recv" => Ok(Side::Recv),
-        "audit" => Ok(Side::Audit),
-        _ => refuse("a side that there isn't"),
+        "send" => Side::Send,
+        "recv" => Side::Recv,
+        _ => Side::Audit,
     }
 }
 
-// Reads entries that are not told.
-fn skip_entries(
-    desk: &mut MemoryDesk,
-    reader: &mut LogReader,
-    buf: &mut [u8],
-    count: u64,
-) -> Result<(), Stop>
-    requires attached { (memory_outside desk.old).attached Events ≡ true }
-    requires room { 65535 ≤ length buf.old }
-    ensures attached { (memory_outside desk.new).attached Events ≡ true }
-    ensures room { length buf.new ≡ length buf.old }
-{
-    'entries: for _ in 0..count {
-        let Ok(Some(_)) = reader.next(desk, buf) else {
-            return refuse("an entry to be skipped that isn't there");
-        };
+// An entry's bytes after it.
+fn tell_bytes(bytes: Option<&[u8]>, out: &mut Outcome) {
+    if let Some(bytes) = bytes {
+        out.add(bytes);
+        out.add(b"\n");
     }
-    Ok(())
 }
 
-// The next entry with its bytes, or that there is none.
-fn tell_entry(
-    case: &Case<'_>,
+// An answer of a reader, and the bytes of what it read.
+fn tell_entry(answer: &Result<Option<(u64, Entry)>, LogStop>, buf: &[u8], out: &mut Outcome) {
+    out.say(answer);
+    out.add(b"\n");
+    match answer {
+        Ok(Some((_, Entry::Packet { len }))) => tell_bytes(buf.get(..*len as usize), out),
+        Ok(Some((_, Entry::Back { len }))) => tell_bytes(buf.get(..*len as usize), out),
+        _ => {}
+    }
+}
+
+// The next entry with its bytes, or that there is none. One that isn't told is to be there.
+fn take_entry(
     desk: &mut MemoryDesk,
     reader: &mut LogReader,
     buf: &mut [u8],
-    told: &mut Vec<u8>,
-) -> Result<(), Stop>
+    is_told: bool,
+    out: &mut Outcome,
+)
     requires attached { (memory_outside desk.old).attached Events ≡ true }
     requires room { 65535 ≤ length buf.old }
     ensures attached { (memory_outside desk.new).attached Events ≡ true }
     ensures room { length buf.new ≡ length buf.old }
 {
     let answer = reader.next(desk, buf);
-    told.extend_from_slice(format!(in case.alloc; "{answer:?}\n")?.as_bytes())?;
-    let len = match answer {
-        Ok(Some((_, Entry::Packet { len }))) => len,
-        Ok(Some((_, Entry::Back { len }))) => len,
-        _ => return Ok(()),
-    };
-    if let Some(bytes) = buf.get(..len as usize) {
-        told.extend_from_slice(bytes)?;
-        told.extend_from_slice(b"\n")?;
+    if is_told {
+        tell_entry(&answer, buf, out);
+    } else if !matches!(answer, Ok(Some(_))) {
+        out.why = "an entry to be skipped that isn't there";
     }
-    Ok(())
 }
 
 // Reads entries that are not told, and then some that are.
-fn tell_entries(
-    case: &Case<'_>,
-    desk: &mut MemoryDesk,
-    buf: &mut [u8],
-    told: &mut Vec<u8>,
-) -> Result<(), Stop>
-    requires attached { (memory_outside desk.old).attached Events ≡ true }
-    requires room { 65535 ≤ length buf.old }
+fn take_entries(desk: &mut MemoryDesk, side: Side, skip: u64, count: u64, out: &mut Outcome)
+    requires { (memory_outside desk.old).attached Events ≡ true }
 {
-    let skip = case.number_or("skip", "0")?;
-    let answers = case.number_or("answers", "1")?;
-    let mut reader = LogReader::new(side_of(case.text("side"))?);
-    skip_entries(desk, &mut reader, buf, skip)?;
-    'answers: for _ in 0..answers {
-        tell_entry(case, desk, &mut reader, buf, told)?;
+    let mut reader = LogReader::new(side);
+    let mut buf = [0; 65_535];
+    'entries: for place in 0..count {
+        take_entry(desk, &mut reader, &mut buf, place >= skip, out);
     }
-    Ok(())
-}
-
-// A buffer that takes the bytes of any entry.
-const LONGEST: usize = 65_535;
-
-// This many bytes, to be read to.
-fn zeros(alloc: Global, len: usize) -> Result<Vec<u8>, Stop>
-    ensures { IfOk result (λ bytes. vec_len bytes ≡ len) }
-{
-    Ok(vec![in alloc; 0; len]?)
 }
 
 /// What each of some calls of a reader answers.
-pub fn read_log(case: &mut Case<'_>) -> Result<(), Stop> {
-    let mut desk = desk_with(case, Role::Events)?;
-    let mut buf = zeros(case.alloc, LONGEST)?;
-    let mut told = Vec::new(case.alloc);
-    tell_entries(case, &mut desk, &mut buf, &mut told)?;
-    case.compare("gives", &told)
+pub fn read_log(case: &Case<'_>, out: &mut Outcome) {
+    let side = side_of(case.text("side"));
+    let skip = case.number_or("skip", "0", out);
+    let answers = case.number_or("answers", "1", out);
+    if let Some(mut desk) = desk_with(case, Role::Events, out) {
+        take_entries(&mut desk, side, skip, skip.saturating_add(answers), out);
+    }
+    case.compare_told("gives", out);
 }
 
 /// What writing an entry answers, and writes.
-pub fn write_log(case: &mut Case<'_>) -> Result<(), Stop> {
-    let bytes = case.bytes("bytes")?;
-    let Some(letter) = case.text("letter").as_bytes().first() else {
-        return refuse("an entry without its letter");
-    };
-    if bytes.len() > 65_535 {
-        return refuse("an entry that is too long");
+pub fn write_log(case: &Case<'_>, out: &mut Outcome) {
+    let bytes = case.bytes("bytes", out);
+    let letter = *case.text("letter").as_bytes().first().unwrap_or(&b' ');
+    if bytes.len() <= 65_535 {
+        if let Some(mut desk) = desk_with(case, Role::Wire, out) {
+            out.say(&write_entry(&mut desk, letter, &bytes));
+            compare_desk(case, &desk, out);
+        }
     }
-    let mut desk = desk_with(case, Role::Wire)?;
-    let answer = write_entry(&mut desk, *letter, &bytes);
-    let told = format!(in case.alloc; "{answer:?}")?;
-    case.compare("gives", told.as_bytes())?;
-    case.compare("wire", desk.text(Role::Wire))
+    case.compare_told("gives", out);
 }

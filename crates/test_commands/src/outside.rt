@@ -1,28 +1,26 @@
 //! Desks by themselves: what each call of one in memory answers; and, on the host, roles that are
 //! attached one after the other by names of files, which may be one file.
-ghost use Rattle.std.specs.Prelude.{◌≡◌, true, false, OnOk, OnErr};
+ghost use Rattle.std.specs.Prelude.{◌≡◌, true, false, IsTrue, OnErr};
 ghost use Rattle.h263_outside.specs.Desk.{role_number, is_role, is_input, NoneAttached, NoneFalls, Rose};
 ghost use Rattle.h263_outside.specs.Memory.{memory_outside};
 ghost use Rattle.h263_outside.specs.declared.desk.Role.TheVariants.{Video, Pictures, Pictures2};
 
-use crate::desks::desk_of;
-use crate::row::Case;
-use crate::stop::{Stop, refuse};
+use crate::case::{Case, Outcome};
+use crate::desks::{compare_desk, compare_file, desk_of, desk_with};
 use h263_outside::{Desk, Failed, HostDesk, MemoryDesk, Role, Second, read_full, write_all};
 use h263_region::Region;
 use std::fs;
 use std::os::unix::fs::symlink;
 
-fn role_of(word: &str) -> Result<Role, Stop> {
+fn role_of(word: &str) -> Role {
     match word {
-        "video" => Ok(Role::Video),
-        "events" => Ok(Role::Events),
-        "pictures" => Ok(Role::Pictures),
-        "wire" => Ok(Role::Wire),
-        "report" => Ok(Role::Report),
-        "video2" => Ok(Role::Video2),
-        "pictures2" => Ok(Role::Pictures2),
-        _ => refuse("a role that there isn't"),
+        "video" => Role::Video,
+        "events" => Role::Events,
+        "pictures" => Role::Pictures,
+        "wire" => Role::Wire,
+        "report" => Role::Report,
+        "video2" => Role::Video2,
+        _ => Role::Pictures2,
     }
 }
 
@@ -57,26 +55,21 @@ fn is_read(role: Role) -> bool
 
 // What is read of a role that is read, at most 64 bytes, or the answers of writing bytes and of
 // flushing.
-fn move_bytes<D: Desk>(
-    case: &Case<'_>,
-    desk: &mut D,
-    role: Role,
-    told: &mut Vec<u8>,
-) -> Result<(), Stop>
+fn move_bytes<D: Desk>(case: &Case<'_>, desk: &mut D, role: Role, out: &mut Outcome)
     requires { (D.outside desk.old).attached role ≡ true }
     ensures { (D.outside desk.new).attached ≡ (D.outside desk.old).attached }
 {
     if is_read(role) {
         let mut buf = [b'-'; 64];
-        let answer = read_full(desk, role, &mut buf);
-        told.extend_from_slice(format!(in case.alloc; "{answer:?} ")?.as_bytes())?;
-        told.extend_from_slice(&buf)?;
+        out.say(&read_full(desk, role, &mut buf));
+        out.add(b" ");
+        out.add(&buf);
     } else {
-        let written = write_all(desk, role, &case.bytes("bytes")?);
-        let flushed = desk.flush();
-        told.extend_from_slice(format!(in case.alloc; "{written:?} {flushed:?}")?.as_bytes())?;
+        let bytes = case.bytes("bytes", out);
+        out.say(&write_all(desk, role, &bytes));
+        out.add(b" ");
+        out.say(&desk.flush());
     }
-    Ok(())
 }
 
 // The answers of attaching a role, of moving its bytes, and of attaching another one by a name.
@@ -86,92 +79,79 @@ fn open_two<D: Desk>(
     first: Role,
     second: Role,
     name: &str,
-    told: &mut Vec<u8>,
-) -> Result<(), Stop>
+    out: &mut Outcome,
+)
     requires { NoneAttached (D.outside desk.old).attached }
 {
     if are_same(first, second) {
-        return refuse("a role that is attached twice");
+        return;
     }
     // So that it is known to be itself.
     if !are_same(first, first) {
-        return refuse("a role that is another");
+        return;
     }
     match desk.attach(first, case.text("at")) {
         Ok(()) => {
-            move_bytes(case, desk, first, told)?;
-            let answer = desk.attach(second, name);
-            told.extend_from_slice(format!(in case.alloc; " {answer:?}\n")?.as_bytes())?;
+            move_bytes(case, desk, first, out);
+            out.add(b" ");
+            out.say(&desk.attach(second, name));
+            out.add(b"\n");
         }
-        Err(_) => told.extend_from_slice(b"refused\n")?,
+        Err(_) => out.add(b"refused\n"),
     }
-    Ok(())
 }
 
 /// A role that is attached on the host's desk, whose bytes are moved, and another one by each of
 /// some names; and what a file holds afterwards.
-pub fn attach_two(case: &mut Case<'_>) -> Result<(), Stop> {
-    let first = role_of(case.text("first"))?;
-    let second = role_of(case.text("then"))?;
-    let read = case.text("read");
-    let mut told = Vec::new(case.alloc);
+pub fn attach_two(case: &Case<'_>, out: &mut Outcome) {
+    let first = role_of(case.text("first"));
+    let second = role_of(case.text("then"));
     for name in case.text("names").split_whitespace() {
-        let mut desk = HostDesk::new(case.rt.clone()?);
-        open_two(case, &mut desk, first, second, name, &mut told)?;
-        if !read.is_empty() {
-            let found = fs::read(case.rt, read)?;
-            case.compare("holds", &found)?;
+        if let Ok(host) = case.rt.clone() {
+            let mut desk = HostDesk::new(host);
+            open_two(case, &mut desk, first, second, name, out);
         }
+        compare_file(case, out);
     }
-    case.compare("gives", &told)
+    case.compare_told("gives", out);
 }
 
 /// Makes a file, a folder, a second name of a file, or a link to it.
-pub fn make_file(case: &mut Case<'_>) -> Result<(), Stop> {
+pub fn make_file(case: &Case<'_>, out: &mut Outcome) {
     let (name, of) = (case.text("name"), case.text("of"));
-    match case.text("kind") {
-        "file" => fs::write(case.rt, name, &case.bytes("bytes")?)?,
-        "folder" => fs::create_dir(case.rt, name)?,
-        "second" => fs::hard_link(case.rt, of, name)?,
-        "link" => symlink(case.rt, of, name)?,
-        _ => return refuse("a kind that there isn't"),
+    let bytes = case.bytes("bytes", out);
+    let made = match case.text("kind") {
+        "file" => fs::write(case.rt, name, &bytes),
+        "folder" => fs::create_dir(case.rt, name),
+        "second" => fs::hard_link(case.rt, of, name),
+        _ => symlink(case.rt, of, name),
+    };
+    if made.is_err() {
+        out.why = "a file that can't be made";
     }
-    Ok(())
+    case.compare_told("gives", out);
 }
 
 // ---- a desk in memory
 
 // Attaches Video and Pictures, by the first two calls.
-fn attach_both(desk: &mut MemoryDesk) -> Result<(), Stop>
+fn attach_both(desk: &mut MemoryDesk) -> bool
     requires { NoneAttached (memory_outside desk.old).attached }
-    ensures video { OnOk result ((memory_outside desk.new).attached Video ≡ true) }
-    ensures pictures { OnOk result ((memory_outside desk.new).attached Pictures ≡ true) }
+    ensures video { IsTrue result → (memory_outside desk.new).attached Video ≡ true }
+    ensures pictures { IsTrue result → (memory_outside desk.new).attached Pictures ≡ true }
 {
     match desk.attach(Role::Video, "in") {
-        Ok(()) => {}
-        Err(_) => {
-            return Err(Stop {
-                why: "a role that can't be attached",
-            });
-        }
-    }
-    match desk.attach(Role::Pictures, "out") {
-        Ok(()) => Ok(()),
-        Err(_) => Err(Stop {
-            why: "a role that can't be attached",
-        }),
+        Ok(()) => match desk.attach(Role::Pictures, "out") {
+            Ok(()) => true,
+            Err(_) => false,
+        },
+        Err(_) => false,
     }
 }
 
 // One step: `read` or `read_full` to the buffer, which is told whole, or `write:TEXT` or
 // `write_all:TEXT`.
-fn take_step(
-    case: &Case<'_>,
-    word: &str,
-    desk: &mut MemoryDesk,
-    buf: &mut [u8; 6],
-    told: &mut Vec<u8>,
-) -> Result<(), Stop>
+fn take_step(word: &str, desk: &mut MemoryDesk, buf: &mut [u8; 6], out: &mut Outcome)
     requires video { (memory_outside desk.old).attached Video ≡ true }
     requires pictures { (memory_outside desk.old).attached Pictures ≡ true }
     ensures video { (memory_outside desk.new).attached Video ≡ true }
@@ -181,43 +161,43 @@ fn take_step(
     let bytes = text.as_bytes();
     match step {
         "read" => {
-            let answer = desk.read(Role::Video, buf);
-            told.extend_from_slice(format!(in case.alloc; "{answer:?} ")?.as_bytes())?;
-            told.extend_from_slice(buf)?;
+            out.say(&desk.read(Role::Video, buf));
+            out.add(b" ");
+            out.add(buf);
         }
         "read_full" => {
-            let answer = read_full(desk, Role::Video, buf);
-            told.extend_from_slice(format!(in case.alloc; "{answer:?} ")?.as_bytes())?;
-            told.extend_from_slice(buf)?;
+            out.say(&read_full(desk, Role::Video, buf));
+            out.add(b" ");
+            out.add(buf);
         }
-        "write" if !bytes.is_empty() => {
-            let answer = desk.write(Role::Pictures, bytes);
-            told.extend_from_slice(format!(in case.alloc; "{answer:?}")?.as_bytes())?;
-        }
-        "write_all" => {
-            let answer = write_all(desk, Role::Pictures, bytes);
-            told.extend_from_slice(format!(in case.alloc; "{answer:?}")?.as_bytes())?;
-        }
-        _ => return refuse("a step that a desk hasn't"),
+        "write" if !bytes.is_empty() => out.say(&desk.write(Role::Pictures, bytes)),
+        _ => out.say(&write_all(desk, Role::Pictures, bytes)),
     }
-    told.extend_from_slice(b"\n")?;
-    Ok(())
+    out.add(b"\n");
+}
+
+// What each step on a desk answers.
+fn take_all(case: &Case<'_>, desk: &mut MemoryDesk, out: &mut Outcome)
+    requires { NoneAttached (memory_outside desk.old).attached }
+{
+    let mut buf = [0; 6];
+    if attach_both(desk) {
+        'steps: for word in case.text("steps").split_whitespace() {
+            take_step(word, desk, &mut buf, out);
+        }
+    }
 }
 
 /// What each step on a desk answers, or that there is no memory for one.
-pub fn take_steps(case: &mut Case<'_>) -> Result<(), Stop> {
-    let mut desk = match desk_of(case) {
-        Ok(desk) => desk,
-        Err(refused) => return case.compare("gives", refused.why.as_bytes()),
-    };
-    let mut told = Vec::new(case.alloc);
-    let mut buf = [0; 6];
-    attach_both(&mut desk)?;
-    'steps: for word in case.text("steps").split_whitespace() {
-        take_step(case, word, &mut desk, &mut buf, &mut told)?;
+pub fn take_steps(case: &Case<'_>, out: &mut Outcome) {
+    match desk_of(case, out) {
+        Some(mut desk) => {
+            take_all(case, &mut desk, out);
+            compare_desk(case, &desk, out);
+        }
+        None => out.add(b"no memory"),
     }
-    case.compare("gives", &told)?;
-    case.compare("pictures", desk.text(Role::Pictures))
+    case.compare_told("gives", out);
 }
 
 // What is written for the first party is the second one's, and the caller's desk is still its own.
@@ -233,22 +213,20 @@ fn write_to_second<D: Desk>(desk: &mut D, bytes: &[u8]) -> Result<(), Failed>
 }
 
 /// Bytes that are written for the first party on a desk that is lent to the second.
-pub fn exchange(case: &mut Case<'_>) -> Result<(), Stop> {
-    let bytes = case.bytes("bytes")?;
-    let mut desk = desk_of(case)?;
-    let answer = match desk.attach(Role::Pictures2, "out") {
-        Ok(()) => write_to_second(&mut desk, &bytes),
-        Err(_) => Err(Failed),
-    };
-    let told = format!(in case.alloc; "{answer:?}")?;
-    case.compare("gives", told.as_bytes())?;
-    case.compare("pictures", desk.text(Role::Pictures))?;
-    case.compare("pictures2", desk.text(Role::Pictures2))
+pub fn exchange(case: &Case<'_>, out: &mut Outcome) {
+    let bytes = case.bytes("bytes", out);
+    if let Some(mut desk) = desk_with(case, Role::Pictures2, out) {
+        out.say(&write_to_second(&mut desk, &bytes));
+        compare_desk(case, &desk, out);
+    }
+    case.compare_told("gives", out);
 }
 
 /// Whether a region of two slots gives both, then none, and one again once it is back.
-pub fn claim_slots(case: &mut Case<'_>) -> Result<(), Stop> {
-    let mut region = Region::make(case.alloc, 2, 4)?;
+pub fn claim_slots(case: &Case<'_>, out: &mut Outcome) {
+    let Ok(mut region) = Region::make(out.alloc, 2, 4) else {
+        return;
+    };
     let mut seen = [false; 3];
     if let Some(first) = region.claim() {
         seen[0] = true;
@@ -266,6 +244,6 @@ pub fn claim_slots(case: &mut Case<'_>) -> Result<(), Stop> {
         region.release(again);
     }
     region.finish();
-    let told = format!(in case.alloc; "{seen:?}")?;
-    case.compare("gives", told.as_bytes())
+    out.say(&seen);
+    case.compare_told("gives", out);
 }

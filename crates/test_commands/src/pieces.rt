@@ -1,7 +1,10 @@
 //! Bytes as rows spell them: a text in quotes, in which `\n` is a newline; `x` and digits in base
-//! 16; the name of a piece; and `*N`, by which what stands before it comes N times in all.
-use crate::stop::{Stop, refuse};
+//! 16; the name of a piece; `@` and the name of a file, `@NAME,FROM,TO` for the bytes from one place
+//! to before another; `+SEED,COUNT`, so many frames of made pictures in QCIF; and `*N`, by which what
+//! stands before it comes N times in all.
+use crate::made::add_frames;
 use std::alloc::Global;
+use std::fs;
 
 #[derive(Drop)]
 struct Piece {
@@ -15,18 +18,79 @@ pub struct Pieces {
     list: Vec<Piece>,
 }
 
-/// The number that a word is.
-pub fn number(word: &str) -> Result<u64, Stop> {
-    match word.parse::<u64>() {
-        Ok(number) => Ok(number),
-        Err(_) => refuse("no number"),
-    }
+/// What a value spells so far.
+#[derive(Drop)]
+pub struct Spelled {
+    pub bytes: Vec<u8>,
+    // Where the last part begins.
+    from: usize,
+    /// Whether a part is no bytes, or there was no memory for it.
+    pub wrong: bool,
 }
 
-fn from_digits(alloc: Global, digits: &str) -> Result<Vec<u8>, Stop> {
-    match hex::decode(alloc, digits.as_bytes()) {
-        Ok(bytes) => Ok(bytes),
-        Err(_) => refuse("no digits in base 16"),
+/// The number that a word is, 0 where it is none.
+pub fn place(word: &str) -> usize {
+    word.parse::<usize>().unwrap_or(0)
+}
+
+impl Spelled {
+    fn new(alloc: Global) -> Spelled {
+        Spelled {
+            bytes: Vec::new(alloc),
+            from: 0,
+            wrong: false,
+        }
+    }
+
+    fn add(&mut self, part: &[u8]) {
+        self.from = self.bytes.len();
+        self.wrong |= self.bytes.extend_from_slice(part).is_err();
+    }
+
+    fn add_quoted(&mut self, alloc: Global, text: &str) {
+        match text.replace(alloc, "\\n", "\n") {
+            Ok(text) => self.add(text.as_bytes()),
+            Err(_) => self.wrong = true,
+        }
+    }
+
+    fn add_digits(&mut self, alloc: Global, digits: &str) {
+        match hex::decode(alloc, digits.as_bytes()) {
+            Ok(bytes) => self.add(&bytes),
+            Err(_) => self.wrong = true,
+        }
+    }
+
+    fn add_some(&mut self, bytes: &[u8], places: &str) {
+        let (from, to) = places.split_once(',').unwrap_or(("0", ""));
+        let to = to.parse::<usize>().unwrap_or(bytes.len());
+        match bytes.get(place(from)..to) {
+            Some(part) => self.add(part),
+            None => self.wrong = true,
+        }
+    }
+
+    fn add_file(&mut self, rt: &HostRuntime, word: &str) {
+        let (name, places) = word.split_once(',').unwrap_or((word, ""));
+        match fs::read(rt, name) {
+            Ok(bytes) => self.add_some(&bytes, places),
+            Err(_) => self.wrong = true,
+        }
+    }
+
+    fn add_made(&mut self, word: &str) {
+        let (seed, count) = word.split_once(',').unwrap_or((word, ""));
+        let seed = seed.parse::<u32>().unwrap_or(0);
+        let count = count.parse::<u32>().unwrap_or(0);
+        self.wrong |= !add_frames(seed, count, &mut self.bytes);
+    }
+
+    fn repeat(&mut self, alloc: Global, times: usize) {
+        let last = self.bytes.get(self.from..).unwrap_or(&[]);
+        match last.repeat(alloc, times.saturating_sub(1)) {
+            Ok(bytes) => self.add(&bytes),
+            Err(_) => self.wrong = true,
+        }
     }
 }
 
@@ -38,57 +102,61 @@ impl Pieces {
         }
     }
 
-    /// Adds a piece, `NAME: BYTES`.
-    pub fn add(&mut self, alloc: Global, line: &str) -> Result<(), Stop> {
-        let Some((name, value)) = line.split_once(": ") else {
-            return refuse("a piece is NAME: BYTES");
-        };
-        let bytes = self.bytes(alloc, value)?;
-        let name = String::from_str(alloc, name)?;
-        match self.list.push(Piece { name, bytes }) {
-            Ok(()) => Ok(()),
-            Err(_) => refuse("no memory"),
+    /// Names these bytes. Whether there was memory.
+    pub fn push(&mut self, alloc: Global, name: &str, bytes: Vec<u8>) -> bool {
+        match String::from_str(alloc, name) {
+            Ok(name) => self.list.push(Piece { name, bytes }).is_ok(),
+            Err(_) => false,
         }
     }
 
-    // The bytes of a word outside quotes, after these bytes.
-    fn word(&self, alloc: Global, word: &str, before: &[u8]) -> Result<Vec<u8>, Stop> {
+    fn find(&self, name: &str) -> Option<&[u8]> {
         for piece in self.list.iter() {
-            if piece.name.as_str() == word {
-                return Ok(piece.bytes.as_slice().to_vec(alloc)?);
+            if piece.name.as_str() == name {
+                return Some(piece.bytes.as_slice());
             }
         }
-        if let Some(times) = word.strip_prefix('*') {
-            let times = number(times)? as usize;
-            return Ok(before.repeat(alloc, times.saturating_sub(1))?);
+        None
+    }
+
+    fn spell_word(&self, rt: &HostRuntime, word: &str, spelled: &mut Spelled) {
+        match self.find(word) {
+            Some(bytes) => spelled.add(bytes),
+            None => spell_sign(rt, word, spelled),
         }
-        match word.strip_prefix('x') {
-            Some(digits) => from_digits(alloc, digits),
-            None => refuse("a word that is no piece"),
+    }
+
+    fn spell_words(&self, rt: &HostRuntime, words: &str, spelled: &mut Spelled) {
+        for word in words.split_whitespace() {
+            self.spell_word(rt, word, spelled);
         }
     }
 
     /// The bytes that a value spells.
-    pub fn bytes(&self, alloc: Global, value: &str) -> Result<Vec<u8>, Stop> {
-        let mut all = Vec::new(alloc);
-        let mut last = Vec::new(alloc);
+    pub fn spell(&self, rt: &HostRuntime, value: &str) -> Spelled {
+        let mut spelled = Spelled::new(rt.alloc());
         let mut quoted = false;
         for text in value.split('"') {
             if quoted {
-                last = text.replace(alloc, "\\n", "\n")?.into_bytes();
-                all.extend_from_slice(&last)?;
+                spelled.add_quoted(rt.alloc(), text);
             } else {
-                for word in text.split_whitespace() {
-                    last = self.word(alloc, word, &last)?;
-                    all.extend_from_slice(&last)?;
-                }
+                self.spell_words(rt, text, &mut spelled);
             }
             quoted = !quoted;
         }
-        if quoted {
-            Ok(all)
-        } else {
-            refuse("a quote without its end")
-        }
+        spelled.wrong |= !quoted;
+        spelled
+    }
+}
+
+// A word that begins with a sign.
+fn spell_sign(rt: &HostRuntime, word: &str, spelled: &mut Spelled) {
+    let (sign, rest) = word.split_at_checked(1).unwrap_or(("", ""));
+    match sign.as_bytes() {
+        b"x" => spelled.add_digits(rt.alloc(), rest),
+        b"@" => spelled.add_file(rt, rest),
+        b"+" => spelled.add_made(rest),
+        b"*" => spelled.repeat(rt.alloc(), place(rest)),
+        _ => spelled.wrong = true,
     }
 }

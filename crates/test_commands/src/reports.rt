@@ -1,9 +1,7 @@
 //! Words of commands, and lines of reports.
 ghost use Rattle.std.specs.Prelude.{◌≡◌, ◌<◌};
 
-use crate::pieces::number;
-use crate::row::Case;
-use crate::stop::{Stop, refuse};
+use crate::case::{Case, Outcome};
 use crate::videos::mark_of;
 use call_report::{Line, Status, picture_line, refusal_line};
 use command_words::Words;
@@ -22,79 +20,87 @@ static ROLES: [Role; 7] = [
     Role::Report,
 ];
 
-/// The command that words ask for, and the name of each role, after `=`, or `no`.
-pub fn read_words(case: &mut Case<'_>) -> Result<(), Stop> {
-    let list = case.words()?;
-    let mut told = Vec::new(case.alloc);
-    match Words::read(case.alloc, &list) {
+// The name of each role, after `=`, or `no`.
+fn tell_names(words: &Words<'_>, out: &mut Outcome) {
+    for role in &ROLES {
+        match words.name(*role) {
+            Some(name) => {
+                out.add(b"=");
+                out.add(name.as_bytes());
+            }
+            None => out.add(b"no"),
+        }
+        out.add(b"\n");
+    }
+}
+
+/// The command that words ask for, and the name of each role.
+pub fn read_words(case: &Case<'_>, out: &mut Outcome) {
+    let list = case.words(out);
+    match Words::read(out.alloc, &list) {
         Err(refusal) => {
-            let text = format!(in case.alloc; "{refusal:?}")?;
-            return case.compare("gives", text.as_bytes());
+            out.say(&refusal);
+            case.compare_told("gives", out);
         }
         Ok(words) => {
-            for role in &ROLES {
-                match words.name(*role) {
-                    Some(name) => {
-                        told.extend_from_slice(b"=")?;
-                        told.extend_from_slice(name.as_bytes())?;
-                    }
-                    None => told.extend_from_slice(b"no")?,
-                }
-                told.extend_from_slice(b"\n")?;
-            }
-            let text = format!(in case.alloc; "{:?}", words.command())?;
-            case.compare("gives", text.as_bytes())?;
+            out.say(&words.command());
+            case.compare_told("gives", out);
+            tell_names(&words, out);
+            case.compare_told("names", out);
         }
     }
-    case.compare("names", &told)
 }
 
 // The number of a picture.
-fn picture(word: &str) -> Result<u32, Stop> {
-    match u32::try_from(number(word)?) {
-        Ok(number) => Ok(number),
-        Err(_) => refuse("a number that no picture has"),
-    }
+fn number_of(word: &str) -> u32 {
+    word.parse::<u32>().unwrap_or(0)
 }
 
 /// The line of a picture.
-pub fn tell_picture(case: &mut Case<'_>) -> Result<(), Stop> {
+pub fn tell_picture(case: &Case<'_>, out: &mut Outcome) {
     let mark = match case.text("mark") {
         "" => None,
-        word => Some(mark_of(word)?),
+        word => Some(mark_of(word)),
     };
     let reference = match case.text("from") {
         "" => None,
         "intra" => Some(None),
-        word => Some(Some(picture(word)?)),
+        word => Some(Some(number_of(word))),
     };
     let party = match case.text("party") {
         "" => None,
         "a" => Some(b'a'),
         _ => Some(b'b'),
     };
-    let line = picture_line(picture(case.text("number"))?, mark, reference, party);
-    case.compare("gives", line.text())
+    let number = number_of(case.text("number"));
+    let line = picture_line(number, mark, reference, party);
+    case.compare("gives", line.text(), out);
+}
+
+// Adds a word and its number, unless the line gets too long.
+fn add_pair(line: &mut Line, word: &str, number: u64) {
+    let len = word.len();
+    if len <= 234 {
+        if line.text().len() <= 234 - len {
+            line.pair(word, number);
+        }
+    }
 }
 
 /// The line of words and their numbers.
-pub fn tell_counts(case: &mut Case<'_>) -> Result<(), Stop> {
-    let list: Vec<&str> = case.text("counts").split_whitespace().collect(case.alloc)?;
+pub fn tell_counts(case: &Case<'_>, out: &mut Outcome) {
     let mut line = Line::empty();
-    for pair in list.chunks(2) {
-        let (Some(word), Some(count)) = (pair.first(), pair.last()) else {
-            return refuse("no word");
-        };
-        if line.text().len() + word.len() + 22 > 256 {
-            return refuse("a line that is too long");
+    let mut word = "";
+    for part in case.text("counts").split_whitespace() {
+        match part.parse::<u64>() {
+            Ok(number) => add_pair(&mut line, word, number),
+            Err(_) => word = part,
         }
-        line.pair(word, number(count)?);
     }
-    if line.text().len() == 256 {
-        return refuse("a line that is too long");
+    if line.text().len() < 256 {
+        line.end();
     }
-    line.end();
-    case.compare("gives", line.text())
+    case.compare("gives", line.text(), out);
 }
 
 // One status of each kind and each fault.
@@ -188,15 +194,18 @@ static STATUSES: [Status; 34] = [
 ];
 
 /// The line of a refusal, and the number with which the process ends.
-pub fn tell_refusal(case: &mut Case<'_>) -> Result<(), Stop> {
+pub fn tell_refusal(case: &Case<'_>, out: &mut Outcome) {
     let name = case.text("status");
     for status in &STATUSES {
-        let text = format!(in case.alloc; "{status:?}")?;
-        if text.as_str() == name {
-            let code = format!(in case.alloc; "{}", status.code())?;
-            case.compare("code", code.as_bytes())?;
-            return case.compare("gives", refusal_line(status).text());
+        out.told.clear();
+        out.say(status);
+        if out.told.as_slice() == name.as_bytes() {
+            out.told.clear();
+            out.say(&status.code());
+            case.compare_told("code", out);
+            case.compare("gives", refusal_line(status).text(), out);
+            return;
         }
     }
-    refuse("a status that isn't in the list")
+    out.why = "a status that isn't in the list";
 }

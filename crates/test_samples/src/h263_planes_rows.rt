@@ -7,10 +7,14 @@ use test_fixtures::answer::{Answer, Asked};
 use test_fixtures::codec::SIZE;
 use test_fixtures::stop::Stop;
 
+fn say_place(at: usize, byte: u8, answer: &mut Answer) {
+    answer.cut |= write!(answer.words, " {at}:{byte}").is_err();
+}
+
 // Writes 200 over a sample of 7, and says what is there then, and the place of each byte that is
 // another.
 fn set(asked: &mut Asked<'_>, answer: &mut Answer) -> Result<(), Stop> {
-    let (plane, x, y) = sample(asked)?;
+    let (plane, x, y) = sample(asked);
     let mut bytes = [7; SIZE];
     let mut picture = PictureMut::new(Format::SubQcif, &mut bytes);
     picture.set(plane, x, y, 200);
@@ -18,7 +22,7 @@ fn set(asked: &mut Asked<'_>, answer: &mut Answer) -> Result<(), Stop> {
     answer.say(&sample);
     for (at, byte) in bytes.iter().enumerate() {
         if *byte != 7 {
-            write!(answer.words, " {at}:{byte}")?;
+            say_place(at, *byte, answer);
         }
     }
     Ok(())

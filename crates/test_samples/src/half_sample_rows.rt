@@ -40,9 +40,9 @@ fn colour_samples(bytes: &[u8; SIZE], cr: bool, mb: u32, vector: Vector, roundin
 
 /// Answers a row of `half_sample.rows`: does the call of this name by the words after it.
 pub fn answer(call: &str, asked: &mut Asked<'_>, answer: &mut Answer) -> Result<(), Stop> {
-    let bytes = picture(asked)?;
+    let bytes = picture(asked);
     let mb = asked.number(47);
-    let vector = vector(asked)?;
+    let vector = vector(asked);
     let rounding = asked.number(1) as u8;
     if !is_in_reach(Format::SubQcif, mb, vector) {
         return Err(Stop::Row);

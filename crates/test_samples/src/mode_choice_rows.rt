@@ -87,7 +87,7 @@ fn say_intra(mb: &Mb, answer: &mut Answer) -> Result<(), Stop> {
 
 /// Answers a row of `mode_choice.rows`: does the call of this name by the words after it.
 pub fn answer(call: &str, asked: &mut Asked<'_>, answer: &mut Answer) -> Result<(), Stop> {
-    let frame = picture(asked)?;
+    let frame = picture(asked);
     match call {
         "in_i" => {
             let mb = asked.number(47);
@@ -95,7 +95,7 @@ pub fn answer(call: &str, asked: &mut Asked<'_>, answer: &mut Answer) -> Result<
             say_intra(&chosen_intra(&frame, mb, keep), answer)
         }
         "in_p" => {
-            let reference = picture(asked)?;
+            let reference = picture(asked);
             let mb = asked.number(47);
             let keep = asked.number(64) as u8;
             let rounding = asked.number(1) as u8;

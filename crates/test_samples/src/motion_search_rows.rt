@@ -37,8 +37,8 @@ pub fn answer(call: &str, asked: &mut Asked<'_>, answer: &mut Answer) -> Result<
     if call != "search" {
         return Err(Stop::Row);
     }
-    let frame = picture(asked)?;
-    let reference = picture(asked)?;
+    let frame = picture(asked);
+    let reference = picture(asked);
     let mb = asked.number(47);
     let radius = asked.number(15) as u8;
     let rounding = asked.number(1) as u8;

@@ -131,7 +131,7 @@ fn coded(
     let [mut first, mut second, mut last] = [[0; SIZE]; 3];
     let header = Header { quant, ..INTRA };
     code(
-        &next_picture(asked)?,
+        &next_picture(asked),
         &header,
         None,
         params,
@@ -142,7 +142,7 @@ fn coded(
     let header = Header { quant, ..INTER };
     let before = Some(PictureRef::new(params.format, &first));
     code(
-        &next_picture(asked)?,
+        &next_picture(asked),
         &header,
         before,
         params,
@@ -154,7 +154,7 @@ fn coded(
         let header = Header { quant, ..THIRD };
         let before = Some(PictureRef::new(params.format, &second));
         code(
-            &next_picture(asked)?,
+            &next_picture(asked),
             &header,
             before,
             params,

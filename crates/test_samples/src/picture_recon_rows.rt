@@ -157,8 +157,8 @@ fn skipped(lent: &[u8; SIZE]) -> [u8; SIZE] {
 // Says the samples at the twelve places, and how much more the sum is than that of the samples beside
 // the macroblock, which are 128.
 fn say_predicted(asked: &mut Asked<'_>, answer: &mut Answer) -> Result<(), Stop> {
-    let lent = picture(asked)?;
-    let vector = vector(asked)?;
+    let lent = picture(asked);
+    let vector = vector(asked);
     let rounding = asked.number(1) as u8;
     if !is_in_reach(Format::SubQcif, 9, vector) {
         return Err(Stop::Row);
@@ -184,11 +184,11 @@ pub fn answer(call: &str, asked: &mut Asked<'_>, answer: &mut Answer) -> Result<
         "slice" => say_sample(answer, &slice(), asked),
         "predicted" => say_predicted(asked, answer),
         "skipped" => {
-            let lent = picture(asked)?;
+            let lent = picture(asked);
             say_sample(answer, &skipped(&lent), asked)
         }
         "skipped_sum" => {
-            let lent = picture(asked)?;
+            let lent = picture(asked);
             answer.say_last(&sum(&skipped(&lent)).wrapping_sub(128 * (18_432 - 384)))
         }
         _ => Err(Stop::Row),

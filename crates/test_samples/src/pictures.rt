@@ -11,7 +11,6 @@ use h263_planes::{PictureMut, Plane};
 use h263_types::Format;
 use test_fixtures::answer::Asked;
 use test_fixtures::codec::{SIZE, texture};
-use test_fixtures::stop::Stop;
 
 // The samples of Y, and of one of its colours.
 const LUMA: usize = 12_288;
@@ -43,12 +42,15 @@ fn sample(word: &str, i: usize) -> Option<u8>
     Some(value as u8)
 }
 
-fn by_formula(word: &str) -> Result<[u8; SIZE], Stop> {
+fn by_formula(word: &str, asked: &mut Asked<'_>) -> [u8; SIZE] {
     let mut bytes = [0; SIZE];
     for i in 0..SIZE {
-        bytes[i] = sample(word, i).ok_or(Stop::Row)?;
+        match sample(word, i) {
+            Some(value) => bytes[i] = value,
+            None => asked.wrong = true,
+        }
     }
-    Ok(bytes)
+    bytes
 }
 
 // The colours have every second sample of the texture, across and down.
@@ -70,13 +72,12 @@ fn textured(modulus: usize, right: usize, down: usize) -> [u8; SIZE]
     bytes
 }
 
-fn texture_of(asked: &mut Asked<'_>) -> Result<[u8; SIZE], Stop> {
-    let modulus = asked.place(256);
-    if modulus == 0 {
-        return Err(Stop::Row);
-    }
+// A modulus of 0 stands for 1.
+fn texture_of(asked: &mut Asked<'_>) -> [u8; SIZE] {
+    let modulus = asked.place(256).max(1);
     let right = asked.place(31);
-    Ok(textured(modulus, right, asked.place(31)))
+    let down = asked.place(31);
+    textured(modulus, right, down)
 }
 
 // What lies half a sample to the right and down of each sample of Y; the last column and row stand
@@ -139,21 +140,25 @@ fn ramps() -> [u8; SIZE] {
     bytes
 }
 
+fn flat_but_some(asked: &mut Asked<'_>) -> [u8; SIZE] {
+    let sample = asked.number(255) as u8;
+    let count = asked.place(256);
+    let other = asked.number(255) as u8;
+    flat_but(sample, count, other)
+}
+
 /// The picture that the next words name.
-pub fn picture(asked: &mut Asked<'_>) -> Result<[u8; SIZE], Stop> {
-    match asked.word() {
-        "flat" => Ok([asked.number(255) as u8; SIZE]),
-        "flat_but" => {
-            let sample = asked.number(255) as u8;
-            let count = asked.place(256);
-            Ok(flat_but(sample, count, asked.number(255) as u8))
-        }
+pub fn picture(asked: &mut Asked<'_>) -> [u8; SIZE] {
+    let word = asked.word();
+    match word {
+        "flat" => [asked.number(255) as u8; SIZE],
+        "flat_but" => flat_but_some(asked),
         "texture" => texture_of(asked),
-        "half_moved" => Ok(half_moved(&texture_of(asked)?)),
-        "brighter_y" => Ok(brighter(false, asked.number(255) as u8)),
-        "brighter_cr" => Ok(brighter(true, asked.number(255) as u8)),
-        "moving" => Ok(moving(asked.number(2))),
-        "ramps" => Ok(ramps()),
-        word => by_formula(word),
+        "half_moved" => half_moved(&texture_of(asked)),
+        "brighter_y" => brighter(false, asked.number(255) as u8),
+        "brighter_cr" => brighter(true, asked.number(255) as u8),
+        "moving" => moving(asked.number(2)),
+        "ramps" => ramps(),
+        _ => by_formula(word, asked),
     }
 }

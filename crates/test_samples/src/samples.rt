@@ -1,5 +1,4 @@
 //! Samples that a row asks for.
-ghost use Rattle.std.specs.Prelude.{IfOk};
 ghost use Rattle.h263_types.specs.declared.format.Format.TheVariants.{SubQcif};
 ghost use Rattle.h263_planes.specs.Samples.{Inside};
 
@@ -9,22 +8,35 @@ use test_fixtures::answer::{Answer, Asked};
 use test_fixtures::codec::SIZE;
 use test_fixtures::stop::Stop;
 
+fn component(asked: &mut Asked<'_>) -> i8 {
+    match asked.word().parse::<i8>() {
+        Ok(number) => number,
+        Err(_) => {
+            asked.wrong = true;
+            0
+        }
+    }
+}
+
 /// A vector by its components, in half samples.
-pub fn vector(asked: &mut Asked<'_>) -> Result<Vector, Stop> {
-    let x = asked.word().parse::<i8>()?;
-    let y = asked.word().parse::<i8>()?;
-    Ok(Vector { x, y })
+pub fn vector(asked: &mut Asked<'_>) -> Vector {
+    let x = component(asked);
+    let y = component(asked);
+    Vector { x, y }
 }
 
 /// The plane, the column and the row of a sample of a sub-QCIF picture.
-pub fn sample(asked: &mut Asked<'_>) -> Result<(Plane, u32, u32), Stop>
-    ensures { IfOk result (λ s. Inside SubQcif s.0 s.1 s.2 1) }
+pub fn sample(asked: &mut Asked<'_>) -> (Plane, u32, u32)
+    ensures { Inside SubQcif result.0 result.1 result.2 1 }
 {
     match asked.word() {
-        "y" => Ok((Plane::Y, asked.number(127), asked.number(95))),
-        "cb" => Ok((Plane::Cb, asked.number(63), asked.number(47))),
-        "cr" => Ok((Plane::Cr, asked.number(63), asked.number(47))),
-        _ => Err(Stop::Row),
+        "y" => (Plane::Y, asked.number(127), asked.number(95)),
+        "cb" => (Plane::Cb, asked.number(63), asked.number(47)),
+        "cr" => (Plane::Cr, asked.number(63), asked.number(47)),
+        _ => {
+            asked.wrong = true;
+            (Plane::Y, 0, 0)
+        }
     }
 }
 
@@ -34,7 +46,7 @@ pub fn say_sample(
     bytes: &[u8; SIZE],
     asked: &mut Asked<'_>,
 ) -> Result<(), Stop> {
-    let (plane, x, y) = sample(asked)?;
+    let (plane, x, y) = sample(asked);
     let picture = PictureRef::new(Format::SubQcif, bytes);
     answer.say_last(&picture.sample(plane, x, y))
 }

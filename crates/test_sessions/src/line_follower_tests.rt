@@ -50,7 +50,7 @@ fn a_full_line(rt: HostRuntime) {
     let mut follower = start();
     let mut number = 0;
     for row in table {
-        assert_eq!(rt; rate_after(&mut follower, number, row), row.3, "{number}");
+        assert!(rt; rate_after(&mut follower, number, row) == row.3);
         number = number % 1_000 + row.0 % 1_000;
     }
 }
@@ -67,7 +67,7 @@ fn one_late_message(rt: HostRuntime) {
     let mut follower = start();
     let mut number = 0;
     for row in table {
-        assert_eq!(rt; rate_after(&mut follower, number, row), row.3, "{number}");
+        assert!(rt; rate_after(&mut follower, number, row) == row.3);
         number = number % 1_000 + row.0 % 1_000;
     }
 }
@@ -83,7 +83,7 @@ fn most_pictures_are_lost(rt: HostRuntime) {
     let mut follower = start();
     let mut number = 0;
     for row in table {
-        assert_eq!(rt; rate_after(&mut follower, number, row), row.3, "{number}");
+        assert!(rt; rate_after(&mut follower, number, row) == row.3);
         number = number % 1_000 + row.0 % 1_000;
     }
     assert!(rt; !follower.has_room(1_019 * MILLISECOND));
@@ -99,7 +99,7 @@ fn messages_that_say_nothing(rt: HostRuntime) {
         follower.told(number, false, 800 * MILLISECOND);
         follower.told(number + 256, false, 800 * MILLISECOND);
     }
-    assert_eq!(rt; (before, follower.rate()), (20_096, 20_096));
+    assert!(rt; (before, follower.rate()) == (20_096, 20_096));
 }
 
 // A picture that is ten times too large is made good: the next ones are to be small, and no frame
@@ -108,8 +108,8 @@ fn messages_that_say_nothing(rt: HostRuntime) {
 fn a_large_picture(rt: HostRuntime) {
     let mut follower = start();
     follower.sent(0, 18_000, 1, 0);
-    assert_eq!(rt; (follower.size(), follower.wanted()), (1_800, 60));
-    assert_eq!(rt; (follower.quant(), follower.target()), (11, 10_285));
+    assert!(rt; (follower.size(), follower.wanted()) == (1_800, 60));
+    assert!(rt; (follower.quant(), follower.target()) == (11, 10_285));
     assert!(rt; !follower.has_room(801 * MILLISECOND));
     assert!(rt; follower.has_room(802 * MILLISECOND));
 }
@@ -119,16 +119,16 @@ fn a_large_picture(rt: HostRuntime) {
 #[test]
 fn a_choked_line(rt: HostRuntime) {
     let mut follower = start();
-    assert_eq!(rt; rate_after(&mut follower, 0, (8, 20, true, 0)), 20_096);
+    assert!(rt; rate_after(&mut follower, 0, (8, 20, true, 0)) == 20_096);
     for number in 8..14 {
         follower.sent(number, 1_800, 2, number as u64 * 100 * MILLISECOND);
     }
     follower.told(8, false, 1_250 * MILLISECOND);
-    assert_eq!(rt; (follower.rate(), follower.quant()), (20_096, 13));
+    assert!(rt; (follower.rate(), follower.quant()) == (20_096, 13));
     follower.told(9, false, 1_600 * MILLISECOND);
-    assert_eq!(rt; (follower.rate(), follower.quant()), (20_096, 13));
+    assert!(rt; (follower.rate(), follower.quant()) == (20_096, 13));
     follower.told(10, false, 1_900 * MILLISECOND);
-    assert_eq!(rt; (follower.rate(), follower.quant()), (5_024, 24));
+    assert!(rt; (follower.rate(), follower.quant()) == (5_024, 24));
     assert!(rt; !follower.has_room(2_099 * MILLISECOND));
     assert!(rt; follower.has_room(2_100 * MILLISECOND));
 }
@@ -138,7 +138,7 @@ fn a_choked_line(rt: HostRuntime) {
 #[test]
 fn a_frame_waits(rt: HostRuntime) {
     let mut follower = start();
-    assert_eq!(rt; rate_after(&mut follower, 0, (4, 20, true, 0)), 18_401);
+    assert!(rt; rate_after(&mut follower, 0, (4, 20, true, 0)) == 18_401);
     follower.sent(4, 600, 1, 400 * MILLISECOND);
     follower.sent(5, 600, 1, 500 * MILLISECOND);
     assert!(rt; follower.has_room(570 * MILLISECOND));

@@ -25,7 +25,7 @@ fn happen(rt: &impl Abort, gaps: &mut Gaps, event: Event) {
                 period: 33,
             };
             let asked = gaps.ask(&moment);
-            assert_eq!(rt; asked, nack, "{time}");
+            assert!(rt; asked == nack);
         }
     }
 }

@@ -41,7 +41,7 @@ fn few_pictures_and_a_longer_way(rt: HostRuntime) {
     let mut times = Times::start(0, WAIT);
     for (picture, captured, at, due) in table {
         let told = hear(&rt, &mut times, picture, captured, at);
-        assert_eq!(rt; told, Some(due), "{picture}");
+        assert!(rt; told == Some(due));
         play(&rt, &mut times);
     }
 }
@@ -50,7 +50,7 @@ fn few_pictures_and_a_longer_way(rt: HostRuntime) {
 #[test]
 fn lost_late_and_ahead(rt: HostRuntime) {
     let mut times = Times::start(7, WAIT);
-    assert_eq!(rt; times.due(), None);
+    assert!(rt; times.due().is_none());
     let table: [(u32, u64, u64, Option<u64>); 6] = [
         (9, 1_000, 1_030, Some(1_130)),
         (8, 960, 1_040, Some(1_090)),
@@ -61,7 +61,7 @@ fn lost_late_and_ahead(rt: HostRuntime) {
     ];
     for (picture, captured, at, due) in table {
         let told = hear(&rt, &mut times, picture, captured, at);
-        assert_eq!(rt; told, due, "{picture} {captured}");
+        assert!(rt; told == due);
     }
     assert!(rt; times.is_due(0));
 }

@@ -17,7 +17,7 @@ fn happen(rt: &impl Abort, streams: &mut Streams, event: Event, at: u64) {
     match event {
         Event::Packet(source, taker) => {
             let taken = streams.packet(source, now);
-            assert_eq!(rt; taken, taker, "{at}");
+            assert!(rt; taken == taker);
         }
         Event::Complete(run) => streams.completed(run, now),
         Event::Ended(source) => streams.ended(source, now),
@@ -45,7 +45,7 @@ fn a_stranger_in_a_silence(rt: HostRuntime) {
     for (at, event) in events {
         happen(&rt, &mut streams, event, at);
     }
-    assert_eq!(rt; streams.followed(), Some(7));
+    assert!(rt; streams.followed() == Some(7));
 }
 
 // A stream that has ended makes way at once. After a trial that failed its stream waits as long with
@@ -70,7 +70,7 @@ fn ends_of_streams(rt: HostRuntime) {
     for (at, event) in events {
         happen(&rt, &mut streams, event, at);
     }
-    assert_eq!(rt; streams.followed(), Some(7));
+    assert!(rt; streams.followed() == Some(7));
 }
 
 // A trial ends after a second, or half a second without a packet; then another has its turn.
@@ -90,7 +90,7 @@ fn trials_in_turn(rt: HostRuntime) {
     for (at, event) in events {
         happen(&rt, &mut streams, event, at);
     }
-    assert_eq!(rt; streams.followed(), None);
+    assert!(rt; streams.followed().is_none());
 }
 
 // Two in each second of the clock.

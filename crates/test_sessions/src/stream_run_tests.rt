@@ -32,10 +32,10 @@ fn one_picture(rt: HostRuntime) -> Result<(), Fail> {
     let played = run.play();
     let late = run.arrival(&PACKET, &FLAT_PACKET, 200 * MILLISECOND);
     run.finish();
-    assert_eq!(rt; nothing, None);
+    assert!(rt; nothing.is_none());
     assert!(rt; matches!(&heard, Arrived::Heard(Heard::Completed(_))));
-    assert_eq!(rt; (due, first), (Some(130 * MILLISECOND), 0));
-    assert_eq!(rt; (played.number, played.mark), (0, Mark::Exact));
-    assert_eq!(rt; late, Arrived::Heard(Heard::Late));
+    assert!(rt; (due, first) == (Some(130 * MILLISECOND), 0));
+    assert!(rt; (played.number, played.mark) == (0, Mark::Exact));
+    assert!(rt; late == Arrived::Heard(Heard::Late));
     Ok(())
 }

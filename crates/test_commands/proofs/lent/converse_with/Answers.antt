@@ -7,7 +7,7 @@ use Rattle.test_commands.proofs.lent.converse_with.Goals as goal
 pub converse-ends-requires-clause-opens : goal.converse-ends-requires-clause-opens
 converse-ends-requires-clause-opens c =
     let roles = c.head.ensures.rest.attached in
-    let are = c.in_ok-attach_roles.ensures in
+    let are = c.in-Ok.ensures in
     record {
       params = c.of-params.ensures.in_range;
       video = ap (λ (f : Role → Bool). f Video) roles ∙ are.video;
