@@ -17,6 +17,7 @@
 //!   each command, and is one match.
 #![tactic(auto)]
 
+mod commands;
 mod laws;
 mod process;
 mod program;
