@@ -14,13 +14,13 @@ use Rattle.command_words.specs.declared.simple.WordStop.{WordStop}
 use Rattle.command_words.specs.declared.simple.WordStop.TheVariants as stops
 use Rattle.command_words.specs.Simple.{Text}
 use Rattle.command_words.specs.Asked.{Asked, asked}
-use Rattle.desk_program.specs.Ends.{HasCause, IsReadOut, Tells}
-use Rattle.desk_program.specs.Attached.{AreAttached, AttachedAt}
-use Rattle.desk_program.specs.Lines.{Finishes, end_text}
-use Rattle.desk_program.specs.Promises.{HasPrefixes, HasStatus, HasTexts, IsFlushed, IsNotUsage, IsSettled, IsStopped, IsUnopened, ReadsNothing, TakesInput}
+use Rattle.desk_program.specs.Ends.{HasCause}
+use Rattle.desk_program.specs.Attached.{AreAttached}
+use Rattle.desk_program.specs.Lines.{Finishes}
+use Rattle.desk_program.specs.Promises.{IsNotUsage, IsSettled}
 use Rattle.h263rps_run.specs.Output.{word_stop, command_of, roles_of, source_of, run_of, output_of, order_from, source_from}
 use Rattle.h263rps_run.specs.Promises.{IsRefusedRightly, IsRunOf, IsRun}
-use Rattle.h263rps_run.proofs.Promised.{performed, some_since, nothing_done, report_unopened, words_unread, usage_told, since_attached}
+use Rattle.h263rps_run.proofs.Promised.{some_since, nothing_done, report_unopened, words_unread, usage_told, since_attached}
 
 -- ---- a command
 

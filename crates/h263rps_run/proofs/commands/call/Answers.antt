@@ -1,4 +1,4 @@
-use Rattle.std.proofs.Common.{◌∷◌, [], Option, ap, subst}
+use Rattle.std.proofs.Common.{◌∷◌, [], Option, subst}
 use Rattle.h263_outside.specs.declared.desk.Role.{Role}
 use Rattle.h263_outside.specs.declared.desk.Role.TheVariants.{Report}
 use Rattle.command_words.specs.declared.command.Command.TheVariants.{Call}

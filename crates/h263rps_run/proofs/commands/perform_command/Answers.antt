@@ -1,5 +1,5 @@
 -- Each command's run is that of its arm. Of a group's roles no two are one, and with them it may begin.
-use Rattle.std.proofs.Common.{Bool, true, false, List, [], ◌∷◌, ap, sym, ◌∙◌, subst}
+use Rattle.std.proofs.Common.{true, false, List, [], ◌∷◌, ap, sym, ◌∙◌, subst}
 use Rattle.std.specs.Prelude.{IsTrue}
 use Rattle.h263_outside.specs.Desk.{with_role}
 use Rattle.h263_outside.specs.declared.desk.Role.{Role}

@@ -1,9 +1,7 @@
 -- The command's run is that of the words, with the roles that they name.
-use Rattle.std.proofs.Common.{◌≤◌, ap, sym, ◌∙◌, arith}
-use Rattle.std.proofs.lemmas.List.{length-take-le}
+use Rattle.std.proofs.Common.{ap, sym, ◌∙◌, arith}
 use Rattle.command_words.specs.View.{asked_of}
 use Rattle.command_words.specs.declared.command.Command.{Command}
-use Rattle.desk_program.specs.Attached.{names}
 use Rattle.h263rps_run.specs.Output.{roles_of}
 use Rattle.h263rps_run.proofs.Asked.{command_run}
 use Rattle.h263rps_run.proofs.program.run_command.Goals as goal
