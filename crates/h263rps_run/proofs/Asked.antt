@@ -14,13 +14,13 @@ use Rattle.command_words.specs.declared.simple.WordStop.{WordStop}
 use Rattle.command_words.specs.declared.simple.WordStop.TheVariants as stops
 use Rattle.command_words.specs.Simple.{Text}
 use Rattle.command_words.specs.Asked.{Asked, asked}
-use Rattle.desk_program.specs.Ends.{HasCause, IsReadOut, Tells}
-use Rattle.desk_program.specs.Attached.{AreAttached, AttachedAt}
-use Rattle.desk_program.specs.Lines.{Finishes, end_text}
-use Rattle.desk_program.specs.Promises.{HasPrefixes, HasStatus, HasTexts, IsFlushed, IsNotUsage, IsSettled, IsStopped, IsUnopened, ReadsNothing, TakesInput}
+use Rattle.desk_program.specs.Ends.{HasCause}
+use Rattle.desk_program.specs.Attached.{AreAttached}
+use Rattle.desk_program.specs.Lines.{Finishes}
+use Rattle.desk_program.specs.Promises.{IsNotUsage, IsSettled}
 use Rattle.h263rps_run.specs.Output.{word_stop, command_of, roles_of, source_of, run_of, output_of, order_from, source_from}
 use Rattle.h263rps_run.specs.Promises.{IsRefusedRightly, IsRunOf, IsRun}
-use Rattle.h263rps_run.proofs.Promised.{performed, some_since, nothing_done, report_unopened, words_unread, usage_told, since_attached}
+use Rattle.h263rps_run.proofs.Promised.{some_since, nothing_done, report_unopened, words_unread, usage_told, since_attached}
 
 -- ---- a command
 
@@ -203,37 +203,27 @@ stopped_run words stops.OutOfMemory mid new none are rest result told =
 stopped_run words stops.Usage mid new none are rest result told =
     subst (λ (o : Option Asked). IsRun o result mid new) (sym (none refl)) (usage_run mid new are rest result told)
 
--- the words were a command, which was carried out from where the report was attached
-asked_run : (words : List Text) (a : Asked) (old mid new : Outside) (result : Status) → OnlyAttaches old mid
+-- the words were a command, which was run from where the report was attached
+pub asked_run : (words : List Text) (a : Asked) (old mid new : Outside) (result : Status) → OnlyAttaches old mid
     → mid.faults ≡ old.faults → asked words ≡ Some a → IsRun (Some a) result mid new
     → IsRun (command_of words) result old new
 asked_run words a old mid new result attaches quiet is run = run_since (command_of words) old mid new result attaches
     quiet (subst (λ (o : Option Asked). IsRun o result mid new) (sym is) run)
 
--- the command of the words was performed with the roles that they name, from where the report was attached
-module _ (words : List Text) (a : Asked) (asks : asked words ≡ Some a) (old mid : Outside)
-    (attaches : OnlyAttaches old mid) (quiet : mid.faults ≡ old.faults)
-    (rightly : (k : Command) → IsRefusedRightly k) (roles : List (Role × Text)) (own : roles ≡ roles_of a.command a)
-    (c : Command) (is : a.command ≡ c) (result : Status) (new : Outside)
-    (status : (inputs : Role → List ℕ) → Tells mid inputs → HasStatus (run_of c inputs) result mid.faults new.faults)
-    (texts : (inputs : Role → List ℕ) → Tells mid inputs → IsSettled result
-    → HasTexts (run_of c inputs) end_text result mid.written new.written)
-    (prefixes : (inputs : Role → List ℕ) → Tells mid inputs → IsStopped result
-    → HasPrefixes (run_of c inputs) end_text result mid.written new.written)
-    (not_usage : IsNotUsage result)
-    (unopened : IsUnopened result → ReadsNothing result mid new)
-    (flushed : IsFlushed result new)
-    (causes : HasCause result mid.faults new.faults)
-    (attached : AttachedAt ((Report, []) ∷ roles) result new)
-    (whole_input : (inputs : Role → List ℕ) → Tells mid inputs → IsReadOut result (source_of c) new)
-    (taken_input : (inputs : Role → List ℕ) → Tells mid inputs
-    → TakesInput result (run_of c inputs) end_text inputs mid.written new) where
-  pub performed_run : IsRun (command_of words) result old new
-  performed_run =
-      asked_run words a old mid new result attaches quiet asks
-      (as_run a c is (rightly c) result mid new
-      (subst (λ (l : List (Role × Text)). IsRunOf (run_of c) ((Report, []) ∷ l) (source_of c) result mid new) (own
-      ∙ ap (λ (k : Command). roles_of k a) is)
-      (performed (run_of c) roles (source_of c) mid new result status texts prefixes not_usage unopened flushed causes
-      attached whole_input taken_input))
-      not_usage)
+-- the command that was asked for was performed with these roles
+pub command_run : (a : Asked) (c : Command) (roles : List (Role × Text)) (mid new : Outside) (result : Status)
+    → ((k : Command) → IsRefusedRightly k) → roles ≡ roles_of a.command a → a.command ≡ c
+    → IsRunOf (run_of c) ((Report, []) ∷ roles) (source_of c) result mid new → IsNotUsage result
+    → IsRun (Some a) result mid new
+command_run a c roles mid new result rightly own is run not_usage =
+    as_run a c is (rightly c) result mid new
+    (subst (λ (l : List (Role × Text)). IsRunOf (run_of c) ((Report, []) ∷ l) (source_of c) result mid new) (own
+    ∙ ap (λ (k : Command). roles_of k a) is) run)
+    not_usage
+
+-- the run of a command that is this one
+pub run_as : (c k : Command) (roles : List (Role × Text)) (result : Status) (old new : Outside) → c ≡ k
+    → IsRunOf (run_of k) ((Report, []) ∷ roles) (source_of k) result old new
+    → IsRunOf (run_of c) ((Report, []) ∷ roles) (source_of c) result old new
+run_as c k roles result old new is run = subst (λ (x : Command). IsRunOf (run_of x) ((Report, []) ∷ roles) (source_of x)
+    result old new) (sym is) run

@@ -1,5 +1,5 @@
 -- What the program makes of its words and of its inputs.
-use Rattle.std.specs.Prelude.{ℕ, Bool, true, false, not, List, [], ◌∷◌, Option, Some, None, map, drop, String, string_bytes}
+use Rattle.std.specs.Prelude.{ℕ, ◌≡◌, Bool, true, false, not, List, [], ◌∷◌, Option, Some, None, map, drop, String, string_bytes}
 use Rattle.std.specs.declared.io.ErrorKind.{ErrorKind}
 use Rattle.std.specs.declared.io.ErrorKind.TheVariants as kinds
 use Rattle.h263_outside.specs.declared.desk.Role.{Role}
@@ -60,6 +60,11 @@ the_word (Some word) = word
 -- the roles of a command in their order, with their words
 abbrev pub roles_of : Command → Asked → List (Role × Text)
 roles_of c a = map (λ r. (r.0, the_word (a.given r.1))) (roles c)
+
+-- these are the roles of a command, with the words of someone who asked for it
+pub record AreRolesOf (c : Command) (order : List (Role × Text)) : Type 0 where
+  pub asked : Asked
+  pub are : order ≡ roles_of c asked
 
 -- the report comes first, by the empty word
 abbrev pub order_from : Option Asked → List (Role × Text)

@@ -13,10 +13,11 @@
 //!   tests of commands can be crates of their own and call it.
 //!
 //! - **All commands attach their roles in one order.** Video, second video, events, pictures,
-//!   second pictures, wire: those that the words name (`put_roles`). So `run` needs no list for
-//!   each command, and is one match.
+//!   second pictures, wire: those that the words name (`put_roles`). So no command needs a list of
+//!   its own, and `perform_command` is one match.
 #![tactic(auto)]
 
+mod commands;
 mod laws;
 mod process;
 mod program;

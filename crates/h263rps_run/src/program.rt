@@ -1,23 +1,20 @@
 //! From the words of a command line to an exit status.
-ghost use Rattle.std.specs.Prelude.{◌≡◌};
+ghost use Rattle.std.specs.Prelude.{◌≡◌, List, [], ◌∷◌, Some};
 ghost use Rattle.h263_outside.specs.Desk.{NoneAttached};
+ghost use Rattle.h263_outside.specs.declared.desk.Role.TheVariants.{Report};
+ghost use Rattle.command_words.specs.Asked.{HasNames, IsCommand};
 ghost use Rattle.command_words.specs.Clap.{texts};
+ghost use Rattle.command_words.specs.View.{asked_of};
+ghost use Rattle.desk_program.specs.Attached.{AreAttached};
 ghost use Rattle.h263rps_run.specs.Output.{command_of, word_stop};
 ghost use Rattle.h263rps_run.specs.Promises.{IsRun};
 
+use crate::commands::perform_command;
 use crate::roles::put_roles;
 use crate::{Status, laws};
-use audit_command::Audit;
-use call_command::{Call, Terms};
-use command_words::{Command, WordStop, Words, laws as command_words_laws};
-use demo_command::{Demo, DemoTerms};
-use desk_program::{attach_role, finish, perform};
-use duplex_command::Duplex;
-use group_command::{GroupCall, GroupTerms};
+use command_words::{WordStop, Words, laws as command_words_laws};
+use desk_program::{attach_role, finish};
 use h263_outside::{Desk, Role};
-use rate_command::{Bucket, Rate};
-use recv_command::{Join, Recv};
-use send_command::{Send, Sending};
 use std::alloc::Global;
 
 // How a run ends whose words are no command.
@@ -30,6 +27,20 @@ fn unasked(stop: WordStop) -> Status
     }
 }
 
+// Runs the command of these words, on a desk with the report alone attached.
+fn run_command<D: Desk>(alloc: Global, words: &Words<'_>, desk: &mut D) -> Status
+    requires report { AreAttached ((Report, []) ∷ []) (D.outside desk.old) }
+    requires ready { IsCommand (asked_of words.now).command }
+    requires named { HasNames (asked_of words.now) }
+    ensures { IsRun (Some (asked_of words.now)) result
+        (D.outside desk.old) (D.outside desk.new) }
+{
+    laws::refused_videos();
+    let mut places = [(Role::Report, ""); 6];
+    let count = put_roles(words, &mut places);
+    perform_command(alloc, words.command(), &places[..count], desk)
+}
+
 /// Runs the command that the words are, on a desk with nothing attached.
 pub fn run<D: Desk>(alloc: Global, words: &[&str], desk: &mut D) -> Status
     requires { NoneAttached (D.outside desk.old).attached }
@@ -37,58 +48,11 @@ pub fn run<D: Desk>(alloc: Global, words: &[&str], desk: &mut D) -> Status
         (command_of (texts words.now)) result (D.outside desk.old) (D.outside desk.new) }
 {
     command_words_laws::names_are_given();
-    laws::refused_videos();
     if let Err(status) = attach_role(desk, Role::Report, "") {
         return status;
     }
-    let words = match Words::read(alloc, words) {
-        Ok(words) => words,
-        Err(stop) => return finish(desk, unasked(stop)),
-    };
-    let mut places = [(Role::Report, ""); 6];
-    let count = put_roles(&words, &mut places);
-    let roles = &places[..count];
-    match words.command() {
-        Command::Call { params, traced } => {
-            let plain = !traced;
-            perform::<D, Call>(alloc, &Terms { params, plain }, roles, desk)
-        }
-        Command::Send {
-            params,
-            target,
-            fit,
-        } => {
-            let setup = Sending {
-                params,
-                target,
-                fit,
-            };
-            perform::<D, Send>(alloc, &setup, roles, desk)
-        }
-        Command::Recv {
-            params,
-            join: false,
-        } => perform::<D, Recv>(alloc, &params, roles, desk),
-        Command::Recv { params, join: true } => perform::<D, Join>(alloc, &params, roles, desk),
-        Command::Demo {
-            params,
-            seed,
-            frames,
-        } => {
-            let terms = DemoTerms {
-                params,
-                seed,
-                frames,
-            };
-            perform::<D, Demo>(alloc, &terms, roles, desk)
-        }
-        Command::Rate { target, bucket } => {
-            perform::<D, Rate>(alloc, &Bucket { target, bucket }, roles, desk)
-        }
-        Command::Audit { params } => perform::<D, Audit>(alloc, &params, roles, desk),
-        Command::Duplex { params } => perform::<D, Duplex>(alloc, &params, roles, desk),
-        Command::Group { params, receivers } => {
-            perform::<D, GroupCall>(alloc, &GroupTerms { params, receivers }, roles, desk)
-        }
+    match Words::read(alloc, words) {
+        Ok(words) => run_command(alloc, &words, desk),
+        Err(stop) => finish(desk, unasked(stop)),
     }
 }
