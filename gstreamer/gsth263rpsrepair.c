@@ -5,12 +5,34 @@
 /* Of a round trip for which nothing is asked no answer comes. So one that is this old is tried again:
  * a packet in so much time is asked for as if it were the first. */
 #define OLD (5 * GST_SECOND)
+/* Nothing is sent again that would come too late, so then no answer tells how long one takes. After so
+ * many packets in a row that were asked for in vain one is tried in so much time. */
+#define VAIN 8
+#define REST (10 * GST_SECOND)
+/* Longer than any wait. */
+#define NEVER (60 * GST_SECOND)
+
+static gboolean
+is_in_vain (const GstH263RpsRepair * repair)
+{
+  return repair->unanswered >= VAIN;
+}
+
+static gboolean
+is_old (const GstH263RpsRepair * repair, GstClockTime now)
+{
+  return now - repair->told >= (is_in_vain (repair) ? REST : OLD);
+}
 
 /* How long an answer takes, as it is to be reckoned with now. */
 GstClockTime
 gst_h263rps_repair_trip (const GstH263RpsRepair * repair, GstClockTime now)
 {
-  return repair->is_known && now - repair->told < OLD ? repair->trip : FIRST_TRIP;
+  if (is_old (repair, now))
+    return FIRST_TRIP;
+  if (is_in_vain (repair))
+    return NEVER;
+  return repair->is_known ? repair->trip : FIRST_TRIP;
 }
 
 static void
@@ -38,8 +60,9 @@ gst_h263rps_repair_ask (GstH263RpsRepair * repair, const h263rps_nack * nack, Gs
       count++;
     }
   }
-  if (repair->is_known && now - repair->told >= OLD)
+  if (is_old (repair, now))
     repair->told = now;
+  repair->unanswered += count;
   return count;
 }
 
@@ -77,6 +100,7 @@ gst_h263rps_repair_came (GstH263RpsRepair * repair, guint16 sequence, GstClockTi
   first = now - repair->asked[at].first;
   last = now - repair->asked[at].last;
   repair->asked[at].is_open = FALSE;
+  repair->unanswered = 0;
   learn (repair,
       repair->is_known && apart (last, repair->trip) < apart (first, repair->trip) ? last : first,
       now);

@@ -27,6 +27,12 @@ const FIRST_TRIP = 0.02;
 const TRIPS = 8;
 /** A trip that was measured so many seconds ago is old. */
 const OLD_TRIP = 2;
+/**
+ * Nothing is sent again that would come too late, so then no answer tells how long one takes. After so many requests in a row
+ * in vain there is one in so many seconds.
+ */
+const VAIN = 8;
+const REST = 10;
 /** A request that is so many seconds old is forgotten. */
 const OLD_REQUEST = 4;
 
@@ -148,9 +154,13 @@ export class RepairTrip {
   #asked = new Map();
   #trips = [];
   #last = null;
+  #unanswered = 0;
+  #lastAsked = -Infinity;
 
   /** It is asked for packets, at this time in seconds. */
   asked(fields, time) {
+    this.#lastAsked = time;
+    this.#unanswered++;
     for (const [sequence, since] of this.#asked) {
       if (time - since > OLD_REQUEST) this.#asked.delete(sequence);
     }
@@ -166,13 +176,15 @@ export class RepairTrip {
     this.#asked.delete(sequence);
     this.#trips = [...this.#trips.slice(1 - TRIPS), time - since];
     this.#last = time;
+    this.#unanswered = 0;
   }
 
   /**
    * Seconds, at this time: the least of the last ones, since the others may have been asked for twice. Of an old one half,
-   * and half again as it grows older, so that a shorter way is found.
+   * and half again as it grows older, so that a shorter way is found. Longer than any wait where requests are in vain.
    */
   seconds(time) {
+    if (this.#unanswered >= VAIN && time - this.#lastAsked < REST) return REST;
     if (!this.#trips.length) return FIRST_TRIP;
     return Math.min(...this.#trips) / 2 ** Math.floor((time - this.#last) / OLD_TRIP);
   }

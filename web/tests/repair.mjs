@@ -47,7 +47,12 @@ class Call {
     const view = new DataView(bytes.buffer);
     if (bytes.length < SHORTEST_PACKET) this.#sender.feedback(bytes);
     else if (!isNack(view)) throw new Error("neither a message nor what asks for packets");
-    else if (this.isRepaired) this.#send(this.#repairs.asked(view, now()), this.#other);
+    else this.#asked(view);
+  }
+
+  #asked(nack) {
+    this.asked++;
+    if (this.isRepaired) this.#send(this.#repairs.asked(nack, now()), this.#other);
   }
 
   picture(number) {
@@ -64,12 +69,12 @@ class Call {
   end() {
     const { exact, patched, held } = this.#receiving.played;
     const share = (100 * exact) / (exact + patched + held);
-    const { bytes } = this;
+    const { asked, bytes } = this;
     const { again } = this.#repairs;
     this.#receiving.close();
     this.#sent.close();
     this.#sender.close();
-    return { share, again, bytes };
+    return { share, asked, again, bytes };
   }
 }
 
@@ -82,9 +87,9 @@ function called(way, isRepaired) {
   }
   pass();
   const ended = call.end();
-  const { share, again, bytes } = ended;
+  const { share, asked, again, bytes } = ended;
   const words = isRepaired ? `${again} packets sent again` : "without repair";
-  console.log(`round trip ${Math.round(2000 * way)} ms, wait ${1000 * WAIT} ms: ${share.toFixed(1)} % exact, ${words}, ${bytes} bytes`);
+  console.log(`round trip ${Math.round(2000 * way)} ms, wait ${1000 * WAIT} ms: ${share.toFixed(1)} % exact, asked ${asked} times, ${words}, ${bytes} bytes`);
   return ended;
 }
 
@@ -99,4 +104,5 @@ const [near, nearAlone, far, farAlone] = [[0.025, true], [0.025, false], [0.15, 
 must(near.share >= 99, "a round trip of 50 ms: at least 99 % are wanted");
 must(nearAlone.share < 96, "without repair fewer must be exact, or this shows nothing");
 must(Math.abs(far.share - farAlone.share) < 1, "a round trip beyond the wait: repair must change nothing");
+must(far.asked <= 24, "a round trip beyond the wait: what is asked for in vain is hardly asked for again");
 must(far.again === 0, "a round trip beyond the wait: no packet may be sent again");
