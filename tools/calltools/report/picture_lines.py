@@ -1,5 +1,6 @@
-"""The report of `call`, `send`, `recv` and `duplex`: a line a picture, and counts at the end. A line
-of `duplex` begins with the letter of the party whose picture it is."""
+"""The report of `call`, `send`, `recv`, `duplex` and `group`: a line a picture, and counts at the end. A
+line of `duplex` begins with the letter of the party whose picture it is, one of `group` with its receiver's
+number."""
 
 import re
 from dataclasses import dataclass
@@ -10,7 +11,8 @@ from ..errors import BadInput
 MARKS = ("exact", "patched", "held")
 # Lines that may follow the pictures: a command has a few.
 _MOST_OTHERS = 100_000
-_PICTURE = re.compile(r"(?:([ab]) )?(\d{1,7})(?: (exact|patched|held))?(?: (intra)| from (\d{1,7}))?")
+_WHOSE = r"(?:([ab]|[1-3](?= \d+ (?:exact|patched|held) )) )?"
+_PICTURE = re.compile(rf"{_WHOSE}(\d{{1,7}})(?: (exact|patched|held))?(?: (intra)| from (\d{{1,7}}))?")
 
 
 @dataclass(frozen=True)
@@ -34,8 +36,8 @@ class Report:
 
 @dataclass(frozen=True)
 class Rows:
-    """A report of any command: the pictures of each party by its letter, a before b. The pictures of a
-    command with one party have the empty letter."""
+    """A report of any command: the pictures of each party by its letter, a before b, or of each receiver by its
+    number. The pictures of a command with one of them have the empty letter."""
 
     by_letter: dict[str, list[Picture]]
     rest: list[str]
@@ -59,7 +61,7 @@ def read_rows(lines: Iterable[str], path: str, first: int = 0) -> Rows:
     if not found:
         raise BadInput(path, "line 1", "the report has no picture")
     if len(found) > 1 and "" in found:
-        raise BadInput(path, "line 1", "some of its lines have a party's letter, and some have none")
+        raise BadInput(path, "line 1", "some of its lines say whose they are, and some don't")
     return Rows(dict(sorted(found.items())), rest)
 
 
@@ -78,10 +80,10 @@ def _picture(fields: re.Match[str], wanted: int, path: str, number: int) -> Pict
 
 
 def read_report(lines: Iterable[str], path: str, first: int = 0) -> Report:
-    """Reads a report of one party."""
+    """Reads a report of one party, or one receiver."""
     rows = read_rows(lines, path, first)
     if "" not in rows.by_letter:
-        raise BadInput(path, "line 1", "this is the report of two parties")
+        raise BadInput(path, "line 1", "this is the report of several")
     return Report(rows.by_letter[""], rows.rest)
 
 

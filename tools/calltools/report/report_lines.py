@@ -8,9 +8,11 @@ from ..errors import BadInput
 Fact = dict[str, Union[str, int, bool, dict[str, int]]]
 
 _NUMBER = r"(\d{1,20})"
-_PICTURE = re.compile(rf"(?:([ab]) )?{_NUMBER}(?: (exact|patched|held))?(?: (intra)| from {_NUMBER})?")
+# Of `duplex` a line begins with its party's letter, of `group` with its receiver's number.
+_WHOSE = r"(?:([ab]|[1-3](?= \d+ (?:exact|patched|held) )) )?"
+_PICTURE = re.compile(rf"{_WHOSE}{_NUMBER}(?: (exact|patched|held))?(?: (intra)| from {_NUMBER})?")
 _LEVEL = re.compile(rf"{_NUMBER} {_NUMBER} {_NUMBER}")
-_COUNTS = re.compile(r"(?:([ab]) )?((?:[a-z]+ \d{1,20} )*[a-z]+ \d{1,20})")
+_COUNTS = re.compile(r"(?:([ab1-3]) )?((?:[a-z]+ \d{1,20} )*[a-z]+ \d{1,20})")
 # The first words of lines of counts: what they count.
 _COUNTED = {"played": "call", "sent": "call", "pictures": "line", "held": "joiner"}
 _AUDITED = re.compile(rf"yes pictures {_NUMBER}|no {_NUMBER} (packet|number|header|overlap|gap|reference)")
@@ -44,15 +46,17 @@ def _fact(text: str) -> Optional[Fact]:
     return None
 
 
-def _party(letter: Optional[str]) -> Fact:
-    return {"party": letter} if letter else {}
+def _whose(word: Optional[str]) -> Fact:
+    if word is None:
+        return {}
+    return {"receiver": int(word)} if word.isdigit() else {"party": word}
 
 
 def _picture(text: str) -> Optional[Fact]:
     found = _PICTURE.fullmatch(text)
     if not found:
         return None
-    fact: Fact = {**_party(found[1]), "picture": int(found[2])}
+    fact: Fact = {**_whose(found[1]), "picture": int(found[2])}
     if found[3]:
         fact["mark"] = found[3]
     if found[4]:
@@ -94,7 +98,7 @@ def _counts(text: str) -> Optional[Fact]:
     if not found or words[0] not in _COUNTED:
         return None
     counts = {name: int(number) for name, number in zip(words[::2], words[1::2])}
-    return {**_party(found[1]), "of": _COUNTED[words[0]], "counts": counts}
+    return {**_whose(found[1]), "of": _COUNTED[words[0]], "counts": counts}
 
 
 def _end(text: str) -> Optional[Fact]:

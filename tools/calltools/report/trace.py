@@ -1,5 +1,5 @@
 """Traces of a call, the lines of `call --trace`: `S`, `D n.i`, `D n.*`, `B k`, `P`; and those of `duplex`, which have
-no `B`, and a party's letter first: `a S`."""
+no `B`, and a party's letter first: `a S`; and those of `group`, a receiver's number first but for `S`."""
 
 import random
 import re
@@ -10,6 +10,7 @@ from ..network.loss import GilbertElliott, Losses
 
 LINE = re.compile(r"|S|P|B \d{1,7}|D \d{1,7}\.(?:\d{1,7}|\*)")
 PARTY_LINE = re.compile(r"|[ab] (?:S|P|D \d{1,7}\.(?:\d{1,7}|\*))")
+GROUP_LINE = re.compile(r"|S|[1-3] (?:P|B \d{1,7}|D \d{1,7}\.(?:\d{1,7}|\*))")
 PARTIES = ("a", "b")
 
 
