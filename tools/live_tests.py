@@ -837,7 +837,7 @@ class CallsTest(Calls):
             self.assertEqual(start.reference, number)
             headers.append(header)
             for about in (header.source, header.source ^ 1):
-                said = rtcp.Feedback(1, about, bytes([0xC0, number >> 5, (number & 31) << 3 | 4]))
+                said = rtcp.Feedback(1, about, bytes([0xC0 | number >> 5, (number & 31) << 3 | 4, number]))
                 control.sendto(rtcp.feedback_bytes(said), ("127.0.0.1", port + 1))
         first = headers[0]
         self.assertEqual({header.source for header in headers}, {first.source})
