@@ -53,7 +53,9 @@ no_command() {
         *) near=$(nearest "$1" "${COMMANDS[@]%%|*}" --help --version --quiet --man --completion) ;;
     esac
     [ -n "$near" ] && echo "no command $word; $near?" && return
-    echo "no command $word: call, send, recv, demo, rate, audit or duplex"
+    local names=("${COMMANDS[@]%%|*}") others
+    printf -v others '%s, ' "${names[@]::${#names[@]}-1}"
+    echo "no command $word: ${others%, } or ${names[-1]}"
 }
 
 # A word without the dash that an editor made of a hyphen (in UTF-8: en dash, em dash and minus).
