@@ -6,7 +6,8 @@
  * a packet in so much time is asked for as if it were the first. */
 #define OLD (5 * GST_SECOND)
 /* Nothing is sent again that would come too late, so then no answer tells how long one takes. After so
- * many packets in a row that were asked for in vain one is tried in so much time. */
+ * many questions in a row that were asked in vain one is tried in so much time. One question is a NACK:
+ * it may ask for seventeen packets, and be lost with all of them. */
 #define VAIN 8
 #define REST (10 * GST_SECOND)
 /* Longer than any wait. */
@@ -62,7 +63,7 @@ gst_h263rps_repair_ask (GstH263RpsRepair * repair, const h263rps_nack * nack, Gs
   }
   if (is_old (repair, now))
     repair->told = now;
-  repair->unanswered += count;
+  repair->unanswered++;
   return count;
 }
 

@@ -17,7 +17,7 @@ typedef struct _GstH263RpsRepair GstH263RpsRepair;
  * GstH263RpsRepair:
  * @trip: the round trip, as far as @is_known
  * @told: when an answer came last, or was waited for
- * @unanswered: packets that were asked for since the last answer
+ * @unanswered: questions since the last answer
  * @asked: the packets that were asked for last
  */
 struct _GstH263RpsRepair {
