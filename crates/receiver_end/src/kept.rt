@@ -1,6 +1,8 @@
 //! What a receiver keeps.
 ghost use Rattle.std.specs.Prelude.{◌≡◌, ◌↔◌, true};
+ghost use Rattle.std.specs.Prelude.{◌≤◌, ◌^◌};
 ghost use Rattle.picture_store.specs.Pictures.{IsKept};
+ghost use Rattle.receiver_end.specs.State.{last_work, work_of};
 
 use h263_planes::PictureRef;
 use h263_types::Params;
@@ -23,6 +25,23 @@ fn is_there(store: &PictureStore, number: u32) -> bool
     store.view(number).is_some()
 }
 
+/// The place of a number's work picture.
+pub(crate) fn work_of(params: &Params, number: u32) -> u32
+    requires { params.now.lead ≤ 62 }
+    ensures { result ≡ work_of params.now number }
+{
+    number % (params.lead + 2)
+}
+
+/// The place of the work picture that was played last, where this many were played.
+pub(crate) fn last_work(params: &Params, played: u32) -> u32
+    requires few { played ≤ 2 ^ 20 }
+    requires lead { params.now.lead ≤ 62 }
+    ensures { result ≡ last_work params.now played }
+{
+    (played + params.lead + 1) % (params.lead + 2)
+}
+
 impl Kept {
     ghost use Rattle.h263_planes.specs.Lent.{picture};
     ghost use Rattle.h263_planes.specs.Samples.{IsPicture};
@@ -42,8 +61,7 @@ impl Kept {
                 return picture;
             }
         }
-        let last = (self.played + self.params.lead + 1) % (self.params.lead + 2);
-        self.store.work_seen(last)
+        self.store.work_seen(last_work(&self.params, self.played))
     }
 
     /// Gives the memory of the store back.

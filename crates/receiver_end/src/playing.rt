@@ -9,7 +9,7 @@ ghost use Rattle.receiver_end.specs.Answers.{IsPlayed};
 ghost use Rattle.receiver_end.specs.Decoding.{decoding};
 
 use crate::answers::Played;
-use crate::kept::Kept;
+use crate::kept::{Kept, last_work, work_of};
 use crate::laws;
 use crate::numbers::named;
 use crate::patching::{patch_by_kept, patch_by_work};
@@ -79,7 +79,7 @@ impl Kept {
         ensures { IsPatched self.old self.new }
     {
         call_model_laws::searches();
-        let w = self.played % (self.params.lead + 2);
+        let w = work_of(&self.params, self.played);
         if self.exact {
             patch_by_kept(
                 &mut self.store,
@@ -90,7 +90,7 @@ impl Kept {
                 w,
             );
         } else {
-            let last = (self.played + self.params.lead + 1) % (self.params.lead + 2);
+            let last = last_work(&self.params, self.played);
             patch_by_work(
                 &mut self.store,
                 self.params.format,

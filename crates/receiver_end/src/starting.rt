@@ -7,7 +7,7 @@ ghost use Rattle.h263_planes.specs.Spots.{picture_by};
 ghost use Rattle.picture_store.specs.Pictures.{room_for, work_in, works_of};
 ghost use Rattle.receiver_end.specs.Steps.{IsSameBut};
 
-use crate::kept::Kept;
+use crate::kept::{Kept, last_work};
 use crate::laws;
 use call_decoding::{Pictured, Styled, laws as call_decoding_laws};
 use call_model::laws as call_model_laws;
@@ -82,7 +82,7 @@ impl Kept {
         call_model_laws::receiver_stands::<Styled, Mb, Pictured, Fault>();
         self.collector.restart(number);
         self.store.clear();
-        let last = (number + self.params.lead + 1) % (self.params.lead + 2);
+        let last = last_work(&self.params, number);
         clear(&mut self.store, self.params.format, last);
         self.played = number;
         self.exact = false;

@@ -14,7 +14,7 @@ ghost use Rattle.receiver_end.specs.Decoding.{decoding};
 use crate::answers::Heard;
 use crate::drawing::draw;
 use crate::judging::Fresh;
-use crate::kept::Kept;
+use crate::kept::{Kept, work_of};
 use crate::laws;
 use back_messages::Said;
 use call_decoding::{Pictured, Styled, laws as call_decoding_laws};
@@ -38,7 +38,7 @@ impl Kept {
         ensures fits { Fits self.new }
         ensures added { IsAdded self.old self.new mbs.now piece.now fresh }
     {
-        let w = fresh.number % (self.params.lead + 2);
+        let w = work_of(&self.params, fresh.number);
         draw(
             &mut self.store,
             self.params.format,
@@ -67,7 +67,7 @@ impl Kept {
             return None;
         }
         let said = self.ack(number);
-        self.store.keep(number, number % (self.params.lead + 2));
+        self.store.keep(number, work_of(&self.params, number));
         Some(said)
     }
 

@@ -34,9 +34,9 @@ returns-clause-added c =
     let after = c.add.ensures.taken r.played q.taken q.collects in (
       refl,
       record {
-        store = c.draw.ensures.rest;
-        whole = c.draw.ensures.whole;
-        sets = c.draw.ensures.sets;
+        store = rw (sym c.work_of-w.ensures) c.draw.ensures.rest;
+        whole = rw (sym c.work_of-w.ensures) c.draw.ensures.whole;
+        sets = rw (sym c.work_of-w.ensures) c.draw.ensures.sets;
         header = header_now r.params.format r.collector c.add.new.self r.played q.taken t q.collects after
             c.add.ensures.same q.collected n refl c.requires.fresh.1.row;
         has = λ k lt. has_now r.params.format r.collector c.add.new.self r.played q.taken t q.collects after

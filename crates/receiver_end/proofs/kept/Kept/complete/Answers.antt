@@ -12,7 +12,7 @@ returns-then-not-whole-clause-part c =
 
 pub returns-clause-fits : goal.returns-clause-fits
 returns-clause-fits c = fits_whole c.searches.ensures.rests c.args.self.now c.keep.new.self c.args.number
-    c.requires.fits c.requires.row c.keep.ensures
+    c.requires.fits c.requires.row (rw (sym c.work_of.ensures) c.keep.ensures)
 
 pub returns-clause-whole : goal.returns-clause-whole
 returns-clause-whole c =
