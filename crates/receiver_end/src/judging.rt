@@ -105,17 +105,13 @@ impl Kept {
     {
         call_decoding_laws::whole_header();
         let place = self.collector.place(number, piece);
-        if let Place::HeaderDiffers = place {
-            return Err(refused(PacketFault::HeaderDiffers));
-        }
-        let Some(reference) = self.reference_of(number, &piece.header) else {
-            return Err(refused(PacketFault::MissingReference));
-        };
-        match place {
-            Place::HeaderDiffers => Err(refused(PacketFault::HeaderDiffers)),
-            Place::Repeat => Err(Heard::Repeat),
-            Place::Overlap => Err(refused(PacketFault::Overlap)),
-            Place::Fresh => Ok(Fresh { number, reference }),
+        let reference = self.reference_of(number, &piece.header);
+        match (place, reference) {
+            (Place::HeaderDiffers, _) => Err(refused(PacketFault::HeaderDiffers)),
+            (_, None) => Err(refused(PacketFault::MissingReference)),
+            (Place::Repeat, Some(_)) => Err(Heard::Repeat),
+            (Place::Overlap, Some(_)) => Err(refused(PacketFault::Overlap)),
+            (Place::Fresh, Some(reference)) => Ok(Fresh { number, reference }),
         }
     }
 
