@@ -28,8 +28,10 @@ def encoded(size: Size, samples: bytes, quality: Optional[int]) -> bytes:
     """A picture's image: its samples are a grey one's, in their order, so that no colour is converted."""
     image = Image.frombytes("L", (size.width, size.height * 3 // 2), samples)
     file = io.BytesIO()
-    wanted = {"lossless": True, "quality": _EFFORT} if quality is None else {"quality": quality}
-    image.save(file, "WEBP", method=_METHOD, **wanted)
+    if quality is None:
+        image.save(file, "WEBP", method=_METHOD, lossless=True, quality=_EFFORT)
+    else:
+        image.save(file, "WEBP", method=_METHOD, quality=quality)
     return file.getvalue()
 
 
