@@ -6,6 +6,7 @@ use Rattle.std.specs.Simd.Lanes.{mask_l}
 use Rattle.h263_types.specs.declared.blocks.Block.{Block}
 use Rattle.h263_types.specs.declared.blocks.Mb.{Mb}
 use Rattle.h263_types.specs.declared.blocks.Mb.TheVariants.{Skip, Intra, Inter}
+use Rattle.h263_types.specs.declared.blocks.MarkedMb.{MarkedMb}
 
 abbrev pub is_zero : ℤ → Bool
 is_zero z = int_eq z (pos 0)
@@ -24,6 +25,10 @@ abbrev pub HasMarks : Mb → List ℕ → Type 0
 HasMarks Skip marks = Unit {0}
 HasMarks (Intra quant blocks) marks = AreMarksOfFirst 6 blocks marks
 HasMarks (Inter quant vector blocks) marks = AreMarksOfFirst 6 blocks marks
+
+-- a macroblock that has its marks beside it
+abbrev pub IsMarked : MarkedMb → Type 0
+IsMarked m = HasMarks m.mb m.coded
 
 -- a level whose bit isn't set is 0, and only such a one
 abbrev pub EachIsMarked : Type 0

@@ -1,7 +1,7 @@
 //! Macroblocks and the slices that hold them, as the codec has them between text and samples.
 ghost use Rattle.std.specs.Prelude.{◌≡◌, length};
 ghost use Rattle.h263_types.specs.Blocks.{AreWhole, HasWholeBlocks};
-ghost use Rattle.h263_types.specs.Marks.{marks_of};
+ghost use Rattle.h263_types.specs.Marks.{AreMarksOfFirst, HasMarks, IsMarked, marks_of};
 
 use crate::vector::Vector;
 use std::simd::prelude::*;
@@ -87,6 +87,68 @@ fn are_whole(blocks: &[Block; 6])
     has_64_levels(&blocks[3]);
     has_64_levels(&blocks[4]);
     has_64_levels(&blocks[5]);
+}
+
+/// A macroblock with the [`marks`](Block::marks) of its six blocks in `coded`, which are found once,
+/// and not again wherever it is written or drawn. Where it has no blocks they mean nothing.
+#[derive(Clone, Copy)]
+pub struct MarkedMb {
+    pub mb: Mb,
+    pub coded: [u64; 6],
+}
+
+impl MarkedMb {
+    ghost use Rattle.h263_types.specs.declared.blocks.Mb.TheVariants.{Skip};
+
+    /// A macroblock that isn't coded.
+    pub fn skip() -> MarkedMb
+        ensures mb { result.mb ≡ Skip }
+        ensures marked { IsMarked result }
+    {
+        MarkedMb {
+            mb: Mb::Skip,
+            coded: [0; 6],
+        }
+    }
+
+    /// A copy of a macroblock, with its marks.
+    pub fn of(mb: &Mb) -> MarkedMb
+        ensures mb { result.mb ≡ mb.now }
+        ensures marked { IsMarked result }
+    {
+        MarkedMb {
+            mb: *mb,
+            coded: marks_in(mb),
+        }
+    }
+}
+
+// The marks of a macroblock's six blocks: zeros where it has none.
+fn marks_in(mb: &Mb) -> [u64; 6]
+    ensures { HasMarks mb.now result }
+{
+    match mb {
+        Mb::Skip => [0; 6],
+        Mb::Intra { quant: _, blocks } => marks_of_six(blocks),
+        Mb::Inter {
+            quant: _,
+            vector: _,
+            blocks,
+        } => marks_of_six(blocks),
+    }
+}
+
+fn marks_of_six(blocks: &[Block; 6]) -> [u64; 6]
+    ensures marks { AreMarksOfFirst 6 blocks.now result }
+{
+    [
+        blocks[0].marks(),
+        blocks[1].marks(),
+        blocks[2].marks(),
+        blocks[3].marks(),
+        blocks[4].marks(),
+        blocks[5].marks(),
+    ]
 }
 
 /// The macroblocks of a slice (H.263, Annex K): `count` of them, at least one, from number `first`

@@ -1,9 +1,10 @@
 //! The types that all parts of the codec share.
 //!
 //! [`Format`] and [`Kind`] say what a picture is, [`Mb`] and [`Block`] what is coded of a
-//! macroblock, [`Vector`] where it is predicted from and [`Reach`] how far that may be. [`Params`]
-//! are the parameters of a call, with [`Clock`] and [`Pace`]; [`Mark`] says how a picture was
-//! shown. [`OutOfMemory`] is what a call answers that found none.
+//! macroblock, [`MarkedMb`] which levels aren't 0, [`Vector`] where it is predicted from and
+//! [`Reach`] how far that may be. [`Params`] are the parameters of a call, with [`Clock`] and
+//! [`Pace`]; [`Mark`] says how a picture was shown. [`OutOfMemory`] is what a call answers that
+//! found none.
 //!
 //! ```rust
 //! assert_eq!(rt; (Format::Qcif.width(), Format::Qcif.height()), (176, 144));
@@ -22,7 +23,7 @@ mod pace;
 mod params;
 mod vector;
 
-pub use blocks::{Block, Mb, SliceHead};
+pub use blocks::{Block, MarkedMb, Mb, SliceHead};
 pub use clock::Clock;
 pub use format::Format;
 pub use limits::reach;
