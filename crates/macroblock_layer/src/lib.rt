@@ -3,7 +3,7 @@
 //!
 //! `specs/Text` gives the syntax of a macroblock, and `specs/Written` the text that is written of
 //! it. [`read_mb`] finds exactly what the syntax says, or the first fault at its place, and
-//! [`write_mb`] writes what is read again, [`write_marked`] the same from marks that are known. A
+//! [`write_mb`] writes what is read again, [`write_marked`] the same by marks that are known. A
 //! macroblock is an [`Mb`](h263_types::Mb); [`predictor`] is the vector that its own is coded
 //! against.
 //!
@@ -34,4 +34,4 @@ mod writing;
 
 pub use prediction::predictor;
 pub use reading::{pass_skipped, read_mb, read_mb_in_i};
-pub use writing::{marks_in, write_marked, write_mb};
+pub use writing::{write_marked, write_mb};

@@ -6,7 +6,7 @@ ghost use Rattle.h263_types.specs.declared.Kind.TheVariants as kinds;
 ghost use Rattle.h263_types.specs.declared.vector.Reach.{Reach};
 ghost use Rattle.h263_types.specs.declared.blocks.Block.{Block};
 ghost use Rattle.h263_types.specs.Blocks.{IsQuant, IsVector, IsIntraBlock, IsInterBlock, IsIntraMb, IsInterMb, IsMb, IsOfKind, AreWhole};
-ghost use Rattle.h263_types.specs.Marks.{marks_of, AreMarksOfFirst, HasMarks};
+ghost use Rattle.h263_types.specs.Marks.{AreMarksOfFirst, IsMarked};
 ghost use Rattle.code_tables.specs.declared.macroblock.MbClass.{MbClass};
 ghost use Rattle.code_tables.specs.declared.macroblock.Mcbpc.TheVariants.{Word};
 ghost use Rattle.code_tables.specs.Mcbpc.{IsInTable};
@@ -20,7 +20,7 @@ use crate::reading::wrapped;
 use block_layer::{is_coded_by, write_inter_marked, write_intra_marked};
 use code_tables::{MbClass, Mcbpc, cbpy_number, mcbpc_number, mvd_number, write_dquant};
 use h263_bits::BitWriter;
-use h263_types::{Block, Kind, Mb, Vector};
+use h263_types::{Block, Kind, MarkedMb, Mb, Vector};
 
 // Which of the six blocks are coded.
 #[derive(Clone, Copy)]
@@ -41,36 +41,6 @@ fn cbpc(a: bool, b: bool) -> u8
     ensures below { result < 4 }
 {
     2 * a as u8 + b as u8
-}
-
-// The marks of the six blocks.
-fn marks_of_six(blocks: &[Block; 6]) -> [u64; 6]
-    ensures marks { AreMarksOfFirst 6 blocks.now result }
-    ensures whole { AreWhole blocks.now }
-{
-    [
-        blocks[0].marks(),
-        blocks[1].marks(),
-        blocks[2].marks(),
-        blocks[3].marks(),
-        blocks[4].marks(),
-        blocks[5].marks(),
-    ]
-}
-
-/// The marks of a macroblock's six blocks, for [`write_marked`]: zeros where it has none.
-pub fn marks_in(mb: &Mb) -> [u64; 6]
-    ensures { HasMarks mb.now result }
-{
-    match mb {
-        Mb::Skip => [0; 6],
-        Mb::Intra { quant: _, blocks } => marks_of_six(blocks),
-        Mb::Inter {
-            quant: _,
-            vector: _,
-            blocks,
-        } => marks_of_six(blocks),
-    }
 }
 
 // Which of the six blocks of a macroblock are coded, by their marks.
@@ -306,44 +276,43 @@ pub fn write_mb(writer: &mut BitWriter<'_>, kind: Kind, quant: u8, predictor: Ve
     ensures spells { (reach : Reach) → IsReached reach mb.now
         → IsMbText kind quant reach predictor mb.now (mb_text kind quant predictor mb.now) }
 {
-    write_marked(writer, kind, quant, predictor, mb, &marks_in(mb));
+    write_marked(writer, kind, quant, predictor, &MarkedMb::of(mb));
 }
 
-/// The same as [`write_mb`], where the marks of the macroblock's blocks are known: so they aren't
-/// found again.
+/// The same as [`write_mb`], of a macroblock that has its marks beside it: so they aren't found
+/// again.
 pub fn write_marked(
     writer: &mut BitWriter<'_>,
     kind: Kind,
     quant: u8,
     predictor: Vector,
-    mb: &Mb,
-    marks: &[u64; 6],
+    mb: &MarkedMb,
 )
     requires quant { IsQuant quant }
-    requires mb { IsMb mb.now }
-    requires marks { HasMarks mb.now marks.now }
-    requires kind { IsOfKind kind mb.now }
-    requires step { IsStepped quant mb.now }
+    requires mb { IsMb mb.now.mb }
+    requires marks { IsMarked mb.now }
+    requires kind { IsOfKind kind mb.now.mb }
+    requires step { IsStepped quant mb.now.mb }
     requires room { len_of writer.old + 8492 ≤ room_of writer.old }
-    ensures bits { Appends writer.old writer.new (mb_text kind quant predictor mb.now) }
+    ensures bits { Appends writer.old writer.new (mb_text kind quant predictor mb.now.mb) }
     ensures len { len_of writer.new
-        ≡ len_of writer.old + length (mb_text kind quant predictor mb.now) }
-    ensures short { length (mb_text kind quant predictor mb.now) ≤ 8492 }
+        ≡ len_of writer.old + length (mb_text kind quant predictor mb.now.mb) }
+    ensures short { length (mb_text kind quant predictor mb.now.mb) ≤ 8492 }
     // It is a text of the macroblock, where its vector, if it has one, is in reach.
-    ensures spells { (reach : Reach) → IsReached reach mb.now
-        → IsMbText kind quant reach predictor mb.now (mb_text kind quant predictor mb.now) }
+    ensures spells { (reach : Reach) → IsReached reach mb.now.mb
+        → IsMbText kind quant reach predictor mb.now.mb (mb_text kind quant predictor mb.now.mb) }
 {
     laws::in_a_syntax();
-    mb.is_whole();
-    match mb {
+    mb.mb.is_whole();
+    match &mb.mb {
         Mb::Skip => writer.put(1, 1),
         Mb::Intra { quant: new, blocks } => {
-            write_intra_mb(writer, kind, quant, *new, blocks, marks)
+            write_intra_mb(writer, kind, quant, *new, blocks, &mb.coded)
         }
         Mb::Inter {
             quant: new,
             vector,
             blocks,
-        } => write_inter_mb(writer, quant, predictor, *new, *vector, blocks, marks),
+        } => write_inter_mb(writer, quant, predictor, *new, *vector, blocks, &mb.coded),
     }
 }

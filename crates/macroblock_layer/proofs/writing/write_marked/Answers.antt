@@ -15,27 +15,27 @@ returns-in-Skip-clause-bits c =
 pub returns-in-Skip-clause-spells : goal.returns-in-Skip-clause-spells
 returns-in-Skip-clause-spells c = λ reach within.
     let a = c.args in
-    c.in_a_syntax.ensures.spelt a.kind a.quant reach a.predictor a.mb.now c.requires.mb c.requires.kind c.requires.step
-    c.is_whole.ensures.whole within
+    c.in_a_syntax.ensures.spelt a.kind a.quant reach a.predictor a.mb.now.mb c.requires.mb c.requires.kind
+    c.requires.step c.is_whole.ensures.whole within
 
 pub returns-in-Intra-clause-short : goal.returns-in-Intra-clause-short
 returns-in-Intra-clause-short c =
     let a = c.args in
-    c.in_a_syntax.ensures.short a.kind a.quant a.predictor a.mb.now c.is_whole.ensures.whole
+    c.in_a_syntax.ensures.short a.kind a.quant a.predictor a.mb.now.mb c.is_whole.ensures.whole
 
 pub returns-in-Intra-clause-spells : goal.returns-in-Intra-clause-spells
 returns-in-Intra-clause-spells c = λ reach within.
     let a = c.args in
-    c.in_a_syntax.ensures.spelt a.kind a.quant reach a.predictor a.mb.now c.requires.mb c.requires.kind c.requires.step
-    c.is_whole.ensures.whole within
+    c.in_a_syntax.ensures.spelt a.kind a.quant reach a.predictor a.mb.now.mb c.requires.mb c.requires.kind
+    c.requires.step c.is_whole.ensures.whole within
 
 pub returns-in-Inter-clause-short : goal.returns-in-Inter-clause-short
 returns-in-Inter-clause-short c =
     let a = c.args in
-    c.in_a_syntax.ensures.short a.kind a.quant a.predictor a.mb.now c.is_whole.ensures.whole
+    c.in_a_syntax.ensures.short a.kind a.quant a.predictor a.mb.now.mb c.is_whole.ensures.whole
 
 pub returns-in-Inter-clause-spells : goal.returns-in-Inter-clause-spells
 returns-in-Inter-clause-spells c = λ reach within.
     let a = c.args in
-    c.in_a_syntax.ensures.spelt a.kind a.quant reach a.predictor a.mb.now c.requires.mb c.requires.kind c.requires.step
-    c.is_whole.ensures.whole within
+    c.in_a_syntax.ensures.spelt a.kind a.quant reach a.predictor a.mb.now.mb c.requires.mb c.requires.kind
+    c.requires.step c.is_whole.ensures.whole within
