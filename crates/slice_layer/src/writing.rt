@@ -7,15 +7,15 @@ ghost use Rattle.h263_types.specs.declared.blocks.Mb.{Mb};
 ghost use Rattle.picture_header.specs.declared.header.Header.{Header};
 ghost use Rattle.picture_header.specs.Ranges.{IsHeader};
 ghost use Rattle.macroblock_layer.specs.Prediction.{predictor_of};
-ghost use Rattle.h263_types.specs.Marks.{HasMarks};
+ghost use Rattle.h263_types.specs.Marks.{IsMarked};
 ghost use Rattle.macroblock_layer.specs.Written.{IsStepped, mb_text};
 ghost use Rattle.slice_layer.specs.Around.{vector_of, quant_after};
 
 use crate::shared::{quant_after, vector_of};
 use crate::writing_text::{LastBits, MbRoom, paste, write_apart, write_front};
 use h263_bits::BitReader;
-use h263_types::{Format, Kind, Mb, Vector};
-use macroblock_layer::{marks_in, predictor};
+use h263_types::{Format, Kind, MarkedMb, Mb, Vector};
+use macroblock_layer::predictor;
 use picture_header::{Header, laws as picture_header_laws};
 
 /// Whether a macroblock was added.
@@ -148,23 +148,23 @@ impl<'a> SliceWriter<'a> {
         ensures whole { HasWholeBlocks mb.now }
         ensures room { length (bytes_in self.new) ≡ length (bytes_in self.old) }
     {
-        self.add_marked(mb, &marks_in(mb), apart)
+        self.add_marked(&MarkedMb::of(mb), apart)
     }
 
-    /// The same as [`add`](SliceWriter::add), where the marks of the macroblock's blocks are known:
-    /// so they aren't found again.
-    pub fn add_marked(&mut self, mb: &Mb, marks: &[u64; 6], apart: &mut MbRoom) -> Added
-        requires mb { IsMb mb.now }
-        requires marks { HasMarks mb.now marks.now }
-        requires kind { IsOfKind (kind_of self.old) mb.now }
-        requires step { IsStepped (quant_of self.old) mb.now }
+    /// The same as [`add`](SliceWriter::add), of a macroblock that has its marks beside it: so they
+    /// aren't found again.
+    pub fn add_marked(&mut self, mb: &MarkedMb, apart: &mut MbRoom) -> Added
+        requires mb { IsMb mb.now.mb }
+        requires marks { IsMarked mb.now }
+        requires kind { IsOfKind (kind_of self.old) mb.now.mb }
+        requires step { IsStepped (quant_of self.old) mb.now.mb }
         requires left { next_of self.old < mbs_of (format_of self.old) }
         ensures answer { (h : Header) (begins : Bool) (first : ℕ) (mbs : List Mb)
             → HoldsSlice self.old h begins first mbs → result ≡ answer (length (bytes_in self.old))
-            (bytes_of (slice_text h begins first (mbs ++ mb.now ∷ []))) }
+            (bytes_of (slice_text h begins first (mbs ++ mb.now.mb ∷ []))) }
         ensures fits { (h : Header) (begins : Bool) (first : ℕ) (mbs : List Mb)
             → HoldsSlice self.old h begins first mbs
-            → result ≡ Added.Fits → HoldsSlice self.new h begins first (mbs ++ mb.now ∷ []) }
+            → result ≡ Added.Fits → HoldsSlice self.new h begins first (mbs ++ mb.now.mb ∷ []) }
         ensures full { result ≡ Added.Full → self.new ≡ self.old }
         // There is room for the first macroblock.
         ensures first { (h : Header) (begins : Bool) (first : ℕ) → IsHeader h → 1150
@@ -172,22 +172,14 @@ impl<'a> SliceWriter<'a> {
         ensures slice { GoesOn self.old self.new }
         ensures next { result ≡ Added.Fits → next_of self.new ≡ next_of self.old + 1 }
         ensures quant { result ≡ Added.Fits
-            → quant_of self.new ≡ quant_after (quant_of self.old) mb.now }
-        ensures whole { HasWholeBlocks mb.now }
+            → quant_of self.new ≡ quant_after (quant_of self.old) mb.now.mb }
+        ensures whole { HasWholeBlocks mb.now.mb }
         ensures room { length (bytes_in self.new) ≡ length (bytes_in self.old) }
     {
         picture_header_laws::in_a_syntax();
-        let predictor = self.predictor(mb);
+        let predictor = self.predictor(&mb.mb);
         let last = self.last_bits();
-        let len = write_apart(
-            &mut apart.bytes,
-            last,
-            self.kind,
-            self.quant,
-            predictor,
-            mb,
-            marks,
-        );
+        let len = write_apart(&mut apart.bytes, last, self.kind, self.quant, predictor, mb);
         let at = (self.len / 8) as usize;
         let size = ((len + 7) / 8) as usize;
         if self.bytes.len() < at + size {
@@ -195,7 +187,7 @@ impl<'a> SliceWriter<'a> {
         }
         paste(self.bytes, at, &apart.bytes[..size]);
         self.len += len - last.count;
-        self.keep(mb);
+        self.keep(&mb.mb);
         Added::Fits
     }
 

@@ -4,13 +4,13 @@ ghost use Rattle.h263_bits.specs.Bits.{spelled};
 ghost use Rattle.h263_bits.specs.Written.{Appends, len_of, to_byte};
 ghost use Rattle.h263_types.specs.Blocks.{IsQuant, IsMb, IsOfKind, HasWholeBlocks};
 ghost use Rattle.picture_header.specs.Ranges.{IsHeader};
-ghost use Rattle.h263_types.specs.Marks.{HasMarks};
+ghost use Rattle.h263_types.specs.Marks.{IsMarked};
 ghost use Rattle.macroblock_layer.specs.Written.{mb_text, IsStepped};
 ghost use Rattle.slice_layer.specs.Written.{opening_text, IsPlace, IsFront};
 
 use crate::writing_head::write_opening;
 use h263_bits::BitWriter;
-use h263_types::{Kind, Mb, Vector};
+use h263_types::{Kind, MarkedMb, Vector};
 use macroblock_layer::write_marked;
 use picture_header::Header;
 
@@ -62,7 +62,7 @@ pub struct LastBits {
     pub count: u32,
 }
 
-/// Writes a macroblock's text, whose marks are given, after the last bits of what stands before it.
+/// Writes a macroblock's text after the last bits of what stands before it.
 /// Answers how many bits that are together.
 pub fn write_apart(
     bytes: &mut [u8; 1063],
@@ -70,26 +70,25 @@ pub fn write_apart(
     kind: Kind,
     quant: u8,
     predictor: Vector,
-    mb: &Mb,
-    marks: &[u64; 6],
+    mb: &MarkedMb,
 ) -> u32
     requires few { last.count < 8 }
     requires fits { last.number < 2 ^ last.count }
     requires quant { IsQuant quant }
-    requires mb { IsMb mb.now }
-    requires marks { HasMarks mb.now marks.now }
-    requires kind { IsOfKind kind mb.now }
-    requires step { IsStepped quant mb.now }
+    requires mb { IsMb mb.now.mb }
+    requires marks { IsMarked mb.now }
+    requires kind { IsOfKind kind mb.now.mb }
+    requires step { IsStepped quant mb.now.mb }
     ensures text { IsFront
-        (spelled last.count last.number ++ mb_text kind quant predictor mb.now) bytes.new }
-    ensures len { result ≡ last.count + length (mb_text kind quant predictor mb.now) }
+        (spelled last.count last.number ++ mb_text kind quant predictor mb.now.mb) bytes.new }
+    ensures len { result ≡ last.count + length (mb_text kind quant predictor mb.now.mb) }
     ensures short { result ≤ 8499 }
-    ensures whole { HasWholeBlocks mb.now }
+    ensures whole { HasWholeBlocks mb.now.mb }
 {
-    mb.is_whole();
+    mb.mb.is_whole();
     let mut writer = BitWriter::new(bytes);
     writer.put(last.number, last.count);
-    write_marked(&mut writer, kind, quant, predictor, mb, marks);
+    write_marked(&mut writer, kind, quant, predictor, mb);
     pad(&mut writer)
 }
 

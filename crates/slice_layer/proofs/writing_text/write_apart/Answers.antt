@@ -11,7 +11,7 @@ use Rattle.slice_layer.proofs.writing_text.write_apart.Goals as goal
 pub returns-clause-text : goal.returns-clause-text
 returns-clause-text c =
     let front = spelled c.args.last.count c.args.last.number in
-    let text = mb_text c.args.kind c.args.quant c.args.predictor c.args.mb.now in
+    let text = mb_text c.args.kind c.args.quant c.args.predictor c.args.mb.now.mb in
     let whole = front ++ text in
     let first = c.put.ensures.bits.text ∙ ap (λ (t : List Bool). t ++ front) c.new-writer.ensures.none in
     let second = c.write_marked.ensures.bits.text ∙ ap (λ (t : List Bool). t ++ text) first in

@@ -14,7 +14,7 @@ use Rattle.slice_layer.proofs.writing.SliceWriter.add_marked.Goals as goal
 
 pub returns-then-self-at-clause-answer : goal.returns-then-self-at-clause-answer
 returns-then-self-at-clause-answer c h begins first mbs holds =
-    let len = next_length c.args.self.now h begins first mbs c.args.mb.now c.predictor-predictor.result holds
+    let len = next_length c.args.self.now h begins first mbs c.args.mb.now.mb c.predictor-predictor.result holds
     c.predictor-predictor.ensures in
     answer_full (length (bytes_in c.args.self.now)) _ (omega (
       arith,
@@ -37,7 +37,7 @@ returns-then-self-at-clause-first c h begins first is room holds =
 
 pub returns-clause-answer : goal.returns-clause-answer
 returns-clause-answer c h begins first mbs holds =
-    let len = next_length c.args.self.now h begins first mbs c.args.mb.now c.predictor-predictor.result holds
+    let len = next_length c.args.self.now h begins first mbs c.args.mb.now.mb c.predictor-predictor.result holds
     c.predictor-predictor.ensures in
     answer_fits (length (bytes_in c.args.self.now)) _ (omega (
       arith,
@@ -49,7 +49,7 @@ returns-clause-answer c h begins first mbs holds =
 pub returns-clause-fits : goal.returns-clause-fits
 returns-clause-fits c h begins first mbs holds fits =
     let w = c.args.self.now in
-    let m = c.args.mb.now in
+    let m = c.args.mb.now.mb in
     let apart = c.write_apart-len.new.bytes in
     let front = spelled c.last_bits-last.result.count c.last_bits-last.result.number in
     let more = mb_text (kind_of w) (quant_of w) c.predictor-predictor.result m in
