@@ -6,19 +6,17 @@ ghost use Rattle.h263_planes.specs.Lent.{picture};
 ghost use Rattle.half_sample.specs.Macroblock.{IsPredicted};
 
 use h263_planes::PictureRef;
-use h263_types::{Mb, Vector};
+use h263_types::{MarkedMb, Vector};
 use half_sample::{Predicted, colours, luma};
 use motion_search::KeptSums;
 
-/// A macroblock as it is chosen, the marks of its blocks, and the samples that the vector of an
-/// inter macroblock predicts: so that none of this need be found again to write or to reconstruct
-/// it. With any other macroblock the samples are left over from an earlier one, and with one that
-/// has no blocks the marks mean nothing. The sums of the reference are those that the search keeps
-/// for the next macroblock.
+/// A macroblock as it is chosen, with its marks, and the samples that the vector of an inter
+/// macroblock predicts: so that none of this need be found again to write or to reconstruct it. With
+/// any other macroblock the samples are left over from an earlier one. The sums of the reference are
+/// those that the search keeps for the next macroblock.
 #[derive(Drop)]
 pub struct Chosen {
-    pub mb: Mb,
-    pub marks: [u64; 6],
+    pub marked: MarkedMb,
     pub predicted: Predicted,
     pub sums: KeptSums,
 }
@@ -31,15 +29,14 @@ impl Chosen {
 
     /// A place for what is chosen, one macroblock after the other.
     pub fn new() -> Chosen
-        ensures mb { result.mb ≡ Skip }
+        ensures mb { result.marked.mb ≡ Skip }
         ensures y { result.predicted.y ≡ replicate 256 0 }
         ensures cb { result.predicted.cb ≡ replicate 64 0 }
         ensures cr { result.predicted.cr ≡ replicate 64 0 }
         ensures sums { (reference : Option Picture) → AreSumsOfAny reference result.sums }
     {
         Chosen {
-            mb: Mb::Skip,
-            marks: [0; 6],
+            marked: MarkedMb::skip(),
             predicted: Predicted {
                 y: [0; 256],
                 cb: [0; 64],

@@ -15,7 +15,7 @@ ghost use Rattle.motion_search.specs.Cost.{samples_of, IsCost};
 ghost use Rattle.quantiser.specs.Factors.{IsFactor};
 ghost use Rattle.mode_choice.specs.Choice as choice;
 ghost use Rattle.mode_choice.specs.Guess.{vector_in};
-ghost use Rattle.h263_types.specs.Marks.{AreMarksOfFirst, HasMarks};
+ghost use Rattle.h263_types.specs.Marks.{AreMarksOfFirst, IsMarked};
 ghost use Rattle.mode_choice.specs.Walk.{zero_block};
 
 use crate::chosen::{Chosen, predict_into};
@@ -27,7 +27,7 @@ use crate::predicted::block_residuals;
 use crate::residual::{are_empty, residual_block};
 use crate::samples::block_samples;
 use h263_planes::PictureRef;
-use h263_types::{Block, Mb, Params, Vector, laws as types_laws};
+use h263_types::{Block, MarkedMb, Mb, Params, Vector, laws as types_laws};
 use half_sample::Predicted;
 use motion_search::search_from;
 use picture_header::Header;
@@ -59,7 +59,7 @@ pub fn choose(
 {
     let mut chosen = Chosen::new();
     choose_into(frame, reference, mb, header, params, &mut chosen);
-    chosen.mb
+    chosen.marked.mb
 }
 
 /// Writes what [`choose`] answers into its place, with the marks of its blocks and what the vector
@@ -81,22 +81,22 @@ pub fn choose_into(
     requires radius { params.now.radius ≤ 15 }
     requires mb { mb < mbs_of (picture frame).format }
     requires sums { AreSumsOfAny (option_map picture reference) out.old.sums }
-    ensures choice { out.new.mb ≡ choice.choice_of
+    ensures choice { out.new.marked.mb ≡ choice.choice_of
         (picture frame.entry) (option_map picture reference.entry) header.now params.now mb }
-    ensures in_range { IsMb out.new.mb }
-    ensures of_kind { IsOfKind header.now.kind out.new.mb }
-    ensures reach { ReachesInside (picture frame.entry).format mb out.new.mb }
-    ensures plain { HasQuant header.now.quant out.new.mb }
-    ensures marks { HasMarks out.new.mb out.new.marks }
+    ensures in_range { IsMb out.new.marked.mb }
+    ensures of_kind { IsOfKind header.now.kind out.new.marked.mb }
+    ensures reach { ReachesInside (picture frame.entry).format mb out.new.marked.mb }
+    ensures plain { HasQuant header.now.quant out.new.marked.mb }
+    ensures marks { IsMarked out.new.marked }
     ensures predicted { IsPredictionOf header.now.rounding (option_map picture reference.entry)
-        mb out.new.mb out.new.predicted }
+        mb out.new.marked.mb out.new.predicted }
     ensures sums { AreSumsOfAny (option_map picture reference.entry) out.new.sums }
 {
     laws::chosen_is_in_range();
     match reference {
         None => {
             let (quant, keep) = (header.quant, params.keep);
-            intra_macroblock(frame, mb, quant, keep, &mut out.mb, &mut out.marks)
+            intra_macroblock(frame, mb, quant, keep, &mut out.marked)
         }
         Some(reference) => macroblock_in_p(frame, reference, mb, header, params, out),
     }
@@ -118,20 +118,20 @@ fn macroblock_in_p(
     requires radius { params.now.radius ≤ 15 }
     requires mb { mb < mbs_of (picture frame).format }
     requires sums { AreSumsOf (picture reference) out.old.sums }
-    ensures choice { out.new.mb ≡ choice.choice_in_p
+    ensures choice { out.new.marked.mb ≡ choice.choice_in_p
         (picture frame.entry) (picture reference.entry) header.now params.now mb }
     ensures predicted { IsPredictionOf header.now.rounding (Some (picture reference.entry))
-        mb out.new.mb out.new.predicted }
-    ensures marks { HasMarks out.new.mb out.new.marks }
+        mb out.new.marked.mb out.new.predicted }
+    ensures marks { IsMarked out.new.marked }
     ensures sums { AreSumsOf (picture reference.entry) out.new.sums }
 {
-    let guess = vector_of(&out.mb);
+    let guess = vector_of(&out.marked.mb);
     let radius = params.radius;
     let sums = &mut out.sums;
     let (vector, cost) = search_from(frame, reference, mb, radius, header.rounding, guess, sums);
     if is_nearer_to_mean(frame, mb, cost) {
         let (quant, keep) = (header.quant, params.keep);
-        intra_macroblock(frame, mb, quant, keep, &mut out.mb, &mut out.marks);
+        intra_macroblock(frame, mb, quant, keep, &mut out.marked);
         return;
     }
     predict_into(reference, mb, vector, header.rounding, &mut out.predicted);
@@ -146,8 +146,7 @@ fn macroblock_in_p(
         vector,
         quantisation,
         &out.predicted,
-        &mut out.mb,
-        &mut out.marks,
+        &mut out.marked,
     );
 }
 
@@ -197,27 +196,26 @@ fn inter_macroblock(
     vector: Vector,
     quantisation: Quantisation,
     predicted: &Predicted,
-    out: &mut Mb,
-    marks: &mut [u64; 6],
+    out: &mut MarkedMb,
 )
     requires quant { IsQuant quantisation.quant }
     requires factor { IsFactor quantisation.quant quantisation.factor }
     requires mb { mb < mbs_of (picture frame).format }
     ensures choice { (reference : Picture) (r : ℕ) → IsPredicted reference mb vector r predicted.now
-        → out.new ≡ choice.inter_of (picture frame.entry) reference
+        → out.new.mb ≡ choice.inter_of (picture frame.entry) reference
         quantisation.quant quantisation.keep r mb vector }
-    ensures marks { HasMarks out.new marks.new }
+    ensures marks { IsMarked out.new }
 {
-    *out = Mb::Inter {
+    out.mb = Mb::Inter {
         quant: quantisation.quant,
         vector,
         blocks: [Block { levels: [0; 64] }; 6],
     };
-    match out {
+    match &mut out.mb {
         Mb::Inter { blocks, .. } => {
-            inter_blocks(frame, mb, quantisation, predicted, blocks, marks);
-            if is_skipped(vector, blocks, marks) {
-                put_skip(out);
+            inter_blocks(frame, mb, quantisation, predicted, blocks, &mut out.coded);
+            if is_skipped(vector, blocks, &out.coded) {
+                put_skip(&mut out.mb);
             }
         }
         _ => {}
@@ -271,20 +269,13 @@ fn inter_blocks(
 }
 
 // The macroblock coded by itself. Its levels and their marks are written where they stay.
-fn intra_macroblock(
-    frame: PictureRef<'_>,
-    mb: u32,
-    quant: u8,
-    keep: u8,
-    out: &mut Mb,
-    marks: &mut [u64; 6],
-)
+fn intra_macroblock(frame: PictureRef<'_>, mb: u32, quant: u8, keep: u8, out: &mut MarkedMb)
     requires quant { IsQuant quant }
     requires mb { mb < mbs_of (picture frame).format }
-    ensures choice { out.new ≡ choice.intra_of (picture frame.entry) quant keep mb }
-    ensures marks { HasMarks out.new marks.new }
+    ensures choice { out.new.mb ≡ choice.intra_of (picture frame.entry) quant keep mb }
+    ensures marks { IsMarked out.new }
 {
-    *out = Mb::Intra {
+    out.mb = Mb::Intra {
         quant,
         blocks: [Block { levels: [0; 64] }; 6],
     };
@@ -293,8 +284,8 @@ fn intra_macroblock(
         factor: factor_of(quant),
         keep,
     };
-    match out {
-        Mb::Intra { blocks, .. } => intra_blocks(frame, mb, quantisation, blocks, marks),
+    match &mut out.mb {
+        Mb::Intra { blocks, .. } => intra_blocks(frame, mb, quantisation, blocks, &mut out.coded),
         _ => {}
     }
 }

@@ -39,7 +39,7 @@ fn chosen(frame: &[u8; SIZE], reference: &[u8; SIZE], mb: u32, keep: u8, roundin
     let reference = PictureRef::new(Format::SubQcif, reference);
     let mut chosen = Chosen::new();
     choose_into(frame, Some(reference), mb, &header, &params, &mut chosen);
-    chosen.mb
+    chosen.marked.mb
 }
 
 // Says whether the macroblock is skipped, intra, or predicted by a vector, and the digest of its
