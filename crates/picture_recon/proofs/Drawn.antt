@@ -20,13 +20,17 @@ pub same_drawn : (f : Format) (r at : ℕ) (mb other : Mb) (reference : Option P
 same_drawn f r at mb other reference old new same sets = subst (λ (m : Mb). SetsMb f r reference at m old new)
     (sym same) sets
 
+-- the predicted samples at hand serve every reference and vector of which they are predicted
+abbrev pub SetsPredicted : Format → ℕ → ℕ → List Block → Predicted → Picture → Picture → Type 0
+SetsPredicted f at quant blocks samples old new =
+    (p : Picture) (w : Vector) (b : ℕ) → p.format ≡ f → IsPredicted p at w b samples
+    → SetsMb f b (Some p) at (Inter quant w blocks) old new
+
 -- a picture with an inter macroblock has a reference, from which it is predicted
 by_reference : (kind : Kind) (f : Format) (r at quant : ℕ) (v : Vector) (blocks : List Block)
     (reference : Option Picture) (samples : Predicted) (old new : Picture) →
     HasReference kind f reference → IsOfKind kind (Inter quant v blocks)
-    → IsPredictionOf r reference at (Inter quant v blocks) samples →
-    ((p : Picture) (w : Vector) (b : ℕ) → p.format ≡ f → IsPredicted p at w b samples
-    → SetsMb f b (Some p) at (Inter quant w blocks) old new) →
+    → IsPredictionOf r reference at (Inter quant v blocks) samples → SetsPredicted f at quant blocks samples old new →
     SetsMb f r reference at (Inter quant v blocks) old new
 by_reference I f r at quant v blocks reference samples old new has kind is sets = absurd kind
 by_reference P f r at quant v blocks None samples old new has kind is sets = absurd has
@@ -35,9 +39,7 @@ by_reference P f r at quant v blocks (Some p) samples old new has kind is sets =
 pub prediction_drawn : (kind : Kind) (f : Format) (r at quant : ℕ) (v : Vector) (blocks : List Block) (mb : Mb)
     (reference : Option Picture) (samples : Predicted) (old new : Picture) →
     mb ≡ Inter quant v blocks → HasReference kind f reference → IsOfKind kind mb
-    → IsPredictionOf r reference at mb samples →
-    ((p : Picture) (w : Vector) (b : ℕ) → p.format ≡ f → IsPredicted p at w b samples
-    → SetsMb f b (Some p) at (Inter quant w blocks) old new) →
+    → IsPredictionOf r reference at mb samples → SetsPredicted f at quant blocks samples old new →
     SetsMb f r reference at mb old new
 prediction_drawn kind f r at quant v blocks mb reference samples old new inter has of_kind is sets =
     same_drawn f r at mb (Inter quant v blocks) reference old new inter

@@ -2,8 +2,6 @@
 use Rattle.std.specs.Prelude.{◌≡◌, ℕ, ◌<◌, ◌≤◌, pos, ℤ, List, All, length, nat_eq, slice_index_or, if◌then◌else◌}
 use Rattle.std.specs.Int.{bit_at}
 use Rattle.h263_types.specs.declared.blocks.Block.{Block}
-use Rattle.h263_types.specs.declared.blocks.Mb.{Mb}
-use Rattle.h263_types.specs.declared.blocks.Mb.TheVariants.{Skip, Intra, Inter}
 use Rattle.h263_types.specs.Blocks.{IsValue}
 use Rattle.quantiser.specs.Zigzag.{zigzag_place_of}
 use Rattle.picture_recon.specs.Samples.{block_in, inter_value}
@@ -15,12 +13,6 @@ AreMarked levels marks = (k : ℕ) → k < 64 → bit_at marks k ≡ 0 → slice
 -- the marks of a macroblock's six blocks
 abbrev pub AreMarkedIn : List Block → List ℕ → Type 0
 AreMarkedIn blocks marks = (b : ℕ) → b < 6 → AreMarked (block_in blocks b).levels (slice_index_or marks b 0)
-
--- those of a macroblock's blocks, if it has any
-abbrev pub HasMarked : Mb → List ℕ → Type 0
-HasMarked Skip marks = Unit {0}
-HasMarked (Intra quant blocks) marks = AreMarkedIn blocks marks
-HasMarked (Inter quant vector blocks) marks = AreMarkedIn blocks marks
 
 -- a value whose level's bit isn't set is 0; the first one is left out, since an intra block puts down 0 for it,
 -- marked or not

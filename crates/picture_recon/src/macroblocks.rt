@@ -14,7 +14,8 @@ ghost use Rattle.h263_planes.specs.Samples.{Inside, IsPicture, sample_at};
 ghost use Rattle.h263_planes.specs.Work.{loan_of, work};
 ghost use Rattle.h263_types.specs.Vectors.{InReach};
 ghost use Rattle.half_sample.specs.Macroblock.{IsPredicted, IsPredictionOf};
-ghost use Rattle.picture_recon.specs.Marks.{AreMarkedIn, HasMarked};
+ghost use Rattle.h263_types.specs.Marks.{IsMarked};
+ghost use Rattle.picture_recon.specs.Marks.{AreMarkedIn};
 ghost use Rattle.picture_recon.specs.Samples.{sample_in};
 ghost use Rattle.picture_recon.specs.Shown.{SetsMb};
 
@@ -23,7 +24,7 @@ use crate::predicted::put_inter;
 use crate::skipped::put_skipped;
 use crate::values::{marks_of_few, marks_of_six};
 use h263_planes::{PictureMut, PictureRef};
-use h263_types::{Block, Format, Mb, SliceHead, Vector};
+use h263_types::{Block, Format, MarkedMb, Mb, SliceHead, Vector, laws as types_laws};
 use half_sample::{Predicted, colours, luma};
 use picture_header::Header;
 
@@ -108,7 +109,7 @@ fn recon_by(
             if let Some(picture) = reference {
                 predict_into(picture, at, *vector, header.rounding, predicted);
                 let marks = marks_of_few(blocks);
-                put_inter(predicted, *quant, blocks, &marks, at, header.format, out);
+                put_inter(predicted, *quant, blocks, &marks, at, out);
             }
         }
     }
@@ -131,11 +132,10 @@ fn predict_into(
     colours(reference, mb, vector, rounding, &mut out.cb, &mut out.cr);
 }
 
-/// The same as [`recon_mb`], where the marks of the macroblock's blocks are known, and what the
-/// vector of an inter macroblock predicts: so neither is found again.
+/// The same as [`recon_mb`], of a macroblock that has its marks beside it, where what the vector of
+/// an inter macroblock predicts is known: so neither is found again.
 pub fn recon_predicted(
-    mb: &Mb,
-    marks: &[u64; 6],
+    mb: &MarkedMb,
     predicted: &Predicted,
     at: u32,
     header: &Header,
@@ -147,31 +147,34 @@ pub fn recon_predicted(
     requires rounding { header.now.rounding ≤ 1 }
     requires format { (work out.old).format ≡ header.now.format }
     requires at { at < mbs_of header.now.format }
-    requires of_kind { IsOfKind header.now.kind mb.now }
-    requires in_range { IsMb mb.now }
-    requires reach { ReachesInside header.now.format at mb.now }
+    requires of_kind { IsOfKind header.now.kind mb.now.mb }
+    requires in_range { IsMb mb.now.mb }
+    requires reach { ReachesInside header.now.format at mb.now.mb }
     requires predicted { IsPredictionOf header.now.rounding (option_map picture reference)
-        at mb.now predicted.now }
-    requires marks { HasMarked mb.now marks.now }
+        at mb.now.mb predicted.now }
+    requires marks { IsMarked mb.now }
     ensures same_loan { loan_of out.new ≡ loan_of out.old }
     ensures format { (work out.new).format ≡ header.now.format }
     ensures whole { IsPicture (work out.new) }
     ensures samples { SetsMb header.now.format header.now.rounding
-        (option_map picture reference.entry) at mb.now (work out.old) (work out.new) }
+        (option_map picture reference.entry) at mb.now.mb (work out.old) (work out.new) }
 {
+    types_laws::marks();
     out.is_picture();
-    match mb {
+    match &mb.mb {
         Mb::Skip => {
             if let Some(picture) = reference {
                 put_skipped(picture, at, header.format, out);
             }
         }
-        Mb::Intra { quant, blocks } => { put_intra(*quant, blocks, marks, at, header.format, out) }
+        Mb::Intra { quant, blocks } => {
+            put_intra(*quant, blocks, &mb.coded, at, header.format, out)
+        }
         Mb::Inter {
             quant,
             vector: _,
             blocks,
-        } => put_inter(predicted, *quant, blocks, marks, at, header.format, out),
+        } => put_inter(predicted, *quant, blocks, &mb.coded, at, out),
     }
 }
 

@@ -28,22 +28,22 @@ pub(crate) fn put_inter(
     blocks: &[Block; 6],
     marks: &[u64; 6],
     at: u32,
-    format: Format,
     out: &mut PictureMut<'_>,
 )
-    requires format { (work out.old).format ≡ format }
-    requires at { at < mbs_of format }
+    requires at { at < mbs_of (work out.old).format }
     requires quant { IsQuant quant }
     requires blocks { All IsInterBlock blocks.now }
     requires marks { AreMarkedIn blocks.now marks.now }
     requires whole { IsPicture (work out.old) }
     ensures same_loan { loan_of out.new ≡ loan_of out.old }
-    ensures format { (work out.new).format ≡ format }
+    ensures format { (work out.new).format ≡ (work out.old).format }
     ensures whole { IsPicture (work out.new) }
     ensures samples { (p : Picture) (v : Vector) (r : ℕ)
-        → p.format ≡ format → IsPredicted p at v r predicted.now
-        → SetsMb format r (Some p) at (Inter quant v blocks.now) (work out.old) (work out.new) }
+        → p.format ≡ (work out.old).format → IsPredicted p at v r predicted.now
+        → SetsMb (work out.old).format r (Some p) at (Inter quant v blocks.now)
+        (work out.old) (work out.new) }
 {
+    let format = out.format();
     put_predicted(predicted, at, format, out);
     add_blocks(quant, blocks, marks, at, format, out);
 }

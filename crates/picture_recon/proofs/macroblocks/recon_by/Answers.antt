@@ -1,9 +1,10 @@
-use Rattle.std.proofs.Common.{ap, Option}
+use Rattle.std.proofs.Common.{ap, subst, Option}
+use Rattle.h263_types.specs.declared.format.Format.{Format}
 use Rattle.std.specs.Option.{option_map}
 use Rattle.h263_planes.specs.declared.lent.PictureRef.{PictureRef}
 use Rattle.h263_planes.specs.Lent.{picture}
 use Rattle.h263_planes.specs.Work.{work}
-use Rattle.picture_recon.proofs.Drawn.{same_drawn, reference_drawn, reference_format}
+use Rattle.picture_recon.proofs.Drawn.{SetsPredicted, same_drawn, reference_drawn, reference_format}
 use Rattle.picture_recon.proofs.macroblocks.recon_by.Goals as goal
 
 pub returns-in-Intra-clause-samples : goal.returns-in-Intra-clause-samples
@@ -23,4 +24,6 @@ returns-in-Some-reference-clause-samples c =
     c.in-Inter.is seen c.requires.reference c.requires.of_kind in
     reference_drawn header.format header.rounding c.args.at c.args.mb.now _ (option_map picture c.args.reference) p _
     _ c.in-Inter.is seen
-    (c.put_inter.ensures.samples p c.in-Inter.vector header.rounding same c.predict_into.ensures)
+    (subst (λ (f : Format). SetsPredicted f c.args.at c.in-Inter.quant c.in-Inter.blocks c.predict_into.new.out
+    (work c.args.out.now) (work c.put_inter.new.out)) c.requires.format c.put_inter.ensures.samples p c.in-Inter.vector
+    header.rounding same c.predict_into.ensures)
