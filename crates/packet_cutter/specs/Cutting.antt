@@ -1,15 +1,13 @@
 -- What the cutter holds: a picture so far, and the packets of the one that was finished last.
 use Rattle.std.specs.Box.{boxed_slice_items}
-use Rattle.std.specs.Prelude.{◌≡◌, ◌<◌, ℕ, List, [], take, slice_index_or, All}
+use Rattle.std.specs.Prelude.{◌≡◌, ℕ, List, take, All}
 use Rattle.h263_types.specs.declared.Kind.{Kind}
 use Rattle.h263_types.specs.declared.format.Format.{Format}
 use Rattle.h263_types.specs.declared.blocks.Mb.{Mb}
-use Rattle.h263_types.specs.Blocks.{mb_in}
 use Rattle.picture_header.specs.declared.header.Header.{Header}
-use Rattle.h263_types.specs.Marks.{HasMarks}
 use Rattle.packet_cutter.specs.declared.cutter.Cutter.{Cutter}
 use Rattle.picture_header.specs.Ranges.{IsHeader}
-use Rattle.packet_cutter.specs.Taken.{IsTaken}
+use Rattle.packet_cutter.specs.Taken.{IsTaken, unmarked}
 use Rattle.packet_cutter.specs.Kept.{most_bytes, kept_packets}
 
 -- the format of its pictures, and the most bytes of a packet
@@ -47,15 +45,13 @@ pub record OnlyAdds (old new : Cutter) : Type 0 where
   pub sequence : sequence_of new ≡ sequence_of old
   pub packets : packets_of new ≡ packets_of old
 
--- a picture is begun, and its macroblocks so far are of its kind, have its quantiser, and stand beside their marks
+-- a picture is begun, and its macroblocks so far are of its kind, and have its quantiser and their marks
 pub record IsBegun (c : Cutter) : Type 0 where
   pub header : IsHeader c.header
   pub each : All (IsTaken (kind_of c) (quant_of c)) (take c.added (boxed_slice_items c.mbs))
-  pub marked : (k : ℕ) → k < c.added
-      → HasMarks (mb_in (boxed_slice_items c.mbs) k) (slice_index_or (boxed_slice_items c.marks) k [])
 
 -- this picture was begun, and these are its macroblocks so far
 pub record Holds (c : Cutter) (number : ℕ) (h : Header) (mbs : List Mb) : Type 0 where
   pub number_is : c.number ≡ number
   pub header_is : c.header ≡ h
-  pub mbs_are : take c.added (boxed_slice_items c.mbs) ≡ mbs
+  pub mbs_are : unmarked (take c.added (boxed_slice_items c.mbs)) ≡ mbs

@@ -1,20 +1,21 @@
 -- What the cutter takes, and where it keeps the packets.
-use Rattle.std.specs.Prelude.{◌≡◌, ℕ, zero, suc, ◌+◌, ◌*◌, ◌<◌, ◌≤◌, List, [], ◌∷◌, ◌++◌, length, slice_index, slice_index_or, slice_range}
+use Rattle.std.specs.Prelude.{◌≡◌, ℕ, zero, suc, ◌+◌, ◌*◌, ◌<◌, ◌≤◌, List, [], ◌∷◌, ◌++◌, length, map, slice_index, slice_range}
 use Rattle.h263_types.specs.declared.Kind.{Kind}
 use Rattle.h263_types.specs.declared.blocks.Mb.{Mb}
-use Rattle.h263_types.specs.Blocks.{HasQuant, IsMb, IsOfKind, mb_in}
-use Rattle.h263_types.specs.Marks.{HasMarks}
+use Rattle.h263_types.specs.Blocks.{HasQuant, IsMb, IsOfKind}
+use Rattle.h263_types.specs.declared.blocks.MarkedMb.{MarkedMb}
+use Rattle.h263_types.specs.Marks.{IsMarked}
 
--- a macroblock of a picture of this kind and with this quantiser
-pub record IsTaken (kind : Kind) (quant : ℕ) (m : Mb) : Type 0 where
-  pub in_range : IsMb m
-  pub of_kind : IsOfKind kind m
-  pub steady : HasQuant quant m
+-- a macroblock of a picture of this kind and with this quantiser, with its marks
+pub record IsTaken (kind : Kind) (quant : ℕ) (m : MarkedMb) : Type 0 where
+  pub in_range : IsMb m.mb
+  pub of_kind : IsOfKind kind m.mb
+  pub steady : HasQuant quant m.mb
+  pub marked : IsMarked m
 
--- each macroblock's marks stand at its place
-pub record AreMarked (mbs : List Mb) (marks : List (List ℕ)) : Type 0 where
-  pub count : length marks ≡ length mbs
-  pub each : (k : ℕ) → k < length mbs → HasMarks (mb_in mbs k) (slice_index_or marks k [])
+-- macroblocks without their marks
+abbrev pub unmarked : List MarkedMb → List Mb
+unmarked mbs = map (λ (m : MarkedMb). m.mb) mbs
 
 -- packet i, where each begins at its place and ends at the next one
 abbrev pub packet_at : List ℕ → List ℕ → ℕ → List ℕ

@@ -7,37 +7,28 @@ ghost use Rattle.h263_types.specs.Params.{IsParams};
 ghost use Rattle.h263_types.specs.Sizes.{mbs_of};
 ghost use Rattle.picture_header.specs.declared.header.Header.{Header};
 ghost use Rattle.picture_header.specs.Ranges.{IsHeader};
-ghost use Rattle.h263_types.specs.Marks.{HasMarks};
+ghost use Rattle.h263_types.specs.Marks.{IsMarked};
 ghost use Rattle.packet_cutter.specs.Kept.{most_bytes, room_of, kept_packets};
 ghost use Rattle.packet_cutter.specs.Packets as sent;
 ghost use Rattle.packet_cutter.specs.Packets.{ArePacketsOf};
 ghost use Rattle.packet_cutter.specs.Slices.{cut_of};
-ghost use Rattle.packet_cutter.specs.Taken.{AreMarked, IsTaken};
+ghost use Rattle.packet_cutter.specs.Taken.{IsTaken, unmarked};
 
 use crate::laws;
 use crate::packets::Packets;
-use h263_types::{Mb, OutOfMemory, Params};
-use macroblock_layer::marks_in;
+use h263_types::{MarkedMb, Mb, OutOfMemory, Params};
 use picture_header::Header;
 use std::alloc::Global;
 use std::boxed::BoxedSlice;
 
 // Cuts a picture: packet after packet.
-fn cut(
-    packets: &mut Packets,
-    header: &Header,
-    mbs: &[Mb],
-    marks: &[[u64; 6]],
-    number: u32,
-    sequence: u16,
-)
+fn cut(packets: &mut Packets, header: &Header, mbs: &[MarkedMb], number: u32, sequence: u16)
     requires room { most_bytes packets.old * length mbs.now ≤ room_of packets.old }
     requires header { IsHeader header.now }
     requires whole { length mbs.now ≡ mbs_of header.now.format }
     requires each { All (IsTaken header.now.kind header.now.quant) mbs.now }
-    requires marks { AreMarked mbs.now marks.now }
     ensures packets { ArePacketsOf number sequence header.now
-        (most_bytes packets.old) mbs.now (kept_packets packets.new) }
+        (most_bytes packets.old) (unmarked mbs.now) (kept_packets packets.new) }
     ensures limit { most_bytes packets.new ≡ most_bytes packets.old }
     ensures room { room_of packets.new ≡ room_of packets.old }
 {
@@ -46,7 +37,7 @@ fn cut(
     'packets: while (first as usize) < mbs.len() {
         let next = sequence.wrapping_add(packets.count() as u16);
         let at = first as usize;
-        first += packets.append(header, first, &mbs[at..], &marks[at..], number, next);
+        first += packets.append(header, first, &mbs[at..], number, next);
     }
 }
 
@@ -57,22 +48,28 @@ pub struct Cutter {
     number: u32,
     header: Header,
     // The picture's macroblocks: the first `added` ones are there.
-    mbs: BoxedSlice<Mb>,
-    // Which levels of their blocks aren't 0, found before they are added.
-    marks: BoxedSlice<[u64; 6]>,
+    mbs: BoxedSlice<MarkedMb>,
     added: u32,
     // The number of the next packet.
     sequence: u16,
     packets: Packets,
     ghost whole: { length (boxed_slice_items mbs) ≡ mbs_of header.format },
-    ghost beside: { length (boxed_slice_items marks) ≡ length (boxed_slice_items mbs) },
     ghost within: { added ≤ length (boxed_slice_items mbs) },
     ghost room: { most_bytes packets * length (boxed_slice_items mbs) ≤ room_of packets },
 }
 
-// Puts a macroblock in the place of another. One that is skipped has no blocks to copy.
+// Puts a macroblock in the place of another.
 #[inline(always)]
-fn put(place: &mut Mb, mb: &Mb)
+fn put(place: &mut MarkedMb, mb: &MarkedMb)
+    ensures { place.new ≡ mb.now }
+{
+    put_plain(&mut place.mb, &mb.mb);
+    place.coded = mb.coded;
+}
+
+// The same without marks. One that is skipped has no blocks to copy.
+#[inline(always)]
+fn put_plain(place: &mut Mb, mb: &Mb)
     ensures { place.new ≡ mb.now }
 {
     match mb {
@@ -97,8 +94,7 @@ impl Cutter {
         Ok(Cutter {
             number: 0,
             header: Header::blank(params.format),
-            mbs: vec![in alloc; Mb::Skip; count as usize]?.into_boxed_slice(),
-            marks: vec![in alloc; [0; 6]; count as usize]?.into_boxed_slice(),
+            mbs: vec![in alloc; MarkedMb::skip(); count as usize]?.into_boxed_slice(),
             added: 0,
             sequence: 0,
             packets: Packets::start(alloc, params.limit, count)?,
@@ -138,26 +134,25 @@ impl Cutter {
         ensures added { added_of self.new ≡ added_of self.old + 1 }
         ensures rest { OnlyAdds self.old self.new }
     {
-        self.add_marked(mb, &marks_in(mb));
+        self.add_marked(&MarkedMb::of(mb));
     }
 
-    /// The same as [`add`](Cutter::add), where the marks of the macroblock's blocks are known: so
-    /// they aren't found again.
-    pub fn add_marked(&mut self, mb: &Mb, marks: &[u64; 6])
+    /// The same as [`add`](Cutter::add), of a macroblock that has its marks beside it: so they
+    /// aren't found again.
+    pub fn add_marked(&mut self, mb: &MarkedMb)
         requires begun { IsBegun self.old }
-        requires mb { IsMb mb.now }
-        requires marks { HasMarks mb.now marks.now }
-        requires kind { IsOfKind (kind_of self.old) mb.now }
-        requires quant { HasQuant (quant_of self.old) mb.now }
+        requires mb { IsMb mb.now.mb }
+        requires marks { IsMarked mb.now }
+        requires kind { IsOfKind (kind_of self.old) mb.now.mb }
+        requires quant { HasQuant (quant_of self.old) mb.now.mb }
         requires left { added_of self.old < mbs_of (format_of self.old) }
         ensures begun { IsBegun self.new }
         ensures holds { (number : ℕ) (h : Header) (mbs : List Mb)
-            → Holds self.old number h mbs → Holds self.new number h (mbs ++ mb.now ∷ []) }
+            → Holds self.old number h mbs → Holds self.new number h (mbs ++ mb.now.mb ∷ []) }
         ensures added { added_of self.new ≡ added_of self.old + 1 }
         ensures rest { OnlyAdds self.old self.new }
     {
         put(&mut self.mbs[self.added as usize], mb);
-        self.marks[self.added as usize] = *marks;
         self.added += 1;
     }
 
@@ -187,7 +182,6 @@ impl Cutter {
             &mut self.packets,
             &self.header,
             &self.mbs,
-            &self.marks,
             self.number,
             self.sequence,
         );

@@ -11,11 +11,11 @@ ghost use Rattle.slice_layer.specs.Written.{slice_text, padded, bytes_of};
 ghost use Rattle.slice_layer.specs.Writer.{kind_of, format_of, first_of, next_of, quant_of, bytes_in, loan_of, HoldsSlice};
 ghost use Rattle.packet_cutter.specs.Cut.{begins_at, extra_of, front_bytes};
 ghost use Rattle.packet_cutter.specs.Packets.{timestamp_of, BeginsWith};
-ghost use Rattle.packet_cutter.specs.Taken.{AreMarked, IsTaken};
+ghost use Rattle.packet_cutter.specs.Taken.{IsTaken, unmarked};
 
 use h263_bits::BitWriter;
 use h263_payload::write_payload;
-use h263_types::Mb;
+use h263_types::MarkedMb;
 use picture_header::{Header, header_bits, laws as picture_header_laws};
 use slice_layer::{Added, MbRoom, SliceWriter};
 
@@ -28,16 +28,15 @@ pub struct Part {
 
 // Adds macroblocks up to the first one with which the slice would not fit. Answers how many it
 // added.
-fn fill(writer: &mut SliceWriter<'_>, mbs: &[Mb], marks: &[[u64; 6]]) -> u32
+fn fill(writer: &mut SliceWriter<'_>, mbs: &[MarkedMb]) -> u32
     requires each { All (IsTaken (kind_of writer.old) (quant_of writer.old)) mbs.now }
-    requires marks { AreMarked mbs.now marks.now }
     requires left { next_of writer.old + length mbs.now ≤ mbs_of (format_of writer.old) }
     ensures count { result ≤ length mbs.now }
     ensures holds { (h : Header) (begins : Bool) (first : ℕ) → HoldsSlice writer.old h begins first []
-        → HoldsSlice writer.new h begins first (take result mbs.now) }
+        → HoldsSlice writer.new h begins first (unmarked (take result mbs.now)) }
     ensures full { (h : Header) (begins : Bool) (first : ℕ) → HoldsSlice writer.old h begins first []
         → result < length mbs.now → length (bytes_in writer.old)
-        < bytes_of (slice_text h begins first (take (result + 1) mbs.now)) }
+        < bytes_of (slice_text h begins first (unmarked (take (result + 1) mbs.now))) }
     ensures some { (h : Header) (begins : Bool) (first : ℕ)
         → IsHeader h → 1150 ≤ length (bytes_in writer.old)
         → HoldsSlice writer.old h begins first [] → 0 < length mbs.now → 0 < result }
@@ -49,7 +48,7 @@ fn fill(writer: &mut SliceWriter<'_>, mbs: &[Mb], marks: &[[u64; 6]]) -> u32
     let mut apart = MbRoom::new();
     let mut count = 0;
     'each: for mb in mbs {
-        if writer.add_marked(mb, &marks[count as usize], &mut apart) == Added::Full {
+        if writer.add_marked(mb, &mut apart) == Added::Full {
             return count;
         }
         count += 1;
@@ -58,32 +57,26 @@ fn fill(writer: &mut SliceWriter<'_>, mbs: &[Mb], marks: &[[u64; 6]]) -> u32
 }
 
 // Writes the longest slice that fits, from macroblock `first` on.
-fn write_slice(
-    bytes: &mut [u8],
-    header: &Header,
-    first: u32,
-    mbs: &[Mb],
-    marks: &[[u64; 6]],
-) -> Part
+fn write_slice(bytes: &mut [u8], header: &Header, first: u32, mbs: &[MarkedMb]) -> Part
     requires room { 1150 ≤ length bytes.old }
     requires short { length bytes.old ≤ 9000 }
     requires header { IsHeader header.now }
     requires some { 0 < length mbs.now }
     requires left { first + length mbs.now ≡ mbs_of header.now.format }
     requires each { All (IsTaken header.now.kind header.now.quant) mbs.now }
-    requires marks { AreMarked mbs.now marks.now }
     ensures some { 0 < result.count }
     ensures few { result.count ≤ length mbs.now }
-    ensures size { result.size
-        ≡ bytes_of (slice_text header.now (begins_at first) first (take result.count mbs.now)) }
-    ensures text { bits_of (take result.size bytes.new)
-        ≡ padded (slice_text header.now (begins_at first) first (take result.count mbs.now)) }
+    ensures size { result.size ≡ bytes_of (slice_text header.now (begins_at first) first
+        (unmarked (take result.count mbs.now))) }
+    ensures text { bits_of (take result.size bytes.new) ≡ padded (slice_text header.now
+        (begins_at first) first (unmarked (take result.count mbs.now))) }
     ensures fits { result.size ≤ length bytes.old }
-    ensures longest { result.count < length mbs.now → length bytes.old < bytes_of
-        (slice_text header.now (begins_at first) first (take (result.count + 1) mbs.now)) }
+    ensures longest { result.count < length mbs.now
+        → length bytes.old < bytes_of (slice_text header.now (begins_at first) first
+        (unmarked (take (result.count + 1) mbs.now))) }
 {
     let mut writer = SliceWriter::start(bytes, header, first == 0, first);
-    let count = fill(&mut writer, mbs, marks);
+    let count = fill(&mut writer, mbs);
     let size = writer.finish();
     Part { count, size }
 }
@@ -162,14 +155,12 @@ fn write_front(
 }
 
 /// Writes the packet with the longest slice that fits, from macroblock `first` on: `mbs` are those
-/// that are left of the picture, `marks` theirs, and the marker is set where the packet has all of
-/// them.
+/// that are left of the picture, and the marker is set where the packet has all of them.
 pub fn write_packet(
     bytes: &mut [u8],
     header: &Header,
     first: u32,
-    mbs: &[Mb],
-    marks: &[[u64; 6]],
+    mbs: &[MarkedMb],
     number: u32,
     sequence: u16,
 ) -> Part
@@ -179,14 +170,13 @@ pub fn write_packet(
     requires some { 0 < length mbs.now }
     requires left { first + length mbs.now ≡ mbs_of header.now.format }
     requires each { All (IsTaken header.now.kind header.now.quant) mbs.now }
-    requires marks { AreMarked mbs.now marks.now }
     ensures packet { BeginsWith number sequence header.now
-        (length bytes.old) first mbs.now result.count result.size bytes.new }
+        (length bytes.old) first (unmarked mbs.now) result.count result.size bytes.new }
     ensures within { result.size ≤ length bytes.old }
 {
     let at = front_bytes(header, first) as usize;
     let (front, coded) = bytes.split_at_mut(at);
-    let slice = write_slice(coded, header, first, mbs, marks);
+    let slice = write_slice(coded, header, first, mbs);
     let marker = slice.count as usize == mbs.len();
     write_front(front, header, first == 0, number, sequence, marker);
     Part {

@@ -3,10 +3,10 @@ ghost use Rattle.std.specs.Prelude.{◌≡◌, ℕ, ◌+◌, ◌*◌, ◌^◌, �
 ghost use Rattle.std.specs.Box.{boxed_slice_items};
 ghost use Rattle.h263_types.specs.Sizes.{mbs_of};
 ghost use Rattle.picture_header.specs.Ranges.{IsHeader};
-ghost use Rattle.packet_cutter.specs.Taken.{AreMarked, IsTaken, ArePlaced};
+ghost use Rattle.packet_cutter.specs.Taken.{IsTaken, ArePlaced, unmarked};
 
 use crate::filling::write_packet;
-use h263_types::Mb;
+use h263_types::MarkedMb;
 use picture_header::Header;
 use std::alloc::{AllocError, Global};
 use std::boxed::BoxedSlice;
@@ -87,13 +87,12 @@ impl Packets {
     }
 
     /// Writes the next packet after the others, with the longest slice from macroblock `first` on:
-    /// `mbs` are those that are left of the picture, `marks` theirs. Answers how many it has.
+    /// `mbs` are those that are left of the picture. Answers how many it has.
     pub fn append(
         &mut self,
         header: &Header,
         first: u32,
-        mbs: &[Mb],
-        marks: &[[u64; 6]],
+        mbs: &[MarkedMb],
         number: u32,
         sequence: u16,
     ) -> u32
@@ -103,8 +102,8 @@ impl Packets {
         requires some { 0 < length mbs.now }
         requires left { first + length mbs.now ≡ mbs_of header.now.format }
         requires each { All (IsTaken header.now.kind header.now.quant) mbs.now }
-        requires marks { AreMarked mbs.now marks.now }
-        ensures packet { Appends self.old self.new number sequence header.now first mbs.now result }
+        ensures packet { Appends self.old self.new number sequence header.now first
+            (unmarked mbs.now) result }
         ensures within { result ≤ length mbs.now }
         ensures some { 0 < result }
         ensures count { count_of self.new ≡ count_of self.old + 1 }
@@ -118,7 +117,6 @@ impl Packets {
             header,
             first,
             mbs,
-            marks,
             number,
             sequence,
         );

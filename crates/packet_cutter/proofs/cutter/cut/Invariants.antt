@@ -1,11 +1,12 @@
 use Rattle.std.proofs.Common.{◌≡◌, ◌-◌, ◌≤◌, length}
 use Rattle.packet_cutter.specs.Kept.{most_bytes, room_of, count_of, kept_packets}
+use Rattle.packet_cutter.specs.Taken.{unmarked}
 use Rattle.packet_cutter.proofs.Turns.{IsUnderWay}
 use Rattle.packet_cutter.proofs.cutter.cut.Given as goal
 
 abbrev pub invariant-packets : goal.invariant-packets
 invariant-packets l = record {
-  under_way : IsUnderWay l.number l.sequence l.header (most_bytes l.initial.packets) l.mbs l.first
+  under_way : IsUnderWay l.number l.sequence l.header (most_bytes l.initial.packets) (unmarked l.mbs) l.first
       (kept_packets l.packets);
   within : l.first ≤ length l.mbs;
   few : count_of l.packets ≤ l.first;

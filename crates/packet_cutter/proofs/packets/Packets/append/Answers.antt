@@ -2,7 +2,8 @@ use Rattle.std.proofs.Common.{◌≡◌, ℕ, ◌+◌, ◌-◌, ◌≤◌, List,
 use borrow.Rule.Slice.PartMut.{post_of, put_mid, same_len_mid}
 use Rattle.std.proofs.lemmas.List.{with_items_is}
 use Rattle.packet_cutter.specs.Packets.{BeginsWith}
-use Rattle.packet_cutter.specs.Taken.{packets_in}
+use Rattle.packet_cutter.specs.Taken.{packets_in, unmarked}
+use Rattle.packet_cutter.proofs.Marked.{length-unmarked}
 use Rattle.packet_cutter.proofs.Places.{window_length, appended}
 use Rattle.packet_cutter.proofs.packets.Packets.append.Goals as goal
 
@@ -15,10 +16,10 @@ returns-clause-packet c =
     let end : at + p.limit ≤ length p.bytes.items.items = omega (arith, p.placed.end, c.requires.room) in
     let room : length (take (at + p.limit - at) (drop at d))
     ≡ p.limit = window_length d at p.limit (omega (arith, end, ap length c.deref_mut.ensures.value)) in
-    let begins : BeginsWith c.args.number c.args.sequence c.args.header.now p.limit c.args.first c.args.mbs.now
-    part.result.count part.result.size part.new.bytes =
-    subst (λ (n : ℕ). BeginsWith c.args.number c.args.sequence c.args.header.now n c.args.first c.args.mbs.now
-    part.result.count part.result.size part.new.bytes) room part.ensures.packet in
+    let begins : BeginsWith c.args.number c.args.sequence c.args.header.now p.limit c.args.first
+    (unmarked c.args.mbs.now) part.result.count part.result.size part.new.bytes =
+    subst (λ (n : ℕ). BeginsWith c.args.number c.args.sequence c.args.header.now n c.args.first
+    (unmarked c.args.mbs.now) part.result.count part.result.size part.new.bytes) room part.ensures.packet in
     let size = part.result.size in
     let places = set p.places (p.count + 1) (at + size) in
     let written = put_mid at (at + p.limit - at) d part.new.bytes in
@@ -39,3 +40,6 @@ returns-clause-packet c =
       longest = begins.longest;
       packet_is = begins.packet;
     }
+
+pub returns-clause-within : goal.returns-clause-within
+returns-clause-within c = omega (arith, c.write_packet-part.ensures.packet.few, length-unmarked c.args.mbs.now)
