@@ -15,7 +15,7 @@ ghost use Rattle.packet_cutter.specs.Cutting.{Holds, added_of, format_of, limit_
 ghost use Rattle.packet_cutter.specs.Packets.{ArePacketsOf};
 
 use h263_planes::{PictureMut, PictureRef};
-use h263_types::{Params, laws as types_laws};
+use h263_types::Params;
 use mode_choice::{Chosen, choose_into, laws as mode_choice_laws};
 use packet_cutter::Cutter;
 use picture_header::Header;
@@ -66,9 +66,8 @@ pub fn code_picture(
     ensures format { (lent.work work.new).format ≡ params.now.format }
     ensures whole { IsPicture (lent.work work.new) }
 {
-    // A mark is there exactly where a level isn't 0. There is one choice for each place, and a
-    // picture that shows them all is their reconstruction.
-    types_laws::marks();
+    // There is one choice for each place, and a picture that shows them all is their
+    // reconstruction.
     mode_choice_laws::one_for_each_place();
     picture_recon_laws::shown_one_by_one();
     work.is_picture();
@@ -76,9 +75,9 @@ pub fn code_picture(
     let mut chosen = Chosen::new();
     for at in 0..params.format.mbs() {
         choose_into(frame, reference, at, header, params, &mut chosen);
-        let (mb, marks) = (&chosen.mb, &chosen.marks);
-        cutter.add_marked(mb, marks);
-        recon_predicted(mb, marks, &chosen.predicted, at, header, reference, work);
+        let marked = &chosen.marked;
+        cutter.add_marked(marked);
+        recon_predicted(marked, &chosen.predicted, at, header, reference, work);
     }
     cutter.finish();
 }

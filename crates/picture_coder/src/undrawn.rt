@@ -67,8 +67,8 @@ pub fn code_undrawn(
     let mut chosen = Chosen::new();
     for at in 0..params.format.mbs() {
         choose_into(frame, None, at, header, params, &mut chosen);
-        cutter.add_marked(&chosen.mb, &chosen.marks);
-        put_undrawn(&chosen.mb, at, params.format, work);
+        cutter.add_marked(&chosen.marked);
+        put_undrawn(&chosen.marked.mb, at, params.format, work);
     }
     cutter.finish();
 }

@@ -1,44 +1,17 @@
 -- The macroblocks before the place are in the cutter, and their reconstruction in the picture.
 use Rattle.std.proofs.Common.{◌≡◌, ◌+◌, ◌<◌, ◌++◌, ◌∷◌, [], ℕ, ℤ, pos, Bool, true, false, cond, List, take, get_or, refl, sym, ap, subst, ◌∙◌, arith}
-use Rattle.std.specs.Int.{bit_at}
 use Rattle.std.specs.Option.{option_map}
-use Rattle.std.proofs.lemmas.Bool.Decides.{Decides-int_eq}
 use Rattle.h263_types.specs.declared.format.Format.{Format}
 use Rattle.h263_types.specs.declared.blocks.Mb.{Mb}
-use Rattle.h263_types.specs.declared.blocks.Mb.TheVariants.{Skip, Intra, Inter}
-use Rattle.h263_types.specs.Marks.{EachIsMarked, HasMarks, is_zero, marks_of}
 use Rattle.h263_types.specs.Sizes.{mbs_of}
 use Rattle.h263_planes.specs.Lent.{picture}
 use Rattle.h263_planes.specs.Work as lent
 use Rattle.mode_choice.specs.Choice.{choices_of}
-use Rattle.picture_recon.specs.Marks.{AreMarked, HasMarked}
-use Rattle.picture_recon.specs.Samples.{block_in, reconstruction}
+use Rattle.picture_recon.specs.Samples.{reconstruction}
 use Rattle.picture_recon.specs.Shown.{SetsMb, ShowsFirst}
 use Rattle.packet_cutter.specs.Cutting.{Holds, packets_of, sequence_of}
 use Rattle.packet_cutter.specs.Packets.{ArePacketsOf}
 use Rattle.picture_coder.proofs.coding.code_picture.Goals as goal
-
--- a level whose bit isn't set is 0
-unset : (z : ℤ) (t : Bool) → is_zero z ≡ t → ◌≡◌ {A = ℕ} (cond t 0 1) 0 → z ≡ pos 0
-unset z true e none = (Decides-int_eq z (pos 0)).0 e
-unset z false e none = absurd (cc none)
-
-marked : EachIsMarked → (levels : List ℤ) (n : ℕ) → n ≡ marks_of levels → AreMarked levels n
-marked each levels n e k less none =
-    let z = get_or levels k (pos 0) in
-    unset z (is_zero z) refl (sym (each levels k) ∙ ap (λ (n : ℕ). bit_at n k) (sym e) ∙ none)
-
--- the marks as they are chosen serve to draw
-drawn_by : EachIsMarked → (m : Mb) (marks : List ℕ) → HasMarks m marks → HasMarked m marks
-drawn_by each Skip marks are = tt
-drawn_by each (Intra quant blocks) marks are = λ b less. marked each (block_in blocks b).levels (get_or marks b 0)
-    (are b less)
-drawn_by each (Inter quant vector blocks) marks are = λ b less. marked each (block_in blocks b).levels
-    (get_or marks b 0) (are b less)
-
-pub recon_predicted-requires-clause-marks : goal.recon_predicted-requires-clause-marks
-recon_predicted-requires-clause-marks c = drawn_by c.marks.ensures c.choose_into.new.out.mb c.choose_into.new.out.marks
-    c.choose_into.ensures.marks
 
 pub loop-at-preserved : goal.loop-at-preserved
 loop-at-preserved c =

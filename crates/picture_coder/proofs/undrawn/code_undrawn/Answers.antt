@@ -18,7 +18,7 @@ use Rattle.packet_cutter.specs.Packets.{ArePacketsOf}
 use Rattle.picture_coder.proofs.undrawn.code_undrawn.Goals as goal
 
 pub put_undrawn-requires-clause-intra : goal.put_undrawn-requires-clause-intra
-put_undrawn-requires-clause-intra c = subst (λ (k : Kind). IsOfKind k c.choose_into.new.out.mb) c.requires.intra
+put_undrawn-requires-clause-intra c = subst (λ (k : Kind). IsOfKind k c.choose_into.new.out.marked.mb) c.requires.intra
     c.choose_into.ensures.of_kind
 
 -- one macroblock more has its levels there
