@@ -55,72 +55,92 @@ impl Model for LateStore {
     ghost invariant = { λ s. IsLateStore s.draws_all (boxed_slice_items s.quants) s.store };
 }
 
+/// A picture's number and its header.
+#[derive(Clone, Copy)]
+pub struct Heading {
+    pub number: u32,
+    pub header: Header,
+}
+
 // Codes a picture into bytes, from its reference if it has one.
 fn code_into(
     params: &Params,
     frame: PictureRef<'_>,
     reference: Option<PictureRef<'_>>,
-    number: u32,
-    header: &Header,
+    heading: &Heading,
     cutter: &mut Cutter,
     bytes: &mut [u8],
 )
-    requires header { IsHeader header.now }
+    requires header { IsHeader heading.now.header }
     requires params { IsParams params.now }
-    requires header_format { header.now.format ≡ params.now.format }
+    requires header_format { heading.now.header.format ≡ params.now.format }
     requires frame_format { (picture frame).format ≡ params.now.format }
-    requires reference { HasReferenceOnlyInP header.now.kind params.now.format
+    requires reference { HasReferenceOnlyInP heading.now.header.kind params.now.format
         (option_map picture reference) }
     requires cutter_format { format_of cutter.old ≡ params.now.format }
     requires cutter_limit { limit_of cutter.old ≡ params.now.limit }
     requires size { length bytes.old ≡ size_of_picture params.now.format }
-    ensures packets { ArePacketsOf number (sequence_of cutter.old) header.now params.now.limit
-        (choices_of (picture frame.entry) (option_map picture reference.entry) header.now
+    ensures packets { ArePacketsOf heading.now.number (sequence_of cutter.old) heading.now.header params.now.limit
+        (choices_of (picture frame.entry) (option_map picture reference.entry) heading.now.header
         params.now) (packets_of cutter.new) }
     ensures sequence { sequence_of cutter.new
         ≡ (sequence_of cutter.old + length (packets_of cutter.new)) % 65536 }
     ensures cutter_format { format_of cutter.new ≡ params.now.format }
     ensures cutter_limit { limit_of cutter.new ≡ params.now.limit }
     ensures reconstruction { picture_of params.now.format bytes.new
-        ≡ reconstruction params.now.format header.now.rounding
+        ≡ reconstruction params.now.format heading.now.header.rounding
         (option_map picture reference.entry)
-        (choices_of (picture frame.entry) (option_map picture reference.entry) header.now
+        (choices_of (picture frame.entry) (option_map picture reference.entry) heading.now.header
         params.now) }
 {
     let mut work = PictureMut::new(params.format, bytes);
-    code_picture(frame, reference, number, header, params, cutter, &mut work);
+    code_picture(
+        frame,
+        reference,
+        heading.number,
+        &heading.header,
+        params,
+        cutter,
+        &mut work,
+    );
 }
 
 // Codes an I picture, whose levels it leaves in bytes.
 fn code_levels_into(
     params: &Params,
     frame: PictureRef<'_>,
-    number: u32,
-    header: &Header,
+    heading: &Heading,
     cutter: &mut Cutter,
     bytes: &mut [u8],
 )
-    requires header { IsHeader header.now }
-    requires intra { header.now.kind ≡ I }
+    requires header { IsHeader heading.now.header }
+    requires intra { heading.now.header.kind ≡ I }
     requires params { IsParams params.now }
-    requires header_format { header.now.format ≡ params.now.format }
+    requires header_format { heading.now.header.format ≡ params.now.format }
     requires frame_format { (picture frame).format ≡ params.now.format }
     requires cutter_format { format_of cutter.old ≡ params.now.format }
     requires cutter_limit { limit_of cutter.old ≡ params.now.limit }
     requires size { length bytes.old ≡ size_of_picture params.now.format }
-    ensures packets { ArePacketsOf number (sequence_of cutter.old) header.now params.now.limit
-        (choices_of (picture frame.entry) None header.now params.now) (packets_of cutter.new) }
+    ensures packets { ArePacketsOf heading.now.number (sequence_of cutter.old) heading.now.header params.now.limit
+        (choices_of (picture frame.entry) None heading.now.header params.now) (packets_of cutter.new) }
     ensures sequence { sequence_of cutter.new
         ≡ (sequence_of cutter.old + length (packets_of cutter.new)) % 65536 }
     ensures cutter_format { format_of cutter.new ≡ params.now.format }
     ensures cutter_limit { limit_of cutter.new ≡ params.now.limit }
-    ensures undrawn { undrawn_mbs header.now.quant (picture_of params.now.format bytes.new)
-        ≡ choices_of (picture frame.entry) None header.now params.now }
+    ensures undrawn { undrawn_mbs heading.now.header.quant (picture_of params.now.format bytes.new)
+        ≡ choices_of (picture frame.entry) None heading.now.header params.now }
     ensures in_range { (at : ℕ) → at < mbs_of params.now.format
-        → IsMb (undrawn_mb header.now.quant (picture_of params.now.format bytes.new) at) }
+        → IsMb (undrawn_mb heading.now.header.quant (picture_of params.now.format bytes.new) at) }
 {
     let mut work = PictureMut::new(params.format, bytes);
-    code_undrawn(frame, number, header, params, cutter, &mut work);
+    code_undrawn(
+        frame,
+        heading.number,
+        &heading.header,
+        params,
+        cutter,
+        &mut work,
+    );
 }
 
 // Draws a picture into bytes.
@@ -216,43 +236,34 @@ impl LateStore {
         cutter: &mut Cutter,
         params: &Params,
         frame: PictureRef<'_>,
-        number: u32,
-        header: &Header,
+        heading: &Heading,
     )
-        requires header { IsHeader header.now }
-        requires intra { header.now.kind ≡ I }
-        requires rounding { header.now.rounding ≡ 0 }
+        requires header { IsHeader heading.now.header }
+        requires intra { heading.now.header.kind ≡ I }
+        requires rounding { heading.now.header.rounding ≡ 0 }
         requires params { IsParams params.now }
-        requires header_format { header.now.format ≡ params.now.format }
+        requires header_format { heading.now.header.format ≡ params.now.format }
         requires frame_format { (picture frame).format ≡ params.now.format }
         requires cutter_format { format_of cutter.old ≡ params.now.format }
         requires cutter_limit { limit_of cutter.old ≡ params.now.limit }
         requires store_format { self.old.store.format ≡ params.now.format }
-        ensures packets { ArePacketsOf number (sequence_of cutter.old) header.now params.now.limit
-            (choices_of (picture frame.entry) None header.now params.now) (packets_of cutter.new) }
+        ensures packets { ArePacketsOf heading.now.number (sequence_of cutter.old) heading.now.header params.now.limit
+            (choices_of (picture frame.entry) None heading.now.header params.now) (packets_of cutter.new) }
         ensures sequence { sequence_of cutter.new
             ≡ (sequence_of cutter.old + length (packets_of cutter.new)) % 65536 }
         ensures cutter_format { format_of cutter.new ≡ params.now.format }
         ensures cutter_limit { limit_of cutter.new ≡ params.now.limit }
         ensures store { IsCodedInto self.old.store self.new.store
-            (reconstruction params.now.format header.now.rounding None
-            (choices_of (picture frame.entry) None header.now params.now)) }
+            (reconstruction params.now.format heading.now.header.rounding None
+            (choices_of (picture frame.entry) None heading.now.header params.now)) }
         ensures draws_all { self.new.draws_all ≡ self.old.draws_all }
     {
         if self.draws_all {
-            code_into(
-                params,
-                frame,
-                None,
-                number,
-                header,
-                cutter,
-                self.store.work(0),
-            );
+            code_into(params, frame, None, heading, cutter, self.store.work(0));
         } else {
             let work = self.quants.len() - 1;
-            self.quants[work] = header.quant;
-            code_levels_into(params, frame, number, header, cutter, self.store.work(0));
+            self.quants[work] = heading.header.quant;
+            code_levels_into(params, frame, heading, cutter, self.store.work(0));
         }
     }
 
@@ -263,34 +274,33 @@ impl LateStore {
         params: &Params,
         frame: PictureRef<'_>,
         reference: u32,
-        number: u32,
-        header: &Header,
+        heading: &Heading,
     )
-        requires header { IsHeader header.now }
+        requires header { IsHeader heading.now.header }
         requires params { IsParams params.now }
-        requires header_format { header.now.format ≡ params.now.format }
-        requires kept { HasKept header.now.kind self.old.store (Some reference) }
+        requires header_format { heading.now.header.format ≡ params.now.format }
+        requires kept { HasKept heading.now.header.kind self.old.store (Some reference) }
         requires frame_format { (picture frame).format ≡ params.now.format }
         requires cutter_format { format_of cutter.old ≡ params.now.format }
         requires cutter_limit { limit_of cutter.old ≡ params.now.limit }
         requires store_format { self.old.store.format ≡ params.now.format }
-        ensures packets { ArePacketsOf number (sequence_of cutter.old) header.now params.now.limit
+        ensures packets { ArePacketsOf heading.now.number (sequence_of cutter.old) heading.now.header params.now.limit
             (choices_of (picture frame.entry) (kept_picture self.old.store (Some reference))
-            header.now params.now) (packets_of cutter.new) }
+            heading.now.header params.now) (packets_of cutter.new) }
         ensures sequence { sequence_of cutter.new
             ≡ (sequence_of cutter.old + length (packets_of cutter.new)) % 65536 }
         ensures cutter_format { format_of cutter.new ≡ params.now.format }
         ensures cutter_limit { limit_of cutter.new ≡ params.now.limit }
         ensures store { IsCodedInto self.old.store self.new.store
-            (reconstruction params.now.format header.now.rounding
+            (reconstruction params.now.format heading.now.header.rounding
             (kept_picture self.old.store (Some reference)) (choices_of (picture frame.entry)
-            (kept_picture self.old.store (Some reference)) header.now params.now)) }
+            (kept_picture self.old.store (Some reference)) heading.now.header params.now)) }
         ensures draws_all { self.new.draws_all ≡ self.old.draws_all }
     {
         self.draw(params.format, reference);
         let (kept, work) = self.store.pair(reference, 0);
         let kept = PictureRef::new(params.format, kept);
-        code_into(params, frame, Some(kept), number, header, cutter, work);
+        code_into(params, frame, Some(kept), heading, cutter, work);
     }
 
     /// Codes a picture into the work picture. A P picture refers to the kept picture of this number.
@@ -300,34 +310,33 @@ impl LateStore {
         params: &Params,
         frame: PictureRef<'_>,
         reference: Option<u32>,
-        number: u32,
-        header: &Header,
+        heading: &Heading,
     )
-        requires header { IsHeader header.now }
-        requires rounding { reference ≡ None → header.now.rounding ≡ 0 }
+        requires header { IsHeader heading.now.header }
+        requires rounding { reference ≡ None → heading.now.header.rounding ≡ 0 }
         requires params { IsParams params.now }
-        requires header_format { header.now.format ≡ params.now.format }
-        requires kept { HasKept header.now.kind self.old.store reference }
+        requires header_format { heading.now.header.format ≡ params.now.format }
+        requires kept { HasKept heading.now.header.kind self.old.store reference }
         requires frame_format { (picture frame).format ≡ params.now.format }
         requires cutter_format { format_of cutter.old ≡ params.now.format }
         requires cutter_limit { limit_of cutter.old ≡ params.now.limit }
         requires store_format { self.old.store.format ≡ params.now.format }
-        ensures packets { ArePacketsOf number (sequence_of cutter.old) header.now params.now.limit
-            (choices_of (picture frame.entry) (kept_picture self.old.store reference) header.now
+        ensures packets { ArePacketsOf heading.now.number (sequence_of cutter.old) heading.now.header params.now.limit
+            (choices_of (picture frame.entry) (kept_picture self.old.store reference) heading.now.header
             params.now) (packets_of cutter.new) }
         ensures sequence { sequence_of cutter.new
             ≡ (sequence_of cutter.old + length (packets_of cutter.new)) % 65536 }
         ensures cutter_format { format_of cutter.new ≡ params.now.format }
         ensures cutter_limit { limit_of cutter.new ≡ params.now.limit }
         ensures store { IsCodedInto self.old.store self.new.store
-            (reconstruction params.now.format header.now.rounding
+            (reconstruction params.now.format heading.now.header.rounding
             (kept_picture self.old.store reference) (choices_of (picture frame.entry)
-            (kept_picture self.old.store reference) header.now params.now)) }
+            (kept_picture self.old.store reference) heading.now.header params.now)) }
         ensures draws_all { self.new.draws_all ≡ self.old.draws_all }
     {
         match reference {
-            None => self.code_intra(cutter, params, frame, number, header),
-            Some(m) => self.code_predicted(cutter, params, frame, m, number, header),
+            None => self.code_intra(cutter, params, frame, heading),
+            Some(m) => self.code_predicted(cutter, params, frame, m, heading),
         }
     }
 

@@ -22,7 +22,7 @@ ghost use Rattle.call_encoding.specs.Messages.{read_message};
 use crate::answers::{Coded, Feedback};
 use crate::coding::{push_size, size_of};
 use crate::headers::header_of;
-use crate::late::LateStore;
+use crate::late::{Heading, LateStore};
 use crate::next::{Next, known_from, next_from, next_given};
 use arrayvec::ArrayVec;
 use back_messages::{Message, MessageFault, read};
@@ -272,13 +272,13 @@ impl<P: Pace> Sender<P> {
             quant,
             back,
         );
+        let heading = Heading { number, header };
         self.store.code(
             &mut self.cutter,
             &self.params,
             frame,
             next.reference,
-            number,
-            &header,
+            &heading,
         );
         self.store.keep(number);
         self.selector.coded(number, next.depth);

@@ -53,8 +53,8 @@ returns-then-self-clause-store c =
     let start = c.args.self.now.store in
     let raw = picture_of s.store.format bytes in
     let new = with_work s.store 0 bytes in
-    let is = reconstruction p.format c.args.header.now.rounding None
-    (choices_of (picture c.args.frame) None c.args.header.now p) in
+    let is = reconstruction p.format c.args.heading.now.header.rounding None
+    (choices_of (picture c.args.frame) None c.args.heading.now.header p) in
     let kept : AreKeptAs start (store_once_drawn (quants c) s.store) =
     subst (λ (x : LatePictures). AreKeptAs x.store (store_once_drawn (quants c) s.store)) c.self.view_is
     (kept_itself _) in
@@ -93,9 +93,9 @@ module _ (c : goal.After-self-else-self-2-1) where
       let long : length bytes ≡ size_of_picture c.self.inside.store.format = search rules in
       coded_into c.self.inside.store bytes _ long (omega (arith, c.self.invariant.late.works)) refl
 
-  can : CanBeDrawn c.args.header.now.quant (picture_of c.self.inside.store.format bytes)
+  can : CanBeDrawn c.args.heading.now.header.quant (picture_of c.self.inside.store.format bytes)
   can =
-      let there : CanBeDrawn c.args.header.now.quant (picture_of c.args.params.now.format bytes) = record {
+      let there : CanBeDrawn c.args.heading.now.header.quant (picture_of c.args.params.now.format bytes) = record {
         quant_is = record { low = c.requires.header.quant_some; high = c.requires.header.quant_low };
         in_range = c.code_levels_into.ensures.in_range;
       } in
@@ -104,7 +104,7 @@ module _ (c : goal.After-self-else-self-2-1) where
 pub invariant_of-self-else-self : goal.invariant_of-self-else-self
 invariant_of-self-else-self c =
     let s = c.self.inside in
-    let q = c.args.header.now.quant in
+    let q = c.args.heading.now.header.quant in
     let coded = levels c in
     let new = with_work s.store 0 (bytes c) in
     let not_all : s.draws_all ≡ false = c.if-self.false in
@@ -120,7 +120,7 @@ pub returns-else-self-clause-store : goal.returns-else-self-clause-store
 returns-else-self-clause-store c =
     let s = c.self.inside in
     let p = c.args.params.now in
-    let h = c.args.header.now in
+    let h = c.args.heading.now.header in
     let start = c.args.self.now.store in
     let raw = picture_of s.store.format (bytes c) in
     let new = with_work s.store 0 (bytes c) in

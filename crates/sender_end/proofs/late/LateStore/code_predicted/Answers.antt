@@ -80,8 +80,8 @@ invariant_of-self c =
 pub returns-clause-packets : goal.returns-clause-packets
 returns-clause-packets c =
     let p = c.args.params.now in
-    let h = c.args.header.now in
-    subst (λ (q : Picture). ArePacketsOf c.args.number (sequence_of c.args.cutter.now) h p.limit
+    let h = c.args.heading.now.header in
+    subst (λ (q : Picture). ArePacketsOf c.args.heading.now.number (sequence_of c.args.cutter.now) h p.limit
     (choices_of (picture c.args.frame) (Some q) h p) (packets_of c.code_into.new.cutter))
     (reference_is c) c.code_into.ensures.packets
 
@@ -89,7 +89,7 @@ pub returns-clause-store : goal.returns-clause-store
 returns-clause-store c =
     let s = c.self.inside in
     let p = c.args.params.now in
-    let h = c.args.header.now in
+    let h = c.args.heading.now.header in
     let start = c.args.self.now.store in
     let raw = picture_of s.store.format (bytes c) in
     let new = with_work s.store 0 (bytes c) in
