@@ -50,6 +50,24 @@ lent_beside p x z y row f xs ys b e hx hy =
       right = λ i hi. hy i hi ∙ ap (sample_at p Y (z + i)) e ∙ sym (b.right i row hi);
     }
 
+-- the same of row m of rows that are lent together
+pub lent_rows_beside : (p : Picture) (x z first width count at m row : ℕ) (f : ℕ → ℕ → ℕ) (lefts rights xs ys : List ℕ) →
+    IsBeside p x z f → m < count → at ≡ width * m → first + m ≡ row
+    → ((i k : ℕ) → i < 16 → k < count → slice_index lefts (width * k + i) ≡ sample_at p Y (x + i) (first + k))
+    → ((i k : ℕ) → i < 16 → k < count → slice_index rights (width * k + i) ≡ sample_at p Y (z + i) (first + k))
+    → ((i : ℕ) → i < 16 → slice_index xs i ≡ slice_index lefts (at + i))
+    → ((i : ℕ) → i < 16 → slice_index ys i ≡ slice_index rights (at + i)) → IsRow f row xs ys
+lent_rows_beside p x z first width count at m row f lefts rights xs ys b hm e er ls rs hx hy =
+    lent_beside p x z (first + m) row f xs ys b er
+    (λ i hi. hx i hi ∙ ap (λ (n : ℕ). slice_index lefts (n + i)) e ∙ ls i m hi hm)
+    (λ i hi. hy i hi ∙ ap (λ (n : ℕ). slice_index rights (n + i)) e ∙ rs i m hi hm)
+
+-- the place of row k, of which the rows before row b aren't counted
+pub place_of_row : (width b k at : ℕ) → b ≤ k → at + width * b ≡ width * k → at ≡ width * (k - b)
+place_of_row width b k at h e =
+    let parts : width * k ≡ width * (b + (k - b)) = ap (λ (n : ℕ). width * n) (omega (arith, h)) in
+    omega (arith, e, parts)
+
 -- the next sixteen columns
 pub next_beside : (p : Picture) (x z : ℕ) → z ≡ x + 16 → IsBeside p x z (samples_from p x)
 next_beside p x z e =

@@ -8,7 +8,7 @@ ghost use Rattle.h263_planes.specs.declared.Plane.TheVariants.{Y};
 ghost use Rattle.motion_search.specs.Areas.{area_sum, AreAdded, AreBytes, AreColumns, AreSomeBeside, AreSomeColumns, AreSumsOf, FitIn, IsBeside, LeavesRest};
 
 use crate::areas::{Columns, areas, no_rows, with_row, without_row};
-use crate::lent::known;
+use crate::lent::{known, row_from};
 use h263_planes::{PictureRef, Plane};
 use h263_types::Format;
 use half_sample::Around;
@@ -178,20 +178,6 @@ fn with_samples(columns: Columns, reference: PictureRef<'_>, x: u32, z: u32, y: 
     with_row(columns, left, right)
 }
 
-// The sums without the uppermost row, which is row `y`.
-#[inline(always)]
-fn without_samples(columns: Columns, reference: PictureRef<'_>, x: u32, z: u32, y: u32) -> Columns
-    requires left { Inside (picture reference).format Y x y 16 }
-    requires right { Inside (picture reference).format Y z y 16 }
-    ensures { (f : ℕ → ℕ → ℕ) (n : ℕ)
-        → AreBytes f → IsBeside (picture reference.entry) x z f → n < 8
-        → AreColumns f y (n + 1) columns → AreColumns f (y + 1) n result }
-{
-    let left = reference.row(Plane::Y, x, y, 16);
-    let right = reference.row(Plane::Y, z, y, 16);
-    without_row(columns, left, right)
-}
-
 // The sums of seven rows from row `y` on.
 #[inline(always)]
 fn seven_rows(reference: PictureRef<'_>, x: u32, z: u32, y: u32) -> Columns
@@ -239,7 +225,7 @@ fn put_areas(columns: Columns, out: &mut [u16], at: usize)
 
 // Writes the sums of 24 areas in some rows of areas down. They are those of the sixteen columns from
 // `x` on with the sixteen from `z` on to their right: the next ones, or at the right edge the same
-// again.
+// again. The place in the lent rows runs on, which spares a product a row.
 #[inline(always)]
 fn add_strip(out: &mut [u16], reference: PictureRef<'_>, x: u32, z: u32, rows: AreaRows)
     requires beside { AreSomeBeside (picture reference) x z }
@@ -254,12 +240,19 @@ fn add_strip(out: &mut [u16], reference: PictureRef<'_>, x: u32, z: u32, rows: A
     ensures before { (k c : ℕ)
         → c < x → slice_index out.new (384 * k + c) ≡ slice_index out.old (384 * k + c) }
 {
-    let first = rows.first;
-    let mut columns = seven_rows(reference, x, z, first + rows.begin);
+    let first = rows.first + rows.begin;
+    let count = rows.end - rows.begin + 7;
+    let left = reference.rows(Plane::Y, x, first, 16, count);
+    let right = reference.rows(Plane::Y, z, first, 16, count);
+    let width = reference.width(Plane::Y);
+    let mut columns = seven_rows(reference, x, z, first);
+    let mut at = 0;
     for k in rows.begin..rows.end {
-        let full = with_samples(columns, reference, x, z, first + k + 7);
+        let below = at + 7 * width;
+        let full = with_row(columns, row_from(left, below), row_from(right, below));
         put_areas(full, out, STRIDE * k as usize + x as usize);
-        columns = without_samples(full, reference, x, z, first + k);
+        columns = without_row(full, row_from(left, at), row_from(right, at));
+        at += width;
     }
 }
 

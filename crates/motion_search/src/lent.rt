@@ -1,5 +1,5 @@
 //! Vectors of whole samples, compared on the lent rows of the reference.
-ghost use Rattle.std.specs.Prelude.{◌≡◌, ℕ, ◌+◌, ◌*◌, ◌%◌, ◌/◌, ◌<◌, ◌≤◌, pos, false, length, slice_range};
+ghost use Rattle.std.specs.Prelude.{◌≡◌, ℕ, ◌+◌, ◌*◌, ◌%◌, ◌/◌, ◌<◌, ◌≤◌, pos, false, length, slice_index, slice_range};
 ghost use Rattle.h263_types.specs.Sizes.{columns_of};
 ghost use Rattle.h263_types.specs.Vectors.{InReach, whole_place};
 ghost use Rattle.h263_planes.specs.Lent.{picture};
@@ -55,6 +55,16 @@ pub(crate) fn differences_of_four(
         (block_row(block, j + 8), third),
         (block_row(block, j + 12), fourth),
     )
+}
+
+// Sixteen samples of rows that are lent together, from place `at` on.
+#[inline(always)]
+pub(crate) fn row_from(rows: &[u8], at: usize) -> &[u8]
+    requires { at + 16 ≤ length rows.now }
+    ensures length { length result.now ≡ 16 }
+    ensures samples { (i : ℕ) → i < 16 → slice_index result.now i ≡ slice_index rows.now (at + i) }
+{
+    &rows[at..at + 16]
 }
 
 // The differences of rows `j`, `j + 4`, `j + 8` and `j + 12` of a block from those of the 16 x 16
