@@ -1,13 +1,15 @@
 //! Bits that are written in words: `0110`, bytes `x80ff`, a constant `$name`, each also `48*0110`
 //! times; and changes to what stands before: `bits=69` and `bytes=20` keep so many, `drop=14` drops
 //! so many bytes, `3=ff` changes a byte.
-use crate::stop::Stop;
-use std::alloc::{AllocError, Global};
+use crate::answer::{NO_MEMORY, WRONG};
+use std::alloc::Global;
 
 /// Bits, each in an element.
-#[derive(Drop, PartialEq)]
+#[derive(Drop)]
 pub struct Bits {
     bits: Vec<u8>,
+    /// Why these aren't the bits that were meant, "" if they are.
+    pub why: &'static str,
 }
 
 /// Bits by their names.
@@ -24,19 +26,21 @@ impl Names {
         }
     }
 
-    /// Names these bits.
-    pub fn push(&mut self, name: String, bits: Bits) -> Result<(), AllocError> {
-        self.rows.push((name, bits))?;
-        Ok(())
+    /// Names these bits. Answers whether there was memory for it.
+    pub fn push(&mut self, alloc: Global, name: &str, bits: Bits) -> bool {
+        match String::from_str(alloc, name) {
+            Ok(name) => self.rows.push((name, bits)).is_ok(),
+            Err(_) => false,
+        }
     }
 
-    fn find(&self, wanted: &str) -> Result<&Bits, Stop> {
+    fn find(&self, wanted: &str) -> Option<&Bits> {
         for (name, bits) in &self.rows {
             if name.as_str() == wanted {
-                return Ok(bits);
+                return Some(bits);
             }
         }
-        Err(Stop::Row)
+        None
     }
 }
 
@@ -45,16 +49,26 @@ impl Bits {
     pub fn new(alloc: Global) -> Bits {
         Bits {
             bits: Vec::new(alloc),
+            why: "",
         }
     }
 
     /// The bits of these words.
-    pub fn read(alloc: Global, names: &Names, text: &str) -> Result<Bits, Stop> {
+    pub fn read(alloc: Global, names: &Names, text: &str) -> Bits {
         let mut bits = Bits::new(alloc);
         for word in text.split_whitespace() {
-            bits.put_word(names, word)?;
+            bits.put_word(names, word);
         }
-        Ok(bits)
+        bits
+    }
+
+    /// The bits of a word whose parts stand between colons.
+    pub fn read_parts(alloc: Global, names: &Names, text: &str) -> Bits {
+        let mut bits = Bits::new(alloc);
+        for part in text.split(':') {
+            bits.put_word(names, part);
+        }
+        bits
     }
 
     /// How many there are.
@@ -63,131 +77,166 @@ impl Bits {
     }
 
     /// The bytes that they fill; the last one ends with zeros.
-    pub fn packed(&self, alloc: Global) -> Result<Vec<u8>, AllocError> {
+    pub fn packed(&mut self, alloc: Global) -> Vec<u8> {
         let mut bytes = Vec::new(alloc);
+        let mut cut = false;
         for octet in self.bits.chunks(8) {
-            let mut byte = 0;
-            let mut mask = 128;
-            for bit in octet {
-                if *bit == 1 {
-                    byte |= mask;
-                }
-                mask /= 2;
+            if bytes.push(byte_of(octet)).is_err() {
+                cut = true;
             }
-            bytes.push(byte)?;
         }
-        Ok(bytes)
+        if cut {
+            self.why = NO_MEMORY;
+        }
+        bytes
+    }
+
+    /// Whether they are the same.
+    pub fn is_same(&self, other: &Bits) -> bool {
+        self.bits.as_slice() == other.bits.as_slice()
+    }
+
+    /// Adds them to a text of zeros and ones, as far as there is memory.
+    pub fn add_to(&self, text: &mut String) {
+        for bit in &self.bits {
+            let _added = text.push(char::from(b'0' | *bit));
+        }
+    }
+
+    fn put_bit(&mut self, bit: u8) {
+        if self.bits.push(bit & 1).is_err() {
+            self.why = NO_MEMORY;
+        }
     }
 
     /// Puts the first `len` bits of these bytes, or all.
-    pub fn put(&mut self, bytes: &[u8], len: u32) -> Result<(), AllocError> {
-        let mut left = len;
-        for byte in bytes {
-            for shift in 0..8u32 {
-                if left > 0 {
-                    left -= 1;
-                    self.bits.push(*byte >> (7 - shift) & 1)?;
+    pub fn put(&mut self, bytes: &[u8], len: u32) {
+        for at in 0..8 * bytes.len().min(65_535) {
+            if at < len as usize {
+                self.put_bit(bytes[at / 8] >> (7 - at % 8));
+            }
+        }
+    }
+
+    fn put_digits(&mut self, digits: &str) {
+        for digit in digits.bytes() {
+            if digit & 0xfe != b'0' {
+                self.why = WRONG;
+            }
+            self.put_bit(digit);
+        }
+    }
+
+    fn put_hex(&mut self, digits: &str) {
+        for digit in digits.chars() {
+            let value = digit.to_digit(16).unwrap_or(16);
+            if value > 15 {
+                self.why = WRONG;
+            }
+            self.put(&[(value as u8) << 4], 4);
+        }
+    }
+
+    fn put_name(&mut self, bits: Option<&Bits>) {
+        match bits {
+            None => self.why = WRONG,
+            Some(named) => {
+                if self.bits.extend_from_slice(&named.bits).is_err() {
+                    self.why = NO_MEMORY;
                 }
             }
         }
-        Ok(())
     }
 
-    /// The bits as a text of zeros and ones.
-    pub fn digits(&self, alloc: Global) -> Result<String, AllocError> {
-        let mut text = String::new(alloc);
-        for bit in &self.bits {
-            text.push_str(if *bit == 0 { "0" } else { "1" })?;
-        }
-        Ok(text)
-    }
-
-    fn put_hex(&mut self, digits: &str) -> Result<(), Stop> {
-        for digit in digits.chars() {
-            let value = digit.to_digit(16).ok_or(Stop::Row)? as u8;
-            self.put(&[value << 4], 4)?;
-        }
-        Ok(())
-    }
-
-    fn put_digits(&mut self, digits: &str) -> Result<(), Stop> {
-        for digit in digits.chars() {
-            let value = digit.to_digit(2).ok_or(Stop::Row)? as u8;
-            self.put(&[value << 7], 1)?;
-        }
-        Ok(())
-    }
-
-    fn put_part(&mut self, names: &Names, part: &str) -> Result<(), Stop> {
+    fn put_part(&mut self, names: &Names, part: &str) {
         if let Some(digits) = part.strip_prefix('x') {
-            return self.put_hex(digits);
+            self.put_hex(digits);
+        } else if let Some(name) = part.strip_prefix('$') {
+            self.put_name(names.find(name));
+        } else {
+            self.put_digits(part);
         }
-        if let Some(name) = part.strip_prefix('$') {
-            self.bits.extend_from_slice(&names.find(name)?.bits)?;
-            return Ok(());
-        }
-        self.put_digits(part)
     }
 
-    fn keep(&mut self, len: usize) -> Result<(), Stop> {
+    fn keep(&mut self, len: usize) {
         if len > self.bits.len() {
-            return Err(Stop::Row);
+            self.why = WRONG;
         }
         self.bits.truncate(len);
-        Ok(())
     }
 
-    // The bits after the first `len` bytes alone.
-    fn drop_bytes(&mut self, len: usize) -> Result<(), Stop> {
-        let from = len.saturating_mul(8);
-        if from > self.bits.len() {
-            return Err(Stop::Row);
+    // The bits after the first so many alone.
+    fn drop_first(&mut self, count: usize) {
+        if count > self.bits.len() {
+            self.why = WRONG;
+            return;
         }
-        let rest = self.bits[from..].to_vec(*self.bits.allocator())?;
-        self.bits = rest;
-        Ok(())
+        self.bits.rotate_left(count);
+        self.bits.truncate(self.bits.len() - count);
     }
 
-    // Puts the digits in place of the byte at this place.
-    fn change(&mut self, place: usize, digits: &str) -> Result<(), Stop> {
-        let value = u8::from_str_radix(digits, 16)?;
-        let from = place.saturating_mul(8);
+    // Puts a value in place of the byte that begins here.
+    fn change(&mut self, from: usize, value: u32) {
         let to = from.saturating_add(8);
-        if to > self.bits.len() {
-            return Err(Stop::Row);
+        if to > self.bits.len() || value > 255 {
+            self.why = WRONG;
+            return;
         }
-        let mut left = value;
+        let mut left = value as u8;
         for bit in self.bits[from..to].iter_mut().rev() {
             *bit = left & 1;
             left >>= 1;
         }
-        Ok(())
     }
 
-    fn put_times(&mut self, names: &Names, times: &str, part: &str) -> Result<(), Stop> {
-        for _time in 0..times.parse::<u32>()? {
-            self.put_part(names, part)?;
-        }
-        Ok(())
+    // A number; one that can't be read is more than any place.
+    fn number(text: &str) -> usize {
+        text.parse::<usize>().unwrap_or(usize::MAX)
     }
 
     // Changes what stands before, as these words ask.
-    fn set(&mut self, what: &str, value: &str) -> Result<(), Stop> {
+    fn set(&mut self, what: &str, value: &str) {
         match what {
-            "bits" => self.keep(value.parse::<usize>()?),
-            "bytes" => self.keep(value.parse::<usize>()?.saturating_mul(8)),
-            "drop" => self.drop_bytes(value.parse::<usize>()?),
-            place => self.change(place.parse::<usize>()?, value),
+            "bits" => self.keep(Bits::number(value)),
+            "bytes" => self.keep(Bits::number(value).saturating_mul(8)),
+            "drop" => self.drop_first(Bits::number(value).saturating_mul(8)),
+            place => {
+                let value = u32::from_str_radix(value, 16).unwrap_or(256);
+                self.change(Bits::number(place).saturating_mul(8), value);
+            }
         }
     }
 
-    fn put_word(&mut self, names: &Names, word: &str) -> Result<(), Stop> {
-        if let Some((times, part)) = word.split_once('*') {
-            return self.put_times(names, times, part);
+    fn put_times(&mut self, names: &Names, times: &str, part: &str) {
+        let times = times.parse::<u32>().unwrap_or(0);
+        if times == 0 {
+            self.why = WRONG;
         }
-        match word.split_once('=') {
-            None => self.put_part(names, word),
-            Some((what, value)) => self.set(what, value),
+        for _time in 0..times {
+            self.put_part(names, part);
         }
     }
+
+    fn put_word(&mut self, names: &Names, word: &str) {
+        if let Some((times, part)) = word.split_once('*') {
+            self.put_times(names, times, part);
+        } else if let Some((what, value)) = word.split_once('=') {
+            self.set(what, value);
+        } else {
+            self.put_part(names, word);
+        }
+    }
+}
+
+// The byte that begins with these bits; after them stand zeros.
+fn byte_of(bits: &[u8]) -> u8 {
+    let mut byte = 0;
+    let mut mask = 128;
+    for bit in bits {
+        if *bit == 1 {
+            byte |= mask;
+        }
+        mask /= 2;
+    }
+    byte
 }

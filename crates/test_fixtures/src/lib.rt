@@ -6,4 +6,3 @@ pub mod answer;
 pub mod bits;
 pub mod codec;
 pub mod rows;
-pub mod stop;

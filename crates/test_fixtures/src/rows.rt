@@ -4,9 +4,8 @@
 //! bits`, what is done and what is wanted; where there are no bits, no colon. A line that begins with
 //! a blank goes on with the row before it. `let NAME : bits` names bits for the rows after it, and `#`
 //! begins a comment.
-use crate::answer::{Answer, Asked};
+use crate::answer::{Answer, Asked, NO_MEMORY, WRONG};
 use crate::bits::{Bits, Names};
-use crate::stop::Stop;
 use std::alloc::Global;
 use std::fmt::Write;
 
@@ -16,18 +15,13 @@ pub trait Answers {
     fn file(&self) -> &'static str;
 
     /// Does the call of this name by the words and the bits after it.
-    fn answer(
-        &self,
-        alloc: Global,
-        call: &str,
-        asked: &mut Asked<'_>,
-        answer: &mut Answer,
-    ) -> Result<(), Stop>;
+    fn answer(&self, alloc: Global, call: &str, asked: &mut Asked<'_>, answer: &mut Answer);
 }
 
 /// What came of rows: a text for each test, and whether all are right.
 #[derive(Drop)]
 pub struct Rows {
+    alloc: Global,
     names: Names,
     test: String,
     rows: u32,
@@ -42,56 +36,56 @@ fn sides(text: &str) -> (&str, &str) {
 }
 
 // What a layer answers to a call.
-fn answered<L: Answers>(
-    alloc: Global,
-    layer: &L,
-    names: &Names,
-    call: &str,
-) -> Result<Answer, Stop> {
+fn answered<L: Answers>(alloc: Global, layer: &L, names: &Names, call: &str) -> Answer {
     let (words, bits) = sides(call);
-    let bits = Bits::read(alloc, names, bits)?;
+    let mut bits = Bits::read(alloc, names, bits);
     let mut asked = Asked {
         words: words.split_whitespace(),
-        bytes: bits.packed(alloc)?,
+        names,
+        bytes: bits.packed(alloc),
         len: bits.len(),
         wrong: false,
     };
     let mut answer = Answer::new(alloc);
     let call = asked.word();
-    layer.answer(alloc, call, &mut asked, &mut answer)?;
-    if answer.cut {
-        return Err(Stop::OutOfMemory);
-    }
+    layer.answer(alloc, call, &mut asked, &mut answer);
     if asked.wrong || asked.words.next().is_some() {
-        return Err(Stop::Row);
+        answer.why = WRONG;
     }
-    Ok(answer)
+    if !bits.why.is_empty() {
+        answer.why = bits.why;
+    }
+    answer
 }
 
-// What an answer says in place of what is wanted, nothing where it says that.
-fn difference(alloc: Global, names: &Names, wanted: &str, answer: &Answer) -> Result<String, Stop> {
-    let (words, bits) = sides(wanted);
-    let bits = Bits::read(alloc, names, bits)?;
-    if answer.words.as_str() == words && answer.bits == bits {
-        return Ok(String::new(alloc));
+// Why an answer isn't what is wanted, "" if it is.
+fn fault_of(answer: &Answer, words: &str, bits: &Bits) -> &'static str {
+    if !answer.why.is_empty() {
+        return answer.why;
     }
-    let digits = answer.bits.digits(alloc)?;
-    let mut text = String::new(alloc);
-    write!(text, "{} : {digits}", answer.words)?;
-    Ok(text)
+    if !bits.why.is_empty() {
+        return bits.why;
+    }
+    if answer.bits.why.is_empty() && answer.bits.is_same(bits) && answer.words.as_str() == words {
+        return "";
+    }
+    "is answered"
 }
 
-// What comes of a row in place of what is wanted, nothing where it is that.
-fn other<L: Answers>(alloc: Global, layer: &L, names: &Names, row: &str) -> Result<String, Stop> {
-    let (call, wanted) = row.split_once(" =").ok_or(Stop::Row)?;
-    let answer = answered(alloc, layer, names, call)?;
-    difference(alloc, names, wanted, &answer)
+// Puts a line after those of the row before it, a blank between them. Answers whether there was
+// memory for it.
+fn push_line(row: &mut String, line: &str) -> bool {
+    if line.starts_with(' ') && row.push(' ').is_err() {
+        return false;
+    }
+    row.push_str(line.trim()).is_ok()
 }
 
 impl Rows {
     /// Before the first row.
     pub fn new(alloc: Global) -> Rows {
         Rows {
+            alloc,
             names: Names::new(alloc),
             test: String::new(alloc),
             rows: 0,
@@ -101,99 +95,91 @@ impl Rows {
     }
 
     /// Ends a test: says its name, and how many rows it had.
-    pub fn end_test(&mut self) -> Result<(), Stop> {
-        if self.rows == 0 {
-            return Err(Stop::NoRows);
+    pub fn end_test(&mut self) {
+        if self.rows == 0 || writeln!(self.said, "{}: {} rows", self.test, self.rows).is_err() {
+            self.right = false;
         }
-        writeln!(self.said, "{}: {} rows", self.test, self.rows)?;
         self.rows = 0;
-        Ok(())
     }
 
-    fn begin_test(&mut self, alloc: Global, name: &str) -> Result<(), Stop> {
+    fn begin_test(&mut self, name: &str) {
         if !self.test.is_empty() {
-            self.end_test()?;
+            self.end_test();
         }
-        self.test = String::from_str(alloc, name)?;
-        Ok(())
+        self.test.clear();
+        if self.test.push_str(name).is_err() {
+            self.right = false;
+        }
     }
 
-    fn name(&mut self, alloc: Global, text: &str) -> Result<(), Stop> {
+    fn name(&mut self, line: usize, text: &str) {
         let (name, bits) = sides(text);
-        let bits = Bits::read(alloc, &self.names, bits)?;
-        let name = String::from_str(alloc, name)?;
-        self.names.push(name, bits)?;
-        Ok(())
+        let bits = Bits::read(self.alloc, &self.names, bits);
+        if !bits.why.is_empty() || !self.names.push(self.alloc, name, bits) {
+            self.complain(line, "bits that can't be named");
+        }
     }
 
-    // Says what came of a row that is not right.
-    fn complain(&mut self, line: usize, text: &str) -> Result<(), Stop> {
+    // Says why a row is not right.
+    fn complain(&mut self, line: usize, why: &str) {
         self.right = false;
-        writeln!(self.said, "{}, line {line}: {text}", self.test)?;
-        Ok(())
+        let _said = writeln!(self.said, "{}, line {line}: {why}", self.test);
+    }
+
+    // Says what was answered in place of what was wanted.
+    fn show(&mut self, answer: &Answer) {
+        let _words = write!(self.said, "{} : ", answer.words);
+        answer.bits.add_to(&mut self.said);
+        let _end = self.said.push('\n');
     }
 
     // Runs a row.
-    fn run<L: Answers>(
-        &mut self,
-        alloc: Global,
-        layer: &L,
-        line: usize,
-        row: &str,
-    ) -> Result<(), Stop> {
+    fn run<L: Answers>(&mut self, layer: &L, line: usize, row: &str) {
         if self.test.is_empty() {
-            return Err(Stop::Row);
+            self.complain(line, "a row before the first test");
         }
         self.rows = self.rows.saturating_add(1);
-        match other(alloc, layer, &self.names, row) {
-            Err(stop) => self.complain(line, stop.text()),
-            Ok(text) if text.is_empty() => Ok(()),
-            Ok(text) => self.complain(line, text.as_str()),
+        let (call, wanted) = row
+            .split_once(" =")
+            .unwrap_or((row, " : nothing is wanted"));
+        let (words, bits) = sides(wanted);
+        let bits = Bits::read(self.alloc, &self.names, bits);
+        let answer = answered(self.alloc, layer, &self.names, call);
+        let why = fault_of(&answer, words, &bits);
+        if !why.is_empty() {
+            self.complain(line, why);
+            self.show(&answer);
         }
     }
 
     // A row, the name of a test, or bits with a name.
-    fn take<L: Answers>(
-        &mut self,
-        alloc: Global,
-        layer: &L,
-        line: usize,
-        text: &str,
-    ) -> Result<(), Stop> {
-        if text.is_empty() {
-            return Ok(());
-        }
+    fn take<L: Answers>(&mut self, layer: &L, line: usize, text: &str) {
         if let Some(name) = text.strip_prefix("test ") {
-            return self.begin_test(alloc, name);
+            self.begin_test(name);
+        } else if let Some(named) = text.strip_prefix("let ") {
+            self.name(line, named);
+        } else if !text.is_empty() {
+            self.run(layer, line, text);
         }
-        if let Some(named) = text.strip_prefix("let ") {
-            return self.name(alloc, named);
-        }
-        self.run(alloc, layer, line, text)
     }
 
     /// Takes what the lines of a text say.
-    pub fn take_all<L: Answers>(
-        &mut self,
-        alloc: Global,
-        layer: &L,
-        text: &str,
-    ) -> Result<(), Stop> {
-        let mut row = String::new(alloc);
+    pub fn take_all<L: Answers>(&mut self, layer: &L, text: &str) {
+        let mut row = String::new(self.alloc);
         let mut from = 0;
         for (above, line) in text.lines().enumerate() {
             if line.starts_with('#') {
                 continue;
             }
-            if line.starts_with(' ') {
-                row.push_str(" ")?;
-            } else {
-                self.take(alloc, layer, from, row.as_str())?;
-                row = String::new(alloc);
+            if !line.starts_with(' ') {
+                self.take(layer, from, row.as_str());
+                row.clear();
                 from = above.saturating_add(1);
             }
-            row.push_str(line.trim())?;
+            if !push_line(&mut row, line) {
+                self.complain(from, NO_MEMORY);
+            }
         }
-        self.take(alloc, layer, from, row.as_str())
+        self.take(layer, from, row.as_str());
     }
 }

@@ -1,5 +1,0 @@
-use Rattle.duplex_ends.specs.Pair.{AreInCall}
-use Rattle.test_ends.proofs.duplex_ends_rows.lose.Given as goal
-
-abbrev pub invariant-times : goal.invariant-times
-invariant-times l = AreInCall l.own l.far

@@ -1,6 +1,0 @@
-use Rattle.std.proofs.Common.{ap}
-use Rattle.h263_planes.specs.Picture.{Picture}
-use Rattle.test_ends.proofs.make_input_rows.byte.Goals as goal
-
-pub frame-requires : goal.frame-requires
-frame-requires c = ap (λ (p : Picture). p.format) c.new-out.ensures.picture

@@ -1,6 +1,0 @@
-use Rattle.std.proofs.Common.{◌≡◌, length, All}
-use Rattle.h263_types.specs.Blocks.{IsValue}
-use Rattle.test_samples.proofs.idct8_rows.values_of.Given as goal
-
-abbrev pub invariant-loop-at : goal.invariant-loop-at
-invariant-loop-at l = (length l.values ≡ 64) × All IsValue l.values

@@ -1,5 +1,0 @@
-use Rattle.std.proofs.Common.{length}
-use Rattle.test_syntax.proofs.payload_join_rows.drained.Given as goal
-
-abbrev pub decreases-loop-packet : goal.decreases-loop-packet
-decreases-loop-packet l = length l.joiner.left

@@ -1,5 +1,0 @@
-use Rattle.std.proofs.Common.{◌≡◌, []}
-use Rattle.test_syntax.proofs.payload_join_rows.take_all.Given as goal
-
-abbrev pub invariant-words : goal.invariant-words
-invariant-words l = l.joiner.left ≡ []
