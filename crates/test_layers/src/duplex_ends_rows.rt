@@ -29,14 +29,18 @@ fn send(alloc: Global, own: &mut PartyEnds, far: &PartyEnds, value: u32, answer:
     ensures { AreInCall own.new far.now }
 {
     let format = own.params.format;
+    if value > 255 {
+        answer.why = WRONG;
+        return;
+    }
+    if own.sent() >= 1000 {
+        answer.why = WRONG;
+        return;
+    }
     let Ok(frame) = vec![in alloc; value as u8; format.size() as usize] else {
         answer.why = NO_MEMORY;
         return;
     };
-    if own.sent() >= 1000 || value > 255 {
-        answer.why = WRONG;
-        return;
-    }
     match check_send(own) {
         Ok(()) => {
             own.send(PictureRef::new(format, frame.as_slice()));
