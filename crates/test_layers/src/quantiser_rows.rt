@@ -50,6 +50,17 @@ fn levels_of(quant: u8, coefficient: i32, answer: &mut Answer)
     answer.say(&level_intra(quant, coefficient));
 }
 
+// Says the level of half a coefficient and a rest.
+fn level_of(quant: u8, half: u16, sixteenths: i32, answer: &mut Answer)
+    requires { IsQuant quant }
+{
+    if sixteenths < -32_768 || sixteenths > 32_767 {
+        answer.why = WRONG;
+        return;
+    }
+    answer.say(&level_with_rest(quant, factor_of(quant), half, sixteenths as i16));
+}
+
 /// Answers a row of `quantiser.rows`: does the call of this name by the words after it.
 pub fn answer(call: &str, asked: &mut Asked<'_>, answer: &mut Answer) {
     match call {
@@ -64,8 +75,7 @@ pub fn answer(call: &str, asked: &mut Asked<'_>, answer: &mut Answer) {
         "level_with_rest" => {
             let quant = quant(asked);
             let half = asked.number(65_535) as u16;
-            let sixteenths = signed(asked) as i16;
-            answer.say(&level_with_rest(quant, factor_of(quant), half, sixteenths));
+            level_of(quant, half, signed(asked), answer);
         }
         "block_place" => answer.say(&block_place(asked.place(63))),
         "zigzag_place" => answer.say(&zigzag_place(asked.place(63))),
