@@ -22,7 +22,7 @@ use Rattle.stream_audit.specs.Logs.{verdict_on}
 use Rattle.stream_audit.specs.Stream.{LogEntry}
 use Rattle.stream_audit.specs.Text.{LineTells, number_told, verdict_line}
 use Rattle.audit_command.specs.Audit.{AuditState, audit_rules, nothing_sent}
-use Rattle.audit_command.specs.Followed.{AuditsItsLog, entries_in, judged_as, with_entries}
+use Rattle.audit_command.specs.Followed.{AuditsItsLog, entries_in, judged_as, with_judged_entries}
 
 -- ---- how many entries there may be
 
@@ -42,7 +42,7 @@ few_entries : (log : List ℕ) → length (log_entries OfStream log) ≤ 1677721
 unfolding log_entries
 few_entries log = few_found OfStream 16777216 0 log
 
-longer : (found : List Found) (past : List LogEntry) → length (with_entries past found) ≡ length past + length found
+longer : (found : List Found) (past : List LogEntry) → length (with_judged_entries past found) ≡ length past + length found
 longer [] past = omega arith
 longer (x ∷ more) past = let r = longer more (judged_as x.entry x.bytes ∷ past) in omega (arith, r)
 
@@ -67,7 +67,7 @@ module _ (p : Params) where
   mind_is past Play bytes = refl
 
   minds_are : (found : List Found) (past : List LogEntry) → mind_after audit_rules (state past) found
-      ≡ state (with_entries past found)
+      ≡ state (with_judged_entries past found)
   minds_are [] past = refl
   minds_are (x ∷ more) past =
       ap (λ (s : AuditState). mind_after audit_rules s more) (mind_is past x.entry x.bytes)
@@ -111,7 +111,7 @@ module _ (p : Params) where
     entries_are = f.read ∙ whole.0
 
     minds : mind_after audit_rules (nothing_sent p) f.accepted ≡ state past
-    minds = minds_are f.accepted [] ∙ ap (λ (l : List Found). state (with_entries [] l)) (sym entries_are)
+    minds = minds_are f.accepted [] ∙ ap (λ (l : List Found). state (with_judged_entries [] l)) (sym entries_are)
 
     report_is : text_of run Report ≡ told run.last.status (verdict_line (verdict_on p past))
     report_is =

@@ -23,17 +23,17 @@ abbrev pub nothing_sent : Params → AuditState
 nothing_sent p = record { params = p; past = [] }
 
 -- the state after an entry
-abbrev pub after_entry : AuditState → LogEntry → AuditState
-after_entry s entry = record { params = s.params; past = entry ∷ s.past }
+abbrev pub after_judged_entry : AuditState → LogEntry → AuditState
+after_judged_entry s entry = record { params = s.params; past = entry ∷ s.past }
 
 -- each entry joins those so far, and nothing is written; at the end the verdict is told
 abbrev pub audit_rules : LogRules AuditState
 audit_rules =
     record {
       side = OfStream;
-      packet = λ s bytes. after_entry s (Sent bytes);
+      packet = λ s bytes. after_judged_entry s (Sent bytes);
       packet_text = λ s bytes. no_texts;
-      other = λ s bytes. after_entry s (Fed bytes);
+      other = λ s bytes. after_judged_entry s (Fed bytes);
       other_text = λ s bytes. no_texts;
       plays = λ s. 0;
       end_text = λ s. on Report (verdict_line (verdict_on s.params s.past));

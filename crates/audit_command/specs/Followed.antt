@@ -23,13 +23,13 @@ judged_as (Back len) bytes = Fed bytes
 judged_as Play bytes = Fed bytes
 
 -- the packets and the feedback after those of these entries, the newest first
-abbrev pub with_entries : List LogEntry → List Found → List LogEntry
-with_entries past [] = past
-with_entries past (found ∷ more) = with_entries (judged_as found.entry found.bytes ∷ past) more
+abbrev pub with_judged_entries : List LogEntry → List Found → List LogEntry
+with_judged_entries past [] = past
+with_judged_entries past (found ∷ more) = with_judged_entries (judged_as found.entry found.bytes ∷ past) more
 
 -- those of a log
 abbrev pub entries_in : List ℕ → List LogEntry
-entries_in log = with_entries [] (log_entries OfStream log)
+entries_in log = with_judged_entries [] (log_entries OfStream log)
 
 -- All entries of the log are read, one in each turn but the first. Where the log has no fault the
 -- report is the line of the verdict on them, and else it has none; so the verdict that a report tells

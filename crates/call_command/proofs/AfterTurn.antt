@@ -38,9 +38,9 @@ use Rattle.one_way.specs.Refused.{IsAllowed, refusal_after}
 use Rattle.one_way.specs.Seen.{in_both}
 use Rattle.call_command.specs.declared.link.Link.{Link}
 use Rattle.call_command.specs.declared.world.World.{World}
-use Rattle.call_command.specs.Call.{CallState, after_line, by_ends, capture_step, event_step, line_size, line_turn, may_read, play_texts, refusal_at, unless, with_frame, with_message, with_packet, with_packets, with_play}
-use Rattle.call_command.specs.Refused.{IsNotRefused, IsRefusedWith, fault_at, fault_of}
-use Rattle.call_command.specs.Standing.{HasDone, HasTaken, Parts, PartsReady, PartsStand, StoodBefore, more_of, parts_of, state_of}
+use Rattle.call_command.specs.Call.{CallState, after_line, by_ends, capture_step, event_step, line_size, line_turn, may_read, play_texts, refusal_at, unless_refused, with_frame, with_message, with_packet, with_packets, with_play}
+use Rattle.call_command.specs.Refused.{IsNotRefused, IsRefusedWith, fault_on_line, fault_told}
+use Rattle.call_command.specs.Standing.{HasDone, HasTaken, CallParts, PartsReady, PartsStand, StoodBefore, more_of, call_parts, call_state_of}
 use Rattle.call_command.specs.Turning.{IsAsked, IsChecked, IsRead, TakesFrame, TakesLine, names_of}
 use Rattle.call_command.proofs.After.{longer, push_then}
 use Rattle.call_command.proofs.Counting.{done_now, gave_up, goes_on, was_cut}
@@ -50,12 +50,12 @@ use Rattle.call_command.proofs.Lines.{nothing_after}
 -- ---- a line that was read
 
 -- the parts stood at the state before it
-pub stood_after : (x : Parts) (s : CallState) (inputs : Role → List ℕ) → PartsStand x s inputs → x.terms.plain ≡ false
+pub stood_after : (x : CallParts) (s : CallState) (inputs : Role → List ℕ) → PartsStand x s inputs → x.terms.plain ≡ false
     → (trace : TracePlace) (left : Option (List ℕ)) → trace.lines ≡ x.link.trace.lines + 1
     → Passes (inputs Events) trace left
-    → StoodBefore (record x { link = record x.link { trace = trace } }) (state_of x s.before s.frames s.past) inputs
+    → StoodBefore (record x { link = record x.link { trace = trace } }) (call_state_of x s.before s.frames s.past) inputs
 stood_after x s inputs k recorded trace left lines passes = record {
-  is = λ i. record (state_of x s.before s.frames s.past) { lines = sym lines i; ended = sym passes.ends i };
+  is = λ i. record (call_state_of x s.before s.frames s.past) { lines = sym lines i; ended = sym passes.ends i };
   begun = k.begun;
   sent = k.sent;
   recorded = recorded;
@@ -67,7 +67,7 @@ stood_after x s inputs k recorded trace left lines passes = record {
     open_end true is = absurd (cc is)
     open_end false is = refl
 
-module _ (x : Parts) (s : CallState) (inputs : Role → List ℕ) (k : StoodBefore x s inputs) where
+module _ (x : CallParts) (s : CallState) (inputs : Role → List ℕ) (k : StoodBefore x s inputs) where
   abbrev trace : List ℕ
   trace = inputs Events
 
@@ -102,15 +102,15 @@ module _ (x : Parts) (s : CallState) (inputs : Role → List ℕ) (k : StoodBefo
   -- ---- a refused event
 
   module _ (laws : TurnLaws) (before mid : Outside) (taken : HasTaken inputs before mid) (told : Told) (line : ℕ)
-      (number : line ≡ s.lines + 1) (fault : TraceFault) (fault_is : fault ≡ fault_at line told) where
+      (number : line ≡ s.lines + 1) (fault : TraceFault) (fault_is : fault ≡ fault_on_line line told) where
     event_refused : (e : Event) (step : Step CallState)
         → IsAllowed (Err told) e (refusal_after p s.before s.frames s.past e)
-        → Ended (unless s trace e (refusal_at by_ends s e) step) (TraceRefused fault) inputs before mid
+        → Ended (unless_refused s trace e (refusal_at by_ends s e) step) (TraceRefused fault) inputs before mid
     event_refused e step refused =
         let told_so = refused.2 in
-        line_refused s inputs before mid taken laws (TraceRefused fault) (fault_of (s.lines + 1) e refused.0) _
-        (ap (λ (f : TraceFault). TraceRefused f) fault_is ∙ (λ i. TraceRefused (fault_at (number i) (told_so i))))
-        (ap (λ (o : Option Refusal). unless s trace e o step) (refusal_here e ∙ refused.1))
+        line_refused s inputs before mid taken laws (TraceRefused fault) (fault_told (s.lines + 1) e refused.0) _
+        (ap (λ (f : TraceFault). TraceRefused f) fault_is ∙ (λ i. TraceRefused (fault_on_line (number i) (told_so i))))
+        (ap (λ (o : Option Refusal). unless_refused s trace e o step) (refusal_here e ∙ refused.1))
 
     pub line_is_refused : (event : Line) → IsChecked (Err told) event (refusal_after p s.before s.frames s.past)
         → Ended (event_step by_ends s inputs trace event) (TraceRefused fault) inputs before mid
@@ -124,13 +124,13 @@ module _ (x : Parts) (s : CallState) (inputs : Role → List ℕ) (k : StoodBefo
   -- ---- an event that may happen
 
   step_is : (e : Event) (step : Step CallState) → refusal_after p s.before s.frames s.past e ≡ None
-      → unless s trace e (refusal_at by_ends s e) step ≡ step
-  step_is e step none = ap (λ (o : Option Refusal). unless s trace e o step) (refusal_here e ∙ none)
+      → unless_refused s trace e (refusal_at by_ends s e) step ≡ step
+  step_is e step none = ap (λ (o : Option Refusal). unless_refused s trace e o step) (refusal_here e ∙ none)
 
   -- where a capture is not far, its frame is asked for
   pub capture_is : refusal_at by_ends s Send ≡ None → event_step by_ends s inputs trace says.Send
       ≡ capture_step s trace (inputs Video)
-  capture_is none = ap (λ (o : Option Refusal). unless s trace Send o (capture_step s trace (inputs Video))) none
+  capture_is none = ap (λ (o : Option Refusal). unless_refused s trace Send o (capture_step s trace (inputs Video))) none
 
   pub packet_is : (n j : ℕ) → refusal_after p s.before s.frames s.past (Deliver n j) ≡ None
       → event_step by_ends s inputs trace (says.Packet n j)
@@ -164,7 +164,7 @@ module _ (x : Parts) (s : CallState) (inputs : Role → List ℕ) (k : StoodBefo
 
   module _ (sender : State) (receiver : Kept) (link : Link) (trace_same : link.trace ≡ x.link.trace)
       (sent_same : sender.sent ≡ x.sender.sent) where
-    abbrev y : Parts
+    abbrev y : CallParts
     y = record { terms = x.terms; video = x.video; sender = sender; receiver = receiver; link = link }
 
     pub stands_event : (events : List Event) → ((later : List Frame) → HasDone y s.before (s.frames ++ later) events)
@@ -181,7 +181,7 @@ module _ (x : Parts) (s : CallState) (inputs : Role → List ℕ) (k : StoodBefo
         with_events st events = record st { past = events }
 
         read_to : TracePlace → List Event → CallState
-        read_to reader events = record (state_of x s.before s.frames events) {
+        read_to reader events = record (call_state_of x s.before s.frames events) {
           lines = reader.lines;
           ended = reader.ended;
         }
@@ -216,7 +216,7 @@ module _ (x : Parts) (s : CallState) (inputs : Role → List ℕ) (k : StoodBefo
     abbrev f : Frame
     f = bare (picture_of s.params.format out)
 
-    abbrev sent_parts : Parts
+    abbrev sent_parts : CallParts
     sent_parts = record { terms = x.terms; video = video; sender = sender; receiver = x.receiver; link = link }
 
     pub stands_sent : (size : ℕ) → video.at ≡ s.at + size → video.more + 1 ≡ s.more → sender.sent ≡ x.sender.sent + 1
@@ -242,7 +242,7 @@ module _ (x : Parts) (s : CallState) (inputs : Role → List ℕ) (k : StoodBefo
         sent_from st at more = record st { frames = s.frames ++ f ∷ []; past = Send ∷ s.past; at = at; more = more }
 
         read_to : TracePlace → ℕ → ℕ → CallState
-        read_to reader at more = record (state_of x s.before (s.frames ++ f ∷ []) (Send ∷ s.past)) {
+        read_to reader at more = record (call_state_of x s.before (s.frames ++ f ∷ []) (Send ∷ s.past)) {
           at = at;
           more = more;
           lines = reader.lines;
@@ -296,56 +296,56 @@ none_so (Err told) e refusal free allowed = absurd free
 pub line_stops : (x : World) (line : ℕ) (event said : Line) (r : Result Bool Status) (status : Status)
     (checked : Result Unit Told) (now : Outside) → event ≡ said
     → IsErrAnd r (λ z. z ≡ status) → IsRefusedWith line checked status → x.terms.plain ≡ false → TurnLaws → StepLaws
-    → ((old : Outside) (s : CallState) (inputs : Role → List ℕ) → IsRead (parts_of x) line now old s inputs
+    → ((old : Outside) (s : CallState) (inputs : Role → List ℕ) → IsRead (call_parts x) line now old s inputs
     → IsChecked checked said (refusal_after x.terms.params s.before s.frames s.past))
     → TakesLine x x line event r now now
 line_stops x line event said r status (Ok u) now is answer refused recorded laws steps checks = absurd refused
 line_stops x line event said r status (Err told) now is answer refused recorded laws steps checks =
     subst (λ (e : Line). TakesLine x x line e r now now) (sym is)
-    (gave_up x x now now (IsRead (parts_of x) line now) (λ s inputs. event_step by_ends s inputs (inputs Events) said)
-    (λ _. true) (more_of (parts_of x) + 1)
-    r (TraceRefused (fault_at line told)) (subst (λ (w : Status). IsErrAnd r (λ z. z ≡ w)) refused answer)
+    (gave_up x x now now (IsRead (call_parts x) line now) (λ s inputs. event_step by_ends s inputs (inputs Events) said)
+    (λ _. true) (more_of (call_parts x) + 1)
+    r (TraceRefused (fault_on_line line told)) (subst (λ (w : Status). IsErrAnd r (λ z. z ≡ w)) refused answer)
     refl recorded tt tt (steps.none now)
-    (λ o s inputs b. line_is_refused (parts_of x) s inputs b.stood laws o now b.taken told line b.number
-    (fault_at line told) refl said (checks o s inputs b))
+    (λ o s inputs b. line_is_refused (call_parts x) s inputs b.stood laws o now b.taken told line b.number
+    (fault_on_line line told) refl said (checks o s inputs b))
     (λ s stand. stand))
 
 -- a line whose event is done
 pub line_goes_on : (x y : World) (line : ℕ) (event said : Line) (mid new : Outside) → event ≡ said
     → names_of y ≡ names_of x
-    → more_of (parts_of y) ≡ more_of (parts_of x) → PartsReady (parts_of y) new.attached → KeepsRoles mid new
-    → ((old : Outside) (s : CallState) (inputs : Role → List ℕ) → IsRead (parts_of x) line mid old s inputs
-    → Went (event_step by_ends s inputs (inputs Events) said) (PartsStand (parts_of y)) may_read true inputs old new)
+    → more_of (call_parts y) ≡ more_of (call_parts x) → PartsReady (call_parts y) new.attached → KeepsRoles mid new
+    → ((old : Outside) (s : CallState) (inputs : Role → List ℕ) → IsRead (call_parts x) line mid old s inputs
+    → Went (event_step by_ends s inputs (inputs Events) said) (PartsStand (call_parts y)) may_read true inputs old new)
     → TakesLine x y line event (Ok true) mid new
 line_goes_on x y line event said mid new is names more ready rest gives =
     subst (λ (e : Line). TakesLine x y line e (Ok true) mid new) (sym is)
-    (goes_on x y mid new (IsRead (parts_of x) line mid) (λ s inputs. event_step by_ends s inputs (inputs Events) said)
-    (λ _. true) (more_of (parts_of x) + 1)
+    (goes_on x y mid new (IsRead (call_parts x) line mid) (λ s inputs. event_step by_ends s inputs (inputs Events) said)
+    (λ _. true) (more_of (call_parts x) + 1)
     names (ap (λ (n : ℕ). n + 1) more) ready rest gives)
 
 -- one that can't write
 pub line_was_cut : (x y : World) (line : ℕ) (event said : Line) (r : Result Bool Status) (status : Status)
     (mid new : Outside) → event ≡ said → IsErrAnd r (λ z. z ≡ status) → names_of y ≡ names_of x
     → status ≡ WriteFault → Rose mid.faults.write new.faults.write → KeepsRoles mid new
-    → ((old : Outside) (s : CallState) (inputs : Role → List ℕ) → IsRead (parts_of x) line mid old s inputs
+    → ((old : Outside) (s : CallState) (inputs : Role → List ℕ) → IsRead (call_parts x) line mid old s inputs
     → GainsFronts (step_texts (event_step by_ends s inputs (inputs Events) said)) old.written new.written)
     → TakesLine x y line event r mid new
 line_was_cut x y line event said r status mid new is answer names kind rose rest gives =
     subst (λ (e : Line). TakesLine x y line e r mid new) (sym is)
-    (was_cut x y mid new (IsRead (parts_of x) line mid) (λ s inputs. event_step by_ends s inputs (inputs Events) said)
-    (λ _. true) (more_of (parts_of x) + 1)
+    (was_cut x y mid new (IsRead (call_parts x) line mid) (λ s inputs. event_step by_ends s inputs (inputs Events) said)
+    (λ _. true) (more_of (call_parts x) + 1)
     r status answer names kind rose rest gives)
 
 -- a line that asks for a frame
 pub asks_frame : (x y : World) (line : ℕ) (event : Line) (r : Result Bool Status) (mid new : Outside)
     → event ≡ says.Send → TakesFrame x y line r mid new
-    → ((old : Outside) (s : CallState) (inputs : Role → List ℕ) → IsRead (parts_of x) line mid old s inputs
+    → ((old : Outside) (s : CallState) (inputs : Role → List ℕ) → IsRead (call_parts x) line mid old s inputs
     → refusal_at by_ends s Send ≡ None)
     → TakesLine x y line event r mid new
 asks_frame x y line event r mid new is t none = subst (λ (e : Line). TakesLine x y line e r mid new) (sym is) (record {
   gives = λ old s inputs b.
-      subst (λ (step : Step CallState). TurnGives r step (PartsStand (parts_of y)) may_read true inputs old new)
-      (sym (capture_is (parts_of x) s inputs b.stood (none old s inputs b)))
+      subst (λ (step : Step CallState). TurnGives r step (PartsStand (call_parts y)) may_read true inputs old new)
+      (sym (capture_is (call_parts x) s inputs b.stood (none old s inputs b)))
       (t.gives old s inputs (is_asked old s inputs b));
   whole = λ old s inputs b. t.whole old s inputs (is_asked old s inputs b);
   keeps = t.keeps;
@@ -358,6 +358,6 @@ asks_frame x y line event r mid new is t none = subst (λ (e : Line). TakesLine 
   rest = t.rest;
 })
   where
-    is_asked : (old : Outside) (s : CallState) (inputs : Role → List ℕ) → IsRead (parts_of x) line mid old s inputs
-        → IsAsked (parts_of x) line mid old s inputs
+    is_asked : (old : Outside) (s : CallState) (inputs : Role → List ℕ) → IsRead (call_parts x) line mid old s inputs
+        → IsAsked (call_parts x) line mid old s inputs
     is_asked old s inputs b = record { read = b; none = none old s inputs b }

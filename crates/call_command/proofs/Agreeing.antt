@@ -19,7 +19,7 @@ use Rattle.one_way.specs.Trace.{delivered}
 use Rattle.call_model.specs.IdealCall.{Event, Send, Deliver, Play, Back, slices_at}
 use Rattle.call_decoding.specs.Rules.{rules_of}
 use Rattle.one_way.specs.Both.{bare}
-use Rattle.call_command.specs.Call.{CallState, after_line, all_played, bad_line, by_call, by_ends, capture_step, event_step, frame_step, line_step, line_turn, play_texts, refusal_at, trace_step, unless, video_step, with_frame, with_message, with_packet, with_picture, with_play}
+use Rattle.call_command.specs.Call.{CallState, after_line, all_played, bad_line, by_call, by_ends, capture_step, event_step, frame_step, line_step, line_turn, play_texts, refusal_at, trace_step, unless_refused, video_step, with_frame, with_message, with_packet, with_whole_frame, with_play}
 use Rattle.one_way.specs.Seen.{Seen}
 
 abbrev goes : CallState → Turn → Step CallState
@@ -33,7 +33,7 @@ abbrev Same : CallState → Type 0
 Same s = by_ends s ≡ by_call s
 
 unless_same : (s : CallState) (trace : List ℕ) (e : Event) (o : Option Refusal) (a b : Step CallState)
-    → (o ≡ None → a ≡ b) → unless s trace e o a ≡ unless s trace e o b
+    → (o ≡ None → a ≡ b) → unless_refused s trace e o a ≡ unless_refused s trace e o b
 unless_same s trace e None a b same = same refl
 unless_same s trace e (Some r) a b same = refl
 
@@ -47,21 +47,21 @@ event_agrees : (s : CallState) (inputs : Role → List ℕ) (trace : List ℕ) (
     → event_step by_ends s inputs trace line ≡ event_step by_call s inputs trace line
 event_agrees s inputs trace says.Nothing same played = refl
 event_agrees s inputs trace says.Send same played =
-    ap (λ (seen : Seen). unless s trace Send (refused_by s Send seen) (capture_step s trace (inputs Video))) same
+    ap (λ (seen : Seen). unless_refused s trace Send (refused_by s Send seen) (capture_step s trace (inputs Video))) same
 event_agrees s inputs trace (says.Packet n j) same played =
-    ap (λ (seen : Seen). unless s trace (Deliver n j) (refused_by s (Deliver n j) seen)
+    ap (λ (seen : Seen). unless_refused s trace (Deliver n j) (refused_by s (Deliver n j) seen)
     (goes (after_line (with_packet s n j) trace) (line_turn trace no_texts))) same
 event_agrees s inputs trace (says.All n) same played =
-    ap (λ (seen : Seen). unless s trace (Deliver n 0) (refused_by s (Deliver n 0) seen)
+    ap (λ (seen : Seen). unless_refused s trace (Deliver n 0) (refused_by s (Deliver n 0) seen)
     (goes (after_line (record s { past = delivered n (length (slices_at seen.coded n)) ++ s.past }) trace)
     (line_turn trace no_texts))) same
 event_agrees s inputs trace (says.Back k) same played =
-    ap (λ (seen : Seen). unless s trace (Back k) (refused_by s (Back k) seen)
+    ap (λ (seen : Seen). unless_refused s trace (Back k) (refused_by s (Back k) seen)
     (goes (after_line (with_message s k) trace) (line_turn trace no_texts))) same
 event_agrees s inputs trace says.Play same played =
     unless_same s trace Play (refusal_at by_ends s Play) _ _
     (λ none. λ i. goes (after_line (with_play s) trace) (line_turn trace (play_texts (played none i) (same i).played)))
-    ∙ ap (λ (seen : Seen). unless s trace Play (refused_by s Play seen)
+    ∙ ap (λ (seen : Seen). unless_refused s trace Play (refused_by s Play seen)
     (goes (after_line (with_play s) trace) (line_turn trace (play_texts (by_call (with_play s)) (by_call s).played))))
     same
 
@@ -81,7 +81,7 @@ trace_agrees s inputs (b ∷ trace) same played =
 
 frame_agrees : (s : CallState) (video : List ℕ) (r : Result (List ℕ) Y4mFault)
     → ((planes : List ℕ) → Same (with_frame s (bare (picture_of s.params.format planes)))
-    × Same (with_picture by_ends s planes))
+    × Same (with_whole_frame by_ends s planes))
     → frame_step by_ends s video r ≡ frame_step by_call s video r
 frame_agrees s video (Ok planes) same =
     let sent = with_frame s (bare (picture_of s.params.format planes)) in
@@ -96,13 +96,13 @@ frame_agrees s video (Ok planes) same =
       texts = play_texts seen n;
     })
     in
-    ap (step (with_picture by_ends s planes)) (same planes).1
+    ap (step (with_whole_frame by_ends s planes)) (same planes).1
     ∙ ap (λ (seen : Seen). step (passed seen) (by_call (passed seen))) (same planes).0
 frame_agrees s video (Err fault) same = refl
 
 pub video_agrees : (s : CallState) (video : List ℕ) → Same s
     → ((planes : List ℕ) → Same (with_frame s (bare (picture_of s.params.format planes)))
-    × Same (with_picture by_ends s planes))
+    × Same (with_whole_frame by_ends s planes))
     → video_step by_ends s video ≡ video_step by_call s video
 video_agrees s [] same passed = ap (λ (seen : Seen). ends (all_played seen)) same
 video_agrees s (b ∷ rest) same passed = frame_agrees s (b ∷ rest) (next_frame s.more s.params.format s.at (b ∷ rest))

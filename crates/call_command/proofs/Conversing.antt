@@ -21,16 +21,16 @@ use Rattle.call_command.specs.declared.world.World.{World}
 use Rattle.call_command.specs.declared.terms.Terms.{Terms}
 use Rattle.one_way.specs.Both.{steady}
 use Rattle.one_way.specs.Laws.{WayLaws}
-use Rattle.call_command.specs.Call.{CallState, call_step, first_state, may_read, most_turns, talk_step}
-use Rattle.call_command.specs.Converse.{IsFirst, WorldAnswers, WorldStands, WorldStays, talk_end, talk_of}
+use Rattle.call_command.specs.Call.{CallState, call_step, call_at_start, may_read, most_turns, talk_step}
+use Rattle.call_command.specs.Converse.{IsCallStart, WorldAnswers, WorldStands, WorldStays, talk_end, talk_of}
 use Rattle.call_command.specs.Laws.{TalkIsTheCall}
-use Rattle.call_command.specs.Standing.{EndsStand, IsFresh, Parts, PartsStand, more_of, parts_of}
+use Rattle.call_command.specs.Standing.{EndsStand, IsFreshLink, CallParts, PartsStand, more_of, call_parts}
 use Rattle.call_command.specs.Turning.{IsAnswer, LeavesEnds, names_of}
 use Rattle.call_command.proofs.Counting.{ends_stand}
 use Rattle.call_command.proofs.Starting.{stands_first}
 
 -- what was begun, and what carries it
-abbrev pub parts_with : Begun → Link → Parts
+abbrev pub parts_with : Begun → Link → CallParts
 parts_with begun link =
     record {
       terms = begun.terms;
@@ -41,18 +41,18 @@ parts_with begun link =
     }
 
 -- its parts stand
-pub lent_first : (x : Parts) (before : List ReceiverEntry) (inputs : Role → List ℕ) → WayLaws x.terms.params
-    → IsFresh x.terms x.link
+pub lent_first : (x : CallParts) (before : List ReceiverEntry) (inputs : Role → List ℕ) → WayLaws x.terms.params
+    → IsFreshLink x.terms x.link
     → x.sender.params ≡ x.terms.params → sender_end.Stands (steady x.terms.params) x.sender [] → x.sender.sent ≡ 0
     → x.video.more ≡ 1048576 → x.receiver.params ≡ x.terms.params → x.receiver.played ≡ 0
     → receiver_end.Stands x.receiver before
-    → PartsStand x (first_state x.terms before x.video.at) inputs
+    → PartsStand x (call_at_start x.terms before x.video.at) inputs
 lent_first x before inputs laws fresh sender_params sends sent more receiver_params played receives =
     stands_first x fresh laws sender_params sends sent more before x.video.at inputs refl receiver_params receives
     (subst (λ (p : Params). (receiver_end.run_of p before).played ≡ 0) receiver_params (sym receives.played ∙ played))
 
 -- no frame and no line was read yet
-most_is : (x : Parts) → x.link.trace.lines ≡ 0 → x.video.more ≡ 1048576 → more_of x ≡ most_turns x.terms.plain
+most_is : (x : CallParts) → x.link.trace.lines ≡ 0 → x.video.more ≡ 1048576 → more_of x ≡ most_turns x.terms.plain
 most_is x lines more = by_trace x.terms.plain
   where
     by_trace : (plain : Bool) → (if plain then x.video.more else 16777216 - x.link.trace.lines) ≡ most_turns plain
@@ -60,10 +60,10 @@ most_is x lines more = by_trace x.terms.plain
     by_trace false = ap (λ (n : ℕ). 16777216 - n) lines
 
 -- a run of the ideal call that is under way before the first event is one by both ends
-pub alone_under_way : (x : Parts) → x.link.trace.lines ≡ 0 → x.video.more ≡ 1048576
-    → ((rest : Role → List ℕ) → PartsStand x (first_state x.terms [] x.video.at) rest) → TalkIsTheCall x.terms
+pub alone_under_way : (x : CallParts) → x.link.trace.lines ≡ 0 → x.video.more ≡ 1048576
+    → ((rest : Role → List ℕ) → PartsStand x (call_at_start x.terms [] x.video.at) rest) → TalkIsTheCall x.terms
     → (run : Run) (inputs : Role → List ℕ) (start : Role → Option (List ℕ)) (now : Outside)
-    → IsUnderWay call_step may_read run inputs start (IsFirst x.terms x.video.at) (most_turns x.terms.plain) now
+    → IsUnderWay call_step may_read run inputs start (IsCallStart x.terms x.video.at) (most_turns x.terms.plain) now
     → IsUnderWay talk_step may_read run inputs start (PartsStand x) (more_of x) now
 alone_under_way x lines more kept talk run inputs start now u =
     let most = most_turns x.terms.plain in
@@ -85,11 +85,11 @@ alone_under_way x lines more kept talk run inputs start now u =
       written = u.written;
     }
 
-module _ (x : Parts) (before : List ReceiverEntry) (inputs : Role → List ℕ) (now : Outside) (lines : x.link.trace.lines
+module _ (x : CallParts) (before : List ReceiverEntry) (inputs : Role → List ℕ) (now : Outside) (lines : x.link.trace.lines
     ≡ 0) (more : x.video.more ≡ 1048576)
-    (kept : PartsStand x (first_state x.terms before x.video.at) inputs) (told : Tells now inputs) where
+    (kept : PartsStand x (call_at_start x.terms before x.video.at) inputs) (told : Tells now inputs) where
   abbrev first : CallState
-  first = first_state x.terms before x.video.at
+  first = call_at_start x.terms before x.video.at
 
   more_is : more_of x ≡ most_turns x.terms.plain
   more_is = most_is x lines more
@@ -139,7 +139,7 @@ left_standing status s w = after_all status (LeftIn WorldStands LeavesEnds s w)
     (EndsStand w.terms w.sender.now w.receiver.now s) ends
   where
     ends : LeftIn WorldStands LeavesEnds s w → EndsStand w.terms w.sender.now w.receiver.now s
-    ends l = l.left s (ends_stand (parts_of l.last) s l.rest l.stood)
+    ends l = l.left s (ends_stand (call_parts l.last) s l.rest l.stood)
 
 -- what stays of a machine, by what it was itself
 pub stays_itself : {old new : World} → ((first : World) → WorldStays first old → WorldStays first new)

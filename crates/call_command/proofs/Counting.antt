@@ -21,19 +21,19 @@ use Rattle.one_way.specs.Laws.{WayLaws}
 use Rattle.one_way.specs.Way.{tally_of, way_of}
 use Rattle.call_command.specs.declared.world.World.{World}
 use Rattle.call_command.specs.Call.{CallState, by_ends, may_read, talk_step, trace_step, video_step}
-use Rattle.call_command.specs.Standing.{EndsStand, HasDone, Parts, PartsReady, PartsStand, more_of, parts_of, source_of, state_of}
-use Rattle.call_command.specs.Turning.{IsAnswer, IsBegun, IsTurn, LeavesEnds, TakesTurn, names_of}
+use Rattle.call_command.specs.Standing.{EndsStand, HasDone, CallParts, PartsReady, PartsStand, more_of, call_parts, source_of, call_state_of}
+use Rattle.call_command.specs.Turning.{IsAnswer, IsTurnBegun, IsTurn, LeavesEnds, TakesTurn, names_of}
 
 -- ---- which step it is
 
 -- a step of the state at which the parts stand is one of the plain trace
-pub plainly : (x : Parts) (s : CallState) (inputs : Role → List ℕ) → s ≡ state_of x s.before s.frames s.past
+pub plainly : (x : CallParts) (s : CallState) (inputs : Role → List ℕ) → s ≡ call_state_of x s.before s.frames s.past
     → x.terms.plain ≡ true
     → (P : Step CallState → Bool → Type 0)
-    → P (video_step by_ends (state_of x s.before s.frames s.past) (inputs Video))
-    (may_read (state_of x s.before s.frames s.past)) → P (talk_step s inputs) (may_read s)
+    → P (video_step by_ends (call_state_of x s.before s.frames s.past) (inputs Video))
+    (may_read (call_state_of x s.before s.frames s.past)) → P (talk_step s inputs) (may_read s)
 plainly x s inputs is plain P holds =
-    let here = state_of x s.before s.frames s.past in
+    let here = call_state_of x s.before s.frames s.past in
     let same : talk_step here inputs ≡ video_step by_ends here (inputs Video) =
     ap (λ (b : Bool). if b then video_step by_ends here (inputs Video) else trace_step by_ends here inputs
     (inputs Events)) plain
@@ -42,13 +42,13 @@ plainly x s inputs is plain P holds =
     (subst (λ (step : Step CallState). P step (may_read here)) (sym same) holds)
 
 -- or of a recorded one
-pub line_by_line : (x : Parts) (s : CallState) (inputs : Role → List ℕ) → s ≡ state_of x s.before s.frames s.past
+pub line_by_line : (x : CallParts) (s : CallState) (inputs : Role → List ℕ) → s ≡ call_state_of x s.before s.frames s.past
     → x.terms.plain ≡ false
     → (P : Step CallState → Bool → Type 0)
-    → P (trace_step by_ends (state_of x s.before s.frames s.past) inputs (inputs Events))
-    (may_read (state_of x s.before s.frames s.past)) → P (talk_step s inputs) (may_read s)
+    → P (trace_step by_ends (call_state_of x s.before s.frames s.past) inputs (inputs Events))
+    (may_read (call_state_of x s.before s.frames s.past)) → P (talk_step s inputs) (may_read s)
 line_by_line x s inputs is recorded P holds =
-    let here = state_of x s.before s.frames s.past in
+    let here = call_state_of x s.before s.frames s.past in
     let same : talk_step here inputs ≡ trace_step by_ends here inputs (inputs Events) =
     ap (λ (b : Bool). if b then video_step by_ends here (inputs Video) else trace_step by_ends here inputs
     (inputs Events)) recorded
@@ -58,14 +58,14 @@ line_by_line x s inputs is recorded P holds =
 
 -- ---- what holds of the frames that were read
 
-pub done_now : (x : Parts) (s : CallState) → ((later : List Frame) → HasDone x s.before (s.frames ++ later) s.past)
+pub done_now : (x : CallParts) (s : CallState) → ((later : List Frame) → HasDone x s.before (s.frames ++ later) s.past)
     → HasDone x s.before s.frames s.past
 done_now x s holds = subst (λ (l : List Frame). HasDone x s.before l s.past) (append-nil s.frames) (holds [])
 
 -- the line of the counts is that of the state
-pub counts_are : (x : Parts) → WayLaws x.terms.params → (s : CallState) (inputs : Role → List ℕ) → PartsStand x s inputs
+pub counts_are : (x : CallParts) → WayLaws x.terms.params → (s : CallState) (inputs : Role → List ℕ) → PartsStand x s inputs
     → counts_of (tally_of (way_of x.link.network)) x.receiver.played x.sender.sent
-    ≡ call_text (by_ends (state_of x s.before s.frames s.past))
+    ≡ call_text (by_ends (call_state_of x s.before s.frames s.past))
 counts_are x laws s inputs k =
     let h = (done_now x s k.holds).way_holds in
     let played = laws.played x.sender x.receiver s.before s.frames s.past h.joined in
@@ -83,7 +83,7 @@ once starved P p = tt
 once unasked P p = tt
 once (unopened role) P p = tt
 
-pub ends_stand : (x : Parts) (s : CallState) (inputs : Role → List ℕ) → PartsStand x s inputs
+pub ends_stand : (x : CallParts) (s : CallState) (inputs : Role → List ℕ) → PartsStand x s inputs
     → EndsStand x.terms x.sender x.receiver s
 ends_stand x s inputs k = (done_now x s k.holds).way_holds.joined
 
@@ -160,10 +160,10 @@ module _ (x y : World) (mid new : Outside) (Begins : Outside → CallState → (
       })
 
   -- one that goes on
-  pub goes_on : names_of y ≡ names_of x → more_of (parts_of y) + 1 ≡ more → PartsReady (parts_of y) new.attached
+  pub goes_on : names_of y ≡ names_of x → more_of (call_parts y) + 1 ≡ more → PartsReady (call_parts y) new.attached
       → KeepsRoles mid new
       → ((old : Outside) (s : CallState) (inputs : Role → List ℕ) → Begins old s inputs
-      → Went (step s inputs) (PartsStand (parts_of y)) may_read (reads s) inputs old new)
+      → Went (step s inputs) (PartsStand (call_parts y)) may_read (reads s) inputs old new)
       → IsTurn x y (Ok true) mid new Begins step reads more
   goes_on names falls ready rest gives = record {
     gives = gives;
@@ -201,42 +201,42 @@ module _ (x y : World) (mid new : Outside) (Begins : Outside → CallState → (
 
 -- ---- whole turns
 
-begun : (x : Parts) (now : Outside) (P : Outside → CallState → (Role → List ℕ) → Type 0)
+begun : (x : CallParts) (now : Outside) (P : Outside → CallState → (Role → List ℕ) → Type 0)
     → ((s : CallState) (inputs : Role → List ℕ) → PartsStand x s inputs → Tells now inputs → P now s inputs)
-    → (old : Outside) (s : CallState) (inputs : Role → List ℕ) → IsBegun x now old s inputs → P old s inputs
+    → (old : Outside) (s : CallState) (inputs : Role → List ℕ) → IsTurnBegun x now old s inputs → P old s inputs
 begun x now P at old s inputs b = subst (λ (o : Outside). P o s inputs) (sym b.same) (at s inputs b.stands b.told)
 
 module _ (x y : World) (old new : Outside) where
   pub turn_gave_up : (r : Result Bool Status) (status : Status) → IsErrAnd r (λ z. z ≡ status) → names_of y ≡ names_of x
       → IsAnswer x.terms.plain status → IsStop status → HasCause status old.faults new.faults → KeepsRoles old new
-      → ((s : CallState) (inputs : Role → List ℕ) → PartsStand (parts_of x) s inputs → Tells old inputs
+      → ((s : CallState) (inputs : Role → List ℕ) → PartsStand (call_parts x) s inputs → Tells old inputs
       → GivesUp (phase status) status (talk_step s inputs) (may_read s) inputs old new)
       → LeavesEnds x y
       → TakesTurn x y r old new
   turn_gave_up r status is names answers stop cause rest gives keeps =
       gave_up x y old new _ _ _ _ r status is names answers stop cause rest
-      (begun (parts_of x) old (λ o s inputs. GivesUp (phase status) status (talk_step s inputs)
+      (begun (call_parts x) old (λ o s inputs. GivesUp (phase status) status (talk_step s inputs)
       (may_read s) inputs o new) gives)
       keeps
 
   pub turn_was_cut : (r : Result Bool Status) (status : Status) → IsErrAnd r (λ z. z ≡ status) → names_of y ≡ names_of x
       → status ≡ WriteFault → Rose old.faults.write new.faults.write → KeepsRoles old new
-      → ((s : CallState) (inputs : Role → List ℕ) → PartsStand (parts_of x) s inputs → Tells old inputs
+      → ((s : CallState) (inputs : Role → List ℕ) → PartsStand (call_parts x) s inputs → Tells old inputs
       → GainsFronts (step_texts (talk_step s inputs)) old.written new.written)
       → TakesTurn x y r old new
   turn_was_cut r status is names kind rose rest gives =
       was_cut x y old new _ _ _ _ r status is names kind rose rest
-      (begun (parts_of x) old (λ o s inputs. GainsFronts (step_texts (talk_step s inputs)) o.written new.written) gives)
+      (begun (call_parts x) old (λ o s inputs. GainsFronts (step_texts (talk_step s inputs)) o.written new.written) gives)
 
   pub turn_is_over : names_of y ≡ names_of x → KeepsRoles old new
-      → ((s : CallState) (inputs : Role → List ℕ) → PartsStand (parts_of x) s inputs → Tells old inputs
+      → ((s : CallState) (inputs : Role → List ℕ) → PartsStand (call_parts x) s inputs → Tells old inputs
       → Ended (talk_step s inputs) Fine inputs old new)
-      → ((s : CallState) (inputs : Role → List ℕ) → PartsStand (parts_of x) s inputs → Tells old inputs
+      → ((s : CallState) (inputs : Role → List ℕ) → PartsStand (call_parts x) s inputs → Tells old inputs
       → new.left (source_of x.terms) ≡ Some [])
       → LeavesEnds x y
       → TakesTurn x y (Ok false) old new
   turn_is_over names rest gives whole keeps =
       is_over x y old new _ _ _ _ names rest
-      (begun (parts_of x) old (λ o s inputs. Ended (talk_step s inputs) Fine inputs o new) gives)
+      (begun (call_parts x) old (λ o s inputs. Ended (talk_step s inputs) Fine inputs o new) gives)
       (λ o s inputs b. whole s inputs b.stands b.told)
       keeps

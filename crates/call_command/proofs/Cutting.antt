@@ -16,7 +16,7 @@ use Rattle.desk_program.specs.Ends.{IsPart, step_turns}
 use Rattle.desk_program.specs.Texts.{of}
 use Rattle.call_model.specs.IdealCall.{Event, Send, Deliver, Play, Back}
 use Rattle.call_model.specs.Refusals.{Refusal}
-use Rattle.call_command.specs.Call.{CallState, bad_line, by_ends, capture_step, captured_step, event_step, line_size, line_step, refusal_at, trace_step, unless}
+use Rattle.call_command.specs.Call.{CallState, bad_line, by_ends, capture_step, captured_step, event_step, line_size, line_step, refusal_at, trace_step, unless_refused}
 use Rattle.call_command.specs.Laws.{CoversLine}
 use Rattle.call_command.proofs.Lines.{line_part}
 
@@ -31,7 +31,7 @@ module _ (s : CallState) (inputs : Role → List ℕ) (trace : List ℕ) where
   more_size n m = omega arith
 
   turn_unless : (e : Event) (o : Option Refusal) (step : Step CallState) → IsLineTurn trace step
-      → IsLineTurn trace (unless s trace e o step)
+      → IsLineTurn trace (unless_refused s trace e o step)
   turn_unless e None step is = is
   turn_unless e (Some r) step is = tt
 

@@ -21,16 +21,16 @@ use Rattle.one_way.specs.Refused.{refusal_after}
 use Rattle.one_way.specs.Way.{CanSend, IsAmongLast, MayHappenNow, kept_in, said_in, tally_of, way_of}
 use Rattle.call_command.specs.declared.world.World.{World}
 use Rattle.call_command.specs.Call.{CallState, after_line, by_ends, event_step, line_turn, may_read}
-use Rattle.call_command.specs.Standing.{HasDone, Parts, PartsReady, PartsStand, StoodBefore, more_of, parts_of}
+use Rattle.call_command.specs.Standing.{HasDone, CallParts, PartsReady, PartsStand, StoodBefore, more_of, call_parts}
 use Rattle.call_command.specs.Turning.{TakesLine, names_of}
 use Rattle.call_command.proofs.AfterTurn.{done_here, event_goes, line_goes_on}
 use Rattle.call_command.proofs.Readying.{ready_so, recorded_keeps}
 
 -- the parts after a delivery
-abbrev pub with_network : Parts → Network → Kept → Parts
+abbrev pub with_network : CallParts → Network → Kept → CallParts
 with_network x network receiver = record x { receiver = receiver; link = record x.link { network = network } }
 
-module _ (x : Parts) (attached : Role → Bool) (r : PartsReady x attached) (recorded : x.terms.plain ≡ false) where
+module _ (x : CallParts) (attached : Role → Bool) (r : PartsReady x attached) (recorded : x.terms.plain ≡ false) where
   -- the parts are as ready after it
   pub ready_delivered : (network : Network) (receiver : Kept) → way_of network ≡ way_of x.link.network
       → receiver.played ≡ x.receiver.played
@@ -62,32 +62,32 @@ module _ (x : Parts) (attached : Role → Bool) (r : PartsReady x attached) (rec
 -- the packets of a line are delivered, of which one tells whether they may be
 pub delivered_goes_on : (m y : World) (line : ℕ) (event said : Line) (n j : ℕ) (mid : Outside) (network : Network)
     (receiver : Kept) (events : CallState → List Event)
-    → event ≡ said → names_of y ≡ names_of m → parts_of y ≡ with_network (parts_of m) network receiver
-    → PartsReady (parts_of m) mid.attached → m.terms.plain ≡ false → way_of network ≡ way_of m.network
+    → event ≡ said → names_of y ≡ names_of m → call_parts y ≡ with_network (call_parts m) network receiver
+    → PartsReady (call_parts m) mid.attached → m.terms.plain ≡ false → way_of network ≡ way_of m.network
     → receiver.played ≡ m.receiver.now.played
     → said_in network ≤ 400 * (m.trace.lines + m.sender.now.sent) → NearLaws m.terms.params → TurnLaws → StepLaws
-    → ((s : CallState) (inputs : Role → List ℕ) → StoodBefore (parts_of m) s inputs
+    → ((s : CallState) (inputs : Role → List ℕ) → StoodBefore (call_parts m) s inputs
     → refusal_after m.terms.params s.before s.frames s.past (Deliver n j) ≡ None
     → event_step by_ends s inputs (inputs Events) said
     ≡ Goes (after_line (record s { past = events s }) (inputs Events)) (line_turn (inputs Events) no_texts))
     → ((s : CallState) (frames : List Frame) → (receiver_end.run_of m.terms.params s.before).played ≡ 0
-    → HasDone (parts_of m) s.before frames s.past
+    → HasDone (call_parts m) s.before frames s.past
     → refusal_after m.terms.params s.before frames s.past (Deliver n j) ≡ None)
-    → ((s : CallState) (inputs : Role → List ℕ) (k : StoodBefore (parts_of m) s inputs) (later : List Frame)
+    → ((s : CallState) (inputs : Role → List ℕ) (k : StoodBefore (call_parts m) s inputs) (later : List Frame)
     → IsAmongLast (way_of m.network) (length (both_after m.terms.params (steady m.terms.params) (s.frames
     ++ later) s.before s.past).sender.coded) n
     × MayHappenNow m.terms.params s.before (s.frames ++ later) s.past (Deliver n j)
-    → HasDone (with_network (parts_of m) network receiver) s.before (s.frames ++ later) (events s))
+    → HasDone (with_network (call_parts m) network receiver) s.before (s.frames ++ later) (events s))
     → TakesLine m y line event (Ok true) mid mid
 delivered_goes_on m y line event said n j mid network receiver events is names same r recorded way played few near turns
     steps step none holds =
-    let x = parts_of m in
+    let x = call_parts m in
     line_goes_on m y line event said mid mid is names (ap more_of same)
-    (subst (λ (q : Parts). PartsReady q mid.attached) (sym same)
+    (subst (λ (q : CallParts). PartsReady q mid.attached) (sym same)
     (ready_delivered x mid.attached r recorded network receiver way played few)) (steps.none mid)
     (λ o s inputs b.
     let k = b.stood in
-    subst (λ (q : Parts). Went (event_step by_ends s inputs (inputs Events) said) (PartsStand q) may_read true inputs o
+    subst (λ (q : CallParts). Went (event_step by_ends s inputs (inputs Events) said) (PartsStand q) may_read true inputs o
     mid) (sym same)
     (event_goes x s inputs k x.sender receiver (record x.link { network = network }) refl refl turns o mid b.taken said
     (events s)

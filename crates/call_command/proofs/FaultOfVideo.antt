@@ -18,7 +18,7 @@ use Rattle.call_model.specs.Refusals.{Refusal}
 use Rattle.desk_program.specs.Run.{Run, Step, left_after, follow, run_from, run_of, silence}
 use Rattle.desk_program.specs.Texts.{of, and_of}
 use Rattle.call_command.specs.declared.terms.Terms.{Terms}
-use Rattle.call_command.specs.Call.{CallState, by_call, call_begin, call_step, capture_step, captured_step, first_state, frame_step, head_step, line_size, line_step, most_turns, refusal_at, trace_step, unless, video_step, with_format}
+use Rattle.call_command.specs.Call.{CallState, by_call, call_begin, call_step, capture_step, captured_step, call_at_start, frame_step, head_step, line_size, line_step, most_turns, refusal_at, trace_step, unless_refused, video_step, with_format}
 
 refused_is : (a b : Y4mFault) → VideoRefused a ≡ VideoRefused b → a ≡ b
 refused_is a b is = cc is
@@ -92,7 +92,7 @@ module _ (frame_laws : FrameLaws) (fault : Y4mFault) where
       -- an event that may be refused
       at_unless : (e : Event) (o : Option Refusal) (step : Step CallState)
           → (Refuses step → fault_of s.params.format s.more s.at (inputs Video) ≡ Some fault)
-          → Refuses (unless s trace e o step) → fault_of s.params.format s.more s.at (inputs Video) ≡ Some fault
+          → Refuses (unless_refused s trace e o step) → fault_of s.params.format s.more s.at (inputs Video) ≡ Some fault
       at_unless e None step later ends = later ends
       at_unless e (Some refusal) step later ends = absurd (cc ends)
 
@@ -147,6 +147,6 @@ module _ (frame_laws : FrameLaws) (fault : Y4mFault) where
           (left_after inputs taken))).last.status ≡ VideoRefused fault
           → fault_after_head r (head_size (inputs Video)) (drop (head_size (inputs Video)) (inputs Video)) ≡ Some fault
       by_head (Ok f) is ends =
-          run_refused (most_turns t.plain) (first_state (with_format t f) [] (head_size (inputs Video)))
+          run_refused (most_turns t.plain) (call_at_start (with_format t f) [] (head_size (inputs Video)))
           (left_after inputs (of Video (head_size (inputs Video)))) ends
       by_head (Err broken) is ends = ap (λ (x : Y4mFault). Some x) (refused_is broken fault ends)

@@ -25,7 +25,7 @@ use Rattle.desk_program.specs.Ends.{Tells, Gains, GainsFronts, IsPart, Went, End
 use Rattle.desk_program.specs.Texts.{no_bytes, on, of}
 use Rattle.desk_program.specs.Laws.{TurnLaws}
 use Rattle.call_command.specs.declared.terms.Terms.{Terms}
-use Rattle.call_command.specs.Call.{CallState, all_played, by_ends, call_begin, first_state, frame_step, head_step, may_read, play_texts, video_step, with_format, with_picture}
+use Rattle.call_command.specs.Call.{CallState, all_played, by_ends, call_begin, call_at_start, frame_step, head_step, may_read, play_texts, video_step, with_format, with_whole_frame}
 use Rattle.call_command.specs.Counts.{call_text}
 use Rattle.call_command.specs.Laws.{VideoLaws}
 use Rattle.call_command.proofs.Lines.{not_held}
@@ -216,7 +216,7 @@ module _ (turns : TurnLaws) (laws : VideoLaws) (inputs : Role → List ℕ) (old
 
     module _ (s : CallState) (going : s.ended ≡ false) (out : List ℕ) (reader : Y4mPlace)
         (e : Gives (Ok true) s (inputs Video) out reader (mid.left Video)) (texts : Role → List ℕ) (texts_are : texts
-        ≡ play_texts (by_ends (with_picture by_ends s out)) (length s.frames)) where
+        ≡ play_texts (by_ends (with_whole_frame by_ends s out)) (length s.frames)) where
       abbrev size : ℕ
       size = frame_size s.params.format (inputs Video)
 
@@ -227,21 +227,21 @@ module _ (turns : TurnLaws) (laws : VideoLaws) (inputs : Role → List ℕ) (old
           → GainsFronts (step_texts (video_step by_ends s (inputs Video))) old.written new.written
       frame_cut gains =
           subst (λ (x : Step CallState). GainsFronts (step_texts x) old.written new.written) (sym frame_is)
-          (subst (λ (w : Role → Option (List ℕ)). GainsFronts (play_texts (by_ends (with_picture by_ends s out))
+          (subst (λ (w : Role → Option (List ℕ)). GainsFronts (play_texts (by_ends (with_whole_frame by_ends s out))
           (length s.frames)) w new.written) same
           (subst (λ (t : Role → List ℕ). GainsFronts t mid.written new.written) texts_are gains))
 
       pub frame_goes : (stands : CallState → (Role → List ℕ) → Type 0)
-          → stands (record (with_picture by_ends s out) { at = s.at + size; more = s.more - 1 })
+          → stands (record (with_whole_frame by_ends s out) { at = s.at + size; more = s.more - 1 })
           (left_after inputs (of Video size))
           → Gains texts mid.written new.written
           → Went (video_step by_ends s (inputs Video)) stands may_read (may_read s) inputs old new
       frame_goes stands kept gains = record {
-        next = record (with_picture by_ends s out) { at = s.at + size; more = s.more - 1 };
+        next = record (with_whole_frame by_ends s out) { at = s.at + size; more = s.more - 1 };
         turn = record {
           taken = of Video size;
           whole = true;
-          texts = play_texts (by_ends (with_picture by_ends s out)) (length s.frames);
+          texts = play_texts (by_ends (with_whole_frame by_ends s out)) (length s.frames);
         };
         could = ap not going;
         is = frame_is;
@@ -249,7 +249,7 @@ module _ (turns : TurnLaws) (laws : VideoLaws) (inputs : Role → List ℕ) (old
         whole = sym (ap not going);
         left = turns.one_read Video size old new inputs told (ap (λ (l : Role → Option (List ℕ)). l Video) still
             ∙ e.3) (λ r other. ap (λ (l : Role → Option (List ℕ)). l r) still ∙ others r other);
-        written = subst (λ (w : Role → Option (List ℕ)). Gains (play_texts (by_ends (with_picture by_ends s out))
+        written = subst (λ (w : Role → Option (List ℕ)). Gains (play_texts (by_ends (with_whole_frame by_ends s out))
             (length s.frames)) w new.written) same (subst (λ (t : Role → List ℕ). Gains t mid.written new.written)
             texts_are gains);
       }
@@ -268,7 +268,7 @@ module _ (turns : TurnLaws) (laws : VideoLaws) (inputs : Role → List ℕ) (old
           (subst (λ (w : Role → Option (List ℕ)). GainsFronts (on Pictures (head_text f)) w new.written) same gains)
 
       abbrev first : CallState
-      first = first_state (with_format t f) [] (head_size (inputs Video))
+      first = call_at_start (with_format t f) [] (head_size (inputs Video))
 
       pub head_goes : (stands : CallState → (Role → List ℕ) → Type 0)
           → stands first (left_after inputs (of Video (head_size (inputs Video))))

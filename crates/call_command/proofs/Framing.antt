@@ -28,12 +28,12 @@ use Rattle.one_way.specs.Seen.{in_both}
 use Rattle.one_way.specs.Trace.{delivered, passed_on}
 use Rattle.one_way.specs.Way.{HoldsNetwork, IsAmongLast, MayHappenNow, kept_in}
 use Rattle.call_command.specs.declared.link.Link.{Link}
-use Rattle.call_command.specs.Call.{CallState, by_ends, play_texts, with_picture}
-use Rattle.call_command.specs.Standing.{Parts, PartsStand, state_of}
+use Rattle.call_command.specs.Call.{CallState, by_ends, play_texts, with_whole_frame}
+use Rattle.call_command.specs.Standing.{CallParts, PartsStand, call_state_of}
 use Rattle.call_command.proofs.After.{at_end, below_end, longer, push_then}
 use Rattle.call_command.proofs.Half.{half_some}
 
-module _ (x : Parts) (laws : WayLaws x.terms.params) (events : EventLaws x.terms.params)
+module _ (x : CallParts) (laws : WayLaws x.terms.params) (events : EventLaws x.terms.params)
     (frames_law : LaterFramesBoth (coding x.terms.params) (rules_of x.terms.params))
     (s : CallState) (inputs : Role → List ℕ) (k : PartsStand x s inputs) (level : x.receiver.played ≡ x.sender.sent)
     (out : List ℕ) where
@@ -119,7 +119,7 @@ module _ (x : Parts) (laws : WayLaws x.terms.params) (events : EventLaws x.terms
   -- ---- what is shown, and where the parts stand then
 
   abbrev then : CallState
-  then = with_picture by_ends (state_of x s.before s.frames s.past) out
+  then = with_whole_frame by_ends (call_state_of x s.before s.frames s.past) out
 
   pub texts_are : (n played : ℕ) → n ≡ x.sender.sent → played ≡ x.receiver.played
       → play_texts (in_both (both [] (passed_on n (count_of [] n) s.past))) played

@@ -14,7 +14,7 @@ use Rattle.desk_program.specs.Ends.{Falls, Tells, TurnGives}
 use Rattle.desk_program.specs.Laws.{StepLaws, TurnLaws}
 use Rattle.call_command.specs.declared.world.World.{World}
 use Rattle.call_command.specs.Call.{CallState, by_ends, event_step, may_read, talk_step}
-use Rattle.call_command.specs.Standing.{HasRoom, Parts, PartsReady, PartsStand, ReadsTrace, more_of, parts_of, state_of}
+use Rattle.call_command.specs.Standing.{HasRoomToSay, CallParts, PartsReady, PartsStand, ReadsTrace, more_of, call_parts, call_state_of}
 use Rattle.call_command.specs.Turning.{IsRead, TakesLine, TakesTurn}
 use Rattle.call_command.proofs.AfterTurn.{stood_after}
 use Rattle.call_command.proofs.Counting.{line_by_line}
@@ -56,13 +56,13 @@ line_read m after line event old mid answer is laws steps recorded gives moves o
 
 module _ {m : World} {after : TracePlace} {line : ℕ} {event : Line} {old mid : Outside}
     (w : IsLineRead m after line event old mid) where
-  abbrev x : Parts
-  x = parts_of m
+  abbrev x : CallParts
+  x = call_parts m
 
-  pub room_read : PartsReady x old.attached → HasRoom (parts_of (read_on m after))
+  pub room_read : PartsReady x old.attached → HasRoomToSay (call_parts (read_on m after))
   room_read ready = omega (arith, w.moves.3, ready.said)
 
-  pub ready_read : PartsReady x old.attached → PartsReady (parts_of (read_on m after)) mid.attached
+  pub ready_read : PartsReady x old.attached → PartsReady (call_parts (read_on m after)) mid.attached
   ready_read ready =
       ready_so x old.attached mid.attached ready w.rest.attached x.video x.sender x.receiver
       (record x.link { trace = after })
@@ -74,9 +74,9 @@ module _ {m : World} {after : TracePlace} {line : ℕ} {event : Line} {old mid :
   only told = record { told = told; others = w.others; written = w.rest.written }
 
   was_read : (s : CallState) (inputs : Role → List ℕ) → PartsStand x s inputs → Tells old inputs
-      → IsRead (parts_of (read_on m after)) line mid old (state_of x s.before s.frames s.past) inputs
+      → IsRead (call_parts (read_on m after)) line mid old (call_state_of x s.before s.frames s.past) inputs
   was_read s inputs k told =
-      let here = state_of x s.before s.frames s.past in
+      let here = call_state_of x s.before s.frames s.past in
       let e = w.gives (inputs Events) (told Events refl) in
       record {
         stood = stood_after x s inputs k w.recorded after _ w.moves.3 e.0;
@@ -95,8 +95,8 @@ module _ {m : World} {after : TracePlace} {line : ℕ} {event : Line} {old mid :
       → TakesLine (read_on m after) y line event result mid new → TakesTurn m y result old new
   line_taken y result new t = record {
     gives = λ o s inputs b.
-        let here = state_of x s.before s.frames s.past in
-        let stands = PartsStand (parts_of y) in
+        let here = call_state_of x s.before s.frames s.past in
+        let stands = PartsStand (call_parts y) in
         let e = w.gives (inputs Events) (b.told Events refl) in
         let step_is = found_is w.laws here inputs old mid (only b.told) m.trace after (record {
           lines_are = refl;
@@ -119,7 +119,7 @@ module _ {m : World} {after : TracePlace} {line : ℕ} {event : Line} {old mid :
     keeps = t.keeps;
     lasts = t.lasts;
     falls =
-        subst (λ (n : ℕ). Falls result n (more_of (parts_of y)))
+        subst (λ (n : ℕ). Falls result n (more_of (call_parts y)))
         (subst (λ (b : Bool). (if b then x.video.more else 16777216 - after.lines) + 1
         ≡ (if b then x.video.more else 16777216 - m.trace.lines)) (sym w.recorded)
         (omega (arith, w.moves.1, w.moves.3))) t.falls;

@@ -15,7 +15,7 @@ use Rattle.call_model.specs.IdealCall.{Event, Send, Deliver, Play, Back}
 use Rattle.call_model.specs.Refusals.{Refusal}
 use Rattle.desk_program.specs.Run.{Run, Step, left_after, follow, run_from, run_of, silence}
 use Rattle.call_command.specs.declared.terms.Terms.{Terms}
-use Rattle.call_command.specs.Call.{CallState, by_call, call_begin, call_step, capture_step, captured_step, frame_step, head_step, line_step, most_turns, refusal_at, trace_step, unless, video_step}
+use Rattle.call_command.specs.Call.{CallState, by_call, call_begin, call_step, capture_step, captured_step, frame_step, head_step, line_step, most_turns, refusal_at, trace_step, unless_refused, video_step}
 
 module _ (fault : Y4mFault) where
   module _ (s : CallState) (inputs : Role → List ℕ) (rest : CallState → (Role → ℕ) → Run)
@@ -46,7 +46,7 @@ module _ (fault : Y4mFault) where
           at_captured (frame_size s.params.format (b ∷ v)) (next_frame s.more s.params.format s.at (b ∷ v)) ends
 
       at_unless : (e : Event) (o : Option Refusal) (step : Step CallState) → (Refuses step → ⊥)
-          → Refuses (unless s trace e o step) → ⊥
+          → Refuses (unless_refused s trace e o step) → ⊥
       at_unless e None step later ends = later ends
       at_unless e (Some refusal) step later ends = absurd (cc ends)
 

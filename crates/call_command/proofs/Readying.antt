@@ -12,7 +12,7 @@ use Rattle.one_way.specs.Way.{CanSend, kept_in, said_in, tally_of, way_of}
 use Rattle.call_command.specs.declared.link.Link.{Link}
 use Rattle.call_command.specs.declared.terms.Terms.{Terms}
 use Rattle.h263_types.specs.Clocks as clocks
-use Rattle.call_command.specs.Standing.{CallOpens, Parts, PartsReady, pictures_kept}
+use Rattle.call_command.specs.Standing.{CallOpens, CallParts, PartsReady, pictures_kept}
 
 -- a picture has 396 macroblocks at most
 pub few_mbs : (f : Format) → mbs_of f ≤ 396
@@ -27,7 +27,7 @@ recorded_keeps t n is recorded = is ∙ ap (λ (b : Bool). if b then 1 else cloc
 pub plain_keeps : (t : Terms) (n : ℕ) → n ≡ pictures_kept t → t.plain ≡ true → n ≡ 1
 plain_keeps t n is plain = is ∙ ap (λ (b : Bool). if b then 1 else clocks.period_of t.params.clock) plain
 
-module _ (x : Parts) (old new : Role → Bool) (r : PartsReady x old) (attached : new ≡ old) where
+module _ (x : CallParts) (old new : Role → Bool) (r : PartsReady x old) (attached : new ≡ old) where
   pub ready_so : (video : Y4mPlace) (sender : State) (receiver : Kept) (link : Link)
       → video.format ≡ x.video.format → sender.params ≡ x.sender.params → CanSend (way_of link.network) sender
       → kept_in (way_of link.network) ≡ kept_in (way_of x.link.network)

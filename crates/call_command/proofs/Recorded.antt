@@ -42,9 +42,9 @@ use Rattle.one_way.specs.Both.{bare, steady}
 use Rattle.call_command.specs.Counts.{call_text}
 use Rattle.one_way.specs.Seen.{in_call, reference_in}
 use Rattle.one_way.specs.Trace.{delivered}
-use Rattle.call_command.specs.Call.{CallState, after_line, all_played, bad_line, by_call, call_step, capture_step, captured_step, event_step, line_size, line_step, line_turn, play_texts, refusal_at, trace_step, unless}
-use Rattle.call_command.specs.Refused.{fault_of}
-use Rattle.call_command.specs.Recorded.{IsEnd, IsRefusal, IsRefusedCapture, LineMayHappen, LinesMayHappen, capture_told, film, played_lines, shown_text, told, with_line, with_lines}
+use Rattle.call_command.specs.Call.{CallState, after_line, all_played, bad_line, by_call, call_step, capture_step, captured_step, event_step, line_size, line_step, line_turn, play_texts, refusal_at, trace_step, unless_refused}
+use Rattle.call_command.specs.Refused.{fault_told}
+use Rattle.call_command.specs.Recorded.{IsCallEnd, IsRefusal, IsRefusedCapture, LineMayHappen, LinesMayHappen, capture_told, film, played_lines, shown_text, told, with_line, with_lines}
 use Rattle.call_command.proofs.After.{longer, push_then}
 use Rattle.call_command.proofs.FramesLeft.{any_message, any_packet, any_play, send_distance, send_far, send_out}
 use Rattle.call_command.proofs.Lines.{line_gone}
@@ -82,7 +82,7 @@ no_more n = omega arith
 
 -- a refusal for another reason than that no frame is left is told as itself
 distance_told : (broken : Option Y4mFault) (number : ℕ) (r : Refusal) → r ≢ NoPicture
-    → TraceRefused (fault_of number Send r) ≡ capture_told broken number r
+    → TraceRefused (fault_told number Send r) ≡ capture_told broken number r
 distance_told None number r other = refl
 distance_told (Some fault) number NotSent other = refl
 distance_told (Some fault) number NotSaid other = refl
@@ -143,7 +143,7 @@ module _ (p : Params) (all : List Frame) (broken : Option Y4mFault) (later : Lat
     pub report : rows (call all (with_lines p all past lines))
         ++ told run.last.status (call_text (in_call (call all (with_lines p all past lines))))
         ≡ rows (call all past) ++ text_of run Report
-    pub end : IsEnd p all broken fault (number + length lines) (with_lines p all past lines) refused run.last.status
+    pub end : IsCallEnd p all broken fault (number + length lines) (with_lines p all past lines) refused run.last.status
     pub others : (fault : Y4mFault) → run.last.status ≡ VideoRefused fault → run.last.taken Events
         ≡ Some (line_size (drop (taken_of run.turns Events) text))
 
@@ -154,7 +154,7 @@ module _ (p : Params) (all : List Frame) (broken : Option Y4mFault) (later : Lat
       (E : List Line) (F : Option TraceFault) (m : ℕ) (text : List ℕ) (rest : CallState → (Role → ℕ) → Run)
       (status : Status) (taken : Role → Option ℕ) → ((counts : Text) → told status counts ≡ [])
       → ((fault : Y4mFault) → status ≡ VideoRefused fault → taken Events ≡ Some (line_size text))
-      → IsEnd p all broken F (m + 0) past E status → Comes past E F m text (follow (stopped status taken) rest)
+      → IsCallEnd p all broken F (m + 0) past E status → Comes past E F m text (follow (stopped status taken) rest)
   comes_stopped frames past ahead k E F m text rest status taken silent spares end = record {
     end = end;
     others = spares;
@@ -215,7 +215,7 @@ module _ (p : Params) (all : List Frame) (broken : Option Y4mFault) (later : Lat
             ∙ ap (λ (l : List ℕ). Some (line_size l)) (ap (λ (l : List ℕ). drop (taken_of run.turns Events) l)
             (sym gone) ∙ drop-drop (taken_of run.turns Events) (turn.taken Events) text);
         may = (may, comes.may);
-        end = subst (λ (j : ℕ). IsEnd p all broken F j (with_lines p all now comes.lines) comes.refused run.last.status)
+        end = subst (λ (j : ℕ). IsCallEnd p all broken F j (with_lines p all now comes.lines) comes.refused run.last.status)
             (one_further m (length comes.lines)) comes.end;
         lines = line ∷ comes.lines;
         refused = comes.refused;
@@ -300,17 +300,17 @@ module _ (p : Params) (all : List Frame) (broken : Option Y4mFault) (later : Lat
       -- a refusal ends the call
       abbrev IsWhy : Line → Event → Type 0
       IsWhy line e = (r : Refusal) → refusal_at by_call now e ≡ Some r
-          → IsEnd p all broken F (lines + 1 + 0) past (line ∷ E) (TraceRefused (fault_of (lines + 1) e r))
+          → IsCallEnd p all broken F (lines + 1 + 0) past (line ∷ E) (TraceRefused (fault_told (lines + 1) e r))
 
       unless_comes : (line : Line) (e : Event) (o : Option Refusal) (step : Step CallState) → refusal_at by_call now e
-          ≡ o → IsWhy line e → (o ≡ None → Takes line step) → Takes line (unless now trace e o step)
+          ≡ o → IsWhy line e → (o ≡ None → Takes line step) → Takes line (unless_refused now trace e o step)
       unless_comes line e None step found why takes = takes refl
       unless_comes line e (Some r) step found why takes = comes_stopped frames past _ k (line ∷ E) F (lines + 1)
           (inputs Events) rest _ _ (λ text. refl) (λ fault is. absurd (cc is)) (why r found)
 
       told_at : (e : Event) (r : Refusal) → refusal_in (rules_of p) (length all) (call all past) e ≡ Some r
-          → IsRefusal p all (lines + 1 + 0) past e (TraceRefused (fault_of (lines + 1) e r))
-      told_at e r is = (r, is, ap (λ (j : ℕ). status_with (fault_of j e r)) (sym (no_more (lines + 1))))
+          → IsRefusal p all (lines + 1 + 0) past e (TraceRefused (fault_told (lines + 1) e r))
+      told_at e r is = (r, is, ap (λ (j : ℕ). status_with (fault_told j e r)) (sym (no_more (lines + 1))))
 
       -- of all events but a capture it makes no difference how many pictures are there
       refused_so : (e : Event) (r : Refusal) → ((a b sent played : ℕ) (abouts : List ℕ)
@@ -340,11 +340,11 @@ module _ (p : Params) (all : List Frame) (broken : Option Y4mFault) (later : Lat
 
       -- a capture that is too far is told so, whatever fault the video has
       far_told : (r : Refusal) → refusal_at by_call now Send ≡ Some r
-          → IsRefusedCapture p all broken (lines + 1 + 0) past (TraceRefused (fault_of (lines + 1) Send r))
+          → IsRefusedCapture p all broken (lines + 1 + 0) past (TraceRefused (fault_told (lines + 1) Send r))
       far_told r is = (
         r,
         captures_so (length all) r is,
-        ap (λ (j : ℕ). status_with (fault_of j Send r)) (sym (no_more (lines + 1)))
+        ap (λ (j : ℕ). status_with (fault_told j Send r)) (sym (no_more (lines + 1)))
             ∙ distance_told broken (lines + 1 + 0) r (send_distance (rules_of p) (length c.coded) c.played
             (map about c.said) r is),
       )
@@ -530,7 +530,7 @@ module _ (p : Params) (all : List Frame) (broken : Option Y4mFault) (later : Lat
           (λ fault is. absurd (cc is)) (
             NoPicture,
             none_left nothing o,
-            ap (λ (j : ℕ). status_with (fault_of j Send NoPicture)) (sym (no_more (lines + 1)))
+            ap (λ (j : ℕ). status_with (fault_told j Send NoPicture)) (sym (no_more (lines + 1)))
                 ∙ ap (λ (x : Option Y4mFault). capture_told x (lines + 1 + 0) NoPicture) none_is,
           )
       send_comes (b ∷ v) there o = captured_comes b v there o (next_frame more p.format at (b ∷ v)) refl

@@ -9,8 +9,8 @@ use Rattle.sender_end.specs.Stands as sender_end
 use Rattle.receiver_end.specs.State as receiver_end
 use Rattle.one_way.specs.Both.{steady}
 use Rattle.one_way.specs.Laws.{WayLaws}
-use Rattle.call_command.specs.Call.{first_state}
-use Rattle.call_command.specs.Standing.{IsFresh, Parts, PartsStand, pictures_kept}
+use Rattle.call_command.specs.Call.{call_at_start}
+use Rattle.call_command.specs.Standing.{IsFreshLink, CallParts, PartsStand, pictures_kept}
 
 -- parameters stay in their ranges in another format
 pub in_format : (p : Params) (f : Format) → IsParams p → IsParams (record p { format = f })
@@ -29,13 +29,13 @@ in_format p f is = record {
   messages_high = is.messages_high;
 }
 
-module _ (x : Parts) (fresh : IsFresh x.terms x.link) (laws : WayLaws x.terms.params) (sender_params : x.sender.params
+module _ (x : CallParts) (fresh : IsFreshLink x.terms x.link) (laws : WayLaws x.terms.params) (sender_params : x.sender.params
     ≡ x.terms.params) (sends : sender_end.Stands (steady x.terms.params) x.sender []) (sent : x.sender.sent
     ≡ 0) (more : x.video.more ≡ 1048576) where
   pub stands_first : (before : List ReceiverEntry) (at : ℕ) (inputs : Role → List ℕ) → x.video.at ≡ at
       → x.receiver.params ≡ x.terms.params
       → receiver_end.Stands x.receiver before → (receiver_end.run_of x.terms.params before).played ≡ 0
-      → PartsStand x (first_state x.terms before at) inputs
+      → PartsStand x (call_at_start x.terms before at) inputs
   stands_first before at inputs place receiver_params receives begun = record {
     is = λ i. record {
       params = x.terms.params;

@@ -32,7 +32,7 @@ use Rattle.call_command.specs.declared.terms.Terms.{Terms}
 use Rattle.one_way.specs.Trace.{delivered, passed_on}
 use Rattle.one_way.specs.Both.{bare, both_after, next_of}
 use Rattle.one_way.specs.Both.{steady}
-use Rattle.call_command.specs.Call.{CallState, after_line, bad_line, by_ends, call_step, capture_step, captured_step, event_step, first_state, frame_step, line_step, refusal_at, talk_step, trace_step, unless, video_step, with_frame}
+use Rattle.call_command.specs.Call.{CallState, after_line, bad_line, by_ends, call_step, capture_step, captured_step, event_step, call_at_start, frame_step, line_step, refusal_at, talk_step, trace_step, unless_refused, video_step, with_frame}
 use Rattle.one_way.specs.Laws.{EventLaws, NearLaws, ShowTheSame}
 use Rattle.call_command.specs.Laws.{TalkIsTheCall}
 use Rattle.one_way.specs.Seen.{Seen, in_both}
@@ -242,7 +242,7 @@ module _ (p : Params) (frames_law : LaterFramesBoth (coding p) (rules_of p)) (ev
       }
 
       keeps_unless : (trace : List ℕ) (e : Event) (o : Option Refusal) (step : Step CallState)
-          → (o ≡ None → Keeps false step) → Keeps false (unless now trace e o step)
+          → (o ≡ None → Keeps false step) → Keeps false (unless_refused now trace e o step)
       keeps_unless trace e None step keeps = keeps refl
       keeps_unless trace e (Some r) step keeps = tt
 
@@ -384,7 +384,7 @@ pub talk_is_the_call : (t : Terms) → LaterFramesBoth (coding t.params) (rules_
     (steady t.params) frames past → ShowTheSame t.params frames past)
     → TalkIsTheCall t
 talk_is_the_call t frames_law events_law near_laws agree at turns inputs =
-    same_run t.params frames_law events_law near_laws agree turns t.plain (first_state t [] at) inputs
+    same_run t.params frames_law events_law near_laws agree turns t.plain (call_at_start t [] at) inputs
     (record {
       frames = [];
       past = [];

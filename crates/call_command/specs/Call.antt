@@ -35,7 +35,7 @@ use Rattle.call_command.specs.declared.terms.Terms.{Terms}
 use Rattle.one_way.specs.Trace.{delivered}
 use Rattle.one_way.specs.Both.{bare, both_after, steady}
 use Rattle.one_way.specs.Seen.{Seen, in_call, in_both, reference_in}
-use Rattle.call_command.specs.Refused.{fault_of}
+use Rattle.call_command.specs.Refused.{fault_told}
 use Rattle.call_command.specs.Counts.{call_text}
 
 pub record CallState : Type 0 where
@@ -133,9 +133,9 @@ bad_line fault =
     record { status = TraceRefused fault; taken = λ r. if is_role Events r then None else Some 0; texts = no_texts }
 
 -- the line says this event, which is refused or has its step
-abbrev pub unless : CallState → List ℕ → Event → Option Refusal → Step CallState → Step CallState
-unless s trace e None step = step
-unless s trace e (Some refusal) step = Ends (refused_line trace (fault_of (s.lines + 1) e refusal))
+abbrev pub unless_refused : CallState → List ℕ → Event → Option Refusal → Step CallState → Step CallState
+unless_refused s trace e None step = step
+unless_refused s trace e (Some refusal) step = Ends (refused_line trace (fault_told (s.lines + 1) e refusal))
 
 -- the frame is sent that the line asks for, or refused
 abbrev pub captured_step : CallState → List ℕ → ℕ → Result (List ℕ) Y4mFault → Step CallState
@@ -166,18 +166,18 @@ module _ (view : View) where
   -- what the line says is done
   abbrev pub event_step : CallState → (Role → List ℕ) → List ℕ → Line → Step CallState
   event_step s inputs trace says.Nothing = Goes (after_line s trace) (line_turn trace no_texts)
-  event_step s inputs trace says.Send = unless s trace Send (refusal_at s Send) (capture_step s trace (inputs Video))
+  event_step s inputs trace says.Send = unless_refused s trace Send (refusal_at s Send) (capture_step s trace (inputs Video))
   event_step s inputs trace (says.Packet n j) =
-      unless s trace (Deliver n j) (refusal_at s (Deliver n j))
+      unless_refused s trace (Deliver n j) (refusal_at s (Deliver n j))
       (Goes (after_line (with_packet s n j) trace) (line_turn trace no_texts))
   event_step s inputs trace (says.All n) =
-      unless s trace (Deliver n 0) (refusal_at s (Deliver n 0))
+      unless_refused s trace (Deliver n 0) (refusal_at s (Deliver n 0))
       (Goes (after_line (with_packets s n) trace) (line_turn trace no_texts))
   event_step s inputs trace (says.Back k) =
-      unless s trace (Back k) (refusal_at s (Back k))
+      unless_refused s trace (Back k) (refusal_at s (Back k))
       (Goes (after_line (with_message s k) trace) (line_turn trace no_texts))
   event_step s inputs trace says.Play =
-      unless s trace Play (refusal_at s Play)
+      unless_refused s trace Play (refusal_at s Play)
       (Goes (after_line (with_play s) trace) (line_turn trace (play_texts (view (with_play s)) (view s).played)))
 
   abbrev pub line_step : CallState → (Role → List ℕ) → List ℕ → Option Line → Step CallState
@@ -195,19 +195,19 @@ module _ (view : View) where
   -- ---- the plain trace
 
   -- a frame is sent, its packets are delivered, and a picture is played
-  abbrev pub with_picture : CallState → List ℕ → CallState
-  with_picture s planes =
+  abbrev pub with_whole_frame : CallState → List ℕ → CallState
+  with_whole_frame s planes =
       with_play (with_packets (with_frame s (bare (picture_of s.params.format planes))) (length s.frames))
 
   -- a frame is passed on, or refused
   abbrev pub frame_step : CallState → List ℕ → Result (List ℕ) Y4mFault → Step CallState
   frame_step s video (Ok planes) =
       let size = frame_size s.params.format video in
-      Goes (record (with_picture s planes) { at = s.at + size; more = s.more - 1 })
+      Goes (record (with_whole_frame s planes) { at = s.at + size; more = s.more - 1 })
       (record {
         taken = of Video size;
         whole = true;
-        texts = play_texts (view (with_picture s planes)) (length s.frames);
+        texts = play_texts (view (with_whole_frame s planes)) (length s.frames);
       })
   frame_step s video (Err fault) = Ends (video_refusal Video no_bytes (VideoRefused fault))
 
@@ -229,8 +229,8 @@ abbrev pub talk_step : CallState → (Role → List ℕ) → Step CallState
 talk_step s inputs = step_by by_ends s inputs
 
 -- before the first event, with the video's first frame at this byte
-abbrev pub first_state : Terms → List ReceiverEntry → ℕ → CallState
-first_state t before at =
+abbrev pub call_at_start : Terms → List ReceiverEntry → ℕ → CallState
+call_at_start t before at =
     record {
       params = t.params;
       plain = t.plain;
@@ -250,7 +250,7 @@ with_format t f = record t { params = record t.params { format = f } }
 -- the head is read, and that of the pictures written
 abbrev pub head_step : Terms → List ℕ → Result Format Y4mFault → Step CallState
 head_step t video (Ok f) =
-    Goes (first_state (with_format t f) [] (head_size video))
+    Goes (call_at_start (with_format t f) [] (head_size video))
     (record { taken = of Video (head_size video); whole = true; texts = on Pictures (head_text f) })
 head_step t video (Err fault) = Ends (video_refusal Video no_bytes (VideoRefused fault))
 

@@ -11,14 +11,14 @@ use Rattle.call_command.specs.declared.terms.Terms.{Terms}
 use Rattle.one_way.specs.Both.{steady}
 use Rattle.call_report.specs.declared.status.Status.{Status}
 use Rattle.call_command.specs.Turning.{IsAnswer, names_of}
-use Rattle.call_command.specs.Call.{CallState, first_state, most_turns, talk_step}
-use Rattle.call_command.specs.Standing.{CallOpens, PartsReady, PartsStand, parts_of}
+use Rattle.call_command.specs.Call.{CallState, call_at_start, most_turns, talk_step}
+use Rattle.call_command.specs.Standing.{CallOpens, PartsReady, PartsStand, call_parts}
 
 abbrev pub WorldStands : World → CallState → (Role → List ℕ) → Type 0
-WorldStands m s inputs = PartsStand (parts_of m) s inputs
+WorldStands m s inputs = PartsStand (call_parts m) s inputs
 
 abbrev pub WorldReady : World → (Role → Bool) → Type 0
-WorldReady m attached = PartsReady (parts_of m) attached
+WorldReady m attached = PartsReady (call_parts m) attached
 
 -- the same is lent, and the pace of the sender and what was asked for are the same
 pub record WorldStays (first now : World) : Type 0 where
@@ -28,8 +28,8 @@ abbrev pub WorldAnswers : World → Status → Type 0
 WorldAnswers first status = IsAnswer first.terms.plain status
 
 -- the state before the first event
-abbrev pub IsFirst : Terms → ℕ → CallState → (Role → List ℕ) → Type 0
-IsFirst t at s rest = s ≡ first_state t [] at
+abbrev pub IsCallStart : Terms → ℕ → CallState → (Role → List ℕ) → Type 0
+IsCallStart t at s rest = s ≡ call_at_start t [] at
 
 -- what was begun may converse: nothing was sent, heard or played yet, and no frame was read
 pub record MayConverse (attached : Role → Bool) (begun : Begun) : Type 0 where
@@ -47,8 +47,8 @@ pub record MayConverse (attached : Role → Bool) (begun : Begun) : Type 0 where
 -- the call of these terms, by both ends, where the receiver had heard these entries before and the
 -- video's first frame is at this byte
 abbrev pub talk_of : Terms → List ReceiverEntry → ℕ → (Role → List ℕ) → Run
-talk_of t before at inputs = run_of talk_step (most_turns t.plain) (first_state t before at) inputs
+talk_of t before at inputs = run_of talk_step (most_turns t.plain) (call_at_start t before at) inputs
 
 -- the state in which it ends: what was accepted
 abbrev pub talk_end : Terms → List ReceiverEntry → ℕ → (Role → List ℕ) → CallState
-talk_end t before at inputs = end_state talk_step (most_turns t.plain) (first_state t before at) inputs
+talk_end t before at inputs = end_state talk_step (most_turns t.plain) (call_at_start t before at) inputs

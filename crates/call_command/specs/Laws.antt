@@ -18,7 +18,7 @@ use Rattle.desk_program.specs.Ends.{EndsBy, Gains, IsPart, Tells, holds}
 use Rattle.desk_program.specs.Run.{Turn, left_after, run_of}
 use Rattle.desk_program.specs.Texts.{and_of, no_texts, of}
 use Rattle.call_command.specs.declared.terms.Terms.{Terms}
-use Rattle.call_command.specs.Call.{bad_line, call_step, first_state, line_size, refused_line, talk_step}
+use Rattle.call_command.specs.Call.{bad_line, call_step, call_at_start, line_size, refused_line, talk_step}
 use Rattle.call_command.specs.Standing.{HasTaken, ReadsTrace}
 
 -- from the first state on, with a receiver that had heard nothing, the call by both ends is the ideal
@@ -26,7 +26,7 @@ use Rattle.call_command.specs.Standing.{HasTaken, ReadsTrace}
 abbrev pub TalkIsTheCall : Terms → Type 0
 TalkIsTheCall t =
     (at turns : ℕ) (inputs : Role → List ℕ)
-    → run_of talk_step turns (first_state t [] at) inputs ≡ run_of call_step turns (first_state t [] at) inputs
+    → run_of talk_step turns (call_at_start t [] at) inputs ≡ run_of call_step turns (call_at_start t [] at) inputs
 
 -- a whole head or frame stays what it is where the text after it is cut
 pub record VideoLaws : Type 0 where

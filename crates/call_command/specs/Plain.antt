@@ -21,13 +21,13 @@ use Rattle.one_way.specs.Both.{bare}
 use Rattle.call_command.specs.Counts.{counts_text}
 
 -- the reconstruction of a frame in these planes, coded by itself
-abbrev pub reconstruction_of : Params → List ℕ → Picture
-reconstruction_of p planes =
+abbrev pub coded_alone : Params → List ℕ → Picture
+coded_alone p planes =
     (capture (pictures p.format) (encoding p) p.quant (bare (picture_of p.format planes)) [] None).picture
 
 -- what is shown of frames
 abbrev pub pictures_of_frames : Params → List (List ℕ) → Text
-pictures_of_frames p frames = flat_map (λ planes. frame_text Exact (reconstruction_of p planes)) frames
+pictures_of_frames p frames = flat_map (λ planes. frame_text Exact (coded_alone p planes)) frames
 
 -- the lines of this many pictures from number n on
 abbrev pub lines_of_frames : ℕ → List (List ℕ) → Text

@@ -11,17 +11,17 @@ use Rattle.one_way.specs.declared.refusals.EventRefusal.TheVariants.{NotSent, No
 use Rattle.one_way.specs.Refused.{told_as}
 
 -- with its line
-abbrev pub fault_at : ℕ → Told → TraceFault
-fault_at line NotSent = trace.NotSent line
-fault_at line NotSaid = trace.NotSaid line
-fault_at line (Far given other) = trace.Far line given other
-fault_at line PlayBeforeSend = trace.PlayBeforeSend line
-fault_at line NoFrame = trace.NoFrame line
+abbrev pub fault_on_line : ℕ → Told → TraceFault
+fault_on_line line NotSent = trace.NotSent line
+fault_on_line line NotSaid = trace.NotSaid line
+fault_on_line line (Far given other) = trace.Far line given other
+fault_on_line line PlayBeforeSend = trace.PlayBeforeSend line
+fault_on_line line NoFrame = trace.NoFrame line
 
 -- with this status a run ends whose next line asks for an event that is refused so
 abbrev pub IsRefusedWith : ℕ → Result Unit Told → Status → Type 0
 IsRefusedWith line (Ok _) status = ⊥
-IsRefusedWith line (Err told) status = status ≡ TraceRefused (fault_at line told)
+IsRefusedWith line (Err told) status = status ≡ TraceRefused (fault_on_line line told)
 
 -- the event of a line is not refused
 abbrev pub IsNotRefused : Result Unit Told → Type 0
@@ -29,5 +29,5 @@ IsNotRefused (Ok _) = Unit {0}
 IsNotRefused (Err told) = ⊥
 
 -- of a message that is far its own number is told, not its picture's
-abbrev pub fault_of : ℕ → Event → Refusal → TraceFault
-fault_of line e refusal = fault_at line (told_as e refusal)
+abbrev pub fault_told : ℕ → Event → Refusal → TraceFault
+fault_told line e refusal = fault_on_line line (told_as e refusal)

@@ -35,7 +35,7 @@ row_texts n mark reference picture =
 -- ---- the ends of a call, and what carries it
 
 -- the parts of a call at a turn
-pub record Parts : Type 0 where
+pub record CallParts : Type 0 where
   pub terms : Terms
   pub video : Y4mPlace
   pub sender : State
@@ -43,8 +43,8 @@ pub record Parts : Type 0 where
   pub link : Link
 
 -- those that a machine owns, and that are lent to it
-abbrev pub parts_of : World → Parts
-parts_of m =
+abbrev pub call_parts : World → CallParts
+call_parts m =
     record {
       terms = m.terms;
       video = m.video.now;
@@ -54,8 +54,8 @@ parts_of m =
     }
 
 -- the state of these frames and events
-abbrev pub state_of : Parts → List ReceiverEntry → List Frame → List Event → CallState
-state_of x before frames past =
+abbrev pub call_state_of : CallParts → List ReceiverEntry → List Frame → List Event → CallState
+call_state_of x before frames past =
     record {
       params = x.terms.params;
       plain = x.terms.plain;
@@ -69,14 +69,14 @@ state_of x before frames past =
     }
 
 -- both ends and the network have done these events
-abbrev pub HasDone : Parts → List ReceiverEntry → List Frame → List Event → Type 0
+abbrev pub HasDone : CallParts → List ReceiverEntry → List Frame → List Event → Type 0
 HasDone x before frames past = HoldsNetwork x.terms.params x.link.network x.sender x.receiver before frames past
 
 -- The parts stand at a state: each of its frames was sent, and so it is whatever frames come after
 -- them. The receiver had played nothing before. After a last line without a newline the trace is at
 -- its end.
-pub record PartsStand (x : Parts) (s : CallState) (inputs : Role → List ℕ) : Type 0 where
-  pub is : s ≡ state_of x s.before s.frames s.past
+pub record PartsStand (x : CallParts) (s : CallState) (inputs : Role → List ℕ) : Type 0 where
+  pub is : s ≡ call_state_of x s.before s.frames s.past
   pub begun : (receiver_end.run_of x.terms.params s.before).played ≡ 0
   pub sent : x.sender.sent ≡ length s.frames
   pub over : x.link.trace.ended ≡ true → inputs Events ≡ []
@@ -87,7 +87,7 @@ abbrev pub EndsStand : Terms → State → Kept → CallState → Type 0
 EndsStand t sender receiver s = AreJoined t.params (steady t.params) sender receiver s.frames s.before s.past
 
 -- how many turns may still come, and the input whose end is the end of the call
-abbrev pub more_of : Parts → ℕ
+abbrev pub more_of : CallParts → ℕ
 more_of x = if x.terms.plain then x.video.more else 16777216 - x.link.trace.lines
 
 abbrev pub source_of : Terms → Role
@@ -107,7 +107,7 @@ pub record CallOpens (t : Terms) (attached : Role → Bool) : Type 0 where
   pub pictures : attached Pictures ≡ true
   pub report : attached Report ≡ true
 
-pub record PartsReady (x : Parts) (attached : Role → Bool) : Type 0 where
+pub record PartsReady (x : CallParts) (attached : Role → Bool) : Type 0 where
   pub opens : CallOpens x.terms attached
   pub format : x.video.format ≡ x.terms.params.format
   pub frame : length x.link.frame.items ≡ size_of_picture x.terms.params.format
@@ -124,11 +124,11 @@ pub record PartsReady (x : Parts) (attached : Role → Bool) : Type 0 where
   pub said : said_in x.link.network ≤ 400 * (x.link.trace.lines + x.sender.sent)
 
 -- there is room for the messages of one more
-abbrev pub HasRoom : Parts → Type 0
-HasRoom x = said_in x.link.network + 400 ≤ 400 * (x.link.trace.lines + x.sender.sent)
+abbrev pub HasRoomToSay : CallParts → Type 0
+HasRoomToSay x = said_in x.link.network + 400 ≤ 400 * (x.link.trace.lines + x.sender.sent)
 
 -- before the first event
-pub record IsFresh (t : Terms) (link : Link) : Type 0 where
+pub record IsFreshLink (t : Terms) (link : Link) : Type 0 where
   pub lines : link.trace.lines ≡ 0
   pub ended : link.trace.ended ≡ false
   pub frame : length link.frame.items ≡ size_of_picture t.params.format
@@ -148,8 +148,8 @@ pub record HasTaken (inputs : Role → List ℕ) (old new : Outside) : Type 0 wh
   pub written : new.written ≡ old.written
 
 -- the parts stood at the state before the line, and the reader of the trace has passed it
-pub record StoodBefore (x : Parts) (s : CallState) (inputs : Role → List ℕ) : Type 0 where
-  pub is : after_line s (inputs Events) ≡ state_of x s.before s.frames s.past
+pub record StoodBefore (x : CallParts) (s : CallState) (inputs : Role → List ℕ) : Type 0 where
+  pub is : after_line s (inputs Events) ≡ call_state_of x s.before s.frames s.past
   pub begun : (receiver_end.run_of x.terms.params s.before).played ≡ 0
   pub sent : x.sender.sent ≡ length s.frames
   pub recorded : x.terms.plain ≡ false

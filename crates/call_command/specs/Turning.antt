@@ -17,7 +17,7 @@ use Rattle.one_way.specs.Refused.{IsAllowed}
 use Rattle.call_command.specs.declared.terms.Terms.{Terms}
 use Rattle.call_command.specs.declared.world.World.{World}
 use Rattle.call_command.specs.Call.{CallState, by_ends, capture_step, event_step, may_read, refusal_at, talk_step}
-use Rattle.call_command.specs.Standing.{EndsStand, HasTaken, Parts, PartsReady, PartsStand, StoodBefore, more_of, parts_of, source_of}
+use Rattle.call_command.specs.Standing.{EndsStand, HasTaken, CallParts, PartsReady, PartsStand, StoodBefore, more_of, call_parts, source_of}
 
 -- what stays for the whole call: what is asked for, what is lent, by name, and the sender's pace
 pub record Names : Type 0 where
@@ -66,50 +66,50 @@ pub record IsTurn (x y : World) (result : Result Bool Status) (mid new : Outside
     (Begins : Outside → CallState → (Role → List ℕ) → Type 0)
     (step : CallState → (Role → List ℕ) → Step CallState) (reads : CallState → Bool) (more : ℕ) : Type 0 where
   pub gives : (old : Outside) (s : CallState) (inputs : Role → List ℕ) → Begins old s inputs
-      → TurnGives result (step s inputs) (PartsStand (parts_of y)) may_read (reads s) inputs old new
+      → TurnGives result (step s inputs) (PartsStand (call_parts y)) may_read (reads s) inputs old new
   -- at the end the input is read out that ends the call
   pub whole : (old : Outside) (s : CallState) (inputs : Role → List ℕ) → Begins old s inputs
       → OnEnd result (new.left (source_of x.terms) ≡ Some [])
   -- at the end, and where it refuses, both ends stand for what they had done before it
   pub keeps : OnSettled result (LeavesEnds x y)
   pub lasts : names_of y ≡ names_of x
-  pub falls : Falls result more (more_of (parts_of y))
-  pub ready : OnGoing result (PartsReady (parts_of y) new.attached)
+  pub falls : Falls result more (more_of (call_parts y))
+  pub ready : OnGoing result (PartsReady (call_parts y) new.attached)
   pub answers : IsAnswer x.terms.plain (turn_status result)
   pub stop : IfErr result IsStop
   pub cause : HasCause (turn_status result) mid.faults new.faults
   pub rest : KeepsRoles mid new
 
 -- a whole turn begins where the parts stand
-pub record IsBegun (x : Parts) (now old : Outside) (s : CallState) (inputs : Role → List ℕ) : Type 0 where
+pub record IsTurnBegun (x : CallParts) (now old : Outside) (s : CallState) (inputs : Role → List ℕ) : Type 0 where
   pub stands : PartsStand x s inputs
   pub told : Tells now inputs
   pub same : old ≡ now
 
 abbrev pub TakesTurn : World → World → Result Bool Status → Outside → Outside → Type 0
 TakesTurn x y result old new =
-    IsTurn x y result old new (IsBegun (parts_of x) old) talk_step may_read (more_of (parts_of x))
+    IsTurn x y result old new (IsTurnBegun (call_parts x) old) talk_step may_read (more_of (call_parts x))
 
 -- or after its line was read, which has this number
-pub record IsRead (x : Parts) (line : ℕ) (now old : Outside) (s : CallState) (inputs : Role → List ℕ) : Type 0 where
+pub record IsRead (x : CallParts) (line : ℕ) (now old : Outside) (s : CallState) (inputs : Role → List ℕ) : Type 0 where
   pub stood : StoodBefore x s inputs
   pub number : line ≡ s.lines + 1
   pub taken : HasTaken inputs old now
 
 abbrev pub TakesLine : World → World → ℕ → Line → Result Bool Status → Outside → Outside → Type 0
 TakesLine x y line event result mid new =
-    IsTurn x y result mid new (IsRead (parts_of x) line mid)
-    (λ s inputs. event_step by_ends s inputs (inputs Events) event) (λ _. true) (more_of (parts_of x) + 1)
+    IsTurn x y result mid new (IsRead (call_parts x) line mid)
+    (λ s inputs. event_step by_ends s inputs (inputs Events) event) (λ _. true) (more_of (call_parts x) + 1)
 
 -- and a frame is asked for that may be captured
-pub record IsAsked (x : Parts) (line : ℕ) (now old : Outside) (s : CallState) (inputs : Role → List ℕ) : Type 0 where
+pub record IsAsked (x : CallParts) (line : ℕ) (now old : Outside) (s : CallState) (inputs : Role → List ℕ) : Type 0 where
   pub read : IsRead x line now old s inputs
   pub none : refusal_at by_ends s Send ≡ None
 
 abbrev pub TakesFrame : World → World → ℕ → Result Bool Status → Outside → Outside → Type 0
 TakesFrame x y line result mid new =
-    IsTurn x y result mid new (IsAsked (parts_of x) line mid)
-    (λ s inputs. capture_step s (inputs Events) (inputs Video)) (λ _. true) (more_of (parts_of x) + 1)
+    IsTurn x y result mid new (IsAsked (call_parts x) line mid)
+    (λ s inputs. capture_step s (inputs Events) (inputs Video)) (λ _. true) (more_of (call_parts x) + 1)
 
 -- ---- a line
 

@@ -4,7 +4,7 @@ ghost use Rattle.h263_outside.specs.declared.desk.Role.{Role};
 ghost use Rattle.desk_program.specs.Ends.{HasCause, IsUnstarted, KeepsRoles, StartGives, Tells};
 ghost use Rattle.desk_program.specs.Ends.{start_status};
 ghost use Rattle.call_command.specs.Call.{call_begin, may_read};
-ghost use Rattle.call_command.specs.Converse.{IsFirst, MayConverse};
+ghost use Rattle.call_command.specs.Converse.{IsCallStart, MayConverse};
 ghost use Rattle.call_command.specs.Standing.{CallOpens};
 
 use crate::world::World;
@@ -22,7 +22,7 @@ fn begin<D: Desk>(alloc: Global, setup: &Terms, desk: &mut D) -> Result<Begun, S
     requires { CallOpens setup.now (D.outside desk.old).attached }
     ensures gives { (inputs : Role → List ℕ) → Tells (D.outside desk.old) inputs
         → StartGives result (call_begin setup.now inputs)
-        (λ begun. IsFirst begun.terms begun.video.at)
+        (λ begun. IsCallStart begun.terms begun.video.at)
         may_read inputs (D.outside desk.old) (D.outside desk.new) }
     ensures plain { IfOk result (λ begun. begun.terms.plain ≡ setup.now.plain) }
     ensures ready { IfOk result (MayConverse (D.outside desk.new).attached) }

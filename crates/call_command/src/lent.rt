@@ -10,7 +10,7 @@ ghost use Rattle.sender_end.specs.Stands as sender_end;
 ghost use Rattle.receiver_end.specs.State.{Stands};
 ghost use Rattle.one_way.specs.Both.{steady};
 ghost use Rattle.call_command.specs.Call.{call_step, may_read, most_turns};
-ghost use Rattle.call_command.specs.Converse.{IsFirst, talk_end, talk_of};
+ghost use Rattle.call_command.specs.Converse.{IsCallStart, talk_end, talk_of};
 ghost use Rattle.call_command.specs.Standing.{CallOpens, EndsStand, source_of};
 ghost use Rattle.call_command.specs.Turning.{IsAnswer};
 
@@ -47,7 +47,7 @@ pub fn converse<D: Desk>(alloc: Global, desk: &mut D, call: &mut Begun) -> Statu
     ensures alone { (run : Run) (inputs : Role → List ℕ) (start : Role → Option (List ℕ))
         → Stands call.old.both.receiver []
         → IsUnderWay call_step may_read run inputs start
-        (IsFirst call.old.terms call.old.video.at)
+        (IsCallStart call.old.terms call.old.video.at)
         (most_turns call.old.terms.plain) (D.outside desk.old)
         → HasEnded run silent result inputs start (D.outside desk.new) }
     ensures stands { (before : List ReceiverEntry) (inputs : Role → List ℕ)

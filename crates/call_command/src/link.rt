@@ -29,11 +29,11 @@ fn kept(terms: &Terms) -> u32
 }
 
 impl Link {
-    ghost use Rattle.call_command.specs.Standing.{IsFresh};
+    ghost use Rattle.call_command.specs.Standing.{IsFreshLink};
 
     /// Before the first event of a call.
     pub fn start(alloc: Global, terms: &Terms) -> Result<Link, OutOfMemory>
-        ensures { IfOk result (IsFresh terms.now) }
+        ensures { IfOk result (IsFreshLink terms.now) }
     {
         Ok(Link {
             trace: TraceReader::new(),

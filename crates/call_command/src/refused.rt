@@ -1,14 +1,14 @@
 //! How the refusal of an event is told.
 ghost use Rattle.std.specs.Prelude.{◌≡◌, OnOk, IfErr};
-ghost use Rattle.call_command.specs.Refused.{IsNotRefused, IsRefusedWith, fault_at};
+ghost use Rattle.call_command.specs.Refused.{IsNotRefused, IsRefusedWith, fault_on_line};
 
 use call_report::Status;
 use loss_trace::TraceFault;
 use one_way::EventRefusal;
 
 // The refusal of an event, with the line that says it.
-fn fault_at(line: u32, refusal: EventRefusal) -> TraceFault
-    ensures { result ≡ fault_at line refusal }
+fn fault_on_line(line: u32, refusal: EventRefusal) -> TraceFault
+    ensures { result ≡ fault_on_line line refusal }
 {
     match refusal {
         EventRefusal::NotSent => TraceFault::NotSent { line },
@@ -28,7 +28,7 @@ pub fn allow(line: u32, checked: Result<(), EventRefusal>) -> Result<(), Status>
     match checked {
         Ok(()) => Ok(()),
         Err(refusal) => Err(Status::TraceRefused {
-            fault: fault_at(line, refusal),
+            fault: fault_on_line(line, refusal),
         }),
     }
 }

@@ -26,12 +26,12 @@ pub struct World<'a> {
 }
 
 impl<'a> World<'a> {
-    ghost use Rattle.call_command.specs.Standing.{HasRoom, PartsReady, parts_of};
+    ghost use Rattle.call_command.specs.Standing.{HasRoomToSay, PartsReady, call_parts};
     ghost use Rattle.call_command.specs.Turning.{TakesFrame, TakesLine, TakesTurn};
 
     // Over a recorded trace: its next line is done, or refused. False at the end of the trace.
     fn line_turn<D: Desk>(&mut self, desk: &mut D) -> Result<bool, Status>
-        requires ready { PartsReady (parts_of self.old) (D.outside desk.old).attached }
+        requires ready { PartsReady (call_parts self.old) (D.outside desk.old).attached }
         requires recorded { self.old.terms.plain ≡ false }
         ensures { TakesTurn self.old self.new result (D.outside desk.old) (D.outside desk.new) }
     {
@@ -45,9 +45,9 @@ impl<'a> World<'a> {
 
     // What the line says that was read last is done, or refused.
     fn event_turn<D: Desk>(&mut self, desk: &mut D, line: u32, event: Event) -> Result<bool, Status>
-        requires ready { PartsReady (parts_of self.old) (D.outside desk.old).attached }
+        requires ready { PartsReady (call_parts self.old) (D.outside desk.old).attached }
         requires recorded { self.old.terms.plain ≡ false }
-        requires room { HasRoom (parts_of self.old) }
+        requires room { HasRoomToSay (call_parts self.old) }
         ensures { TakesLine self.old self.new line event result
             (D.outside desk.old) (D.outside desk.new) }
     {
@@ -84,7 +84,7 @@ impl<'a> World<'a> {
 
     // `S`, which isn't too far ahead of the play: the next frame is read and sent.
     fn send_frame<D: Desk>(&mut self, desk: &mut D, line: u32) -> Result<bool, Status>
-        requires ready { PartsReady (parts_of self.old) (D.outside desk.old).attached }
+        requires ready { PartsReady (call_parts self.old) (D.outside desk.old).attached }
         requires recorded { self.old.terms.plain ≡ false }
         ensures { TakesFrame self.old self.new line result
             (D.outside desk.old) (D.outside desk.new) }
@@ -105,7 +105,7 @@ impl<'a> Turns for World<'a> {
     ghost use Rattle.std.specs.Prelude.{Some};
     ghost use Rattle.call_command.specs.Call.{CallState, may_read, talk_step};
     ghost use Rattle.call_command.specs.Converse.{WorldAnswers, WorldReady, WorldStands, WorldStays};
-    ghost use Rattle.call_command.specs.Standing.{more_of, parts_of, source_of};
+    ghost use Rattle.call_command.specs.Standing.{more_of, call_parts, source_of};
     ghost use Rattle.call_command.specs.Turning.{LeavesEnds};
 
     ghost State = { CallState };
@@ -116,7 +116,7 @@ impl<'a> Turns for World<'a> {
 
     ghost stands = { WorldStands };
 
-    ghost more = { λ m. more_of (parts_of m) };
+    ghost more = { λ m. more_of (call_parts m) };
 
     ghost ready = { WorldReady };
 

@@ -26,17 +26,17 @@ use Rattle.one_way.specs.Trace.{delivered}
 use Rattle.one_way.specs.Way.{CanSend, IsAmongLast, MayHappenNow, kept_in, tally_of, way_of}
 use Rattle.demo_command.specs.declared.demo.Demo.{Demo}
 use Rattle.demo_command.specs.declared.terms.DemoTerms.{DemoTerms}
-use Rattle.demo_command.specs.Demo.{made_call, made_video, with_line}
+use Rattle.demo_command.specs.Demo.{made_call, made_video, with_made_line}
 use Rattle.demo_command.specs.Laws.{MadeLaws}
-use Rattle.demo_command.specs.Machine.{HasDone, IsNearNow, LineReady}
+use Rattle.demo_command.specs.Machine.{DemoHasDone, IsNearNow, LineReady}
 use Rattle.demo_command.proofs.Made.{near_onto, steady_is}
 
 -- what is so after a line, by what the line says
 pub as_line : (t : DemoTerms) (past : List Event) (line event : Line) (P : List Event → Type 0) → event ≡ line
-    → (IsNearNow t (with_line t past line) → P (with_line t past line)) → IsNearNow t (with_line t past event)
-    → P (with_line t past event)
+    → (IsNearNow t (with_made_line t past line) → P (with_made_line t past line)) → IsNearNow t (with_made_line t past event)
+    → P (with_made_line t past event)
 as_line t past line event P is so =
-    subst (λ (l : Line). IsNearNow t (with_line t past l) → P (with_line t past l)) (sym is) so
+    subst (λ (l : Line). IsNearNow t (with_made_line t past l) → P (with_made_line t past l)) (sym is) so
 
 -- all packets of a picture, in their order
 delivered_from : (n from count : ℕ) (past : List Event)
@@ -71,7 +71,7 @@ ready_delivered m r network receiver way played = record {
 }
 
 -- a packet that is near by both ends is among those that are kept
-pub may_deliver : (m : Demo) → LineReady m → NearLaws m.terms.params → (past : List Event) → HasDone m past → (n j : ℕ)
+pub may_deliver : (m : Demo) → LineReady m → NearLaws m.terms.params → (past : List Event) → DemoHasDone m past → (n j : ℕ)
     → IsNearNow m.terms (Deliver n j ∷ past)
     → IsAmongLast (way_of m.network)
     (length (both_after m.terms.params (steady m.terms.params) (made_video m.terms) [] past).sender.coded) n
@@ -86,7 +86,7 @@ may_deliver m r laws past h n j near =
     ((may.0, omega (arith, kept, r.period)), may)
 
 -- the line of the counts
-pub counts_are : (m : Demo) → WayLaws m.terms.params → (past : List Event) → HasDone m past
+pub counts_are : (m : Demo) → WayLaws m.terms.params → (past : List Event) → DemoHasDone m past
     → ShowTheSame m.terms.params (made_video m.terms) past
     → counts_of (tally_of (way_of m.network)) m.both.receiver.played m.both.sender.sent
     ≡ call_text (in_call (made_call m.terms past))

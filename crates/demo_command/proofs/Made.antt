@@ -21,7 +21,7 @@ use Rattle.call_decoding.specs.Rules.{rules_of}
 use Rattle.coded_call.specs.Coding.{coding}
 use Rattle.one_way.specs.Both.{steady}
 use Rattle.demo_command.specs.declared.terms.DemoTerms.{DemoTerms}
-use Rattle.demo_command.specs.Demo.{made_call, made_events, made_frame, made_video, with_line}
+use Rattle.demo_command.specs.Demo.{made_call, made_events, made_frame, made_video, with_made_line}
 
 pub steady_is : (p : Params) → IsParams p → IsPace (steady p)
 steady_is p in_range sizes few = (omega (arith, in_range.quant_low), omega (arith, in_range.quant_high))
@@ -81,16 +81,16 @@ module _ (t : DemoTerms) where
 
   -- what the lines say after a line
   pub after_line : (past : List Event) (line : Line) (lines : List Line) → made_events t past (line ∷ lines)
-      ≡ made_events t (with_line t past line) lines
+      ≡ made_events t (with_made_line t past line) lines
   unfolding expanded
   after_line past line lines = refl
 
   pub near_line : (past : List Event) (line : Line) (lines : List Line)
       → AllMayHappen (coding p) (rules_of p) (steady p) (made_video t) (made_events t past (line ∷ lines))
-      → AllMayHappen (coding p) (rules_of p) (steady p) (made_video t) (with_line t past line)
+      → AllMayHappen (coding p) (rules_of p) (steady p) (made_video t) (with_made_line t past line)
   near_line past line lines near =
       near_before (pictures_of (coding p)) (rules_of p) (encoded (coding p) (rules_of p) (steady p) (made_video t))
-      (length (made_video t)) lines (with_line t past line)
+      (length (made_video t)) lines (with_made_line t past line)
       (subst (λ (l : List Event). AllMayHappen (coding p) (rules_of p) (steady p) (made_video t) l)
       (after_line past line lines) near)
 

@@ -24,9 +24,9 @@ use Rattle.call_command.specs.Counts.{call_text}
 use Rattle.one_way.specs.Seen.{in_call}
 use Rattle.demo_command.specs.declared.demo.Demo.{Demo}
 use Rattle.demo_command.specs.declared.terms.DemoTerms.{DemoTerms}
-use Rattle.demo_command.specs.Demo.{DemoState, all_done, demo_step, lines_step, made_call, made_events, made_video, silent_turn, with_line}
+use Rattle.demo_command.specs.Demo.{DemoState, all_done, demo_step, lines_step, made_call, made_events, made_video, silent_turn, with_made_line}
 use Rattle.demo_command.specs.Laws.{MadeLaws}
-use Rattle.demo_command.specs.Machine.{AreInPlace, DemoStands, HasDone, sent_after}
+use Rattle.demo_command.specs.Machine.{AreInPlace, DemoStands, DemoHasDone, sent_after}
 use Rattle.demo_command.proofs.Made.{after_line, near_line}
 
 -- ---- what is answered
@@ -115,7 +115,7 @@ module _ (m : Demo) (s : DemoState) (inputs : Role → List ℕ) (k : DemoStands
 
   module _ (event : Line) (lines : List Line) (is : lines_left m.lines ≡ event ∷ lines) where
     pub near_now : MadeLaws t → AllMayHappen (coding t.params) (rules_of t.params) (steady t.params) (made_video t)
-        (with_line t s.past event)
+        (with_made_line t s.past event)
     near_now made =
         near_line t s.past event lines
         (subst (λ (l : List Line). AllMayHappen (coding t.params) (rules_of t.params) (steady t.params) (made_video t)
@@ -124,12 +124,12 @@ module _ (m : Demo) (s : DemoState) (inputs : Role → List ℕ) (k : DemoStands
         (made_video t) l) (sym k.ahead) made.near))
 
     module _ (after : Demo) (terms : after.terms ≡ t) (left : lines_left after.lines
-        ≡ lines) (done : HasDone after (with_line t s.past event)) where
+        ≡ lines) (done : DemoHasDone after (with_made_line t s.past event)) where
       abbrev next : DemoState
-      next = record { terms = s.terms; past = with_line s.terms s.past event; lines = lines }
+      next = record { terms = s.terms; past = with_made_line s.terms s.past event; lines = lines }
 
-      past_is : with_line t s.past event ≡ with_line s.terms s.past event
-      past_is = ap (λ (x : DemoTerms). with_line x s.past event) (sym k.terms)
+      past_is : with_made_line t s.past event ≡ with_made_line s.terms s.past event
+      past_is = ap (λ (x : DemoTerms). with_made_line x s.past event) (sym k.terms)
 
       kept : (rest : Role → List ℕ) → DemoStands after next rest
       kept rest = record {
@@ -141,7 +141,7 @@ module _ (m : Demo) (s : DemoState) (inputs : Role → List ℕ) (k : DemoStands
             ∙ sym (after_line t s.past event lines)
             ∙ ap (λ (l : List Line). made_events t s.past l) (sym (k.lines ∙ is))
             ∙ k.ahead);
-        done = subst (λ (l : List Event). HasDone after l) past_is done;
+        done = subst (λ (l : List Event). DemoHasDone after l) past_is done;
       }
 
       pub went : TurnLaws → (old : Outside) → Tells old inputs

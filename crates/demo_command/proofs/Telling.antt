@@ -8,7 +8,7 @@ use Rattle.make_input.specs.Expanded.{expanded}
 use Rattle.make_input.specs.Trace.{made_trace}
 use Rattle.call_model.specs.IdealCall.{Event}
 use Rattle.demo_command.specs.declared.terms.DemoTerms.{DemoTerms}
-use Rattle.demo_command.specs.Demo.{DemoState, all_done, demo_begin, demo_step, made_events, most_turns, with_line}
+use Rattle.demo_command.specs.Demo.{DemoState, all_done, demo_begin, demo_step, made_events, made_turns, with_made_line}
 use Rattle.demo_command.specs.Laws.{TellsCounts}
 
 abbrev state_at : DemoTerms → List Event → List Line → DemoState
@@ -24,11 +24,11 @@ silent : (t : DemoTerms) (lines : List Line) (past : List Event) (inputs : Role 
 unfolding run_of expanded
 silent t [] past inputs = record { last = refl; texts = λ r. refl }
 silent t (line ∷ lines) past inputs =
-    let rest = silent t lines (with_line t past line) (left_after inputs no_bytes) in
+    let rest = silent t lines (with_made_line t past line) (left_after inputs no_bytes) in
     record { last = rest.last; texts = rest.texts }
 
 pub tells : (t : DemoTerms) (inputs : Role → List ℕ)
-    → TellsCounts t (run_from (demo_begin t inputs) demo_step (most_turns t) inputs)
+    → TellsCounts t (run_from (demo_begin t inputs) demo_step (made_turns t) inputs)
 tells t inputs =
     let run = silent t (made_trace t.seed t.frames) [] (left_after inputs no_bytes) in
     record {

@@ -41,8 +41,8 @@ abbrev pub made_call : DemoTerms → List Event → Call Style Mb Picture
 made_call t past = ideal (coding t.params) (rules_of t.params) (steady t.params) (made_video t) past
 
 -- the events after those of a line, the newest first
-abbrev pub with_line : DemoTerms → List Event → Line → List Event
-with_line t past line = onto (line_events (made_call t past) line) past
+abbrev pub with_made_line : DemoTerms → List Event → Line → List Event
+with_made_line t past line = onto (line_events (made_call t past) line) past
 
 -- the events of all these lines after others, the newest first
 abbrev pub made_events : DemoTerms → List Event → List Line → List Event
@@ -70,18 +70,18 @@ all_done s =
 abbrev pub lines_step : DemoState → List Line → Step DemoState
 lines_step s [] = Ends (all_done s)
 lines_step s (line ∷ lines) =
-    Goes (record { terms = s.terms; past = with_line s.terms s.past line; lines = lines }) silent_turn
+    Goes (record { terms = s.terms; past = with_made_line s.terms s.past line; lines = lines }) silent_turn
 
 abbrev pub demo_step : DemoState → (Role → List ℕ) → Step DemoState
 demo_step s inputs = lines_step s s.lines
 
 -- before the first line
-abbrev pub first_state : DemoTerms → DemoState
-first_state t = record { terms = t; past = []; lines = made_trace t.seed t.frames }
+abbrev pub demo_at_start : DemoTerms → DemoState
+demo_at_start t = record { terms = t; past = []; lines = made_trace t.seed t.frames }
 
 abbrev pub demo_begin : DemoTerms → (Role → List ℕ) → Step DemoState
-demo_begin t inputs = Goes (first_state t) silent_turn
+demo_begin t inputs = Goes (demo_at_start t) silent_turn
 
 -- each line is a turn
-abbrev pub most_turns : DemoTerms → ℕ
-most_turns t = length (made_trace t.seed t.frames)
+abbrev pub made_turns : DemoTerms → ℕ
+made_turns t = length (made_trace t.seed t.frames)

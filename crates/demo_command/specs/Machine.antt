@@ -36,8 +36,8 @@ abbrev pub IsNearNow : DemoTerms → List Event → Type 0
 IsNearNow t past = AllMayHappen (coding t.params) (rules_of t.params) (steady t.params) (made_video t) past
 
 -- both ends and the network have done these events
-abbrev pub HasDone : Demo → List Event → Type 0
-HasDone m past = HoldsNetwork m.terms.params m.network m.both.sender m.both.receiver [] (made_video m.terms) past
+abbrev pub DemoHasDone : Demo → List Event → Type 0
+DemoHasDone m past = HoldsNetwork m.terms.params m.network m.both.sender m.both.receiver [] (made_video m.terms) past
 
 -- this many pictures were sent after the line
 abbrev pub sent_after : Line → ℕ → ℕ
@@ -69,7 +69,7 @@ pub record DemoStands (m : Demo) (s : DemoState) (inputs : Role → List ℕ) : 
   pub terms : s.terms ≡ m.terms
   pub lines : s.lines ≡ lines_left m.lines
   pub ahead : made_events m.terms s.past s.lines ≡ made_events m.terms [] (made_trace m.terms.seed m.terms.frames)
-  pub done : HasDone m s.past
+  pub done : DemoHasDone m s.past
 
 pub record DemoOpens (t : DemoTerms) (attached : Role → Bool) : Type 0 where
   pub params : IsParams t.params

@@ -55,14 +55,14 @@ impl Turns for Demo {
 impl Begins for Demo {
     ghost use Rattle.std.specs.Prelude.{None};
     ghost use Rattle.desk_program.specs.Run.{run_from};
-    ghost use Rattle.demo_command.specs.Demo.{demo_begin, demo_step, most_turns};
+    ghost use Rattle.demo_command.specs.Demo.{demo_begin, demo_step, made_turns};
     ghost use Rattle.demo_command.specs.Machine.{DemoOpens};
 
     type Setup = DemoTerms;
 
     type Machine = Demo;
 
-    ghost run = { λ setup inputs. run_from (demo_begin setup inputs) demo_step (most_turns setup)
+    ghost run = { λ setup inputs. run_from (demo_begin setup inputs) demo_step (made_turns setup)
         inputs };
 
     ghost opens = { DemoOpens };

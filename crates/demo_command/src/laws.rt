@@ -6,7 +6,7 @@ ghost use Rattle.h263_types.specs.Params.{IsParams};
 ghost use Rattle.call_report.specs.declared.status.Status.TheVariants.{Ok as Fine};
 ghost use Rattle.desk_program.specs.Run.{run_from};
 ghost use Rattle.demo_command.specs.declared.terms.DemoTerms.{DemoTerms};
-ghost use Rattle.demo_command.specs.Demo.{demo_begin, demo_step, most_turns};
+ghost use Rattle.demo_command.specs.Demo.{demo_begin, demo_step, made_turns};
 ghost use Rattle.demo_command.specs.Laws.{MadeLaws, TellsCounts};
 
 use back_messages::MessageFault;
@@ -23,7 +23,7 @@ use make_input::laws::made_calls_are_near;
 /// the made video over the made trace, and nothing else.
 pub fn counts_are_told()
     ensures { (t : DemoTerms) (inputs : Role → List ℕ)
-        → TellsCounts t (run_from (demo_begin t inputs) demo_step (most_turns t) inputs) }
+        → TellsCounts t (run_from (demo_begin t inputs) demo_step (made_turns t) inputs) }
 {}
 
 /// No line of the made trace is refused in the call of the made video: each of its events is in
@@ -40,5 +40,5 @@ pub fn made_laws()
 /// A call on made input is never refused, and ends with `Ok`.
 pub fn ends_well()
     ensures { (t : DemoTerms) (inputs : Role → List ℕ)
-        → (run_from (demo_begin t inputs) demo_step (most_turns t) inputs).last.status ≡ Fine }
+        → (run_from (demo_begin t inputs) demo_step (made_turns t) inputs).last.status ≡ Fine }
 {}

@@ -25,8 +25,8 @@ fn make_frame(format: Format, seed: u32, number: u32, bytes: &mut [u8])
 impl Demo {
     ghost use Rattle.call_model.specs.IdealCall.{Event as Happens, Send};
     ghost use Rattle.one_way.specs.Way.{said_in};
-    ghost use Rattle.demo_command.specs.Demo.{with_line};
-    ghost use Rattle.demo_command.specs.Machine.{AreInPlace, HasDone, IsNearNow, LineReady};
+    ghost use Rattle.demo_command.specs.Demo.{with_made_line};
+    ghost use Rattle.demo_command.specs.Machine.{AreInPlace, DemoHasDone, IsNearNow, LineReady};
     ghost use Rattle.demo_command.specs.Machine.{SendsOne, sent_after};
 
     // `S`: the next frame is made and sent.
@@ -35,8 +35,8 @@ impl Demo {
         requires left { self.old.both.sender.sent < 10000 }
         ensures ready { LineReady self.new }
         ensures sends { SendsOne self.old self.new }
-        ensures done { (past : List Happens) → HasDone self.old past
-            → IsNearNow self.old.terms (Send ∷ past) → HasDone self.new (Send ∷ past) }
+        ensures done { (past : List Happens) → DemoHasDone self.old past
+            → IsNearNow self.old.terms (Send ∷ past) → DemoHasDone self.new (Send ∷ past) }
     {
         one_way_laws::way_laws();
         one_way_laws::near_event_laws();
@@ -64,9 +64,9 @@ impl Demo {
             ≡ sent_after event self.old.both.sender.sent }
         ensures said { said_in self.new.network ≤ said_in self.old.network + 400 }
         ensures played { self.new.both.receiver.played ≤ self.old.both.receiver.played + 1 }
-        ensures done { (past : List Happens) → HasDone self.old past
-            → IsNearNow self.old.terms (with_line self.old.terms past event)
-            → HasDone self.new (with_line self.old.terms past event) }
+        ensures done { (past : List Happens) → DemoHasDone self.old past
+            → IsNearNow self.old.terms (with_made_line self.old.terms past event)
+            → DemoHasDone self.new (with_made_line self.old.terms past event) }
     {
         one_way_laws::way_laws();
         one_way_laws::ends_agree();

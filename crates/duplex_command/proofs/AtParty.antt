@@ -18,11 +18,11 @@ use Rattle.duplex_ends.specs.Pair.{AreInCall}
 use Rattle.duplex_ends.specs.declared.party.PartyEnds.{PartyEnds}
 use Rattle.duplex_command.specs.declared.event.TraceLine.{TraceLine}
 use Rattle.duplex_command.specs.declared.station.Station.{Station}
-use Rattle.duplex_command.specs.Duplex.{DuplexState, event_step, may_read, party_step}
+use Rattle.duplex_command.specs.Duplex.{DuplexState, party_event_step, talk_may_read, party_step}
 use Rattle.duplex_command.specs.Exchange.{for_second, second_result}
 use Rattle.call_command.specs.Call.{line_size}
 use Rattle.duplex_command.specs.Standing.{StationsReady, StationsStand}
-use Rattle.duplex_command.specs.Turning.{IsRead, TakesEvent, TakesLine}
+use Rattle.duplex_command.specs.Turning.{IsPartyRead, TakesEvent, TakesPartyLine}
 use Rattle.duplex_command.proofs.Exchanged.{event_at_second, line_taken}
 use Rattle.duplex_command.proofs.Exchanging.{cause_at_second, ending_at_second, going_at_second, roles_at_second, stop_at_second, told_at_second, turn_at_second}
 
@@ -36,8 +36,8 @@ module _ (own far own_new far_new : Station) (said : TraceLine) (room : ℕ) (na
   x = said.party
 
   read_too : (trace : TracePlace) (old : Outside) (s : DuplexState) (inputs : Role → List ℕ)
-      → IsRead x own far said.line trace mid old s inputs
-      → IsRead x own far said.line trace (exchanged_outside na mid) (exchanged_outside na old) s (for_second inputs)
+      → IsPartyRead x own far said.line trace mid old s inputs
+      → IsPartyRead x own far said.line trace (exchanged_outside na mid) (exchanged_outside na old) s (for_second inputs)
   read_too trace old s inputs b = record {
     stood = b.stood;
     number = b.number;
@@ -58,9 +58,9 @@ module _ (own far own_new far_new : Station) (said : TraceLine) (room : ℕ) (na
     gives = λ trace old s inputs b.
         let stands : DuplexState → (Role → List ℕ)
         → Type 0 = λ next rest. StationsStand x own_new far_new trace next (rest Events) in
-        subst (λ (step : Step DuplexState). TurnGives (second_result r) step stands may_read true inputs old new)
+        subst (λ (step : Step DuplexState). TurnGives (second_result r) step stands talk_may_read true inputs old new)
         (event_at_second x s (inputs Events) inputs said.event)
-        (turn_at_second stands may_read true inputs na nb old new (event_step Video Pictures VideoRefused x s
+        (turn_at_second stands talk_may_read true inputs na nb old new (party_event_step Video Pictures VideoRefused x s
         (inputs Events) (for_second inputs) said.event) r
         (t.gives trace (exchanged_outside na old) s (for_second inputs) (read_too trace old s inputs b)));
     goes_on = ending_at_second r ⊥ t.goes_on;
@@ -141,7 +141,7 @@ module _ (laws : Laws) where
     party_is x is = λ i. record { line = said.line; party = is i; event = said.event }
 
     a_line : TakesEvent Video Pictures VideoRefused a b a_new b_new (by_party A) r mid new room
-        → TakesLine a b a_new b_new (by_party A) r mid new room
+        → TakesPartyLine a b a_new b_new (by_party A) r mid new room
     a_line t = record {
       gives = t.gives;
       goes_on = t.goes_on;
@@ -152,12 +152,12 @@ module _ (laws : Laws) where
     }
 
     b_line : TakesEvent Video2 Pictures2 Video2Refused b a b_new a_new (by_party B) r mid new room
-        → TakesLine a b a_new b_new (by_party B) r mid new room
+        → TakesPartyLine a b a_new b_new (by_party B) r mid new room
     b_line t = record {
       gives = λ trace old s inputs k.
           stands_so r (party_step B s inputs said.event) (λ next rest. StationsStand B b_new a_new trace next
           (rest Events)) (λ next rest. StationsStand A a_new b_new trace next (rest Events))
-          may_read true inputs old new (λ next rest stand. to_a a_new b_new trace next (rest Events) stand)
+          talk_may_read true inputs old new (λ next rest stand. to_a a_new b_new trace next (rest Events) stand)
           (t.gives trace old s inputs (record {
             stood = to_b a b trace _ _ k.stood;
             number = k.number;
@@ -173,16 +173,16 @@ module _ (laws : Laws) where
 
     -- of the first party
     pub line_of_a : said.party ≡ A → TakesEvent Video Pictures VideoRefused a b a_new b_new said r mid new room
-        → TakesLine a b a_new b_new said r mid new room
+        → TakesPartyLine a b a_new b_new said r mid new room
     line_of_a is t =
-        subst (λ (q : TraceLine). TakesLine a b a_new b_new q r mid new room) (sym (party_is A is))
+        subst (λ (q : TraceLine). TakesPartyLine a b a_new b_new q r mid new room) (sym (party_is A is))
         (a_line (subst (λ (q : TraceLine). TakesEvent Video Pictures VideoRefused a b a_new b_new q r mid new room)
         (party_is A is) t))
 
     -- of the second
     pub line_of_b : said.party ≡ B → TakesEvent Video2 Pictures2 Video2Refused b a b_new a_new said r mid new room
-        → TakesLine a b a_new b_new said r mid new room
+        → TakesPartyLine a b a_new b_new said r mid new room
     line_of_b is t =
-        subst (λ (q : TraceLine). TakesLine a b a_new b_new q r mid new room) (sym (party_is B is))
+        subst (λ (q : TraceLine). TakesPartyLine a b a_new b_new q r mid new room) (sym (party_is B is))
         (b_line (subst (λ (q : TraceLine). TakesEvent Video2 Pictures2 Video2Refused b a b_new a_new q r mid new room)
         (party_is B is) t))

@@ -17,7 +17,7 @@ use Rattle.duplex_call.specs.declared.line.Party.{Party}
 use Rattle.duplex_call.specs.declared.line.Party.TheVariants.{A, B}
 use Rattle.duplex_call.specs.Duplex.{AllMayHappenOf, Lettered, MayBeBrought, MayHappenOf, WayRun, WayRuns, brings, brought, other, way, with_delivery}
 use Rattle.duplex_ends.specs.Ways.{call_in, sides, with_places}
-use Rattle.duplex_command.specs.Recorded.{told_lines, ways_of, with_packets}
+use Rattle.duplex_command.specs.Recorded.{told_lines, ways_of, with_party_packets}
 
 -- ---- messages that are brought
 
@@ -177,14 +177,14 @@ module _ (p : Party → Params) where
   module _ (captures : Party → List Picture) where
     pub ways_packets : (x : Party) (n count : ℕ) (past : List Lettered)
         → with_places p x n count (ways_of p captures past)
-        ≡ ways_of p captures (with_packets p captures x n count past)
+        ≡ ways_of p captures (with_party_packets p captures x n count past)
     ways_packets x n zero past = refl
     ways_packets x n (suc j) past = ap (with_delivery (sides p) x n j) (ways_packets x n j past)
 
     pub near_packets : (x : Party) (n i count : ℕ) (past : List Lettered)
         → MayHappenOf (sides p) (length (captures x)) x (Deliver n i) (ways_of p captures past)
         → AllMayHappenOf (sides p) captures past
-        → AllMayHappenOf (sides p) captures (with_packets p captures x n count past)
+        → AllMayHappenOf (sides p) captures (with_party_packets p captures x n count past)
     near_packets x n i zero past may near = near
     near_packets x n i (suc j) past may near = (
       subst (MayHappenOf (sides p) (length (captures x)) x (Deliver n j)) (ways_packets x n j past)
@@ -194,7 +194,7 @@ module _ (p : Party → Params) where
 
     -- nothing is told of them
     pub told_packets : (x : Party) (n count : ℕ) (past : List Lettered)
-        → told_lines p captures (with_packets p captures x n count past) ≡ told_lines p captures past
+        → told_lines p captures (with_party_packets p captures x n count past) ≡ told_lines p captures past
     told_packets x n zero past = refl
-    told_packets x n (suc j) past = append-nil (told_lines p captures (with_packets p captures x n j past))
+    told_packets x n (suc j) past = append-nil (told_lines p captures (with_party_packets p captures x n j past))
         ∙ told_packets x n j past

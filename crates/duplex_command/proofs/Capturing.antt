@@ -19,11 +19,11 @@ use Rattle.desk_program.specs.Ends.{Tells, IsPart, Went, Ended, EndsBy, GivesUp,
 use Rattle.desk_program.specs.Texts.{no_texts, of, and_of}
 use Rattle.desk_program.specs.Laws.{TurnLaws}
 use Rattle.duplex_call.specs.declared.line.Party.{Party}
-use Rattle.duplex_command.specs.Duplex.{DuplexState, VideoPlace, after_line, capture_step, captured_step, may_read, place_of, with_frame}
+use Rattle.duplex_command.specs.Duplex.{DuplexState, VideoPlace, after_party_line, party_capture_step, party_captured_step, talk_may_read, video_place_of, with_party_frame}
 use Rattle.call_command.specs.Call.{line_size, refused_line}
 use Rattle.call_command.specs.Laws.{LineLaws, VideoLaws}
 use Rattle.call_command.specs.Standing.{HasTaken}
-use Rattle.duplex_command.specs.Standing.{place_in}
+use Rattle.duplex_command.specs.Standing.{place_in_video}
 use Rattle.duplex_command.proofs.LineTurning.{double_not}
 
 -- ---- a part of a frame holds no turn
@@ -48,13 +48,13 @@ module _ (x : Party) (s : DuplexState) where
   format = (s.params x).format
 
   abbrev place : VideoPlace
-  place = place_of x s
+  place = video_place_of x s
 
   abbrev step_at : List ℕ → List ℕ → Step DuplexState
-  step_at trace video = capture_step Video Pictures VideoRefused x s trace video
+  step_at trace video = party_capture_step Video Pictures VideoRefused x s trace video
 
   abbrev captured : List ℕ → ℕ → Result (List ℕ) Y4mFault → Step DuplexState
-  captured trace size r = captured_step Video Pictures VideoRefused x s trace size r
+  captured trace size r = party_captured_step Video Pictures VideoRefused x s trace size r
 
   frame_part : LineLaws → VideoLaws → (trace video : List ℕ) (n : ℕ) (r : Result (List ℕ) Y4mFault)
       → next_frame place.more format place.at video ≡ r
@@ -91,7 +91,7 @@ module _ (x : Party) (s : DuplexState) where
       × IsErr (frame_of format place.at (take k rest))
 
   pub gives_so : (r : Result Bool VideoStop) (reader new : Y4mPlace) (rest out : List ℕ) (left : Option (List ℕ))
-      → place ≡ place_in reader → reader.format ≡ format → FrameGives r reader rest out new left
+      → place ≡ place_in_video reader → reader.format ≡ format → FrameGives r reader rest out new left
       → Gives r rest out new left
   gives_so (Ok true) reader new rest out left is form (some, next, at, gone) = (
     some,
@@ -164,10 +164,10 @@ module _ (x : Party) (s : DuplexState) where
       size = frame_size format (inputs Video)
 
       pub frame_sent : (stands : DuplexState → (Role → List ℕ) → Type 0)
-          → stands (after_line (with_frame x s size out) trace) (left_after inputs (some_of trace size))
-          → Went step stands may_read true inputs before mid
+          → stands (after_party_line (with_party_frame x s size out) trace) (left_after inputs (some_of trace size))
+          → Went step stands talk_may_read true inputs before mid
       frame_sent stands kept = record {
-        next = after_line (with_frame x s size out) trace;
+        next = after_party_line (with_party_frame x s size out) trace;
         turn = record { taken = some_of trace size; whole = is_closed trace; texts = no_texts };
         could = refl;
         is = video_next trace (inputs Video) (Ok out) e.0 e.1;

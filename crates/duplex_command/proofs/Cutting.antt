@@ -20,7 +20,7 @@ use Rattle.call_command.specs.Call.{bad_line, line_size}
 use Rattle.call_command.specs.Laws.{LineLaws, CoversLine}
 use Rattle.duplex_call.specs.declared.line.Party.{Party}
 use Rattle.duplex_call.specs.Lines.{party_event}
-use Rattle.duplex_command.specs.Duplex.{DuplexState, capture_step, captured_step, event_step, line_step, pictures_of, place_of, refusal_at, refused_video, trace_step, unless, video_of}
+use Rattle.duplex_command.specs.Duplex.{DuplexState, party_capture_step, party_captured_step, party_event_step, lettered_step, pictures_role, video_place_of, party_refusal, refused_party_video, duplex_trace_step, unless_refused, video_of}
 
 abbrev IsLineTurn : List ℕ → Step DuplexState → Type 0
 IsLineTurn trace step = CoversLine trace (step_turns step)
@@ -33,53 +33,53 @@ more_size n m = omega arith
 
 module _ (s : DuplexState) (trace : List ℕ) where
   turn_unless : (e : Event) (o : Option Refusal) (step : Step DuplexState) → IsLineTurn trace step
-      → IsLineTurn trace (unless s trace e o step)
+      → IsLineTurn trace (unless_refused s trace e o step)
   turn_unless e None step is = is
   turn_unless e (Some r) step is = tt
 
 module _ (video pictures : Role) (refuses : Y4mFault → Status) (x : Party) (s : DuplexState) (trace : List ℕ) where
   turn_captured : (size : ℕ) (r : Result (List ℕ) Y4mFault)
-      → IsLineTurn trace (captured_step video pictures refuses x s trace size r)
+      → IsLineTurn trace (party_captured_step video pictures refuses x s trace size r)
   turn_captured size (Ok planes) = (refl, more_size (line_size trace) (of video size Events))
   turn_captured size (Err fault) = tt
 
-  turn_capture : (rest : List ℕ) → IsLineTurn trace (capture_step video pictures refuses x s trace rest)
+  turn_capture : (rest : List ℕ) → IsLineTurn trace (party_capture_step video pictures refuses x s trace rest)
   turn_capture [] = tt
   turn_capture (b ∷ rest) = turn_captured (frame_size (s.params x).format (b ∷ rest))
-      (next_frame (place_of x s).more (s.params x).format (place_of x s).at (b ∷ rest))
+      (next_frame (video_place_of x s).more (s.params x).format (video_place_of x s).at (b ∷ rest))
 
   turn_event : (inputs : Role → List ℕ) (line : Line)
-      → IsLineTurn trace (event_step video pictures refuses x s trace inputs line)
+      → IsLineTurn trace (party_event_step video pictures refuses x s trace inputs line)
   turn_event inputs says.Nothing = (refl, same_size (line_size trace))
-  turn_event inputs says.Send = turn_unless s trace Send (refusal_at x s Send) _ (turn_capture (inputs video))
-  turn_event inputs (says.Packet n j) = turn_unless s trace (Deliver n j) (refusal_at x s (Deliver n j)) _ (
+  turn_event inputs says.Send = turn_unless s trace Send (party_refusal x s Send) _ (turn_capture (inputs video))
+  turn_event inputs (says.Packet n j) = turn_unless s trace (Deliver n j) (party_refusal x s (Deliver n j)) _ (
     refl,
     same_size (line_size trace),
   )
-  turn_event inputs (says.All n) = turn_unless s trace (Deliver n 0) (refusal_at x s (Deliver n 0)) _ (
+  turn_event inputs (says.All n) = turn_unless s trace (Deliver n 0) (party_refusal x s (Deliver n 0)) _ (
     refl,
     same_size (line_size trace),
   )
   turn_event inputs (says.Back k) = tt
-  turn_event inputs says.Play = turn_unless s trace Play (refusal_at x s Play) _ (refl, same_size (line_size trace))
+  turn_event inputs says.Play = turn_unless s trace Play (party_refusal x s Play) _ (refl, same_size (line_size trace))
 
 module _ (s : DuplexState) (inputs : Role → List ℕ) where
-  turn_line : (o : Option (Option (Party × Line))) → IsLineTurn (inputs Events) (line_step s inputs o)
+  turn_line : (o : Option (Option (Party × Line))) → IsLineTurn (inputs Events) (lettered_step s inputs o)
   turn_line None = tt
   turn_line (Some None) = (refl, same_size (line_size (inputs Events)))
-  turn_line (Some (Some said)) = turn_event (video_of said.0) (pictures_of said.0) (refused_video said.0) said.0 s
+  turn_line (Some (Some said)) = turn_event (video_of said.0) (pictures_role said.0) (refused_party_video said.0) said.0 s
       (inputs Events) inputs said.1
 
   turn_choice : (b : Bool) (o : Option (Option (Party × Line)))
-      → IsLineTurn (inputs Events) (if b then line_step s inputs o else Ends (bad_line (TooMany (s.lines + 1))))
+      → IsLineTurn (inputs Events) (if b then lettered_step s inputs o else Ends (bad_line (TooMany (s.lines + 1))))
   turn_choice true o = turn_line o
   turn_choice false o = tt
 
-  turn_trace : (trace : List ℕ) → trace ≡ inputs Events → IsLineTurn (inputs Events) (trace_step s inputs trace)
+  turn_trace : (trace : List ℕ) → trace ≡ inputs Events → IsLineTurn (inputs Events) (duplex_trace_step s inputs trace)
   turn_trace [] is = tt
   turn_trace (b ∷ trace) is = turn_choice (nat_lt s.lines 16777216) (party_event (first_line (b ∷ trace)))
 
 pub trace_part : LineLaws → (s : DuplexState) (inputs : Role → List ℕ) (k : ℕ) → NoNewline (take k (inputs Events))
-    → IsPart (step_turns (trace_step s inputs (inputs Events))) (of Events k)
-trace_part laws s inputs k free = laws.line_part (inputs Events) k (step_turns (trace_step s inputs (inputs Events)))
+    → IsPart (step_turns (duplex_trace_step s inputs (inputs Events))) (of Events k)
+trace_part laws s inputs k free = laws.line_part (inputs Events) k (step_turns (duplex_trace_step s inputs (inputs Events)))
     free (turn_trace s inputs (inputs Events) refl)

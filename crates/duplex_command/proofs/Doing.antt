@@ -31,13 +31,13 @@ use Rattle.duplex_ends.specs.Pair.{AreInCall, HoldsPair, IsInCall}
 use Rattle.duplex_ends.specs.Ways.{call_in, sides}
 use Rattle.duplex_ends.specs.declared.party.PartyEnds.{PartyEnds}
 use Rattle.duplex_command.specs.declared.station.Station.{Station}
-use Rattle.duplex_command.specs.Duplex.{DuplexState, after_line, capture_step, event_step, may_read, place_of, play_step, play_texts, quiet_step, refusal_at, seen_of, unless, with_frame, with_next}
+use Rattle.duplex_command.specs.Duplex.{DuplexState, after_party_line, party_capture_step, party_event_step, talk_may_read, video_place_of, play_step, play_texts, quiet_party_step, party_refusal, seen_of, unless_refused, with_party_frame, with_next}
 use Rattle.call_command.specs.Call.{line_size, line_turn}
 use Rattle.call_command.specs.Laws.{LineLaws}
-use Rattle.call_command.specs.Refused.{IsNotRefused, IsRefusedWith, fault_at, fault_of}
+use Rattle.call_command.specs.Refused.{IsNotRefused, IsRefusedWith, fault_on_line, fault_told}
 use Rattle.call_command.specs.Turning.{IsChecked}
-use Rattle.duplex_command.specs.Standing.{StationReady, StationsReady, StationsStand, place_in}
-use Rattle.duplex_command.specs.Turning.{IsPartyTurn, IsRead, TakesFrame}
+use Rattle.duplex_command.specs.Standing.{StationReady, StationsReady, StationsStand, place_in_video}
+use Rattle.duplex_command.specs.Turning.{IsPartyTurn, IsPartyRead, TakesPartyFrame}
 use Rattle.duplex_command.proofs.LineTurning.{line_goes, line_refused, place_same}
 use Rattle.duplex_command.proofs.PartyTurns.{gave_up, was_cut, went_on}
 
@@ -94,7 +94,7 @@ may_so (Err told) free may = absurd free
 -- ---- the line of a party
 
 module _ (x : Party) (own far : Station) (line : ℕ) (trace_new : TracePlace) (before mid : Outside) (s : DuplexState)
-    (inputs : Role → List ℕ) (b : IsRead x own far line trace_new mid before s inputs) where
+    (inputs : Role → List ℕ) (b : IsPartyRead x own far line trace_new mid before s inputs) where
   abbrev trace : List ℕ
   trace = inputs Events
 
@@ -102,45 +102,45 @@ module _ (x : Party) (own far : Station) (line : ℕ) (trace_new : TracePlace) (
   taken_line = of Events (line_size trace)
 
   abbrev step_of : Line → Step DuplexState
-  step_of event = event_step Video Pictures VideoRefused x s trace inputs event
+  step_of event = party_event_step Video Pictures VideoRefused x s trace inputs event
 
   -- ---- a refused event
 
-  module _ (laws : LineLaws) (told : Told) (fault : TraceFault) (fault_is : fault ≡ fault_at line told) where
-    event_refused : (e : Event) (step : Step DuplexState) → IsAllowed (Err told) e (refusal_at x s e)
-        → Ended (unless s trace e (refusal_at x s e) step) (TraceRefused fault) inputs before mid
+  module _ (laws : LineLaws) (told : Told) (fault : TraceFault) (fault_is : fault ≡ fault_on_line line told) where
+    event_refused : (e : Event) (step : Step DuplexState) → IsAllowed (Err told) e (party_refusal x s e)
+        → Ended (unless_refused s trace e (party_refusal x s e) step) (TraceRefused fault) inputs before mid
     event_refused e step refused =
         let told_so = refused.2 in
-        line_refused s inputs before mid b.taken laws (TraceRefused fault) (fault_of (s.lines + 1) e refused.0) _
-        (ap (λ (f : TraceFault). TraceRefused f) fault_is ∙ (λ i. TraceRefused (fault_at (b.number i) (told_so i))))
-        (ap (λ (o : Option Refusal). unless s trace e o step) refused.1)
+        line_refused s inputs before mid b.taken laws (TraceRefused fault) (fault_told (s.lines + 1) e refused.0) _
+        (ap (λ (f : TraceFault). TraceRefused f) fault_is ∙ (λ i. TraceRefused (fault_on_line (b.number i) (told_so i))))
+        (ap (λ (o : Option Refusal). unless_refused s trace e o step) refused.1)
 
-    pub line_is_refused : (event : Line) → IsChecked (Err told) event (λ e. refusal_at x s e)
+    pub line_is_refused : (event : Line) → IsChecked (Err told) event (λ e. party_refusal x s e)
         → Ended (step_of event) (TraceRefused fault) inputs before mid
     line_is_refused says.Nothing refused = absurd refused
     line_is_refused says.Send refused = event_refused Send _ refused
     line_is_refused (says.Packet n j) refused = event_refused (Deliver n j) _ refused
     line_is_refused (says.All n) refused = event_refused (Deliver n 0) _ refused
-    line_is_refused (says.Back m) refused = event_refused (Back m) (quiet_step s trace s.ways) refused
+    line_is_refused (says.Back m) refused = event_refused (Back m) (quiet_party_step s trace s.ways) refused
     line_is_refused says.Play refused = event_refused Play _ refused
 
   -- ---- an event that may happen
 
-  pub step_is : (e : Event) (step : Step DuplexState) → refusal_at x s e ≡ None
-      → unless s trace e (refusal_at x s e) step ≡ step
-  step_is e step none = ap (λ (o : Option Refusal). unless s trace e o step) none
+  pub step_is : (e : Event) (step : Step DuplexState) → party_refusal x s e ≡ None
+      → unless_refused s trace e (party_refusal x s e) step ≡ step
+  step_is e step none = ap (λ (o : Option Refusal). unless_refused s trace e o step) none
 
   -- the stations where both ways are these
   pub stands_event : (own_new far_new : Station) (ways : WayRuns Frame) → own_new.video ≡ own.video
       → far_new.video ≡ far.video
       → HoldsPair s.params x own_new.ends far_new.ends ways
-      → StationsStand x own_new far_new trace_new (after_line (record s { ways = ways }) trace)
+      → StationsStand x own_new far_new trace_new (after_party_line (record s { ways = ways }) trace)
       (left_after inputs taken_line Events)
   stands_event own_new far_new ways own_same far_same holds = record {
-    own_place = place_same x (after_line (record s { ways = ways }) trace) (after_line s trace) refl refl
-        ∙ b.stood.own_place ∙ ap place_in (sym own_same);
-    far_place = place_same (other x) (after_line (record s { ways = ways }) trace) (after_line s trace) refl refl
-        ∙ b.stood.far_place ∙ ap place_in (sym far_same);
+    own_place = place_same x (after_party_line (record s { ways = ways }) trace) (after_party_line s trace) refl refl
+        ∙ b.stood.own_place ∙ ap place_in_video (sym own_same);
+    far_place = place_same (other x) (after_party_line (record s { ways = ways }) trace) (after_party_line s trace) refl refl
+        ∙ b.stood.far_place ∙ ap place_in_video (sym far_same);
     lines = b.stood.lines;
     ended = b.stood.ended;
     over = b.stood.over;
@@ -148,16 +148,16 @@ module _ (x : Party) (own far : Station) (line : ℕ) (trace_new : TracePlace) (
   }
 
   -- the reader of the video is where the state before the line says
-  pub own_place : place_of x s ≡ place_in own.video
-  own_place = place_same x s (after_line s trace) refl refl ∙ b.stood.own_place
+  pub own_place : video_place_of x s ≡ place_in_video own.video
+  own_place = place_same x s (after_party_line s trace) refl refl ∙ b.stood.own_place
 
   pub format_is : own.video.format ≡ own.ends.params.format → own.video.format ≡ (s.params x).format
   format_is is = is ∙ ap (λ (p : Params). p.format) b.stood.holds.own_holds.params
 
   pub event_goes : TurnLaws → (own_new far_new : Station) (event : Line) (ways : WayRuns Frame)
       → own_new.video ≡ own.video → far_new.video ≡ far.video
-      → step_of event ≡ quiet_step s trace ways → HoldsPair s.params x own_new.ends far_new.ends ways
-      → Went (step_of event) (λ next rest. StationsStand x own_new far_new trace_new next (rest Events)) may_read true
+      → step_of event ≡ quiet_party_step s trace ways → HoldsPair s.params x own_new.ends far_new.ends ways
+      → Went (step_of event) (λ next rest. StationsStand x own_new far_new trace_new next (rest Events)) talk_may_read true
       inputs before mid
   event_goes laws own_new far_new event ways own_same far_same is holds =
       line_goes s inputs before mid b.taken (record s { ways = ways }) no_texts _
@@ -166,16 +166,16 @@ module _ (x : Party) (own far : Station) (line : ℕ) (trace_new : TracePlace) (
 
   -- ---- the next picture was played
 
-  module _ (new : Outside) (still : new.left ≡ mid.left) (none : refusal_at x s Play ≡ None) where
+  module _ (new : Outside) (still : new.left ≡ mid.left) (none : party_refusal x s Play ≡ None) where
     abbrev shown : Role → List ℕ
     shown = play_texts Pictures x (seen_of x (with_next x s)) (seen_of x s).played
 
-    play_is : step_of says.Play ≡ Goes (after_line (with_next x s) trace) (line_turn trace shown)
+    play_is : step_of says.Play ≡ Goes (after_party_line (with_next x s) trace) (line_turn trace shown)
     play_is = step_is Play (play_step Video Pictures VideoRefused x s trace) none
 
     pub play_goes : (stands : DuplexState → (Role → List ℕ) → Type 0)
-        → stands (after_line (with_next x s) trace) (left_after inputs taken_line)
-        → Gains shown mid.written new.written → Went (step_of says.Play) stands may_read true inputs before new
+        → stands (after_party_line (with_next x s) trace) (left_after inputs taken_line)
+        → Gains shown mid.written new.written → Went (step_of says.Play) stands talk_may_read true inputs before new
     play_goes stands kept gains = line_goes s inputs before mid b.taken (with_next x s) shown _ stands play_is kept new
         still gains
 
@@ -187,20 +187,20 @@ module _ (x : Party) (own far : Station) (line : ℕ) (trace_new : TracePlace) (
 
   -- ---- the frame that the line asks for was sent
 
-  pub stands_sent : (own_new : Station) (size : ℕ) (out : List ℕ) → own_new.video.at ≡ (place_of x s).at + size
-      → own_new.video.more + 1 ≡ (place_of x s).more
+  pub stands_sent : (own_new : Station) (size : ℕ) (out : List ℕ) → own_new.video.at ≡ (video_place_of x s).at + size
+      → own_new.video.more + 1 ≡ (video_place_of x s).more
       → HoldsPair s.params x own_new.ends far.ends (with_capture (sides s.params) x (picture_of (s.params x).format out)
       s.ways)
-      → StationsStand x own_new far trace_new (after_line (with_frame x s size out) trace)
+      → StationsStand x own_new far trace_new (after_party_line (with_party_frame x s size out) trace)
       (left_after inputs (and_of taken_line (of Video size)) Events)
-  stands_sent own_new size out place fewer holds = by_party x (place_same (other x) s (after_line s trace) refl refl
+  stands_sent own_new size out place fewer holds = by_party x (place_same (other x) s (after_party_line s trace) refl refl
       ∙ b.stood.far_place) b.stood.lines b.stood.ended place_is holds
     where
       less : (a b : ℕ) → a + 1 ≡ b → b - 1 ≡ a
       less a b is = omega (arith, is)
 
-      place_is : record { at = (place_of x s).at + size; more = (place_of x s).more - 1 } ≡ place_in own_new.video
-      place_is = let few = less own_new.video.more (place_of x s).more fewer in
+      place_is : record { at = (video_place_of x s).at + size; more = (video_place_of x s).more - 1 } ≡ place_in_video own_new.video
+      place_is = let few = less own_new.video.more (video_place_of x s).more fewer in
           λ i. record { at = sym place i; more = few i }
 
       nothing_more : (n : ℕ) → n + 0 ≡ n
@@ -209,12 +209,12 @@ module _ (x : Party) (own far : Station) (line : ℕ) (trace_new : TracePlace) (
       over : trace_new.ended ≡ true → drop (line_size trace + 0) trace ≡ []
       over ended = ap (λ (n : ℕ). drop n trace) (nothing_more (line_size trace)) ∙ b.stood.over ended
 
-      by_party : (y : Party) → place_of (other y) s ≡ place_in far.video → s.lines + 1 ≡ trace_new.lines
-          → (after_line s trace).ended ≡ trace_new.ended
-          → record { at = (place_of y s).at + size; more = (place_of y s).more - 1 } ≡ place_in own_new.video
+      by_party : (y : Party) → video_place_of (other y) s ≡ place_in_video far.video → s.lines + 1 ≡ trace_new.lines
+          → (after_party_line s trace).ended ≡ trace_new.ended
+          → record { at = (video_place_of y s).at + size; more = (video_place_of y s).more - 1 } ≡ place_in_video own_new.video
           → HoldsPair s.params y own_new.ends far.ends
           (with_capture (sides s.params) y (picture_of (s.params y).format out) s.ways)
-          → StationsStand y own_new far trace_new (after_line (with_frame y s size out) trace)
+          → StationsStand y own_new far trace_new (after_party_line (with_party_frame y s size out) trace)
           (left_after inputs (and_of taken_line (of Video size)) Events)
       by_party A far_place lines ended own_place holds = record {
         own_place = own_place;
@@ -238,15 +238,15 @@ module _ (x : Party) (own far : Station) (line : ℕ) (trace_new : TracePlace) (
 module _ (x : Party) (own far own_new far_new : Station) (line room : ℕ) (event said : Line) (mid new : Outside) where
   abbrev LineTurn : Line → Result Bool Status → Type 0
   LineTurn e r =
-      IsPartyTurn x own_new far_new r mid new room (λ trace. IsRead x own far line trace mid)
-      (λ s inputs. event_step Video Pictures VideoRefused x s (inputs Events) inputs e)
+      IsPartyTurn x own_new far_new r mid new room (λ trace. IsPartyRead x own far line trace mid)
+      (λ s inputs. party_event_step Video Pictures VideoRefused x s (inputs Events) inputs e)
 
   -- one whose event is done
   pub event_done : event ≡ said → StationsReady own_new far_new room → KeepsRoles mid new
       → ((trace : TracePlace) (old : Outside) (s : DuplexState) (inputs : Role → List ℕ)
-      → IsRead x own far line trace mid old s inputs
-      → Went (event_step Video Pictures VideoRefused x s (inputs Events) inputs said)
-      (λ next rest. StationsStand x own_new far_new trace next (rest Events)) may_read true inputs old new)
+      → IsPartyRead x own far line trace mid old s inputs
+      → Went (party_event_step Video Pictures VideoRefused x s (inputs Events) inputs said)
+      (λ next rest. StationsStand x own_new far_new trace next (rest Events)) talk_may_read true inputs old new)
       → LineTurn event (Ok true)
   event_done is ready rest gives = subst (λ (e : Line). LineTurn e (Ok true)) (sym is)
       (went_on x own_new far_new mid new room _ _ ready rest gives)
@@ -255,8 +255,8 @@ module _ (x : Party) (own far own_new far_new : Station) (line room : ℕ) (even
   pub event_cut : event ≡ said → (r : Result Bool Status) (status : Status) → IsErrAnd r (λ z. z ≡ status)
       → status ≡ WriteFault → Rose mid.faults.write new.faults.write → KeepsRoles mid new
       → ((trace : TracePlace) (old : Outside) (s : DuplexState) (inputs : Role → List ℕ)
-      → IsRead x own far line trace mid old s inputs
-      → GainsFronts (step_texts (event_step Video Pictures VideoRefused x s (inputs Events) inputs said)) old.written
+      → IsPartyRead x own far line trace mid old s inputs
+      → GainsFronts (step_texts (party_event_step Video Pictures VideoRefused x s (inputs Events) inputs said)) old.written
       new.written)
       → LineTurn event r
   event_cut is r status answer kind rose rest gives = subst (λ (e : Line). LineTurn e r) (sym is)
@@ -267,16 +267,16 @@ pub line_stops : (x : Party) (own far : Station) (line room : ℕ) (event said :
     (status : Status) (checked : Result Unit Told) (now : Outside) → event ≡ said
     → IsErrAnd r (λ z. z ≡ status) → IsRefusedWith line checked status → LineLaws → StepLaws
     → ((trace : TracePlace) (old : Outside) (s : DuplexState) (inputs : Role → List ℕ)
-    → IsRead x own far line trace now old s inputs → IsChecked checked said (λ e. refusal_at x s e))
+    → IsPartyRead x own far line trace now old s inputs → IsChecked checked said (λ e. party_refusal x s e))
     → LineTurn x own far own far line room event said now now event r
 line_stops x own far line room event said r status (Ok u) now is answer refused lines steps checks = absurd refused
 line_stops x own far line room event said r status (Err told) now is answer refused lines steps checks =
     subst (λ (e : Line). LineTurn x own far own far line room event said now now e r) (sym is)
-    (gave_up x own far now now room (λ trace. IsRead x own far line trace now)
-    (λ s inputs. event_step Video Pictures VideoRefused x s (inputs Events) inputs said)
-    r (TraceRefused (fault_at line told)) (subst (λ (w : Status). IsErrAnd r (λ z. z ≡ w)) refused answer) tt tt
+    (gave_up x own far now now room (λ trace. IsPartyRead x own far line trace now)
+    (λ s inputs. party_event_step Video Pictures VideoRefused x s (inputs Events) inputs said)
+    r (TraceRefused (fault_on_line line told)) (subst (λ (w : Status). IsErrAnd r (λ z. z ≡ w)) refused answer) tt tt
     (steps.none now)
-    (λ trace old s inputs b. line_is_refused x own far line trace old now s inputs b lines told (fault_at line told)
+    (λ trace old s inputs b. line_is_refused x own far line trace old now s inputs b lines told (fault_on_line line told)
     refl said (checks trace old s inputs b)))
 
 -- one that delivers packets of a picture, of which one tells whether it may be done
@@ -286,10 +286,10 @@ pub delivery_done : (x : Party) (own far : Station) (own_ends far_ends : PartyEn
     → KeepsInDelivery own.ends far.ends own_ends far_ends
     → (after : (Party → Params) → WayRuns Frame → WayRuns Frame)
     → ((s : DuplexState) (inputs : Role → List ℕ)
-    → event_step Video Pictures VideoRefused x s (inputs Events) inputs said
-    ≡ unless s (inputs Events) (Deliver n j) (refusal_at x s (Deliver n j))
-    (quiet_step s (inputs Events) (after s.params s.ways)))
-    → ((s : DuplexState) → HoldsPair s.params x own.ends far.ends s.ways → refusal_at x s (Deliver n j) ≡ None)
+    → party_event_step Video Pictures VideoRefused x s (inputs Events) inputs said
+    ≡ unless_refused s (inputs Events) (Deliver n j) (party_refusal x s (Deliver n j))
+    (quiet_party_step s (inputs Events) (after s.params s.ways)))
+    → ((s : DuplexState) → HoldsPair s.params x own.ends far.ends s.ways → party_refusal x s (Deliver n j) ≡ None)
     → ((p : Party → Params) (ways : WayRuns Frame) (left : ℕ) → HoldsPair p x own.ends far.ends ways
     → MayHappenOf (sides p) left x (Deliver n j) ways → HoldsPair p x own_ends far_ends (after p ways))
     → LineTurn x own far (record own { ends = own_ends }) (record far { ends = far_ends }) line room event said mid mid
@@ -310,17 +310,17 @@ delivery_done x own far own_ends far_ends line room event said n j mid turns ste
 -- one that asks for a frame
 pub frame_asked : (x : Party) (own far own_new : Station) (line room : ℕ) (event : Line) (r : Result Bool Status)
     (mid new : Outside) → event ≡ says.Send
-    → TakesFrame x own far own_new line r mid new room
+    → TakesPartyFrame x own far own_new line r mid new room
     → ((trace : TracePlace) (old : Outside) (s : DuplexState) (inputs : Role → List ℕ)
-    → IsRead x own far line trace mid old s inputs → refusal_at x s Send ≡ None)
+    → IsPartyRead x own far line trace mid old s inputs → party_refusal x s Send ≡ None)
     → LineTurn x own far own_new far line room event says.Send mid new event r
 frame_asked x own far own_new line room event r mid new is t none =
     subst (λ (e : Line). LineTurn x own far own_new far line room event says.Send mid new e r) (sym is) (record {
       gives = λ trace old s inputs b.
           subst (λ (step : Step DuplexState). TurnGives r step (λ next rest. StationsStand x own_new far trace next
-          (rest Events)) may_read true inputs old new)
-          (sym (ap (λ (o : Option Refusal). unless s (inputs Events) Send o
-          (capture_step Video Pictures VideoRefused x s
+          (rest Events)) talk_may_read true inputs old new)
+          (sym (ap (λ (o : Option Refusal). unless_refused s (inputs Events) Send o
+          (party_capture_step Video Pictures VideoRefused x s
           (inputs Events) (inputs Video))) (none trace old s inputs b)))
           (t.gives trace old s inputs (record { read = b; none = none trace old s inputs b }));
       goes_on = t.goes_on;

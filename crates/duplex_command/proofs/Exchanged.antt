@@ -24,7 +24,7 @@ use Rattle.call_command.specs.Call.{line_size, line_turn, refused_line}
 use Rattle.loss_trace.specs.declared.fault.TraceFault.{TraceFault}
 use Rattle.duplex_call.specs.declared.line.Party.{Party}
 use Rattle.duplex_call.specs.Duplex.{WayRuns}
-use Rattle.duplex_command.specs.Duplex.{DuplexState, after_line, capture_step, captured_step, event_step, newest_texts, place_of, play_texts, quiet_step, refusal_at, seen_of, unless, with_frame, with_next}
+use Rattle.duplex_command.specs.Duplex.{DuplexState, after_party_line, party_capture_step, party_captured_step, party_event_step, newest_texts, video_place_of, play_texts, quiet_party_step, party_refusal, seen_of, unless_refused, with_party_frame, with_next}
 use Rattle.duplex_command.specs.Exchange.{for_second, second_step}
 
 -- ---- role by role
@@ -113,15 +113,15 @@ line_goes trace next first second texts =
 
 module _ (x : Party) (s : DuplexState) (trace : List ℕ) where
   event_unless : (e : Event) (o : Option Refusal) (first second : Step DuplexState) → second_step first ≡ second
-      → second_step (unless s trace e o first) ≡ unless s trace e o second
+      → second_step (unless_refused s trace e o first) ≡ unless_refused s trace e o second
   event_unless e None first second same = same
   event_unless e (Some r) first second same = line_refused trace _
 
   frame_captured : (size : ℕ) (r : Result (List ℕ) Y4mFault)
-      → second_step (captured_step Video Pictures VideoRefused x s trace size r)
-      ≡ captured_step Video2 Pictures2 Video2Refused x s trace size r
+      → second_step (party_captured_step Video Pictures VideoRefused x s trace size r)
+      ≡ party_captured_step Video2 Pictures2 Video2Refused x s trace size r
   frame_captured size (Ok planes) =
-      ap (λ (taken : Role → ℕ). Goes (after_line (with_frame x s size planes) trace) (record {
+      ap (λ (taken : Role → ℕ). Goes (after_party_line (with_party_frame x s size planes) trace) (record {
         taken = taken;
         whole = is_closed trace;
         texts = no_texts;
@@ -131,27 +131,27 @@ module _ (x : Party) (s : DuplexState) (trace : List ℕ) where
       ends_so (Video2Refused fault) (λ r. refused_taken trace Video (exchanged r)) (refused_taken trace Video2)
       (video_refused trace)
 
-  frame_asked : (video : List ℕ) → second_step (capture_step Video Pictures VideoRefused x s trace video)
-      ≡ capture_step Video2 Pictures2 Video2Refused x s trace video
+  frame_asked : (video : List ℕ) → second_step (party_capture_step Video Pictures VideoRefused x s trace video)
+      ≡ party_capture_step Video2 Pictures2 Video2Refused x s trace video
   frame_asked [] = line_refused trace _
   frame_asked (b ∷ rest) = frame_captured (frame_size (s.params x).format (b ∷ rest))
-      (next_frame (place_of x s).more (s.params x).format (place_of x s).at (b ∷ rest))
+      (next_frame (video_place_of x s).more (s.params x).format (video_place_of x s).at (b ∷ rest))
 
-  quiet : (ways : WayRuns Frame) → second_step (quiet_step s trace ways) ≡ quiet_step s trace ways
-  quiet ways = line_goes trace (after_line (record s { ways = ways }) trace) no_texts no_texts refl
+  quiet : (ways : WayRuns Frame) → second_step (quiet_party_step s trace ways) ≡ quiet_party_step s trace ways
+  quiet ways = line_goes trace (after_party_line (record s { ways = ways }) trace) no_texts no_texts refl
 
   -- what a line says of a party whose roles are the second ones is what it says where both have changed
   -- places
   pub event_at_second : (inputs : Role → List ℕ) (event : Line)
-      → second_step (event_step Video Pictures VideoRefused x s trace (for_second inputs) event)
-      ≡ event_step Video2 Pictures2 Video2Refused x s trace inputs event
+      → second_step (party_event_step Video Pictures VideoRefused x s trace (for_second inputs) event)
+      ≡ party_event_step Video2 Pictures2 Video2Refused x s trace inputs event
   event_at_second inputs says.Nothing = quiet s.ways
-  event_at_second inputs says.Send = event_unless Send (refusal_at x s Send) _ _ (frame_asked (inputs Video2))
-  event_at_second inputs (says.Packet n j) = event_unless (Deliver n j) (refusal_at x s (Deliver n j)) _ _ (quiet _)
-  event_at_second inputs (says.All n) = event_unless (Deliver n 0) (refusal_at x s (Deliver n 0)) _ _ (quiet _)
+  event_at_second inputs says.Send = event_unless Send (party_refusal x s Send) _ _ (frame_asked (inputs Video2))
+  event_at_second inputs (says.Packet n j) = event_unless (Deliver n j) (party_refusal x s (Deliver n j)) _ _ (quiet _)
+  event_at_second inputs (says.All n) = event_unless (Deliver n 0) (party_refusal x s (Deliver n 0)) _ _ (quiet _)
   event_at_second inputs (says.Back k) = line_refused trace _
   event_at_second inputs says.Play =
-      event_unless Play (refusal_at x s Play) _ _
-      (line_goes trace (after_line (with_next x s) trace) (play_texts Pictures x (seen_of x (with_next x s))
+      event_unless Play (party_refusal x s Play) _ _
+      (line_goes trace (after_party_line (with_next x s) trace) (play_texts Pictures x (seen_of x (with_next x s))
       (seen_of x s).played) (play_texts Pictures2 x (seen_of x (with_next x s)) (seen_of x s).played)
       (shown_texts x (seen_of x s).played _ (seen_of x (with_next x s)).plays))

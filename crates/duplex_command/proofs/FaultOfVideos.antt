@@ -22,7 +22,7 @@ use Rattle.duplex_call.specs.declared.line.Party.TheVariants.{A, B}
 use Rattle.duplex_call.specs.Duplex.{WayRuns}
 use Rattle.duplex_call.specs.Lines.{party_event}
 use Rattle.duplex_command.specs.Begin.{duplex_run, heads_step, heads_taken}
-use Rattle.duplex_command.specs.Duplex.{DuplexState, VideoPlace, capture_step, captured_step, duplex_step, line_step, most_turns, party_step, pictures_of, place_of, play_step, quiet_step, refusal_at, refused_video, trace_step, unless, video_of}
+use Rattle.duplex_command.specs.Duplex.{DuplexState, VideoPlace, party_capture_step, party_captured_step, duplex_step, lettered_step, most_turns, party_step, pictures_role, video_place_of, play_step, quiet_party_step, party_refusal, refused_party_video, duplex_trace_step, unless_refused, video_of}
 
 first_is : (a b : Y4mFault) → VideoRefused a ≡ VideoRefused b → a ≡ b
 first_is a b is = cc is
@@ -59,25 +59,25 @@ module _ (frame_laws : FrameLaws) (fault : Y4mFault) where
 
   -- what is left of a party's video has the fault
   abbrev IsFaulty : Party → DuplexState → (Role → List ℕ) → Type 0
-  IsFaulty x s inputs = HasFault (s.params x).format (place_of x s) (inputs (video_of x))
+  IsFaulty x s inputs = HasFault (s.params x).format (video_place_of x s) (inputs (video_of x))
 
   module _ (s : DuplexState) (inputs : Role → List ℕ) (rest : DuplexState → (Role → ℕ) → Run) where
     abbrev Refuses : Party → Step DuplexState → Type 0
-    Refuses x step = (follow step rest).last.status ≡ refused_video x fault
+    Refuses x step = (follow step rest).last.status ≡ refused_party_video x fault
 
     -- what comes later refuses the video only for its fault
     abbrev Later : Party → Type 0
-    Later x = (next : DuplexState) (taken : Role → ℕ) → (rest next taken).last.status ≡ refused_video x fault
+    Later x = (next : DuplexState) (taken : Role → ℕ) → (rest next taken).last.status ≡ refused_party_video x fault
         → IsFaulty x next (left_after inputs taken)
 
     module _ (trace : List ℕ) where
-      at_quiet : (x : Party) → Later x → (ways : WayRuns Frame) → Refuses x (quiet_step s trace ways)
+      at_quiet : (x : Party) → Later x → (ways : WayRuns Frame) → Refuses x (quiet_party_step s trace ways)
           → IsFaulty x s inputs
       at_quiet A later ways ends = later _ _ ends
       at_quiet B later ways ends = later _ _ ends
 
       at_end : (x : Party) (e : Event) (o : Option Refusal) (step : Step DuplexState)
-          → (Refuses x step → IsFaulty x s inputs) → Refuses x (unless s trace e o step) → IsFaulty x s inputs
+          → (Refuses x step → IsFaulty x s inputs) → Refuses x (unless_refused s trace e o step) → IsFaulty x s inputs
       at_end x e None step goes ends = goes ends
       at_end A e (Some refusal) step goes ends = absurd (cc ends)
       at_end B e (Some refusal) step goes ends = absurd (cc ends)
@@ -85,8 +85,8 @@ module _ (frame_laws : FrameLaws) (fault : Y4mFault) where
       -- a frame of party y is asked for
       at_captured : (x y : Party) → Later x → (b : ℕ) (v : List ℕ) → inputs (video_of y) ≡ b ∷ v
           → (r : Result (List ℕ) Y4mFault)
-          → next_frame (place_of y s).more (s.params y).format (place_of y s).at (b ∷ v) ≡ r
-          → Refuses x (captured_step (video_of y) (pictures_of y) (refused_video y) y s trace
+          → next_frame (video_place_of y s).more (s.params y).format (video_place_of y s).at (b ∷ v) ≡ r
+          → Refuses x (party_captured_step (video_of y) (pictures_role y) (refused_party_video y) y s trace
           (frame_size (s.params y).format (b ∷ v)) r) → IsFaulty x s inputs
       at_captured A A later b v same (Ok planes) is ends =
           subst (λ (l : List ℕ). HasFault (s.params A).format s.video_a l) (sym same)
@@ -106,15 +106,15 @@ module _ (frame_laws : FrameLaws) (fault : Y4mFault) where
       at_captured B A later b v same (Err broken) is ends = absurd (cc ends)
 
       at_capture : (x y : Party) → Later x → (video : List ℕ) → inputs (video_of y) ≡ video
-          → Refuses x (capture_step (video_of y) (pictures_of y) (refused_video y) y s trace video)
+          → Refuses x (party_capture_step (video_of y) (pictures_role y) (refused_party_video y) y s trace video)
           → IsFaulty x s inputs
       at_capture A y later [] same ends = absurd (cc ends)
       at_capture B y later [] same ends = absurd (cc ends)
       at_capture x y later (b ∷ v) same ends =
-          at_captured x y later b v same (next_frame (place_of y s).more (s.params y).format (place_of y s).at (b ∷ v))
+          at_captured x y later b v same (next_frame (video_place_of y s).more (s.params y).format (video_place_of y s).at (b ∷ v))
           refl ends
 
-      at_play : (x y : Party) → Later x → Refuses x (play_step (video_of y) (pictures_of y) (refused_video y) y s trace)
+      at_play : (x y : Party) → Later x → Refuses x (play_step (video_of y) (pictures_role y) (refused_party_video y) y s trace)
           → IsFaulty x s inputs
       at_play A y later ends = later _ _ ends
       at_play B y later ends = later _ _ ends
@@ -122,21 +122,21 @@ module _ (frame_laws : FrameLaws) (fault : Y4mFault) where
     at_party : (x y : Party) → Later x → (line : Line) → Refuses x (party_step y s inputs line) → IsFaulty x s inputs
     at_party x y later says.Nothing ends = at_quiet (inputs Events) x later _ ends
     at_party x y later says.Send ends =
-        at_end (inputs Events) x Send (refusal_at y s Send) _ (at_capture (inputs Events) x y later
+        at_end (inputs Events) x Send (party_refusal y s Send) _ (at_capture (inputs Events) x y later
         (inputs (video_of y)) refl) ends
     at_party x y later (says.Packet n j) ends =
-        at_end (inputs Events) x (Deliver n j) (refusal_at y s (Deliver n j)) _ (at_quiet (inputs Events) x later _)
+        at_end (inputs Events) x (Deliver n j) (party_refusal y s (Deliver n j)) _ (at_quiet (inputs Events) x later _)
         ends
     at_party x y later (says.All n) ends =
-        at_end (inputs Events) x (Deliver n 0) (refusal_at y s (Deliver n 0)) _ (at_quiet (inputs Events) x later _)
+        at_end (inputs Events) x (Deliver n 0) (party_refusal y s (Deliver n 0)) _ (at_quiet (inputs Events) x later _)
         ends
     at_party x y later (says.Back k) ends =
-        at_end (inputs Events) x (Back k) (refusal_at y s (Back k)) (quiet_step s (inputs Events) s.ways)
+        at_end (inputs Events) x (Back k) (party_refusal y s (Back k)) (quiet_party_step s (inputs Events) s.ways)
         (at_quiet (inputs Events) x later s.ways) ends
     at_party x y later says.Play ends =
-        at_end (inputs Events) x Play (refusal_at y s Play) _ (at_play (inputs Events) x y later) ends
+        at_end (inputs Events) x Play (party_refusal y s Play) _ (at_play (inputs Events) x y later) ends
 
-    at_line : (x : Party) → Later x → (o : Option (Option (Party × Line))) → Refuses x (line_step s inputs o)
+    at_line : (x : Party) → Later x → (o : Option (Option (Party × Line))) → Refuses x (lettered_step s inputs o)
         → IsFaulty x s inputs
     at_line A later None ends = absurd (cc ends)
     at_line B later None ends = absurd (cc ends)
@@ -144,26 +144,26 @@ module _ (frame_laws : FrameLaws) (fault : Y4mFault) where
     at_line x later (Some (Some said)) ends = at_party x said.0 later said.1 ends
 
     not_many : (x : Party) (b : ℕ) (trace : List ℕ) → nat_lt s.lines 16777216 ≡ false
-        → Refuses x (trace_step s inputs (b ∷ trace)) → ⊥
+        → Refuses x (duplex_trace_step s inputs (b ∷ trace)) → ⊥
     not_many A b trace is ends = absurd (cc (rw is at ends))
     not_many B b trace is ends = absurd (cc (rw is at ends))
 
-    at_trace : (x : Party) → Later x → (trace : List ℕ) → Refuses x (trace_step s inputs trace) → IsFaulty x s inputs
+    at_trace : (x : Party) → Later x → (trace : List ℕ) → Refuses x (duplex_trace_step s inputs trace) → IsFaulty x s inputs
     at_trace A later [] ends = absurd (cc ends)
     at_trace B later [] ends = absurd (cc ends)
     at_trace x later (b ∷ trace) ends = within (nat_lt s.lines 16777216) refl ends
       where
-        within : (t : Bool) → nat_lt s.lines 16777216 ≡ t → Refuses x (trace_step s inputs (b ∷ trace))
+        within : (t : Bool) → nat_lt s.lines 16777216 ≡ t → Refuses x (duplex_trace_step s inputs (b ∷ trace))
             → IsFaulty x s inputs
         within true is ends = at_line x later (party_event (first_line (b ∷ trace))) (rw is at ends)
         within false is ends = absurd (not_many x b trace is ends)
 
-  no_fault : (x : Party) → silence.last.status ≡ refused_video x fault → ⊥
+  no_fault : (x : Party) → silence.last.status ≡ refused_party_video x fault → ⊥
   no_fault A is = absurd (cc is)
   no_fault B is = absurd (cc is)
 
   run_refused : (n : ℕ) (x : Party) (s : DuplexState) (inputs : Role → List ℕ)
-      → (run_of duplex_step n s inputs).last.status ≡ refused_video x fault → IsFaulty x s inputs
+      → (run_of duplex_step n s inputs).last.status ≡ refused_party_video x fault → IsFaulty x s inputs
   unfolding run_of
   run_refused zero x s inputs ends = at_trace s inputs (λ next taken. silence) x
       (λ next taken is. absurd (no_fault x is)) (inputs Events) ends
@@ -175,7 +175,7 @@ module _ (frame_laws : FrameLaws) (fault : Y4mFault) where
     abbrev Ends : Party → Result Format Y4mFault → Result Format Y4mFault → Type 0
     Ends x a b =
         (follow (heads_step p inputs a b) (λ next taken. run_of duplex_step most_turns next
-        (left_after inputs taken))).last.status ≡ refused_video x fault
+        (left_after inputs taken))).last.status ≡ refused_party_video x fault
 
     pub first_refused : (duplex_run p inputs).last.status ≡ VideoRefused fault → video_fault (inputs Video) ≡ Some fault
     unfolding video_fault

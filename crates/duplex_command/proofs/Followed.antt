@@ -21,9 +21,9 @@ use Rattle.duplex_call.specs.declared.line.Party.{Party}
 use Rattle.duplex_call.specs.declared.line.Party.TheVariants.{A, B}
 use Rattle.duplex_call.specs.Duplex.{AllMayHappenOf, Lettered, no_runs, way}
 use Rattle.duplex_ends.specs.Ways.{sides}
-use Rattle.duplex_command.specs.Begin.{duplex_run, heads_step, heads_taken, heads_text, in_formats}
-use Rattle.duplex_command.specs.Duplex.{DuplexState, VideoPlace, duplex_step, first_state, pictures_of, place_of, video_of}
-use Rattle.duplex_command.specs.Recorded.{FollowsItsTrace, IsEnd, call_after, fault_in, faults, film, line_events, ways_of, with_lines}
+use Rattle.duplex_command.specs.Begin.{duplex_run, heads_step, heads_taken, both_heads, in_formats}
+use Rattle.duplex_command.specs.Duplex.{DuplexState, VideoPlace, duplex_step, duplex_at_start, pictures_role, video_place_of, video_of}
+use Rattle.duplex_command.specs.Recorded.{BothFollowTheirTrace, AreCallsEnded, party_call_after, fault_in, faults, party_film, line_events, ways_of, with_all_lettered}
 use Rattle.duplex_command.proofs.Recorded.{CallLaws, Comes, IsOn, run_comes, state}
 
 video_is : (video : List ℕ) (f : Format) → head_of video ≡ Ok f
@@ -43,7 +43,7 @@ module _ (q : Params) (f g : Format) (inputs : Role → List ℕ) where
   p = in_formats q f g
 
   abbrev captures : Party → List Picture
-  captures = film p inputs
+  captures = party_film p inputs
 
   abbrev broken : Party → Option Y4mFault
   broken = faults inputs
@@ -63,7 +63,7 @@ module _ (q : Params) (f g : Format) (inputs : Role → List ℕ) where
     first B = record { at = head_size (inputs Video2); more = 1048576 }
 
     abbrev run : Run
-    run = rest (first_state p (head_size (inputs Video)) (head_size (inputs Video2))) (heads_taken inputs)
+    run = rest (duplex_at_start p (head_size (inputs Video)) (head_size (inputs Video2))) (heads_taken inputs)
 
     no_more : (n : ℕ) → n + 0 ≡ n
     no_more n = omega arith
@@ -93,14 +93,14 @@ module _ (q : Params) (f g : Format) (inputs : Role → List ℕ) where
 
         ahead : (x : Party) → drop (length (way {Frame = Frame} x no_runs).frames) (captures x)
             ≡ map (λ planes. picture_of (p x).format planes)
-            (frames_of (p x).format (place_of x (state p captures broken laws no_runs (first A) (first B) 0 false)).more
-            (place_of x (state p captures broken laws no_runs (first A) (first B) 0 false)).at (left (video_of x)))
+            (frames_of (p x).format (video_place_of x (state p captures broken laws no_runs (first A) (first B) 0 false)).more
+            (video_place_of x (state p captures broken laws no_runs (first A) (first B) 0 false)).at (left (video_of x)))
         ahead A = all_ahead A
         ahead B = all_ahead B
 
         fault : (x : Party) → fault_of (p x).format
-            (place_of x (state p captures broken laws no_runs (first A) (first B) 0 false)).more
-            (place_of x (state p captures broken laws no_runs (first A) (first B) 0 false)).at (left (video_of x))
+            (video_place_of x (state p captures broken laws no_runs (first A) (first B) 0 false)).more
+            (video_place_of x (state p captures broken laws no_runs (first A) (first B) 0 false)).at (left (video_of x))
             ≡ broken x
         fault A = ap (λ (m : ℕ). fault_of f 1048576 (head_size (inputs Video)) (drop m (inputs Video)))
             (no_more (head_size (inputs Video))) ∙ sym (fault_is (inputs Video) f head_a)
@@ -115,31 +115,31 @@ module _ (q : Params) (f g : Format) (inputs : Role → List ℕ) where
     one_more : (n : ℕ) → 1 + n ≡ n + 1
     one_more n = omega arith
 
-    end_is : IsEnd p captures broken (fault_in 16777216 1 (inputs Events)) (length comes.lines + 1)
-        (with_lines p captures [] comes.lines) comes.refused run.last.status
-    end_is = subst (λ (m : ℕ). IsEnd p captures broken (fault_in 16777216 1 (inputs Events)) m
-        (with_lines p captures [] comes.lines) comes.refused run.last.status) (one_more (length comes.lines)) comes.end
+    end_is : AreCallsEnded p captures broken (fault_in 16777216 1 (inputs Events)) (length comes.lines + 1)
+        (with_all_lettered p captures [] comes.lines) comes.refused run.last.status
+    end_is = subst (λ (m : ℕ). AreCallsEnded p captures broken (fault_in 16777216 1 (inputs Events)) m
+        (with_all_lettered p captures [] comes.lines) comes.refused run.last.status) (one_more (length comes.lines)) comes.end
 
     -- the head of each party's pictures is written first
-    shown_first : (x : Party) → (heads_text f g (pictures_of x) ++ texts_of run.turns (pictures_of x))
-        ++ run.last.texts (pictures_of x)
-        ≡ head_text (p x).format ++ shown_text (call_after p captures x (with_lines p captures [] comes.lines)).plays
+    shown_first : (x : Party) → (both_heads f g (pictures_role x) ++ texts_of run.turns (pictures_role x))
+        ++ run.last.texts (pictures_role x)
+        ≡ head_text (p x).format ++ shown_text (party_call_after p captures x (with_all_lettered p captures [] comes.lines)).plays
     shown_first A =
-        ap (λ (l : List ℕ). (l ++ texts_of run.turns (pictures_of A)) ++ run.last.texts (pictures_of A))
+        ap (λ (l : List ℕ). (l ++ texts_of run.turns (pictures_role A)) ++ run.last.texts (pictures_role A))
         (append-nil (head_text f))
-        ∙ append_assoc (head_text f) (texts_of run.turns (pictures_of A)) (run.last.texts (pictures_of A))
+        ∙ append_assoc (head_text f) (texts_of run.turns (pictures_role A)) (run.last.texts (pictures_role A))
         ∙ ap (λ (l : List ℕ). head_text f ++ l) (sym (comes.pictures A))
-    shown_first B = append_assoc (head_text g) (texts_of run.turns (pictures_of B)) (run.last.texts (pictures_of B))
+    shown_first B = append_assoc (head_text g) (texts_of run.turns (pictures_role B)) (run.last.texts (pictures_role B))
         ∙ ap (λ (l : List ℕ). head_text g ++ l) (sym (comes.pictures B))
 
     abbrev began : Result Format Y4mFault → Result Format Y4mFault → Run
     began a b = follow (heads_step q inputs a b) rest
 
-    pub follows : FollowsItsTrace p inputs (duplex_run q inputs)
+    pub follows : BothFollowTheirTrace p inputs (duplex_run q inputs)
     follows =
-        subst (λ (a : Result Format Y4mFault). FollowsItsTrace p inputs (began a (head_of (inputs Video2))))
+        subst (λ (a : Result Format Y4mFault). BothFollowTheirTrace p inputs (began a (head_of (inputs Video2))))
         (sym head_a)
-        (subst (λ (b : Result Format Y4mFault). FollowsItsTrace p inputs (began (Ok f) b)) (sym head_b)
+        (subst (λ (b : Result Format Y4mFault). BothFollowTheirTrace p inputs (began (Ok f) b)) (sym head_b)
         (record {
           lines = comes.lines;
           refused = comes.refused;

@@ -21,7 +21,7 @@ use Rattle.desk_program.specs.Run.{Step, left_after, video_refusal}
 use Rattle.desk_program.specs.Ends.{Ended, Gains, GainsFronts, GivesUp, IsPart, Lost, Tells, step_turns}
 use Rattle.desk_program.specs.Laws.{TurnLaws}
 use Rattle.desk_program.specs.Texts.{and_of, no_bytes, of, on}
-use Rattle.duplex_command.specs.Begin.{HaveHeads, duplex_begin, heads_step, heads_taken, heads_text}
+use Rattle.duplex_command.specs.Begin.{HaveHeads, duplex_begin, heads_step, heads_taken, both_heads}
 use Rattle.duplex_command.specs.declared.heads.Heads.{Heads}
 use Rattle.duplex_command.specs.Duplex.{DuplexState}
 
@@ -175,12 +175,12 @@ on_err (Ok x) p = tt
 on_err (Err e) p = p
 
 module _ (turns : TurnLaws) (f g : Format) (old mid : Role → Option (List ℕ)) where
-  pub first_front : GainsFronts (on Pictures (head_text f)) old mid → GainsFronts (heads_text f g) old mid
+  pub first_front : GainsFronts (on Pictures (head_text f)) old mid → GainsFronts (both_heads f g) old mid
   first_front fronts = turns.front_of_first (on Pictures (head_text f)) (on Pictures2 (head_text g)) old mid fronts
 
   pub second_front : {T : Type 0} (r : Result T Status) (new : Role → Option (List ℕ))
       → Gains (on Pictures (head_text f)) old mid
-      → OnErr r (GainsFronts (on Pictures2 (head_text g)) mid new) → OnErr r (GainsFronts (heads_text f g) old new)
+      → OnErr r (GainsFronts (on Pictures2 (head_text g)) mid new) → OnErr r (GainsFronts (both_heads f g) old new)
   second_front (Ok x) new first fronts = fronts
   second_front (Err x) new first fronts = turns.front_of_second (on Pictures (head_text f)) (on Pictures2 (head_text g))
       old mid new first fronts

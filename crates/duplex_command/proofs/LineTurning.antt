@@ -28,7 +28,7 @@ use Rattle.duplex_call.specs.declared.line.Party.{Party}
 use Rattle.duplex_call.specs.declared.line.Party.TheVariants.{A, B}
 use Rattle.duplex_call.specs.Duplex.{other}
 use Rattle.duplex_call.specs.Lines.{lettered, of_party, party_event}
-use Rattle.duplex_command.specs.Duplex.{DuplexState, after_line, all_played, both_counts, duplex_step, line_step, may_read, place_of, trace_step}
+use Rattle.duplex_command.specs.Duplex.{DuplexState, after_party_line, both_played, both_counts, duplex_step, lettered_step, talk_may_read, video_place_of, duplex_trace_step}
 use Rattle.call_command.specs.Call.{bad_line, line_size, line_turn, refused_line}
 use Rattle.call_command.specs.Laws.{IsPlayedOut, LineLaws}
 use Rattle.call_command.specs.Standing.{HasTaken, ReadsTrace}
@@ -105,18 +105,18 @@ module _ (read : ReadLines) where
 -- ---- which step it is
 
 abbrev chosen : Bool → DuplexState → (Role → List ℕ) → Option (Option (Party × Line)) → Step DuplexState
-chosen b s inputs o = if b then line_step s inputs o else Ends (bad_line (TooMany (s.lines + 1)))
+chosen b s inputs o = if b then lettered_step s inputs o else Ends (bad_line (TooMany (s.lines + 1)))
 
 line_is : (s : DuplexState) (inputs : Role → List ℕ) (trace : List ℕ) (o : Option (Option (Party × Line)))
     → 0 < length trace → s.lines < 16777216 → party_event (first_line trace) ≡ o
-    → trace_step s inputs trace ≡ line_step s inputs o
+    → duplex_trace_step s inputs trace ≡ lettered_step s inputs o
 line_is s inputs [] o some few is = absurd (omega arith)
 line_is s inputs (b ∷ trace) o some few is =
     ap (λ (t : Bool). chosen t s inputs (party_event (first_line (b ∷ trace)))) (lt-ltb s.lines 16777216 few)
-    ∙ ap (line_step s inputs) is
+    ∙ ap (lettered_step s inputs) is
 
 many_is : (s : DuplexState) (inputs : Role → List ℕ) (trace : List ℕ) → 0 < length trace → s.lines ≡ 16777216
-    → trace_step s inputs trace ≡ Ends (bad_line (TooMany (s.lines + 1)))
+    → duplex_trace_step s inputs trace ≡ Ends (bad_line (TooMany (s.lines + 1)))
 many_is s inputs [] some many = absurd (omega arith)
 many_is s inputs (b ∷ trace) some many =
     ap (λ (t : Bool). chosen t s inputs (party_event (first_line (b ∷ trace))))
@@ -149,12 +149,12 @@ module _ (s : DuplexState) (inputs : Role → List ℕ) (before mid : Outside) (
   -- one that is done goes on, and writes these texts
   pub line_goes : (next : DuplexState) (texts : Role → List ℕ) (step : Step DuplexState) (stands : DuplexState
       → (Role → List ℕ) → Type 0)
-      → step ≡ Goes (after_line next trace) (line_turn trace texts)
-      → stands (after_line next trace) (left_after inputs (of Events (line_size trace)))
+      → step ≡ Goes (after_party_line next trace) (line_turn trace texts)
+      → stands (after_party_line next trace) (left_after inputs (of Events (line_size trace)))
       → (new : Outside) → new.left ≡ mid.left → Gains texts mid.written new.written
-      → Went step stands may_read true inputs before new
+      → Went step stands talk_may_read true inputs before new
   line_goes next texts step stands is kept new still gains = record {
-    next = after_line next trace;
+    next = after_party_line next trace;
     turn = line_turn trace texts;
     could = refl;
     is = is;
@@ -168,7 +168,7 @@ module _ (s : DuplexState) (inputs : Role → List ℕ) (before mid : Outside) (
 
 -- a party's video stands where it stood, where both do
 pub place_same : (y : Party) (s t : DuplexState) → s.video_a ≡ t.video_a → s.video_b ≡ t.video_b
-    → place_of y s ≡ place_of y t
+    → video_place_of y s ≡ video_place_of y t
 place_same A s t a b = a
 place_same B s t a b = b
 
@@ -176,10 +176,10 @@ place_same B s t a b = b
 pub passed : LineLaws → (x : Party) (own far : Station) (s : DuplexState) (rest : List ℕ) (old after : TracePlace)
     (left : Option (List ℕ))
     → StationsStand x own far old s rest → after.lines ≡ old.lines + 1 → Passes rest after left
-    → StationsStand x own far after (after_line s rest) (drop (line_size rest) rest)
+    → StationsStand x own far after (after_party_line s rest) (drop (line_size rest) rest)
 passed laws x own far s rest old after left k lines passes = record {
-  own_place = place_same x (after_line s rest) s refl refl ∙ k.own_place;
-  far_place = place_same (other x) (after_line s rest) s refl refl ∙ k.far_place;
+  own_place = place_same x (after_party_line s rest) s refl refl ∙ k.own_place;
+  far_place = place_same (other x) (after_party_line s rest) s refl refl ∙ k.far_place;
   lines = ap (λ (n : ℕ). n + 1) k.lines ∙ sym lines;
   ended = sym passes.ends;
   over = λ ended. laws.last rest (not-true (is_closed rest) (sym passes.ends ∙ ended));
@@ -194,7 +194,7 @@ pub record IsReadAt (s : DuplexState) (reader : TracePlace) : Type 0 where
 module _ (laws : LineLaws) (s : DuplexState) (inputs : Role
     → List ℕ) (old mid : Outside) (read : ReadsTrace inputs old mid) (reader after : TracePlace)
     (at : IsReadAt s reader) where
-  going : reader.ended ≡ false → may_read s ≡ true
+  going : reader.ended ≡ false → talk_may_read s ≡ true
   going is = ap not (at.ended_is ∙ is)
 
   bad_ends : (fault : TraceFault) (step : Step DuplexState) → step ≡ step_of (bad_line fault)
@@ -203,7 +203,7 @@ module _ (laws : LineLaws) (s : DuplexState) (inputs : Role
 
   pub trace_stops : ReadLines → (buf : List ℕ) (stop : TraceStop)
       → BytesGive (Err stop) reader (inputs Events) buf after (mid.left Events) → Moves {A = ℕ} (Err stop) reader after
-      → GivesUp (phase (trace_stop stop)) (trace_stop stop) (duplex_step s inputs) (may_read s) inputs old mid
+      → GivesUp (phase (trace_stop stop)) (trace_stop stop) (duplex_step s inputs) (talk_may_read s) inputs old mid
   trace_stops lines buf stops.Read e moves = record {
     part = of Events e.taken;
     partly = trace_part laws s inputs e.taken e.free;
@@ -229,7 +229,7 @@ module _ (laws : LineLaws) (s : DuplexState) (inputs : Role
   module _ (buf : List ℕ) (found : ℕ × ℕ) (e : BytesGive (Ok (Some found)) reader (inputs Events) buf after
       (mid.left Events)) (moves : Moves (Ok (Some found)) reader after) where
     pub found_is : (o : Option (Option (Party × Line))) → party_event (take found.1 buf) ≡ o
-        → duplex_step s inputs ≡ line_step s inputs o
+        → duplex_step s inputs ≡ lettered_step s inputs o
     found_is o said = line_is s inputs (inputs Events) o e.0.some (omega (arith, moves.1, at.lines_are))
         (ap party_event (sym e.2) ∙ said)
 
@@ -239,7 +239,7 @@ module _ (laws : LineLaws) (s : DuplexState) (inputs : Role
     pub found_taken : HasTaken inputs old mid
     found_taken = laws.line inputs old mid read e.0.gone
 
-    pub found_could : may_read s ≡ true
+    pub found_could : talk_may_read s ≡ true
     found_could = going moves.0
 
     -- a line that says nothing
@@ -250,11 +250,11 @@ module _ (laws : LineLaws) (s : DuplexState) (inputs : Role
 
     -- an empty line
     pub found_empty : party_event (take found.1 buf) ≡ Some None → (stands : DuplexState → (Role → List ℕ) → Type 0)
-        → stands (after_line s (inputs Events)) (left_after inputs (of Events (line_size (inputs Events))))
+        → stands (after_party_line s (inputs Events)) (left_after inputs (of Events (line_size (inputs Events))))
         → Gains no_texts mid.written mid.written
-        → Went (duplex_step s inputs) stands may_read (may_read s) inputs old mid
+        → Went (duplex_step s inputs) stands talk_may_read (talk_may_read s) inputs old mid
     found_empty said stands kept silent =
-        subst (λ (b : Bool). Went (duplex_step s inputs) stands may_read b inputs old mid) (sym found_could)
+        subst (λ (b : Bool). Went (duplex_step s inputs) stands talk_may_read b inputs old mid) (sym found_could)
         (line_goes s inputs old mid found_taken s no_texts _ stands (found_is (Some None) said) kept mid refl silent)
 
   -- the end of the trace
@@ -263,15 +263,15 @@ module _ (laws : LineLaws) (s : DuplexState) (inputs : Role
     out : IsPlayedOut inputs old mid new
     out = laws.over reader inputs old mid new read e over still
 
-    end_is : duplex_step s inputs ≡ step_of (all_played s)
-    end_is = ap (trace_step s inputs) out.nothing
+    end_is : duplex_step s inputs ≡ step_of (both_played s)
+    end_is = ap (duplex_trace_step s inputs) out.nothing
 
     pub read_out : new.left Events ≡ Some []
     read_out = out.told Events refl ∙ ap (λ (l : List ℕ). Some l) out.nothing
 
     pub trace_ends : Gains (both_counts s.params s.ways) mid.written new.written
         → Ended (duplex_step s inputs) Fine inputs old new
-    trace_ends gains = record { last = all_played s; is = end_is; by = out.ends (both_counts s.params s.ways) gains }
+    trace_ends gains = record { last = both_played s; is = end_is; by = out.ends (both_counts s.params s.ways) gains }
 
     pub trace_cut : GainsFronts (both_counts s.params s.ways) mid.written new.written
         → GainsFronts (step_texts (duplex_step s inputs)) old.written new.written

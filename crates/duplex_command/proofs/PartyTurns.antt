@@ -11,7 +11,7 @@ use Rattle.desk_program.specs.Run.{Step}
 use Rattle.desk_program.specs.Ends.{GainsFronts, GivesUp, HasCause, IsStop, KeepsRoles, Went, step_texts}
 use Rattle.duplex_call.specs.declared.line.Party.{Party}
 use Rattle.duplex_command.specs.declared.station.Station.{Station}
-use Rattle.duplex_command.specs.Duplex.{DuplexState, may_read}
+use Rattle.duplex_command.specs.Duplex.{DuplexState, talk_may_read}
 use Rattle.duplex_command.specs.Standing.{StationsReady, StationsStand}
 use Rattle.duplex_command.specs.Turning.{IsPartyTurn}
 
@@ -55,7 +55,7 @@ module _ (x : Party) (own far : Station) (mid new : Outside) (room : ℕ)
   -- one that goes on
   pub went_on : StationsReady own far room → KeepsRoles mid new
       → ((trace : TracePlace) (old : Outside) (s : DuplexState) (inputs : Role → List ℕ) → Begins trace old s inputs
-      → Went (step s inputs) (λ next rest. StationsStand x own far trace next (rest Events)) may_read true inputs old
+      → Went (step s inputs) (λ next rest. StationsStand x own far trace next (rest Events)) talk_may_read true inputs old
       new)
       → IsPartyTurn x own far (Ok true) mid new room Begins step
   went_on ready rest gives = record {

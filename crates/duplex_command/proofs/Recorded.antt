@@ -41,15 +41,15 @@ use Rattle.one_way.specs.Seen.{reference_in}
 use Rattle.call_command.specs.Call.{bad_line, line_size, line_turn}
 use Rattle.call_command.specs.Laws.{FramesLeft}
 use Rattle.call_command.specs.Recorded.{shown_text, told}
-use Rattle.call_command.specs.Refused.{fault_of}
+use Rattle.call_command.specs.Refused.{fault_told}
 use Rattle.duplex_call.specs.declared.line.Party.{Party}
 use Rattle.duplex_call.specs.declared.line.Party.TheVariants.{A, B}
 use Rattle.duplex_call.specs.Duplex.{AllMayHappenOf, Lettered, WayRuns, other, way, with_delivery, with_play, with_capture}
 use Rattle.duplex_call.specs.Lines.{party_event}
 use Rattle.duplex_call.specs.Refused.{NoneWhereItMayHappenOf, first_of, heard_refusal, refusal_of}
 use Rattle.duplex_ends.specs.Ways.{call_in, sides, with_places, with_whole}
-use Rattle.duplex_command.specs.Duplex.{DuplexState, VideoPlace, after_line, both_counts, capture_step, captured_step, duplex_step, letter_of, line_step, party_step, pictures_of, place_of, play_step, play_texts, quiet_step, refusal_at, refused_video, seen_of, trace_step, unless, video_of, with_frame, with_next}
-use Rattle.duplex_command.specs.Recorded.{IsEnd, IsRefusal, IsRefusedCapture, LineEvent, LineMayHappen, LinesMayHappen, capture_told, bad_from, call_after, fault_in, and_event, line_events, told_line, told_lines, ways_of, with_event, with_line, with_lines, with_packets}
+use Rattle.duplex_command.specs.Duplex.{DuplexState, VideoPlace, after_party_line, both_counts, party_capture_step, party_captured_step, duplex_step, letter_of, lettered_step, party_step, pictures_role, video_place_of, play_step, play_texts, quiet_party_step, party_refusal, refused_party_video, seen_of, duplex_trace_step, unless_refused, video_of, with_party_frame, with_next}
+use Rattle.duplex_command.specs.Recorded.{AreCallsEnded, IsPartyRefusal, IsRefusedPartyCapture, LineEvent, LetteredMayHappen, AllLetteredMayHappen, party_capture_told, bad_from, party_call_after, fault_in, and_event, line_events, told_line, told_lines, ways_of, with_event, with_lettered, with_all_lettered, with_party_packets}
 use Rattle.duplex_command.proofs.Brought.{IsKept, kept_all, kept_delivery, kept_places, near_packets, told_packets, ways_packets}
 
 -- ---- lists
@@ -104,7 +104,7 @@ pub record CallLaws (p : Party → Params) (captures : Party → List Picture) :
 
 -- a refusal for another reason than that no frame is left is told as itself
 distance_told : (x : Party) (broken : Option Y4mFault) (number : ℕ) (r : Refusal) → r ≢ NoPicture
-    → TraceRefused (fault_of number Send r) ≡ capture_told x broken number r
+    → TraceRefused (fault_told number Send r) ≡ party_capture_told x broken number r
 distance_told x None number r other = refl
 distance_told x (Some fault) number NotSent other = refl
 distance_told x (Some fault) number NotSaid other = refl
@@ -121,13 +121,13 @@ module _ (p : Party → Params) (captures : Party → List Picture) (broken : Pa
   ways past = ways_of p captures past
 
   abbrev call : Party → List Lettered → Call Style Mb Picture
-  call x past = call_after p captures x past
+  call x past = party_call_after p captures x past
 
   abbrev With : List Lettered → LineEvent → List Lettered
-  With past line = with_line p captures past line
+  With past line = with_lettered p captures past line
 
   abbrev Withs : List Lettered → List LineEvent → List Lettered
-  Withs past lines = with_lines p captures past lines
+  Withs past lines = with_all_lettered p captures past lines
 
   abbrev rows : List Lettered → Text
   rows past = told_lines p captures past
@@ -150,14 +150,14 @@ module _ (p : Party → Params) (captures : Party → List Picture) (broken : Pa
   pub record IsOn (met : WayRuns Frame) (s : DuplexState) (inputs : Role → List ℕ) : Type 0 where
     pub sent : (x : Party) → sent_before (way x met).past ≡ length (way x met).frames
     pub ahead : (x : Party) → drop (length (way x met).frames) (captures x)
-        ≡ captures_at x (place_of x s) (inputs (video_of x))
-    pub fault : (x : Party) → fault_at x (place_of x s) (inputs (video_of x)) ≡ broken x
+        ≡ captures_at x (video_place_of x s) (inputs (video_of x))
+    pub fault : (x : Party) → fault_at x (video_place_of x s) (inputs (video_of x)) ≡ broken x
 
   -- ---- what a run from there comes to
 
   -- where it refuses a video, nothing is taken of the other one
   abbrev Spares : Status → (Role → Option ℕ) → Type 0
-  Spares status taken = (x : Party) (fault : Y4mFault) → status ≡ refused_video x fault → taken (video_of (other x))
+  Spares status taken = (x : Party) (fault : Y4mFault) → status ≡ refused_party_video x fault → taken (video_of (other x))
       ≡ Some 0
 
   no_video_refused : (fault : TraceFault) (taken : Role → Option ℕ) → Spares (status_with fault) taken
@@ -169,7 +169,7 @@ module _ (p : Party → Params) (captures : Party → List Picture) (broken : Pa
   none_refused taken B broken is = absurd (cc is)
 
   one_refused : (size : ℕ) (y : Party) (broken : Y4mFault)
-      → Spares (refused_video y broken) (video_refusal (video_of y) (of Events size) (refused_video y broken)).taken
+      → Spares (refused_party_video y broken) (video_refusal (video_of y) (of Events size) (refused_party_video y broken)).taken
   one_refused size A broken A fault is = refl
   one_refused size A broken B fault is = absurd (cc is)
   one_refused size B broken A fault is = absurd (cc is)
@@ -183,18 +183,18 @@ module _ (p : Party → Params) (captures : Party → List Picture) (broken : Pa
     pub read : ahead ≡ lines ++ refused
     pub taken : length run.turns ≡ length lines
     pub near : Near (Withs past lines)
-    pub may : LinesMayHappen p captures past lines
+    pub may : AllLetteredMayHappen p captures past lines
     pub pictures : (x : Party) → shown_text (call x (Withs past lines)).plays ≡ shown_text (call x past).plays
-        ++ text_of run (pictures_of x)
+        ++ text_of run (pictures_role x)
     pub report : rows (Withs past lines) ++ told run.last.status (both_counts p (ways (Withs past lines)) Report)
         ≡ rows past ++ text_of run Report
-    pub end : IsEnd p captures broken fault (number + length lines) (Withs past lines) refused run.last.status
+    pub end : AreCallsEnded p captures broken fault (number + length lines) (Withs past lines) refused run.last.status
     pub others : Spares run.last.status run.last.taken
 
   comes_stopped : (past : List Lettered) → Near past
       → (E : List LineEvent) (F : Option TraceFault) (m : ℕ) (rest : DuplexState → (Role → ℕ) → Run)
       (status : Status) (taken : Role → Option ℕ) → ((text : Text) → told status text ≡ []) → Spares status taken
-      → IsEnd p captures broken F (m + 0) past E status
+      → AreCallsEnded p captures broken F (m + 0) past E status
       → Comes past E F m (follow (Ends (record { status = status; taken = taken; texts = no_texts })) rest)
   comes_stopped past near E F m rest status taken silent spares end = record {
     end = end;
@@ -212,12 +212,12 @@ module _ (p : Party → Params) (captures : Party → List Picture) (broken : Pa
   -- a fault of the trace ends it
   comes_faulty : (past : List Lettered) → Near past
       → (E : List LineEvent) (F : Option TraceFault) (m : ℕ) (rest : DuplexState → (Role → ℕ) → Run)
-      (fault : TraceFault) (taken : Role → Option ℕ) → IsEnd p captures broken F (m + 0) past E (status_with fault)
+      (fault : TraceFault) (taken : Role → Option ℕ) → AreCallsEnded p captures broken F (m + 0) past E (status_with fault)
       → Comes past E F m (follow (Ends (record { status = status_with fault; taken = taken; texts = no_texts })) rest)
   comes_faulty past near E F m rest fault taken end = comes_stopped past near E F m rest (status_with fault) taken
       (λ text. refl) (no_video_refused fault taken) end
 
-  no_counts : (x : Party) (met : WayRuns Frame) → both_counts p met (pictures_of x) ≡ []
+  no_counts : (x : Party) (met : WayRuns Frame) → both_counts p met (pictures_role x) ≡ []
   no_counts A met = refl
   no_counts B met = refl
 
@@ -246,24 +246,24 @@ module _ (p : Party → Params) (captures : Party → List Picture) (broken : Pa
 
   -- a line more
   comes_more : (line : LineEvent) (E : List LineEvent) (F : Option TraceFault) (m : ℕ) (past past2 : List Lettered)
-      (turn : Turn) (run : Run) → past2 ≡ With past line → LineMayHappen p captures past line
-      → ((x : Party) → shown_text (call x past2).plays ≡ shown_text (call x past).plays ++ turn.texts (pictures_of x))
+      (turn : Turn) (run : Run) → past2 ≡ With past line → LetteredMayHappen p captures past line
+      → ((x : Party) → shown_text (call x past2).plays ≡ shown_text (call x past).plays ++ turn.texts (pictures_role x))
       → rows past2 ≡ rows past ++ turn.texts Report
       → Comes past2 E F (m + 1) run → Comes past (line ∷ E) F m (record { turns = turn ∷ run.turns; last = run.last })
   comes_more line E F m past past2 turn run is may pictures2 report2 comes2 =
       let now = With past line in
       let comes : Comes now E F (m + 1) run = subst (λ (q : List Lettered). Comes q E F (m + 1) run) is comes2 in
       let pictures : (x : Party) → shown_text (call x now).plays ≡ shown_text (call x past).plays
-      ++ turn.texts (pictures_of x) =
+      ++ turn.texts (pictures_role x) =
       subst (λ (q : List Lettered). (x : Party) → shown_text (call x q).plays ≡ shown_text (call x past).plays
-      ++ turn.texts (pictures_of x)) is pictures2
+      ++ turn.texts (pictures_role x)) is pictures2
       in
       let report : rows now ≡ rows past ++ turn.texts Report =
       subst (λ (q : List Lettered). rows q ≡ rows past ++ turn.texts Report) is report2
       in
       record {
         may = (may, comes.may);
-        end = subst (λ (j : ℕ). IsEnd p captures broken F j (Withs now comes.lines) comes.refused run.last.status)
+        end = subst (λ (j : ℕ). AreCallsEnded p captures broken F j (Withs now comes.lines) comes.refused run.last.status)
             (one_further m (length comes.lines)) comes.end;
         others = comes.others;
         lines = line ∷ comes.lines;
@@ -273,11 +273,11 @@ module _ (p : Party → Params) (captures : Party → List Picture) (broken : Pa
         near = comes.near;
         pictures = λ x.
             comes.pictures x
-            ∙ ap (λ (l : Text). l ++ text_of run (pictures_of x)) (pictures x)
-            ∙ append_assoc (shown_text (call x past).plays) (turn.texts (pictures_of x)) (text_of run (pictures_of x))
+            ∙ ap (λ (l : Text). l ++ text_of run (pictures_role x)) (pictures x)
+            ∙ append_assoc (shown_text (call x past).plays) (turn.texts (pictures_role x)) (text_of run (pictures_role x))
             ∙ ap (λ (l : Text). shown_text (call x past).plays
-            ++ l) (sym (append_assoc (turn.texts (pictures_of x)) (texts_of run.turns (pictures_of x))
-            (run.last.texts (pictures_of x))));
+            ++ l) (sym (append_assoc (turn.texts (pictures_role x)) (texts_of run.turns (pictures_role x))
+            (run.last.texts (pictures_role x))));
         report =
             comes.report
             ∙ ap (λ (l : Text). l ++ text_of run Report) report
@@ -334,21 +334,21 @@ module _ (p : Party → Params) (captures : Party → List Picture) (broken : Pa
 
       -- a refusal ends the call
       abbrev IsWhy : LineEvent → Party → Event → Type 0
-      IsWhy line x e = (r : Refusal) → refusal_at x s e ≡ Some r
-          → IsEnd p captures broken F (lines + 1 + 0) past (line ∷ E) (TraceRefused (fault_of (lines + 1) e r))
+      IsWhy line x e = (r : Refusal) → party_refusal x s e ≡ Some r
+          → AreCallsEnded p captures broken F (lines + 1 + 0) past (line ∷ E) (TraceRefused (fault_told (lines + 1) e r))
 
       unless_comes : (line : LineEvent) (x : Party) (e : Event) (o : Option Refusal) (step : Step DuplexState)
-          → refusal_at x s e ≡ o → IsWhy line x e → (o ≡ None → Takes line step) → Takes line (unless s trace e o step)
+          → party_refusal x s e ≡ o → IsWhy line x e → (o ≡ None → Takes line step) → Takes line (unless_refused s trace e o step)
       unless_comes line x e None step found why takes = takes refl
       unless_comes line x e (Some r) step found why takes = comes_faulty past near (line ∷ E) F (lines + 1) rest _ _
           (why r found)
 
       told_at : (x : Party) (e : Event) (r : Refusal) → refusal_of (sides p) (length (captures x)) x e met ≡ Some r
-          → IsRefusal p captures (lines + 1 + 0) past x e (TraceRefused (fault_of (lines + 1) e r))
-      told_at x e r is = (r, is, ap (λ (j : ℕ). status_with (fault_of j e r)) (sym (no_more (lines + 1))))
+          → IsPartyRefusal p captures (lines + 1 + 0) past x e (TraceRefused (fault_told (lines + 1) e r))
+      told_at x e r is = (r, is, ap (λ (j : ℕ). status_with (fault_told j e r)) (sym (no_more (lines + 1))))
 
       -- how many pictures are there makes a difference to a capture alone
-      packet_so : (x : Party) (n j : ℕ) (r : Refusal) → refusal_at x s (Deliver n j) ≡ Some r
+      packet_so : (x : Party) (n j : ℕ) (r : Refusal) → party_refusal x s (Deliver n j) ≡ Some r
           → refusal_of (sides p) (length (captures x)) x (Deliver n j) met ≡ Some r
       packet_so x n j r is =
           let c = call x past in
@@ -358,33 +358,33 @@ module _ (p : Party → Params) (captures : Party → List Picture) (broken : Pa
           (map about c.said))
           ∙ is
 
-      play_so : (x : Party) (r : Refusal) → refusal_at x s Play ≡ Some r
+      play_so : (x : Party) (r : Refusal) → party_refusal x s Play ≡ Some r
           → refusal_of (sides p) (length (captures x)) x Play met ≡ Some r
       play_so x r is =
           let c = call x past in
           laws.left.play (rules_of (p x)) (length (captures x)) (length c.coded + 1) (length c.coded) c.played
           (map about c.said) ∙ is
 
-      capture_so : (x : Party) (r : Refusal) → refusal_at x s Send ≡ Some r
+      capture_so : (x : Party) (r : Refusal) → party_refusal x s Send ≡ Some r
           → refusal_of (sides p) (length (captures x)) x Send met ≡ Some r
       capture_so x r is =
           let c = call x past in
           laws.left.far (rules_of (p x)) (length (captures x)) (length c.coded) c.played (map about c.said) r is
 
       -- a capture that is too far is told so, whatever fault the video has
-      far_told : (x : Party) (r : Refusal) → refusal_at x s Send ≡ Some r
-          → IsRefusedCapture p captures (broken x) (lines + 1 + 0) past x (TraceRefused (fault_of (lines + 1) Send r))
+      far_told : (x : Party) (r : Refusal) → party_refusal x s Send ≡ Some r
+          → IsRefusedPartyCapture p captures (broken x) (lines + 1 + 0) past x (TraceRefused (fault_told (lines + 1) Send r))
       far_told x r is =
           let c = call x past in (
             r,
             capture_so x r is,
-            ap (λ (j : ℕ). status_with (fault_of j Send r)) (sym (no_more (lines + 1)))
+            ap (λ (j : ℕ). status_with (fault_told j Send r)) (sym (no_more (lines + 1)))
                 ∙ distance_told x (broken x) (lines + 1 + 0) r (laws.left.distance (rules_of (p x))
                 (length c.coded) c.played (map about c.said) r is),
           )
 
       -- no frame is left
-      none_left : (x : Party) → captures_at x (place_of x s) (inputs (video_of x)) ≡ [] → refusal_at x s Send ≡ None
+      none_left : (x : Party) → captures_at x (video_place_of x s) (inputs (video_of x)) ≡ [] → party_refusal x s Send ≡ None
           → refusal_of (sides p) (length (captures x)) x Send met ≡ Some NoPicture
       none_left x nothing is =
           let c = call x past in
@@ -398,15 +398,15 @@ module _ (p : Party → Params) (captures : Party → List Picture) (broken : Pa
 
       -- each video is as it was left
       same_ahead : (x : Party) (met2 : WayRuns Frame) (ended2 : Bool)
-          → captures_at x (place_of x s) (inputs (video_of x))
-          ≡ captures_at x (place_of x (state met2 va vb (lines + 1) ended2))
+          → captures_at x (video_place_of x s) (inputs (video_of x))
+          ≡ captures_at x (video_place_of x (state met2 va vb (lines + 1) ended2))
           (left_after inputs (of Events size) (video_of x))
       same_ahead A met2 ended2 = refl
       same_ahead B met2 ended2 = refl
 
       same_fault : (x : Party) (met2 : WayRuns Frame) (ended2 : Bool)
-          → fault_at x (place_of x (state met2 va vb (lines + 1) ended2))
-          (left_after inputs (of Events size) (video_of x)) ≡ fault_at x (place_of x s) (inputs (video_of x))
+          → fault_at x (video_place_of x (state met2 va vb (lines + 1) ended2))
+          (left_after inputs (of Events size) (video_of x)) ≡ fault_at x (video_place_of x s) (inputs (video_of x))
       same_fault A met2 ended2 = refl
       same_fault B met2 ended2 = refl
 
@@ -422,9 +422,9 @@ module _ (p : Party → Params) (captures : Party → List Picture) (broken : Pa
 
       -- those that show nothing
       quiet : (line : LineEvent) (past2 : List Lettered) (met2 : WayRuns Frame) → past2 ≡ With past line
-          → LineMayHappen p captures past line → met2 ≡ ways past2 → Near past2 → IsKept p met2 met
+          → LetteredMayHappen p captures past line → met2 ≡ ways past2 → Near past2 → IsKept p met2 met
           → rows past2 ≡ rows past
-          → Takes line (quiet_step s trace met2)
+          → Takes line (quiet_party_step s trace met2)
       quiet line past2 met2 same may is near2 kept told2 =
           let plays : (x : Party) → (call x past2).plays
           ≡ (call x past).plays = λ x. ap (λ (w : WayRuns Frame). (call_in p x w).plays) (sym is) ∙ kept.plays x in
@@ -434,20 +434,20 @@ module _ (p : Party → Params) (captures : Party → List Picture) (broken : Pa
           (go past2 met2 va vb (not (is_closed trace)) (of Events size) is near2
           (on_after met2 (not (is_closed trace)) kept.frames kept.sent) refl)
 
-      packet_comes : (x : Party) (n j : ℕ) → refusal_at x s (Deliver n j) ≡ None
-          → Takes (Some (x, says.Packet n j)) (quiet_step s trace (with_delivery (sides p) x n j met))
+      packet_comes : (x : Party) (n j : ℕ) → party_refusal x s (Deliver n j) ≡ None
+          → Takes (Some (x, says.Packet n j)) (quiet_party_step s trace (with_delivery (sides p) x n j met))
       packet_comes x n j o =
           let may = (laws.none (length (call x past).coded + 1) x (Deliver n j) met).0 o in
           quiet (Some (x, says.Packet n j)) (with_event p captures x (Deliver n j) past)
           (with_delivery (sides p) x n j met) refl may refl (may, near) (kept_delivery p x n j met)
           (append-nil (rows past))
 
-      all_comes : (x : Party) (n : ℕ) → refusal_at x s (Deliver n 0) ≡ None
-          → Takes (Some (x, says.All n)) (quiet_step s trace (with_whole p x n met))
+      all_comes : (x : Party) (n : ℕ) → party_refusal x s (Deliver n 0) ≡ None
+          → Takes (Some (x, says.All n)) (quiet_party_step s trace (with_whole p x n met))
       all_comes x n o =
           let count = length (slices_at (call x past).coded n) in
           let may = (laws.none (length (call x past).coded + 1) x (Deliver n 0) met).0 o in
-          quiet (Some (x, says.All n)) (with_packets p captures x n count past) (with_places p x n count met) refl may
+          quiet (Some (x, says.All n)) (with_party_packets p captures x n count past) (with_places p x n count met) refl may
           (ways_packets p captures x n count past)
           (near_packets p captures x n 0 count past may near)
           (kept_places p x n count met) (told_packets p captures x n count past)
@@ -467,10 +467,10 @@ module _ (p : Party → Params) (captures : Party → List Picture) (broken : Pa
       played_sent B B = refl
 
       abbrev play_turn : Party → Turn
-      play_turn x = line_turn trace (play_texts (pictures_of x) x (seen_of x (with_next x s)) (seen_of x s).played)
+      play_turn x = line_turn trace (play_texts (pictures_role x) x (seen_of x (with_next x s)) (seen_of x s).played)
 
       played_pictures : (x y : Party) → shown_text (call y (with_event p captures x Play past)).plays
-          ≡ shown_text (call y past).plays ++ (play_turn x).texts (pictures_of y)
+          ≡ shown_text (call y past).plays ++ (play_turn x).texts (pictures_role y)
       played_pictures A A = ap (λ (l : Text). shown_text (call A past).plays ++ l) (sym (append-nil _))
       played_pictures A B = sym (append-nil (shown_text (call B past).plays))
       played_pictures B A = sym (append-nil (shown_text (call A past).plays))
@@ -489,8 +489,8 @@ module _ (p : Party → Params) (captures : Party → List Picture) (broken : Pa
       row_is A = ap (row_at A) (plays_count (p A) (way A met).frames (way A met).past)
       row_is B = ap (row_at B) (plays_count (p B) (way B met).frames (way B met).past)
 
-      play_comes : (x : Party) → refusal_at x s Play ≡ None
-          → Takes (Some (x, says.Play)) (play_step (video_of x) (pictures_of x) (refused_video x) x s trace)
+      play_comes : (x : Party) → party_refusal x s Play ≡ None
+          → Takes (Some (x, says.Play)) (play_step (video_of x) (pictures_role x) (refused_party_video x) x s trace)
       play_comes x o =
           let may = (laws.none (length (call x past).coded + 1) x Play met).0 o in
           comes_more (Some (x, says.Play)) E F (lines + 1) past (with_event p captures x Play past) (play_turn x) _
@@ -528,7 +528,7 @@ module _ (p : Party → Params) (captures : Party → List Picture) (broken : Pa
 
       -- where the video of a party stands after a frame
       abbrev next_place : Party → ℕ → VideoPlace
-      next_place x frame = record { at = (place_of x s).at + frame; more = (place_of x s).more - 1 }
+      next_place x frame = record { at = (video_place_of x s).at + frame; more = (video_place_of x s).more - 1 }
 
       one_sent : (n m k : ℕ) → n ≡ m → k ≡ suc m → n + 1 ≡ k
       one_sent n m k is more = omega (arith, is, more)
@@ -541,7 +541,7 @@ module _ (p : Party → Params) (captures : Party → List Picture) (broken : Pa
           → with_capture (sides p) x (picture_of (p x).format planes) met ≡ ways (with_event p captures x Send past)
           → Near (with_event p captures x Send past)
           → Comes (with_event p captures x Send past) E F (lines + 1 + 1)
-          (rest (after_line (with_frame x s frame planes) trace) (takes_frame x frame))
+          (rest (after_party_line (with_party_frame x s frame planes) trace) (takes_frame x frame))
       frame_on A planes frame ahead still is near2 =
           go (with_event p captures A Send past) (with_capture (sides p) A (picture_of (p A).format planes) met)
           (next_place A frame) vb (not (is_closed trace)) (takes_frame A frame) is near2
@@ -555,14 +555,14 @@ module _ (p : Party → Params) (captures : Party → List Picture) (broken : Pa
 
           aheads : (y : Party) → drop
               (length (way y (with_capture (sides p) A (picture_of (p A).format planes) met)).frames) (captures y)
-              ≡ captures_at y (place_of y (after_line (with_frame A s frame planes) trace))
+              ≡ captures_at y (video_place_of y (after_party_line (with_party_frame A s frame planes) trace))
               (left_after inputs (takes_frame A frame) (video_of y))
           aheads A =
               ap (λ (m : ℕ). drop m (captures A)) (longer (way A met).frames _) ∙ ahead
               ∙ ap (λ (l : List ℕ). captures_at A (next_place A frame) l) (sym (frame_gone A frame))
           aheads B = on.ahead B
 
-          faults : (y : Party) → fault_at y (place_of y (after_line (with_frame A s frame planes) trace))
+          faults : (y : Party) → fault_at y (video_place_of y (after_party_line (with_party_frame A s frame planes) trace))
               (left_after inputs (takes_frame A frame) (video_of y)) ≡ broken y
           faults A = ap (λ (l : List ℕ). fault_at A (next_place A frame) l) (frame_gone A frame) ∙ still
           faults B = on.fault B
@@ -579,29 +579,29 @@ module _ (p : Party → Params) (captures : Party → List Picture) (broken : Pa
 
           aheads : (y : Party) → drop
               (length (way y (with_capture (sides p) B (picture_of (p B).format planes) met)).frames) (captures y)
-              ≡ captures_at y (place_of y (after_line (with_frame B s frame planes) trace))
+              ≡ captures_at y (video_place_of y (after_party_line (with_party_frame B s frame planes) trace))
               (left_after inputs (takes_frame B frame) (video_of y))
           aheads A = on.ahead A
           aheads B =
               ap (λ (m : ℕ). drop m (captures B)) (longer (way B met).frames _) ∙ ahead
               ∙ ap (λ (l : List ℕ). captures_at B (next_place B frame) l) (sym (frame_gone B frame))
 
-          faults : (y : Party) → fault_at y (place_of y (after_line (with_frame B s frame planes) trace))
+          faults : (y : Party) → fault_at y (video_place_of y (after_party_line (with_party_frame B s frame planes) trace))
               (left_after inputs (takes_frame B frame) (video_of y)) ≡ broken y
           faults A = on.fault A
           faults B = ap (λ (l : List ℕ). fault_at B (next_place B frame) l) (frame_gone B frame) ∙ still
 
-      untold : (x : Party) (fault : Y4mFault) (text : Text) → told (refused_video x fault) text ≡ []
+      untold : (x : Party) (fault : Y4mFault) (text : Text) → told (refused_party_video x fault) text ≡ []
       untold A fault text = refl
       untold B fault text = refl
 
       -- a frame is sent
-      captured_comes : (x : Party) (b : ℕ) (v : List ℕ) → inputs (video_of x) ≡ b ∷ v → refusal_at x s Send ≡ None
-          → (r : Result (List ℕ) Y4mFault) → next_frame (place_of x s).more (p x).format (place_of x s).at (b ∷ v) ≡ r
-          → Takes (Some (x, says.Send)) (captured_step (video_of x) (pictures_of x) (refused_video x) x s trace
+      captured_comes : (x : Party) (b : ℕ) (v : List ℕ) → inputs (video_of x) ≡ b ∷ v → party_refusal x s Send ≡ None
+          → (r : Result (List ℕ) Y4mFault) → next_frame (video_place_of x s).more (p x).format (video_place_of x s).at (b ∷ v) ≡ r
+          → Takes (Some (x, says.Send)) (party_captured_step (video_of x) (pictures_role x) (refused_party_video x) x s trace
           (frame_size (p x).format (b ∷ v)) r)
       captured_comes x b v video o (Err fault) found =
-          let place = place_of x s in
+          let place = video_place_of x s in
           let stops = frame_laws.stops (p x).format place.more place.at (b ∷ v) fault (omega arith) found in
           let nothing : captures_at x place (inputs (video_of x)) ≡ [] =
           ap (λ (l : List ℕ). captures_at x place l) video
@@ -613,12 +613,12 @@ module _ (p : Party → Params) (captures : Party → List Picture) (broken : Pa
           (one_refused size x fault) (
             NoPicture,
             none_left x nothing o,
-            ap (λ (q : Option Y4mFault). capture_told x q (lines + 1 + 0) NoPicture)
+            ap (λ (q : Option Y4mFault). party_capture_told x q (lines + 1 + 0) NoPicture)
                 fault_is,
           )
       captured_comes x b v video o (Ok planes) found =
           let f = (p x).format in
-          let place = place_of x s in
+          let place = video_place_of x s in
           let frame = frame_size f (b ∷ v) in
           let captured = picture_of f planes in
           let count = length (way x met).frames in
@@ -656,10 +656,10 @@ module _ (p : Party → Params) (captures : Party → List Picture) (broken : Pa
           refl
           (frame_on x planes frame ahead still is ((below, may.1), near))
 
-      send_comes : (x : Party) (video : List ℕ) → inputs (video_of x) ≡ video → refusal_at x s Send ≡ None
-          → Takes (Some (x, says.Send)) (capture_step (video_of x) (pictures_of x) (refused_video x) x s trace video)
+      send_comes : (x : Party) (video : List ℕ) → inputs (video_of x) ≡ video → party_refusal x s Send ≡ None
+          → Takes (Some (x, says.Send)) (party_capture_step (video_of x) (pictures_role x) (refused_party_video x) x s trace video)
       send_comes x [] there o =
-          let place = place_of x s in
+          let place = video_place_of x s in
           let ends = frame_laws.ends (p x).format place.more place.at in
           let nothing : captures_at x place (inputs (video_of x)) ≡ [] =
           ap (λ (l : List ℕ). captures_at x place l) there
@@ -669,31 +669,31 @@ module _ (p : Party → Params) (captures : Party → List Picture) (broken : Pa
           comes_faulty past near (Some (x, says.Send) ∷ E) F (lines + 1) rest _ _ (
             NoPicture,
             none_left x nothing o,
-            ap (λ (j : ℕ). status_with (fault_of j Send NoPicture)) (sym (no_more (lines + 1)))
-                ∙ ap (λ (q : Option Y4mFault). capture_told x q (lines + 1 + 0) NoPicture) none_is,
+            ap (λ (j : ℕ). status_with (fault_told j Send NoPicture)) (sym (no_more (lines + 1)))
+                ∙ ap (λ (q : Option Y4mFault). party_capture_told x q (lines + 1 + 0) NoPicture) none_is,
           )
-      send_comes x (b ∷ v) there o = captured_comes x b v there o (next_frame (place_of x s).more (p x).format
-          (place_of x s).at (b ∷ v)) refl
+      send_comes x (b ∷ v) there o = captured_comes x b v there o (next_frame (video_place_of x s).more (p x).format
+          (video_place_of x s).at (b ∷ v)) refl
 
       -- ---- any line
 
       party_comes : (x : Party) (line : Line) → Takes (Some (x, line)) (party_step x s inputs line)
       party_comes x says.Nothing = quiet (Some (x, says.Nothing)) past met refl tt refl near (kept_all p met) refl
-      party_comes x says.Send = unless_comes (Some (x, says.Send)) x Send (refusal_at x s Send) _ refl (far_told x)
+      party_comes x says.Send = unless_comes (Some (x, says.Send)) x Send (party_refusal x s Send) _ refl (far_told x)
           (send_comes x (inputs (video_of x)) refl)
       party_comes x (says.Packet n j) =
-          unless_comes (Some (x, says.Packet n j)) x (Deliver n j) (refusal_at x s (Deliver n j)) _ refl
+          unless_comes (Some (x, says.Packet n j)) x (Deliver n j) (party_refusal x s (Deliver n j)) _ refl
           (λ r is. told_at x (Deliver n j) r (packet_so x n j r is)) (packet_comes x n j)
       party_comes x (says.All n) =
-          unless_comes (Some (x, says.All n)) x (Deliver n 0) (refusal_at x s (Deliver n 0)) _ refl
+          unless_comes (Some (x, says.All n)) x (Deliver n 0) (party_refusal x s (Deliver n 0)) _ refl
           (λ r is. told_at x (Deliver n 0) r (packet_so x n 0 r is)) (all_comes x n)
       party_comes x (says.Back m) = comes_faulty past near (Some (x, says.Back m) ∷ E) F (lines + 1) rest _ _
           (told_at x (Back m) NotSaid refl)
-      party_comes x says.Play = unless_comes (Some (x, says.Play)) x Play (refusal_at x s Play) _ refl
+      party_comes x says.Play = unless_comes (Some (x, says.Play)) x Play (party_refusal x s Play) _ refl
           (λ r is. told_at x Play r (play_so x r is)) (play_comes x)
 
       line_comes : (o : Option LineEvent)
-          → Comes past (and_event o E) (bad_from o (lines + 1) F) (lines + 1) (follow (line_step s inputs o) rest)
+          → Comes past (and_event o E) (bad_from o (lines + 1) F) (lines + 1) (follow (lettered_step s inputs o) rest)
       line_comes None = comes_faulty past near [] _ (lines + 1) rest _ _ refl
       line_comes (Some None) = quiet None past met refl tt refl near (kept_all p met) refl
       line_comes (Some (Some said)) = party_comes said.0 said.1
@@ -727,7 +727,7 @@ module _ (p : Party → Params) (captures : Party → List Picture) (broken : Pa
       last_choice false step room many = comes_faulty past near [] _ (lines + 1) (λ next taken. silence) _ _ refl
 
       last_comes : (text : List ℕ) → lines + 0 ≡ 16777216
-          → Comes past [] (fault_in 0 (lines + 1) text) (lines + 1) (follow (trace_step here inputs text)
+          → Comes past [] (fault_in 0 (lines + 1) text) (lines + 1) (follow (duplex_trace_step here inputs text)
           (λ next taken. silence))
       unfolding fault_in
       last_comes [] room = comes_end past near (lines + 1) (λ next taken. silence)
@@ -743,19 +743,19 @@ module _ (p : Party → Params) (captures : Party → List Picture) (broken : Pa
             (line_events n (later_lines (bytes ∷ trace))))
             (bad_from (party_event (first_line (bytes ∷ trace))) (lines + 1)
             (fault_in n (lines + 1 + 1) (later_lines (bytes ∷ trace)))) (lines + 1)
-            (follow (or_many b lines (line_step here inputs (party_event (first_line (bytes ∷ trace))))) on_with)
+            (follow (or_many b lines (lettered_step here inputs (party_event (first_line (bytes ∷ trace))))) on_with)
         choice_comes false bytes trace is go room many = absurd (omega (arith, ltb-false lines 16777216 many, room))
         choice_comes true bytes trace is go room few =
             let o = party_event (first_line (bytes ∷ trace)) in
             subst (λ (l : List ℕ). Comes past (and_event o (line_events n (later_lines l)))
             (bad_from o (lines + 1) (fault_in n (lines + 1 + 1) (later_lines l))) (lines + 1)
-            (follow (line_step here inputs o) on_with)) is
+            (follow (lettered_step here inputs o) on_with)) is
             (line_comes frame_laws past near va vb lines ended inputs on (line_events n (later_lines (inputs Events)))
             (fault_in n (lines + 1 + 1) (later_lines (inputs Events))) on_with go o)
 
         step_comes : (trace : List ℕ) → inputs Events ≡ trace → GoesOn n lines inputs → lines + suc n ≡ 16777216
             → Comes past (line_events (suc n) trace) (fault_in (suc n) (lines + 1) trace) (lines + 1)
-            (follow (trace_step here inputs trace) on_with)
+            (follow (duplex_trace_step here inputs trace) on_with)
         unfolding line_events fault_in
         step_comes [] is go room = comes_end past near (lines + 1) on_with
         step_comes (bytes ∷ trace) is go room = choice_comes (nat_lt lines 16777216) bytes trace is go room refl

@@ -24,9 +24,9 @@ use Rattle.duplex_ends.specs.Pair.{HoldsPair}
 use Rattle.duplex_command.specs.declared.heads.Heads.{Heads}
 use Rattle.duplex_command.specs.declared.station.Station.{Station}
 use Rattle.duplex_command.specs.declared.talk.Talk.{Talk}
-use Rattle.duplex_command.specs.Begin.{HaveHeads, IsNewTalk, duplex_begin, heads_step, heads_taken, heads_text, in_formats}
-use Rattle.duplex_command.specs.Duplex.{DuplexState, first_state, may_read, most_turns}
-use Rattle.duplex_command.specs.Standing.{StationReady, StationsReady, TalkStands, more_of, place_in}
+use Rattle.duplex_command.specs.Begin.{HaveHeads, IsNewTalk, duplex_begin, heads_step, heads_taken, both_heads, in_formats}
+use Rattle.duplex_command.specs.Duplex.{DuplexState, duplex_at_start, talk_may_read, most_turns}
+use Rattle.duplex_command.specs.Standing.{StationReady, StationsReady, TalkStands, talk_lines_left, place_in_video}
 
 -- parameters stay in their ranges in another format
 in_format : (p : Params) (f : Format) → IsParams p → IsParams (record p { format = f })
@@ -50,8 +50,8 @@ in_range p f g is A = in_format p f is
 in_range p f g is B = in_format p g is
 
 place_first : (v w : Y4mPlace) (n : ℕ) → v ≡ w → w.at ≡ n → w.more ≡ most_frames → record { at = n; more = 1048576 }
-    ≡ place_in v
-place_first v w n is at more = (λ i. record { at = sym at i; more = sym more i }) ∙ ap place_in (sym is)
+    ≡ place_in_video v
+place_first v w n is at more = (λ i. record { at = sym at i; more = sym more i }) ∙ ap place_in_video (sym is)
 
 pub fits : (f g : Format) (long room : ℕ) → f ≡ g → long ≡ room → size_of_picture f ≤ room → size_of_picture g ≤ long
 fits f g long room same is le = subst (λ (h : Format). size_of_picture h ≤ long) same
@@ -91,7 +91,7 @@ module _ (p : Params) (heads : Heads) (m : Talk) (new : IsNewTalk p heads m)
     };
   }
 
-  pub all_may_come : more_of m ≡ most_turns
+  pub all_may_come : talk_lines_left m ≡ most_turns
   all_may_come = ap (λ (n : ℕ). 16777216 - n) new.lines
 
   -- ---- over a desk: the heads were read from old to mid, and written from mid to last
@@ -99,7 +99,7 @@ module _ (p : Params) (heads : Heads) (m : Talk) (new : IsNewTalk p heads m)
   module _ (inputs : Role → List ℕ) (old mid : Outside) (have : HaveHeads heads inputs mid) (same : mid.written
       ≡ old.written) where
     begun : (rest : Role → List ℕ)
-        → TalkStands m (first_state (in_formats p heads.a.format heads.b.format) (head_size (inputs Video))
+        → TalkStands m (duplex_at_start (in_formats p heads.a.format heads.b.format) (head_size (inputs Video))
         (head_size (inputs Video2))) rest
     begun rest = record {
       own_place = place_first m.a.video heads.a (head_size (inputs Video)) new.video_a have.at_a more_a;
@@ -114,18 +114,18 @@ module _ (p : Params) (heads : Heads) (m : Talk) (new : IsNewTalk p heads m)
     begins = λ i. heads_step p inputs (have.head_a i) (have.head_b i)
 
     pub heads_go : (last : Outside) → last.left ≡ mid.left
-        → Gains (heads_text heads.a.format heads.b.format) mid.written last.written
-        → Went (duplex_begin p inputs) (TalkStands m) may_read true inputs old last
+        → Gains (both_heads heads.a.format heads.b.format) mid.written last.written
+        → Went (duplex_begin p inputs) (TalkStands m) talk_may_read true inputs old last
     heads_go last still gains = record {
-      next = first_state (in_formats p heads.a.format heads.b.format) (head_size (inputs Video))
+      next = duplex_at_start (in_formats p heads.a.format heads.b.format) (head_size (inputs Video))
           (head_size (inputs Video2));
-      turn = record { taken = heads_taken inputs; whole = true; texts = heads_text heads.a.format heads.b.format };
+      turn = record { taken = heads_taken inputs; whole = true; texts = both_heads heads.a.format heads.b.format };
       could = refl;
       is = begins;
       kept = begun (left_after inputs (heads_taken inputs));
       whole = refl;
       left = λ r input. ap (λ (l : Role → Option (List ℕ)). l r) still ∙ have.left r input;
-      written = subst (λ (w : Role → Option (List ℕ)). Gains (heads_text heads.a.format heads.b.format) w last.written)
+      written = subst (λ (w : Role → Option (List ℕ)). Gains (both_heads heads.a.format heads.b.format) w last.written)
           same gains;
     }
 
@@ -133,7 +133,7 @@ module _ (p : Params) (heads : Heads) (inputs : Role → List ℕ) (old mid : Ou
     (same : mid.written ≡ old.written) where
   -- the heads' lines could not be written
   pub heads_cut : (status : Status) (last : Outside) → status ≡ WriteFault
-      → GainsFronts (heads_text heads.a.format heads.b.format) mid.written last.written
+      → GainsFronts (both_heads heads.a.format heads.b.format) mid.written last.written
       → GivesUp (phase status) status (duplex_begin p inputs) true inputs old last
   heads_cut status last is fronts =
       let begins : duplex_begin p inputs ≡ heads_step p inputs (Ok heads.a.format) (Ok heads.b.format) =
@@ -141,7 +141,7 @@ module _ (p : Params) (heads : Heads) (inputs : Role → List ℕ) (old mid : Ou
       in
       subst (λ (y : Status). GivesUp (phase y) y (duplex_begin p inputs) true inputs old last) (sym is)
       (subst (λ (step : Step DuplexState). GainsFronts (step_texts step) old.written last.written) (sym begins)
-      (subst (λ (w : Role → Option (List ℕ)). GainsFronts (heads_text heads.a.format heads.b.format) w last.written)
+      (subst (λ (w : Role → Option (List ℕ)). GainsFronts (both_heads heads.a.format heads.b.format) w last.written)
       same fronts))
 
 -- an end that is known

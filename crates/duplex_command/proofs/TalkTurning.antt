@@ -20,13 +20,13 @@ use Rattle.duplex_call.specs.declared.line.Party.TheVariants.{A}
 use Rattle.duplex_call.specs.Lines.{party_event}
 use Rattle.duplex_command.specs.declared.event.TraceLine.{TraceLine}
 use Rattle.duplex_command.specs.declared.talk.Talk.{Talk}
-use Rattle.duplex_command.specs.Duplex.{DuplexState, after_line, duplex_step, line_step, may_read, party_step}
+use Rattle.duplex_command.specs.Duplex.{DuplexState, after_party_line, duplex_step, lettered_step, talk_may_read, party_step}
 use Rattle.call_command.specs.Call.{line_size}
 use Rattle.desk_program.specs.Laws.{StepLaws}
 use Rattle.call_command.specs.Laws.{LineLaws}
 use Rattle.call_command.specs.Standing.{ReadsTrace}
-use Rattle.duplex_command.specs.Standing.{DuplexOpens, StationsReady, StationsStand, TalkReady, TalkStands, more_of}
-use Rattle.duplex_command.specs.Turning.{IsRead, TakesLine, TakesTurn}
+use Rattle.duplex_command.specs.Standing.{DuplexOpens, StationsReady, StationsStand, TalkReady, TalkStands, talk_lines_left}
+use Rattle.duplex_command.specs.Turning.{IsPartyRead, TakesPartyLine, TalkTakesTurn}
 use Rattle.duplex_command.proofs.AtParty.{ready_so}
 use Rattle.duplex_command.proofs.LineTurning.{IsReadAt, found_bad, found_could, found_empty, found_is, found_number, found_taken, passed}
 
@@ -65,10 +65,10 @@ module _ (x y : Talk) (old new : Outside) where
   pub turn_gave_up : (r : Result Bool Status) (status : Status) → IsErrAnd r (λ z. z ≡ status) → IsStop status
       → HasCause status old.faults new.faults → KeepsRoles old new
       → ((s : DuplexState) (inputs : Role → List ℕ) → TalkStands x s inputs → Tells old inputs
-      → GivesUp (phase status) status (duplex_step s inputs) (may_read s) inputs old new)
-      → TakesTurn x y r old new
+      → GivesUp (phase status) status (duplex_step s inputs) (talk_may_read s) inputs old new)
+      → TalkTakesTurn x y r old new
   turn_gave_up (Ok b) status is stop cause rest gives = absurd is
-  turn_gave_up (Err z) status is stop cause rest gives = subst (λ (w : Status). TakesTurn x y (Err w) old new) (sym is)
+  turn_gave_up (Err z) status is stop cause rest gives = subst (λ (w : Status). TalkTakesTurn x y (Err w) old new) (sym is)
       (record {
         gives = gives;
         whole = λ s inputs k told. tt;
@@ -84,9 +84,9 @@ module _ (x y : Talk) (old new : Outside) where
       → Rose old.faults.write new.faults.write → KeepsRoles old new
       → ((s : DuplexState) (inputs : Role → List ℕ) → TalkStands x s inputs → Tells old inputs
       → GainsFronts (step_texts (duplex_step s inputs)) old.written new.written)
-      → TakesTurn x y r old new
+      → TalkTakesTurn x y r old new
   turn_was_cut (Ok b) status is kind rose rest gives = absurd is
-  turn_was_cut (Err z) status is kind rose rest gives = subst (λ (w : Status). TakesTurn x y (Err w) old new) (sym (is
+  turn_was_cut (Err z) status is kind rose rest gives = subst (λ (w : Status). TalkTakesTurn x y (Err w) old new) (sym (is
       ∙ kind)) (record {
         gives = gives;
         whole = λ s inputs k told. tt;
@@ -103,7 +103,7 @@ module _ (x y : Talk) (old new : Outside) where
       → Ended (duplex_step s inputs) Fine inputs old new)
       → ((s : DuplexState) (inputs : Role → List ℕ) → TalkStands x s inputs → Tells old inputs
       → new.left Events ≡ Some [])
-      → TakesTurn x y (Ok false) old new
+      → TalkTakesTurn x y (Ok false) old new
   turn_is_over rest gives whole = record {
     gives = gives;
     whole = whole;
@@ -115,10 +115,10 @@ module _ (x y : Talk) (old new : Outside) where
   }
 
   -- one that goes on
-  pub turn_goes_on : more_of y + 1 ≡ more_of x → TalkReady y new.attached → KeepsRoles old new
+  pub turn_goes_on : talk_lines_left y + 1 ≡ talk_lines_left x → TalkReady y new.attached → KeepsRoles old new
       → ((s : DuplexState) (inputs : Role → List ℕ) → TalkStands x s inputs → Tells old inputs
-      → Went (duplex_step s inputs) (TalkStands y) may_read (may_read s) inputs old new)
-      → TakesTurn x y (Ok true) old new
+      → Went (duplex_step s inputs) (TalkStands y) talk_may_read (talk_may_read s) inputs old new)
+      → TalkTakesTurn x y (Ok true) old new
   turn_goes_on falls ready rest gives = record {
     gives = gives;
     whole = λ s inputs k told. tt;
@@ -170,17 +170,17 @@ module _ (lines : LineLaws) (steps : StepLaws) (m : Talk) (after : TracePlace) (
     fits = take_within found.1 buf (ap (λ (l : List ℕ). length l) e.2 ∙ e.1)
 
     step_is : (o : Option (Option (Party × Line))) → party_event (take found.1 buf) ≡ o
-        → duplex_step s inputs ≡ line_step s inputs o
+        → duplex_step s inputs ≡ lettered_step s inputs o
     step_is o said = found_is lines s inputs old mid only m.trace after at buf found e w.moves o said
 
-    could : may_read s ≡ true
+    could : talk_may_read s ≡ true
     could = found_could lines s inputs old mid only m.trace after at buf found e w.moves
 
-    stood : StationsStand A m.a m.b after (after_line s (inputs Events))
+    stood : StationsStand A m.a m.b after (after_party_line s (inputs Events))
         (drop (line_size (inputs Events)) (inputs Events))
     stood = passed lines A m.a m.b s (inputs Events) m.trace after (mid.left Events) k w.moves.3 e.0
 
-    line_read : IsRead A m.a m.b found.0 after mid old s inputs
+    line_read : IsPartyRead A m.a m.b found.0 after mid old s inputs
     line_read = record {
       stood = stood;
       number = found_number lines s inputs old mid only m.trace after at buf found e w.moves;
@@ -204,7 +204,7 @@ module _ (lines : LineLaws) (steps : StepLaws) (m : Talk) (after : TracePlace) (
   -- an empty line
   pub line_empty : (found.1 ≤ length buf → party_event (take found.1 buf) ≡ Some None) → TalkReady m old.attached
       → Gains no_texts mid.written mid.written
-      → TakesTurn m (record m { trace = after }) (Ok true) old mid
+      → TalkTakesTurn m (record m { trace = after }) (Ok true) old mid
   line_empty said r silent =
       turn_goes_on m (record m { trace = after }) old mid fewer (record {
         opens = opens_still mid r (steps.none mid);
@@ -220,22 +220,22 @@ module _ (lines : LineLaws) (steps : StepLaws) (m : Talk) (after : TracePlace) (
       → (found.1 ≤ length buf → party_event (take found.1 buf) ≡ Some (Some (said.party, said.event)))
       → TalkReady m old.attached
       → (y : Talk) (r : Result Bool Status) (new : Outside) (room : ℕ) → y.trace ≡ after → length y.frame.items ≡ room
-      → TakesLine m.a m.b y.a y.b said r mid new room → TakesTurn m y r old new
+      → TakesPartyLine m.a m.b y.a y.b said r mid new room → TalkTakesTurn m y r old new
   line_done said number said_so ready y r new room trace_is frame_is t = record {
     gives = λ s inputs k told.
         let stands : DuplexState → (Role → List ℕ)
         → Type 0 = λ next rest. StationsStand A y.a y.b after next (rest Events) in
         subst (λ (reader : TracePlace). TurnGives r (duplex_step s inputs)
-        (λ next rest. StationsStand A y.a y.b reader next (rest Events)) may_read (may_read s) inputs old new)
+        (λ next rest. StationsStand A y.a y.b reader next (rest Events)) talk_may_read (talk_may_read s) inputs old new)
         (sym trace_is)
-        (subst (λ (step : Step DuplexState). TurnGives r step stands may_read (may_read s) inputs old new)
+        (subst (λ (step : Step DuplexState). TurnGives r step stands talk_may_read (talk_may_read s) inputs old new)
         (sym (step_is s inputs k told (Some (Some (said.party, said.event))) (said_so (fits s inputs k told))))
-        (subst (λ (b : Bool). TurnGives r (party_step said.party s inputs said.event) stands may_read b inputs old new)
+        (subst (λ (b : Bool). TurnGives r (party_step said.party s inputs said.event) stands talk_may_read b inputs old new)
         (sym (could s inputs k told))
-        (t.gives after old s inputs (subst (λ (n : ℕ). IsRead A m.a m.b n after mid old s inputs) (sym number)
+        (t.gives after old s inputs (subst (λ (n : ℕ). IsPartyRead A m.a m.b n after mid old s inputs) (sym number)
         (line_read s inputs k told)))));
     whole = λ s inputs k told. never r (new.left Events ≡ Some []) t.goes_on;
-    falls = falls_so r (more_of m) (more_of y) (ap (λ (reader : TracePlace). 16777216 - reader.lines + 1) trace_is
+    falls = falls_so r (talk_lines_left m) (talk_lines_left y) (ap (λ (reader : TracePlace). 16777216 - reader.lines + 1) trace_is
         ∙ fewer);
     ready = ready_so r (StationsReady y.a y.b room) (TalkReady y new.attached)
         (λ stations. record {

@@ -20,7 +20,7 @@ use Rattle.duplex_call.specs.declared.line.Party.TheVariants.{A, B}
 use Rattle.duplex_ends.specs.Pair.{IsNewParty}
 use Rattle.duplex_command.specs.declared.heads.Heads.{Heads}
 use Rattle.duplex_command.specs.declared.talk.Talk.{Talk}
-use Rattle.duplex_command.specs.Duplex.{DuplexState, duplex_step, first_state, most_turns}
+use Rattle.duplex_command.specs.Duplex.{DuplexState, duplex_step, duplex_at_start, most_turns}
 use Rattle.duplex_command.specs.Standing.{DuplexOpens}
 
 -- the parameters of each party, with the format of its video
@@ -29,8 +29,8 @@ in_formats p f g A = record p { format = f }
 in_formats p f g B = record p { format = g }
 
 -- both heads in these formats, as the pictures begin with them
-abbrev pub heads_text : Format → Format → Role → List ℕ
-heads_text f g = then_also (on Pictures (head_text f)) (on Pictures2 (head_text g))
+abbrev pub both_heads : Format → Format → Role → List ℕ
+both_heads f g = then_also (on Pictures (head_text f)) (on Pictures2 (head_text g))
 
 -- the bytes of both heads
 abbrev pub heads_taken : (Role → List ℕ) → Role → ℕ
@@ -45,8 +45,8 @@ heads_step p inputs (Err fault) second = Ends (video_refusal Video no_bytes (Vid
 heads_step p inputs (Ok f) (Err fault) =
     Ends (video_refusal Video2 (of Video (head_size (inputs Video))) (Video2Refused fault))
 heads_step p inputs (Ok f) (Ok g) =
-    Goes (first_state (in_formats p f g) (head_size (inputs Video)) (head_size (inputs Video2)))
-    (record { taken = heads_taken inputs; whole = true; texts = heads_text f g })
+    Goes (duplex_at_start (in_formats p f g) (head_size (inputs Video)) (head_size (inputs Video2)))
+    (record { taken = heads_taken inputs; whole = true; texts = both_heads f g })
 
 abbrev pub duplex_begin : Params → (Role → List ℕ) → Step DuplexState
 duplex_begin p inputs = heads_step p inputs (head_of (inputs Video)) (head_of (inputs Video2))
@@ -57,7 +57,7 @@ duplex_run p inputs = run_from (duplex_begin p inputs) duplex_step most_turns in
 
 -- ---- what is ready then
 
-pub record MayBegin (p : Params) (attached : Role → Bool) : Type 0 where
+pub record DuplexMayBegin (p : Params) (attached : Role → Bool) : Type 0 where
   pub params : IsParams p
   pub opens : DuplexOpens attached
 

@@ -32,7 +32,7 @@ use Rattle.duplex_call.specs.Refused.{refusal_of}
 use Rattle.call_command.specs.Counts.{call_text_of}
 use Rattle.duplex_ends.specs.Ways.{call_in, sides, with_whole}
 use Rattle.call_command.specs.Call.{bad_line, line_size, line_turn, refused_line}
-use Rattle.call_command.specs.Refused.{fault_of}
+use Rattle.call_command.specs.Refused.{fault_told}
 
 -- where a party's video stands: the byte of its next frame, and how many frames may still come
 pub record VideoPlace : Type 0 where
@@ -56,9 +56,9 @@ abbrev pub video_of : Party → Role
 video_of A = Video
 video_of B = Video2
 
-abbrev pub pictures_of : Party → Role
-pictures_of A = Pictures
-pictures_of B = Pictures2
+abbrev pub pictures_role : Party → Role
+pictures_role A = Pictures
+pictures_role B = Pictures2
 
 -- its letter
 abbrev pub letter_of : Party → ℕ
@@ -66,17 +66,17 @@ letter_of A = 97
 letter_of B = 98
 
 -- how its video is refused
-abbrev pub refused_video : Party → Y4mFault → Status
-refused_video A fault = VideoRefused fault
-refused_video B fault = Video2Refused fault
+abbrev pub refused_party_video : Party → Y4mFault → Status
+refused_party_video A fault = VideoRefused fault
+refused_party_video B fault = Video2Refused fault
 
-abbrev pub place_of : Party → DuplexState → VideoPlace
-place_of A s = s.video_a
-place_of B s = s.video_b
+abbrev pub video_place_of : Party → DuplexState → VideoPlace
+video_place_of A s = s.video_a
+video_place_of B s = s.video_b
 
-abbrev pub with_place : Party → VideoPlace → DuplexState → DuplexState
-with_place A place s = record s { video_a = place }
-with_place B place s = record s { video_b = place }
+abbrev pub with_video_place : Party → VideoPlace → DuplexState → DuplexState
+with_video_place A place s = record s { video_a = place }
+with_video_place B place s = record s { video_b = place }
 
 -- what is seen of its pictures, by the ideal call
 abbrev pub seen_of : Party → DuplexState → Seen
@@ -105,43 +105,43 @@ abbrev pub played_word : Party → Text
 played_word A = codes "a played"
 played_word B = codes "b played"
 
-abbrev pub counts_of : Party → (Party → Params) → WayRuns Frame → Text
-counts_of x p ways = call_text_of (played_word x) (in_call (call_in p x ways))
+abbrev pub party_counts : Party → (Party → Params) → WayRuns Frame → Text
+party_counts x p ways = call_text_of (played_word x) (in_call (call_in p x ways))
 
 -- those of both parties
 abbrev pub both_counts : (Party → Params) → WayRuns Frame → Role → List ℕ
-both_counts p ways = then_also (on Report (counts_of A p ways)) (on Report (counts_of B p ways))
+both_counts p ways = then_also (on Report (party_counts A p ways)) (on Report (party_counts B p ways))
 
 -- the trace is at its end
-abbrev pub all_played : DuplexState → End
-all_played s = record { status = Fine; taken = λ _. Some 0; texts = both_counts s.params s.ways }
+abbrev pub both_played : DuplexState → End
+both_played s = record { status = Fine; taken = λ _. Some 0; texts = both_counts s.params s.ways }
 
 -- ---- a line
 
 -- after the line
-abbrev pub after_line : DuplexState → List ℕ → DuplexState
-after_line s trace = record s { lines = s.lines + 1; ended = not (is_closed trace) }
+abbrev pub after_party_line : DuplexState → List ℕ → DuplexState
+after_party_line s trace = record s { lines = s.lines + 1; ended = not (is_closed trace) }
 
 -- the line says this event, which is refused or has its step
-abbrev pub unless : DuplexState → List ℕ → Event → Option Refusal
+abbrev pub unless_refused : DuplexState → List ℕ → Event → Option Refusal
     → Step DuplexState → Step DuplexState
-unless s trace e None step = step
-unless s trace e (Some refusal) step = Ends (refused_line trace (fault_of (s.lines + 1) e refusal))
+unless_refused s trace e None step = step
+unless_refused s trace e (Some refusal) step = Ends (refused_line trace (fault_told (s.lines + 1) e refusal))
 
 -- a line that reads and writes nothing else: both ways are then these
-abbrev pub quiet_step : DuplexState → List ℕ → WayRuns Frame → Step DuplexState
-quiet_step s trace ways =
-    Goes (after_line (record s { ways = ways }) trace) (line_turn trace no_texts)
+abbrev pub quiet_party_step : DuplexState → List ℕ → WayRuns Frame → Step DuplexState
+quiet_party_step s trace ways =
+    Goes (after_party_line (record s { ways = ways }) trace) (line_turn trace no_texts)
 
 module _ (x : Party) (s : DuplexState) where
   -- the first refusal of an event, as far as it is told before a frame is read
-  abbrev pub refusal_at : Event → Option Refusal
-  refusal_at e = refusal_of (sides s.params) (length (seen_of x s).coded + 1) x e s.ways
+  abbrev pub party_refusal : Event → Option Refusal
+  party_refusal e = refusal_of (sides s.params) (length (seen_of x s).coded + 1) x e s.ways
 
   -- the frame of these planes is sent, which has taken so many bytes of the party's video
-  abbrev pub with_frame : ℕ → List ℕ → DuplexState
-  with_frame size planes =
-      with_place x (record { at = (place_of x s).at + size; more = (place_of x s).more - 1 })
+  abbrev pub with_party_frame : ℕ → List ℕ → DuplexState
+  with_party_frame size planes =
+      with_video_place x (record { at = (video_place_of x s).at + size; more = (video_place_of x s).more - 1 })
       (record s {
         ways = with_capture (sides s.params) x (picture_of (s.params x).format planes) s.ways;
       })
@@ -155,80 +155,80 @@ module _ (x : Party) (s : DuplexState) where
 module _ (video pictures : Role) (refuses : Y4mFault → Status) (x : Party) (s : DuplexState)
     (trace : List ℕ) where
   -- the frame is sent that the line asks for, or refused
-  abbrev pub captured_step : ℕ → Result (List ℕ) Y4mFault → Step DuplexState
-  captured_step size (Ok planes) =
-      Goes (after_line (with_frame x s size planes) trace)
+  abbrev pub party_captured_step : ℕ → Result (List ℕ) Y4mFault → Step DuplexState
+  party_captured_step size (Ok planes) =
+      Goes (after_party_line (with_party_frame x s size planes) trace)
       (record {
         taken = and_of (of Events (line_size trace)) (of video size);
         whole = is_closed trace;
         texts = no_texts;
       })
-  captured_step size (Err fault) =
+  party_captured_step size (Err fault) =
       Ends (video_refusal video (of Events (line_size trace)) (refuses fault))
 
   -- the video is read once it is known that the event isn't far
-  abbrev pub capture_step : List ℕ → Step DuplexState
-  capture_step [] = Ends (refused_line trace (NoFrame (s.lines + 1)))
-  capture_step (b ∷ rest) =
-      captured_step (frame_size (s.params x).format (b ∷ rest))
-      (next_frame (place_of x s).more (s.params x).format (place_of x s).at (b ∷ rest))
+  abbrev pub party_capture_step : List ℕ → Step DuplexState
+  party_capture_step [] = Ends (refused_line trace (NoFrame (s.lines + 1)))
+  party_capture_step (b ∷ rest) =
+      party_captured_step (frame_size (s.params x).format (b ∷ rest))
+      (next_frame (video_place_of x s).more (s.params x).format (video_place_of x s).at (b ∷ rest))
 
   abbrev pub play_step : Step DuplexState
   play_step =
-      Goes (after_line (with_next x s) trace)
+      Goes (after_party_line (with_next x s) trace)
       (line_turn trace (play_texts pictures x (seen_of x (with_next x s)) (seen_of x s).played))
 
   -- a party's line says neither nothing nor that a message comes back
-  abbrev pub event_step : (Role → List ℕ) → Line → Step DuplexState
-  event_step inputs says.Nothing = quiet_step s trace s.ways
-  event_step inputs says.Send =
-      unless s trace Send (refusal_at x s Send) (capture_step (inputs video))
-  event_step inputs (says.Packet n j) =
-      unless s trace (Deliver n j) (refusal_at x s (Deliver n j))
-      (quiet_step s trace (with_delivery (sides s.params) x n j s.ways))
-  event_step inputs (says.All n) =
-      unless s trace (Deliver n 0) (refusal_at x s (Deliver n 0))
-      (quiet_step s trace (with_whole s.params x n s.ways))
-  event_step inputs (says.Back k) =
-      unless s trace (Back k) (refusal_at x s (Back k)) (quiet_step s trace s.ways)
-  event_step inputs says.Play = unless s trace Play (refusal_at x s Play) play_step
+  abbrev pub party_event_step : (Role → List ℕ) → Line → Step DuplexState
+  party_event_step inputs says.Nothing = quiet_party_step s trace s.ways
+  party_event_step inputs says.Send =
+      unless_refused s trace Send (party_refusal x s Send) (party_capture_step (inputs video))
+  party_event_step inputs (says.Packet n j) =
+      unless_refused s trace (Deliver n j) (party_refusal x s (Deliver n j))
+      (quiet_party_step s trace (with_delivery (sides s.params) x n j s.ways))
+  party_event_step inputs (says.All n) =
+      unless_refused s trace (Deliver n 0) (party_refusal x s (Deliver n 0))
+      (quiet_party_step s trace (with_whole s.params x n s.ways))
+  party_event_step inputs (says.Back k) =
+      unless_refused s trace (Back k) (party_refusal x s (Back k)) (quiet_party_step s trace s.ways)
+  party_event_step inputs says.Play = unless_refused s trace Play (party_refusal x s Play) play_step
 
 -- what a party's line says is done
 abbrev pub party_step : Party → DuplexState → (Role → List ℕ) → Line → Step DuplexState
 party_step x s inputs event =
-    event_step (video_of x) (pictures_of x) (refused_video x) x s (inputs Events) inputs event
+    party_event_step (video_of x) (pictures_role x) (refused_party_video x) x s (inputs Events) inputs event
 
 -- a line is bad, or empty, or says an event of a party
-abbrev pub line_step : DuplexState → (Role → List ℕ) → Option (Option (Party × Line))
+abbrev pub lettered_step : DuplexState → (Role → List ℕ) → Option (Option (Party × Line))
     → Step DuplexState
-line_step s inputs None = Ends (bad_line (BadLine (s.lines + 1)))
-line_step s inputs (Some None) = quiet_step s (inputs Events) s.ways
-line_step s inputs (Some (Some said)) = party_step said.0 s inputs said.1
+lettered_step s inputs None = Ends (bad_line (BadLine (s.lines + 1)))
+lettered_step s inputs (Some None) = quiet_party_step s (inputs Events) s.ways
+lettered_step s inputs (Some (Some said)) = party_step said.0 s inputs said.1
 
 -- a trace has 16,777,216 lines at most
-abbrev pub trace_step : DuplexState → (Role → List ℕ) → List ℕ → Step DuplexState
-trace_step s inputs [] = Ends (all_played s)
-trace_step s inputs (b ∷ trace) =
+abbrev pub duplex_trace_step : DuplexState → (Role → List ℕ) → List ℕ → Step DuplexState
+duplex_trace_step s inputs [] = Ends (both_played s)
+duplex_trace_step s inputs (b ∷ trace) =
     if nat_lt s.lines 16777216
-    then line_step s inputs (party_event (first_line (b ∷ trace)))
+    then lettered_step s inputs (party_event (first_line (b ∷ trace)))
     else Ends (bad_line (TooMany (s.lines + 1)))
 
 -- ---- a turn
 
 abbrev pub duplex_step : DuplexState → (Role → List ℕ) → Step DuplexState
-duplex_step s inputs = trace_step s inputs (inputs Events)
+duplex_step s inputs = duplex_trace_step s inputs (inputs Events)
 
 -- it may still read: the last line had its newline
-abbrev pub may_read : DuplexState → Bool
-may_read s = not s.ended
+abbrev pub talk_may_read : DuplexState → Bool
+talk_may_read s = not s.ended
 
 -- how many turns there may be at most
 abbrev pub most_turns : ℕ
 most_turns = 16777216
 
 -- before the first line, where the videos' first frames are at these bytes
-abbrev pub first_state : (Party → Params) → ℕ → ℕ → DuplexState
-first_state params at_a at_b =
+abbrev pub duplex_at_start : (Party → Params) → ℕ → ℕ → DuplexState
+duplex_at_start params at_a at_b =
     record {
       params = params;
       ways = no_runs;

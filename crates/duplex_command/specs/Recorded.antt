@@ -28,17 +28,17 @@ use Rattle.receiver_end.specs.Answers.{mark_of}
 use Rattle.desk_program.specs.Run.{Run, text_of}
 use Rattle.one_way.specs.Seen.{reference_in}
 use Rattle.call_command.specs.Recorded.{ShowsWhatArrived, read_out, shown_text, told}
-use Rattle.call_command.specs.Refused.{fault_of}
+use Rattle.call_command.specs.Refused.{fault_told}
 use Rattle.duplex_call.specs.declared.line.Party.{Party}
 use Rattle.duplex_call.specs.Duplex.{AllMayHappenOf, MayHappenOf, Lettered, WayRuns, other, way, ways_after}
 use Rattle.duplex_call.specs.Lines.{party_event}
 use Rattle.duplex_call.specs.Refused.{refusal_of}
 use Rattle.duplex_ends.specs.Ways.{call_in, sides}
-use Rattle.duplex_command.specs.Duplex.{both_counts, letter_of, pictures_of, refused_video, video_of}
+use Rattle.duplex_command.specs.Duplex.{both_counts, letter_of, pictures_role, refused_party_video, video_of}
 
 -- the pictures of each party's video, as they are captured
-abbrev pub film : (Party → Params) → (Role → List ℕ) → Party → List Picture
-film p inputs x = map (λ planes. picture_of (p x).format planes) (video_frames (inputs (video_of x)))
+abbrev pub party_film : (Party → Params) → (Role → List ℕ) → Party → List Picture
+party_film p inputs x = map (λ planes. picture_of (p x).format planes) (video_frames (inputs (video_of x)))
 
 -- the first fault of each party's video, if it has one
 abbrev pub faults : (Role → List ℕ) → Party → Option Y4mFault
@@ -46,9 +46,9 @@ faults inputs x = video_fault (inputs (video_of x))
 
 -- how a refused capture of a party is told: where no frame is left for it, since the next one of its
 -- video is refused, by the fault of that video, and else by the number of its line
-abbrev pub capture_told : Party → Option Y4mFault → ℕ → Refusal → Status
-capture_told x (Some fault) number NoFrame = refused_video x fault
-capture_told x broken number r = TraceRefused (fault_of number Send r)
+abbrev pub party_capture_told : Party → Option Y4mFault → ℕ → Refusal → Status
+party_capture_told x (Some fault) number NoFrame = refused_party_video x fault
+party_capture_told x broken number r = TraceRefused (fault_told number Send r)
 
 -- ---- a trace
 
@@ -93,8 +93,8 @@ module _ (p : Party → Params) (captures : Party → List Picture) where
   abbrev pub ways_of : List Lettered → WayRuns Frame
   ways_of past = ways_after (sides p) captures past
 
-  abbrev pub call_after : Party → List Lettered → Call Style Mb Picture
-  call_after x past = call_in p x (ways_of past)
+  abbrev pub party_call_after : Party → List Lettered → Call Style Mb Picture
+  party_call_after x past = call_in p x (ways_of past)
 
   -- ---- events
 
@@ -102,9 +102,9 @@ module _ (p : Party → Params) (captures : Party → List Picture) where
   with_event x e past = record { party = x; event = e } ∷ past
 
   -- the packets of the party's picture n at the places below this one are delivered, in their order
-  abbrev pub with_packets : Party → ℕ → ℕ → List Lettered → List Lettered
-  with_packets x n zero past = past
-  with_packets x n (suc j) past = with_event x (Deliver n j) (with_packets x n j past)
+  abbrev pub with_party_packets : Party → ℕ → ℕ → List Lettered → List Lettered
+  with_party_packets x n zero past = past
+  with_party_packets x n (suc j) past = with_event x (Deliver n j) (with_party_packets x n j past)
 
   -- the events after those of a party's line, the newest first. Its messages travel in the packets of
   -- the other party, so none comes back by itself.
@@ -112,19 +112,19 @@ module _ (p : Party → Params) (captures : Party → List Picture) where
   with_party past x says.Nothing = past
   with_party past x says.Send = with_event x Send past
   with_party past x (says.Packet n j) = with_event x (Deliver n j) past
-  with_party past x (says.All n) = with_packets x n (length (slices_at (call_after x past).coded n)) past
+  with_party past x (says.All n) = with_party_packets x n (length (slices_at (party_call_after x past).coded n)) past
   with_party past x (says.Back k) = past
   with_party past x says.Play = with_event x Play past
 
   -- after those of a line
-  abbrev pub with_line : List Lettered → LineEvent → List Lettered
-  with_line past None = past
-  with_line past (Some said) = with_party past said.0 said.1
+  abbrev pub with_lettered : List Lettered → LineEvent → List Lettered
+  with_lettered past None = past
+  with_lettered past (Some said) = with_party past said.0 said.1
 
   -- after those of these lines
-  abbrev pub with_lines : List Lettered → List LineEvent → List Lettered
-  with_lines past [] = past
-  with_lines past (line ∷ lines) = with_lines (with_line past line) lines
+  abbrev pub with_all_lettered : List Lettered → List LineEvent → List Lettered
+  with_all_lettered past [] = past
+  with_all_lettered past (line ∷ lines) = with_all_lettered (with_lettered past line) lines
 
   -- the event of a party's line is in place and near; of one that delivers all packets of a picture the
   -- first is, even where the picture has none
@@ -136,14 +136,14 @@ module _ (p : Party → Params) (captures : Party → List Picture) where
   PartyMayHappen past x (says.Back k) = MayHappenOf (sides p) (length (captures x)) x (Back k) (ways_of past)
   PartyMayHappen past x says.Play = MayHappenOf (sides p) (length (captures x)) x Play (ways_of past)
 
-  abbrev pub LineMayHappen : List Lettered → LineEvent → Type 0
-  LineMayHappen past None = Unit {0}
-  LineMayHappen past (Some said) = PartyMayHappen past said.0 said.1
+  abbrev pub LetteredMayHappen : List Lettered → LineEvent → Type 0
+  LetteredMayHappen past None = Unit {0}
+  LetteredMayHappen past (Some said) = PartyMayHappen past said.0 said.1
 
   -- each of these lines' events is, after those of the lines before it
-  abbrev pub LinesMayHappen : List Lettered → List LineEvent → Type 0
-  LinesMayHappen past [] = Unit {0}
-  LinesMayHappen past (line ∷ lines) = LineMayHappen past line × LinesMayHappen (with_line past line) lines
+  abbrev pub AllLetteredMayHappen : List Lettered → List LineEvent → Type 0
+  AllLetteredMayHappen past [] = Unit {0}
+  AllLetteredMayHappen past (line ∷ lines) = LetteredMayHappen past line × AllLetteredMayHappen (with_lettered past line) lines
 
   -- ---- a run
 
@@ -153,7 +153,7 @@ module _ (p : Party → Params) (captures : Party → List Picture) where
   told_line x (Deliver n j) past = []
   told_line x (Back k) past = []
   told_line x Play past =
-      newest_line x (call_after x (with_event x Play past)).coded (call_after x (with_event x Play past)).plays
+      newest_line x (party_call_after x (with_event x Play past)).coded (party_call_after x (with_event x Play past)).plays
 
   -- the lines of all plays of both parties, in the order in which they were played
   abbrev pub told_lines : List Lettered → Text
@@ -167,7 +167,7 @@ module _ (p : Party → Params) (captures : Party → List Picture) where
   pub record AreCallsOver (past : List Lettered) (run : Run) : Type 0 where
     pub near : AllMayHappenOf (sides p) captures past
     pub pictures : (x : Party)
-        → text_of run (pictures_of x) ≡ head_text (p x).format ++ shown_text (call_after x past).plays
+        → text_of run (pictures_role x) ≡ head_text (p x).format ++ shown_text (party_call_after x past).plays
     pub report : text_of run Report ≡ told_lines past ++ told run.last.status (both_counts p (ways_of past) Report)
     pub arrived : (x : Party)
         → ShowsWhatArrived (p x) (way x (ways_of past)).frames (way x (ways_of past)).past
@@ -175,49 +175,49 @@ module _ (p : Party → Params) (captures : Party → List Picture) where
   -- ---- its end
 
   -- the party's event has this refusal, and is told with it and its line's number
-  abbrev pub IsRefusal : ℕ → List Lettered → Party → Event → Status → Type 0
-  IsRefusal number past x e status =
+  abbrev pub IsPartyRefusal : ℕ → List Lettered → Party → Event → Status → Type 0
+  IsPartyRefusal number past x e status =
       (r : Refusal) × (refusal_of (sides p) (length (captures x)) x e (ways_of past) ≡ Some r)
-      × (status ≡ TraceRefused (fault_of number e r))
+      × (status ≡ TraceRefused (fault_told number e r))
 
   -- the party's capture has this refusal, where its video has this fault or none
-  abbrev pub IsRefusedCapture : Option Y4mFault → ℕ → List Lettered → Party → Status → Type 0
-  IsRefusedCapture broken number past x status =
+  abbrev pub IsRefusedPartyCapture : Option Y4mFault → ℕ → List Lettered → Party → Status → Type 0
+  IsRefusedPartyCapture broken number past x status =
       (r : Refusal) × (refusal_of (sides p) (length (captures x)) x Send (ways_of past) ≡ Some r)
-      × (status ≡ capture_told x broken number r)
+      × (status ≡ party_capture_told x broken number r)
 
   -- a party's line is refused for its event; one that delivers all packets of a picture for the first
-  abbrev pub IsRefusedLine : (Party → Option Y4mFault) → ℕ → List Lettered → Party → Line → Status → Type 0
-  IsRefusedLine broken number past x says.Nothing status = ⊥
-  IsRefusedLine broken number past x says.Send status = IsRefusedCapture (broken x) number past x status
-  IsRefusedLine broken number past x (says.Packet n j) status = IsRefusal number past x (Deliver n j) status
-  IsRefusedLine broken number past x (says.All n) status = IsRefusal number past x (Deliver n 0) status
-  IsRefusedLine broken number past x (says.Back k) status = IsRefusal number past x (Back k) status
-  IsRefusedLine broken number past x says.Play status = IsRefusal number past x Play status
+  abbrev pub IsRefusedPartyLine : (Party → Option Y4mFault) → ℕ → List Lettered → Party → Line → Status → Type 0
+  IsRefusedPartyLine broken number past x says.Nothing status = ⊥
+  IsRefusedPartyLine broken number past x says.Send status = IsRefusedPartyCapture (broken x) number past x status
+  IsRefusedPartyLine broken number past x (says.Packet n j) status = IsPartyRefusal number past x (Deliver n j) status
+  IsRefusedPartyLine broken number past x (says.All n) status = IsPartyRefusal number past x (Deliver n 0) status
+  IsRefusedPartyLine broken number past x (says.Back k) status = IsPartyRefusal number past x (Back k) status
+  IsRefusedPartyLine broken number past x says.Play status = IsPartyRefusal number past x Play status
 
   -- where the next line, which has this number, says an event of a party, that is refused; where there
   -- is none, the trace is read out, up to its first fault
-  abbrev pub IsEnd : (Party → Option Y4mFault) → Option TraceFault → ℕ → List Lettered → List LineEvent
+  abbrev pub AreCallsEnded : (Party → Option Y4mFault) → Option TraceFault → ℕ → List Lettered → List LineEvent
       → Status → Type 0
-  IsEnd broken fault number past [] status = status ≡ read_out fault
-  IsEnd broken fault number past (None ∷ lines) status = ⊥
-  IsEnd broken fault number past (Some said ∷ lines) status = IsRefusedLine broken number past said.0 said.1 status
+  AreCallsEnded broken fault number past [] status = status ≡ read_out fault
+  AreCallsEnded broken fault number past (None ∷ lines) status = ⊥
+  AreCallsEnded broken fault number past (Some said ∷ lines) status = IsRefusedPartyLine broken number past said.0 said.1 status
 
 -- The lines that it accepts are the first ones of the trace, one in each turn but the first, which
 -- reads both heads, and each of them says what may happen there. Over their events the run is the two
 -- ideal calls of the pictures of both videos, and it ends because of the line after them. Where it
 -- refuses a video, that turn takes nothing of the other one.
-pub record FollowsItsTrace (p : Party → Params) (inputs : Role → List ℕ) (run : Run) : Type 0 where
+pub record BothFollowTheirTrace (p : Party → Params) (inputs : Role → List ℕ) (run : Run) : Type 0 where
   pub lines : List LineEvent
   pub refused : List LineEvent
   pub read : line_events 16777216 (inputs Events) ≡ lines ++ refused
   pub taken : length run.turns ≡ length lines + 1
-  pub may : LinesMayHappen p (film p inputs) [] lines
-  pub are_calls : AreCallsOver p (film p inputs) (with_lines p (film p inputs) [] lines) run
-  pub end : IsEnd p (film p inputs) (faults inputs) (fault_in 16777216 1 (inputs Events)) (length lines + 1)
-      (with_lines p (film p inputs) [] lines) refused run.last.status
+  pub may : AllLetteredMayHappen p (party_film p inputs) [] lines
+  pub are_calls : AreCallsOver p (party_film p inputs) (with_all_lettered p (party_film p inputs) [] lines) run
+  pub end : AreCallsEnded p (party_film p inputs) (faults inputs) (fault_in 16777216 1 (inputs Events)) (length lines + 1)
+      (with_all_lettered p (party_film p inputs) [] lines) refused run.last.status
   pub others : (x : Party) (fault : Y4mFault)
-      → run.last.status ≡ refused_video x fault → run.last.taken (video_of (other x)) ≡ Some 0
+      → run.last.status ≡ refused_party_video x fault → run.last.taken (video_of (other x)) ≡ Some 0
 
 -- a run that ends before its first turn, with this status: nothing is written, and so much is taken of
 -- the video that isn't refused

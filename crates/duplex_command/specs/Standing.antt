@@ -11,20 +11,20 @@ use Rattle.duplex_ends.specs.Pair.{AreInCall, HoldsPair}
 use Rattle.y4m.specs.Place.{Y4mPlace}
 use Rattle.duplex_command.specs.declared.station.Station.{Station}
 use Rattle.duplex_command.specs.declared.talk.Talk.{Talk}
-use Rattle.duplex_command.specs.Duplex.{DuplexState, VideoPlace, place_of}
+use Rattle.duplex_command.specs.Duplex.{DuplexState, VideoPlace, video_place_of}
 
 -- ---- the state
 
-abbrev pub place_in : Y4mPlace → VideoPlace
-place_in video = record { at = video.at; more = video.more }
+abbrev pub place_in_video : Y4mPlace → VideoPlace
+place_in_video video = record { at = video.at; more = video.more }
 
 -- A party, the other one and the trace stand at a state, where this much of the trace is left: the
 -- places of both videos are those of the state, and the ends have done what its ways have met.
 -- After a last line without a newline the trace is at its end.
 pub record StationsStand (x : Party) (own far : Station) (trace : TracePlace) (s : DuplexState)
     (rest : List ℕ) : Type 0 where
-  pub own_place : place_of x s ≡ place_in own.video
-  pub far_place : place_of (other x) s ≡ place_in far.video
+  pub own_place : video_place_of x s ≡ place_in_video own.video
+  pub far_place : video_place_of (other x) s ≡ place_in_video far.video
   pub lines : s.lines ≡ trace.lines
   pub ended : s.ended ≡ trace.ended
   pub over : trace.ended ≡ true → rest ≡ []
@@ -34,8 +34,8 @@ abbrev pub TalkStands : Talk → DuplexState → (Role → List ℕ) → Type 0
 TalkStands m s inputs = StationsStand A m.a m.b m.trace s (inputs Events)
 
 -- how many lines may still come
-abbrev pub more_of : Talk → ℕ
-more_of m = 16777216 - m.trace.lines
+abbrev pub talk_lines_left : Talk → ℕ
+talk_lines_left m = 16777216 - m.trace.lines
 
 -- ---- what it is ready for
 

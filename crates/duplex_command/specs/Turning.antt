@@ -23,8 +23,8 @@ use Rattle.duplex_command.specs.declared.event.TraceLine.{TraceLine}
 use Rattle.duplex_command.specs.declared.show.Row.{Row}
 use Rattle.duplex_command.specs.declared.station.Station.{Station}
 use Rattle.duplex_command.specs.declared.talk.Talk.{Talk}
-use Rattle.duplex_command.specs.Duplex.{DuplexState, after_line, capture_step, duplex_step, event_step, letter_of, may_read, party_step, refusal_at}
-use Rattle.duplex_command.specs.Standing.{StationsReady, StationsStand, TalkReady, TalkStands, more_of}
+use Rattle.duplex_command.specs.Duplex.{DuplexState, after_party_line, party_capture_step, duplex_step, party_event_step, letter_of, talk_may_read, party_step, party_refusal}
+use Rattle.duplex_command.specs.Standing.{StationsReady, StationsStand, TalkReady, TalkStands, talk_lines_left}
 
 -- what is left of the trace after its first line
 abbrev pub after_first : (Role → List ℕ) → List ℕ
@@ -32,9 +32,9 @@ after_first inputs = left_after inputs (of Events (line_size (inputs Events))) E
 
 -- A line was read, which has this number: the stations stood at the state before it, the reader of
 -- the trace has passed it, and nothing else was done since the desk was the old one.
-pub record IsRead (x : Party) (own far : Station) (line : ℕ) (trace : TracePlace)
+pub record IsPartyRead (x : Party) (own far : Station) (line : ℕ) (trace : TracePlace)
     (now old : Outside) (s : DuplexState) (inputs : Role → List ℕ) : Type 0 where
-  pub stood : StationsStand x own far trace (after_line s (inputs Events)) (after_first inputs)
+  pub stood : StationsStand x own far trace (after_party_line s (inputs Events)) (after_first inputs)
   pub number : line ≡ s.lines + 1
   pub taken : HasTaken inputs old now
 
@@ -49,7 +49,7 @@ pub record IsPartyTurn (x : Party) (own far : Station) (result : Result Bool Sta
       → Begins trace old s inputs
       → TurnGives result (step s inputs)
       (λ next rest. StationsStand x own far trace next (rest Events))
-      may_read true inputs old new
+      talk_may_read true inputs old new
   pub goes_on : OnEnd result ⊥
   pub ready : OnGoing result (StationsReady own far room)
   pub stop : IfErr result IsStop
@@ -62,36 +62,36 @@ abbrev pub TakesEvent : (video pictures : Role) (refuses : Y4mFault → Status)
     → Type 0
 TakesEvent video pictures refuses own far own_new far_new said result mid new room =
     IsPartyTurn said.party own_new far_new result mid new room
-    (λ trace. IsRead said.party own far said.line trace mid)
-    (λ s inputs. event_step video pictures refuses said.party s (inputs Events) inputs said.event)
+    (λ trace. IsPartyRead said.party own far said.line trace mid)
+    (λ s inputs. party_event_step video pictures refuses said.party s (inputs Events) inputs said.event)
 
 -- the line says an event of either party, on the desk of both: a is the first one
-abbrev pub TakesLine : Station → Station → Station → Station → TraceLine → Result Bool Status
+abbrev pub TakesPartyLine : Station → Station → Station → Station → TraceLine → Result Bool Status
     → Outside → Outside → ℕ → Type 0
-TakesLine a b a_new b_new said result mid new room =
+TakesPartyLine a b a_new b_new said result mid new room =
     IsPartyTurn A a_new b_new result mid new room
-    (λ trace. IsRead A a b said.line trace mid)
+    (λ trace. IsPartyRead A a b said.line trace mid)
     (λ s inputs. party_step said.party s inputs said.event)
 
 -- ---- a frame
 
 -- the frame is asked for that may be captured
-pub record IsAsked (x : Party) (own far : Station) (line : ℕ) (trace : TracePlace)
+pub record IsPartyAsked (x : Party) (own far : Station) (line : ℕ) (trace : TracePlace)
     (now old : Outside) (s : DuplexState) (inputs : Role → List ℕ) : Type 0 where
-  pub read : IsRead x own far line trace now old s inputs
-  pub none : refusal_at x s Send ≡ None
+  pub read : IsPartyRead x own far line trace now old s inputs
+  pub none : party_refusal x s Send ≡ None
 
 -- a frame may be captured at some point of the call of both parties
 pub record MayCapture (own far : Station) (room : ℕ) : Type 0 where
   pub stations : StationsReady own far room
   pub may : MayHappenNow own.ends far.ends Send
 
-abbrev pub TakesFrame : Party → Station → Station → Station → ℕ → Result Bool Status
+abbrev pub TakesPartyFrame : Party → Station → Station → Station → ℕ → Result Bool Status
     → Outside → Outside → ℕ → Type 0
-TakesFrame x own far own_new line result mid new room =
+TakesPartyFrame x own far own_new line result mid new room =
     IsPartyTurn x own_new far result mid new room
-    (λ trace. IsAsked x own far line trace mid)
-    (λ s inputs. capture_step Video Pictures VideoRefused x s (inputs Events) (inputs Video))
+    (λ trace. IsPartyAsked x own far line trace mid)
+    (λ s inputs. party_capture_step Video Pictures VideoRefused x s (inputs Events) (inputs Video))
 
 -- ---- texts
 
@@ -104,13 +104,13 @@ row_texts row picture =
 
 -- ---- a whole turn
 
-pub record TakesTurn (x y : Talk) (result : Result Bool Status) (old new : Outside) : Type 0 where
+pub record TalkTakesTurn (x y : Talk) (result : Result Bool Status) (old new : Outside) : Type 0 where
   pub gives : (s : DuplexState) (inputs : Role → List ℕ) → TalkStands x s inputs → Tells old inputs
-      → TurnGives result (duplex_step s inputs) (TalkStands y) may_read (may_read s) inputs old new
+      → TurnGives result (duplex_step s inputs) (TalkStands y) talk_may_read (talk_may_read s) inputs old new
   -- at the end the trace is read out
   pub whole : (s : DuplexState) (inputs : Role → List ℕ) → TalkStands x s inputs → Tells old inputs
       → OnEnd result (new.left Events ≡ Some [])
-  pub falls : Falls result (more_of x) (more_of y)
+  pub falls : Falls result (talk_lines_left x) (talk_lines_left y)
   pub ready : OnGoing result (TalkReady y new.attached)
   pub stop : IfErr result IsStop
   pub cause : HasCause (turn_status result) old.faults new.faults

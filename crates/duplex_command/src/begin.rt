@@ -63,7 +63,7 @@ pub struct Duplex;
 impl Begins for Duplex {
     ghost use Rattle.std.specs.Prelude.{Some};
     ghost use Rattle.h263_outside.specs.declared.desk.Role.TheVariants.{Events};
-    ghost use Rattle.duplex_command.specs.Begin.{MayBegin, duplex_run};
+    ghost use Rattle.duplex_command.specs.Begin.{DuplexMayBegin, duplex_run};
 
     type Setup = Params;
 
@@ -71,7 +71,7 @@ impl Begins for Duplex {
 
     ghost run = { duplex_run };
 
-    ghost opens = { MayBegin };
+    ghost opens = { DuplexMayBegin };
 
     ghost source = { λ _. Some Events };
 

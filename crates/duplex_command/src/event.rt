@@ -5,7 +5,7 @@ ghost use Rattle.h263_types.specs.Sizes.{size_of_picture};
 ghost use Rattle.duplex_ends.specs.Pair.{IsInCall};
 ghost use Rattle.duplex_command.specs.declared.station.Station.{Station};
 ghost use Rattle.duplex_command.specs.Standing.{DuplexOpens, PartyOpens, StationsReady};
-ghost use Rattle.duplex_command.specs.Turning.{MayCapture, TakesEvent, TakesFrame, TakesLine};
+ghost use Rattle.duplex_command.specs.Turning.{MayCapture, TakesEvent, TakesPartyFrame, TakesPartyLine};
 
 use crate::show::play_next;
 use crate::{Station, laws, second_result};
@@ -40,7 +40,7 @@ fn send_frame<D: Desk>(
     requires size { length planes.old ≡ size_of_picture own.old.ends.params.format }
     requires held { IsInCall own.old.ends }
     ensures { (far : Station) (room : ℕ) → MayCapture own.old far room
-        → TakesFrame said.party own.old far own.new said.line result
+        → TakesPartyFrame said.party own.old far own.new said.line result
         (D.outside desk.old) (D.outside desk.new) room }
 {
     laws::turning();
@@ -126,7 +126,7 @@ pub fn event_turn<D: Desk>(
 ) -> Result<bool, Status>
     requires opens { DuplexOpens (D.outside desk.old).attached }
     requires ready { StationsReady a.old b.old (length frame.old) }
-    ensures { TakesLine a.old b.old a.new b.new said result
+    ensures { TakesPartyLine a.old b.old a.new b.new said result
         (D.outside desk.old) (D.outside desk.new) (length frame.old) }
 {
     duplex_ends_laws::pair_laws();

@@ -10,7 +10,7 @@ ghost use Rattle.y4m.specs.Video.{most_frames};
 ghost use Rattle.call_report.specs.Status.{phase};
 ghost use Rattle.desk_program.specs.Ends.{Gains, GainsFronts, GivesUp, HasCause, IsStop, Tells, start_status};
 ghost use Rattle.desk_program.specs.Texts.{on};
-ghost use Rattle.duplex_command.specs.Begin.{HaveHeads, duplex_begin, heads_text};
+ghost use Rattle.duplex_command.specs.Begin.{HaveHeads, duplex_begin, both_heads};
 
 use call_report::Status;
 use desk_program::{laws as desk_program_laws, put_head};
@@ -92,9 +92,9 @@ fn put_second_head<D: Desk>(desk: &mut D, format: Format) -> Result<(), Status>
 pub fn write_heads<D: Desk>(desk: &mut D, a: Format, b: Format) -> Result<(), Status>
     requires pictures { (D.outside desk.old).attached Pictures ≡ true }
     requires pictures2 { (D.outside desk.old).attached Pictures2 ≡ true }
-    ensures ok { OnOk result (Gains (heads_text a b)
+    ensures ok { OnOk result (Gains (both_heads a b)
         (D.outside desk.old).written (D.outside desk.new).written) }
-    ensures err { OnErr result (GainsFronts (heads_text a b)
+    ensures err { OnErr result (GainsFronts (both_heads a b)
         (D.outside desk.old).written (D.outside desk.new).written) }
     ensures kind { IfErr result (λ status. status ≡ Status.WriteFault) }
     ensures cause { OnErr result

@@ -19,7 +19,7 @@ ghost use Rattle.duplex_call.specs.FourStores.{Follows};
 ghost use Rattle.duplex_call.specs.Refused.{NoneWhereItMayHappenOf};
 ghost use Rattle.duplex_ends.specs.Ways.{sides};
 ghost use Rattle.duplex_command.specs.Begin.{duplex_run, in_formats};
-ghost use Rattle.duplex_command.specs.Recorded.{FollowsItsTrace, IsRefusedAtOnce};
+ghost use Rattle.duplex_command.specs.Recorded.{BothFollowTheirTrace, IsRefusedAtOnce};
 ghost use Rattle.h263_types.specs.declared.format.Format.{Format};
 ghost use Rattle.h263_planes.specs.Picture.{Picture};
 ghost use Rattle.h263_types.specs.declared.params.Params.{Params};
@@ -53,7 +53,7 @@ use y4m::laws::frame_by_frame;
 pub fn both_follow_their_trace()
     ensures trace { (p : Params) (inputs : Role → List ℕ) (f g : Format)
         → head_of (inputs Video) ≡ Ok f → head_of (inputs Video2) ≡ Ok g
-        → FollowsItsTrace (in_formats p f g) inputs (duplex_run p inputs) }
+        → BothFollowTheirTrace (in_formats p f g) inputs (duplex_run p inputs) }
     ensures no_first_head { (p : Params) (inputs : Role → List ℕ) (fault : Y4mFault)
         → head_of (inputs Video) ≡ Err fault
         → IsRefusedAtOnce (VideoRefused fault) Video2 0 (duplex_run p inputs) }

@@ -32,7 +32,7 @@ fn line_in(bytes: &[u8], size: u32) -> Result<Option<(Party, Event)>, BadLine>
 
 impl Talk {
     ghost use Rattle.duplex_command.specs.Standing.{TalkReady};
-    ghost use Rattle.duplex_command.specs.Turning.{TakesTurn};
+    ghost use Rattle.duplex_command.specs.Turning.{TalkTakesTurn};
 
     /// Gives back what the ends hold.
     pub fn finish(self) {
@@ -49,7 +49,7 @@ impl Talk {
     // The next line is done, or refused. False at the end of the trace.
     fn line_turn<D: Desk>(&mut self, desk: &mut D) -> Result<bool, Status>
         requires { TalkReady self.old (D.outside desk.old).attached }
-        ensures { TakesTurn self.old self.new result (D.outside desk.old) (D.outside desk.new) }
+        ensures { TalkTakesTurn self.old self.new result (D.outside desk.old) (D.outside desk.new) }
     {
         laws::turning();
         let mut bytes = [0; 64];
@@ -73,18 +73,18 @@ impl Talk {
 impl Turns for Talk {
     ghost use Rattle.std.specs.Prelude.{Some};
     ghost use Rattle.h263_outside.specs.declared.desk.Role.TheVariants.{Events};
-    ghost use Rattle.duplex_command.specs.Duplex.{DuplexState, duplex_step, may_read};
-    ghost use Rattle.duplex_command.specs.Standing.{TalkReady, TalkStands, more_of};
+    ghost use Rattle.duplex_command.specs.Duplex.{DuplexState, duplex_step, talk_may_read};
+    ghost use Rattle.duplex_command.specs.Standing.{TalkReady, TalkStands, talk_lines_left};
 
     ghost State = { DuplexState };
 
     ghost step = { duplex_step };
 
-    ghost reads = { may_read };
+    ghost reads = { talk_may_read };
 
     ghost stands = { TalkStands };
 
-    ghost more = { more_of };
+    ghost more = { talk_lines_left };
 
     ghost ready = { TalkReady };
 

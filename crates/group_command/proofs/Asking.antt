@@ -10,7 +10,7 @@ use Rattle.call_report.specs.declared.status.Status.TheVariants.{TraceRefused}
 use Rattle.call_model.specs.IdealCall.{Event, Send}
 use Rattle.call_model.specs.Refusals.{Refusal}
 use Rattle.call_command.specs.Laws.{LineLaws}
-use Rattle.call_command.specs.Refused.{IsNotRefused, IsRefusedWith, fault_at, fault_of}
+use Rattle.call_command.specs.Refused.{IsNotRefused, IsRefusedWith, fault_on_line, fault_told}
 use Rattle.desk_program.specs.Ends.{Ended, TurnGives}
 use Rattle.desk_program.specs.Laws.{StepLaws}
 use Rattle.desk_program.specs.Run.{Step}
@@ -21,29 +21,29 @@ use Rattle.group_call.specs.Holding.{HoldsBroadcast}
 use Rattle.group_call.specs.Viewing.{ViewerRun}
 use Rattle.group_command.specs.declared.line.GroupLine.TheVariants.{ForAll}
 use Rattle.group_command.specs.declared.room.Room.{Room}
-use Rattle.group_command.specs.Group.{GroupState, capture_step, first_behind, line_step, may_read, unless}
+use Rattle.group_command.specs.Group.{GroupState, group_capture_step, first_behind, group_line_step, room_may_read, unless_refused}
 use Rattle.group_command.specs.Standing.{AllWatch, RoomStandsAt, viewers_in}
-use Rattle.group_command.specs.Turning.{IsRead, TakesFrame, TakesLine}
+use Rattle.group_command.specs.Turning.{IsGroupRead, TakesGroupFrame, TakesGroupLine}
 use Rattle.group_command.proofs.Doing.{none_so}
 use Rattle.group_command.proofs.LineTurning.{line_refused}
 use Rattle.group_command.proofs.LineTurns.{gave_up}
 
 -- a refusal of an event that a line says ends it
 pub event_refused : (m : Room) (line : ℕ) (now old : Outside) (s : GroupState) (inputs : Role → List ℕ)
-    → IsRead m line now old s inputs → LineLaws
+    → IsGroupRead m line now old s inputs → LineLaws
     → (told : Told) (e : Event) (refusal : Option Refusal) (step : Step GroupState)
     → IsAllowed (Err told) e refusal
-    → Ended (unless s (inputs Events) e refusal step) (TraceRefused (fault_at line told)) inputs old now
+    → Ended (unless_refused s (inputs Events) e refusal step) (TraceRefused (fault_on_line line told)) inputs old now
 event_refused m line now old s inputs b laws told e refusal step refused =
     let told_so = refused.2 in
-    line_refused s inputs old now b.taken laws (TraceRefused (fault_at line told)) (fault_of (s.lines + 1) e refused.0)
+    line_refused s inputs old now b.taken laws (TraceRefused (fault_on_line line told)) (fault_told (s.lines + 1) e refused.0)
     _
-    (λ i. TraceRefused (fault_at (b.number i) (told_so i)))
-    (ap (λ (o : Option Refusal). unless s (inputs Events) e o step) refused.1)
+    (λ i. TraceRefused (fault_on_line (b.number i) (told_so i)))
+    (ap (λ (o : Option Refusal). unless_refused s (inputs Events) e o step) refused.1)
 
 module _ (m : Room) (line : ℕ) (now : Outside) where
   -- what is said of a capture, where the machine stands
-  pub all_allowed : (old : Outside) (s : GroupState) (inputs : Role → List ℕ) → IsRead m line now old s inputs
+  pub all_allowed : (old : Outside) (s : GroupState) (inputs : Role → List ℕ) → IsGroupRead m line now old s inputs
       → (half : ℕ) (checked : Result Unit Told) → half ≡ half_of m.params.clock
       → ((p : Params) (run : Groups) (views : List ViewerRun) → half ≡ half_of p.clock → HoldsBroadcast p m.cast run
       → AllWatch p run (viewers_in m.viewers) views → IsAllowed checked Send (first_behind p run views))
@@ -53,29 +53,29 @@ module _ (m : Room) (line : ℕ) (now : Outside) where
 
   pub capture_refused : LineLaws → StepLaws → (r : Result Bool Status) (status : Status) (checked : Result Unit Told)
       → IsErrAnd r (λ z. z ≡ status) → IsRefusedWith line checked status
-      → ((old : Outside) (s : GroupState) (inputs : Role → List ℕ) → IsRead m line now old s inputs
+      → ((old : Outside) (s : GroupState) (inputs : Role → List ℕ) → IsGroupRead m line now old s inputs
       → IsAllowed checked Send (first_behind s.params s.run s.views))
-      → TakesLine m m line ForAll r now now
+      → TakesGroupLine m m line ForAll r now now
   capture_refused laws steps r status (Ok u) is refused says = absurd refused
   capture_refused laws steps r status (Err told) is refused says =
-      gave_up m now now (IsRead m line now) (λ s inputs. line_step s inputs (Some ForAll)) r
-      (TraceRefused (fault_at line told)) (subst (λ (w : Status). IsErrAnd r (λ z. z ≡ w)) refused is) tt tt
+      gave_up m now now (IsGroupRead m line now) (λ s inputs. group_line_step s inputs (Some ForAll)) r
+      (TraceRefused (fault_on_line line told)) (subst (λ (w : Status). IsErrAnd r (λ z. z ≡ w)) refused is) tt tt
       (steps.none now)
       (λ old s inputs b. event_refused m line now old s inputs b laws told Send (first_behind s.params s.run s.views)
-      (capture_step s (inputs Events) (inputs Video)) (says old s inputs b))
+      (group_capture_step s (inputs Events) (inputs Video)) (says old s inputs b))
 
   pub frame_asked : (m_new : Room) (r : Result Bool Status) (new : Outside) (checked : Result Unit Told)
-      → IsNotRefused checked → TakesFrame m m_new line r now new
-      → ((old : Outside) (s : GroupState) (inputs : Role → List ℕ) → IsRead m line now old s inputs
+      → IsNotRefused checked → TakesGroupFrame m m_new line r now new
+      → ((old : Outside) (s : GroupState) (inputs : Role → List ℕ) → IsGroupRead m line now old s inputs
       → IsAllowed checked Send (first_behind s.params s.run s.views))
-      → TakesLine m m_new line ForAll r now new
+      → TakesGroupLine m m_new line ForAll r now new
   frame_asked m_new r new checked free t says = record {
     gives = λ old s inputs b.
         let none : first_behind s.params s.run s.views
         ≡ None = none_so checked Send (first_behind s.params s.run s.views) free (says old s inputs b) in
-        subst (λ (step : Step GroupState). TurnGives r step (RoomStandsAt m_new) may_read true inputs old new)
-        (sym (ap (λ (o : Option Refusal). unless s (inputs Events) Send o
-        (capture_step s (inputs Events) (inputs Video))) none))
+        subst (λ (step : Step GroupState). TurnGives r step (RoomStandsAt m_new) room_may_read true inputs old new)
+        (sym (ap (λ (o : Option Refusal). unless_refused s (inputs Events) Send o
+        (group_capture_step s (inputs Events) (inputs Video))) none))
         (t.gives old s inputs (record { read = b; none = none }));
     goes_on = t.goes_on;
     ready = t.ready;

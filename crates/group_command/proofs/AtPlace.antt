@@ -15,14 +15,14 @@ use Rattle.group_call.specs.Viewing.{ViewerRun}
 use Rattle.group_command.specs.declared.event.OwnLine.{OwnLine}
 use Rattle.group_command.specs.Group.{event_of, run_after, texts_after, view_after, view_in}
 use Rattle.group_command.specs.Standing.{AllWatch, Watches, and_then}
-use Rattle.group_command.specs.Turning.{EventGives, OwnGives}
+use Rattle.group_command.specs.Turning.{OwnEventGives, OwnGives}
 use Rattle.group_command.proofs.Doing.{own_codes}
 use Rattle.group_command.proofs.Telling.{InOrder}
 use Rattle.group_command.proofs.Watching.{watch_set}
 
 event_so : (r : Result Unit Status) (line : ℕ) (e : Event) (refusal : Option Refusal) (P Q : Type 0) (texts : Role
     → List ℕ) (old new : Role → Option (List ℕ)) → (P → Q)
-    → EventGives r line e refusal P texts old new → EventGives r line e refusal Q texts old new
+    → OwnEventGives r line e refusal P texts old new → OwnEventGives r line e refusal Q texts old new
 event_so (Ok u) line e refusal P Q texts old new so gives = (gives.0, so gives.1, gives.2)
 event_so (Err status) line e refusal P Q texts old new so gives = gives
 

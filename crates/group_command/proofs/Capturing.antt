@@ -21,7 +21,7 @@ use Rattle.desk_program.specs.Laws.{TurnLaws}
 use Rattle.call_command.specs.Call.{line_size, refused_line}
 use Rattle.call_command.specs.Laws.{LineLaws, VideoLaws}
 use Rattle.call_command.specs.Standing.{HasTaken}
-use Rattle.group_command.specs.Group.{GroupState, after_line, capture_step, captured_step, may_read, with_frame}
+use Rattle.group_command.specs.Group.{GroupState, after_group_line, group_capture_step, group_captured_step, room_may_read, with_group_frame}
 use Rattle.group_command.proofs.LineTurning.{double_not}
 
 -- ---- a part of a frame holds no turn
@@ -46,10 +46,10 @@ module _ (s : GroupState) where
   format = s.params.format
 
   abbrev step_at : List ℕ → List ℕ → Step GroupState
-  step_at trace video = capture_step s trace video
+  step_at trace video = group_capture_step s trace video
 
   abbrev captured : List ℕ → ℕ → Result (List ℕ) Y4mFault → Step GroupState
-  captured trace size r = captured_step s trace size r
+  captured trace size r = group_captured_step s trace size r
 
   frame_part : LineLaws → VideoLaws → (trace video : List ℕ) (n : ℕ) (r : Result (List ℕ) Y4mFault)
       → next_frame s.more format s.at video ≡ r
@@ -158,10 +158,10 @@ module _ (s : GroupState) where
       size = frame_size format (inputs Video)
 
       pub frame_sent : (stands : GroupState → (Role → List ℕ) → Type 0)
-          → stands (after_line (with_frame s size out) trace) (left_after inputs (some_of trace size))
-          → Went step stands may_read true inputs before mid
+          → stands (after_group_line (with_group_frame s size out) trace) (left_after inputs (some_of trace size))
+          → Went step stands room_may_read true inputs before mid
       frame_sent stands kept = record {
-        next = after_line (with_frame s size out) trace;
+        next = after_group_line (with_group_frame s size out) trace;
         turn = record { taken = some_of trace size; whole = is_closed trace; texts = no_texts };
         could = refl;
         is = video_next trace (inputs Video) (Ok out) e.0 e.1;

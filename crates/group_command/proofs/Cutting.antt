@@ -19,7 +19,7 @@ use Rattle.group_call.specs.Refused.{view_refusal}
 use Rattle.group_command.specs.declared.line.GroupLine.{GroupLine}
 use Rattle.group_command.specs.declared.line.GroupLine.TheVariants.{Quiet, ForAll, Of}
 use Rattle.group_command.specs.Lines.{group_line}
-use Rattle.group_command.specs.Group.{GroupState, capture_step, captured_step, event_of, first_behind, line_step, trace_step, unless, view_in}
+use Rattle.group_command.specs.Group.{GroupState, group_capture_step, group_captured_step, event_of, first_behind, group_line_step, group_trace_step, unless_refused, view_in}
 
 abbrev IsLineTurn : List ℕ → Step GroupState → Type 0
 IsLineTurn trace step = CoversLine trace (step_turns step)
@@ -32,21 +32,21 @@ more_size n m = omega arith
 
 module _ (s : GroupState) (trace : List ℕ) where
   turn_unless : (e : Event) (o : Option Refusal) (step : Step GroupState) → IsLineTurn trace step
-      → IsLineTurn trace (unless s trace e o step)
+      → IsLineTurn trace (unless_refused s trace e o step)
   turn_unless e None step is = is
   turn_unless e (Some r) step is = tt
 
-  turn_captured : (size : ℕ) (r : Result (List ℕ) Y4mFault) → IsLineTurn trace (captured_step s trace size r)
+  turn_captured : (size : ℕ) (r : Result (List ℕ) Y4mFault) → IsLineTurn trace (group_captured_step s trace size r)
   turn_captured size (Ok planes) = (refl, more_size (line_size trace) (of Video size Events))
   turn_captured size (Err fault) = tt
 
-  turn_capture : (rest : List ℕ) → IsLineTurn trace (capture_step s trace rest)
+  turn_capture : (rest : List ℕ) → IsLineTurn trace (group_capture_step s trace rest)
   turn_capture [] = tt
   turn_capture (b ∷ rest) = turn_captured (frame_size s.params.format (b ∷ rest))
       (next_frame s.more s.params.format s.at (b ∷ rest))
 
 module _ (s : GroupState) (inputs : Role → List ℕ) where
-  turn_line : (o : Option GroupLine) → IsLineTurn (inputs Events) (line_step s inputs o)
+  turn_line : (o : Option GroupLine) → IsLineTurn (inputs Events) (group_line_step s inputs o)
   turn_line None = tt
   turn_line (Some Quiet) = (refl, same_size (line_size (inputs Events)))
   turn_line (Some ForAll) = turn_unless s (inputs Events) Send (first_behind s.params s.run s.views) _
@@ -58,16 +58,16 @@ module _ (s : GroupState) (inputs : Role → List ℕ) where
       )
 
   turn_choice : (b : Bool) (o : Option GroupLine)
-      → IsLineTurn (inputs Events) (if b then line_step s inputs o else Ends (bad_line (TooMany (s.lines + 1))))
+      → IsLineTurn (inputs Events) (if b then group_line_step s inputs o else Ends (bad_line (TooMany (s.lines + 1))))
   turn_choice true o = turn_line o
   turn_choice false o = tt
 
-  turn_trace : (trace : List ℕ) → trace ≡ inputs Events → IsLineTurn (inputs Events) (trace_step s inputs trace)
+  turn_trace : (trace : List ℕ) → trace ≡ inputs Events → IsLineTurn (inputs Events) (group_trace_step s inputs trace)
   turn_trace [] is = tt
   turn_trace (b ∷ trace) is = turn_choice (nat_lt s.lines 16777216)
       (group_line (length s.views) (first_line (b ∷ trace)))
 
 pub trace_part : LineLaws → (s : GroupState) (inputs : Role → List ℕ) (k : ℕ) → NoNewline (take k (inputs Events))
-    → IsPart (step_turns (trace_step s inputs (inputs Events))) (of Events k)
-trace_part laws s inputs k free = laws.line_part (inputs Events) k (step_turns (trace_step s inputs (inputs Events)))
+    → IsPart (step_turns (group_trace_step s inputs (inputs Events))) (of Events k)
+trace_part laws s inputs k free = laws.line_part (inputs Events) k (step_turns (group_trace_step s inputs (inputs Events)))
     free (turn_trace s inputs (inputs Events) refl)

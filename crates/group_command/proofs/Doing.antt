@@ -17,7 +17,7 @@ use Rattle.call_model.specs.JoinedRun.{SaidMessage}
 use Rattle.call_model.specs.Refusals.{Refusal, NotSent, Far, PlayBeforeSend, NoFrame, first_refusal}
 use Rattle.call_decoding.specs.Rules.{rules_of}
 use Rattle.call_rings.specs.Messages.{kept_messages}
-use Rattle.call_command.specs.Refused.{IsNotRefused, IsRefusedWith, fault_at}
+use Rattle.call_command.specs.Refused.{IsNotRefused, IsRefusedWith, fault_on_line}
 use Rattle.desk_program.specs.Ends.{Gains, GainsFronts}
 use Rattle.receiver_end.specs.State.{run_of}
 use Rattle.one_way.specs.declared.refusals.EventRefusal.{EventRefusal as Told}
@@ -29,8 +29,8 @@ use Rattle.group_call.specs.Refused.{view_refusal}
 use Rattle.group_call.specs.Viewing.{ViewerRun, told_at, view_delivery, view_packet, view_places}
 use Rattle.group_command.specs.declared.line.OwnEvent.{OwnEvent}
 use Rattle.group_command.specs.declared.line.OwnEvent.TheVariants as own
-use Rattle.group_command.specs.Group.{event_of, heard, run_after, texts_after, view_after}
-use Rattle.group_command.specs.Turning.{EventGives, KeepsCast}
+use Rattle.group_command.specs.Group.{event_of, group_heard, run_after, texts_after, view_after}
+use Rattle.group_command.specs.Turning.{OwnEventGives, KeepsCast}
 
 -- ---- by what it answers
 
@@ -49,15 +49,15 @@ module _ (line : ℕ) (e : Event) (refusal : Option Refusal) (after : Type 0) (t
     → Option (List ℕ)) where
   pub refused_gives : (r : Result Unit Status) (status : Status) (checked : Result Unit Told)
       → IsErrAnd r (λ z. z ≡ status) → IsRefusedWith line checked status → IsAllowed checked e refusal → new ≡ old
-      → EventGives r line e refusal after texts old new
+      → OwnEventGives r line e refusal after texts old new
   refused_gives (Ok u) status checked is told allowed same = absurd is
   refused_gives (Err z) status (Ok u) is told allowed same = absurd told
   refused_gives (Err z) status (Err t) is told allowed same =
-      inl (allowed.0, allowed.1, is ∙ told ∙ ap (λ (q : Told). TraceRefused (fault_at line q)) allowed.2, same)
+      inl (allowed.0, allowed.1, is ∙ told ∙ ap (λ (q : Told). TraceRefused (fault_on_line line q)) allowed.2, same)
 
   pub written_gives : (r : Result Unit Status) → refusal ≡ None → after → OnOk r (Gains texts old new)
       → OnErr r (GainsFronts texts old new) → IfErr r (λ status. status ≡ WriteFault)
-      → EventGives r line e refusal after texts old new
+      → OwnEventGives r line e refusal after texts old new
   written_gives (Ok u) none done gains fronts kind = (none, done, gains)
   written_gives (Err z) none done gains fronts kind = inr (none, kind, fronts)
 
@@ -151,7 +151,7 @@ places_play p packets n (suc j) view = delivery_plays p packets n j (view_places
 
 -- no picture is coded by what a receiver does or says
 heard_codes : (p : Params) (k : ℕ) (run : Groups) (view : ViewerRun) (o : Option SaidMessage)
-    → (heard p k run view o).coded ≡ run.coded
+    → (group_heard p k run view o).coded ≡ run.coded
 heard_codes p k run view None = refl
 heard_codes p k run view (Some told) = refl
 
@@ -178,7 +178,7 @@ module _ (r : Result Unit Status) (line k : ℕ) (p : Params) (run : Groups) (vi
     → ViewerRun → Type 0) (cast : Broadcast) (old new : Role → Option (List ℕ)) where
   abbrev pub Gives : OwnEvent → Type 0
   Gives e =
-      EventGives r line (event_of e) (view_refusal p run view (event_of e))
+      OwnEventGives r line (event_of e) (view_refusal p run view (event_of e))
       (HoldsBroadcast p cast (run_after p k run view e) × Holds (run_after p k run view e) (view_after p k run view e))
       (texts_after p k run view e) old new
 

@@ -18,7 +18,7 @@ use Rattle.group_call.specs.Refused.{view_refusal}
 use Rattle.group_command.specs.declared.line.GroupLine.{GroupLine}
 use Rattle.group_command.specs.declared.line.GroupLine.TheVariants.{Quiet, ForAll, Of}
 use Rattle.group_command.specs.declared.terms.GroupTerms.{GroupTerms}
-use Rattle.group_command.specs.Group.{GroupState, capture_step, captured_step, event_of, first_behind, group_run, group_step, head_step, line_step, most_turns, trace_step, unless, view_in}
+use Rattle.group_command.specs.Group.{GroupState, group_capture_step, group_captured_step, event_of, first_behind, group_call_run, group_step, group_head_step, group_line_step, most_turns, group_trace_step, unless_refused, view_in}
 use Rattle.group_command.specs.Lines.{group_line}
 
 first_is : (a b : Y4mFault) → VideoRefused a ≡ VideoRefused b → a ≡ b
@@ -57,13 +57,13 @@ module _ (frame_laws : FrameLaws) (fault : Y4mFault) where
     Refuses step = (follow step rest).last.status ≡ VideoRefused fault
 
     at_end : (e : Event) (o : Option Refusal) (step : Step GroupState) → (Refuses step → IsFaulty s inputs)
-        → Refuses (unless s (inputs Events) e o step) → IsFaulty s inputs
+        → Refuses (unless_refused s (inputs Events) e o step) → IsFaulty s inputs
     at_end e None step goes ends = goes ends
     at_end e (Some refusal) step goes ends = absurd (cc ends)
 
     at_captured : (b : ℕ) (v : List ℕ) → inputs Video ≡ b ∷ v → (r : Result (List ℕ) Y4mFault)
         → next_frame s.more s.params.format s.at (b ∷ v) ≡ r
-        → Refuses (captured_step s (inputs Events) (frame_size s.params.format (b ∷ v)) r) → IsFaulty s inputs
+        → Refuses (group_captured_step s (inputs Events) (frame_size s.params.format (b ∷ v)) r) → IsFaulty s inputs
     at_captured b v same (Ok planes) is ends =
         subst (λ (l : List ℕ). fault_of s.params.format s.more s.at l ≡ Some fault) (sym same)
         (after_it s.params.format s.more s.at b v planes (inputs Video) same is (later _ _ ends))
@@ -71,12 +71,12 @@ module _ (frame_laws : FrameLaws) (fault : Y4mFault) where
         subst (λ (l : List ℕ). fault_of s.params.format s.more s.at l ≡ Some fault) (sym same)
         (at_fault s.params.format s.more s.at b v broken is (first_is broken fault ends))
 
-    at_capture : (video : List ℕ) → inputs Video ≡ video → Refuses (capture_step s (inputs Events) video)
+    at_capture : (video : List ℕ) → inputs Video ≡ video → Refuses (group_capture_step s (inputs Events) video)
         → IsFaulty s inputs
     at_capture [] same ends = absurd (cc ends)
     at_capture (b ∷ v) same ends = at_captured b v same (next_frame s.more s.params.format s.at (b ∷ v)) refl ends
 
-    at_line : (o : Option GroupLine) → Refuses (line_step s inputs o) → IsFaulty s inputs
+    at_line : (o : Option GroupLine) → Refuses (group_line_step s inputs o) → IsFaulty s inputs
     at_line None ends = absurd (cc ends)
     at_line (Some Quiet) ends = later _ _ ends
     at_line (Some ForAll) ends = at_end Send (first_behind s.params s.run s.views) _ (at_capture (inputs Video) refl)
@@ -84,11 +84,11 @@ module _ (frame_laws : FrameLaws) (fault : Y4mFault) where
     at_line (Some (Of k e)) ends = at_end (event_of e) (view_refusal s.params s.run (view_in s.views k) (event_of e)) _
         (λ goes. later _ _ goes) ends
 
-    at_trace : (trace : List ℕ) → Refuses (trace_step s inputs trace) → IsFaulty s inputs
+    at_trace : (trace : List ℕ) → Refuses (group_trace_step s inputs trace) → IsFaulty s inputs
     at_trace [] ends = absurd (cc ends)
     at_trace (b ∷ trace) ends = within (nat_lt s.lines 16777216) refl ends
       where
-        within : (t : Bool) → nat_lt s.lines 16777216 ≡ t → Refuses (trace_step s inputs (b ∷ trace))
+        within : (t : Bool) → nat_lt s.lines 16777216 ≡ t → Refuses (group_trace_step s inputs (b ∷ trace))
             → IsFaulty s inputs
         within true is ends = at_line (group_line (length s.views) (first_line (b ∷ trace))) (rw is at ends)
         within false is ends = absurd (cc (rw is at ends))
@@ -102,13 +102,13 @@ module _ (frame_laws : FrameLaws) (fault : Y4mFault) where
       at_trace s inputs (λ next taken. run_of group_step n next (left_after inputs taken))
       (λ next taken is. run_refused n next (left_after inputs taken) is) (inputs Events) ends
 
-  pub video_refused : (t : GroupTerms) (inputs : Role → List ℕ) → (group_run t inputs).last.status ≡ VideoRefused fault
+  pub video_refused : (t : GroupTerms) (inputs : Role → List ℕ) → (group_call_run t inputs).last.status ≡ VideoRefused fault
       → video_fault (inputs Video) ≡ Some fault
   unfolding video_fault
   video_refused t inputs ends = by_head (head_of (inputs Video)) ends
     where
       by_head : (r : Result Format Y4mFault)
-          → (follow (head_step t (inputs Video) r) (λ next taken. run_of group_step most_turns next
+          → (follow (group_head_step t (inputs Video) r) (λ next taken. run_of group_step most_turns next
           (left_after inputs taken))).last.status ≡ VideoRefused fault
           → fault_after_head r (head_size (inputs Video)) (drop (head_size (inputs Video)) (inputs Video)) ≡ Some fault
       by_head (Err broken) ends = ap (λ (x : Y4mFault). Some x) (first_is broken fault ends)
@@ -121,20 +121,20 @@ module _ (fault : Y4mFault) where
     Second step = (follow step rest).last.status ≡ Video2Refused fault
 
     second_unless : (e : Event) (o : Option Refusal) (step : Step GroupState) → (Second step → ⊥)
-        → Second (unless s (inputs Events) e o step) → ⊥
+        → Second (unless_refused s (inputs Events) e o step) → ⊥
     second_unless e None step goes ends = goes ends
     second_unless e (Some refusal) step goes ends = absurd (cc ends)
 
-    second_captured : (size : ℕ) (r : Result (List ℕ) Y4mFault) → Second (captured_step s (inputs Events) size r) → ⊥
+    second_captured : (size : ℕ) (r : Result (List ℕ) Y4mFault) → Second (group_captured_step s (inputs Events) size r) → ⊥
     second_captured size (Ok planes) ends = more _ _ ends
     second_captured size (Err broken) ends = absurd (cc ends)
 
-    second_capture : (video : List ℕ) → Second (capture_step s (inputs Events) video) → ⊥
+    second_capture : (video : List ℕ) → Second (group_capture_step s (inputs Events) video) → ⊥
     second_capture [] ends = absurd (cc ends)
     second_capture (b ∷ v) ends = second_captured (frame_size s.params.format (b ∷ v))
         (next_frame s.more s.params.format s.at (b ∷ v)) ends
 
-    second_line : (o : Option GroupLine) → Second (line_step s inputs o) → ⊥
+    second_line : (o : Option GroupLine) → Second (group_line_step s inputs o) → ⊥
     second_line None ends = absurd (cc ends)
     second_line (Some Quiet) ends = more _ _ ends
     second_line (Some ForAll) ends = second_unless Send (first_behind s.params s.run s.views) _
@@ -142,11 +142,11 @@ module _ (fault : Y4mFault) where
     second_line (Some (Of k e)) ends = second_unless (event_of e) (view_refusal s.params s.run (view_in s.views k)
         (event_of e)) _ (λ goes. more _ _ goes) ends
 
-    second_trace : (trace : List ℕ) → Second (trace_step s inputs trace) → ⊥
+    second_trace : (trace : List ℕ) → Second (group_trace_step s inputs trace) → ⊥
     second_trace [] ends = absurd (cc ends)
     second_trace (b ∷ trace) ends = within (nat_lt s.lines 16777216) refl ends
       where
-        within : (t : Bool) → nat_lt s.lines 16777216 ≡ t → Second (trace_step s inputs (b ∷ trace)) → ⊥
+        within : (t : Bool) → nat_lt s.lines 16777216 ≡ t → Second (group_trace_step s inputs (b ∷ trace)) → ⊥
         within true is ends = second_line (group_line (length s.views) (first_line (b ∷ trace))) (rw is at ends)
         within false is ends = absurd (cc (rw is at ends))
 
@@ -159,11 +159,11 @@ module _ (fault : Y4mFault) where
       second_trace s inputs (λ next taken. run_of group_step n next (left_after inputs taken))
       (λ next taken is. run_has_one n next (left_after inputs taken) is) (inputs Events) ends
 
-  pub no_second : (t : GroupTerms) (inputs : Role → List ℕ) → (group_run t inputs).last.status ≡ Video2Refused fault → ⊥
+  pub no_second : (t : GroupTerms) (inputs : Role → List ℕ) → (group_call_run t inputs).last.status ≡ Video2Refused fault → ⊥
   no_second t inputs ends = by_head (head_of (inputs Video)) ends
     where
       by_head : (r : Result Format Y4mFault)
-          → (follow (head_step t (inputs Video) r) (λ next taken. run_of group_step most_turns next
+          → (follow (group_head_step t (inputs Video) r) (λ next taken. run_of group_step most_turns next
           (left_after inputs taken))).last.status ≡ Video2Refused fault → ⊥
       by_head (Ok f) ends = run_has_one most_turns _ _ ends
       by_head (Err broken) ends = absurd (cc ends)

@@ -28,8 +28,8 @@ use Rattle.desk_program.specs.Run.{Run, left_after, follow, run_of, taken_of, te
 use Rattle.desk_program.specs.Texts.{of}
 use Rattle.group_call.specs.Viewing.{no_view}
 use Rattle.group_command.specs.declared.terms.GroupTerms.{GroupTerms}
-use Rattle.group_command.specs.Group.{GroupState, first_state, group_run, group_step, head_step, heads_text, pictures_at, view_in}
-use Rattle.group_command.specs.Recorded.{FollowsItsTrace, Happening, IsEnd, ShowsWhatReached, call_with, events_at, group_at, lines_fault, group_lines, one_by_one, with_all_said}
+use Rattle.group_command.specs.Group.{GroupState, group_at_start, group_call_run, group_step, group_head_step, viewers_heads, pictures_at, view_in}
+use Rattle.group_command.specs.Recorded.{GroupFollowsItsTrace, Happening, IsGroupEnd, ShowsWhatReached, call_with, events_at, group_at, lines_fault, group_lines, one_by_one, with_all_said}
 use Rattle.group_command.proofs.Arriving.{exact_is, shows_is}
 use Rattle.group_command.proofs.Lives as life
 use Rattle.group_command.proofs.Lived.{all_start}
@@ -66,7 +66,7 @@ sends_all coded c few = elim (slice_get_cases coded (length c.coded)).1 [
   | inr far ↦ absurd (omega (arith, few, far.0))
 ]
 
-heads_first : (f : Format) (count k : ℕ) → count ≤ 3 → k < count → heads_text f count (pictures_at k) ≡ head_text f
+heads_first : (f : Format) (count k : ℕ) → count ≤ 3 → k < count → viewers_heads f count (pictures_at k) ≡ head_text f
 heads_first f zero k most few = absurd (omega (arith, few))
 heads_first f (suc zero) zero most few = refl
 heads_first f (suc zero) (suc k) most few = absurd (omega (arith, few))
@@ -79,7 +79,7 @@ heads_first f (suc (suc (suc zero))) (suc (suc zero)) most few = refl
 heads_first f (suc (suc (suc zero))) (suc (suc (suc k))) most few = absurd (omega (arith, few))
 heads_first f (suc (suc (suc (suc n)))) k most few = absurd (omega (arith, most))
 
-heads_unreported : (f : Format) (count : ℕ) → heads_text f count Report ≡ []
+heads_unreported : (f : Format) (count : ℕ) → viewers_heads f count Report ≡ []
 heads_unreported f zero = refl
 heads_unreported f (suc zero) = refl
 heads_unreported f (suc (suc zero)) = refl
@@ -107,7 +107,7 @@ module _ (t : GroupTerms) (f : Format) (inputs : Role → List ℕ) where
     size = head_size (inputs Video)
 
     abbrev run : Run
-    run = rest (first_state p count size) (of Video size)
+    run = rest (group_at_start p count size) (of Video size)
 
     none_before : (n : ℕ) → 0 + n ≡ n
     none_before n = omega arith
@@ -134,9 +134,9 @@ module _ (t : GroupTerms) (f : Format) (inputs : Role → List ℕ) where
     abbrev coded : List (Coded Style Mb Picture)
     coded = (group_at p count frames past).coded
 
-    end_is : IsEnd p count frames broken (lines_fault count 16777216 1 (inputs Events)) (length comes.lines + 1) past
+    end_is : IsGroupEnd p count frames broken (lines_fault count 16777216 1 (inputs Events)) (length comes.lines + 1) past
         comes.refused run.last.status
-    end_is = subst (λ (m : ℕ). IsEnd p count frames broken (lines_fault count 16777216 1 (inputs Events)) m past
+    end_is = subst (λ (m : ℕ). IsGroupEnd p count frames broken (lines_fault count 16777216 1 (inputs Events)) m past
         comes.refused run.last.status) (one_more (length comes.lines)) comes.end
 
     lives : (k : ℕ) → k < count → life.Lives p laws.groups.views k (group_at p count frames past) (events_at k past)
@@ -159,10 +159,10 @@ module _ (t : GroupTerms) (f : Format) (inputs : Role → List ℕ) where
               ∙ ap (λ (l : List (Coded Style Mb Picture)). picture_at l n) (lives k below).own;
         }
 
-    pub follows : FollowsItsTrace p count inputs (group_run t inputs)
+    pub follows : GroupFollowsItsTrace p count inputs (group_call_run t inputs)
     follows =
-        subst (λ (r : Result Format Y4mFault). FollowsItsTrace p count inputs
-        (follow (head_step t (inputs Video) r) rest)) (sym head)
+        subst (λ (r : Result Format Y4mFault). GroupFollowsItsTrace p count inputs
+        (follow (group_head_step t (inputs Video) r) rest)) (sym head)
         (record {
           lines = comes.lines;
           refused = comes.refused;
@@ -179,10 +179,10 @@ module _ (t : GroupTerms) (f : Format) (inputs : Role → List ℕ) where
             same = λ k below. (lives k below).own;
             references = comes.live.refer;
             pictures = λ k below.
-                append_assoc (heads_text f count (pictures_at k)) (texts_of run.turns (pictures_at k))
+                append_assoc (viewers_heads f count (pictures_at k)) (texts_of run.turns (pictures_at k))
                 (run.last.texts (pictures_at k))
                 ∙ (λ i. heads_first f count k few below i ++ sym (comes.pictures k below) i);
-            report = append_assoc (heads_text f count Report) (texts_of run.turns Report) (run.last.texts Report)
+            report = append_assoc (viewers_heads f count Report) (texts_of run.turns Report) (run.last.texts Report)
                 ∙ (λ i. heads_unreported f count i ++ sym comes.report i);
             arrived = shows;
           };

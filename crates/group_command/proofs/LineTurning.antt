@@ -31,7 +31,7 @@ use Rattle.call_command.specs.Standing.{HasTaken, ReadsTrace}
 use Rattle.group_command.specs.declared.line.GroupLine.{GroupLine}
 use Rattle.group_command.specs.declared.line.GroupLine.TheVariants.{Quiet, ForAll}
 use Rattle.group_command.specs.declared.room.Room.{Room}
-use Rattle.group_command.specs.Group.{GroupState, after_line, all_played, counts_from, group_step, line_step, may_read, trace_step}
+use Rattle.group_command.specs.Group.{GroupState, after_group_line, all_viewers_played, counts_from, group_step, group_line_step, room_may_read, group_trace_step}
 use Rattle.group_command.specs.Lines.{group_line, of_one}
 use Rattle.group_command.specs.Standing.{RoomStands}
 use Rattle.group_command.proofs.Cutting.{trace_part}
@@ -138,19 +138,19 @@ module _ (read : ReadLines) where
 -- ---- which step it is
 
 abbrev chosen : Bool → GroupState → (Role → List ℕ) → Option GroupLine → Step GroupState
-chosen b s inputs o = if b then line_step s inputs o else Ends (bad_line (TooMany (s.lines + 1)))
+chosen b s inputs o = if b then group_line_step s inputs o else Ends (bad_line (TooMany (s.lines + 1)))
 
 line_is : (s : GroupState) (inputs : Role → List ℕ) (trace : List ℕ) (o : Option GroupLine) → 0 < length trace
     → s.lines < 16777216 → group_line (length s.views) (first_line trace) ≡ o
-    → trace_step s inputs trace ≡ line_step s inputs o
+    → group_trace_step s inputs trace ≡ group_line_step s inputs o
 line_is s inputs [] o some few is = absurd (omega arith)
 line_is s inputs (b ∷ trace) o some few is =
     ap (λ (t : Bool). chosen t s inputs (group_line (length s.views) (first_line (b ∷ trace))))
     (lt-ltb s.lines 16777216 few)
-    ∙ ap (line_step s inputs) is
+    ∙ ap (group_line_step s inputs) is
 
 many_is : (s : GroupState) (inputs : Role → List ℕ) (trace : List ℕ) → 0 < length trace → s.lines ≡ 16777216
-    → trace_step s inputs trace ≡ Ends (bad_line (TooMany (s.lines + 1)))
+    → group_trace_step s inputs trace ≡ Ends (bad_line (TooMany (s.lines + 1)))
 many_is s inputs [] some many = absurd (omega arith)
 many_is s inputs (b ∷ trace) some many =
     ap (λ (t : Bool). chosen t s inputs (group_line (length s.views) (first_line (b ∷ trace))))
@@ -183,12 +183,12 @@ module _ (s : GroupState) (inputs : Role → List ℕ) (before mid : Outside) (t
   -- one that is done goes on, and writes these texts
   pub line_goes : (next : GroupState) (texts : Role → List ℕ) (step : Step GroupState) (stands : GroupState
       → (Role → List ℕ) → Type 0)
-      → step ≡ Goes (after_line next trace) (line_turn trace texts)
-      → stands (after_line next trace) (left_after inputs (of Events (line_size trace)))
+      → step ≡ Goes (after_group_line next trace) (line_turn trace texts)
+      → stands (after_group_line next trace) (left_after inputs (of Events (line_size trace)))
       → (new : Outside) → new.left ≡ mid.left → Gains texts mid.written new.written
-      → Went step stands may_read true inputs before new
+      → Went step stands room_may_read true inputs before new
   line_goes next texts step stands is kept new still gains = record {
-    next = after_line next trace;
+    next = after_group_line next trace;
     turn = line_turn trace texts;
     could = refl;
     is = is;
@@ -203,7 +203,7 @@ module _ (s : GroupState) (inputs : Role → List ℕ) (before mid : Outside) (t
 -- after a line the machine stands where it was passed
 pub passed : LineLaws → (m : Room) (s : GroupState) (rest : List ℕ) (after : TracePlace) (left : Option (List ℕ))
     → RoomStands m s rest → after.lines ≡ m.trace.lines + 1 → Passes rest after left
-    → RoomStands (record m { trace = after }) (after_line s rest) (drop (line_size rest) rest)
+    → RoomStands (record m { trace = after }) (after_group_line s rest) (drop (line_size rest) rest)
 passed laws m s rest after left k lines passes = record {
   params = k.params;
   place = k.place;
@@ -223,7 +223,7 @@ pub record IsReadAt (s : GroupState) (reader : TracePlace) : Type 0 where
 module _ (laws : LineLaws) (s : GroupState) (inputs : Role
     → List ℕ) (old mid : Outside) (read : ReadsTrace inputs old mid) (reader after : TracePlace)
     (at : IsReadAt s reader) where
-  going : reader.ended ≡ false → may_read s ≡ true
+  going : reader.ended ≡ false → room_may_read s ≡ true
   going is = ap not (at.ended_is ∙ is)
 
   bad_ends : (fault : TraceFault) (step : Step GroupState) → step ≡ step_of (bad_line fault)
@@ -232,7 +232,7 @@ module _ (laws : LineLaws) (s : GroupState) (inputs : Role
 
   pub trace_stops : ReadLines → (buf : List ℕ) (stop : TraceStop)
       → BytesGive (Err stop) reader (inputs Events) buf after (mid.left Events) → Moves {A = ℕ} (Err stop) reader after
-      → GivesUp (phase (trace_stop stop)) (trace_stop stop) (group_step s inputs) (may_read s) inputs old mid
+      → GivesUp (phase (trace_stop stop)) (trace_stop stop) (group_step s inputs) (room_may_read s) inputs old mid
   trace_stops lines buf stops.Read e moves = record {
     part = of Events e.taken;
     partly = trace_part laws s inputs e.taken e.free;
@@ -258,7 +258,7 @@ module _ (laws : LineLaws) (s : GroupState) (inputs : Role
   module _ (buf : List ℕ) (found : ℕ × ℕ) (e : BytesGive (Ok (Some found)) reader (inputs Events) buf after
       (mid.left Events)) (moves : Moves (Ok (Some found)) reader after) where
     pub found_is : (o : Option GroupLine) → group_line (length s.views) (take found.1 buf) ≡ o
-        → group_step s inputs ≡ line_step s inputs o
+        → group_step s inputs ≡ group_line_step s inputs o
     found_is o said = line_is s inputs (inputs Events) o e.0.some (omega (arith, moves.1, at.lines_are))
         (ap (group_line (length s.views)) (sym e.2) ∙ said)
 
@@ -268,7 +268,7 @@ module _ (laws : LineLaws) (s : GroupState) (inputs : Role
     pub found_taken : HasTaken inputs old mid
     found_taken = laws.line inputs old mid read e.0.gone
 
-    pub found_could : may_read s ≡ true
+    pub found_could : room_may_read s ≡ true
     found_could = going moves.0
 
     -- a line that says nothing
@@ -280,11 +280,11 @@ module _ (laws : LineLaws) (s : GroupState) (inputs : Role
     -- an empty line
     pub found_empty : group_line (length s.views) (take found.1 buf) ≡ Some Quiet
         → (stands : GroupState → (Role → List ℕ) → Type 0)
-        → stands (after_line s (inputs Events)) (left_after inputs (of Events (line_size (inputs Events))))
+        → stands (after_group_line s (inputs Events)) (left_after inputs (of Events (line_size (inputs Events))))
         → Gains no_texts mid.written mid.written
-        → Went (group_step s inputs) stands may_read (may_read s) inputs old mid
+        → Went (group_step s inputs) stands room_may_read (room_may_read s) inputs old mid
     found_empty said stands kept silent =
-        subst (λ (b : Bool). Went (group_step s inputs) stands may_read b inputs old mid) (sym found_could)
+        subst (λ (b : Bool). Went (group_step s inputs) stands room_may_read b inputs old mid) (sym found_could)
         (line_goes s inputs old mid found_taken s no_texts _ stands (found_is (Some Quiet) said) kept mid refl silent)
 
   -- the end of the trace
@@ -293,8 +293,8 @@ module _ (laws : LineLaws) (s : GroupState) (inputs : Role
     out : IsPlayedOut inputs old mid new
     out = laws.over reader inputs old mid new read e over still
 
-    end_is : group_step s inputs ≡ step_of (all_played s)
-    end_is = ap (trace_step s inputs) out.nothing
+    end_is : group_step s inputs ≡ step_of (all_viewers_played s)
+    end_is = ap (group_trace_step s inputs) out.nothing
 
     pub read_out : new.left Events ≡ Some []
     read_out = out.told Events refl ∙ ap (λ (l : List ℕ). Some l) out.nothing
@@ -302,7 +302,7 @@ module _ (laws : LineLaws) (s : GroupState) (inputs : Role
     pub trace_ends : Gains (counts_from s.params s.run 0 s.views) mid.written new.written
         → Ended (group_step s inputs) Fine inputs old new
     trace_ends gains = record {
-      last = all_played s;
+      last = all_viewers_played s;
       is = end_is;
       by = out.ends (counts_from s.params s.run 0 s.views) gains;
     }

@@ -8,7 +8,7 @@ use Rattle.call_report.specs.Status.{phase}
 use Rattle.desk_program.specs.Run.{Step}
 use Rattle.desk_program.specs.Ends.{GainsFronts, GivesUp, HasCause, IsStop, KeepsRoles, Went, step_texts}
 use Rattle.group_command.specs.declared.room.Room.{Room}
-use Rattle.group_command.specs.Group.{GroupState, may_read}
+use Rattle.group_command.specs.Group.{GroupState, room_may_read}
 use Rattle.group_command.specs.Standing.{RoomReady, RoomStandsAt}
 use Rattle.group_command.specs.Turning.{IsLineTurn}
 
@@ -51,7 +51,7 @@ module _ (m : Room) (mid new : Outside) (Begins : Outside → GroupState → (Ro
   -- one that goes on
   pub went_on : RoomReady m new.attached → KeepsRoles mid new
       → ((old : Outside) (s : GroupState) (inputs : Role → List ℕ) → Begins old s inputs
-      → Went (step s inputs) (RoomStandsAt m) may_read true inputs old new)
+      → Went (step s inputs) (RoomStandsAt m) room_may_read true inputs old new)
       → IsLineTurn m (Ok true) mid new Begins step
   went_on ready rest gives = record {
     gives = gives;

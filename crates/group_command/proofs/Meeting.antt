@@ -31,7 +31,7 @@ use Rattle.one_way.specs.Seen.{reference_in}
 use Rattle.group_sender.specs.Holding.{Groups, group_after_saying}
 use Rattle.group_call.specs.Refused.{unless_left, view_refusal}
 use Rattle.group_call.specs.Viewing.{ViewerRun, packets_in}
-use Rattle.group_command.specs.Group.{counts_of_view, heard, pictures_at, played_texts, shown_texts}
+use Rattle.group_command.specs.Group.{counts_of_view, group_heard, pictures_at, played_texts, shown_texts}
 use Rattle.group_command.specs.Recorded.{after_note, call_with, counts_line, if_own, next_shown}
 use Rattle.group_command.proofs.Lives as life
 use Rattle.group_command.proofs.Lives.{Lives, ViewLaws}
@@ -182,7 +182,7 @@ module _ (p : Params) (laws : ViewLaws p) (k : ℕ) (run : Groups) (events : Lis
 
   -- ---- what comes back, what is told and what is counted
 
-  pub heard_is : (m : ℕ) → heard p k run view (slice_get view.told m) ≡ after_note p k (slice_get c.said m) run
+  pub heard_is : (m : ℕ) → group_heard p k run view (slice_get view.told m) ≡ after_note p k (slice_get c.said m) run
   heard_is m =
       ap (λ (t : List SaidMessage). option_map_or (λ (told : SaidMessage). group_after_saying p k told.bytes run)
       (slice_get t m) run) told_is

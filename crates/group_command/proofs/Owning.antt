@@ -14,7 +14,7 @@ use Rattle.call_report.specs.Status.{phase}
 use Rattle.call_model.specs.IdealCall.{Event}
 use Rattle.call_model.specs.Refusals.{Refusal}
 use Rattle.call_command.specs.Laws.{LineLaws}
-use Rattle.call_command.specs.Refused.{fault_of}
+use Rattle.call_command.specs.Refused.{fault_told}
 use Rattle.call_command.specs.Standing.{HasTaken}
 use Rattle.desk_program.specs.Ends.{GainsFronts, GivesUp, Went, step_texts}
 use Rattle.desk_program.specs.Run.{Step}
@@ -26,9 +26,9 @@ use Rattle.group_call.specs.Viewing.{ViewerRun}
 use Rattle.group_command.specs.declared.event.OwnLine.{OwnLine}
 use Rattle.group_command.specs.declared.room.Room.{Room}
 use Rattle.group_command.specs.declared.viewers.Viewers.{Viewers}
-use Rattle.group_command.specs.Group.{GroupState, event_of, may_read, own_step, quiet_step, texts_after, unless, view_in, with_own}
+use Rattle.group_command.specs.Group.{GroupState, event_of, room_may_read, own_step, quiet_group_step, texts_after, unless_refused, view_in, with_own_event}
 use Rattle.group_command.specs.Standing.{AllWatch, AreViewing, GroupOpens, RoomReady, RoomStandsAt, and_then, viewers_in}
-use Rattle.group_command.specs.Turning.{HasLine, IsRead, KeepsCast, MayTake, OwnGives}
+use Rattle.group_command.specs.Turning.{HasLine, IsGroupRead, KeepsCast, MayTake, OwnGives}
 use Rattle.group_command.proofs.LineTurning.{line_goes, line_refused}
 
 few_half : (clock : Clock) → half_of clock ≤ 512
@@ -73,7 +73,7 @@ ready_own m cast viewers line old new r has same keeps count viewing = record {
 }
 
 module _ (m : Room) (said : OwnLine) (mid old new : Outside) (s : GroupState) (inputs : Role
-    → List ℕ) (b : IsRead m said.line mid old s inputs) (laws : LineLaws) (only : OnlyWrites mid new) where
+    → List ℕ) (b : IsGroupRead m said.line mid old s inputs) (laws : LineLaws) (only : OnlyWrites mid new) where
   abbrev trace : List ℕ
   trace = inputs Events
 
@@ -107,31 +107,31 @@ module _ (m : Room) (said : OwnLine) (mid old new : Outside) (s : GroupState) (i
   pub own_gave_up : (cast : Broadcast) (viewers : Viewers) (status : Status) → Holds cast viewers (Err status)
       → GivesUp (phase status) status step true inputs old new
   own_gave_up cast viewers status (inl (r, is, told, same)) =
-      let told_so : status ≡ TraceRefused (fault_of (s.lines + 1) e r) = told
-      ∙ ap (λ (n : ℕ). TraceRefused (fault_of n e r)) b.number in
+      let told_so : status ≡ TraceRefused (fault_told (s.lines + 1) e r) = told
+      ∙ ap (λ (n : ℕ). TraceRefused (fault_told n e r)) b.number in
       let taken : HasTaken inputs old new =
       record {
         left = λ role input. ap (λ (l : Role → Option (List ℕ)). l role) only.left ∙ b.taken.left role input;
         written = same ∙ b.taken.written;
       } in
       subst (λ (z : Status). GivesUp (phase z) z step true inputs old new) (sym told_so)
-      (line_refused s inputs old new taken laws (TraceRefused (fault_of (s.lines + 1) e r)) (fault_of (s.lines + 1) e r)
+      (line_refused s inputs old new taken laws (TraceRefused (fault_told (s.lines + 1) e r)) (fault_told (s.lines + 1) e r)
       step refl
-      (ap (λ (o : Option Refusal). unless s trace e o (quiet_step trace texts (with_own s said.place said.event))) is))
+      (ap (λ (o : Option Refusal). unless_refused s trace e o (quiet_group_step trace texts (with_own_event s said.place said.event))) is))
   own_gave_up cast viewers status (inr (none, kind, fronts)) =
       subst (λ (z : Status). GivesUp (phase z) z step true inputs old new) (sym kind)
       (subst (λ (x : Step GroupState). GainsFronts (step_texts x) old.written new.written)
-      (sym (ap (λ (o : Option Refusal). unless s trace e o
-      (quiet_step trace texts (with_own s said.place said.event))) none))
+      (sym (ap (λ (o : Option Refusal). unless_refused s trace e o
+      (quiet_group_step trace texts (with_own_event s said.place said.event))) none))
       (subst (λ (w : Role → Option (List ℕ)). GainsFronts texts w new.written) b.taken.written fronts))
 
   pub own_went : (cast : Broadcast) (viewers : Viewers) → Holds cast viewers (Ok tt)
-      → Went step (RoomStandsAt (record m { cast = cast; viewers = viewers })) may_read true inputs old new
+      → Went step (RoomStandsAt (record m { cast = cast; viewers = viewers })) room_may_read true inputs old new
   own_went cast viewers (none, done, gains) =
       let stood = b.stood in
-      line_goes s inputs old mid b.taken (with_own s said.place said.event) texts step
+      line_goes s inputs old mid b.taken (with_own_event s said.place said.event) texts step
       (RoomStandsAt (record m { cast = cast; viewers = viewers }))
-      (ap (λ (o : Option Refusal). unless s trace e o (quiet_step trace texts (with_own s said.place said.event))) none)
+      (ap (λ (o : Option Refusal). unless_refused s trace e o (quiet_group_step trace texts (with_own_event s said.place said.event))) none)
       (record {
         params = stood.params;
         place = stood.place;

@@ -33,7 +33,7 @@ use Rattle.one_way.specs.Both.{bare, steady}
 use Rattle.one_way.specs.Seen.{reference_in}
 use Rattle.call_command.specs.Call.{bad_line, line_size, line_turn}
 use Rattle.call_command.specs.Recorded.{capture_told, film, shown_text, told}
-use Rattle.call_command.specs.Refused.{fault_of}
+use Rattle.call_command.specs.Refused.{fault_told}
 use Rattle.group_sender.specs.Holding.{Groups, group_after_code}
 use Rattle.group_call.specs.One.{one_sends}
 use Rattle.group_call.specs.Refused.{view_refusal}
@@ -42,10 +42,10 @@ use Rattle.group_command.specs.declared.line.GroupLine.{GroupLine}
 use Rattle.group_command.specs.declared.line.GroupLine.TheVariants.{Quiet, ForAll, Of}
 use Rattle.group_command.specs.declared.line.OwnEvent.{OwnEvent}
 use Rattle.group_command.specs.declared.line.OwnEvent.TheVariants as own
-use Rattle.group_command.specs.Group.{GroupState, all_played, capture_step, captured_step, counts_from, event_of, first_behind, group_step, line_step, or_else, own_step, pictures_at, quiet_step, run_after, shown_texts, texts_after, trace_step, unless, view_after, view_in, with_own}
+use Rattle.group_command.specs.Group.{GroupState, all_viewers_played, group_capture_step, group_captured_step, counts_from, event_of, first_behind, group_step, group_line_step, or_refused, own_step, pictures_at, quiet_group_step, run_after, shown_texts, texts_after, group_trace_step, unless_refused, view_after, view_in, with_own_event}
 use Rattle.group_command.specs.Lines.{group_line}
 use Rattle.group_command.specs.Turning.{IsThere}
-use Rattle.group_command.specs.Recorded.{Captured, Happening, IsEnd, LineMayBe, LinesMayBe, Played, Reached, Returned, after_note, and_line, bad_line_or, call_at, call_with, counts_lines, events_at, far_from, group_at, lines_fault, group_lines, if_own, next_shown, its_refusal, play_lines, with_all_said, with_said, with_slices}
+use Rattle.group_command.specs.Recorded.{Captured, Happening, IsGroupEnd, LineMayBe, LinesMayBe, Played, Reached, Returned, after_note, and_line, bad_line_or, call_at, call_with, counts_lines, events_at, far_from, group_at, lines_fault, group_lines, if_own, next_shown, its_refusal, play_lines, with_all_said, with_said, with_slices}
 use Rattle.group_command.proofs.Lined.{line_there}
 use Rattle.group_command.proofs.Lives as life
 use Rattle.group_command.proofs.Lived.{AllLive, GroupLaws, all_captured, all_played as played_by_all, all_reached, all_returned, all_slices, group_slices}
@@ -90,7 +90,7 @@ abbrev status_with : TraceFault → Status
 status_with fault = TraceRefused fault
 
 -- two refusals of which the first one is told: there is none where neither is
-neither : (a b : Option Refusal) → or_else a b ≡ None → (a ≡ None) × (b ≡ None)
+neither : (a b : Option Refusal) → or_refused a b ≡ None → (a ≡ None) × (b ≡ None)
 neither None b is = (refl, is)
 neither (Some r) b is = absurd (cc is)
 
@@ -179,7 +179,7 @@ module _ (p : Params) (count : ℕ) (frames : List Frame) (broken : Option Y4mFa
       let first = send_is p laws.groups.views k (group past) (events_at k past) view (each 0 k (omega arith)
       (omega arith)) in
       let others = behind_is past (suc k) views (rest_of past k view views each) in
-      λ i. or_else (first i) (others i)
+      λ i. or_refused (first i) (others i)
 
   counts_is : (past : List Happening) (k : ℕ) (views : List ViewerRun) → Each past k views
       → counts_from p (group past) k views Report ≡ counts_lines p count frames (length views) k past
@@ -218,7 +218,7 @@ module _ (p : Params) (count : ℕ) (frames : List Frame) (broken : Option Y4mFa
         ++ text_of run (pictures_at k)
     pub report : rows (Withs past lines) ++ told run.last.status (counted (Withs past lines))
         ≡ rows past ++ text_of run Report
-    pub end : IsEnd p count frames broken fault (number + length lines) (Withs past lines) refused run.last.status
+    pub end : IsGroupEnd p count frames broken fault (number + length lines) (Withs past lines) refused run.last.status
     pub others : (fault : Y4mFault) → run.last.status ≡ VideoRefused fault → run.last.taken Events
         ≡ Some (line_size (drop (taken_of run.turns Events) text))
 
@@ -229,7 +229,7 @@ module _ (p : Params) (count : ℕ) (frames : List Frame) (broken : Option Y4mFa
     comes_stopped : (E : List GroupLine) (F : Option TraceFault) (m : ℕ) (text : List ℕ) (rest : GroupState → (Role
         → ℕ) → Run) (status : Status) (taken : Role → Option ℕ) → ((counts : Text) → told status counts ≡ [])
         → ((fault : Y4mFault) → status ≡ VideoRefused fault → taken Events ≡ Some (line_size text))
-        → IsEnd p count frames broken F (m + 0) past E status
+        → IsGroupEnd p count frames broken F (m + 0) past E status
         → Comes past E F m text (follow (stopped status taken) rest)
     comes_stopped E F m text rest status taken silent spares end = record {
       end = end;
@@ -248,13 +248,13 @@ module _ (p : Params) (count : ℕ) (frames : List Frame) (broken : Option Y4mFa
     -- a fault of the trace ends it
     comes_faulty : (E : List GroupLine) (F : Option TraceFault) (m : ℕ) (text : List ℕ) (rest : GroupState → (Role
         → ℕ) → Run) (fault : TraceFault) (taken : Role → Option ℕ)
-        → IsEnd p count frames broken F (m + 0) past E (status_with fault)
+        → IsGroupEnd p count frames broken F (m + 0) past E (status_with fault)
         → Comes past E F m text (follow (stopped (status_with fault) taken) rest)
     comes_faulty E F m text rest fault taken end =
         comes_stopped E F m text rest (status_with fault) taken (λ l. refl) (λ other is. absurd (cc is)) end
 
     comes_end : (m at more lines : ℕ) (ended : Bool) (text : List ℕ) (rest : GroupState → (Role → ℕ) → Run)
-        → Comes past [] None m text (follow (Ends (all_played (state (group past) views at more lines ended))) rest)
+        → Comes past [] None m text (follow (Ends (all_viewers_played (state (group past) views at more lines ended))) rest)
     comes_end m at more lines ended text rest = record {
       end = refl;
       others = λ fault is. absurd (cc is);
@@ -301,7 +301,7 @@ module _ (p : Params) (count : ℕ) (frames : List Frame) (broken : Option Y4mFa
             ∙ ap (λ (l : List ℕ). Some (line_size l)) (ap (λ (l : List ℕ). drop (taken_of run.turns Events) l)
             (sym gone) ∙ drop-drop (taken_of run.turns Events) (turn.taken Events) text);
         may = (may, comes.may);
-        end = subst (λ (j : ℕ). IsEnd p count frames broken F j (Withs now comes.lines) comes.refused run.last.status)
+        end = subst (λ (j : ℕ). IsGroupEnd p count frames broken F j (Withs now comes.lines) comes.refused run.last.status)
             (one_further m (length comes.lines)) comes.end;
         lines = line ∷ comes.lines;
         refused = comes.refused;
@@ -374,16 +374,16 @@ module _ (p : Params) (count : ℕ) (frames : List Frame) (broken : Option Y4mFa
 
       -- a refusal ends the call
       unless_comes : (line : GroupLine) (e : Event) (o : Option Refusal) (step : Step GroupState)
-          → ((r : Refusal) → o ≡ Some r → IsEnd p count frames broken F (lines + 1 + 0) past (line ∷ E)
-          (TraceRefused (fault_of (lines + 1) e r)))
-          → (o ≡ None → Takes line step) → Takes line (unless s trace e o step)
+          → ((r : Refusal) → o ≡ Some r → IsGroupEnd p count frames broken F (lines + 1 + 0) past (line ∷ E)
+          (TraceRefused (fault_told (lines + 1) e r)))
+          → (o ≡ None → Takes line step) → Takes line (unless_refused s trace e o step)
       unless_comes line e None step why takes = takes refl
       unless_comes line e (Some r) step why takes =
           comes_faulty past views all (line ∷ E) F (lines + 1) trace rest _ _ (why r refl)
 
-      numbered : (e : Event) (r : Refusal) → status_with (fault_of (lines + 1) e r)
-          ≡ status_with (fault_of (lines + 1 + 0) e r)
-      numbered e r = ap (λ (j : ℕ). status_with (fault_of j e r)) (sym (no_more (lines + 1)))
+      numbered : (e : Event) (r : Refusal) → status_with (fault_told (lines + 1) e r)
+          ≡ status_with (fault_told (lines + 1 + 0) e r)
+      numbered e r = ap (λ (j : ℕ). status_with (fault_told j e r)) (sym (no_more (lines + 1)))
 
       -- ---- the events of one receiver
 
@@ -400,7 +400,7 @@ module _ (p : Params) (count : ℕ) (frames : List Frame) (broken : Option Y4mFa
             → ((i : ℕ) → i < count → shown_text (call i past2).plays ≡ shown_text (call i past).plays
             ++ texts_after p k (group past) (view k) e (pictures_at i))
             → rows past2 ≡ rows past ++ texts_after p k (group past) (view k) e Report
-            → Takes (Of k e) (quiet_step trace (texts_after p k (group past) (view k) e)
+            → Takes (Of k e) (quiet_group_step trace (texts_after p k (group past) (view k) e)
             (record s {
               run = run_after p k (group past) (view k) e;
               views = slice_set views k
@@ -423,12 +423,12 @@ module _ (p : Params) (count : ℕ) (frames : List Frame) (broken : Option Y4mFa
         silent_pictures past2 same i below = ap shown_text (same i) ∙ sym (append-nil (shown_text (call i past).plays))
 
         told_at : (e : OwnEvent) (r : Refusal) → its_refusal p count frames k past (event_of e) ≡ Some r
-            → IsEnd p count frames broken F (lines + 1 + 0) past (Of k e ∷ E)
-            (TraceRefused (fault_of (lines + 1) (event_of e) r))
+            → IsGroupEnd p count frames broken F (lines + 1 + 0) past (Of k e ∷ E)
+            (TraceRefused (fault_told (lines + 1) (event_of e) r))
         told_at e r is = (r, is, numbered (event_of e) r)
 
         packet_goes : (n j : ℕ) → view_refusal p (group past) (view k) (Deliver n j) ≡ None
-            → Takes (Of k (own.Packet n j)) (quiet_step trace no_texts (with_own s k (own.Packet n j)))
+            → Takes (Of k (own.Packet n j)) (quiet_group_step trace no_texts (with_own_event s k (own.Packet n j)))
         packet_goes n j o =
             let may = (laws.none (length frames) c (Deliver n j)).0 (sym (packet_is p laws.groups.views k (group past)
             (events_at k past) (view k) (lives k there) (length frames) n j) ∙ o) in
@@ -451,7 +451,7 @@ module _ (p : Params) (count : ℕ) (frames : List Frame) (broken : Option Y4mFa
         slices_rows n (suc m) = slices_rows n m
 
         all_goes : (n : ℕ) → view_refusal p (group past) (view k) (Deliver n 0) ≡ None
-            → Takes (Of k (own.All n)) (quiet_step trace no_texts (with_own s k (own.All n)))
+            → Takes (Of k (own.All n)) (quiet_group_step trace no_texts (with_own_event s k (own.All n)))
         all_goes n o =
             let m = length (slices_at (group past).coded n) in
             let may = (laws.none (length frames) c (Deliver n 0)).0 (sym (packet_is p laws.groups.views k (group past)
@@ -464,7 +464,7 @@ module _ (p : Params) (count : ℕ) (frames : List Frame) (broken : Option Y4mFa
             (slices_rows n m ∙ sym (append-nil (rows past)))
 
         back_goes : (m : ℕ) → view_refusal p (group past) (view k) (Back m) ≡ None
-            → Takes (Of k (own.Back m)) (quiet_step trace no_texts (with_own s k (own.Back m)))
+            → Takes (Of k (own.Back m)) (quiet_group_step trace no_texts (with_own_event s k (own.Back m)))
         back_goes m o =
             let left = length frames in
             let message = message_is p laws.groups.views k (group past) (events_at k past) (view k)
@@ -490,8 +490,8 @@ module _ (p : Params) (count : ℕ) (frames : List Frame) (broken : Option Y4mFa
         own_shown i false is = refl
 
         play_goes : view_refusal p (group past) (view k) Play ≡ None
-            → Takes (Of k own.Play) (quiet_step trace (texts_after p k (group past) (view k) own.Play)
-            (with_own s k own.Play))
+            → Takes (Of k own.Play) (quiet_group_step trace (texts_after p k (group past) (view k) own.Play)
+            (with_own_event s k own.Play))
         play_goes o =
             let l = lives k there in
             let may = (laws.none (length frames) c Play).0 (sym (play_is p laws.groups.views k (group past)
@@ -546,7 +546,7 @@ module _ (p : Params) (count : ℕ) (frames : List Frame) (broken : Option Y4mFa
       -- a frame is sent
       captured_comes : (b : ℕ) (v : List ℕ) → inputs Video ≡ b ∷ v → far_from p count frames count 0 past ≡ None
           → (r : Result (List ℕ) Y4mFault) → next_frame more p.format at (b ∷ v) ≡ r
-          → Takes ForAll (captured_step s trace (frame_size p.format (b ∷ v)) r)
+          → Takes ForAll (group_captured_step s trace (frame_size p.format (b ∷ v)) r)
       captured_comes b v video o (Err fault) found =
           let stops = frame_laws.stops p.format more at (b ∷ v) fault (omega arith) found in
           let nothing : ahead_of more at (inputs Video) ≡ [] =
@@ -597,7 +597,7 @@ module _ (p : Params) (count : ℕ) (frames : List Frame) (broken : Option Y4mFa
           }))
 
       send_comes : (video : List ℕ) → inputs Video ≡ video → far_from p count frames count 0 past ≡ None
-          → Takes ForAll (capture_step s trace video)
+          → Takes ForAll (group_capture_step s trace video)
       send_comes [] there o =
           let ends = frame_laws.ends p.format more at in
           let nothing : ahead_of more at (inputs Video) ≡ [] =
@@ -613,7 +613,7 @@ module _ (p : Params) (count : ℕ) (frames : List Frame) (broken : Option Y4mFa
 
       -- ---- any line
 
-      quiet_comes : Takes Quiet (quiet_step trace no_texts s)
+      quiet_comes : Takes Quiet (quiet_group_step trace no_texts s)
       quiet_comes =
           comes_more Quiet E F (lines + 1) past past trace _ (line_turn trace no_texts) _ refl tt refl
           (λ k below. sym (append-nil (shown_text (call k past).plays))) (sym (append-nil (rows past)))
@@ -622,7 +622,7 @@ module _ (p : Params) (count : ℕ) (frames : List Frame) (broken : Option Y4mFa
 
       line_comes : (o : Option GroupLine) → ((said : GroupLine) → o ≡ Some said → IsThere count said)
           → Comes past (and_line o E) (bad_line_or o (lines + 1) F) (lines + 1) trace
-          (follow (line_step s inputs o) rest)
+          (follow (group_line_step s inputs o) rest)
       line_comes None there = comes_faulty past views all [] _ (lines + 1) trace rest _ _ refl
       line_comes (Some Quiet) there = quiet_comes
       line_comes (Some ForAll) there =
@@ -663,7 +663,7 @@ module _ (p : Params) (count : ℕ) (frames : List Frame) (broken : Option Y4mFa
 
       last_comes : (text : List ℕ) → lines + 0 ≡ 16777216
           → Comes past [] (lines_fault count 0 (lines + 1) text) (lines + 1) (inputs Events)
-          (follow (trace_step here inputs text) (λ next taken. silence))
+          (follow (group_trace_step here inputs text) (λ next taken. silence))
       unfolding lines_fault
       last_comes [] room = comes_end past views all (lines + 1) at more lines ended (inputs Events)
           (λ next taken. silence)
@@ -679,7 +679,7 @@ module _ (p : Params) (count : ℕ) (frames : List Frame) (broken : Option Y4mFa
             (group_lines count n (later_lines (byte ∷ trace))))
             (bad_line_or (group_line count (first_line (byte ∷ trace))) (lines + 1)
             (lines_fault count n (lines + 1 + 1) (later_lines (byte ∷ trace)))) (lines + 1) (inputs Events)
-            (follow (or_many b lines (line_step here inputs (group_line (length views) (first_line (byte ∷ trace)))))
+            (follow (or_many b lines (group_line_step here inputs (group_line (length views) (first_line (byte ∷ trace)))))
             on_with)
         choice_comes false byte trace is go room many = absurd (omega (arith, ltb-false lines 16777216 many, room))
         choice_comes true byte trace is go room below =
@@ -688,10 +688,10 @@ module _ (p : Params) (count : ℕ) (frames : List Frame) (broken : Option Y4mFa
             (group_lines count n (later_lines (byte ∷ trace))))
             (bad_line_or (group_line count line) (lines + 1)
             (lines_fault count n (lines + 1 + 1) (later_lines (byte ∷ trace)))) (lines + 1) (inputs Events)
-            (follow (line_step here inputs (group_line c line)) on_with)) (sym all.long)
+            (follow (group_line_step here inputs (group_line c line)) on_with)) (sym all.long)
             (subst (λ (l : List ℕ). Comes past (and_line (group_line count line) (group_lines count n (later_lines l)))
             (bad_line_or (group_line count line) (lines + 1) (lines_fault count n (lines + 1 + 1) (later_lines l)))
-            (lines + 1) (inputs Events) (follow (line_step here inputs (group_line count line)) on_with)) is
+            (lines + 1) (inputs Events) (follow (group_line_step here inputs (group_line count line)) on_with)) is
             (line_comes frame_laws past views all at more lines ended inputs on
             (group_lines count n (later_lines (inputs Events)))
             (lines_fault count n (lines + 1 + 1) (later_lines (inputs Events))) on_with go (group_line count line)
@@ -699,7 +699,7 @@ module _ (p : Params) (count : ℕ) (frames : List Frame) (broken : Option Y4mFa
 
         step_comes : (trace : List ℕ) → inputs Events ≡ trace → GoesOn n lines inputs → lines + suc n ≡ 16777216
             → Comes past (group_lines count (suc n) trace) (lines_fault count (suc n) (lines + 1) trace) (lines + 1)
-            (inputs Events) (follow (trace_step here inputs trace) on_with)
+            (inputs Events) (follow (group_trace_step here inputs trace) on_with)
         unfolding group_lines lines_fault
         step_comes [] is go room = comes_end past views all (lines + 1) at more lines ended (inputs Events) on_with
         step_comes (byte ∷ trace) is go room = choice_comes (nat_lt lines 16777216) byte trace is go room refl

@@ -22,10 +22,10 @@ use Rattle.group_call.specs.Holding.{sent_in}
 use Rattle.group_command.specs.declared.line.GroupLine.{GroupLine}
 use Rattle.group_command.specs.declared.line.GroupLine.TheVariants.{Quiet}
 use Rattle.group_command.specs.declared.room.Room.{Room}
-use Rattle.group_command.specs.Group.{GroupState, after_line, group_step, line_step, may_read}
+use Rattle.group_command.specs.Group.{GroupState, after_group_line, group_step, group_line_step, room_may_read}
 use Rattle.group_command.specs.Lines.{group_line}
-use Rattle.group_command.specs.Standing.{GroupOpens, RoomReady, RoomStands, RoomStandsAt, more_of, viewers_in}
-use Rattle.group_command.specs.Turning.{HasLine, IsRead, TakesLine, TakesTurn}
+use Rattle.group_command.specs.Standing.{GroupOpens, RoomReady, RoomStands, RoomStandsAt, room_lines_left, viewers_in}
+use Rattle.group_command.specs.Turning.{HasLine, IsGroupRead, TakesGroupLine, RoomTakesTurn}
 use Rattle.group_command.proofs.LineTurning.{IsReadAt, found_bad, found_could, found_empty, found_is, found_number, found_taken, passed}
 use Rattle.group_command.proofs.Watching.{viewing_later, watched_count}
 
@@ -64,10 +64,10 @@ module _ (x y : Room) (old new : Outside) where
   pub turn_gave_up : (r : Result Bool Status) (status : Status) → IsErrAnd r (λ z. z ≡ status) → IsStop status
       → HasCause status old.faults new.faults → KeepsRoles old new
       → ((s : GroupState) (inputs : Role → List ℕ) → RoomStandsAt x s inputs → Tells old inputs
-      → GivesUp (phase status) status (group_step s inputs) (may_read s) inputs old new)
-      → TakesTurn x y r old new
+      → GivesUp (phase status) status (group_step s inputs) (room_may_read s) inputs old new)
+      → RoomTakesTurn x y r old new
   turn_gave_up (Ok b) status is stop cause rest gives = absurd is
-  turn_gave_up (Err z) status is stop cause rest gives = subst (λ (w : Status). TakesTurn x y (Err w) old new) (sym is)
+  turn_gave_up (Err z) status is stop cause rest gives = subst (λ (w : Status). RoomTakesTurn x y (Err w) old new) (sym is)
       (record {
         gives = gives;
         whole = λ s inputs k told. tt;
@@ -83,9 +83,9 @@ module _ (x y : Room) (old new : Outside) where
       → Rose old.faults.write new.faults.write → KeepsRoles old new
       → ((s : GroupState) (inputs : Role → List ℕ) → RoomStandsAt x s inputs → Tells old inputs
       → GainsFronts (step_texts (group_step s inputs)) old.written new.written)
-      → TakesTurn x y r old new
+      → RoomTakesTurn x y r old new
   turn_was_cut (Ok b) status is kind rose rest gives = absurd is
-  turn_was_cut (Err z) status is kind rose rest gives = subst (λ (w : Status). TakesTurn x y (Err w) old new) (sym (is
+  turn_was_cut (Err z) status is kind rose rest gives = subst (λ (w : Status). RoomTakesTurn x y (Err w) old new) (sym (is
       ∙ kind)) (record {
         gives = gives;
         whole = λ s inputs k told. tt;
@@ -102,7 +102,7 @@ module _ (x y : Room) (old new : Outside) where
       → Ended (group_step s inputs) Fine inputs old new)
       → ((s : GroupState) (inputs : Role → List ℕ) → RoomStandsAt x s inputs → Tells old inputs
       → new.left Events ≡ Some [])
-      → TakesTurn x y (Ok false) old new
+      → RoomTakesTurn x y (Ok false) old new
   turn_is_over rest gives whole = record {
     gives = gives;
     whole = whole;
@@ -114,10 +114,10 @@ module _ (x y : Room) (old new : Outside) where
   }
 
   -- one that goes on
-  pub turn_goes_on : more_of y + 1 ≡ more_of x → RoomReady y new.attached → KeepsRoles old new
+  pub turn_goes_on : room_lines_left y + 1 ≡ room_lines_left x → RoomReady y new.attached → KeepsRoles old new
       → ((s : GroupState) (inputs : Role → List ℕ) → RoomStandsAt x s inputs → Tells old inputs
-      → Went (group_step s inputs) (RoomStandsAt y) may_read (may_read s) inputs old new)
-      → TakesTurn x y (Ok true) old new
+      → Went (group_step s inputs) (RoomStandsAt y) room_may_read (room_may_read s) inputs old new)
+      → RoomTakesTurn x y (Ok true) old new
   turn_goes_on falls ready rest gives = record {
     gives = gives;
     whole = λ s inputs k told. tt;
@@ -175,16 +175,16 @@ module _ (lines : LineLaws) (steps : StepLaws) (m : Room) (after : TracePlace) (
     counted = watched_count s.params s.run (viewers_in m.viewers) s.views k.views
 
     step_is : (o : Option GroupLine) → group_line (length s.views) (take found.1 buf) ≡ o
-        → group_step s inputs ≡ line_step s inputs o
+        → group_step s inputs ≡ group_line_step s inputs o
     step_is o said = found_is lines s inputs old mid only m.trace after at buf found e w.moves o said
 
-    could : may_read s ≡ true
+    could : room_may_read s ≡ true
     could = found_could lines s inputs old mid only m.trace after at buf found e w.moves
 
-    stood : RoomStands now (after_line s (inputs Events)) (drop (line_size (inputs Events)) (inputs Events))
+    stood : RoomStands now (after_group_line s (inputs Events)) (drop (line_size (inputs Events)) (inputs Events))
     stood = passed lines m s (inputs Events) after (mid.left Events) k w.moves.3 e.0
 
-    line_read : IsRead now found.0 mid old s inputs
+    line_read : IsGroupRead now found.0 mid old s inputs
     line_read = record {
       stood = stood;
       number = found_number lines s inputs old mid only m.trace after at buf found e w.moves;
@@ -235,7 +235,7 @@ module _ (lines : LineLaws) (steps : StepLaws) (m : Room) (after : TracePlace) (
 
   -- an empty line
   pub line_empty : Says (Some Quiet) → RoomReady m old.attached → Gains no_texts mid.written mid.written
-      → TakesTurn m now (Ok true) old mid
+      → RoomTakesTurn m now (Ok true) old mid
   line_empty said r silent =
       turn_goes_on m now old mid fewer (ready_after r) (steps.reads old mid w.rest)
       (λ s inputs k told.
@@ -246,16 +246,16 @@ module _ (lines : LineLaws) (steps : StepLaws) (m : Room) (after : TracePlace) (
   -- a line that says something
   pub line_done : (said : GroupLine) → Says (Some said) → (y : Room) (r : Result Bool Status) (new : Outside)
       → y.trace ≡ after
-      → TakesLine now y found.0 said r mid new → TakesTurn m y r old new
+      → TakesGroupLine now y found.0 said r mid new → RoomTakesTurn m y r old new
   line_done said said_is y r new trace_is t = record {
     gives = λ s inputs k told.
-        subst (λ (step : Step GroupState). TurnGives r step (RoomStandsAt y) may_read (may_read s) inputs old new)
+        subst (λ (step : Step GroupState). TurnGives r step (RoomStandsAt y) room_may_read (room_may_read s) inputs old new)
         (sym (step_is s inputs k told (Some said) (said_so (Some said) said_is s inputs k told)))
-        (subst (λ (b : Bool). TurnGives r (line_step s inputs (Some said)) (RoomStandsAt y) may_read b inputs old new)
+        (subst (λ (b : Bool). TurnGives r (group_line_step s inputs (Some said)) (RoomStandsAt y) room_may_read b inputs old new)
         (sym (could s inputs k told))
         (t.gives old s inputs (line_read s inputs k told)));
     whole = λ s inputs k told. never r (new.left Events ≡ Some []) t.goes_on;
-    falls = falls_so r (more_of m) (more_of y) (ap (λ (reader : TracePlace). 16777216 - reader.lines + 1) trace_is
+    falls = falls_so r (room_lines_left m) (room_lines_left y) (ap (λ (reader : TracePlace). 16777216 - reader.lines + 1) trace_is
         ∙ fewer);
     ready = t.ready;
     stop = t.stop;

@@ -22,17 +22,17 @@ use Rattle.group_call.specs.Holding.{HoldsBroadcast}
 use Rattle.group_call.specs.Refused.{view_refusal}
 use Rattle.group_call.specs.Viewing.{ViewerRun}
 use Rattle.group_command.specs.declared.room.Room.{Room}
-use Rattle.group_command.specs.Group.{GroupState, after_line, first_behind, or_else, with_frame}
+use Rattle.group_command.specs.Group.{GroupState, after_group_line, first_behind, or_refused, with_group_frame}
 use Rattle.group_command.specs.Standing.{AllWatch, RoomStands, viewers_in}
-use Rattle.group_command.specs.Turning.{IsAsked}
+use Rattle.group_command.specs.Turning.{IsGroupAsked}
 use Rattle.group_command.proofs.Doing.{may_capture}
 
 -- where no receiver is too far behind, none is so after one picture more
-or_none_first : (a b : Option Refusal) → or_else a b ≡ None → a ≡ None
+or_none_first : (a b : Option Refusal) → or_refused a b ≡ None → a ≡ None
 or_none_first None b is = refl
 or_none_first (Some r) b is = absurd (cc is)
 
-or_none_second : (a b : Option Refusal) → or_else a b ≡ None → b ≡ None
+or_none_second : (a b : Option Refusal) → or_refused a b ≡ None → b ≡ None
 or_none_second None b is = is
 or_none_second (Some r) b is = absurd (cc is)
 
@@ -62,7 +62,7 @@ watch_sent p run later (viewer ∷ viewers) [] more none w = absurd w
 -- ---- after the line that asks for it
 
 module _ (m : Room) (line : ℕ) (now old : Outside) (s : GroupState) (inputs : Role
-    → List ℕ) (b : IsAsked m line now old s inputs) where
+    → List ℕ) (b : IsGroupAsked m line now old s inputs) where
   pub asked_more : s.more ≡ m.video.more
   asked_more = b.read.stood.more
 
@@ -86,7 +86,7 @@ module _ (m : Room) (line : ℕ) (now old : Outside) (s : GroupState) (inputs : 
       → m_new.viewers ≡ m.viewers
       → m_new.video.at ≡ s.at + size → m_new.video.more + 1 ≡ m.video.more → shown ≡ picture_of s.params.format out
       → HoldsBroadcast s.params m_new.cast (group_after_code s.params (steady s.params) (bare shown) s.run)
-      → RoomStands m_new (after_line (with_frame s size out) (inputs Events))
+      → RoomStands m_new (after_group_line (with_group_frame s size out) (inputs Events))
       (left_after inputs (and_of (of Events (line_size (inputs Events))) (of Video size)) Events)
   sent_stands m_new out shown params trace viewers at fewer shown_is holds =
       let stood = b.read.stood in

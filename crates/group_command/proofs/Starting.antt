@@ -28,8 +28,8 @@ use Rattle.call_command.specs.Laws.{VideoLaws}
 use Rattle.group_command.specs.declared.room.Room.{Room}
 use Rattle.group_command.specs.declared.terms.GroupTerms.{GroupTerms}
 use Rattle.group_command.specs.Begin.{IsNewRoom}
-use Rattle.group_command.specs.Group.{GroupState, first_state, group_begin, head_step, heads_text, joined_by, may_read, most_turns}
-use Rattle.group_command.specs.Standing.{AreViewing, GroupOpens, RoomReady, RoomStandsAt, more_of}
+use Rattle.group_command.specs.Group.{GroupState, group_at_start, group_begin, group_head_step, viewers_heads, joined_by, room_may_read, most_turns}
+use Rattle.group_command.specs.Standing.{AreViewing, GroupOpens, RoomReady, RoomStandsAt, room_lines_left}
 
 -- parameters stay in their ranges in another format
 pub in_format : (p : Params) (f : Format) → IsParams p → IsParams (record p { format = f })
@@ -67,7 +67,7 @@ not_an_err {T} {E} r x is lost = ok_is_none x (subst IsErr is lost)
     ok_is_none x lost = absurd (cc lost)
 
 head_part : VideoLaws → (t : GroupTerms) (video : List ℕ) (k : ℕ) (r : Result Format Y4mFault) → head_of video ≡ r
-    → IsErr (head_of (take k video)) → IsPart (step_turns (head_step t video r)) (of Video k)
+    → IsErr (head_of (take k video)) → IsPart (step_turns (group_head_step t video r)) (of Video k)
 head_part laws t video k (Ok f) is lost = part_of (head_size video) k
     (λ le. not_an_err _ f (laws.head video f k is le).0 lost)
 head_part laws t video k (Err fault) is lost = tt
@@ -104,20 +104,20 @@ module _ (turns : TurnLaws) (laws : VideoLaws) (t : GroupTerms) (inputs : Role
   }
   head_stops (Refused fault) e = record {
     last = video_refusal Video no_bytes (VideoRefused fault);
-    is = ap (λ (r : Result Format Y4mFault). head_step t (inputs Video) r) e;
+    is = ap (λ (r : Result Format Y4mFault). group_head_step t (inputs Video) r) e;
     by = turns.refuses_video Video no_bytes (VideoRefused fault) inputs old mid (λ r input other. others r other
         ∙ told r input) same;
   }
 
   -- the heads of the pictures could not be written
   pub heads_cut : (f : Format) → head_of (inputs Video) ≡ Ok f → (status : Status) (last : Outside)
-      → status ≡ WriteFault → GainsFronts (heads_text f t.receivers) mid.written last.written
+      → status ≡ WriteFault → GainsFronts (viewers_heads f t.receivers) mid.written last.written
       → GivesUp (phase status) status (group_begin t inputs) true inputs old last
   heads_cut f head status last is fronts =
       subst (λ (y : Status). GivesUp (phase y) y (group_begin t inputs) true inputs old last) (sym is)
       (subst (λ (step : Step GroupState). GainsFronts (step_texts step) old.written last.written)
-      (sym (ap (λ (r : Result Format Y4mFault). head_step t (inputs Video) r) head))
-      (subst (λ (w : Role → Option (List ℕ)). GainsFronts (heads_text f t.receivers) w last.written) same fronts))
+      (sym (ap (λ (r : Result Format Y4mFault). group_head_step t (inputs Video) r) head))
+      (subst (λ (w : Role → Option (List ℕ)). GainsFronts (viewers_heads f t.receivers) w last.written) same fronts))
 
   -- they were
   module _ (video : Y4mPlace) (m : Room) (new : IsNewRoom (record t.params { format = video.format }) t.receivers video
@@ -126,7 +126,7 @@ module _ (turns : TurnLaws) (laws : VideoLaws) (t : GroupTerms) (inputs : Role
     p = record t.params { format = video.format }
 
     abbrev first : GroupState
-    first = first_state p t.receivers (head_size (inputs Video))
+    first = group_at_start p t.receivers (head_size (inputs Video))
 
     not_ended : (ended : Bool) (l : List ℕ) → ended ≡ false → ended ≡ true → l ≡ []
     not_ended ended l none over = absurd (cc (none, over))
@@ -144,27 +144,27 @@ module _ (turns : TurnLaws) (laws : VideoLaws) (t : GroupTerms) (inputs : Role
     }
 
     pub heads_go : (last : Outside) → last.left ≡ mid.left
-        → Gains (heads_text video.format t.receivers) mid.written last.written
-        → Went (group_begin t inputs) (RoomStandsAt m) may_read true inputs old last
+        → Gains (viewers_heads video.format t.receivers) mid.written last.written
+        → Went (group_begin t inputs) (RoomStandsAt m) room_may_read true inputs old last
     heads_go last still gains = record {
       next = first;
       turn = record {
         taken = of Video (head_size (inputs Video));
         whole = true;
-        texts = heads_text video.format t.receivers;
+        texts = viewers_heads video.format t.receivers;
       };
       could = refl;
-      is = ap (λ (r : Result Format Y4mFault). head_step t (inputs Video) r) e.0;
+      is = ap (λ (r : Result Format Y4mFault). group_head_step t (inputs Video) r) e.0;
       kept = begun (left_after inputs (of Video (head_size (inputs Video))));
       whole = refl;
       left = λ r input. ap (λ (l : Role → Option (List ℕ)). l r) still
           ∙ turns.one_read Video (head_size (inputs Video)) old mid inputs told e.2 others r input;
-      written = subst (λ (w : Role → Option (List ℕ)). Gains (heads_text video.format t.receivers) w last.written) same
+      written = subst (λ (w : Role → Option (List ℕ)). Gains (viewers_heads video.format t.receivers) w last.written) same
           gains;
     }
 
 module _ (p : Params) (receivers : ℕ) (video : Y4mPlace) (m : Room) (new : IsNewRoom p receivers video m) where
-  pub all_may_come : more_of m ≡ most_turns
+  pub all_may_come : room_lines_left m ≡ most_turns
   all_may_come = ap (λ (n : ℕ). 16777216 - n) new.lines
 
   pub ready_first : (attached : Role → Bool) → IsParams p → p.format ≡ video.format → video.more ≡ most_frames

@@ -15,7 +15,7 @@ use Rattle.group_sender.specs.Holding.{Groups}
 use Rattle.group_call.specs.declared.viewer.Viewer.{Viewer}
 use Rattle.group_call.specs.Refused.{view_refusal}
 use Rattle.group_call.specs.Viewing.{ViewerRun}
-use Rattle.group_command.specs.Group.{counts_from, counts_of_view, first_behind, or_else, view_in}
+use Rattle.group_command.specs.Group.{counts_from, counts_of_view, first_behind, or_refused, view_in}
 use Rattle.group_command.specs.Standing.{AllWatch, Watches, and_then}
 use Rattle.group_command.specs.Turning.{counts_if}
 
@@ -126,11 +126,11 @@ module _ (p : Params) (run : Groups) where
   err_allowed (Err z) told refusal is allowed = (allowed.0, allowed.1, is ∙ allowed.2)
 
   pub or_first : (r : Result Unit Told) (a b : Option Refusal) → a ≡ None → IsAllowed r Send b
-      → IsAllowed r Send (or_else a b)
-  or_first r a b none allowed = subst (λ (o : Option Refusal). IsAllowed r Send (or_else o b)) (sym none) allowed
+      → IsAllowed r Send (or_refused a b)
+  or_first r a b none allowed = subst (λ (o : Option Refusal). IsAllowed r Send (or_refused o b)) (sym none) allowed
 
   pub or_found : (told : Told) (a b : Option Refusal) → IsAllowed (Err told) Send a
-      → IsAllowed (Err told) Send (or_else a b)
+      → IsAllowed (Err told) Send (or_refused a b)
   or_found told None b allowed = absurd (cc allowed.1)
   or_found told (Some r) b allowed = allowed
 
@@ -140,9 +140,9 @@ module _ (p : Params) (run : Groups) where
     pub back : List ViewerRun
     pub of_front : AllWatch p run (and_then viewer []) front
     pub of_back : AllWatch p run viewers back
-    pub behind : first_behind p run views ≡ or_else (first_behind p run front) (first_behind p run back)
+    pub behind : first_behind p run views ≡ or_refused (first_behind p run front) (first_behind p run back)
 
-  or_none : (o : Option Refusal) → or_else o None ≡ o
+  or_none : (o : Option Refusal) → or_refused o None ≡ o
   or_none None = refl
   or_none (Some r) = refl
 
@@ -155,6 +155,6 @@ module _ (p : Params) (run : Groups) where
     back = views;
     of_front = (w.0, tt);
     of_back = w.1;
-    behind = ap (λ (o : Option Refusal). or_else o (first_behind p run views))
+    behind = ap (λ (o : Option Refusal). or_refused o (first_behind p run views))
         (sym (or_none (view_refusal p run view Send)));
   }

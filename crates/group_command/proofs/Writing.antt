@@ -24,7 +24,7 @@ use Rattle.call_command.specs.Counts.{counts_text_of, counts_with}
 use Rattle.group_sender.specs.Holding.{Groups}
 use Rattle.group_call.specs.Viewing.{ViewerRun, view_play}
 use Rattle.group_command.specs.declared.show.OwnRow.{OwnRow}
-use Rattle.group_command.specs.Group.{counts_of_view, heads_text, pictures_at, played_texts}
+use Rattle.group_command.specs.Group.{counts_of_view, viewers_heads, pictures_at, played_texts}
 use Rattle.group_command.specs.Turning.{own_texts}
 
 pub on_err : {T E P : Type 0} (r : Result T E) → P → OnErr r P
@@ -87,32 +87,32 @@ counts_are p k run view word tally played sent word_is marks played_is sent_is =
 
 module _ (turns : TurnLaws) (f : Format) (old mid : Role → Option (List ℕ)) where
   -- so many heads are written, and the next one, or a prefix of it
-  pub head_more : (k : ℕ) (new : Role → Option (List ℕ)) → Gains (heads_text f k) old mid
-      → Gains (on (pictures_at k) (head_text f)) mid new → Gains (heads_text f (suc k)) old new
-  head_more k new before now = turns.both_texts (heads_text f k) (on (pictures_at k) (head_text f)) old mid new before
+  pub head_more : (k : ℕ) (new : Role → Option (List ℕ)) → Gains (viewers_heads f k) old mid
+      → Gains (on (pictures_at k) (head_text f)) mid new → Gains (viewers_heads f (suc k)) old new
+  head_more k new before now = turns.both_texts (viewers_heads f k) (on (pictures_at k) (head_text f)) old mid new before
       now
 
-  pub head_cut : (k : ℕ) (new : Role → Option (List ℕ)) → Gains (heads_text f k) old mid
-      → GainsFronts (on (pictures_at k) (head_text f)) mid new → GainsFronts (heads_text f (suc k)) old new
-  head_cut k new before now = turns.front_of_second (heads_text f k) (on (pictures_at k) (head_text f)) old mid new
+  pub head_cut : (k : ℕ) (new : Role → Option (List ℕ)) → Gains (viewers_heads f k) old mid
+      → GainsFronts (on (pictures_at k) (head_text f)) mid new → GainsFronts (viewers_heads f (suc k)) old new
+  head_cut k new before now = turns.front_of_second (viewers_heads f k) (on (pictures_at k) (head_text f)) old mid new
       before now
 
   -- a prefix of the first ones is one of all
-  pub head_front : (k : ℕ) → GainsFronts (heads_text f k) old mid → GainsFronts (heads_text f (suc k)) old mid
-  head_front k fronts = turns.front_of_first (heads_text f k) (on (pictures_at k) (head_text f)) old mid fronts
+  pub head_front : (k : ℕ) → GainsFronts (viewers_heads f k) old mid → GainsFronts (viewers_heads f (suc k)) old mid
+  head_front k fronts = turns.front_of_first (viewers_heads f k) (on (pictures_at k) (head_text f)) old mid fronts
 
 module _ (turns : TurnLaws) (f : Format) (old mid : Role → Option (List ℕ)) where
   same : (k n : ℕ) → k ≤ n → n ≤ k → k ≡ n
   same k n le too = omega (arith, le, too)
 
-  by_order : (k n : ℕ) → k ≤ suc n → (k < suc n → GainsFronts (heads_text f (suc n)) old mid)
-      → GainsFronts (heads_text f k) old mid → (k < suc n) ⊎ (suc n ≤ k) → GainsFronts (heads_text f (suc n)) old mid
+  by_order : (k n : ℕ) → k ≤ suc n → (k < suc n → GainsFronts (viewers_heads f (suc n)) old mid)
+      → GainsFronts (viewers_heads f k) old mid → (k < suc n) ⊎ (suc n ≤ k) → GainsFronts (viewers_heads f (suc n)) old mid
   by_order k n le goes fronts (inl less) = goes less
-  by_order k n le goes fronts (inr more) = subst (λ (m : ℕ). GainsFronts (heads_text f m) old mid)
+  by_order k n le goes fronts (inr more) = subst (λ (m : ℕ). GainsFronts (viewers_heads f m) old mid)
       (same k (suc n) le more) fronts
 
-  pub heads_front : (k n : ℕ) → k ≤ n → GainsFronts (heads_text f k) old mid → GainsFronts (heads_text f n) old mid
-  heads_front k zero le fronts = subst (λ (m : ℕ). GainsFronts (heads_text f m) old mid) (none k le) fronts
+  pub heads_front : (k n : ℕ) → k ≤ n → GainsFronts (viewers_heads f k) old mid → GainsFronts (viewers_heads f n) old mid
+  heads_front k zero le fronts = subst (λ (m : ℕ). GainsFronts (viewers_heads f m) old mid) (none k le) fronts
     where
       none : (k : ℕ) → k ≤ 0 → k ≡ 0
       none k le = omega (arith, le)
@@ -121,5 +121,5 @@ module _ (turns : TurnLaws) (f : Format) (old mid : Role → Option (List ℕ)) 
       (cases_lt k (suc n))
 
   -- none was written before the first
-  pub no_head : Gains (heads_text f 0) old old
+  pub no_head : Gains (viewers_heads f 0) old old
   no_head = turns.no_text old old refl

@@ -21,7 +21,7 @@ use Rattle.call_model.specs.JoinedRun.{SaidMessage}
 use Rattle.call_model.specs.Refusals.{Refusal}
 use Rattle.call_command.specs.Call.{bad_line, line_size, line_turn, refused_line}
 use Rattle.call_command.specs.Counts.{counts_text_of}
-use Rattle.call_command.specs.Refused.{fault_of}
+use Rattle.call_command.specs.Refused.{fault_told}
 use Rattle.desk_program.specs.Run.{End, Run, Step, run_from, video_refusal}
 use Rattle.desk_program.specs.Run.Step.{Goes, Ends}
 use Rattle.desk_program.specs.Texts.{no_bytes, no_texts, on, then_also, of, and_of}
@@ -87,8 +87,8 @@ counts_from p run k (view ∷ views) =
     then_also (on Report (counts_of_view p run k view)) (counts_from p run (suc k) views)
 
 -- the trace is at its end
-abbrev pub all_played : GroupState → End
-all_played s = record { status = Fine; taken = λ _. Some 0; texts = counts_from s.params s.run 0 s.views }
+abbrev pub all_viewers_played : GroupState → End
+all_viewers_played s = record { status = Fine; taken = λ _. Some 0; texts = counts_from s.params s.run 0 s.views }
 
 -- ---- an event of the receiver at place k
 
@@ -101,14 +101,14 @@ event_of own.Play = Play
 
 module _ (p : Params) (k : ℕ) (run : Groups) (view : ViewerRun) where
   -- the group hears a message, if it was said
-  abbrev pub heard : Option SaidMessage → Groups
-  heard told = option_map_or (λ (told : SaidMessage). group_after_saying p k told.bytes run) told run
+  abbrev pub group_heard : Option SaidMessage → Groups
+  group_heard told = option_map_or (λ (told : SaidMessage). group_after_saying p k told.bytes run) told run
 
   -- what the group has done then, and the receiver, and what is written
   abbrev pub run_after : OwnEvent → Groups
   run_after (own.Packet n j) = run
   run_after (own.All n) = run
-  run_after (own.Back m) = heard (slice_get view.told m)
+  run_after (own.Back m) = group_heard (slice_get view.told m)
   run_after own.Play = run
 
   abbrev pub view_after : OwnEvent → ViewerRun
@@ -131,31 +131,31 @@ module _ (p : Params) (k : ℕ) (run : Groups) (view : ViewerRun) where
 -- ---- a line
 
 -- after the line
-abbrev pub after_line : GroupState → List ℕ → GroupState
-after_line s trace = record s { lines = s.lines + 1; ended = not (is_closed trace) }
+abbrev pub after_group_line : GroupState → List ℕ → GroupState
+after_group_line s trace = record s { lines = s.lines + 1; ended = not (is_closed trace) }
 
 -- the line says this event, which is refused or has its step
-abbrev pub unless : GroupState → List ℕ → Event → Option Refusal → Step GroupState → Step GroupState
-unless s trace e None step = step
-unless s trace e (Some refusal) step = Ends (refused_line trace (fault_of (s.lines + 1) e refusal))
+abbrev pub unless_refused : GroupState → List ℕ → Event → Option Refusal → Step GroupState → Step GroupState
+unless_refused s trace e None step = step
+unless_refused s trace e (Some refusal) step = Ends (refused_line trace (fault_told (s.lines + 1) e refusal))
 
 -- the first of two refusals
-abbrev pub or_else : Option Refusal → Option Refusal → Option Refusal
-or_else None second = second
-or_else (Some refusal) second = Some refusal
+abbrev pub or_refused : Option Refusal → Option Refusal → Option Refusal
+or_refused None second = second
+or_refused (Some refusal) second = Some refusal
 
 -- the first refusal of a capture: that of the first receiver to which half a period is on the way
 abbrev pub first_behind : Params → Groups → List ViewerRun → Option Refusal
 first_behind p run [] = None
-first_behind p run (view ∷ views) = or_else (view_refusal p run view Send) (first_behind p run views)
+first_behind p run (view ∷ views) = or_refused (view_refusal p run view Send) (first_behind p run views)
 
 -- a line that reads nothing else and writes these texts, after which it is so
-abbrev pub quiet_step : List ℕ → (Role → List ℕ) → GroupState → Step GroupState
-quiet_step trace texts s = Goes (after_line s trace) (line_turn trace texts)
+abbrev pub quiet_group_step : List ℕ → (Role → List ℕ) → GroupState → Step GroupState
+quiet_group_step trace texts s = Goes (after_group_line s trace) (line_turn trace texts)
 
 -- the frame of these planes is sent, which has taken so many bytes of the video
-abbrev pub with_frame : GroupState → ℕ → List ℕ → GroupState
-with_frame s size planes =
+abbrev pub with_group_frame : GroupState → ℕ → List ℕ → GroupState
+with_group_frame s size planes =
     record s {
       run = group_after_code s.params (steady s.params) (bare (picture_of s.params.format planes)) s.run;
       at = s.at + size;
@@ -163,8 +163,8 @@ with_frame s size planes =
     }
 
 -- what the line of the receiver at place k says is done
-abbrev pub with_own : GroupState → ℕ → OwnEvent → GroupState
-with_own s k e =
+abbrev pub with_own_event : GroupState → ℕ → OwnEvent → GroupState
+with_own_event s k e =
     record s {
       run = run_after s.params k s.run (view_in s.views k) e;
       views = slice_set s.views k (view_after s.params k s.run (view_in s.views k) e);
@@ -172,51 +172,51 @@ with_own s k e =
 
 module _ (s : GroupState) (trace : List ℕ) where
   -- the frame is sent that the line asks for, or refused
-  abbrev pub captured_step : ℕ → Result (List ℕ) Y4mFault → Step GroupState
-  captured_step size (Ok planes) =
-      Goes (after_line (with_frame s size planes) trace)
+  abbrev pub group_captured_step : ℕ → Result (List ℕ) Y4mFault → Step GroupState
+  group_captured_step size (Ok planes) =
+      Goes (after_group_line (with_group_frame s size planes) trace)
       (record {
         taken = and_of (of Events (line_size trace)) (of Video size);
         whole = is_closed trace;
         texts = no_texts;
       })
-  captured_step size (Err fault) =
+  group_captured_step size (Err fault) =
       Ends (video_refusal Video (of Events (line_size trace)) (VideoRefused fault))
 
   -- the video is read once it is known that the event isn't far
-  abbrev pub capture_step : List ℕ → Step GroupState
-  capture_step [] = Ends (refused_line trace (NoFrame (s.lines + 1)))
-  capture_step (b ∷ video) =
-      captured_step (frame_size s.params.format (b ∷ video)) (next_frame s.more s.params.format s.at (b ∷ video))
+  abbrev pub group_capture_step : List ℕ → Step GroupState
+  group_capture_step [] = Ends (refused_line trace (NoFrame (s.lines + 1)))
+  group_capture_step (b ∷ video) =
+      group_captured_step (frame_size s.params.format (b ∷ video)) (next_frame s.more s.params.format s.at (b ∷ video))
 
   -- the receiver's event is refused, or done
   abbrev pub own_step : ℕ → OwnEvent → Step GroupState
   own_step k e =
-      unless s trace (event_of e) (view_refusal s.params s.run (view_in s.views k) (event_of e))
-      (quiet_step trace (texts_after s.params k s.run (view_in s.views k) e) (with_own s k e))
+      unless_refused s trace (event_of e) (view_refusal s.params s.run (view_in s.views k) (event_of e))
+      (quiet_group_step trace (texts_after s.params k s.run (view_in s.views k) e) (with_own_event s k e))
 
 -- a line is bad, or empty, or a capture, or an event of a receiver
-abbrev pub line_step : GroupState → (Role → List ℕ) → Option GroupLine → Step GroupState
-line_step s inputs None = Ends (bad_line (BadLine (s.lines + 1)))
-line_step s inputs (Some Quiet) = quiet_step (inputs Events) no_texts s
-line_step s inputs (Some ForAll) =
-    unless s (inputs Events) Send (first_behind s.params s.run s.views) (capture_step s (inputs Events) (inputs Video))
-line_step s inputs (Some (Of k event)) = own_step s (inputs Events) k event
+abbrev pub group_line_step : GroupState → (Role → List ℕ) → Option GroupLine → Step GroupState
+group_line_step s inputs None = Ends (bad_line (BadLine (s.lines + 1)))
+group_line_step s inputs (Some Quiet) = quiet_group_step (inputs Events) no_texts s
+group_line_step s inputs (Some ForAll) =
+    unless_refused s (inputs Events) Send (first_behind s.params s.run s.views) (group_capture_step s (inputs Events) (inputs Video))
+group_line_step s inputs (Some (Of k event)) = own_step s (inputs Events) k event
 
 -- a trace has 16,777,216 lines at most
-abbrev pub trace_step : GroupState → (Role → List ℕ) → List ℕ → Step GroupState
-trace_step s inputs [] = Ends (all_played s)
-trace_step s inputs (b ∷ trace) =
+abbrev pub group_trace_step : GroupState → (Role → List ℕ) → List ℕ → Step GroupState
+group_trace_step s inputs [] = Ends (all_viewers_played s)
+group_trace_step s inputs (b ∷ trace) =
     if nat_lt s.lines 16777216
-    then line_step s inputs (group_line (length s.views) (first_line (b ∷ trace)))
+    then group_line_step s inputs (group_line (length s.views) (first_line (b ∷ trace)))
     else Ends (bad_line (TooMany (s.lines + 1)))
 
 abbrev pub group_step : GroupState → (Role → List ℕ) → Step GroupState
-group_step s inputs = trace_step s inputs (inputs Events)
+group_step s inputs = group_trace_step s inputs (inputs Events)
 
 -- it may still read: the last line had its newline
-abbrev pub may_read : GroupState → Bool
-may_read s = not s.ended
+abbrev pub room_may_read : GroupState → Bool
+room_may_read s = not s.ended
 
 -- ---- the start
 
@@ -226,8 +226,8 @@ joined_by zero = no_group
 joined_by (suc k) = after_join k (joined_by k)
 
 -- before the first line, with the video's first frame at this byte
-abbrev pub first_state : Params → ℕ → ℕ → GroupState
-first_state p count at =
+abbrev pub group_at_start : Params → ℕ → ℕ → GroupState
+group_at_start p count at =
     record {
       params = p;
       run = joined_by count;
@@ -239,24 +239,24 @@ first_state p count at =
     }
 
 -- the head of the pictures of each receiver
-abbrev pub heads_text : Format → ℕ → Role → List ℕ
-heads_text f zero = no_texts
-heads_text f (suc k) = then_also (heads_text f k) (on (pictures_at k) (head_text f))
+abbrev pub viewers_heads : Format → ℕ → Role → List ℕ
+viewers_heads f zero = no_texts
+viewers_heads f (suc k) = then_also (viewers_heads f k) (on (pictures_at k) (head_text f))
 
 -- the head is read, and those of the pictures written
-abbrev pub head_step : GroupTerms → List ℕ → Result Format Y4mFault → Step GroupState
-head_step t video (Ok f) =
-    Goes (first_state (record t.params { format = f }) t.receivers (head_size video))
-    (record { taken = of Video (head_size video); whole = true; texts = heads_text f t.receivers })
-head_step t video (Err fault) = Ends (video_refusal Video no_bytes (VideoRefused fault))
+abbrev pub group_head_step : GroupTerms → List ℕ → Result Format Y4mFault → Step GroupState
+group_head_step t video (Ok f) =
+    Goes (group_at_start (record t.params { format = f }) t.receivers (head_size video))
+    (record { taken = of Video (head_size video); whole = true; texts = viewers_heads f t.receivers })
+group_head_step t video (Err fault) = Ends (video_refusal Video no_bytes (VideoRefused fault))
 
 abbrev pub group_begin : GroupTerms → (Role → List ℕ) → Step GroupState
-group_begin t inputs = head_step t (inputs Video) (head_of (inputs Video))
+group_begin t inputs = group_head_step t (inputs Video) (head_of (inputs Video))
 
 -- how many turns there may be at most
 abbrev pub most_turns : ℕ
 most_turns = 16777216
 
 -- all that a group's call makes of its inputs
-abbrev pub group_run : GroupTerms → (Role → List ℕ) → Run
-group_run t inputs = run_from (group_begin t inputs) group_step most_turns inputs
+abbrev pub group_call_run : GroupTerms → (Role → List ℕ) → Run
+group_call_run t inputs = run_from (group_begin t inputs) group_step most_turns inputs

@@ -36,7 +36,7 @@ use Rattle.one_way.specs.Seen.{reference_in}
 use Rattle.call_command.specs.Call.{line_size}
 use Rattle.call_command.specs.Counts.{counts_text_of}
 use Rattle.call_command.specs.Recorded.{capture_told, film, read_out, shown_text, told}
-use Rattle.call_command.specs.Refused.{fault_of}
+use Rattle.call_command.specs.Refused.{fault_told}
 use Rattle.group_sender.specs.Holding.{Groups, group_after_saying}
 use Rattle.group_call.specs.One.{one_sends}
 use Rattle.group_call.specs.Refused.{unless_left}
@@ -44,7 +44,7 @@ use Rattle.group_command.specs.declared.line.GroupLine.{GroupLine}
 use Rattle.group_command.specs.declared.line.GroupLine.TheVariants.{Quiet, ForAll, Of}
 use Rattle.group_command.specs.declared.line.OwnEvent.{OwnEvent}
 use Rattle.group_command.specs.declared.line.OwnEvent.TheVariants as own
-use Rattle.group_command.specs.Group.{event_of, joined_by, or_else, pictures_at}
+use Rattle.group_command.specs.Group.{event_of, joined_by, or_refused, pictures_at}
 use Rattle.group_command.specs.Lines.{group_line}
 
 -- ---- a trace
@@ -259,14 +259,14 @@ module _ (p : Params) (count : ℕ) (frames : List Frame) where
   abbrev pub far_from : ℕ → ℕ → List Happening → Option Refusal
   far_from zero k past = None
   far_from (suc n) k past =
-      or_else (refusal_in (rules_of p) (length (group_at past).coded + 1) (call_at k past) Send)
+      or_refused (refusal_in (rules_of p) (length (group_at past).coded + 1) (call_at k past) Send)
       (far_from n (suc k) past)
 
   -- The capture has that refusal, or, where there is none, no frame is left: since the next one of the
   -- video is refused, if it has a fault.
   abbrev pub IsRefusedForAll : Option Y4mFault → ℕ → List Happening → Status → Type 0
   IsRefusedForAll broken number past status =
-      ((r : Refusal) × (far_from count 0 past ≡ Some r) × (status ≡ TraceRefused (fault_of number Send r)))
+      ((r : Refusal) × (far_from count 0 past ≡ Some r) × (status ≡ TraceRefused (fault_told number Send r)))
       ⊎ ((far_from count 0 past ≡ None) × (length frames ≤ length (group_at past).coded)
       × (status ≡ capture_told broken number NoFrame))
 
@@ -278,24 +278,24 @@ module _ (p : Params) (count : ℕ) (frames : List Frame) where
   its_refusal k past e = refusal_in (rules_of p) (length frames) (call_at k past) e
 
   -- a line is refused for its event; one that delivers all packets of a picture for the first one
-  abbrev pub IsRefusedLine : Option Y4mFault → ℕ → List Happening → GroupLine → Status → Type 0
-  IsRefusedLine broken number past Quiet status = ⊥
-  IsRefusedLine broken number past ForAll status = IsRefusedForAll broken number past status
-  IsRefusedLine broken number past (Of k e) status =
+  abbrev pub IsRefusedGroupLine : Option Y4mFault → ℕ → List Happening → GroupLine → Status → Type 0
+  IsRefusedGroupLine broken number past Quiet status = ⊥
+  IsRefusedGroupLine broken number past ForAll status = IsRefusedForAll broken number past status
+  IsRefusedGroupLine broken number past (Of k e) status =
       (r : Refusal) × (its_refusal k past (event_of e) ≡ Some r)
-      × (status ≡ TraceRefused (fault_of number (event_of e) r))
+      × (status ≡ TraceRefused (fault_told number (event_of e) r))
 
   -- where the next line, which has this number, says an event, that is refused; where there is none, the
   -- trace is read out, up to its first fault
-  abbrev pub IsEnd : Option Y4mFault → Option TraceFault → ℕ → List Happening → List GroupLine → Status → Type 0
-  IsEnd broken fault number past [] status = status ≡ read_out fault
-  IsEnd broken fault number past (line ∷ lines) status = IsRefusedLine broken number past line status
+  abbrev pub IsGroupEnd : Option Y4mFault → Option TraceFault → ℕ → List Happening → List GroupLine → Status → Type 0
+  IsGroupEnd broken fault number past [] status = status ≡ read_out fault
+  IsGroupEnd broken fault number past (line ∷ lines) status = IsRefusedGroupLine broken number past line status
 
 -- The lines that it accepts are the first ones of the trace, one in each turn but the first, which reads the
 -- head, and each of them says what may happen there. Over their events the run is the calls of so many
 -- receivers of the frames of the video, and it ends because of the line after them. Where it refuses the
 -- video, just that line is taken of the trace.
-pub record FollowsItsTrace (p : Params) (count : ℕ) (inputs : Role → List ℕ) (run : Run) : Type 0 where
+pub record GroupFollowsItsTrace (p : Params) (count : ℕ) (inputs : Role → List ℕ) (run : Run) : Type 0 where
   pub lines : List GroupLine
   pub refused : List GroupLine
   pub read : group_lines count 16777216 (inputs Events) ≡ lines ++ refused
@@ -303,7 +303,7 @@ pub record FollowsItsTrace (p : Params) (count : ℕ) (inputs : Role → List �
   pub may : LinesMayBe p count (film p (video_frames (inputs Video))) [] lines
   pub are_viewers : AreViewersOver p count (film p (video_frames (inputs Video)))
       (with_all_said p count (film p (video_frames (inputs Video))) [] lines) run
-  pub end : IsEnd p count (film p (video_frames (inputs Video))) (video_fault (inputs Video))
+  pub end : IsGroupEnd p count (film p (video_frames (inputs Video))) (video_fault (inputs Video))
       (lines_fault count 16777216 1 (inputs Events)) (length lines + 1)
       (with_all_said p count (film p (video_frames (inputs Video))) [] lines) refused run.last.status
   pub others : (fault : Y4mFault) → run.last.status ≡ VideoRefused fault

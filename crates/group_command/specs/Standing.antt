@@ -56,8 +56,8 @@ abbrev pub RoomStandsAt : Room → GroupState → (Role → List ℕ) → Type 0
 RoomStandsAt m s inputs = RoomStands m s (inputs Events)
 
 -- how many lines may still come
-abbrev pub more_of : Room → ℕ
-more_of m = 16777216 - m.trace.lines
+abbrev pub room_lines_left : Room → ℕ
+room_lines_left m = 16777216 - m.trace.lines
 
 -- ---- what it is ready for
 
@@ -68,7 +68,7 @@ pub record GroupOpens (receivers : ℕ) (attached : Role → Bool) : Type 0 wher
   pub report : attached Report ≡ true
   pub pictures : (k : ℕ) → k < receivers → attached (pictures_at k) ≡ true
 
-pub record MayBegin (t : GroupTerms) (attached : Role → Bool) : Type 0 where
+pub record GroupMayBegin (t : GroupTerms) (attached : Role → Bool) : Type 0 where
   pub params : IsParams t.params
   pub some : 1 ≤ t.receivers
   pub few : t.receivers ≤ 3

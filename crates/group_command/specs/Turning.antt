@@ -12,7 +12,7 @@ use Rattle.call_report.specs.Text.{picture_text}
 use Rattle.call_model.specs.IdealCall.{Event}
 use Rattle.call_model.specs.Refusals.{Refusal}
 use Rattle.call_command.specs.Call.{line_size}
-use Rattle.call_command.specs.Refused.{fault_of}
+use Rattle.call_command.specs.Refused.{fault_told}
 use Rattle.call_command.specs.Standing.{HasTaken}
 use Rattle.desk_program.specs.Ends.{Falls, Gains, GainsFronts, HasCause, IsStop, KeepsRoles, OnEnd, OnGoing, Tells, TurnGives, turn_status}
 use Rattle.desk_program.specs.Run.{Step, left_after}
@@ -28,8 +28,8 @@ use Rattle.group_command.specs.declared.show.OwnRow.{OwnRow}
 use Rattle.group_command.specs.declared.event.OwnLine.{OwnLine}
 use Rattle.group_command.specs.declared.line.GroupLine.{GroupLine}
 use Rattle.group_command.specs.declared.line.GroupLine.TheVariants.{Quiet, ForAll, Of}
-use Rattle.group_command.specs.Group.{GroupState, after_line, capture_step, counts_of_view, event_of, first_behind, group_step, line_step, may_read, pictures_at, run_after, texts_after, view_after}
-use Rattle.group_command.specs.Standing.{AreViewing, RoomReady, RoomStands, RoomStandsAt, more_of}
+use Rattle.group_command.specs.Group.{GroupState, after_group_line, group_capture_step, counts_of_view, event_of, first_behind, group_step, group_line_step, room_may_read, pictures_at, run_after, texts_after, view_after}
+use Rattle.group_command.specs.Standing.{AreViewing, RoomReady, RoomStands, RoomStandsAt, room_lines_left}
 
 -- ---- a receiver that may be there
 
@@ -48,12 +48,12 @@ own_texts row picture =
 
 -- It was done: its texts are written, and it is then so. Or it was refused, and nothing was written; or
 -- it was done, but its texts couldn't be written.
-abbrev pub EventGives : Result Unit Status → ℕ → Event → Option Refusal → Type 0 → (Role → List ℕ)
+abbrev pub OwnEventGives : Result Unit Status → ℕ → Event → Option Refusal → Type 0 → (Role → List ℕ)
     → (Role → Option (List ℕ)) → (Role → Option (List ℕ)) → Type 0
-EventGives (Ok _) line e refusal after texts old new =
+OwnEventGives (Ok _) line e refusal after texts old new =
     (refusal ≡ None) × after × Gains texts old new
-EventGives (Err status) line e refusal after texts old new =
-    ((r : Refusal) × (refusal ≡ Some r) × (status ≡ TraceRefused (fault_of line e r)) × (new ≡ old))
+OwnEventGives (Err status) line e refusal after texts old new =
+    ((r : Refusal) × (refusal ≡ Some r) × (status ≡ TraceRefused (fault_told line e r)) × (new ≡ old))
     ⊎ ((refusal ≡ None) × (status ≡ WriteFault) × GainsFronts texts old new)
 
 -- what the line says of its receiver, by what that has done, where `Holds` says that the machine has
@@ -62,7 +62,7 @@ abbrev pub OwnGives : Result Unit Status → OwnLine → Params → Groups → V
     → (Groups → ViewerRun → Type 0) → Broadcast → (Role → Option (List ℕ)) → (Role → Option (List ℕ)) → Type 0
 OwnGives result said p run view Holds cast old new =
     let later = run_after p said.place run view said.event in
-    EventGives result said.line (event_of said.event) (view_refusal p run view (event_of said.event))
+    OwnEventGives result said.line (event_of said.event) (view_refusal p run view (event_of said.event))
     (HoldsBroadcast p cast later × Holds later (view_after p said.place run view said.event))
     (texts_after p said.place run view said.event) old new
 
@@ -91,8 +91,8 @@ pub record KeepsCast (old new : Broadcast) : Type 0 where
 
 -- A line was read, which has this number: the machine stood at the state before it, its reader of the
 -- trace has passed it, and nothing else was done since the desk was the old one.
-pub record IsRead (m : Room) (line : ℕ) (now old : Outside) (s : GroupState) (inputs : Role → List ℕ) : Type 0 where
-  pub stood : RoomStands m (after_line s (inputs Events))
+pub record IsGroupRead (m : Room) (line : ℕ) (now old : Outside) (s : GroupState) (inputs : Role → List ℕ) : Type 0 where
+  pub stood : RoomStands m (after_group_line s (inputs Events))
       (left_after inputs (of Events (line_size (inputs Events))) Events)
   pub number : line ≡ s.lines + 1
   pub taken : HasTaken inputs old now
@@ -103,7 +103,7 @@ pub record IsLineTurn (m : Room) (result : Result Bool Status) (mid new : Outsid
     (Begins : Outside → GroupState → (Role → List ℕ) → Type 0)
     (step : GroupState → (Role → List ℕ) → Step GroupState) : Type 0 where
   pub gives : (old : Outside) (s : GroupState) (inputs : Role → List ℕ) → Begins old s inputs
-      → TurnGives result (step s inputs) (RoomStandsAt m) may_read true inputs old new
+      → TurnGives result (step s inputs) (RoomStandsAt m) room_may_read true inputs old new
   pub goes_on : OnEnd result ⊥
   pub ready : OnGoing result (RoomReady m new.attached)
   pub stop : IfErr result IsStop
@@ -111,9 +111,9 @@ pub record IsLineTurn (m : Room) (result : Result Bool Status) (mid new : Outsid
   pub rest : KeepsRoles mid new
 
 -- the line says this
-abbrev pub TakesLine : Room → Room → ℕ → GroupLine → Result Bool Status → Outside → Outside → Type 0
-TakesLine m m_new line said result mid new =
-    IsLineTurn m_new result mid new (IsRead m line mid) (λ s inputs. line_step s inputs (Some said))
+abbrev pub TakesGroupLine : Room → Room → ℕ → GroupLine → Result Bool Status → Outside → Outside → Type 0
+TakesGroupLine m m_new line said result mid new =
+    IsLineTurn m_new result mid new (IsGroupRead m line mid) (λ s inputs. group_line_step s inputs (Some said))
 
 -- a receiver of which a line speaks is there
 abbrev pub IsThere : ℕ → GroupLine → Type 0
@@ -128,23 +128,23 @@ pub record HasLine (m : Room) (line : ℕ) : Type 0 where
   pub viewing : AreViewing (sent_in m.cast) (line - 1) m.viewers
 
 -- the frame is asked for that may be captured
-pub record IsAsked (m : Room) (line : ℕ) (now old : Outside) (s : GroupState) (inputs : Role → List ℕ) : Type 0 where
-  pub read : IsRead m line now old s inputs
+pub record IsGroupAsked (m : Room) (line : ℕ) (now old : Outside) (s : GroupState) (inputs : Role → List ℕ) : Type 0 where
+  pub read : IsGroupRead m line now old s inputs
   pub none : first_behind s.params s.run s.views ≡ None
 
-abbrev pub TakesFrame : Room → Room → ℕ → Result Bool Status → Outside → Outside → Type 0
-TakesFrame m m_new line result mid new =
-    IsLineTurn m_new result mid new (IsAsked m line mid) (λ s inputs. capture_step s (inputs Events) (inputs Video))
+abbrev pub TakesGroupFrame : Room → Room → ℕ → Result Bool Status → Outside → Outside → Type 0
+TakesGroupFrame m m_new line result mid new =
+    IsLineTurn m_new result mid new (IsGroupAsked m line mid) (λ s inputs. group_capture_step s (inputs Events) (inputs Video))
 
 -- ---- a whole turn
 
-pub record TakesTurn (x y : Room) (result : Result Bool Status) (old new : Outside) : Type 0 where
+pub record RoomTakesTurn (x y : Room) (result : Result Bool Status) (old new : Outside) : Type 0 where
   pub gives : (s : GroupState) (inputs : Role → List ℕ) → RoomStandsAt x s inputs → Tells old inputs
-      → TurnGives result (group_step s inputs) (RoomStandsAt y) may_read (may_read s) inputs old new
+      → TurnGives result (group_step s inputs) (RoomStandsAt y) room_may_read (room_may_read s) inputs old new
   -- at the end the trace is read out
   pub whole : (s : GroupState) (inputs : Role → List ℕ) → RoomStandsAt x s inputs → Tells old inputs
       → OnEnd result (new.left Events ≡ Some [])
-  pub falls : Falls result (more_of x) (more_of y)
+  pub falls : Falls result (room_lines_left x) (room_lines_left y)
   pub ready : OnGoing result (RoomReady y new.attached)
   pub stop : IfErr result IsStop
   pub cause : HasCause (turn_status result) old.faults new.faults

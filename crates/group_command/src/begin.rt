@@ -7,7 +7,7 @@ ghost use Rattle.h263_outside.specs.Desk.{OnlyWrites, Rose};
 ghost use Rattle.desk_program.specs.Ends.{Gains, GainsFronts};
 ghost use Rattle.group_call.specs.Holding.{HoldsBroadcast, IsCasting, params_in, pictures_in, sent_in};
 ghost use Rattle.group_command.specs.Begin.{IsNewRoom};
-ghost use Rattle.group_command.specs.Group.{heads_text, joined_by, pictures_at};
+ghost use Rattle.group_command.specs.Group.{viewers_heads, joined_by, pictures_at};
 
 use crate::show::put_own_head;
 use crate::{GroupTerms, Room, Viewers, laws};
@@ -73,9 +73,9 @@ fn write_heads<D: Desk>(desk: &mut D, format: Format, receivers: u32) -> Result<
     requires few { receivers ≤ 3 }
     requires pictures { (k : ℕ) → k < receivers
         → (D.outside desk.old).attached (pictures_at k) ≡ true }
-    ensures ok { OnOk result (Gains (heads_text format receivers)
+    ensures ok { OnOk result (Gains (viewers_heads format receivers)
         (D.outside desk.old).written (D.outside desk.new).written) }
-    ensures err { OnErr result (GainsFronts (heads_text format receivers)
+    ensures err { OnErr result (GainsFronts (viewers_heads format receivers)
         (D.outside desk.old).written (D.outside desk.new).written) }
     ensures kind { IfErr result (λ status. status ≡ Status.WriteFault) }
     ensures cause { OnErr result
@@ -100,16 +100,16 @@ pub struct GroupCall;
 impl Begins for GroupCall {
     ghost use Rattle.std.specs.Prelude.{Some};
     ghost use Rattle.h263_outside.specs.declared.desk.Role.TheVariants.{Events};
-    ghost use Rattle.group_command.specs.Group.{group_run};
-    ghost use Rattle.group_command.specs.Standing.{MayBegin};
+    ghost use Rattle.group_command.specs.Group.{group_call_run};
+    ghost use Rattle.group_command.specs.Standing.{GroupMayBegin};
 
     type Setup = GroupTerms;
 
     type Machine = Room;
 
-    ghost run = { group_run };
+    ghost run = { group_call_run };
 
-    ghost opens = { MayBegin };
+    ghost opens = { GroupMayBegin };
 
     ghost source = { λ _. Some Events };
 

@@ -7,7 +7,7 @@ ghost use Rattle.desk_program.specs.Ends.{HasCause, IsStop};
 ghost use Rattle.group_sender.specs.Holding.{Groups};
 ghost use Rattle.group_call.specs.Holding.{HoldsBroadcast, HoldsViewer, pictures_in, sent_in};
 ghost use Rattle.group_call.specs.Viewing.{ViewerRun, told_at};
-ghost use Rattle.group_command.specs.Group.{heard};
+ghost use Rattle.group_command.specs.Group.{group_heard};
 ghost use Rattle.group_command.specs.Standing.{IsViewing, Watches};
 ghost use Rattle.group_command.specs.Turning.{KeepsCast, MayTake, OpensFor, OwnGives};
 
@@ -33,7 +33,7 @@ fn hear(cast: &mut Broadcast, place: u32, viewer: &Viewer, message: u32)
     ensures keeps { KeepsCast cast.old cast.new }
     ensures holds { (p : Params) (run : Groups) (view : ViewerRun) → HoldsBroadcast p cast.old run
         → HoldsViewer p viewer.now view
-        → HoldsBroadcast p cast.new (heard p place run view (told_at view.told message)) }
+        → HoldsBroadcast p cast.new (group_heard p place run view (told_at view.told message)) }
 {
     if let Some((_, said)) = viewer.message(message) {
         cast.hear(place, said.text());

@@ -17,8 +17,8 @@ ghost use Rattle.desk_program.specs.Texts.{no_bytes};
 ghost use Rattle.desk_program.specs.Laws.{StepLaws, TurnLaws};
 ghost use Rattle.call_command.specs.Laws.{LineLaws, VideoLaws};
 ghost use Rattle.group_command.specs.declared.terms.GroupTerms.{GroupTerms};
-ghost use Rattle.group_command.specs.Group.{group_run};
-ghost use Rattle.group_command.specs.Recorded.{FollowsItsTrace};
+ghost use Rattle.group_command.specs.Group.{group_call_run};
+ghost use Rattle.group_command.specs.Recorded.{GroupFollowsItsTrace};
 
 use back_messages::MessageFault;
 use call_command::laws::{line_laws, video_laws};
@@ -48,10 +48,10 @@ use y4m::laws::frame_by_frame;
 pub fn a_group_follows_its_trace()
     ensures trace { (t : GroupTerms) (inputs : Role → List ℕ) (f : Format)
         → IsParams t.params → 1 ≤ t.receivers → t.receivers ≤ 3 → head_of (inputs Video) ≡ Ok f
-        → FollowsItsTrace (record t.params { format = f }) t.receivers inputs (group_run t inputs) }
+        → GroupFollowsItsTrace (record t.params { format = f }) t.receivers inputs (group_call_run t inputs) }
     ensures no_head { (t : GroupTerms) (inputs : Role → List ℕ) (fault : Y4mFault)
         → head_of (inputs Video) ≡ Err fault
-        → group_run t inputs
+        → group_call_run t inputs
         ≡ record { turns = []; last = video_refusal Video no_bytes (VideoRefused fault) } }
 {
     by_events::<Styled, Mb, Pictured>();
@@ -88,7 +88,7 @@ pub fn turning()
 /// A video that is refused has that fault, and no earlier one.
 pub fn refused_videos()
     ensures { (t : GroupTerms) (inputs : Role → List ℕ) (fault : Y4mFault)
-        → (group_run t inputs).last.status ≡ VideoRefused fault
+        → (group_call_run t inputs).last.status ≡ VideoRefused fault
         → video_fault (inputs Video) ≡ Some fault }
 {
     frame_by_frame();
@@ -97,5 +97,5 @@ pub fn refused_videos()
 /// There is no second video that could be refused.
 pub fn no_second_video()
     ensures { (t : GroupTerms) (inputs : Role → List ℕ) (fault : Y4mFault)
-        → (group_run t inputs).last.status ≡ Video2Refused fault → ⊥ }
+        → (group_call_run t inputs).last.status ≡ Video2Refused fault → ⊥ }
 {}

@@ -41,7 +41,7 @@ fn line_in(count: u32, bytes: &[u8], size: u32) -> Result<GroupLine, BadLine>
 
 impl Room {
     ghost use Rattle.group_command.specs.Standing.{RoomReady, viewers_in};
-    ghost use Rattle.group_command.specs.Turning.{HasLine, TakesFrame, TakesLine, TakesTurn};
+    ghost use Rattle.group_command.specs.Turning.{HasLine, TakesGroupFrame, TakesGroupLine, RoomTakesTurn};
 
     /// Gives back what the ends hold.
     pub fn finish(self) {
@@ -61,7 +61,7 @@ impl Room {
     fn send_frame<D: Desk>(&mut self, desk: &mut D, line: u32) -> Result<bool, Status>
         requires { RoomReady self.old (D.outside desk.old).attached }
         ensures trace { self.new.trace ≡ self.old.trace }
-        ensures takes { TakesFrame self.old self.new line result (D.outside desk.old) (D.outside desk.new) }
+        ensures takes { TakesGroupFrame self.old self.new line result (D.outside desk.old) (D.outside desk.new) }
     {
         laws::turning();
         if !self.video.frame(desk, &mut self.frame)? {
@@ -78,7 +78,7 @@ impl Room {
     fn capture<D: Desk>(&mut self, desk: &mut D, line: u32) -> Result<bool, Status>
         requires { RoomReady self.old (D.outside desk.old).attached }
         ensures trace { self.new.trace ≡ self.old.trace }
-        ensures takes { TakesLine self.old self.new line GroupLine.ForAll result
+        ensures takes { TakesGroupLine self.old self.new line GroupLine.ForAll result
             (D.outside desk.old) (D.outside desk.new) }
     {
         laws::turning();
@@ -93,7 +93,7 @@ impl Room {
         requires there { said.place < length (viewers_in self.old.viewers) }
         requires line { HasLine self.old said.line }
         ensures trace { self.new.trace ≡ self.old.trace }
-        ensures takes { TakesLine self.old self.new said.line (GroupLine.Of said.place said.event) result
+        ensures takes { TakesGroupLine self.old self.new said.line (GroupLine.Of said.place said.event) result
             (D.outside desk.old) (D.outside desk.new) }
     {
         laws::turning();
@@ -105,7 +105,7 @@ impl Room {
     // The next line is done, or refused. False at the end of the trace.
     fn line_turn<D: Desk>(&mut self, desk: &mut D) -> Result<bool, Status>
         requires { RoomReady self.old (D.outside desk.old).attached }
-        ensures { TakesTurn self.old self.new result (D.outside desk.old) (D.outside desk.new) }
+        ensures { RoomTakesTurn self.old self.new result (D.outside desk.old) (D.outside desk.new) }
     {
         laws::turning();
         let mut bytes = [0; 64];
@@ -127,18 +127,18 @@ impl Room {
 impl Turns for Room {
     ghost use Rattle.std.specs.Prelude.{Some};
     ghost use Rattle.h263_outside.specs.declared.desk.Role.TheVariants.{Events};
-    ghost use Rattle.group_command.specs.Group.{GroupState, group_step, may_read};
-    ghost use Rattle.group_command.specs.Standing.{RoomReady, RoomStandsAt, more_of};
+    ghost use Rattle.group_command.specs.Group.{GroupState, group_step, room_may_read};
+    ghost use Rattle.group_command.specs.Standing.{RoomReady, RoomStandsAt, room_lines_left};
 
     ghost State = { GroupState };
 
     ghost step = { group_step };
 
-    ghost reads = { may_read };
+    ghost reads = { room_may_read };
 
     ghost stands = { RoomStandsAt };
 
-    ghost more = { more_of };
+    ghost more = { room_lines_left };
 
     ghost ready = { RoomReady };
 

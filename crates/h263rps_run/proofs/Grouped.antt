@@ -9,7 +9,7 @@ use Rattle.command_words.specs.Asked.{Asked}
 use Rattle.command_words.specs.declared.command.Command.TheVariants.{Group}
 use Rattle.desk_program.specs.Attached.{AreAttached, are_free}
 use Rattle.group_command.specs.Group.{pictures_at}
-use Rattle.group_command.specs.Standing.{MayBegin}
+use Rattle.group_command.specs.Standing.{GroupMayBegin}
 use Rattle.h263rps_run.specs.Output.{group_terms, roles_of, the_word}
 use Rattle.h263rps_run.proofs.Named.{group_by}
 
@@ -26,7 +26,7 @@ module _ (params : Params) (a : Asked) where
   group_free n = free_by (nat_le 2 n) (nat_le 3 n)
 
   pub group_opens : (n : ℕ) → IsParams params → 1 ≤ n → n ≤ 3 → (now : Outside)
-      → AreAttached ((Report, []) ∷ roles_of (Group params n) a) now → MayBegin (group_terms params n) now.attached
+      → AreAttached ((Report, []) ∷ roles_of (Group params n) a) now → GroupMayBegin (group_terms params n) now.attached
   group_opens zero is some few now e = absurd (omega (arith, some))
   group_opens (suc zero) is some few now e = record {
     params = is;

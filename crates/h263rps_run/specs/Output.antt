@@ -28,7 +28,7 @@ use Rattle.demo_command.specs.Demo.{demo_begin, demo_step}
 use Rattle.demo_command.specs.Demo as demo
 use Rattle.duplex_command.specs.Begin.{duplex_run}
 use Rattle.group_command.specs.declared.terms.GroupTerms.{GroupTerms}
-use Rattle.group_command.specs.Group.{group_run}
+use Rattle.group_command.specs.Group.{group_call_run}
 
 -- ---- the words
 
@@ -128,7 +128,7 @@ run_of (Rate target bucket) inputs =
     run_from (rate_begin (bucket_of target bucket) inputs) rate_step 16777216 inputs
 run_of (Audit params) inputs = run_from (audit_begin params inputs) audit_step 16777216 inputs
 run_of (Duplex params) inputs = duplex_run params inputs
-run_of (Group params receivers) inputs = group_run (group_terms params receivers) inputs
+run_of (Group params receivers) inputs = group_call_run (group_terms params receivers) inputs
 
 -- what a command gives where the inputs hold these bytes: texts turn by turn, and a status. Where
 -- none was asked for it is Usage.

@@ -19,21 +19,21 @@ use Rattle.desk_program.specs.Run.{Run, text_of}
 use Rattle.desk_program.specs.Texts.{on}
 use Rattle.log_command.specs.Log.{LogRules}
 use Rattle.log_command.specs.Followed.{FollowsItsLog, IsEnd, mind_after, mind_with, text_after, text_with, told, turns_over}
-use Rattle.recv_command.specs.Followed.{ReceivesItsLog, counted, heard_as, said_entry, messages_text, pictures_text, played_lines, with_entries}
+use Rattle.recv_command.specs.Followed.{ReceivesItsLog, counted, heard_as, said_entry, messages_text, pictures_text, receiver_play_lines, with_receiver_entries}
 use Rattle.recv_command.specs.Recv.{RecvState, nothing_heard, recv_rules}
-use Rattle.recv_command.specs.Said.{back_text}
+use Rattle.recv_command.specs.Said.{said_message_text}
 
 -- ---- what a message is on each output
 
-no_picture_said : (o : Option Message) → back_text o Pictures ≡ []
+no_picture_said : (o : Option Message) → said_message_text o Pictures ≡ []
 no_picture_said None = refl
 no_picture_said (Some message) = refl
 
-said_on_wire : (o : Option Message) → back_text o Wire ≡ said_entry o
+said_on_wire : (o : Option Message) → said_message_text o Wire ≡ said_entry o
 said_on_wire None = refl
 said_on_wire (Some message) = refl
 
-no_line_said : (o : Option Message) → back_text o Report ≡ []
+no_line_said : (o : Option Message) → said_message_text o Report ≡ []
 no_line_said None = refl
 no_line_said (Some message) = refl
 
@@ -59,7 +59,7 @@ module _ {State : Type 0} (rules : LogRules State) (at : List ReceiverEntry → 
     (mind_is : (past : List ReceiverEntry) (e : Entry) (bytes : List ℕ) → mind_with rules (at past) e bytes
     ≡ at (heard_as e bytes ∷ past)) where
   pub minds_are : (found : List Found) (past : List ReceiverEntry) → mind_after rules (at past) found
-      ≡ at (with_entries past found)
+      ≡ at (with_receiver_entries past found)
   minds_are [] past = refl
   minds_are (x ∷ more) past = ap (λ (s : State). mind_after rules s more) (mind_is past x.entry x.bytes)
       ∙ minds_are more (heard_as x.entry x.bytes ∷ past)
@@ -69,7 +69,7 @@ module _ {State : Type 0} (rules : LogRules State) (at : List ReceiverEntry → 
       (grows : (past : List ReceiverEntry) (e : Entry) (bytes : List ℕ)
       → text past ++ text_with rules (at past) e bytes r ≡ text (heard_as e bytes ∷ past)) where
     pub texts_are : (found : List Found) (past : List ReceiverEntry) → text past ++ text_after rules (at past) found r
-        ≡ text (with_entries past found)
+        ≡ text (with_receiver_entries past found)
     texts_are [] past = append-nil (text past)
     texts_are (x ∷ more) past =
         ap (λ (s : State). text past ++ (text_with rules (at past) x.entry x.bytes r ++ text_after rules s more r))
@@ -90,7 +90,7 @@ module _ {State : Type 0} (rules : LogRules State) (at : List ReceiverEntry → 
     turns_are = ap length f.turns ∙ ap suc (turn_count f.accepted (at start)) ∙ one_turn_each (length f.accepted)
 
     abbrev past : List ReceiverEntry
-    past = with_entries start f.accepted
+    past = with_receiver_entries start f.accepted
 
     abbrev end_text : State → Role → List ℕ
     end_text s r = told run.last.status (rules.end_text s r)
@@ -162,18 +162,18 @@ module _ (p : Params) where
   messages_grow past (log_entry.Back len) bytes = played_message past
   messages_grow past log_entry.Play bytes = played_message past
 
-  played_line : (past : List ReceiverEntry) → played_lines p past ++ recv_rules.other_text (state past) [] Report
-      ≡ played_lines p (PlayNext ∷ past)
+  played_line : (past : List ReceiverEntry) → receiver_play_lines p past ++ recv_rules.other_text (state past) [] Report
+      ≡ receiver_play_lines p (PlayNext ∷ past)
   played_line past =
-      ap (λ (l : List ℕ). played_lines p past ++ (line past ++ l)) (no_line_said (message_after p past))
-      ∙ ap (λ (l : List ℕ). played_lines p past ++ l) (append-nil (line past))
+      ap (λ (l : List ℕ). receiver_play_lines p past ++ (line past ++ l)) (no_line_said (message_after p past))
+      ∙ ap (λ (l : List ℕ). receiver_play_lines p past ++ l) (append-nil (line past))
 
   pub lines_grow : (past : List ReceiverEntry) (e : Entry) (bytes : List ℕ)
-      → played_lines p past ++ text_with recv_rules (state past) e bytes Report
-      ≡ played_lines p (heard_as e bytes ∷ past)
+      → receiver_play_lines p past ++ text_with recv_rules (state past) e bytes Report
+      ≡ receiver_play_lines p (heard_as e bytes ∷ past)
   lines_grow past (log_entry.Packet len) bytes =
-      ap (λ (l : List ℕ). played_lines p past ++ l) (no_line_said (said_by (answer_after p past bytes)))
-      ∙ append-nil (played_lines p past)
+      ap (λ (l : List ℕ). receiver_play_lines p past ++ l) (no_line_said (said_by (answer_after p past bytes)))
+      ∙ append-nil (receiver_play_lines p past)
   lines_grow past log_entry.Capture bytes = played_line past
   lines_grow past (log_entry.Back len) bytes = played_line past
   lines_grow past log_entry.Play bytes = played_line past
@@ -186,9 +186,9 @@ module _ (p : Params) where
     head = on Pictures (head_text p.format)
 
     text_at : (r : Role) (text : List ReceiverEntry → List ℕ) → text_after recv_rules (nothing_heard p) f.accepted r
-        ≡ text (with_entries [] f.accepted)
-        → text_of run r ≡ head r ++ (text (with_entries [] f.accepted)
-        ++ told run.last.status (recv_rules.end_text (state (with_entries [] f.accepted)) r))
+        ≡ text (with_receiver_entries [] f.accepted)
+        → text_of run r ≡ head r ++ (text (with_receiver_entries [] f.accepted)
+        ++ told run.last.status (recv_rules.end_text (state (with_receiver_entries [] f.accepted)) r))
     text_at r text is = texts_at recv_rules state mind_is [] head inputs run f r text is
 
     pub receives : ReceivesItsLog p inputs run
@@ -207,7 +207,7 @@ module _ (p : Params) where
             text_at Wire (messages_text p) (texts_are recv_rules state mind_is Wire (messages_text p) messages_grow
             f.accepted [])
             ∙ quiet_end recv_rules state mind_is [] head inputs run f Wire (messages_text p) refl;
-        report = text_at Report (played_lines p) (texts_are recv_rules state mind_is Report (played_lines p) lines_grow
+        report = text_at Report (receiver_play_lines p) (texts_are recv_rules state mind_is Report (receiver_play_lines p) lines_grow
             f.accepted []);
       };
       end = end_at recv_rules state mind_is [] head inputs run f;

@@ -13,8 +13,8 @@ use Rattle.desk_program.specs.Run.{Run, text_of}
 use Rattle.desk_program.specs.Texts.{no_texts, on, then_also}
 use Rattle.log_command.specs.Followed.{FollowsItsLog, mind_with, text_after, text_with, told}
 use Rattle.payload_join.specs.Run.{given_next}
-use Rattle.recv_command.specs.Followed.{JoinsItsLog, heard_as, joins_counted, messages_text, pictures_text, played_lines, with_entries}
-use Rattle.recv_command.specs.Join.{Delivering, JoinState, delivers_next, join_rules, packets_in, through}
+use Rattle.recv_command.specs.Followed.{JoinsItsLog, heard_as, joins_counted, messages_text, pictures_text, receiver_play_lines, with_receiver_entries}
+use Rattle.recv_command.specs.Join.{Delivering, JoinState, delivers_next, join_rules, packets_among, through}
 use Rattle.recv_command.specs.Recv.{recv_rules}
 use Rattle.recv_command.proofs.Followed.{end_at, lines_grow, messages_grow, pictures_grow, quiet_end, state, texts_are, texts_at, turns_are}
 use Rattle.recv_command.proofs.Joined.{reversed}
@@ -53,21 +53,21 @@ module _ (p : Params) where
   abbrev joined : List ReceiverEntry → JoinState
   joined past =
       record {
-        packets = packets_in past;
-        took = joins_counted p.format (packets_in past);
+        packets = packets_among past;
+        took = joins_counted p.format (packets_among past);
         receiver = state p (through p.format past);
       }
 
   abbrev given : List ReceiverEntry → List ℕ → List (List ℕ)
-  given past bytes = given_next p.format (packets_in past) bytes
+  given past bytes = given_next p.format (packets_among past) bytes
 
   mind_is : (past : List ReceiverEntry) (e : Entry) (bytes : List ℕ) → mind_with join_rules (joined past) e bytes
       ≡ joined (heard_as e bytes ∷ past)
-  unfolding packets_in through
+  unfolding packets_among through
   mind_is past (log_entry.Packet len) bytes =
       ap (λ s. let j : JoinState = record {
-        packets = bytes ∷ packets_in past;
-        took = joins_counted p.format (bytes ∷ packets_in past);
+        packets = bytes ∷ packets_among past;
+        took = joins_counted p.format (bytes ∷ packets_among past);
         receiver = s;
       } in j)
       (delivered (given past bytes) (through p.format past) no_texts)
@@ -84,7 +84,7 @@ module _ (p : Params) where
 
     grows_joined : (past : List ReceiverEntry) (e : Entry) (bytes : List ℕ)
         → over past ++ text_with join_rules (joined past) e bytes r ≡ over (heard_as e bytes ∷ past)
-    unfolding packets_in through
+    unfolding packets_among through
     grows_joined past (log_entry.Packet len) bytes =
         sym (said r text grows (given past bytes) (through p.format past) no_texts (over past)
         (sym (append-nil (over past))))
@@ -100,7 +100,7 @@ module _ (p : Params) where
     head = on Pictures (head_text p.format)
 
     abbrev past : List ReceiverEntry
-    past = with_entries [] f.accepted
+    past = with_receiver_entries [] f.accepted
 
     text_at : (r : Role) (text : List ReceiverEntry → List ℕ) → text_after join_rules (joined []) f.accepted r
         ≡ text past
@@ -127,8 +127,8 @@ module _ (p : Params) where
           f.accepted [])
           ∙ quiet_end join_rules joined mind_is [] head inputs run f Wire
           (over Wire (messages_text p) (messages_grow p)) refl;
-      report = text_at Report (over Report (played_lines p) (lines_grow p)) (texts_are join_rules joined mind_is Report
-          (over Report (played_lines p) (lines_grow p)) (grows_joined Report (played_lines p) (lines_grow p)) f.accepted
+      report = text_at Report (over Report (receiver_play_lines p) (lines_grow p)) (texts_are join_rules joined mind_is Report
+          (over Report (receiver_play_lines p) (lines_grow p)) (grows_joined Report (receiver_play_lines p) (lines_grow p)) f.accepted
           []);
       end = end_at join_rules joined mind_is [] head inputs run f;
     }

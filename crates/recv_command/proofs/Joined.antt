@@ -9,7 +9,7 @@ use Rattle.payload_join.specs.Joining.{Joining, Stands}
 use Rattle.payload_join.specs.Packet as joins
 use Rattle.payload_join.specs.Places.{Shows}
 use Rattle.payload_join.specs.Run.{given_next, joined_by}
-use Rattle.recv_command.specs.Join.{Delivering, JoinState, given_to, delivers_next, delivers_one, joined_state, packets_in, through}
+use Rattle.recv_command.specs.Join.{Delivering, JoinState, given_to, delivers_next, delivers_one, joined_state, packets_among, through}
 
 pub reversed : (x : ReceiverEntry) (xs ys : List ReceiverEntry) → reverse xs ++ (x ∷ ys) ≡ reverse (x ∷ xs) ++ ys
 reversed x xs ys = sym (ap (λ (l : List ReceiverEntry). l ++ ys) (reverse-append (x ∷ []) xs)
@@ -38,8 +38,8 @@ params_are p (PlayNext ∷ past) = params_are p past
 params_are p (Packet bytes ∷ past) = params_stay (given_to (joined_state p past) bytes) (begun (joined_state p past))
     ∙ params_are p past
 
-packets_are : (p : Params) (past : List ReceiverEntry) → (joined_state p past).packets ≡ packets_in past
-unfolding joined_state packets_in
+packets_are : (p : Params) (past : List ReceiverEntry) → (joined_state p past).packets ≡ packets_among past
+unfolding joined_state packets_among
 packets_are p [] = refl
 packets_are p (PlayNext ∷ past) = packets_are p past
 packets_are p (Packet bytes ∷ past) = ap (λ (l : List (List ℕ)). bytes ∷ l) (packets_are p past)
@@ -50,7 +50,7 @@ past_is p [] = refl
 past_is p (PlayNext ∷ past) = ap (λ (l : List ReceiverEntry). PlayNext ∷ l) (past_is p past)
 past_is p (Packet bytes ∷ past) =
     let given : given_next (joined_state p past).receiver.params.format (joined_state p past).packets bytes
-    ≡ given_next p.format (packets_in past) bytes =
+    ≡ given_next p.format (packets_among past) bytes =
     λ i. given_next (params_are p past i).format (packets_are p past i) bytes in
     entries_are (given_to (joined_state p past) bytes) (begun (joined_state p past))
     ∙ (λ i. reverse (map Packet (given i)) ++ past_is p past i)

@@ -14,7 +14,7 @@ use Rattle.receiver_end.specs.Answers.{IsHeard, IsMessage, IsSaid}
 use Rattle.receiver_end.specs.declared.answers.Heard.{Heard}
 use Rattle.coded_call.specs.Bytes.{AreBytes}
 use Rattle.recv_command.specs.declared.tally.Tally.{Tally}
-use Rattle.recv_command.specs.Said.{back_text}
+use Rattle.recv_command.specs.Said.{said_message_text}
 use Rattle.recv_command.specs.Tally.{with_answer, with_heard}
 
 -- ---- answers
@@ -45,7 +45,7 @@ some_is a b o p q = cc (p, q)
 
 pub said_text : SaysBytes → (clock : Clock) (o : Option Said) (said : Said) (message : Option Message) → o ≡ Some said
     → AreBytes (text_of said)
-    → IsMessage clock o message → on Wire (entry_text 66 (text_of said)) ≡ back_text message
+    → IsMessage clock o message → on Wire (entry_text 66 (text_of said)) ≡ said_message_text message
 said_text law clock o said None is fit none = absurd (cc (none, is))
 said_text law clock o said (Some message) is fit m =
     let same : m.0 ≡ said = some_is m.0 said o m.1 is in

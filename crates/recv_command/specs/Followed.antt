@@ -22,9 +22,9 @@ use Rattle.log_command.specs.Followed.{IsEnd, told}
 use Rattle.payload_join.specs.Run.{given_next, took_next}
 use Rattle.recv_command.specs.declared.join_tally.JoinTally.{JoinTally}
 use Rattle.recv_command.specs.declared.tally.Tally.{Tally}
-use Rattle.recv_command.specs.Join.{packets_in, through}
+use Rattle.recv_command.specs.Join.{packets_among, through}
 use Rattle.recv_command.specs.JoinTally.{join_text, nothing_taken, with_joined, with_took}
-use Rattle.recv_command.specs.Tally.{no_counts, with_mark, with_answer, count_text}
+use Rattle.recv_command.specs.Tally.{nothing_heard_counted, with_mark, with_answer, receiver_counts}
 
 -- an entry of a receiver's log as the receiver has it: a packet, or a play
 abbrev pub heard_as : Entry → List ℕ → ReceiverEntry
@@ -34,9 +34,9 @@ heard_as (log_entry.Back len) bytes = PlayNext
 heard_as log_entry.Play bytes = PlayNext
 
 -- the packets and plays after those of these entries, the newest first
-abbrev pub with_entries : List ReceiverEntry → List Found → List ReceiverEntry
-with_entries past [] = past
-with_entries past (found ∷ more) = with_entries (heard_as found.entry found.bytes ∷ past) more
+abbrev pub with_receiver_entries : List ReceiverEntry → List Found → List ReceiverEntry
+with_receiver_entries past [] = past
+with_receiver_entries past (found ∷ more) = with_receiver_entries (heard_as found.entry found.bytes ∷ past) more
 
 -- a message on the wire is an entry B (66)
 abbrev pub said_entry : Option Message → List ℕ
@@ -61,16 +61,16 @@ module _ (p : Params) where
   messages_text (PlayNext ∷ past) = messages_text past ++ said_entry (message_after p past)
 
   -- the lines of the plays
-  abbrev pub played_lines : List ReceiverEntry → List ℕ
-  played_lines [] = []
-  played_lines (Packet bytes ∷ past) = played_lines past
-  played_lines (PlayNext ∷ past) =
-      played_lines past
+  abbrev pub receiver_play_lines : List ReceiverEntry → List ℕ
+  receiver_play_lines [] = []
+  receiver_play_lines (Packet bytes ∷ past) = receiver_play_lines past
+  receiver_play_lines (PlayNext ∷ past) =
+      receiver_play_lines past
       ++ picture_text (run_of p past).played (Some (mark_of (mark_after p past))) None None
 
   -- what is counted: each play by its mark, and each packet by its answer
   abbrev pub counted : List ReceiverEntry → Tally
-  counted [] = no_counts
+  counted [] = nothing_heard_counted
   counted (Packet bytes ∷ past) = with_answer (answer_after p past bytes) (counted past)
   counted (PlayNext ∷ past) = with_mark (mark_of (mark_after p past)) (counted past)
 
@@ -81,8 +81,8 @@ module _ (p : Params) where
     pub pictures : text_of run Pictures ≡ head_text p.format ++ pictures_text past
     pub wire : text_of run Wire ≡ messages_text past
     pub report : text_of run Report
-        ≡ played_lines past
-        ++ told run.last.status (count_text (run_of p past).played (counted past))
+        ≡ receiver_play_lines past
+        ++ told run.last.status (receiver_counts (run_of p past).played (counted past))
 
   -- The entries that it accepts are the first ones of the log, one in each turn but the first, which
   -- writes the head. Over them the run is the receiver's, and it ends because of what comes after
@@ -92,8 +92,8 @@ module _ (p : Params) where
     pub refused : List Found
     pub read : log_entries OfReceiver (inputs Events) ≡ accepted ++ refused
     pub taken : length run.turns ≡ length accepted + 1
-    pub is_run : IsReceiverOver (with_entries [] accepted) run
-    pub end : IsEnd (log_fault OfReceiver (inputs Events)) (run_of p (with_entries [] accepted)).played
+    pub is_run : IsReceiverOver (with_receiver_entries [] accepted) run
+    pub end : IsEnd (log_fault OfReceiver (inputs Events)) (run_of p (with_receiver_entries [] accepted)).played
         refused run.last.status
 
 -- ---- with a joiner
@@ -113,13 +113,13 @@ pub record JoinsItsLog (p : Params) (inputs : Role → List ℕ) (run : Run) : T
   pub read : log_entries OfReceiver (inputs Events) ≡ accepted ++ refused
   pub taken : length run.turns ≡ length accepted + 1
   pub pictures : text_of run Pictures
-      ≡ head_text p.format ++ pictures_text p (through p.format (with_entries [] accepted))
-  pub wire : text_of run Wire ≡ messages_text p (through p.format (with_entries [] accepted))
+      ≡ head_text p.format ++ pictures_text p (through p.format (with_receiver_entries [] accepted))
+  pub wire : text_of run Wire ≡ messages_text p (through p.format (with_receiver_entries [] accepted))
   pub report : text_of run Report
-      ≡ played_lines p (through p.format (with_entries [] accepted))
+      ≡ receiver_play_lines p (through p.format (with_receiver_entries [] accepted))
       ++ told run.last.status
-      (join_text (joins_counted p.format (packets_in (with_entries [] accepted)))
-      ++ count_text (run_of p (through p.format (with_entries [] accepted))).played
-      (counted p (through p.format (with_entries [] accepted))))
+      (join_text (joins_counted p.format (packets_among (with_receiver_entries [] accepted)))
+      ++ receiver_counts (run_of p (through p.format (with_receiver_entries [] accepted))).played
+      (counted p (through p.format (with_receiver_entries [] accepted))))
   pub end : IsEnd (log_fault OfReceiver (inputs Events))
-      (run_of p (through p.format (with_entries [] accepted))).played refused run.last.status
+      (run_of p (through p.format (with_receiver_entries [] accepted))).played refused run.last.status

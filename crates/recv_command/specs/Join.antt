@@ -19,7 +19,7 @@ use Rattle.payload_join.specs.Run.{given_next, took_next}
 use Rattle.recv_command.specs.declared.join.Joining.{Joining}
 use Rattle.recv_command.specs.declared.join_tally.JoinTally.{JoinTally}
 use Rattle.recv_command.specs.declared.recv.Receiving.{Receiving}
-use Rattle.recv_command.specs.JoinTally.{join_text, nothing_taken, packets_of, with_joined, with_took}
+use Rattle.recv_command.specs.JoinTally.{join_text, nothing_taken, packets_taken, with_joined, with_took}
 use Rattle.recv_command.specs.Recv.{RecvStands, RecvState, nothing_heard, recv_rules}
 use Rattle.recv_command.specs.Tally.{total_of}
 
@@ -87,10 +87,10 @@ join_step s inputs = log_step join_rules s inputs
 -- ---- the receiver's entries
 
 -- the packets among these entries
-unfoldable pub packets_in : List ReceiverEntry → List (List ℕ)
-packets_in [] = []
-packets_in (PlayNext ∷ past) = packets_in past
-packets_in (Packet bytes ∷ past) = bytes ∷ packets_in past
+unfoldable pub packets_among : List ReceiverEntry → List (List ℕ)
+packets_among [] = []
+packets_among (PlayNext ∷ past) = packets_among past
+packets_among (Packet bytes ∷ past) = bytes ∷ packets_among past
 
 -- what the receiver gets and plays after these entries of the log, the newest first: the join run
 -- of the log's packets, with the plays in their places
@@ -98,7 +98,7 @@ unfoldable pub through : Format → List ReceiverEntry → List ReceiverEntry
 through format [] = []
 through format (PlayNext ∷ past) = PlayNext ∷ through format past
 through format (Packet bytes ∷ past) =
-    reverse (map Packet (given_next format (packets_in past) bytes)) ++ through format past
+    reverse (map Packet (given_next format (packets_among past) bytes)) ++ through format past
 
 -- what the command keeps in mind after these entries
 abbrev pub joins_entry : JoinState → ReceiverEntry → JoinState
@@ -126,7 +126,7 @@ pub record JoinReady (c : Joining) (entries : ℕ) (attached : Role → Bool) : 
   pub past : List (List ℕ)
   pub stands : Stands c.joiner past
   -- one packet of the log gives 2^22 at most
-  pub packets : packets_of c.took ≤ entries
+  pub packets : packets_taken c.took ≤ entries
   pub joined : c.took.joined ≤ 2 ^ 22 * entries
   pub counted : total_of c.receiving.tally ≤ 2 ^ 22 * entries
 

@@ -17,8 +17,8 @@ nothing_taken =
     }
 
 -- how many packets were taken: each counts once
-abbrev pub packets_of : JoinTally → ℕ
-packets_of t = t.held + t.too_old + t.again + t.refused
+abbrev pub packets_taken : JoinTally → ℕ
+packets_taken t = t.held + t.too_old + t.again + t.refused
 
 -- this became of one packet more
 abbrev pub with_took : Took → JoinTally → JoinTally

@@ -14,8 +14,8 @@ use Rattle.receiver_end.specs.Answers.{mark_of, said_by}
 use Rattle.receiver_end.specs.State.{run_of, answer_after, mark_after, message_after, Stands}
 use Rattle.recv_command.specs.declared.recv.Receiving.{Receiving}
 use Rattle.recv_command.specs.declared.tally.Tally.{Tally}
-use Rattle.recv_command.specs.Said.{back_text, shown_text}
-use Rattle.recv_command.specs.Tally.{no_counts, total_of, with_mark, with_answer, count_text}
+use Rattle.recv_command.specs.Said.{said_message_text, shown_play_text}
+use Rattle.recv_command.specs.Tally.{nothing_heard_counted, total_of, with_mark, with_answer, receiver_counts}
 
 -- the parameters, the packets and plays so far, newest first, and what was counted of them
 pub record RecvState : Type 0 where
@@ -24,21 +24,21 @@ pub record RecvState : Type 0 where
   pub tally : Tally
 
 abbrev pub nothing_heard : Params → RecvState
-nothing_heard p = record { params = p; past = []; tally = no_counts }
+nothing_heard p = record { params = p; past = []; tally = nothing_heard_counted }
 
 -- the state after an entry
-abbrev pub after_entry : RecvState → ReceiverEntry → Tally → RecvState
-after_entry s entry tally = record { params = s.params; past = entry ∷ s.past; tally = tally }
+abbrev pub after_heard_entry : RecvState → ReceiverEntry → Tally → RecvState
+after_heard_entry s entry tally = record { params = s.params; past = entry ∷ s.past; tally = tally }
 
 -- a packet is heard: what it completes is acknowledged
 abbrev pub heard_text : Params → List ReceiverEntry → List ℕ → Role → List ℕ
-heard_text p past bytes = back_text (said_by (answer_after p past bytes))
+heard_text p past bytes = said_message_text (said_by (answer_after p past bytes))
 
 -- the next picture is shown: with its mark, its line, and where it isn't complete the message that
 -- says so
 abbrev pub played_text : Params → List ReceiverEntry → Role → List ℕ
 played_text p past =
-    shown_text (run_of p past).played (mark_of (mark_after p past)) (run_of p (PlayNext ∷ past)).screen
+    shown_play_text (run_of p past).played (mark_of (mark_after p past)) (run_of p (PlayNext ∷ past)).screen
     (message_after p past)
 
 -- each entry joins those so far, and is counted; at the end the counts are told
@@ -46,12 +46,12 @@ abbrev pub recv_rules : LogRules RecvState
 recv_rules =
     record {
       side = OfReceiver;
-      packet = λ s bytes. after_entry s (Packet bytes) (with_answer (answer_after s.params s.past bytes) s.tally);
+      packet = λ s bytes. after_heard_entry s (Packet bytes) (with_answer (answer_after s.params s.past bytes) s.tally);
       packet_text = λ s bytes. heard_text s.params s.past bytes;
-      other = λ s bytes. after_entry s PlayNext (with_mark (mark_of (mark_after s.params s.past)) s.tally);
+      other = λ s bytes. after_heard_entry s PlayNext (with_mark (mark_of (mark_after s.params s.past)) s.tally);
       other_text = λ s bytes. played_text s.params s.past;
       plays = λ s. (run_of s.params s.past).played;
-      end_text = λ s. on Report (count_text (run_of s.params s.past).played s.tally);
+      end_text = λ s. on Report (receiver_counts (run_of s.params s.past).played s.tally);
     }
 
 -- before the first entry the head of the pictures is written, and nothing is read

@@ -12,12 +12,12 @@ use Rattle.call_model.specs.Coding.{Message}
 use Rattle.call_encoding.specs.Messages.{write_message}
 
 -- a message is an entry B (66) of the wire
-abbrev pub back_text : Option Message → Role → List ℕ
-back_text None = no_texts
-back_text (Some message) = on Wire (entry_text 66 (write_message message))
+abbrev pub said_message_text : Option Message → Role → List ℕ
+said_message_text None = no_texts
+said_message_text (Some message) = on Wire (entry_text 66 (write_message message))
 
 -- a picture is shown with its mark and its line, and a message is said of it, or none
-abbrev pub shown_text : ℕ → Mark → Picture → Option Message → Role → List ℕ
-shown_text number mark picture message =
+abbrev pub shown_play_text : ℕ → Mark → Picture → Option Message → Role → List ℕ
+shown_play_text number mark picture message =
     then_also (on Pictures (frame_text mark picture))
-    (then_also (on Report (picture_text number (Some mark) None None)) (back_text message))
+    (then_also (on Report (picture_text number (Some mark) None None)) (said_message_text message))

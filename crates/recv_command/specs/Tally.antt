@@ -10,8 +10,8 @@ use Rattle.receiver_end.specs.declared.answers.Heard.TheVariants as heards
 use Rattle.recv_command.specs.declared.tally.Tally.{Tally}
 
 -- nothing was counted
-abbrev pub no_counts : Tally
-no_counts =
+abbrev pub nothing_heard_counted : Tally
+nothing_heard_counted =
     record {
       exact = 0;
       patched = 0;
@@ -52,8 +52,8 @@ with_answer runs.Repeat t = record t { repeat = t.repeat + 1 }
 with_answer _ t = record t { refused = t.refused + 1 }
 
 -- the line of what was played and counted
-abbrev pub count_text : ℕ → Tally → List ℕ
-count_text played t =
+abbrev pub receiver_counts : ℕ → Tally → List ℕ
+receiver_counts played t =
     counts
     ((codes "played", played)
     ∷ (codes "exact", t.exact)

@@ -10,7 +10,7 @@ ghost use Rattle.desk_program.specs.Texts.{then_also};
 ghost use Rattle.recv_command.specs.Join.{HasWritten, Delivering, IsDelivering, Wrote, delivers};
 ghost use Rattle.recv_command.specs.JoinTally.{with_joined};
 ghost use Rattle.recv_command.specs.Recv.{RecvStands, RecvState};
-ghost use Rattle.recv_command.specs.Said.{back_text};
+ghost use Rattle.recv_command.specs.Said.{said_message_text};
 ghost use Rattle.recv_command.specs.Tally.{total_of};
 
 use crate::parts::say;
@@ -33,7 +33,7 @@ fn say_after<D: Desk>(
     ensures said { (old : Role → Option (List ℕ)) (texts : Role → List ℕ) (clock : Clock)
         (said : Option Message) → IsMessage clock message said
         → Wrote texts before old (D.outside desk.old).written
-        → Wrote (then_also texts (back_text said)) result old (D.outside desk.new).written }
+        → Wrote (then_also texts (said_message_text said)) result old (D.outside desk.new).written }
     ensures wire { (D.outside desk.new).attached Wire ≡ true }
 {
     desk_program_laws::turn_laws();

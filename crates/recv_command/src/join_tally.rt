@@ -16,7 +16,7 @@ pub struct JoinTally {
 }
 
 impl JoinTally {
-    ghost use Rattle.recv_command.specs.JoinTally.{nothing_taken, packets_of, with_took};
+    ghost use Rattle.recv_command.specs.JoinTally.{nothing_taken, packets_taken, with_took};
     ghost use Rattle.recv_command.specs.JoinTally.{with_joined, join_text};
 
     /// Nothing was counted.
@@ -34,9 +34,9 @@ impl JoinTally {
 
     /// Counts what became of a packet.
     pub fn take(&mut self, took: Took)
-        requires { packets_of self.old < 2 ^ 24 }
+        requires { packets_taken self.old < 2 ^ 24 }
         ensures counts { self.new ≡ with_took took self.old }
-        ensures packets { packets_of self.new ≡ packets_of self.old + 1 }
+        ensures packets { packets_taken self.new ≡ packets_taken self.old + 1 }
         ensures joined { self.new.joined ≡ self.old.joined }
     {
         match took {

@@ -8,7 +8,7 @@ ghost use Rattle.desk_program.specs.Ends.{Gains, GainsFronts};
 ghost use Rattle.call_model.specs.Coding.{Message};
 ghost use Rattle.receiver_end.specs.Answers.{IsMessage};
 ghost use Rattle.coded_call.specs.Bytes.{AreBytes};
-ghost use Rattle.recv_command.specs.Said.{back_text, shown_text};
+ghost use Rattle.recv_command.specs.Said.{said_message_text, shown_play_text};
 
 use back_messages::Said;
 use call_report::{Status, picture_line};
@@ -31,10 +31,10 @@ pub fn say<D: Desk>(desk: &mut D, said: Option<Said>) -> Result<(), Status>
     requires { (D.outside desk.old).attached Wire ≡ true }
     ensures ok { (clock : Clock) (message : Option Message)
         → IsMessage clock said message → OnOk result
-        (Gains (back_text message) (D.outside desk.old).written (D.outside desk.new).written) }
+        (Gains (said_message_text message) (D.outside desk.old).written (D.outside desk.new).written) }
     ensures err { (clock : Clock) (message : Option Message)
         → IsMessage clock said message → OnErr result (GainsFronts
-        (back_text message) (D.outside desk.old).written (D.outside desk.new).written) }
+        (said_message_text message) (D.outside desk.old).written (D.outside desk.new).written) }
     ensures kind { IfErr result (λ status. status ≡ Status.WriteFault) }
     ensures cause { OnErr result
         (Rose (D.outside desk.old).faults.write (D.outside desk.new).faults.write) }
@@ -58,11 +58,11 @@ pub fn show<D: Desk>(desk: &mut D, picture: PictureRef<'_>, played: Played) -> R
     requires report { (D.outside desk.old).attached Report ≡ true }
     requires wire { (D.outside desk.old).attached Wire ≡ true }
     ensures ok { (clock : Clock) (message : Option Message) → IsMessage clock played.message message
-        → OnOk result (Gains (shown_text played.number played.mark (lent picture.entry) message)
+        → OnOk result (Gains (shown_play_text played.number played.mark (lent picture.entry) message)
         (D.outside desk.old).written (D.outside desk.new).written) }
     ensures err { (clock : Clock) (message : Option Message)
         → IsMessage clock played.message message
-        → OnErr result (GainsFronts (shown_text played.number played.mark (lent picture.entry) message)
+        → OnErr result (GainsFronts (shown_play_text played.number played.mark (lent picture.entry) message)
         (D.outside desk.old).written (D.outside desk.new).written) }
     ensures kind { IfErr result (λ status. status ≡ Status.WriteFault) }
     ensures cause { OnErr result

@@ -21,11 +21,11 @@ pub struct Tally {
 }
 
 impl Tally {
-    ghost use Rattle.recv_command.specs.Tally.{no_counts, total_of, with_mark, with_heard, count_text};
+    ghost use Rattle.recv_command.specs.Tally.{nothing_heard_counted, total_of, with_mark, with_heard, receiver_counts};
 
     /// Nothing was counted.
     pub fn new() -> Tally
-        ensures { result ≡ no_counts }
+        ensures { result ≡ nothing_heard_counted }
     {
         Tally {
             exact: 0,
@@ -69,7 +69,7 @@ impl Tally {
 
     /// The line of what was played and counted.
     pub fn line(&self, played: u32) -> Line
-        ensures { text_of result ≡ count_text played self.now }
+        ensures { text_of result ≡ receiver_counts played self.now }
     {
         let mut line = Line::empty();
         line.pair("played", played as u64);

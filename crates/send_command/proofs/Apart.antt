@@ -8,7 +8,7 @@ use Rattle.desk_program.specs.Ends.{EndsBy, Tells}
 use Rattle.desk_program.specs.Laws.{TurnLaws}
 use Rattle.desk_program.specs.Run.{left_after}
 use Rattle.desk_program.specs.Texts.{no_bytes}
-use Rattle.send_command.specs.Send.{refusal_at}
+use Rattle.send_command.specs.Send.{input_refusal}
 
 -- another role
 pub not_video : (r : Role) → is_role Video r ≡ false → r ≢ Video
@@ -26,7 +26,7 @@ pub refused_by : TurnLaws → (input : Role) (before : Role → ℕ) (status : S
     → List ℕ) (old new : Outside)
     → ((r : Role) → IsInput r → is_role input r ≡ false → new.left r ≡ Some (left_after inputs before r))
     → new.written ≡ old.written
-    → EndsBy (refusal_at input before status) status inputs old new
+    → EndsBy (input_refusal input before status) status inputs old new
 refused_by turns input before status inputs old new left same = record {
   known = refl;
   left = λ r is_input k said. at_role (is_role input r) r (left r is_input) k said;
@@ -45,7 +45,7 @@ refused_by turns input before status inputs old new left same = record {
 -- where the log is refused nothing is taken of the other inputs
 pub log_refused : TurnLaws → (status : Status) (inputs : Role → List ℕ) (old new : Outside) → Tells old inputs
     → ((r : Role) → r ≢ Events → new.left r ≡ old.left r) → new.written ≡ old.written
-    → EndsBy (refusal_at Events no_bytes status) status inputs old new
+    → EndsBy (input_refusal Events no_bytes status) status inputs old new
 log_refused turns status inputs old new told others same =
     refused_by turns Events no_bytes status inputs old new (λ r is_input other. others r (not_events r other)
     ∙ told r is_input) same

@@ -3,10 +3,10 @@ use Rattle.std.proofs.Common.{◌≡◌, ℕ, ◌+◌, ◌-◌, ◌*◌, ◌^◌
 use Rattle.back_messages.specs.declared.message.MessageFault.{MessageFault}
 use Rattle.call_model.specs.Sending.{Reply, RefusedMessage, Old, Noted}
 use Rattle.send_command.specs.declared.tally.Tally.{Tally}
-use Rattle.send_command.specs.Tally.{IsOf, with_picture, with_reply}
+use Rattle.send_command.specs.Tally.{IsOf, with_sent_picture, with_reply}
 
 pub one_picture_more : (n count : ℕ) (old new : Tally) → 0 < n → IsOf (n - 1) old → count < 2 ^ 32
-    → new ≡ with_picture count old → IsOf n new
+    → new ≡ with_sent_picture count old → IsOf n new
 one_picture_more n count old new some of few is =
     subst (IsOf n) (sym is)
     (record {

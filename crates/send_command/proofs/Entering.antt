@@ -25,15 +25,15 @@ use Rattle.desk_program.specs.Run.Step.{Ends}
 use Rattle.desk_program.specs.Ends.{Tells, Gains, GainsFronts, IsPart, Ended, GivesUp, step_turns, step_texts}
 use Rattle.desk_program.specs.Texts.{no_bytes, no_texts, on, of, and_of}
 use Rattle.desk_program.specs.Laws.{TurnLaws}
-use Rattle.send_command.specs.Tally.{count_text}
-use Rattle.send_command.specs.Send.{SendState, captured, bad_entry, capture_texts, most_entries, frame_step, capture_step, entry_step, all_read, log_step, send_step}
+use Rattle.send_command.specs.Tally.{sender_counts}
+use Rattle.send_command.specs.Send.{SendState, captured, bad_entry, capture_texts, most_entries, sender_frame_step, entry_capture_step, sender_entry_step, sender_read_all, sender_log_step, send_step}
 use Rattle.send_command.proofs.Apart.{log_refused}
 use Rattle.send_command.proofs.Held.{no_entry_held, not_none}
 
 -- ---- a part of an entry holds no turn
 
 part_of_frame : (s : SendState) (size : ℕ) (r : Result (List ℕ) Y4mFault) (k : Role → ℕ) → (3 ≤ k Events → ⊥)
-    → IsPart (step_turns (frame_step s size r)) k
+    → IsPart (step_turns (sender_frame_step s size r)) k
 part_of_frame s size (Ok frame) k few =
     no_entry_held (record {
       taken = and_of (of Events 3) (of Video size);
@@ -43,13 +43,13 @@ part_of_frame s size (Ok frame) k few =
 part_of_frame s size (Err fault) k few = tt
 
 part_of_capture : (s : SendState) (video : List ℕ) (k : Role → ℕ) → (3 ≤ k Events → ⊥)
-    → IsPart (step_turns (capture_step s video)) k
+    → IsPart (step_turns (entry_capture_step s video)) k
 part_of_capture s [] k few = tt
 part_of_capture s (b ∷ video) k few = part_of_frame s _ (next_frame s.more s.params.format s.video_at (b ∷ video)) k few
 
 part_of_entry : (s : SendState) (inputs : Role → List ℕ) (e : Option Entry) (k : ℕ)
     → ((entry : Entry) → e ≡ Some entry → 3 + bytes_of entry ≤ k → ⊥)
-    → IsPart (step_turns (entry_step s inputs e)) (of Events k)
+    → IsPart (step_turns (sender_entry_step s inputs e)) (of Events k)
 part_of_entry s inputs None k few = tt
 part_of_entry s inputs (Some log_entry.Capture) k few = part_of_capture s (inputs Video) (of Events k)
     (few log_entry.Capture refl)
@@ -67,7 +67,7 @@ CutAfter = (side : Side) (entry : Entry) (text : List ℕ) (k : ℕ) → entry_i
 
 -- the step, where another entry may come or not
 abbrev chosen : Bool → SendState → (Role → List ℕ) → Option Entry → Step SendState
-chosen t s inputs e = if t then entry_step s inputs e else Ends (bad_entry (TooMany s.at))
+chosen t s inputs e = if t then sender_entry_step s inputs e else Ends (bad_entry (TooMany s.at))
 
 part_of_choice : (t : Bool) (s : SendState) (inputs : Role → List ℕ) (e : Option Entry) (k : ℕ)
     → ((entry : Entry) → e ≡ Some entry → 3 + bytes_of entry ≤ k → ⊥)
@@ -76,7 +76,7 @@ part_of_choice true s inputs e k few = part_of_entry s inputs e k few
 part_of_choice false s inputs e k few = tt
 
 part_of_log : CutAfter → (s : SendState) (inputs : Role → List ℕ) (log : List ℕ) (k : ℕ)
-    → entry_in sides.Send (take k log) ≡ None → IsPart (step_turns (log_step s inputs log)) (of Events k)
+    → entry_in sides.Send (take k log) ≡ None → IsPart (step_turns (sender_log_step s inputs log)) (of Events k)
 part_of_log cut s inputs [] k none = tt
 part_of_log cut s inputs (b ∷ log) k none =
     part_of_choice (nat_lt s.read most_entries) s inputs (entry_in sides.Send (b ∷ log)) k
@@ -85,18 +85,18 @@ part_of_log cut s inputs (b ∷ log) k none =
 -- ---- which step it is
 
 entry_is : (s : SendState) (inputs : Role → List ℕ) (log : List ℕ) (e : Option Entry) → 0 < length log
-    → s.read < most_entries → entry_in sides.Send log ≡ e → log_step s inputs log ≡ entry_step s inputs e
+    → s.read < most_entries → entry_in sides.Send log ≡ e → sender_log_step s inputs log ≡ sender_entry_step s inputs e
 entry_is s inputs [] e some few is = absurd (omega arith)
 entry_is s inputs (b ∷ log) e some few is =
     ap (λ (t : Bool). chosen t s inputs (entry_in sides.Send (b ∷ log))) (lt-ltb s.read most_entries few)
-    ∙ ap (entry_step s inputs) is
+    ∙ ap (sender_entry_step s inputs) is
 
 some_entry : (log : List ℕ) (entry : Entry) → entry_in sides.Send log ≡ Some entry → 0 < length log
 some_entry [] entry is = absurd (cc is)
 some_entry (b ∷ log) entry is = omega arith
 
 many_is : (s : SendState) (inputs : Role → List ℕ) (log : List ℕ) → 0 < length log → s.read ≡ most_entries
-    → log_step s inputs log ≡ Ends (bad_entry (TooMany s.at))
+    → sender_log_step s inputs log ≡ Ends (bad_entry (TooMany s.at))
 many_is s inputs [] some many = absurd (omega arith)
 many_is s inputs (b ∷ log) some many =
     ap (λ (t : Bool). chosen t s inputs (entry_in sides.Send (b ∷ log)))
@@ -151,31 +151,31 @@ module _ (laws : TurnLaws) (cut : CutAfter) (s : SendState) (inputs : Role
 
   -- at the end of the log
   module _ (e : EntryGives (Ok None) reader (inputs Events) bytes (mid.left Events)) (new : Outside) where
-    end_is : send_step s inputs ≡ Ends (all_read s.tally)
-    end_is = ap (log_step s inputs) e.0
+    end_is : send_step s inputs ≡ Ends (sender_read_all s.tally)
+    end_is = ap (sender_log_step s inputs) e.0
 
-    pub end_cut : GainsFronts (on Report (count_text s.tally)) mid.written new.written
+    pub end_cut : GainsFronts (on Report (sender_counts s.tally)) mid.written new.written
         → GainsFronts (step_texts (send_step s inputs)) old.written new.written
     end_cut g =
         subst (λ (x : Step SendState). GainsFronts (step_texts x) old.written new.written) (sym end_is)
-        (subst (λ (w : Role → Option (List ℕ)). GainsFronts (on Report (count_text s.tally)) w new.written) same g)
+        (subst (λ (w : Role → Option (List ℕ)). GainsFronts (on Report (sender_counts s.tally)) w new.written) same g)
 
-    pub log_ends : new.left ≡ mid.left → Gains (on Report (count_text s.tally)) mid.written new.written
+    pub log_ends : new.left ≡ mid.left → Gains (on Report (sender_counts s.tally)) mid.written new.written
         → Ended (send_step s inputs) Fine inputs old new
     log_ends still g = record {
-      last = all_read s.tally;
+      last = sender_read_all s.tally;
       is = end_is;
       by =
-          laws.ends Fine no_bytes (on Report (count_text s.tally)) inputs old new
+          laws.ends Fine no_bytes (on Report (sender_counts s.tally)) inputs old new
           (laws.none_read Events old new inputs told e.0 (ap (λ (l : Role → Option (List ℕ)). l Events) still
           ∙ e.1) (λ r other. ap (λ (l : Role → Option (List ℕ)). l r) still ∙ others r other))
-          (subst (λ (w : Role → Option (List ℕ)). Gains (on Report (count_text s.tally)) w new.written) same g);
+          (subst (λ (w : Role → Option (List ℕ)). Gains (on Report (sender_counts s.tally)) w new.written) same g);
     }
 
   -- after an entry
   module _ (found : ℕ × Entry) (e : EntryGives (Ok (Some found)) reader (inputs Events) bytes (mid.left Events))
       (few : reader.entries < 16777216) where
-    pub found_is : send_step s inputs ≡ entry_step s inputs (Some found.1)
+    pub found_is : send_step s inputs ≡ sender_entry_step s inputs (Some found.1)
     found_is =
         let is : entry_in sides.Send (inputs Events) ≡ Some found.1 = sent_in (inputs Events) (Some found.1) e.0 in
         entry_is s inputs (inputs Events) (Some found.1) (some_entry (inputs Events) found.1 is)
@@ -197,9 +197,9 @@ moved_entry o known reader after is moves = subst (λ (x : Option (ℕ × Entry)
 -- an entry of a receiver's log is refused
 pub other_entry : (s : SendState) (inputs : Role → List ℕ) (place : ℕ) (entry : Entry)
     → ((x : ℕ) × entry ≡ log_entry.Packet x) ⊎ (entry ≡ log_entry.Play) → place ≡ s.at
-    → entry_step s inputs (Some entry) ≡ no_step (bad_entry (BadRecord place))
+    → sender_entry_step s inputs (Some entry) ≡ no_step (bad_entry (BadRecord place))
 other_entry s inputs place entry (inl packet) at =
-    ap (λ (e : Entry). entry_step s inputs (Some e)) packet.1
+    ap (λ (e : Entry). sender_entry_step s inputs (Some e)) packet.1
     ∙ ap (λ (n : ℕ). no_step (bad_entry (BadRecord n))) (sym at)
 other_entry s inputs place entry (inr play) at =
-    ap (λ (e : Entry). entry_step s inputs (Some e)) play ∙ ap (λ (n : ℕ). no_step (bad_entry (BadRecord n))) (sym at)
+    ap (λ (e : Entry). sender_entry_step s inputs (Some e)) play ∙ ap (λ (n : ℕ). no_step (bad_entry (BadRecord n))) (sym at)

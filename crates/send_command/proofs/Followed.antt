@@ -30,9 +30,9 @@ use Rattle.fitted_sender.specs.declared.aim.Aim.{Aim}
 use Rattle.send_command.specs.declared.sending.Sending.{Sending}
 use Rattle.fitted_sender.specs.Aiming.{sent_by}
 use Rattle.send_command.specs.Aimed.{aim_at_start}
-use Rattle.send_command.specs.Send.{SendState, all_read, bad_entry, capture_step, capture_texts, captured, entry_step, feedback_step, first_state, frame_step, head_step, log_step, most_entries, packets_text, send_begin, send_step}
-use Rattle.send_command.specs.Tally.{count_text}
-use Rattle.send_command.specs.Followed.{IsEnd, SendsItsLog, Spares, counted, film, frames_after, frames_with, no_frame_left, past_with, sent_lines, sent_text, told, with_entries}
+use Rattle.send_command.specs.Send.{SendState, sender_read_all, bad_entry, entry_capture_step, capture_texts, captured, sender_entry_step, feedback_step, send_at_start, sender_frame_step, send_head_step, sender_log_step, most_entries, packets_text, send_begin, send_step}
+use Rattle.send_command.specs.Tally.{sender_counts}
+use Rattle.send_command.specs.Followed.{IsSenderEnd, SendsItsLog, Spares, counted, sender_film, frames_after, frames_with, no_frame_left, past_with, sent_lines, sent_text, told, with_sender_entries}
 
 -- ---- the entry that stands first
 
@@ -105,11 +105,11 @@ module _ (p : Params) (aim : Aim) (spelled : IsSpelled) where
     pub refused : List Found
     pub read : ahead ≡ accepted ++ refused
     pub taken : length run.turns ≡ length accepted
-    pub wire : sent_text p aim (with_entries frames past accepted) ≡ sent_text p aim past ++ text_of run Wire
-    pub report : sent_lines p aim (with_entries frames past accepted)
-        ++ told run.last.status (count_text (counted p aim (with_entries frames past accepted)))
+    pub wire : sent_text p aim (with_sender_entries frames past accepted) ≡ sent_text p aim past ++ text_of run Wire
+    pub report : sent_lines p aim (with_sender_entries frames past accepted)
+        ++ told run.last.status (sender_counts (counted p aim (with_sender_entries frames past accepted)))
         ≡ sent_lines p aim past ++ text_of run Report
-    pub end : IsEnd fault broken (frames_after frames accepted) refused run.last.status
+    pub end : IsSenderEnd fault broken (frames_after frames accepted) refused run.last.status
     pub others : Spares run.last.status run.last.taken
 
   abbrev stopped : End → Step SendState
@@ -118,7 +118,7 @@ module _ (p : Params) (aim : Aim) (spelled : IsSpelled) where
   comes_stopped : (frames : List Frame) (past : List (SenderEntry Frame)) (E : List Found) (F : Option LogFault)
       (B : Option Y4mFault) (rest : SendState → (Role → ℕ) → Run)
       (status : Status) (taken : Role → Option ℕ) → ((text : List ℕ) → told status text ≡ [])
-      → IsEnd F B frames E status → Spares status taken
+      → IsSenderEnd F B frames E status → Spares status taken
       → Comes frames past E F B (follow (stopped (record { status = status; taken = taken; texts = no_texts })) rest)
   comes_stopped frames past E F B rest status taken silent end spares = record {
     accepted = [];
@@ -126,7 +126,7 @@ module _ (p : Params) (aim : Aim) (spelled : IsSpelled) where
     read = refl;
     taken = refl;
     wire = sym (append-nil (sent_text p aim past));
-    report = ap (λ (l : List ℕ). sent_lines p aim past ++ l) (silent (count_text (counted p aim past)));
+    report = ap (λ (l : List ℕ). sent_lines p aim past ++ l) (silent (sender_counts (counted p aim past)));
     end = end;
     others = spares;
   }
@@ -143,7 +143,7 @@ module _ (p : Params) (aim : Aim) (spelled : IsSpelled) where
 
   comes_end : (frames : List Frame) (past : List (SenderEntry Frame)) (B : Option Y4mFault) (rest : SendState
       → (Role → ℕ) → Run)
-      → Comes frames past [] None B (follow (stopped (all_read (counted p aim past))) rest)
+      → Comes frames past [] None B (follow (stopped (sender_read_all (counted p aim past))) rest)
   comes_end frames past B rest = record {
     accepted = [];
     refused = [];
@@ -198,7 +198,7 @@ module _ (p : Params) (aim : Aim) (spelled : IsSpelled) where
       }
 
   abbrev ahead_of : ℕ → ℕ → List ℕ → List Frame
-  ahead_of more at video = film p (frames_of p.format more at video)
+  ahead_of more at video = sender_film p (frames_of p.format more at video)
 
   abbrev broken_of : ℕ → ℕ → List ℕ → Option Y4mFault
   broken_of more at video = video_fault_of p.format more at video
@@ -247,10 +247,10 @@ module _ (p : Params) (aim : Aim) (spelled : IsSpelled) where
       -- a frame is captured
       frame_comes : (b : ℕ) (v : List ℕ) → inputs Video ≡ b ∷ v → (r : Result (List ℕ) Y4mFault)
           → next_frame more p.format video_at (b ∷ v) ≡ r
-          → Takes log_entry.Capture (frame_step now (frame_size p.format (b ∷ v)) r)
+          → Takes log_entry.Capture (sender_frame_step now (frame_size p.format (b ∷ v)) r)
       frame_comes b v video (Err fault) found =
           let stop = frame_laws.stops p.format more video_at (b ∷ v) fault (omega arith) found in
-          let none : frames ≡ [] = ap (λ (l : List ℕ). ahead_of more video_at l) video ∙ ap (film p) stop.0 in
+          let none : frames ≡ [] = ap (λ (l : List ℕ). ahead_of more video_at l) video ∙ ap (sender_film p) stop.0 in
           let why : broken ≡ Some fault = ap (λ (l : List ℕ). broken_of more video_at l) video ∙ stop.1 in
           comes_unfilmed frames past this (laters 3) (later_fault 3) broken rest _ _ (λ text. refl) refl none
           (ap (λ (o : Option Y4mFault). no_frame_left o at) (sym why)) refl
@@ -263,7 +263,7 @@ module _ (p : Params) (aim : Aim) (spelled : IsSpelled) where
           let left = after_frame f (b ∷ v) in
           let later = ahead_of (more - 1) (video_at + size) left in
           let frames_are : frames ≡ x ∷ later = ap (λ (l : List ℕ). ahead_of more video_at l) video
-          ∙ ap (film p) e.frames in
+          ∙ ap (sender_film p) e.frames in
           let broken_is : broken ≡ broken_of (more - 1) (video_at + size) left =
           ap (λ (l : List ℕ). broken_of more video_at l) video ∙ e.fault in
           let comes = go (Capture x ∷ past) 3 (video_at + size) (more - 1) (and_of (of Events 3) (of Video size)) left
@@ -289,10 +289,10 @@ module _ (p : Params) (aim : Aim) (spelled : IsSpelled) where
           append_twice : (l m : List ℕ) → l ++ m ≡ l ++ (m ++ [])
           append_twice l m = ap (λ (k : List ℕ). l ++ k) (sym (append-nil m))
 
-      capture_comes : (video : List ℕ) → inputs Video ≡ video → Takes log_entry.Capture (capture_step now video)
+      capture_comes : (video : List ℕ) → inputs Video ≡ video → Takes log_entry.Capture (entry_capture_step now video)
       capture_comes [] video =
           let stop = frame_laws.ends p.format more video_at in
-          let none : frames ≡ [] = ap (λ (l : List ℕ). ahead_of more video_at l) video ∙ ap (film p) stop.0 in
+          let none : frames ≡ [] = ap (λ (l : List ℕ). ahead_of more video_at l) video ∙ ap (sender_film p) stop.0 in
           let why : broken ≡ None = ap (λ (l : List ℕ). broken_of more video_at l) video ∙ stop.1 in
           comes_unfilmed frames past this (laters 3) (later_fault 3) broken rest _ _ (λ text. refl) refl none
           (ap (λ (o : Option Y4mFault). no_frame_left o at) (sym why)) (refl, refl)
@@ -317,7 +317,7 @@ module _ (p : Params) (aim : Aim) (spelled : IsSpelled) where
           as_long : (len whole after : ℕ) → after ≡ whole - 3 → 3 + len ≤ whole → min len after ≡ len
           as_long len whole after is within = omega (arith, is, within)
 
-      entry_comes : (e : Entry) → IsWhole log e → Takes e (entry_step now inputs (Some e))
+      entry_comes : (e : Entry) → IsWhole log e → Takes e (sender_entry_step now inputs (Some e))
       entry_comes log_entry.Capture w = capture_comes (inputs Video) refl
       entry_comes (log_entry.Back len) w =
           subst (λ (l : List ℕ). Takes (log_entry.Back len) (feedback_step now (3 + len) (take len (drop 3 l))))
@@ -329,13 +329,13 @@ module _ (p : Params) (aim : Aim) (spelled : IsSpelled) where
           → Comes frames past (found_from o at log (found_of sides.Send n (at + reach sides.Send log)
           (drop (reach sides.Send log) log)))
           (fault_from o at (fault_of sides.Send n (at + reach sides.Send log) (drop (reach sides.Send log) log))) broken
-          (follow (entry_step now inputs o) rest)
+          (follow (sender_entry_step now inputs o) rest)
       reached None is = comes_stopped frames past [] (Some (BadRecord at)) broken rest _ _ (λ text. refl) refl refl
       reached (Some e) is =
           let w = whole spelled log e is in
           subst (λ (k : ℕ). Comes frames past (found_from (Some e) at log (found_of sides.Send n (at + k) (drop k log)))
           (fault_from (Some e) at (fault_of sides.Send n (at + k) (drop k log))) broken
-          (follow (entry_step now inputs (Some e)) rest)) (sym w.reaches)
+          (follow (sender_entry_step now inputs (Some e)) rest)) (sym w.reaches)
           (entry_comes e w)
 
   -- ---- the run
@@ -362,7 +362,7 @@ module _ (p : Params) (aim : Aim) (spelled : IsSpelled) where
 
       last_comes : (log : List ℕ) → read + 0 ≡ 16777216
           → Comes still past (found_of sides.Send 0 at log) (fault_of sides.Send 0 at log) fault_there
-          (follow (log_step here inputs log) (λ next taken. silence))
+          (follow (sender_log_step here inputs log) (λ next taken. silence))
       unfolding found_of fault_of
       last_comes [] room = comes_end still past fault_there (λ next taken. silence)
       last_comes (b ∷ log) room = last_choice (nat_lt read 16777216) _ room refl
@@ -375,7 +375,7 @@ module _ (p : Params) (aim : Aim) (spelled : IsSpelled) where
             (found_of sides.Send n (at + reach sides.Send log) (drop (reach sides.Send log) log)))
             (fault_from (entry_in sides.Send log) at (fault_of sides.Send n (at + reach sides.Send log)
             (drop (reach sides.Send log) log))) fault_there
-            (follow (or_many t at (entry_step here inputs (entry_in sides.Send log))) rest)
+            (follow (or_many t at (sender_entry_step here inputs (entry_in sides.Send log))) rest)
         choice_comes false log is go room many = absurd (omega (arith, ltb-false read 16777216 many, room))
         choice_comes true log is go room few = reached frame_laws past at read video_at more inputs n rest log is go
             (entry_in sides.Send log) refl
@@ -383,7 +383,7 @@ module _ (p : Params) (aim : Aim) (spelled : IsSpelled) where
         step_comes : (log : List ℕ) → inputs Events ≡ log
             → GoesOn frame_laws past at read video_at more inputs n rest log → read + suc n ≡ 16777216
             → Comes still past (found_of sides.Send (suc n) at log) (fault_of sides.Send (suc n) at log) fault_there
-            (follow (log_step here inputs log) rest)
+            (follow (sender_log_step here inputs log) rest)
         unfolding found_of fault_of
         step_comes [] is go room = comes_end still past fault_there rest
         step_comes (b ∷ log) is go room = choice_comes (nat_lt read 16777216) (b ∷ log) is go room refl
@@ -442,19 +442,19 @@ module _ (spelled : IsSpelled) (setup : Sending) (f : Format) (frame_laws : Fram
   on_rest next taken = run_of send_step 16777216 next (left_after inputs taken)
 
   abbrev run : Run
-  run = on_rest (first_state setup f (head_size video)) (of Video (head_size video))
+  run = on_rest (send_at_start setup f (head_size video)) (of Video (head_size video))
 
   abbrev all : List Frame
-  all = film here_params (video_frames video)
+  all = sender_film here_params (video_frames video)
 
   comes : Comes here_params here_aim spelled all [] (found_of sides.Send 16777216 0 (inputs Events))
       (fault_of sides.Send 16777216 0 (inputs Events)) (video_fault video) run
   comes =
-      subst (λ (l : List (List ℕ)). Comes here_params here_aim spelled (film here_params l) []
+      subst (λ (l : List (List ℕ)). Comes here_params here_aim spelled (sender_film here_params l) []
       (found_of sides.Send 16777216 0 (inputs Events)) (fault_of sides.Send 16777216 0 (inputs Events))
       (video_fault video) run) (sym (frames_are video f head))
       (subst (λ (o : Option Y4mFault). Comes here_params here_aim spelled
-      (film here_params (frames_of f 1048576 (head_size video) (drop (head_size video) video))) []
+      (sender_film here_params (frames_of f 1048576 (head_size video) (drop (head_size video) video))) []
       (found_of sides.Send 16777216 0 (inputs Events)) (fault_of sides.Send 16777216 0 (inputs Events)) o run)
       (sym (fault_is video f head))
       (run_comes here_params here_aim spelled frame_laws 16777216 [] 0 0 (head_size video) 1048576
@@ -464,7 +464,7 @@ module _ (spelled : IsSpelled) (setup : Sending) (f : Format) (frame_laws : Fram
   unfolding log_entries
   read_is = comes.read
 
-  end_is : IsEnd (log_fault sides.Send (inputs Events)) (video_fault video) (frames_after all comes.accepted)
+  end_is : IsSenderEnd (log_fault sides.Send (inputs Events)) (video_fault video) (frames_after all comes.accepted)
       comes.refused run.last.status
   unfolding log_fault
   end_is = comes.end
@@ -475,7 +475,7 @@ module _ (spelled : IsSpelled) (setup : Sending) (f : Format) (frame_laws : Fram
   pub sends : SendsItsLog here_params here_aim inputs (run_from (send_begin setup inputs) send_step most_entries inputs)
   sends =
       subst (λ (r : Result Format Y4mFault). SendsItsLog here_params here_aim inputs
-      (follow (head_step setup (head_size video) r) on_rest)) (sym head)
+      (follow (send_head_step setup (head_size video) r) on_rest)) (sym head)
       (record {
         accepted = comes.accepted;
         refused = comes.refused;

@@ -22,8 +22,8 @@ use Rattle.desk_program.specs.Run.{Step, left_after}
 use Rattle.desk_program.specs.Ends.{Tells, Gains, GainsFronts, holds, IsPart, Went, Ended, EndsBy, GivesUp, step_turns, step_texts}
 use Rattle.desk_program.specs.Texts.{no_texts, of, and_of}
 use Rattle.desk_program.specs.Laws.{TurnLaws}
-use Rattle.send_command.specs.Send.{SendState, captured, capture_texts, after_capture, frame_step, capture_step, no_frame, refused_video}
-use Rattle.send_command.specs.Stands.{HasTaken}
+use Rattle.send_command.specs.Send.{SendState, captured, capture_texts, after_captured_frame, sender_frame_step, entry_capture_step, no_frame, refused_sender_video}
+use Rattle.send_command.specs.Stands.{HasTakenEntry}
 use Rattle.send_command.proofs.Apart.{not_video, refused_by}
 use Rattle.send_command.proofs.Held.{no_frame_held, not_an_err}
 
@@ -50,7 +50,7 @@ frame_held texts size n few = no_frame_held (record { taken = some_of size; whol
 frame_part : CutFrames → (s : SendState) (video : List ℕ) (n : ℕ) (r : Result (List ℕ) Y4mFault)
     → next_frame s.more s.params.format s.video_at video ≡ r
     → IsErr (frame_of s.params.format s.video_at (take n video))
-    → IsPart (step_turns (frame_step s (frame_size s.params.format video) r)) (some_of n)
+    → IsPart (step_turns (sender_frame_step s (frame_size s.params.format video) r)) (some_of n)
 frame_part cut s video n (Ok frame) is lost =
     frame_held (capture_texts s.params (captured s.params.format frame) s.sent) (frame_size s.params.format video) n
     (λ whole. not_an_err _ frame (cut s.params.format s.video_at n video frame
@@ -59,7 +59,7 @@ frame_part cut s video n (Err fault) is lost = tt
 
 video_part : CutFrames → (s : SendState) (video : List ℕ) (n : ℕ)
     → IsErr (frame_of s.params.format s.video_at (take n video))
-    → IsPart (step_turns (capture_step s video)) (some_of n)
+    → IsPart (step_turns (entry_capture_step s video)) (some_of n)
 video_part cut s [] n lost = tt
 video_part cut s (b ∷ rest) n lost = frame_part cut s (b ∷ rest) n (next_frame s.more s.params.format s.video_at
     (b ∷ rest)) refl lost
@@ -68,9 +68,9 @@ video_part cut s (b ∷ rest) n lost = frame_part cut s (b ∷ rest) n (next_fra
 
 video_next : (s : SendState) (video : List ℕ) (r : Result (List ℕ) Y4mFault) → 0 < length video
     → next_frame s.more s.params.format s.video_at video ≡ r
-    → capture_step s video ≡ frame_step s (frame_size s.params.format video) r
+    → entry_capture_step s video ≡ sender_frame_step s (frame_size s.params.format video) r
 video_next s [] r some is = absurd (omega arith)
-video_next s (b ∷ rest) r some is = ap (frame_step s (frame_size s.params.format (b ∷ rest))) is
+video_next s (b ∷ rest) r some is = ap (sender_frame_step s (frame_size s.params.format (b ∷ rest))) is
 
 -- ---- the capture
 
@@ -81,7 +81,7 @@ pub record IsVideoAt (s : SendState) (reader : Y4mPlace) : Type 0 where
   pub more_is : s.more ≡ reader.more
 
 module _ (laws : TurnLaws) (cut : CutFrames) (s : SendState) (inputs : Role → List ℕ) (before old mid : Outside)
-    (taken : HasTaken 3 inputs before old) (others : (r : Role) → r ≢ Video
+    (taken : HasTakenEntry 3 inputs before old) (others : (r : Role) → r ≢ Video
     → mid.left r ≡ old.left r) (same : mid.written ≡ old.written) (reader after : Y4mPlace) (at : IsVideoAt s reader)
     (out : List ℕ) where
   video_told : (k : ℕ) → mid.left Video ≡ Some (drop k (inputs Video))
@@ -95,7 +95,7 @@ module _ (laws : TurnLaws) (cut : CutFrames) (s : SendState) (inputs : Role → 
   next_at r is = (λ i. next_frame (at.more_is i) (at.format i) (at.at_is i) (inputs Video)) ∙ is
 
   pub frame_stops : (stop : VideoStop) → FrameGives (Err stop) reader (inputs Video) out after (mid.left Video)
-      → GivesUp (phase (video_stop stop)) (video_stop stop) (capture_step s (inputs Video)) true inputs before mid
+      → GivesUp (phase (video_stop stop)) (video_stop stop) (entry_capture_step s (inputs Video)) true inputs before mid
   frame_stops Read e = record {
     part = some_of e.0;
     partly = video_part cut s (inputs Video) e.0
@@ -106,7 +106,7 @@ module _ (laws : TurnLaws) (cut : CutFrames) (s : SendState) (inputs : Role → 
   }
   frame_stops (Refused fault) e =
       record {
-        last = refused_video 3 fault;
+        last = refused_sender_video 3 fault;
         is = video_next s (inputs Video) (Err fault) e.0 (next_at (Err fault) e.1);
         by =
             refused_by laws Video (of Events 3) (VideoRefused fault) inputs before mid
@@ -115,10 +115,10 @@ module _ (laws : TurnLaws) (cut : CutFrames) (s : SendState) (inputs : Role → 
 
   pub frame_missing : (place : ℕ) → place ≡ s.at
       → FrameGives (Ok false) reader (inputs Video) out after (mid.left Video)
-      → Ended (capture_step s (inputs Video)) (LogRefused (NoFrame place)) inputs before mid
+      → Ended (entry_capture_step s (inputs Video)) (LogRefused (NoFrame place)) inputs before mid
   frame_missing place is e = record {
     last = no_frame s.at;
-    is = ap (capture_step s) e.0;
+    is = ap (entry_capture_step s) e.0;
     by =
         subst (λ (n : ℕ). EndsBy (no_frame s.at) (LogRefused (NoFrame n)) inputs before mid) (sym is)
         (laws.ends (LogRefused (NoFrame s.at)) (of Events 3) no_texts inputs before mid
@@ -132,7 +132,7 @@ module _ (laws : TurnLaws) (cut : CutFrames) (s : SendState) (inputs : Role → 
     abbrev size : ℕ
     size = frame_size s.params.format (inputs Video)
 
-    frame_is : capture_step s (inputs Video) ≡ frame_step s size (Ok out)
+    frame_is : entry_capture_step s (inputs Video) ≡ sender_frame_step s size (Ok out)
     frame_is = video_next s (inputs Video) (Ok out) e.0 (next_at (Ok out) e.1)
 
     gone : mid.left Video ≡ Some (drop size (inputs Video))
@@ -145,19 +145,19 @@ module _ (laws : TurnLaws) (cut : CutFrames) (s : SendState) (inputs : Role → 
     unchanged = sym (same ∙ taken.written)
 
     pub capture_cut : GainsFronts texts mid.written new.written
-        → GainsFronts (step_texts (capture_step s (inputs Video))) before.written new.written
+        → GainsFronts (step_texts (entry_capture_step s (inputs Video))) before.written new.written
     capture_cut g =
         subst (λ (x : Step SendState). GainsFronts (step_texts x) before.written new.written) (sym frame_is)
         (subst (λ (t : Role → List ℕ). GainsFronts t before.written new.written) text_is
         (subst (λ (w : Role → Option (List ℕ)). GainsFronts texts w new.written) (sym unchanged) g))
 
     pub captures : (stands : SendState → (Role → List ℕ) → Type 0)
-        → stands (after_capture s size (captured s.params.format out))
+        → stands (after_captured_frame s size (captured s.params.format out))
         (left_after inputs (and_of (of Events 3) (of Video size))) → new.left ≡ mid.left
         → Gains texts mid.written new.written
-        → Went (capture_step s (inputs Video)) stands (λ _. true) true inputs before new
+        → Went (entry_capture_step s (inputs Video)) stands (λ _. true) true inputs before new
     captures stands kept still g = record {
-      next = after_capture s size (captured s.params.format out);
+      next = after_captured_frame s size (captured s.params.format out);
       turn = record {
         taken = and_of (of Events 3) (of Video size);
         whole = true;

@@ -30,19 +30,19 @@ use Rattle.desk_program.specs.Texts.{no_texts, of}
 use Rattle.desk_program.specs.Laws.{TurnLaws}
 use Rattle.send_command.specs.declared.machine.Send.{Send}
 use Rattle.rate_control.specs.declared.send_pace.SendPace.{SendPace}
-use Rattle.send_command.specs.Tally.{with_picture, with_reply}
+use Rattle.send_command.specs.Tally.{with_sent_picture, with_reply}
 use Rattle.fitted_sender.specs.declared.aim.Aim.{Aim}
 use Rattle.fitted_sender.specs.Aiming.{Sent, after_sent}
-use Rattle.send_command.specs.Send.{SendState, picture_texts, capture_texts, after_capture, after_feedback, entry_step, send_step}
+use Rattle.send_command.specs.Send.{SendState, picture_texts, capture_texts, after_captured_frame, after_heard_feedback, sender_entry_step, send_step}
 use Rattle.fitted_sender.specs.Stands.{IsCaptured}
-use Rattle.send_command.specs.Stands.{HasTaken, IsFit, SendStands, StoodBefore}
+use Rattle.send_command.specs.Stands.{HasTakenEntry, IsFit, SendStands, SenderStoodBefore}
 use Rattle.send_command.proofs.Entering.{CutAfter, IsReadAt, found_is, found_told}
 use Rattle.send_command.proofs.Framing.{IsVideoAt}
 
 -- ---- the parts of a state
 
 -- of a machine that stood at a state before the entry that was read last
-module _ (m : Send) (s : SendState) (size : ℕ) (stood : StoodBefore m s size) where
+module _ (m : Send) (s : SendState) (size : ℕ) (stood : SenderStoodBefore m s size) where
   pub params_are : s.params ≡ m.sender.params
   params_are = ap (λ (x : SendState). x.params) stood.is
 
@@ -75,9 +75,9 @@ module _ (m : Send) (s : SendState) (size : ℕ) (stood : StoodBefore m s size) 
   pub keeps_capture : (new : Send) (frame out : Frame) (answer : Coded) (size_of_frame : ℕ) (inputs : Role → List ℕ)
       → size ≡ 3 → frame ≡ out → IsCaptured frame m.sender.params here new.sender new.aim answer
       → answer.packets ≡ length new.sender.packets → new.sender.params ≡ m.sender.params → new.log ≡ m.log
-      → new.tally ≡ with_picture answer.packets m.tally
+      → new.tally ≡ with_sent_picture answer.packets m.tally
       → new.video.at ≡ s.video_at + size_of_frame → new.video.more + 1 ≡ m.video.more
-      → SendStands new (after_capture s size_of_frame out) inputs
+      → SendStands new (after_captured_frame s size_of_frame out) inputs
   keeps_capture new frame out answer n inputs three same cap count params log tally place more =
       let old : s.tally ≡ m.tally = ap (λ (x : SendState). x.tally) stood.is in
       let after_is : after_sent s.params out s.sent ≡ after_sent m.sender.params frame here =
@@ -87,9 +87,9 @@ module _ (m : Send) (s : SendState) (size : ℕ) (stood : StoodBefore m s size) 
       (λ i. length (packets_after (params_are i) (after_is i).run))
       ∙ ap (λ (l : List (List ℕ)). length l) (sym cap.packets) ∙ sym count
       in
-      let tally_is : with_picture (length (packets_after s.params (after_sent s.params out s.sent).run)) s.tally
+      let tally_is : with_sent_picture (length (packets_after s.params (after_sent s.params out s.sent).run)) s.tally
       ≡ new.tally =
-      (λ i. with_picture (counted i) (old i)) ∙ sym tally
+      (λ i. with_sent_picture (counted i) (old i)) ∙ sym tally
       in
       let params_is : s.params ≡ new.sender.params = params_are ∙ sym params in
       let aim_now : (after_sent s.params out s.sent).aim ≡ new.aim = ap (λ (x : Sent). x.aim) after_is
@@ -114,14 +114,14 @@ module _ (m : Send) (s : SendState) (size : ℕ) (stood : StoodBefore m s size) 
       }
 
 -- the state after feedback
-pub keeps_feedback : (m : Send) (s : SendState) (len : ℕ) (bytes : List ℕ) (stood : StoodBefore m s (3 + len))
+pub keeps_feedback : (m : Send) (s : SendState) (len : ℕ) (bytes : List ℕ) (stood : SenderStoodBefore m s (3 + len))
     (new : Send) (reply : Reply MessageFault) (inputs : Role → List ℕ) → length bytes ≡ len
     → Holds new.sender (after_message m.sender.params bytes s.sent.run)
     → reply ≡ feedback_answer (rules_of m.sender.params) (length s.sent.run.run.coded)
     (read_message m.sender.params.clock bytes)
     → new.sender.params ≡ m.sender.params → new.aim ≡ m.aim → new.log ≡ m.log → new.tally ≡ with_reply reply m.tally
     → new.video ≡ m.video
-    → SendStands new (after_feedback s bytes) inputs
+    → SendStands new (after_heard_feedback s bytes) inputs
 keeps_feedback m s len bytes stood new reply inputs long holds answer params aim log tally video =
     let was : s.params ≡ m.sender.params = params_are m s (3 + len) stood in
     let params_is : s.params ≡ new.sender.params = was ∙ sym params in
@@ -169,7 +169,7 @@ module _ (m : Send) (s : SendState) (inputs : Role → List ℕ) (stands : SendS
 
   -- the machine that has read an entry
   pub stood_before : (log : LogPlace) (bytes : Vec ℕ Global) (size : ℕ) → log.at ≡ m.log.at + size
-      → log.entries ≡ m.log.entries + 1 → StoodBefore (record m { log = log; bytes = bytes }) s size
+      → log.entries ≡ m.log.entries + 1 → SenderStoodBefore (record m { log = log; bytes = bytes }) s size
   stood_before log bytes size at entries =
       let at_is : s.at + size ≡ log.at = ap (λ (x : SendState). x.at + size) stands.is ∙ sym at in
       let read_is : s.read + 1 ≡ log.entries = ap (λ (x : SendState). x.read + 1) stands.is ∙ sym entries in
@@ -189,9 +189,9 @@ module _ (m : Send) (s : SendState) (inputs : Role → List ℕ) (stands : SendS
 -- what is known after an entry that was read
 pub record IsAfter (m : Send) (s : SendState) (inputs : Role → List ℕ) (old mid : Outside) (log : LogPlace)
     (bytes : Vec ℕ Global) (buf : List ℕ) (place : ℕ) (entry : Entry) : Type 0 where
-  pub step_is : send_step s inputs ≡ entry_step s inputs (Some entry)
-  pub stood : StoodBefore (record m { log = log; bytes = bytes }) s (3 + bytes_of entry)
-  pub taken : HasTaken (3 + bytes_of entry) inputs old mid
+  pub step_is : send_step s inputs ≡ sender_entry_step s inputs (Some entry)
+  pub stood : SenderStoodBefore (record m { log = log; bytes = bytes }) s (3 + bytes_of entry)
+  pub taken : HasTakenEntry (3 + bytes_of entry) inputs old mid
   pub place_is : place ≡ s.at
   pub bytes_are : take (bytes_of entry) buf ≡ take (bytes_of entry) (drop 3 (inputs Events))
   pub whole : length (take (bytes_of entry) (drop 3 (inputs Events))) ≡ bytes_of entry
@@ -269,13 +269,13 @@ few_bytes len buf bytes is whole long = omega (
 
 -- feedback is taken
 pub takes_feedback : (laws : TurnLaws) (s : SendState) (inputs : Role → List ℕ) (old mid : Outside) (len : ℕ)
-    → send_step s inputs ≡ entry_step s inputs (Some (Back len)) → Tells mid (left_after inputs (of Events (3 + len)))
+    → send_step s inputs ≡ sender_entry_step s inputs (Some (Back len)) → Tells mid (left_after inputs (of Events (3 + len)))
     → mid.written ≡ old.written
     → (stands : SendState → (Role → List ℕ) → Type 0)
-    → stands (after_feedback s (take len (drop 3 (inputs Events)))) (left_after inputs (of Events (3 + len)))
+    → stands (after_heard_feedback s (take len (drop 3 (inputs Events)))) (left_after inputs (of Events (3 + len)))
     → Went (send_step s inputs) stands (λ _. true) true inputs old mid
 takes_feedback laws s inputs old mid len is left same stands kept = record {
-  next = after_feedback s (take len (drop 3 (inputs Events)));
+  next = after_heard_feedback s (take len (drop 3 (inputs Events)));
   turn = record { taken = of Events (3 + len); whole = true; texts = no_texts };
   could = refl;
   is = is;

@@ -16,7 +16,7 @@ use Rattle.call_report.specs.declared.status.Status.TheVariants.{VideoRefused}
 use Rattle.desk_program.specs.Run.{Run, left_after, follow, run_of, run_from, silence}
 use Rattle.desk_program.specs.Texts.{of, and_of}
 use Rattle.send_command.specs.declared.sending.Sending.{Sending}
-use Rattle.send_command.specs.Send.{SendState, captured, send_begin, send_step, log_step, entry_step, capture_step, frame_step, head_step, after_capture, first_state, most_entries}
+use Rattle.send_command.specs.Send.{SendState, captured, send_begin, send_step, sender_log_step, sender_entry_step, entry_capture_step, sender_frame_step, send_head_step, after_captured_frame, send_at_start, most_entries}
 
 refused_is : (a b : Y4mFault) → VideoRefused a ≡ VideoRefused b → a ≡ b
 refused_is a b is = cc is
@@ -34,7 +34,7 @@ module _ (frame_laws : FrameLaws) (fault : Y4mFault) where
 
     at_frame : (b : ℕ) (v : List ℕ) → inputs Video ≡ b ∷ v → (r : Result (List ℕ) Y4mFault)
         → next_frame s.more s.params.format s.video_at (b ∷ v) ≡ r
-        → (follow (frame_step s (frame_size s.params.format (b ∷ v)) r) rest).last.status ≡ VideoRefused fault
+        → (follow (sender_frame_step s (frame_size s.params.format (b ∷ v)) r) rest).last.status ≡ VideoRefused fault
         → faulty (b ∷ v)
     at_frame b v video (Ok planes) is ends =
         let f = s.params.format in
@@ -44,17 +44,17 @@ module _ (frame_laws : FrameLaws) (fault : Y4mFault) where
         let taken : 0 + size ≡ size = omega arith in
         e.fault
         ∙ sym (λ i. fault_of f (s.more - 1) (s.video_at + size) (drop (taken i) (video i)))
-        ∙ more (after_capture s size (captured f planes)) (and_of (of Events 3) (of Video size)) ends
+        ∙ more (after_captured_frame s size (captured f planes)) (and_of (of Events 3) (of Video size)) ends
     at_frame b v video (Err broken) is ends =
         (frame_laws.stops s.params.format s.more s.video_at (b ∷ v) broken (omega arith) is).1
         ∙ ap (λ (x : Y4mFault). Some x) (refused_is broken fault ends)
 
-    at_capture : (video : List ℕ) → inputs Video ≡ video → (follow (capture_step s video) rest).last.status
+    at_capture : (video : List ℕ) → inputs Video ≡ video → (follow (entry_capture_step s video) rest).last.status
         ≡ VideoRefused fault → faulty video
     at_capture [] is ends = absurd (cc ends)
     at_capture (b ∷ v) is ends = at_frame b v is (next_frame s.more s.params.format s.video_at (b ∷ v)) refl ends
 
-    at_entry : (o : Option Entry) → (follow (entry_step s inputs o) rest).last.status ≡ VideoRefused fault
+    at_entry : (o : Option Entry) → (follow (sender_entry_step s inputs o) rest).last.status ≡ VideoRefused fault
         → faulty (inputs Video)
     at_entry None ends = absurd (cc ends)
     at_entry (Some log_entry.Capture) ends = at_capture (inputs Video) refl ends
@@ -62,12 +62,12 @@ module _ (frame_laws : FrameLaws) (fault : Y4mFault) where
     at_entry (Some (log_entry.Packet len)) ends = absurd (cc ends)
     at_entry (Some log_entry.Play) ends = absurd (cc ends)
 
-    at_log : (log : List ℕ) → (follow (log_step s inputs log) rest).last.status ≡ VideoRefused fault
+    at_log : (log : List ℕ) → (follow (sender_log_step s inputs log) rest).last.status ≡ VideoRefused fault
         → faulty (inputs Video)
     at_log [] ends = absurd (cc ends)
     at_log (b ∷ log) ends = within (nat_lt s.read most_entries) refl ends
       where
-        within : (t : Bool) → nat_lt s.read most_entries ≡ t → (follow (log_step s inputs (b ∷ log)) rest).last.status
+        within : (t : Bool) → nat_lt s.read most_entries ≡ t → (follow (sender_log_step s inputs (b ∷ log)) rest).last.status
             ≡ VideoRefused fault → faulty (inputs Video)
         within true is ends = at_entry (entry_in sides.Send (b ∷ log)) (rw is at ends)
         within false is ends = absurd (cc (rw is at ends))
@@ -89,9 +89,9 @@ module _ (frame_laws : FrameLaws) (fault : Y4mFault) where
   video_refused setup inputs ends = by_head (head_of (inputs Video)) refl ends
     where
       by_head : (r : Result Format Y4mFault) → head_of (inputs Video) ≡ r
-          → (follow (head_step setup (head_size (inputs Video)) r) (λ next taken. run_of send_step 16777216 next
+          → (follow (send_head_step setup (head_size (inputs Video)) r) (λ next taken. run_of send_step 16777216 next
           (left_after inputs taken))).last.status ≡ VideoRefused fault
           → fault_after_head r (head_size (inputs Video)) (drop (head_size (inputs Video)) (inputs Video)) ≡ Some fault
-      by_head (Ok f) is ends = run_refused 16777216 (first_state setup f (head_size (inputs Video)))
+      by_head (Ok f) is ends = run_refused 16777216 (send_at_start setup f (head_size (inputs Video)))
           (left_after inputs (of Video (head_size (inputs Video)))) ends
       by_head (Err broken) is ends = ap (λ (x : Y4mFault). Some x) (refused_is broken fault ends)

@@ -17,7 +17,7 @@ use Rattle.desk_program.specs.Ends.{Tells, IsPart, Went, GivesUp, step_turns}
 use Rattle.desk_program.specs.Texts.{no_texts, of}
 use Rattle.desk_program.specs.Laws.{TurnLaws}
 use Rattle.send_command.specs.declared.sending.Sending.{Sending}
-use Rattle.send_command.specs.Send.{SendState, first_state, head_step, refused_video, send_begin}
+use Rattle.send_command.specs.Send.{SendState, send_at_start, send_head_step, refused_sender_video, send_begin}
 use Rattle.send_command.proofs.Apart.{not_video, refused_by}
 use Rattle.send_command.proofs.Held.{no_frame_held, not_an_err}
 
@@ -26,7 +26,7 @@ CutHeads = (video : List ℕ) (f : Format) (k : ℕ) → head_of video ≡ Ok f 
     → (head_of (take k video) ≡ Ok f) × (head_size (take k video) ≡ head_size video)
 
 head_part : CutHeads → (setup : Sending) (video : List ℕ) (k : ℕ) (r : Result Format Y4mFault) → head_of video ≡ r
-    → IsErr (head_of (take k video)) → IsPart (step_turns (head_step setup (head_size video) r)) (of Video k)
+    → IsErr (head_of (take k video)) → IsPart (step_turns (send_head_step setup (head_size video) r)) (of Video k)
 head_part cut setup video k (Ok f) is lost = no_frame_held (record {
   taken = of Video (head_size video);
   whole = true;
@@ -54,8 +54,8 @@ module _ (laws : TurnLaws) (setup : Sending) (inputs : Role → List ℕ) (old m
     written = same;
   }
   head_stops cut (Refused fault) e = record {
-    last = refused_video 0 fault;
-    is = ap (head_step setup (head_size (inputs Video))) e;
+    last = refused_sender_video 0 fault;
+    is = ap (send_head_step setup (head_size (inputs Video))) e;
     by =
         refused_by laws Video (of Events 0) (VideoRefused fault) inputs old mid
         (λ r input other. others r (not_video r other) ∙ told r input ∙ none_gone r) same;
@@ -63,14 +63,14 @@ module _ (laws : TurnLaws) (setup : Sending) (inputs : Role → List ℕ) (old m
 
   pub head_goes : (reader : Y4mPlace) (stands : SendState → (Role → List ℕ) → Type 0)
       → HeadGives (Ok reader) (inputs Video) (mid.left Video)
-      → stands (first_state setup reader.format (head_size (inputs Video)))
+      → stands (send_at_start setup reader.format (head_size (inputs Video)))
       (left_after inputs (of Video (head_size (inputs Video))))
       → Went (send_begin setup inputs) stands (λ _. true) true inputs old mid
   head_goes reader stands e kept = record {
-    next = first_state setup reader.format (head_size (inputs Video));
+    next = send_at_start setup reader.format (head_size (inputs Video));
     turn = record { taken = of Video (head_size (inputs Video)); whole = true; texts = no_texts };
     could = refl;
-    is = ap (head_step setup (head_size (inputs Video))) e.0;
+    is = ap (send_head_step setup (head_size (inputs Video))) e.0;
     kept = kept;
     whole = refl;
     left = laws.one_read Video (head_size (inputs Video)) old mid inputs told e.2 others;

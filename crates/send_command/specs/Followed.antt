@@ -25,11 +25,11 @@ use Rattle.fitted_sender.specs.declared.aim.Aim.{Aim}
 use Rattle.fitted_sender.specs.Aiming.{next_sent, sent_by}
 use Rattle.send_command.specs.declared.tally.Tally.{Tally}
 use Rattle.send_command.specs.Send.{captured, packets_text}
-use Rattle.send_command.specs.Tally.{no_counts, with_picture, with_reply, count_text}
+use Rattle.send_command.specs.Tally.{nothing_sent_counted, with_sent_picture, with_reply, sender_counts}
 
 -- the frames of a video, as they are captured
-abbrev pub film : Params → List (List ℕ) → List Frame
-film p planes = map (captured p.format) planes
+abbrev pub sender_film : Params → List (List ℕ) → List Frame
+sender_film p planes = map (captured p.format) planes
 
 -- ---- the entries of the log, with the frames of the video
 
@@ -52,10 +52,10 @@ frames_with frames (log_entry.Packet len) = frames
 frames_with frames log_entry.Play = frames
 
 -- the same after these entries
-abbrev pub with_entries : List Frame → List (SenderEntry Frame) → List Found → List (SenderEntry Frame)
-with_entries frames past [] = past
-with_entries frames past (found ∷ more) =
-    with_entries (frames_with frames found.entry) (past_with frames past found.entry found.bytes) more
+abbrev pub with_sender_entries : List Frame → List (SenderEntry Frame) → List Found → List (SenderEntry Frame)
+with_sender_entries frames past [] = past
+with_sender_entries frames past (found ∷ more) =
+    with_sender_entries (frames_with frames found.entry) (past_with frames past found.entry found.bytes) more
 
 abbrev pub frames_after : List Frame → List Found → List Frame
 frames_after frames [] = frames
@@ -82,9 +82,9 @@ module _ (p : Params) (aim : Aim) where
 
   -- what is counted: the pictures with their packets, and feedback by its answer
   abbrev pub counted : List (SenderEntry Frame) → Tally
-  counted [] = no_counts
+  counted [] = nothing_sent_counted
   counted (Capture frame ∷ past) =
-      with_picture (length (packets_after p (sent_by p aim (Capture frame ∷ past)).run)) (counted past)
+      with_sent_picture (length (packets_after p (sent_by p aim (Capture frame ∷ past)).run)) (counted past)
   counted (Feedback bytes ∷ past) =
       with_reply (feedback_answer (rules_of p) (length (sent_by p aim past).run.run.coded)
       (read_message p.clock bytes)) (counted past)
@@ -106,9 +106,9 @@ no_frame_left (Some fault) at = VideoRefused fault
 
 -- The log is read out, up to its first fault; or the next entry is a capture, and no frame is left for
 -- it: the video is at its end, or its next frame is refused.
-abbrev pub IsEnd : Option LogFault → Option Y4mFault → List Frame → List Found → Status → Type 0
-IsEnd fault broken frames [] status = status ≡ read_out fault
-IsEnd fault broken frames (found ∷ more) status =
+abbrev pub IsSenderEnd : Option LogFault → Option Y4mFault → List Frame → List Found → Status → Type 0
+IsSenderEnd fault broken frames [] status = status ≡ read_out fault
+IsSenderEnd fault broken frames (found ∷ more) status =
     (found.entry ≡ log_entry.Capture) × (frames ≡ []) × (status ≡ no_frame_left broken found.at)
 
 -- What an end takes of each input, where it is said: at the log's end nothing; a capture for which no
@@ -131,11 +131,11 @@ pub record SendsItsLog (p : Params) (aim : Aim) (inputs : Role → List ℕ) (ru
   pub read : log_entries sides.Send (inputs Events) ≡ accepted ++ refused
   pub taken : length run.turns ≡ length accepted + 1
   pub wire : text_of run Wire
-      ≡ sent_text p aim (with_entries (film p (video_frames (inputs Video))) [] accepted)
+      ≡ sent_text p aim (with_sender_entries (sender_film p (video_frames (inputs Video))) [] accepted)
   pub report : text_of run Report
-      ≡ sent_lines p aim (with_entries (film p (video_frames (inputs Video))) [] accepted)
+      ≡ sent_lines p aim (with_sender_entries (sender_film p (video_frames (inputs Video))) [] accepted)
       ++ told run.last.status
-      (count_text (counted p aim (with_entries (film p (video_frames (inputs Video))) [] accepted)))
-  pub end : IsEnd (log_fault sides.Send (inputs Events)) (video_fault (inputs Video))
-      (frames_after (film p (video_frames (inputs Video))) accepted) refused run.last.status
+      (sender_counts (counted p aim (with_sender_entries (sender_film p (video_frames (inputs Video))) [] accepted)))
+  pub end : IsSenderEnd (log_fault sides.Send (inputs Events)) (video_fault (inputs Video))
+      (frames_after (sender_film p (video_frames (inputs Video))) accepted) refused run.last.status
   pub others : Spares run.last.status run.last.taken

@@ -34,7 +34,7 @@ use Rattle.send_command.specs.declared.sending.Sending.{Sending}
 use Rattle.send_command.specs.declared.tally.Tally.{Tally}
 use Rattle.fitted_sender.specs.Aiming.{Sent, after_heard, after_sent, next_sent}
 use Rattle.send_command.specs.Aimed.{aim_at_start}
-use Rattle.send_command.specs.Tally.{no_counts, with_picture, with_reply, count_text}
+use Rattle.send_command.specs.Tally.{nothing_sent_counted, with_sent_picture, with_reply, sender_counts}
 
 -- the parameters; what was done so far, and what was counted of it; the byte where the next entry
 -- begins, and how many were read; the byte where the next frame begins, and how many may still come
@@ -49,8 +49,8 @@ pub record SendState : Type 0 where
 
 -- A refusal: of what it takes of this input nothing is said, and of each other one this much is
 -- taken.
-abbrev pub refusal_at : Role → (Role → ℕ) → Status → End
-refusal_at input before status =
+abbrev pub input_refusal : Role → (Role → ℕ) → Status → End
+input_refusal input before status =
     record {
       status = status;
       taken = λ r. if is_role input r then None else Some (before r);
@@ -58,12 +58,12 @@ refusal_at input before status =
     }
 
 -- a video is refused, after so much of the log
-abbrev pub refused_video : ℕ → Y4mFault → End
-refused_video size fault = refusal_at Video (of Events size) (VideoRefused fault)
+abbrev pub refused_sender_video : ℕ → Y4mFault → End
+refused_sender_video size fault = input_refusal Video (of Events size) (VideoRefused fault)
 
 -- a log is refused, where no entry stands that may be there
 abbrev pub bad_entry : LogFault → End
-bad_entry fault = refusal_at Events no_bytes (LogRefused fault)
+bad_entry fault = input_refusal Events no_bytes (LogRefused fault)
 
 -- the most entries of a log
 abbrev pub most_entries : ℕ
@@ -89,12 +89,12 @@ capture_texts p frame sent =
     (next_sent p frame sent).reference
 
 -- the state after a capture: three bytes of the log and a frame of the video are gone
-abbrev pub after_capture : SendState → ℕ → Frame → SendState
-after_capture s size frame =
+abbrev pub after_captured_frame : SendState → ℕ → Frame → SendState
+after_captured_frame s size frame =
     record {
       params = s.params;
       sent = after_sent s.params frame s.sent;
-      tally = with_picture (length (packets_after s.params (after_sent s.params frame s.sent).run)) s.tally;
+      tally = with_sent_picture (length (packets_after s.params (after_sent s.params frame s.sent).run)) s.tally;
       at = s.at + 3;
       read = s.read + 1;
       video_at = s.video_at + size;
@@ -102,30 +102,30 @@ after_capture s size frame =
     }
 
 -- the next frame is captured, or refused
-abbrev pub frame_step : SendState → ℕ → Result (List ℕ) Y4mFault → Step SendState
-frame_step s size (Ok frame) =
-    Goes (after_capture s size (captured s.params.format frame))
+abbrev pub sender_frame_step : SendState → ℕ → Result (List ℕ) Y4mFault → Step SendState
+sender_frame_step s size (Ok frame) =
+    Goes (after_captured_frame s size (captured s.params.format frame))
     (record {
       taken = and_of (of Events 3) (of Video size);
       whole = true;
       texts = capture_texts s.params (captured s.params.format frame) s.sent;
     })
-frame_step s size (Err fault) = Ends (refused_video 3 fault)
+sender_frame_step s size (Err fault) = Ends (refused_sender_video 3 fault)
 
 -- the capture was taken, and the video is at its end
 abbrev pub no_frame : ℕ → End
 no_frame at = record { status = LogRefused (NoFrame at); taken = λ r. Some (of Events 3 r); texts = no_texts }
 
 -- a capture: it asks for the next frame
-abbrev pub capture_step : SendState → List ℕ → Step SendState
-capture_step s [] = Ends (no_frame s.at)
-capture_step s (b ∷ video) =
-    frame_step s (frame_size s.params.format (b ∷ video))
+abbrev pub entry_capture_step : SendState → List ℕ → Step SendState
+entry_capture_step s [] = Ends (no_frame s.at)
+entry_capture_step s (b ∷ video) =
+    sender_frame_step s (frame_size s.params.format (b ∷ video))
     (next_frame s.more s.params.format s.video_at (b ∷ video))
 
 -- the state after the bytes of a message
-abbrev pub after_feedback : SendState → List ℕ → SendState
-after_feedback s bytes =
+abbrev pub after_heard_feedback : SendState → List ℕ → SendState
+after_heard_feedback s bytes =
     record {
       params = s.params;
       sent = after_heard s.params bytes s.sent;
@@ -140,43 +140,43 @@ after_feedback s bytes =
 -- feedback: the sender's answer is counted
 abbrev pub feedback_step : SendState → ℕ → List ℕ → Step SendState
 feedback_step s size bytes =
-    Goes (after_feedback s bytes)
+    Goes (after_heard_feedback s bytes)
     (record { taken = of Events size; whole = true; texts = no_texts })
 
 abbrev pub no_entry : SendState → Step SendState
 no_entry s = Ends (bad_entry (BadRecord s.at))
 
 -- the entry that stands first in the log; one of a receiver's log never does
-abbrev pub entry_step : SendState → (Role → List ℕ) → Option Entry → Step SendState
-entry_step s inputs None = no_entry s
-entry_step s inputs (Some log_entry.Capture) = capture_step s (inputs Video)
-entry_step s inputs (Some (log_entry.Back len)) =
+abbrev pub sender_entry_step : SendState → (Role → List ℕ) → Option Entry → Step SendState
+sender_entry_step s inputs None = no_entry s
+sender_entry_step s inputs (Some log_entry.Capture) = entry_capture_step s (inputs Video)
+sender_entry_step s inputs (Some (log_entry.Back len)) =
     feedback_step s (3 + len) (take len (drop 3 (inputs Events)))
-entry_step s inputs (Some (log_entry.Packet len)) = no_entry s
-entry_step s inputs (Some log_entry.Play) = no_entry s
+sender_entry_step s inputs (Some (log_entry.Packet len)) = no_entry s
+sender_entry_step s inputs (Some log_entry.Play) = no_entry s
 
 -- the log is at its end: the counts are told, and nothing more is taken
-abbrev pub all_read : Tally → End
-all_read t = record { status = Fine; taken = λ _. Some 0; texts = on Report (count_text t) }
+abbrev pub sender_read_all : Tally → End
+sender_read_all t = record { status = Fine; taken = λ _. Some 0; texts = on Report (sender_counts t) }
 
 -- what is left of the log
-abbrev pub log_step : SendState → (Role → List ℕ) → List ℕ → Step SendState
-log_step s inputs [] = Ends (all_read s.tally)
-log_step s inputs (b ∷ log) =
-    if nat_lt s.read most_entries then entry_step s inputs (entry_in sides.Send (b ∷ log))
+abbrev pub sender_log_step : SendState → (Role → List ℕ) → List ℕ → Step SendState
+sender_log_step s inputs [] = Ends (sender_read_all s.tally)
+sender_log_step s inputs (b ∷ log) =
+    if nat_lt s.read most_entries then sender_entry_step s inputs (entry_in sides.Send (b ∷ log))
     else Ends (bad_entry (TooMany s.at))
 
 -- a turn: one entry of the log
 abbrev pub send_step : SendState → (Role → List ℕ) → Step SendState
-send_step s inputs = log_step s inputs (inputs Events)
+send_step s inputs = sender_log_step s inputs (inputs Events)
 
 -- before the first entry, after a head of this many bytes
-abbrev pub first_state : Sending → Format → ℕ → SendState
-first_state setup f size =
+abbrev pub send_at_start : Sending → Format → ℕ → SendState
+send_at_start setup f size =
     record {
       params = record setup.params { format = f };
       sent = record { run = nothing_done; aim = aim_at_start setup f };
-      tally = no_counts;
+      tally = nothing_sent_counted;
       at = 0;
       read = 0;
       video_at = size;
@@ -184,11 +184,11 @@ first_state setup f size =
     }
 
 -- the video's head gives the format, or is refused
-abbrev pub head_step : Sending → ℕ → Result Format Y4mFault → Step SendState
-head_step setup size (Ok f) =
-    Goes (first_state setup f size) (record { taken = of Video size; whole = true; texts = no_texts })
-head_step setup size (Err fault) = Ends (refused_video 0 fault)
+abbrev pub send_head_step : Sending → ℕ → Result Format Y4mFault → Step SendState
+send_head_step setup size (Ok f) =
+    Goes (send_at_start setup f size) (record { taken = of Video size; whole = true; texts = no_texts })
+send_head_step setup size (Err fault) = Ends (refused_sender_video 0 fault)
 
 -- before the first turn the video's head is read
 abbrev pub send_begin : Sending → (Role → List ℕ) → Step SendState
-send_begin setup inputs = head_step setup (head_size (inputs Video)) (head_of (inputs Video))
+send_begin setup inputs = send_head_step setup (head_size (inputs Video)) (head_of (inputs Video))

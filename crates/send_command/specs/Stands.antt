@@ -36,8 +36,8 @@ pub record CanSend (setup : Sending) (attached : Role → Bool) : Type 0 where
   pub report : attached Report ≡ true
 
 -- the state that the machine keeps in mind, but for the run of its sender
-abbrev pub state_of : Send → Run → SendState
-state_of m run =
+abbrev pub send_state_of : Send → Run → SendState
+send_state_of m run =
     record {
       params = m.sender.params;
       sent = record { run = run; aim = m.aim };
@@ -50,7 +50,7 @@ state_of m run =
 
 -- the machine keeps this state in mind: its sender holds the run
 pub record SendStands (m : Send) (s : SendState) (inputs : Role → List ℕ) : Type 0 where
-  pub is : s ≡ state_of m s.sent.run
+  pub is : s ≡ send_state_of m s.sent.run
   pub sender : Holds m.sender s.sent.run
 
 -- the roles are attached, the parts fit each other, and as many frames may still come as pictures
@@ -80,11 +80,11 @@ pub record IsAtEntry (m : Send) (attached : Role → Bool) : Type 0 where
   pub tally : IsOf (m.log.entries - 1) m.tally
 
 -- this was the state before the entry of this many bytes that was read last
-pub record StoodBefore (m : Send) (s : SendState) (size : ℕ) : Type 0 where
-  pub is : record s { at = s.at + size; read = s.read + 1 } ≡ state_of m s.sent.run
+pub record SenderStoodBefore (m : Send) (s : SendState) (size : ℕ) : Type 0 where
+  pub is : record s { at = s.at + size; read = s.read + 1 } ≡ send_state_of m s.sent.run
   pub sender : Holds m.sender s.sent.run
 
 -- since then this many bytes of the log were taken, and nothing was written
-pub record HasTaken (size : ℕ) (inputs : Role → List ℕ) (old new : Outside) : Type 0 where
+pub record HasTakenEntry (size : ℕ) (inputs : Role → List ℕ) (old new : Outside) : Type 0 where
   pub left : Tells new (left_after inputs (of Events size))
   pub written : new.written ≡ old.written

@@ -6,12 +6,12 @@ use Rattle.call_report.specs.Text.{counts}
 use Rattle.send_command.specs.declared.tally.Tally.{Tally}
 
 -- nothing was counted
-abbrev pub no_counts : Tally
-no_counts = record { sent = 0; packets = 0; noted = 0; outdated = 0; refused = 0 }
+abbrev pub nothing_sent_counted : Tally
+nothing_sent_counted = record { sent = 0; packets = 0; noted = 0; outdated = 0; refused = 0 }
 
 -- one picture more was sent, in this many packets
-abbrev pub with_picture : ℕ → Tally → Tally
-with_picture count t = record t { sent = t.sent + 1; packets = t.packets + count }
+abbrev pub with_sent_picture : ℕ → Tally → Tally
+with_sent_picture count t = record t { sent = t.sent + 1; packets = t.packets + count }
 
 -- one answer more to feedback
 abbrev pub with_reply : Reply MessageFault → Tally → Tally
@@ -20,8 +20,8 @@ with_reply Old t = record t { outdated = t.outdated + 1 }
 with_reply (RefusedMessage fault) t = record t { refused = t.refused + 1 }
 
 -- the line of the counts
-abbrev pub count_text : Tally → List ℕ
-count_text t =
+abbrev pub sender_counts : Tally → List ℕ
+sender_counts t =
     counts
     ((codes "sent", t.sent)
     ∷ (codes "packets", t.packets)

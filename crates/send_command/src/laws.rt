@@ -11,7 +11,7 @@ ghost use Rattle.call_report.specs.declared.status.Status.TheVariants.{VideoRefu
 ghost use Rattle.desk_program.specs.Run.{run_from};
 ghost use Rattle.send_command.specs.declared.sending.Sending.{Sending};
 ghost use Rattle.send_command.specs.Followed.{SendsItsLog};
-ghost use Rattle.send_command.specs.Send.{refused_video, send_begin, send_step};
+ghost use Rattle.send_command.specs.Send.{refused_sender_video, send_begin, send_step};
 ghost use Rattle.fitted_sender.specs.Aiming.{PlainIsSenderRun};
 ghost use Rattle.send_command.specs.Aimed.{aim_at_start};
 
@@ -56,7 +56,7 @@ pub fn send_follows_its_log()
     ensures no_head { (setup : Sending) (inputs : Role → List ℕ) (fault : Y4mFault)
         → head_of (inputs Video) ≡ Err fault
         → run_from (send_begin setup inputs) send_step 16777216 inputs
-        ≡ record { turns = []; last = refused_video 0 fault } }
+        ≡ record { turns = []; last = refused_sender_video 0 fault } }
 {
     exact_entries();
     frame_by_frame();

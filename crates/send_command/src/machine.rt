@@ -38,23 +38,23 @@ impl Send {
     ghost use Rattle.desk_program.specs.Ends.{GivesUp, HasCause, IsStop, KeepsRoles, Went};
     ghost use Rattle.desk_program.specs.Ends.{start_status};
     ghost use Rattle.call_report.specs.Status.{phase};
-    ghost use Rattle.send_command.specs.Send.{SendState, capture_step, after_feedback};
-    ghost use Rattle.send_command.specs.Stands.{HasTaken, IsAtEntry, IsFit, SendReady, SendStands};
-    ghost use Rattle.send_command.specs.Stands.{StoodBefore};
+    ghost use Rattle.send_command.specs.Send.{SendState, entry_capture_step, after_heard_feedback};
+    ghost use Rattle.send_command.specs.Stands.{HasTakenEntry, IsAtEntry, IsFit, SendReady, SendStands};
+    ghost use Rattle.send_command.specs.Stands.{SenderStoodBefore};
     ghost use Rattle.send_command.specs.Tally.{IsOf};
 
     // Does what the capture asks for that was read last, at this byte.
     fn take_frame<D: Desk>(&mut self, desk: &mut D, at: u64) -> Result<(), Status>
         requires { IsAtEntry self.old (D.outside desk.old).attached }
         ensures ok { (before : Outside) (s : SendState) (inputs : Role → List ℕ)
-            → StoodBefore self.old s 3 → HasTaken 3 inputs before (D.outside desk.old)
-            → OnOk result (Went (capture_step s (inputs Video)) (SendStands self.new) (λ _. true)
+            → SenderStoodBefore self.old s 3 → HasTakenEntry 3 inputs before (D.outside desk.old)
+            → OnOk result (Went (entry_capture_step s (inputs Video)) (SendStands self.new) (λ _. true)
             true inputs before (D.outside desk.new)) }
         ensures err { (before : Outside) (s : SendState) (inputs : Role → List ℕ)
-            → StoodBefore self.old s 3 → at ≡ s.at
-            → HasTaken 3 inputs before (D.outside desk.old)
+            → SenderStoodBefore self.old s 3 → at ≡ s.at
+            → HasTakenEntry 3 inputs before (D.outside desk.old)
             → IfErr result (λ status. GivesUp (phase status) status
-            (capture_step s (inputs Video)) true inputs before (D.outside desk.new)) }
+            (entry_capture_step s (inputs Video)) true inputs before (D.outside desk.new)) }
         ensures log { self.new.log ≡ self.old.log }
         ensures ready { OnOk result (SendReady self.new (D.outside desk.new).attached) }
         ensures stop { IfErr result IsStop }
@@ -83,8 +83,8 @@ impl Send {
         requires some { 0 < self.old.log.entries }
         requires tally { IsOf (self.old.log.entries - 1) self.old.tally }
         ensures stands { (s : SendState) (inputs : Role → List ℕ) → len ≤ 65535
-            → StoodBefore self.old s (3 + len)
-            → SendStands self.new (after_feedback s (take len self.old.bytes.items)) inputs }
+            → SenderStoodBefore self.old s (3 + len)
+            → SendStands self.new (after_heard_feedback s (take len self.old.bytes.items)) inputs }
         ensures log { self.new.log ≡ self.old.log }
         ensures fit { (attached : Role → Bool) → IsFit self.old attached → IsFit self.new attached }
         ensures tally { IsOf self.new.log.entries self.new.tally }

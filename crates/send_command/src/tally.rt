@@ -2,7 +2,7 @@
 ghost use Rattle.std.specs.Prelude.{◌≡◌, ◌+◌, ◌<◌, ◌^◌};
 ghost use Rattle.call_report.specs.View.{text_of};
 ghost use Rattle.sender_end.specs.Stands.{reply_of};
-ghost use Rattle.send_command.specs.Tally.{count_text, no_counts, with_picture, with_reply};
+ghost use Rattle.send_command.specs.Tally.{sender_counts, nothing_sent_counted, with_sent_picture, with_reply};
 
 use call_report::Line;
 use sender_end::Feedback;
@@ -20,7 +20,7 @@ pub struct Tally {
 impl Tally {
     /// Nothing was counted.
     pub fn new() -> Tally
-        ensures { result ≡ no_counts }
+        ensures { result ≡ nothing_sent_counted }
     {
         Tally {
             sent: 0,
@@ -35,7 +35,7 @@ impl Tally {
     pub fn picture(&mut self, count: u32)
         requires sent { self.old.sent + 1 < 2 ^ 32 }
         requires packets { self.old.packets + count < 2 ^ 64 }
-        ensures { self.new ≡ with_picture count self.old }
+        ensures { self.new ≡ with_sent_picture count self.old }
     {
         self.sent += 1;
         self.packets += count as u64;
@@ -57,7 +57,7 @@ impl Tally {
 
     /// The line of the counts.
     pub fn line(&self) -> Line
-        ensures { text_of result ≡ count_text self.now }
+        ensures { text_of result ≡ sender_counts self.now }
     {
         let mut line = Line::empty();
         line.pair("sent", self.sent as u64);

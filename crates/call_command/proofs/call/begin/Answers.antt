@@ -8,15 +8,15 @@ use Rattle.call_report.specs.Status.{video_stop}
 use Rattle.desk_program.specs.Ends.{Gains, GainsFronts}
 use Rattle.desk_program.specs.Texts.{on}
 use Rattle.call_command.specs.declared.begun.Begun.{Begun}
-use Rattle.call_command.specs.Call.{CallState, call_begin, first_state, may_read, with_format}
-use Rattle.call_command.specs.Converse.{IsFirst}
+use Rattle.call_command.specs.Call.{CallState, call_begin, call_at_start, may_read, with_format}
+use Rattle.call_command.specs.Converse.{IsCallStart}
 use Rattle.call_command.proofs.Starting.{in_format}
 use Rattle.call_command.proofs.FrameTurning.{cut_gives, head_cut, head_goes, head_stops, start_gives, starved_cause}
 use Rattle.call_command.proofs.call.begin.Goals as goal
 
 -- what was begun stands before the first event
 abbrev begun_first : Begun → CallState → (Role → List ℕ) → Type 0
-begun_first begun = IsFirst begun.terms begun.video.at
+begun_first begun = IsCallStart begun.terms begun.video.at
 
 pub returns-in_err-video-clause-gives : goal.returns-in_err-video-clause-gives
 returns-in_err-video-clause-gives g c = λ inputs told.
@@ -56,7 +56,7 @@ returns-clause-gives g c = λ inputs told.
     head_goes c.turn_laws.ensures c.video_laws.ensures inputs (outside c.args.desk.now) (outside c.head.new.desk) told
     c.head.ensures.others c.head.ensures.rest.written
     (outside c.put_head.new.desk) c.put_head.ensures.rest.left t video.format e.0 e.2 (begun_first begun)
-    (λ i. first_state (with_format t (sym c.format.ensures i)) [] (sym e.1 i))
+    (λ i. call_at_start (with_format t (sym c.format.ensures i)) [] (sym e.1 i))
     (subst (λ (f : Format). Gains (on Pictures (head_text f)) (outside c.head.new.desk).written
     (outside c.put_head.new.desk).written) c.format.ensures c.in_default.ensures.ok)
 

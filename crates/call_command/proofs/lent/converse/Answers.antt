@@ -1,6 +1,6 @@
 -- A whole conversation from its turns: what the last one left is what the definition of the run says.
 use Rattle.std.proofs.Common.{[], ap, sym, rules}
-use Rattle.call_command.specs.Call.{call_step, first_state, may_read, most_turns}
+use Rattle.call_command.specs.Call.{call_step, call_at_start, may_read, most_turns}
 use Rattle.call_command.specs.Converse.{talk_end}
 use Rattle.call_command.specs.Turning.{Names}
 use Rattle.call_command.proofs.Conversing.{alone_under_way, answers_itself, ends_in, left_standing, lent_first, lent_stand, parts_with, stays_itself, under_way}
@@ -62,6 +62,6 @@ returns-clause-alone g c = λ run inputs start receives u.
 
 pub returns-in_default-clause-alone : goal.returns-in_default-clause-alone
 returns-in_default-clause-alone g c = λ run inputs start receives u.
-    c.run_laws.ensures.no_memory (first_state c.args.call.now.terms [] c.args.call.now.video.at) call_step may_read run
+    c.run_laws.ensures.no_memory (call_at_start c.args.call.now.terms [] c.args.call.now.video.at) call_step may_read run
     inputs start (most_turns c.args.call.now.terms.plain)
     (g.D.Desk.outside c.args.desk.now) u

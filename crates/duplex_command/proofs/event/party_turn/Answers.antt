@@ -11,7 +11,7 @@ use Rattle.duplex_call.specs.Duplex.{with_delivery, with_play}
 use Rattle.duplex_ends.specs.Pair.{MayHappenNow}
 use Rattle.duplex_ends.specs.Ways.{sides, with_whole}
 use Rattle.duplex_command.specs.declared.station.Station.{Station}
-use Rattle.duplex_command.specs.Duplex.{refusal_at}
+use Rattle.duplex_command.specs.Duplex.{party_refusal}
 use Rattle.duplex_command.specs.Standing.{StationsStand}
 use Rattle.duplex_command.proofs.Doing.{delivery_done, event_cut, event_done, event_goes, frame_asked, is_in_call, line_stops, may_happen, may_so, none_so, one_left, play_cut, play_goes, stands_event, station_kept}
 use Rattle.duplex_command.proofs.event.party_turn.Goals as goal
@@ -178,7 +178,7 @@ returns-in_err-play_next-in-Play g c =
     c.from_residual-in_err-play_next-in-Play.result failed.field-0.0 c.from_residual-in_err-play_next-in-Play.ensures.1
     failed.ensures.kind failed.ensures.cause (c.turning.ensures.steps.writes old new c.play_next.ensures.rest)
     (λ trace o s inputs b.
-    let none : refusal_at x s Play ≡ None =
+    let none : party_refusal x s Play ≡ None =
     none_so c.check_play.result Play _ c.in_ok-allow-in-Play.ensures.ok
     (c.check_play.ensures.refusal s.params x far.ends s.ways (one_left s.params x s.ways) b.stood.holds)
     in
@@ -210,7 +210,7 @@ returns-in_ok-play_next-in-Play g c =
     })
     (c.turning.ensures.steps.writes old new done.rest)
     (λ trace o s inputs b.
-    let none : refusal_at x s Play ≡ None =
+    let none : party_refusal x s Play ≡ None =
     none_so c.check_play.result Play _ c.in_ok-allow-in-Play.ensures.ok
     (c.check_play.ensures.refusal s.params x far.ends s.ways (one_left s.params x s.ways) b.stood.holds)
     in

@@ -15,9 +15,9 @@ use Rattle.duplex_call.specs.Duplex.{with_capture}
 use Rattle.duplex_ends.specs.Pair.{HoldsPair}
 use Rattle.duplex_ends.specs.Ways.{sides}
 use Rattle.duplex_command.specs.declared.station.Station.{Station}
-use Rattle.duplex_command.specs.Duplex.{capture_step}
+use Rattle.duplex_command.specs.Duplex.{party_capture_step}
 use Rattle.duplex_command.specs.Standing.{StationsStand}
-use Rattle.duplex_command.specs.Turning.{IsAsked}
+use Rattle.duplex_command.specs.Turning.{IsPartyAsked}
 use Rattle.duplex_command.proofs.Capturing.{frame_missing, frame_sent, frame_stops, given, gives_so}
 use Rattle.duplex_command.proofs.Doing.{format_is, may_happen, one_left, own_place, stands_sent}
 use Rattle.duplex_command.proofs.PartyTurns.{gave_up, went_on}
@@ -33,8 +33,8 @@ returns-in_err-frame g c = λ far room m.
     let line = c.args.said.line in
     let stop = c.in_err-frame.field-0.0 in
     let out = c.frame.new.out in
-    gave_up x _ far old mid room (λ trace. IsAsked x own far line trace old)
-    (λ s inputs. capture_step Video Pictures VideoRefused x s (inputs Events) (inputs Video))
+    gave_up x _ far old mid room (λ trace. IsPartyAsked x own far line trace old)
+    (λ s inputs. party_capture_step Video Pictures VideoRefused x s (inputs Events) (inputs Video))
     c.from_residual.result (video_stop stop) c.from_residual.ensures.1 (c.turning.ensures.steps.video_stops stop)
     (c.turning.ensures.steps.video_cause stop old.faults mid.faults (λ is. c.in_err-frame.ensures.cause
     (ap (λ e. Err e) is))) (c.turning.ensures.steps.reads old mid c.frame.ensures.rest)
@@ -58,8 +58,8 @@ returns-then-not-branch g c = λ far room m.
     let line = c.args.said.line in
     let out = c.frame.new.out in
     let status = TraceRefused (NoFrame line) in
-    gave_up x _ far old mid room (λ trace. IsAsked x own far line trace old)
-    (λ s inputs. capture_step Video Pictures VideoRefused x s (inputs Events) (inputs Video))
+    gave_up x _ far old mid room (λ trace. IsPartyAsked x own far line trace old)
+    (λ s inputs. party_capture_step Video Pictures VideoRefused x s (inputs Events) (inputs Video))
     (Err status) status refl tt tt (c.turning.ensures.steps.reads old mid c.frame.ensures.rest)
     (λ trace o s inputs b.
     let taken = b.read.taken in
@@ -96,8 +96,8 @@ returns g c = λ far room m.
     let shown = picture c.new-picture.result in
     let laws = c.turning.ensures.refused in
     let same = ap (λ (p : Params). p.format) send.ensures.params in
-    went_on x own_new far old mid room (λ trace. IsAsked x own far line trace old)
-    (λ s inputs. capture_step Video Pictures VideoRefused x s (inputs Events) (inputs Video))
+    went_on x own_new far old mid room (λ trace. IsPartyAsked x own far line trace old)
+    (λ s inputs. party_capture_step Video Pictures VideoRefused x s (inputs Events) (inputs Video))
     (record {
       own_ready = record {
         format = moves.0 ∙ c.requires.format ∙ sym same;

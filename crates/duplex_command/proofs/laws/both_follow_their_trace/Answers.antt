@@ -12,14 +12,14 @@ use Rattle.duplex_ends.specs.Ways.{sides}
 use Rattle.one_way.specs.Both.{steady}
 use Rattle.duplex_command.specs.Begin.{heads_step, in_formats}
 use Rattle.duplex_command.specs.Duplex.{duplex_step}
-use Rattle.duplex_command.specs.Recorded.{IsRefusedAtOnce, film, ways_of}
+use Rattle.duplex_command.specs.Recorded.{IsRefusedAtOnce, party_film, ways_of}
 use Rattle.duplex_command.proofs.Followed.{follows}
 use Rattle.duplex_command.proofs.laws.both_follow_their_trace.Goals as goal
 
 pub returns-clause-trace : goal.returns-clause-trace
 returns-clause-trace c = λ p inputs f g first second.
     let q = in_formats p f g in
-    let captures = film q inputs in
+    let captures = party_film q inputs in
     follows p f g inputs
     (record {
       later = λ x. c.later_frames.ensures.ideal (coding x) (rules_of x);

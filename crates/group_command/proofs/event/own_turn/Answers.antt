@@ -8,7 +8,7 @@ use Rattle.group_call.specs.Holding.{HoldsBroadcast}
 use Rattle.group_call.specs.Refused.{view_refusal}
 use Rattle.group_call.specs.Viewing.{packets_in}
 use Rattle.group_command.specs.declared.line.OwnEvent.TheVariants as own
-use Rattle.group_command.specs.Group.{heard, played_texts}
+use Rattle.group_command.specs.Group.{group_heard, played_texts}
 use Rattle.group_command.specs.Standing.{Watches}
 use Rattle.group_command.proofs.Doing.{delivery_plays, is_cast, may_play, message_kept, none_so, of_event, own_codes, places_play, refused_gives, written_gives}
 use Rattle.group_command.proofs.event.own_turn.Goals as goal
@@ -80,7 +80,7 @@ returns-in_ok-allow-in-Back-clause-gives g c = λ p run view half period cast w.
     old old said.event (own.Back m) c.in-Back.is (
       none,
       (
-        subst (λ (o : Option SaidMessage). HoldsBroadcast p c.hear.new.cast (heard p said.place run view o))
+        subst (λ (o : Option SaidMessage). HoldsBroadcast p c.hear.new.cast (group_heard p said.place run view o))
             (message_kept p run view m none) (c.hear.ensures.holds p run view cast w.holds),
         record {
           holds = w.holds;

@@ -8,7 +8,7 @@ use Rattle.call_decoding.specs.Samples.{pictures}
 use Rattle.call_encoding.specs.Encoding.{encoding}
 use Rattle.coded_call.specs.Coding.{coding}
 use Rattle.desk_program.specs.Run.{left_after, follow, run_of}
-use Rattle.group_command.specs.Group.{group_step, head_step}
+use Rattle.group_command.specs.Group.{group_step, group_head_step}
 use Rattle.group_command.specs.Recorded.{one_by_one}
 use Rattle.group_command.proofs.Followed.{follows}
 use Rattle.group_command.proofs.Starting.{in_format}
@@ -48,6 +48,6 @@ returns-clause-trace c = λ t inputs f in_range some few head.
 pub returns-clause-no_head : goal.returns-clause-no_head
 returns-clause-no_head c = λ t inputs fault is.
     ap
-    (λ (r : Result Format Y4mFault). follow (head_step t (inputs Video) r)
+    (λ (r : Result Format Y4mFault). follow (group_head_step t (inputs Video) r)
     (λ next taken. run_of group_step 16777216 next (left_after inputs taken)))
     is

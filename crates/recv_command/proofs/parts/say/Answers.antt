@@ -6,7 +6,7 @@ use Rattle.event_logs.specs.Text.{entry_text}
 use Rattle.desk_program.specs.Ends.{Gains, GainsFronts}
 use Rattle.desk_program.specs.Texts.{on}
 use Rattle.coded_call.specs.Bytes.{AreBytes}
-use Rattle.recv_command.specs.Said.{back_text}
+use Rattle.recv_command.specs.Said.{said_message_text}
 use Rattle.recv_command.proofs.Saying.{said_text}
 use Rattle.recv_command.proofs.parts.say.Goals as goal
 
@@ -14,7 +14,7 @@ pub returns-in-Some-clause-ok : goal.returns-in-Some-clause-ok
 returns-in-Some-clause-ok g c = λ clock message is.
     let outside = g.D.Desk.outside in
     let fit : AreBytes (text_of c.in-Some.said) = subst AreBytes c.text-text.ensures c.are_bytes.ensures in
-    let text : on Wire (entry_text 66 c.text-text.result.now) ≡ back_text message =
+    let text : on Wire (entry_text 66 c.text-text.result.now) ≡ said_message_text message =
     ap (λ (l : List ℕ). on Wire (entry_text 66 l)) c.text-text.ensures
     ∙ said_text c.said_bytes.ensures.written clock c.args.said c.in-Some.said message c.in-Some.is fit is
     in
@@ -25,7 +25,7 @@ pub returns-in-Some-clause-err : goal.returns-in-Some-clause-err
 returns-in-Some-clause-err g c = λ clock message is.
     let outside = g.D.Desk.outside in
     let fit : AreBytes (text_of c.in-Some.said) = subst AreBytes c.text-text.ensures c.are_bytes.ensures in
-    let text : on Wire (entry_text 66 c.text-text.result.now) ≡ back_text message =
+    let text : on Wire (entry_text 66 c.text-text.result.now) ≡ said_message_text message =
     ap (λ (l : List ℕ). on Wire (entry_text 66 l)) c.text-text.ensures
     ∙ said_text c.said_bytes.ensures.written clock c.args.said c.in-Some.said message c.in-Some.is fit is
     in

@@ -5,8 +5,8 @@ use Rattle.h263_outside.specs.declared.desk.Role.TheVariants.{Video, Events}
 use Rattle.desk_program.specs.Ends.{HasCause, IsReadOut}
 use Rattle.desk_program.specs.Run.{left_after, run_from}
 use Rattle.desk_program.specs.UnderWay.{IsUnderWay}
-use Rattle.call_command.specs.Call.{call_begin, call_step, first_state, may_read, most_turns}
-use Rattle.call_command.specs.Converse.{IsFirst}
+use Rattle.call_command.specs.Call.{call_begin, call_step, call_at_start, may_read, most_turns}
+use Rattle.call_command.specs.Converse.{IsCallStart}
 use Rattle.call_command.proofs.Acting.{later_stop, not_read_out}
 use Rattle.call_command.proofs.call.CallActs.act.Goals as goal
 
@@ -20,10 +20,10 @@ returns-in-Ok-clause-gives g c = λ inputs told.
     let run = run_from first call_step most inputs in
     let old = outside c.args.desk.now in
     let mid = outside c.begin.new.desk in
-    let under_way = c.run_laws.ensures.begins_from (first_state begun.terms [] begun.video.at) first call_step may_read
+    let under_way = c.run_laws.ensures.begins_from (call_at_start begun.terms [] begun.video.at) first call_step may_read
     most inputs old mid (c.in-Ok.ensures.gives inputs told) in
     c.converse-status.ensures.alone run inputs old.written c.in-Ok.ensures.ready.receives
-    (subst (λ (plain : Bool). IsUnderWay call_step may_read run inputs old.written (IsFirst begun.terms begun.video.at)
+    (subst (λ (plain : Bool). IsUnderWay call_step may_read run inputs old.written (IsCallStart begun.terms begun.video.at)
     (most_turns plain) mid) (sym c.in-Ok.ensures.plain) under_way)
 
 pub returns-in-Err-clause-gives : goal.returns-in-Err-clause-gives

@@ -11,7 +11,7 @@ use Rattle.one_way.specs.Trace.{delivered}
 use Rattle.one_way.specs.Way.{HoldsNetwork}
 use Rattle.call_command.specs.declared.link.Link.{Link}
 use Rattle.call_command.specs.Call.{by_ends}
-use Rattle.call_command.specs.Standing.{HasDone, PartsStand, parts_of}
+use Rattle.call_command.specs.Standing.{HasDone, PartsStand, call_parts}
 use Rattle.call_command.specs.Refused.{IsNotRefused}
 use Rattle.call_command.specs.Turning.{Names, names_of}
 use Rattle.call_command.proofs.AfterTurn.{asks_frame, count_same, done_here, event_goes, line_goes_on, line_stops, line_was_cut, none_so, message_is, packet_is, packets_is, play_cut, play_goes, refusal_here, stands_event}
@@ -28,7 +28,7 @@ pub returns-in-Nothing : goal.returns-in-Nothing
 returns-in-Nothing g c =
     let old = g.D.Desk.outside c.args.desk.now in
     let m = c.args.self.now in
-    let x = parts_of m in
+    let x = call_parts m in
     let r = c.requires.ready in
     line_goes_on m _ c.args.line c.args.event says.Nothing old old c.in-Nothing.is refl refl r
     (c.turning.ensures.steps.none old)
@@ -46,13 +46,13 @@ returns-in_err-allow-in-Send g c =
     c.in-Send.is c.from_residual.ensures.1 c.in_err-allow-in-Send.ensures.err
     c.requires.recorded c.turning.ensures.turns c.turning.ensures.steps
     (λ o s inputs b. c.check_capture.ensures p s.before s.frames s.past c.half-half.ensures
-    (done_here (parts_of m) s inputs b.stood).way_holds.joined)
+    (done_here (call_parts m) s inputs b.stood).way_holds.joined)
 
 pub returns-in_ok-allow-in-Send : goal.returns-in_ok-allow-in-Send
 returns-in_ok-allow-in-Send g c =
     let outside = g.D.Desk.outside in
     let m = c.args.self.now in
-    let x = parts_of m in
+    let x = call_parts m in
     asks_frame m _ c.args.line c.args.event c.send_frame.result (outside c.args.desk.now)
     (outside c.send_frame.new.desk) c.in-Send.is c.send_frame.ensures
     (λ o s inputs b.
@@ -72,7 +72,7 @@ returns-in_err-allow-in-Packet g c =
     c.from_residual-in_err-allow-in-Packet.ensures.1 c.in_err-allow-in-Packet.ensures.err
     c.requires.recorded c.turning.ensures.turns c.turning.ensures.steps
     (λ o s inputs b. c.check_packet.ensures p s.before s.frames s.past c.in-Packet.place c.half-half.ensures
-    (done_here (parts_of m) s inputs b.stood).way_holds.joined)
+    (done_here (call_parts m) s inputs b.stood).way_holds.joined)
 
 pub returns-in_err-allow-in-All : goal.returns-in_err-allow-in-All
 returns-in_err-allow-in-All g c =
@@ -84,7 +84,7 @@ returns-in_err-allow-in-All g c =
     c.in_err-allow-in-All.ensures.err
     c.requires.recorded c.turning.ensures.turns c.turning.ensures.steps
     (λ o s inputs b. c.check_packet-in-All.ensures p s.before s.frames s.past 0 c.half-half.ensures
-    (done_here (parts_of m) s inputs b.stood).way_holds.joined)
+    (done_here (call_parts m) s inputs b.stood).way_holds.joined)
 
 pub returns-in_ok-allow-in-Packet : goal.returns-in_ok-allow-in-Packet
 returns-in_ok-allow-in-Packet g c =
@@ -98,7 +98,7 @@ returns-in_ok-allow-in-Packet g c =
     done.new.self done.new.receiver (λ s. Deliver n j ∷ s.past) c.in-Packet.is refl refl
     r c.requires.recorded done.ensures.way done.ensures.played (omega (arith, done.ensures.few, c.requires.room))
     (c.turning.ensures.near p r.opens.params) c.turning.ensures.turns c.turning.ensures.steps
-    (λ s inputs k. packet_is (parts_of m) s inputs k n j)
+    (λ s inputs k. packet_is (call_parts m) s inputs k n j)
     (λ s frames begun h. none_so c.check_packet.result (Deliver n j) _ c.in_ok-allow-in-Packet.ensures.ok
     (c.check_packet.ensures p s.before frames s.past j c.half-half.ensures h.way_holds.joined))
     (λ s inputs k later may. done.ensures.holds p m.sender.now s.before (s.frames ++ later) s.past
@@ -107,7 +107,7 @@ returns-in_ok-allow-in-Packet g c =
 pub returns-in_ok-allow-in-All : goal.returns-in_ok-allow-in-All
 returns-in_ok-allow-in-All g c =
     let m = c.args.self.now in
-    let x = parts_of m in
+    let x = call_parts m in
     let p = x.terms.params in
     let r = c.requires.ready in
     let n = c.in-All.number in
@@ -142,13 +142,13 @@ returns-in_err-allow-in-Back g c =
     c.in_err-allow-in-Back.ensures.err
     c.requires.recorded c.turning.ensures.turns c.turning.ensures.steps
     (λ o s inputs b. c.check_back.ensures p m.receiver.now s.before s.frames s.past c.requires.ready.opens.params
-    c.half-half.ensures b.stood.begun (done_here (parts_of m) s inputs b.stood))
+    c.half-half.ensures b.stood.begun (done_here (call_parts m) s inputs b.stood))
 
 pub returns-in_ok-allow-in-Back : goal.returns-in_ok-allow-in-Back
 returns-in_ok-allow-in-Back g c =
     let old = g.D.Desk.outside c.args.desk.now in
     let m = c.args.self.now in
-    let x = parts_of m in
+    let x = call_parts m in
     let p = x.terms.params in
     let r = c.requires.ready in
     let k = c.in-Back.message in
@@ -191,7 +191,7 @@ returns-in_err-allow-in-Play g c =
     c.in-Play.is c.from_residual-in_err-allow-in-Play.ensures.1 c.in_err-allow-in-Play.ensures.err
     c.requires.recorded c.turning.ensures.turns c.turning.ensures.steps
     (λ o s inputs b. c.check_play.ensures.refusal p s.before s.frames s.past
-    (done_here (parts_of m) s inputs b.stood).way_holds.joined)
+    (done_here (call_parts m) s inputs b.stood).way_holds.joined)
 
 pub returns-in_err-play_next-in-Play : goal.returns-in_err-play_next-in-Play
 returns-in_err-play_next-in-Play g c =
@@ -199,7 +199,7 @@ returns-in_err-play_next-in-Play g c =
     let old = outside c.args.desk.now in
     let new = outside c.play_next.new.desk in
     let m = c.args.self.now in
-    let x = parts_of m in
+    let x = call_parts m in
     let p = x.terms.params in
     let r = c.requires.ready in
     line_was_cut m _ c.args.line c.args.event says.Play c.from_residual-in_err-play_next-in-Play.result
@@ -225,7 +225,7 @@ returns-in_ok-play_next-in-Play g c =
     let old = outside c.args.desk.now in
     let new = outside c.play_next.new.desk in
     let m = c.args.self.now in
-    let x = parts_of m in
+    let x = call_parts m in
     let p = x.terms.params in
     let r = c.requires.ready in
     let played = c.play_next.ensures in
@@ -258,7 +258,7 @@ returns-in_ok-play_next-in-Play g c =
 
 pub play_next-requires-clause-played : goal.play_next-requires-clause-played
 play_next-requires-clause-played g c =
-    let x = parts_of c.args.self.now in
+    let x = call_parts c.args.self.now in
     let ahead : x.receiver.played < x.sender.sent = ahead_so c.check_play.result x.receiver.played x.sender.sent
     c.in_ok-allow-in-Play.ensures.ok c.check_play.ensures.ahead in
     omega (arith, ahead, c.requires.ready.sent)

@@ -13,7 +13,7 @@ use Rattle.desk_program.specs.Ends.{Ended, GainsFronts, GivesUp, step_texts}
 use Rattle.one_way.specs.Way.{tally_of, way_of}
 use Rattle.call_command.specs.Counts.{counts_of}
 use Rattle.call_command.specs.Call.{CallState}
-use Rattle.call_command.specs.Standing.{parts_of, state_of}
+use Rattle.call_command.specs.Standing.{call_parts, call_state_of}
 use Rattle.call_command.proofs.Counting.{counts_are, line_by_line, trace_answers, turn_gave_up, turn_is_over, turn_was_cut}
 use Rattle.call_command.proofs.LineTurning.{read_out, trace_cut, trace_ends, trace_stops}
 use Rattle.call_command.proofs.LineRead.{line_read, line_taken, ready_read, room_read}
@@ -31,7 +31,7 @@ returns-in_err-line g c =
     let old = outside c.args.desk.now in
     let mid = outside c.next.new.desk in
     let m = c.args.self.now in
-    let x = parts_of m in
+    let x = call_parts m in
     let stop = c.in_err-line.field-0.0 in
     turn_gave_up m _ old mid c.from_residual.result (trace_stop stop) c.from_residual.ensures.1 refl
     (trace_answers m.terms.plain c.requires.recorded stop) (c.turning.ensures.steps.trace_stops stop)
@@ -39,7 +39,7 @@ returns-in_err-line g c =
     (λ is. c.in_err-line.ensures.cause (ap (λ e. Err e) is)))
     (c.turning.ensures.steps.reads old mid c.next.ensures.rest)
     (λ s inputs k told.
-    let here = state_of x s.before s.frames s.past in
+    let here = call_state_of x s.before s.frames s.past in
     line_by_line x s inputs k.is c.requires.recorded (λ (step : Step CallState) (now : Bool). GivesUp
     (phase (trace_stop stop)) (trace_stop stop) step now inputs old mid)
     (trace_stops c.turning.ensures.turns here inputs old mid (record {
@@ -60,7 +60,7 @@ returns-in_err-tell_counts g c =
     let mid = outside c.next.new.desk in
     let new = outside c.tell_counts.new.desk in
     let m = c.args.self.now in
-    let x = parts_of m in
+    let x = call_parts m in
     turn_was_cut m _ old new c.from_residual-in_err-tell_counts.result c.in_err-tell_counts.field-0.0
     c.from_residual-in_err-tell_counts.ensures.1 refl c.in_err-tell_counts.ensures.kind
     (c.turning.ensures.rose old.faults.write mid.faults.write new.faults.write c.next.ensures.rest.faults.write
@@ -68,7 +68,7 @@ returns-in_err-tell_counts g c =
     (c.turning.ensures.steps.both old mid new (c.turning.ensures.steps.reads old mid c.next.ensures.rest)
     (c.turning.ensures.steps.writes mid new c.tell_counts.ensures.rest))
     (λ s inputs k told.
-    let here = state_of x s.before s.frames s.past in
+    let here = call_state_of x s.before s.frames s.past in
     let e = answered (Ok c.in_ok-line.field-0) (Ok None) x.link.trace c.next.new.self (inputs Events) _
     (ap (λ (o : Option (ℕ × Line)). Ok o) c.in_default.is) (c.in_ok-line.ensures.gives (inputs Events)
     (told Events refl)) in
@@ -92,12 +92,12 @@ returns-in_default g c =
     let mid = outside c.next.new.desk in
     let new = outside c.tell_counts.new.desk in
     let m = c.args.self.now in
-    let x = parts_of m in
+    let x = call_parts m in
     turn_is_over m _ old new refl (c.turning.ensures.steps.both old mid new
     (c.turning.ensures.steps.reads old mid c.next.ensures.rest)
     (c.turning.ensures.steps.writes mid new c.tell_counts.ensures.rest))
     (λ s inputs k told.
-    let here = state_of x s.before s.frames s.past in
+    let here = call_state_of x s.before s.frames s.past in
     let e = answered (Ok c.in_ok-line.field-0) (Ok None) x.link.trace c.next.new.self (inputs Events) _
     (ap (λ (o : Option (ℕ × Line)). Ok o) c.in_default.is) (c.in_ok-line.ensures.gives (inputs Events)
     (told Events refl)) in
@@ -114,7 +114,7 @@ returns-in_default g c =
     new c.tell_counts.ensures.rest.left (counts_of (tally_of (way_of x.link.network)) x.receiver.played x.sender.sent)
     (counts_are x (c.turning.ensures.way x.terms.params) s inputs k) c.in_ok-tell_counts.ensures.ok))
     (λ s inputs k told.
-    let here = state_of x s.before s.frames s.past in
+    let here = call_state_of x s.before s.frames s.past in
     let e = answered (Ok c.in_ok-line.field-0) (Ok None) x.link.trace c.next.new.self (inputs Events) _
     (ap (λ (o : Option (ℕ × Line)). Ok o) c.in_default.is) (c.in_ok-line.ensures.gives (inputs Events)
     (told Events refl)) in

@@ -20,7 +20,7 @@ use Rattle.one_way.specs.Both.{bare}
 use Rattle.one_way.specs.Counts.{total_of}
 use Rattle.call_command.specs.declared.link.Link.{Link}
 use Rattle.call_command.specs.Call.{capture_step}
-use Rattle.call_command.specs.Standing.{HasDone, Parts, PartsStand, more_of, parts_of}
+use Rattle.call_command.specs.Standing.{HasDone, CallParts, PartsStand, more_of, call_parts}
 use Rattle.call_command.specs.Turning.{IsAsked, Names, names_of}
 use Rattle.call_command.proofs.After.{at_end, below_end}
 use Rattle.call_command.proofs.AfterTurn.{format_is, refusal_here, refusal_later, stands_sent, video_format, video_more, video_place}
@@ -36,7 +36,7 @@ returns-in_err-frame g c =
     let old = outside c.args.desk.now in
     let mid = outside c.frame.new.desk in
     let m = c.args.self.now in
-    let x = parts_of m in
+    let x = call_parts m in
     let stop = c.in_err-frame.field-0.0 in
     let out = c.frame.new.out in
     gave_up m _ old mid (IsAsked x c.args.line old) (λ s inputs. capture_step s (inputs Events) (inputs Video))
@@ -61,7 +61,7 @@ returns-then-not-branch g c =
     let old = outside c.args.desk.now in
     let mid = outside c.frame.new.desk in
     let m = c.args.self.now in
-    let x = parts_of m in
+    let x = call_parts m in
     let out = c.frame.new.out in
     let status = TraceRefused (NoFrame c.args.line) in
     gave_up m _ old mid (IsAsked x c.args.line old) (λ s inputs. capture_step s (inputs Events) (inputs Video))
@@ -84,7 +84,7 @@ returns g c =
     let old = outside c.args.desk.now in
     let mid = outside c.frame.new.desk in
     let m = c.args.self.now in
-    let x = parts_of m in
+    let x = call_parts m in
     let p = x.terms.params in
     let r = c.requires.ready in
     let out = c.frame.new.out in
@@ -125,7 +125,7 @@ returns g c =
     let picture_is : picture c.new-frame.result ≡ picture_of s.params.format out = c.new-frame.ensures.picture
     ∙ (λ i. picture_of (format_is x s inputs k i) (out_is i)) in
     let f : Frame = bare (picture_of s.params.format out) in
-    let sent_parts : Parts = record {
+    let sent_parts : CallParts = record {
       terms = x.terms;
       video = c.frame.new.self;
       sender = sender;

@@ -22,7 +22,7 @@ use Rattle.call_encoding.specs.Frames.{Frame}
 use Rattle.call_model.specs.IdealCall.{Send}
 use Rattle.call_command.specs.declared.link.Link.{Link}
 use Rattle.call_command.specs.Call.{CallState, may_read, talk_step}
-use Rattle.call_command.specs.Standing.{PartsStand, parts_of, state_of}
+use Rattle.call_command.specs.Standing.{PartsStand, call_parts, call_state_of}
 use Rattle.call_command.proofs.Counting.{counts_are, given_up, plainly, written_in_part}
 use Rattle.call_command.proofs.Framing.{among_last, at, count_of, may_deliver, may_play, may_send, stands_after, texts_are}
 use Rattle.call_command.proofs.FrameTurning.{end_cut, frame_cut, frame_goes, frame_stops, given_so, gives_so, lent, video_ends}
@@ -50,9 +50,9 @@ returns-in_err-frame-clause-gives g c = λ s inputs k told.
     let outside = g.D.Desk.outside in
     let old = outside c.args.desk.now in
     let mid = outside c.frame.new.desk in
-    let x = parts_of c.args.self.now in
+    let x = call_parts c.args.self.now in
     let stop = c.in_err-frame.field-0.0 in
-    let here = state_of x s.before s.frames s.past in
+    let here = call_state_of x s.before s.frames s.past in
     let plain : x.terms.plain ≡ true = c.if-not-self.false in
     let e = gives_so (Err stop) here x.video c.frame.new.self (inputs Video) c.frame.new.out _ refl
     refl c.requires.format (c.in_err-frame.ensures.gives (inputs Video) (told Video refl)) in
@@ -69,9 +69,9 @@ returns-in_err-tell_counts-clause-gives g c = λ s inputs k told.
     let old = outside c.args.desk.now in
     let mid = outside c.frame.new.desk in
     let new = outside c.tell_counts.new.desk in
-    let x = parts_of c.args.self.now in
+    let x = call_parts c.args.self.now in
     let counts = counts_of (tally_of (way_of x.link.network)) x.receiver.played x.sender.sent in
-    let here = state_of x s.before s.frames s.past in
+    let here = call_state_of x s.before s.frames s.past in
     let e = given_so (Ok c.in_ok-frame.field-0) (Ok false) here x.video c.frame.new.self (inputs Video) c.frame.new.out
     _ (ap (λ (b : Bool). Ok b) c.if-not-branch.true) refl refl c.requires.format
     (c.in_ok-frame.ensures.gives (inputs Video) (told Video refl)) in
@@ -89,9 +89,9 @@ returns-then-not-branch-clause-gives g c = λ s inputs k told.
     let old = outside c.args.desk.now in
     let mid = outside c.frame.new.desk in
     let new = outside c.tell_counts.new.desk in
-    let x = parts_of c.args.self.now in
+    let x = call_parts c.args.self.now in
     let counts = counts_of (tally_of (way_of x.link.network)) x.receiver.played x.sender.sent in
-    let here = state_of x s.before s.frames s.past in
+    let here = call_state_of x s.before s.frames s.past in
     let e = given_so (Ok c.in_ok-frame.field-0) (Ok false) here x.video c.frame.new.self (inputs Video) c.frame.new.out
     _ (ap (λ (b : Bool). Ok b) c.if-not-branch.true) refl refl c.requires.format
     (c.in_ok-frame.ensures.gives (inputs Video) (told Video refl)) in
@@ -103,8 +103,8 @@ returns-then-not-branch-clause-gives g c = λ s inputs k told.
 pub returns-then-not-branch-clause-whole : goal.returns-then-not-branch-clause-whole
 returns-then-not-branch-clause-whole g c = λ s inputs k told.
     let new = g.D.Desk.outside c.tell_counts.new.desk in
-    let x = parts_of c.args.self.now in
-    let here = state_of x s.before s.frames s.past in
+    let x = call_parts c.args.self.now in
+    let here = call_state_of x s.before s.frames s.past in
     let e = given_so (Ok c.in_ok-frame.field-0) (Ok false) here x.video c.frame.new.self (inputs Video) c.frame.new.out
     _ (ap (λ (b : Bool). Ok b) c.if-not-branch.true) refl refl c.requires.format
     (c.in_ok-frame.ensures.gives (inputs Video) (told Video refl)) in
@@ -117,13 +117,13 @@ returns-in_err-play_next-clause-gives g c = λ s inputs k told.
     let old = outside c.args.desk.now in
     let mid = outside c.frame.new.desk in
     let new = outside c.play_next.new.desk in
-    let x = parts_of c.args.self.now in
+    let x = call_parts c.args.self.now in
     let p = x.terms.params in
     let r = c.requires in
     let plain : x.terms.plain ≡ true = c.if-not-self.false in
     let out = c.frame.new.out in
     let n = c.send-sent.result in
-    let here = state_of x s.before s.frames s.past in
+    let here = call_state_of x s.before s.frames s.past in
     let level = r.level plain in
     let laws = c.turning.ensures.way p in
     let events = c.turning.ensures.events p in
@@ -166,7 +166,7 @@ returns-clause-gives g c = λ s inputs k told.
     let old = outside c.args.desk.now in
     let mid = outside c.frame.new.desk in
     let new = outside c.play_next.new.desk in
-    let x = parts_of c.args.self.now in
+    let x = call_parts c.args.self.now in
     let p = x.terms.params in
     let r = c.requires in
     let plain : x.terms.plain ≡ true = c.if-not-self.false in
@@ -179,7 +179,7 @@ returns-clause-gives g c = λ s inputs k told.
     let moves = subst (λ (b : Bool). Moves (Ok b) x.video c.frame.new.self) c.if-not-branch.false
     c.in_ok-frame.ensures.moves in
     let level = r.level plain in
-    let here = state_of x s.before s.frames s.past in
+    let here = call_state_of x s.before s.frames s.past in
     let laws = c.turning.ensures.way p in
     let events = c.turning.ensures.events p in
     let later_law = c.turning.ensures.later p in

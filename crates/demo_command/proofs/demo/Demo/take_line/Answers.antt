@@ -10,7 +10,7 @@ use Rattle.call_model.specs.IdealCall.{Event as Happens, Play, Back}
 use Rattle.one_way.specs.Both.{both_after, steady}
 use Rattle.demo_command.specs.declared.demo.Demo.{Demo}
 use Rattle.demo_command.specs.Demo.{made_video}
-use Rattle.demo_command.specs.Machine.{AreInPlace, HasDone}
+use Rattle.demo_command.specs.Machine.{AreInPlace, DemoHasDone}
 use Rattle.demo_command.proofs.Doing.{all_are, as_line, may_deliver, may_now, near_first, ready_delivered}
 use Rattle.demo_command.proofs.Made.{steady_is}
 use Rattle.demo_command.proofs.demo.Demo.take_line.Goals as goal
@@ -27,7 +27,7 @@ send_made-requires-clause-left c =
 
 pub returns-in-Send-clause-done : goal.returns-in-Send-clause-done
 returns-in-Send-clause-done c = λ past h.
-    as_line c.args.self.now.terms past says.Send c.args.event (HasDone c.send_made.new.self) c.in-Send.is
+    as_line c.args.self.now.terms past says.Send c.args.event (DemoHasDone c.send_made.new.self) c.in-Send.is
     (c.send_made.ensures.done past h)
 
 pub returns-in-Packet-clause-ready : goal.returns-in-Packet-clause-ready
@@ -42,7 +42,7 @@ returns-in-Packet-clause-done c = λ past h.
     let j = c.in-Packet.place in
     let r = c.requires.ready in
     as_line m.terms past (says.Packet n j) c.args.event
-    (HasDone (record m {
+    (DemoHasDone (record m {
       both = record m.both { receiver = c.deliver.new.receiver };
       network = c.deliver.new.self;
     })) c.in-Packet.is
@@ -91,11 +91,11 @@ returns-in-All-clause-done c = λ past h.
       placed,
       coded,
     ) in
-    as_line t past (says.All n) c.args.event (HasDone after) c.in-All.is
+    as_line t past (says.All n) c.args.event (DemoHasDone after) c.in-All.is
     (λ near.
     let may = may_deliver m r (c.near_event_laws.ensures p r.params) past h n 0
     (near_first t made past same n sent near) in
-    subst (λ (l : List Happens). HasDone after l) (all_are t made past same n)
+    subst (λ (l : List Happens). DemoHasDone after l) (all_are t made past same n)
     (c.deliver_all.ensures.holds p m.both.sender [] (made_video t) past h may.0 may.1))
 
 pub returns-in-Back-clause-ready : goal.returns-in-Back-clause-ready
@@ -120,7 +120,7 @@ returns-in-Back-clause-done c = λ past h.
     let k = c.in-Back.message in
     let r = c.requires.ready in
     as_line t past (says.Back k) c.args.event
-    (HasDone (record m { both = record m.both { sender = c.bring_back.new.sender } })) c.in-Back.is
+    (DemoHasDone (record m { both = record m.both { sender = c.bring_back.new.sender } })) c.in-Back.is
     (λ near.
     c.bring_back.ensures.holds p m.both.receiver [] (made_video t) past r.params (r.can.quant_is
     ∙ ap (λ (q : Params). q.quant) r.sender_params) refl h
@@ -147,7 +147,7 @@ returns-in-Play-clause-done c = λ past h.
     let t = m.terms in
     let p = t.params in
     let r = c.requires.ready in
-    as_line t past says.Play c.args.event (HasDone (record m {
+    as_line t past says.Play c.args.event (DemoHasDone (record m {
       both = record m.both { receiver = c.play.new.receiver };
       network = c.play.new.self;
     })) c.in-Play.is

@@ -6,7 +6,7 @@ use Rattle.call_report.specs.declared.status.Status.TheVariants.{OutOfMemory}
 use Rattle.desk_program.specs.Run.{run_from}
 use Rattle.one_way.specs.Way.{IsNewNetwork}
 use Rattle.demo_command.specs.declared.demo.Demo.{Demo}
-use Rattle.demo_command.specs.Demo.{demo_begin, demo_step, first_state, made_video, most_turns, silent_turn}
+use Rattle.demo_command.specs.Demo.{demo_begin, demo_step, demo_at_start, made_video, made_turns, silent_turn}
 use Rattle.demo_command.proofs.Beginning.{ends_starved, first_in_place, first_plays, first_said, ready_first}
 use Rattle.demo_command.proofs.demo.DemoBegins.start.Goals as goal
 
@@ -23,10 +23,10 @@ returns-clause-goes g c = λ inputs told.
       network = c.in_ok-network.network;
       frame = c.in_ok-frame.frame;
     } in
-    c.run_laws.ensures.begins m (demo_begin t inputs) demo_step (λ _. true) (most_turns t) inputs now now
+    c.run_laws.ensures.begins m (demo_begin t inputs) demo_step (λ _. true) (made_turns t) inputs now now
     (ap (λ (l : List Line). length l) c.new.ensures)
     (record {
-      next = first_state t;
+      next = demo_at_start t;
       turn = silent_turn;
       could = refl;
       is = refl;
@@ -69,7 +69,7 @@ pub returns-in_err-both-clause-ends : goal.returns-in_err-both-clause-ends
 returns-in_err-both-clause-ends g c = λ inputs told.
     let now = g.D.Desk.outside c.args.arg3.now in
     let t = c.args.setup.now in
-    let run = run_from (demo_begin t inputs) demo_step (most_turns t) inputs in
+    let run = run_from (demo_begin t inputs) demo_step (made_turns t) inputs in
     ends_starved c.from_residual-in_err-both.result OutOfMemory run inputs now.written now
     c.from_residual-in_err-both.ensures.1
-    (c.run_laws.ensures.gives_up (demo_begin t inputs) demo_step (most_turns t) inputs now now OutOfMemory refl)
+    (c.run_laws.ensures.gives_up (demo_begin t inputs) demo_step (made_turns t) inputs now now OutOfMemory refl)

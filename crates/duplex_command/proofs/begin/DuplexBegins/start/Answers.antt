@@ -3,8 +3,8 @@ use Rattle.std.proofs.Common.{rules, subst}
 use Rattle.h263_types.specs.declared.format.Format.{Format}
 use Rattle.call_report.specs.declared.status.Status.TheVariants.{OutOfMemory}
 use Rattle.desk_program.specs.Ends.{Gains, GainsFronts}
-use Rattle.duplex_command.specs.Begin.{duplex_begin, duplex_run, heads_text, in_formats}
-use Rattle.duplex_command.specs.Duplex.{duplex_step, may_read, most_turns}
+use Rattle.duplex_command.specs.Begin.{duplex_begin, duplex_run, both_heads, in_formats}
+use Rattle.duplex_command.specs.Duplex.{duplex_step, talk_may_read, most_turns}
 use Rattle.duplex_command.proofs.Starting.{all_may_come, ends_so, heads_cut, heads_go, starved_cause, stations_ready}
 use Rattle.duplex_command.proofs.begin.DuplexBegins.start.Goals as goal
 
@@ -38,9 +38,9 @@ returns-in-Err-clause-ends g c = λ inputs told.
     let old = outside c.args.desk.now in
     let mid = outside c.read_heads.new.desk in
     let new = outside c.write_heads.new.desk in
-    let cut = subst (λ (g : Format). GainsFronts (heads_text heads.a.format g) mid.written new.written)
+    let cut = subst (λ (g : Format). GainsFronts (both_heads heads.a.format g) mid.written new.written)
     c.format-2.ensures
-    (subst (λ (f : Format). GainsFronts (heads_text f c.format-2.result) mid.written new.written) c.format.ensures
+    (subst (λ (f : Format). GainsFronts (both_heads f c.format-2.result) mid.written new.written) c.format.ensures
     c.in-Err.ensures.err) in
     c.run_laws.ensures.gives_up (duplex_begin p inputs) duplex_step most_turns inputs old new c.in-Err.status
     (heads_cut p heads inputs old mid (c.in_ok-heads.ensures.reads inputs told) c.read_heads.ensures.rest.written
@@ -57,10 +57,10 @@ returns-clause-goes g c = λ inputs told.
     let mid = outside c.read_heads.new.desk in
     let new = outside c.write_heads.new.desk in
     let laws = c.pair_laws.ensures (in_formats p heads.a.format heads.b.format) in
-    let gains = subst (λ (g : Format). Gains (heads_text heads.a.format g) mid.written new.written) c.format-2.ensures
-    (subst (λ (f : Format). Gains (heads_text f c.format-2.result) mid.written new.written) c.format.ensures
+    let gains = subst (λ (g : Format). Gains (both_heads heads.a.format g) mid.written new.written) c.format-2.ensures
+    (subst (λ (f : Format). Gains (both_heads f c.format-2.result) mid.written new.written) c.format.ensures
     c.in_default.ensures.ok) in
-    c.run_laws.ensures.begins talk (duplex_begin p inputs) duplex_step may_read most_turns inputs old new
+    c.run_laws.ensures.begins talk (duplex_begin p inputs) duplex_step talk_may_read most_turns inputs old new
     (all_may_come p heads talk c.in_ok-talk.ensures laws c.requires.params says.more_a says.more_b)
     (heads_go p heads talk c.in_ok-talk.ensures laws c.requires.params says.more_a says.more_b inputs old mid
     (says.reads inputs told) c.read_heads.ensures.rest.written new c.write_heads.ensures.rest.left gains)

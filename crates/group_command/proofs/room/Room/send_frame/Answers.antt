@@ -13,9 +13,9 @@ use Rattle.call_report.specs.declared.status.Status.TheVariants.{TraceRefused}
 use Rattle.call_report.specs.Status.{video_stop}
 use Rattle.group_call.specs.Holding.{sent_in}
 use Rattle.group_command.specs.declared.room.Room.{Room}
-use Rattle.group_command.specs.Group.{capture_step}
+use Rattle.group_command.specs.Group.{group_capture_step}
 use Rattle.group_command.specs.Standing.{GroupOpens, RoomStandsAt, viewers_in}
-use Rattle.group_command.specs.Turning.{IsAsked}
+use Rattle.group_command.specs.Turning.{IsGroupAsked}
 use Rattle.group_command.proofs.Capturing.{frame_missing, frame_sent, frame_stops, given, gives_so}
 use Rattle.group_command.proofs.LineTurns.{gave_up, went_on}
 use Rattle.group_command.proofs.Sending.{asked_format, asked_more, asked_place, lent, sent_stands}
@@ -31,7 +31,7 @@ returns-in_err-frame-clause-takes g c =
     let line = c.args.line in
     let stop = c.in_err-frame.field-0.0 in
     let out = c.frame.new.out in
-    gave_up _ old mid (IsAsked m line old) (λ s inputs. capture_step s (inputs Events) (inputs Video))
+    gave_up _ old mid (IsGroupAsked m line old) (λ s inputs. group_capture_step s (inputs Events) (inputs Video))
     c.from_residual.result (video_stop stop) c.from_residual.ensures.1 (c.turning.ensures.steps.video_stops stop)
     (c.turning.ensures.steps.video_cause stop old.faults mid.faults (λ is. c.in_err-frame.ensures.cause
     (ap (λ e. Err e) is))) (c.turning.ensures.steps.reads old mid c.frame.ensures.rest)
@@ -53,7 +53,7 @@ returns-then-not-branch-clause-takes g c =
     let line = c.args.line in
     let out = c.frame.new.out in
     let status = TraceRefused (NoFrame line) in
-    gave_up _ old mid (IsAsked m line old) (λ s inputs. capture_step s (inputs Events) (inputs Video))
+    gave_up _ old mid (IsGroupAsked m line old) (λ s inputs. group_capture_step s (inputs Events) (inputs Video))
     (Err status) status refl tt tt (c.turning.ensures.steps.reads old mid c.frame.ensures.rest)
     (λ o s inputs b.
     let taken = b.read.taken in
@@ -88,7 +88,7 @@ returns-clause-takes g c =
     )))
     ∙ omega (arith, c.frame.auto.out, c.deref_mut.ensures.len, m.frame.ok.0, r.frame)
     in
-    went_on now old mid (IsAsked m line old) (λ s inputs. capture_step s (inputs Events) (inputs Video))
+    went_on now old mid (IsGroupAsked m line old) (λ s inputs. group_capture_step s (inputs Events) (inputs Video))
     (record {
       opens = subst (λ a. GroupOpens (length (viewers_in m.viewers)) a) (sym c.frame.ensures.rest.attached) r.opens;
       in_range = r.in_range;

@@ -8,7 +8,7 @@ use Rattle.desk_program.specs.Texts.{no_texts}
 use Rattle.payload_join.specs.Run.{given_next}
 use Rattle.recv_command.specs.declared.join_tally.JoinTally.{JoinTally}
 use Rattle.recv_command.specs.Join.{given_to, delivers}
-use Rattle.recv_command.specs.JoinTally.{packets_of, with_joined, with_took}
+use Rattle.recv_command.specs.JoinTally.{packets_taken, with_joined, with_took}
 use Rattle.recv_command.specs.Recv.{RecvStands}
 use Rattle.recv_command.proofs.Joined.{params_stay, stands_after}
 use Rattle.recv_command.proofs.join.JoiningLogCommand.packet.Goals as goal
@@ -44,7 +44,7 @@ returns-clause-ready g c = λ n ready.
     subst (λ (l : List (List ℕ)). length l ≤ 2 ^ 22) (sym left)
     (c.few_given.ensures c.args.self.now.format ready.past bytes) in
     let same = c.deliver_all.ensures.has_written.rest.attached in
-    let packets : packets_of c.take.new.self ≤ n + 1 = omega (arith, ready.packets, c.take.ensures.packets) in
+    let packets : packets_taken c.take.new.self ≤ n + 1 = omega (arith, ready.packets, c.take.ensures.packets) in
     let joined : c.take.new.self.joined + length mid.left ≤ 2 ^ 22 * (n + 1) = omega (
       arith,
       ready.joined,
@@ -60,7 +60,7 @@ returns-clause-ready g c = λ n ready.
       stands = stands_after c.deliver_all.new.joiner mid (bytes ∷ ready.past) c.deliver_all.ensures.top
           c.deliver_all.ensures.packets
           (c.take-took.ensures.stands ready.past ready.stands);
-      packets = subst (λ (t : JoinTally). packets_of t ≤ n + 1) (sym c.deliver_all.ensures.took) packets;
+      packets = subst (λ (t : JoinTally). packets_taken t ≤ n + 1) (sym c.deliver_all.ensures.took) packets;
       joined = subst (λ (t : JoinTally). t.joined ≤ 2 ^ 22 * (n + 1)) (sym c.deliver_all.ensures.took) joined;
       counted = omega (arith, ready.counted, c.deliver_all.ensures.total, few);
     }

@@ -12,7 +12,7 @@ use Rattle.desk_program.specs.Run.{left_after}
 use Rattle.desk_program.specs.Ends.{GivesUp}
 use Rattle.desk_program.specs.Texts.{of, and_of}
 use Rattle.send_command.specs.declared.machine.Send.{Send}
-use Rattle.send_command.specs.Send.{captured, capture_step, picture_texts}
+use Rattle.send_command.specs.Send.{captured, entry_capture_step, picture_texts}
 use Rattle.send_command.specs.Stands.{SendStands}
 use Rattle.send_command.proofs.Answering.{if_cut, if_err, on_ok, on_ok_so}
 use Rattle.send_command.proofs.Counting.{one_picture_more}
@@ -112,7 +112,7 @@ returns-clause-err g c = λ before s inputs stood place taken.
     let texts = picture_texts coded.new.sender.packets coded.result.number coded.result.reference in
     let text_is = texts_are m s 3 stood frame (captured s.params.format out) coded.new.sender coded.new.aim coded.result
     same cap in
-    if_cut _ (λ status. GivesUp (phase status) status (capture_step s (inputs Video)) true inputs before
+    if_cut _ (λ status. GivesUp (phase status) status (entry_capture_step s (inputs Video)) true inputs before
     (outside c.put_picture.new.desk)) c.put_picture.result c.put_picture.ensures.kind c.put_picture.ensures.err
     (capture_cut c.turn_laws.ensures c.cut_after.ensures.frame s inputs before (outside c.args.desk.now)
     (outside c.frame.new.desk) taken c.frame.ensures.others c.frame.ensures.rest.written m.video c.frame.new.self at

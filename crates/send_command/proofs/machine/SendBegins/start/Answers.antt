@@ -13,7 +13,7 @@ use Rattle.send_command.specs.declared.machine.Send.{Send}
 use Rattle.send_command.specs.Aimed.{aim_at_start}
 use Rattle.send_command.specs.Send.{most_entries, send_begin, send_step}
 use Rattle.send_command.specs.Stands.{SendStands}
-use Rattle.send_command.specs.Tally.{IsOf, no_counts}
+use Rattle.send_command.specs.Tally.{IsOf, nothing_sent_counted}
 use Rattle.send_command.proofs.Answering.{if_err, starved_cause}
 use Rattle.send_command.proofs.Starting.{head_stops, head_goes}
 use Rattle.send_command.proofs.machine.SendBegins.start.Goals as goal
@@ -72,7 +72,7 @@ returns-clause-goes g c = λ inputs told.
       sender = started.holds;
     }))
 
-none_of : (n : ℕ) → IsOf n no_counts
+none_of : (n : ℕ) → IsOf n nothing_sent_counted
 none_of n = record {
   sent = omega arith;
   packets = omega arith;

@@ -11,8 +11,8 @@ use Rattle.call_report.specs.Status.{phase, log_stop}
 use Rattle.desk_program.specs.Run.{Step, left_after}
 use Rattle.desk_program.specs.Ends.{Gains, GainsFronts, GivesUp, Went}
 use Rattle.desk_program.specs.Texts.{on, of}
-use Rattle.send_command.specs.Tally.{count_text}
-use Rattle.send_command.specs.Send.{SendState, after_feedback, bad_entry}
+use Rattle.send_command.specs.Tally.{sender_counts}
+use Rattle.send_command.specs.Send.{SendState, after_heard_feedback, bad_entry}
 use Rattle.send_command.specs.Stands.{SendStands}
 use Rattle.send_command.proofs.Apart.{log_refused}
 use Rattle.send_command.proofs.Answering.{turn_cut, turn_err}
@@ -41,7 +41,7 @@ returns-in_err-put_line-clause-gives g c = λ s inputs stands told.
     let new = outside c.put_line.new.desk in
     let e = gave_entry c.in_ok-at.field-0 None m.log (inputs Events) c.next.new.buf _ c.in_default.is
     (c.in_ok-at.ensures.gives (inputs Events) (told Events refl)) in
-    let line_is = c.line.ensures ∙ ap (λ (x : SendState). count_text x.tally) (sym stands.is) in
+    let line_is = c.line.ensures ∙ ap (λ (x : SendState). sender_counts x.tally) (sym stands.is) in
     turn_cut c.from_residual-in_err-put_line.result c.in_err-put_line.field-0.0 _ _ inputs (outside c.args.desk.now) new
     c.from_residual-in_err-put_line.ensures.1 c.in_err-put_line.ensures.kind
     (end_cut c.turn_laws.ensures c.cut_after.ensures s inputs (outside c.args.desk.now) mid told c.next.ensures.others
@@ -57,7 +57,7 @@ returns-in_default-clause-gives g c = λ s inputs stands told.
     let new = outside c.put_line.new.desk in
     let e = gave_entry c.in_ok-at.field-0 None m.log (inputs Events) c.next.new.buf _ c.in_default.is
     (c.in_ok-at.ensures.gives (inputs Events) (told Events refl)) in
-    let line_is = c.line.ensures ∙ ap (λ (x : SendState). count_text x.tally) (sym stands.is) in
+    let line_is = c.line.ensures ∙ ap (λ (x : SendState). sender_counts x.tally) (sym stands.is) in
     log_ends c.turn_laws.ensures c.cut_after.ensures s inputs (outside c.args.desk.now) mid told c.next.ensures.others
     c.next.ensures.rest.written m.log c.next.new.self (read_at m s inputs stands c.requires.fit.side) c.next.new.buf
     e new
@@ -130,7 +130,7 @@ returns-in-Back-clause-gives g c = λ s inputs stands told.
     (omega (arith, c.next.auto.buf, c.deref_mut.ensures.len, m.bytes.ok.0, c.requires.fit.bytes)) in
     takes_feedback c.turn_laws.ensures s inputs old mid len b.step_is b.taken.left b.taken.written
     (SendStands c.take_feedback.new.self)
-    (subst (λ (l : List ℕ). SendStands c.take_feedback.new.self (after_feedback s l)
+    (subst (λ (l : List ℕ). SendStands c.take_feedback.new.self (after_heard_feedback s l)
     (left_after inputs (of Events (3 + len)))) bytes_are
     (c.take_feedback.ensures.stands s (left_after inputs (of Events (3 + len))) short b.stood))
 
