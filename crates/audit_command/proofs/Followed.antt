@@ -14,8 +14,8 @@ use Rattle.event_logs.specs.Log.{Found, found_from, found_of, log_entries, log_f
 use Rattle.call_report.specs.declared.status.Status.{Status}
 use Rattle.call_report.specs.declared.status.Status.TheVariants.{Ok as Fine}
 use Rattle.desk_program.specs.Run.{Run, text_of}
-use Rattle.desk_program.specs.Texts.{no_texts}
-use Rattle.log_command.specs.Followed.{FollowsItsLog, IsEnd, mind_after, mind_with, read_out, text_after, text_with, told, turns_over}
+use Rattle.desk_program.specs.Texts.{log_read_out, no_texts, only_at_ok}
+use Rattle.log_command.specs.Followed.{FollowsItsLog, IsEnd, mind_after, mind_with, text_after, text_with, turns_over}
 use Rattle.stream_audit.specs.declared.verdict.Verdict.{Verdict}
 use Rattle.stream_audit.specs.declared.verdict.Verdict.TheVariants.{Yes, No}
 use Rattle.stream_audit.specs.Logs.{verdict_on}
@@ -92,7 +92,7 @@ module _ (p : Params) where
 
   -- there are no plays, so nothing is one too many
   all_accepted : (fault : Option LogFault) (accepted refused : List Found) (status : Status)
-      → IsEnd fault 0 refused status → (accepted ++ refused ≡ accepted) × (status ≡ read_out fault)
+      → IsEnd fault 0 refused status → (accepted ++ refused ≡ accepted) × (status ≡ log_read_out fault)
   all_accepted fault accepted [] status end = (append-nil accepted, end)
   all_accepted fault accepted (x ∷ more) status end = absurd (omega (arith, end.1))
 
@@ -104,7 +104,7 @@ module _ (p : Params) where
     abbrev past : List LogEntry
     past = entries_in (inputs Events)
 
-    whole : (f.accepted ++ f.refused ≡ f.accepted) × (run.last.status ≡ read_out fault)
+    whole : (f.accepted ++ f.refused ≡ f.accepted) × (run.last.status ≡ log_read_out fault)
     whole = all_accepted fault f.accepted f.refused run.last.status f.end
 
     entries_are : log_entries OfStream (inputs Events) ≡ f.accepted
@@ -113,21 +113,21 @@ module _ (p : Params) where
     minds : mind_after audit_rules (nothing_sent p) f.accepted ≡ state past
     minds = minds_are f.accepted [] ∙ ap (λ (l : List Found). state (with_judged_entries [] l)) (sym entries_are)
 
-    report_is : text_of run Report ≡ told run.last.status (verdict_line (verdict_on p past))
+    report_is : text_of run Report ≡ only_at_ok run.last.status (verdict_line (verdict_on p past))
     report_is =
         f.texts Report
-        ∙ ap (λ (l : List ℕ). l ++ told run.last.status
+        ∙ ap (λ (l : List ℕ). l ++ only_at_ok run.last.status
         (audit_rules.end_text (mind_after audit_rules (nothing_sent p) f.accepted) Report))
         (all_quiet f.accepted (nothing_sent p))
-        ∙ ap (λ (s : AuditState). told run.last.status (audit_rules.end_text s Report)) minds
+        ∙ ap (λ (s : AuditState). only_at_ok run.last.status (audit_rules.end_text s Report)) minds
 
     few : length past ≤ 16777216
     few = omega (arith, longer (log_entries OfStream (inputs Events)) [], few_entries (inputs Events))
 
     -- the verdict that is told is that on the entries
     by_fault : (o : Option LogFault) (v : Verdict) → number_told v < 2 ^ 32
-        → told (read_out o) (verdict_line (verdict_on p past)) ≡ verdict_line v
-        → (read_out o ≡ Fine) × (verdict_on p past ≡ v)
+        → only_at_ok (log_read_out o) (verdict_line (verdict_on p past)) ≡ verdict_line v
+        → (log_read_out o ≡ Fine) × (verdict_on p past ≡ v)
     by_fault None v small same = (refl, tells past v few small same)
     by_fault (Some broken) v small same = absurd (no_line v same)
 
@@ -139,7 +139,7 @@ module _ (p : Params) where
       status = whole.1;
       report = report_is;
       verdict = λ v small same.
-          let told_as = by_fault fault v small (ap (λ (s : Status). told s (verdict_line (verdict_on p past)))
+          let told_as = by_fault fault v small (ap (λ (s : Status). only_at_ok s (verdict_line (verdict_on p past)))
           (sym whole.1) ∙ sym report_is ∙ same) in
           (whole.1 ∙ told_as.0, told_as.1);
     }

@@ -9,11 +9,11 @@ use Rattle.event_logs.specs.declared.entry.Side.TheVariants.{Audit as OfStream}
 use Rattle.event_logs.specs.Log.{Found, log_entries, log_fault}
 use Rattle.call_report.specs.declared.status.Status.TheVariants.{Ok as Fine}
 use Rattle.desk_program.specs.Run.{Run, text_of}
-use Rattle.log_command.specs.Followed.{read_out, told}
 use Rattle.stream_audit.specs.declared.verdict.Verdict.{Verdict}
 use Rattle.stream_audit.specs.Logs.{verdict_on}
 use Rattle.stream_audit.specs.Stream.{LogEntry, Sent, Fed}
 use Rattle.stream_audit.specs.Text.{number_told, verdict_line}
+use Rattle.desk_program.specs.Texts.{log_read_out, only_at_ok}
 
 -- an entry of the log as it is judged: a packet that was sent, or feedback that had arrived
 abbrev pub judged_as : Entry → List ℕ → LogEntry
@@ -36,8 +36,8 @@ entries_in log = with_judged_entries [] (log_entries OfStream log)
 -- is that on the log's entries.
 pub record AuditsItsLog (p : Params) (inputs : Role → List ℕ) (run : Run) : Type 0 where
   pub taken : length run.turns ≡ length (log_entries OfStream (inputs Events)) + 1
-  pub status : run.last.status ≡ read_out (log_fault OfStream (inputs Events))
+  pub status : run.last.status ≡ log_read_out (log_fault OfStream (inputs Events))
   pub report : text_of run Report
-      ≡ told run.last.status (verdict_line (verdict_on p (entries_in (inputs Events))))
+      ≡ only_at_ok run.last.status (verdict_line (verdict_on p (entries_in (inputs Events))))
   pub verdict : (v : Verdict) → number_told v < 2 ^ 32 → text_of run Report ≡ verdict_line v
       → (run.last.status ≡ Fine) × (verdict_on p (entries_in (inputs Events)) ≡ v)

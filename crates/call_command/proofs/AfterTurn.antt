@@ -105,12 +105,12 @@ module _ (x : CallParts) (s : CallState) (inputs : Role → List ℕ) (k : Stood
       (number : line ≡ s.lines + 1) (fault : TraceFault) (fault_is : fault ≡ fault_on_line line told) where
     event_refused : (e : Event) (step : Step CallState)
         → IsAllowed (Err told) e (refusal_after p s.before s.frames s.past e)
-        → Ended (unless_refused s trace e (refusal_at by_ends s e) step) (TraceRefused fault) inputs before mid
+        → Ended (unless_refused (s.lines + 1) trace e (refusal_at by_ends s e) step) (TraceRefused fault) inputs before mid
     event_refused e step refused =
         let told_so = refused.2 in
         line_refused s inputs before mid taken laws (TraceRefused fault) (fault_told (s.lines + 1) e refused.0) _
         (ap (λ (f : TraceFault). TraceRefused f) fault_is ∙ (λ i. TraceRefused (fault_on_line (number i) (told_so i))))
-        (ap (λ (o : Option Refusal). unless_refused s trace e o step) (refusal_here e ∙ refused.1))
+        (ap (λ (o : Option Refusal). unless_refused (s.lines + 1) trace e o step) (refusal_here e ∙ refused.1))
 
     pub line_is_refused : (event : Line) → IsChecked (Err told) event (refusal_after p s.before s.frames s.past)
         → Ended (event_step by_ends s inputs trace event) (TraceRefused fault) inputs before mid
@@ -124,13 +124,13 @@ module _ (x : CallParts) (s : CallState) (inputs : Role → List ℕ) (k : Stood
   -- ---- an event that may happen
 
   step_is : (e : Event) (step : Step CallState) → refusal_after p s.before s.frames s.past e ≡ None
-      → unless_refused s trace e (refusal_at by_ends s e) step ≡ step
-  step_is e step none = ap (λ (o : Option Refusal). unless_refused s trace e o step) (refusal_here e ∙ none)
+      → unless_refused (s.lines + 1) trace e (refusal_at by_ends s e) step ≡ step
+  step_is e step none = ap (λ (o : Option Refusal). unless_refused (s.lines + 1) trace e o step) (refusal_here e ∙ none)
 
   -- where a capture is not far, its frame is asked for
   pub capture_is : refusal_at by_ends s Send ≡ None → event_step by_ends s inputs trace says.Send
       ≡ capture_step s trace (inputs Video)
-  capture_is none = ap (λ (o : Option Refusal). unless_refused s trace Send o (capture_step s trace (inputs Video))) none
+  capture_is none = ap (λ (o : Option Refusal). unless_refused (s.lines + 1) trace Send o (capture_step s trace (inputs Video))) none
 
   pub packet_is : (n j : ℕ) → refusal_after p s.before s.frames s.past (Deliver n j) ≡ None
       → event_step by_ends s inputs trace (says.Packet n j)

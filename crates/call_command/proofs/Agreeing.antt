@@ -33,7 +33,7 @@ abbrev Same : CallState → Type 0
 Same s = by_ends s ≡ by_call s
 
 unless_same : (s : CallState) (trace : List ℕ) (e : Event) (o : Option Refusal) (a b : Step CallState)
-    → (o ≡ None → a ≡ b) → unless_refused s trace e o a ≡ unless_refused s trace e o b
+    → (o ≡ None → a ≡ b) → unless_refused (s.lines + 1) trace e o a ≡ unless_refused (s.lines + 1) trace e o b
 unless_same s trace e None a b same = same refl
 unless_same s trace e (Some r) a b same = refl
 
@@ -47,21 +47,21 @@ event_agrees : (s : CallState) (inputs : Role → List ℕ) (trace : List ℕ) (
     → event_step by_ends s inputs trace line ≡ event_step by_call s inputs trace line
 event_agrees s inputs trace says.Nothing same played = refl
 event_agrees s inputs trace says.Send same played =
-    ap (λ (seen : Seen). unless_refused s trace Send (refused_by s Send seen) (capture_step s trace (inputs Video))) same
+    ap (λ (seen : Seen). unless_refused (s.lines + 1) trace Send (refused_by s Send seen) (capture_step s trace (inputs Video))) same
 event_agrees s inputs trace (says.Packet n j) same played =
-    ap (λ (seen : Seen). unless_refused s trace (Deliver n j) (refused_by s (Deliver n j) seen)
+    ap (λ (seen : Seen). unless_refused (s.lines + 1) trace (Deliver n j) (refused_by s (Deliver n j) seen)
     (goes (after_line (with_packet s n j) trace) (line_turn trace no_texts))) same
 event_agrees s inputs trace (says.All n) same played =
-    ap (λ (seen : Seen). unless_refused s trace (Deliver n 0) (refused_by s (Deliver n 0) seen)
+    ap (λ (seen : Seen). unless_refused (s.lines + 1) trace (Deliver n 0) (refused_by s (Deliver n 0) seen)
     (goes (after_line (record s { past = delivered n (length (slices_at seen.coded n)) ++ s.past }) trace)
     (line_turn trace no_texts))) same
 event_agrees s inputs trace (says.Back k) same played =
-    ap (λ (seen : Seen). unless_refused s trace (Back k) (refused_by s (Back k) seen)
+    ap (λ (seen : Seen). unless_refused (s.lines + 1) trace (Back k) (refused_by s (Back k) seen)
     (goes (after_line (with_message s k) trace) (line_turn trace no_texts))) same
 event_agrees s inputs trace says.Play same played =
     unless_same s trace Play (refusal_at by_ends s Play) _ _
     (λ none. λ i. goes (after_line (with_play s) trace) (line_turn trace (play_texts (played none i) (same i).played)))
-    ∙ ap (λ (seen : Seen). unless_refused s trace Play (refused_by s Play seen)
+    ∙ ap (λ (seen : Seen). unless_refused (s.lines + 1) trace Play (refused_by s Play seen)
     (goes (after_line (with_play s) trace) (line_turn trace (play_texts (by_call (with_play s)) (by_call s).played))))
     same
 

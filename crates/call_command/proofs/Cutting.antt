@@ -31,7 +31,7 @@ module _ (s : CallState) (inputs : Role → List ℕ) (trace : List ℕ) where
   more_size n m = omega arith
 
   turn_unless : (e : Event) (o : Option Refusal) (step : Step CallState) → IsLineTurn trace step
-      → IsLineTurn trace (unless_refused s trace e o step)
+      → IsLineTurn trace (unless_refused (s.lines + 1) trace e o step)
   turn_unless e None step is = is
   turn_unless e (Some r) step is = tt
 

@@ -46,7 +46,7 @@ module _ (fault : Y4mFault) where
           at_captured (frame_size s.params.format (b ∷ v)) (next_frame s.more s.params.format s.at (b ∷ v)) ends
 
       at_unless : (e : Event) (o : Option Refusal) (step : Step CallState) → (Refuses step → ⊥)
-          → Refuses (unless_refused s trace e o step) → ⊥
+          → Refuses (unless_refused (s.lines + 1) trace e o step) → ⊥
       at_unless e None step later ends = later ends
       at_unless e (Some refusal) step later ends = absurd (cc ends)
 

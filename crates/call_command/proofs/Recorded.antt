@@ -37,14 +37,14 @@ use Rattle.coded_call.specs.Coding.{coding}
 use Rattle.receiver_end.specs.Answers.{mark_of}
 use Rattle.desk_program.specs.Run.{Run, Step, Turn, left_after, follow, run_of, silence, taken_of, text_of, texts_of}
 use Rattle.desk_program.specs.Run.Step.{Goes, Ends}
-use Rattle.desk_program.specs.Texts.{and_of, no_texts, of}
+use Rattle.desk_program.specs.Texts.{and_of, no_texts, of, only_at_ok}
 use Rattle.one_way.specs.Both.{bare, steady}
 use Rattle.call_command.specs.Counts.{call_text}
 use Rattle.one_way.specs.Seen.{in_call, reference_in}
 use Rattle.one_way.specs.Trace.{delivered}
 use Rattle.call_command.specs.Call.{CallState, after_line, all_played, bad_line, by_call, call_step, capture_step, captured_step, event_step, line_size, line_step, line_turn, play_texts, refusal_at, trace_step, unless_refused}
 use Rattle.call_command.specs.Refused.{fault_told}
-use Rattle.call_command.specs.Recorded.{IsCallEnd, IsRefusal, IsRefusedCapture, LineMayHappen, LinesMayHappen, capture_told, film, played_lines, shown_text, told, with_line, with_lines}
+use Rattle.call_command.specs.Recorded.{IsCallEnd, IsRefusal, IsRefusedCapture, LineMayHappen, LinesMayHappen, capture_told, film, played_lines, shown_text, with_line, with_lines}
 use Rattle.call_command.proofs.After.{longer, push_then}
 use Rattle.call_command.proofs.FramesLeft.{any_message, any_packet, any_play, send_distance, send_far, send_out}
 use Rattle.call_command.proofs.Lines.{line_gone}
@@ -141,7 +141,7 @@ module _ (p : Params) (all : List Frame) (broken : Option Y4mFault) (later : Lat
     pub pictures : shown_text (call all (with_lines p all past lines)).plays ≡ shown_text (call all past).plays
         ++ text_of run Pictures
     pub report : rows (call all (with_lines p all past lines))
-        ++ told run.last.status (call_text (in_call (call all (with_lines p all past lines))))
+        ++ only_at_ok run.last.status (call_text (in_call (call all (with_lines p all past lines))))
         ≡ rows (call all past) ++ text_of run Report
     pub end : IsCallEnd p all broken fault (number + length lines) (with_lines p all past lines) refused run.last.status
     pub others : (fault : Y4mFault) → run.last.status ≡ VideoRefused fault → run.last.taken Events
@@ -152,7 +152,7 @@ module _ (p : Params) (all : List Frame) (broken : Option Y4mFault) (later : Lat
 
   comes_stopped : (frames : List Frame) (past : List Event) (ahead : List Frame) (k : IsOn frames past ahead)
       (E : List Line) (F : Option TraceFault) (m : ℕ) (text : List ℕ) (rest : CallState → (Role → ℕ) → Run)
-      (status : Status) (taken : Role → Option ℕ) → ((counts : Text) → told status counts ≡ [])
+      (status : Status) (taken : Role → Option ℕ) → ((counts : Text) → only_at_ok status counts ≡ [])
       → ((fault : Y4mFault) → status ≡ VideoRefused fault → taken Events ≡ Some (line_size text))
       → IsCallEnd p all broken F (m + 0) past E status → Comes past E F m text (follow (stopped status taken) rest)
   comes_stopped frames past ahead k E F m text rest status taken silent spares end = record {
@@ -303,7 +303,7 @@ module _ (p : Params) (all : List Frame) (broken : Option Y4mFault) (later : Lat
           → IsCallEnd p all broken F (lines + 1 + 0) past (line ∷ E) (TraceRefused (fault_told (lines + 1) e r))
 
       unless_comes : (line : Line) (e : Event) (o : Option Refusal) (step : Step CallState) → refusal_at by_call now e
-          ≡ o → IsWhy line e → (o ≡ None → Takes line step) → Takes line (unless_refused now trace e o step)
+          ≡ o → IsWhy line e → (o ≡ None → Takes line step) → Takes line (unless_refused (now.lines + 1) trace e o step)
       unless_comes line e None step found why takes = takes refl
       unless_comes line e (Some r) step found why takes = comes_stopped frames past _ k (line ∷ E) F (lines + 1)
           (inputs Events) rest _ _ (λ text. refl) (λ fault is. absurd (cc is)) (why r found)

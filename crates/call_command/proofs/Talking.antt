@@ -242,7 +242,7 @@ module _ (p : Params) (frames_law : LaterFramesBoth (coding p) (rules_of p)) (ev
       }
 
       keeps_unless : (trace : List ℕ) (e : Event) (o : Option Refusal) (step : Step CallState)
-          → (o ≡ None → Keeps false step) → Keeps false (unless_refused now trace e o step)
+          → (o ≡ None → Keeps false step) → Keeps false (unless_refused (now.lines + 1) trace e o step)
       keeps_unless trace e None step keeps = keeps refl
       keeps_unless trace e (Some r) step keeps = tt
 

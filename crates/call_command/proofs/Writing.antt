@@ -19,32 +19,32 @@ use Rattle.receiver_end.specs.Decoding.{decoding}
 use Rattle.one_way.specs.Both.{both_after, steady}
 use Rattle.one_way.specs.Seen.{in_both, reference_in}
 use Rattle.call_command.specs.Call.{play_texts}
-use Rattle.call_command.specs.Standing.{row_texts}
+use Rattle.call_command.specs.declared.show.Row.{Row}
+use Rattle.call_command.specs.Rows.{row_texts}
 
 pub on_err : {T E P : Type 0} (r : Result T E) → P → OnErr r P
 on_err (Ok x) p = tt
 on_err (Err e) p = p
 
-module _ (turns : TurnLaws) (number : ℕ) (mark : Mark) (reference : Option ℕ) (picture : Picture) (old mid : Role
-    → Option (List ℕ)) where
+module _ (turns : TurnLaws) (row : Row) (picture : Picture) (old mid : Role → Option (List ℕ)) where
+  abbrev shown : Role → List ℕ
+  shown = on row.role (frame_text row.mark picture)
+
   abbrev line : List ℕ
-  line = picture_text number (Some mark) (Some reference) None
+  line = picture_text row.number (Some row.mark) (Some row.reference) row.letter
 
-  pub first_front : GainsFronts (on Pictures (frame_text mark picture)) old mid
-      → GainsFronts (row_texts number mark reference picture) old mid
-  first_front fronts = turns.front_of_first (on Pictures (frame_text mark picture)) (on Report line) old mid fronts
+  pub first_front : GainsFronts shown old mid → GainsFronts (row_texts row picture) old mid
+  first_front fronts = turns.front_of_first shown (on Report line) old mid fronts
 
-  module _ (new : Role → Option (List ℕ)) (text : List ℕ) (text_is : text
-      ≡ line) (first : Gains (on Pictures (frame_text mark picture)) old mid) where
-    pub both_gain : Gains (on Report text) mid new → Gains (row_texts number mark reference picture) old new
+  module _ (new : Role → Option (List ℕ)) (text : List ℕ) (text_is : text ≡ line) (first : Gains shown old mid) where
+    pub both_gain : Gains (on Report text) mid new → Gains (row_texts row picture) old new
     both_gain gains =
-        turns.both_texts (on Pictures (frame_text mark picture)) (on Report line) old mid new first
+        turns.both_texts shown (on Report line) old mid new first
         (subst (λ (l : List ℕ). Gains (on Report l) mid new) text_is gains)
 
-    pub second_front : GainsFronts (on Report text) mid new
-        → GainsFronts (row_texts number mark reference picture) old new
+    pub second_front : GainsFronts (on Report text) mid new → GainsFronts (row_texts row picture) old new
     second_front fronts =
-        turns.front_of_second (on Pictures (frame_text mark picture)) (on Report line) old mid new first
+        turns.front_of_second shown (on Report line) old mid new first
         (subst (λ (l : List ℕ). GainsFronts (on Report l) mid new) text_is fronts)
 
 -- the row of a play that is told so
@@ -55,7 +55,7 @@ pub row_is : (p : Params) (before : List ReceiverEntry) (frames : List Frame) (p
     (both_after p (steady p) frames before past).receiver)
     → reference ≡ reference_in (both_after p (steady p) frames before past).sender.coded number
     → picture ≡ (both_after p (steady p) frames before (Play ∷ past)).receiver.screen
-    → row_texts number mark reference picture
+    → row_texts (record { role = Pictures; letter = None; number = number; mark = mark; reference = reference }) picture
     ≡ play_texts (in_both (both_after p (steady p) frames before (Play ∷ past))) played
 row_is p before frames past number mark reference picture {played} number_is played_is mark_is reference_is shown =
     (λ i. then_also (on Pictures (frame_text (mark_is i) (shown i)))

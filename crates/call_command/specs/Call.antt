@@ -4,14 +4,13 @@ use Rattle.std.specs.Prelude.{ℕ, ◌+◌, ◌-◌, Bool, true, false, not, nat
 use Rattle.h263_types.specs.declared.format.Format.{Format}
 use Rattle.h263_types.specs.declared.params.Params.{Params}
 use Rattle.h263_planes.specs.Layout.{picture_of}
-use Rattle.h263_planes.specs.Picture.{Picture}
 use Rattle.h263_outside.specs.Desk.{is_role}
 use Rattle.h263_outside.specs.declared.desk.Role.{Role}
 use Rattle.h263_outside.specs.declared.desk.Role.TheVariants.{Video, Events, Pictures, Report}
 use Rattle.y4m.specs.declared.fault.Y4mFault.{Y4mFault}
 use Rattle.y4m.specs.Head.{head_of, head_size}
 use Rattle.y4m.specs.Frame.{next_frame, frame_size}
-use Rattle.y4m.specs.Text.{head_text, frame_text}
+use Rattle.y4m.specs.Text.{head_text}
 use Rattle.loss_trace.specs.declared.event.Event.{Event as Line}
 use Rattle.loss_trace.specs.declared.event.Event.TheVariants as says
 use Rattle.loss_trace.specs.declared.fault.TraceFault.{TraceFault}
@@ -19,24 +18,22 @@ use Rattle.loss_trace.specs.declared.fault.TraceFault.TheVariants.{BadLine, TooM
 use Rattle.loss_trace.specs.Lines.{first_line, is_closed}
 use Rattle.loss_trace.specs.Reading.{event_in}
 use Rattle.call_report.specs.declared.status.Status.TheVariants.{Ok as Fine, VideoRefused, TraceRefused}
-use Rattle.call_report.specs.Text.{picture_text}
-use Rattle.call_model.specs.Coding.{Shown}
 use Rattle.call_model.specs.IdealCall.{Event, Send, Deliver, Play, Back, slices_at, ideal}
 use Rattle.call_model.specs.Receiving.{ReceiverEntry}
 use Rattle.call_model.specs.Refusals.{Refusal, first_refusal}
 use Rattle.call_decoding.specs.Rules.{rules_of}
 use Rattle.call_encoding.specs.Frames.{Frame}
 use Rattle.coded_call.specs.Coding.{coding}
-use Rattle.receiver_end.specs.Answers.{mark_of}
 use Rattle.desk_program.specs.Run.{Turn, End, Step, video_refusal}
 use Rattle.desk_program.specs.Run.Step.{Goes, Ends}
-use Rattle.desk_program.specs.Texts.{no_bytes, no_texts, on, then_also, of, and_of}
+use Rattle.desk_program.specs.Texts.{no_bytes, no_texts, on, of, and_of}
 use Rattle.call_command.specs.declared.terms.Terms.{Terms}
 use Rattle.one_way.specs.Trace.{delivered}
 use Rattle.one_way.specs.Both.{bare, both_after, steady}
 use Rattle.one_way.specs.Seen.{Seen, in_call, in_both, reference_in}
 use Rattle.call_command.specs.Refused.{fault_told}
 use Rattle.call_command.specs.Counts.{call_text}
+use Rattle.call_command.specs.Rows.{newest_texts}
 
 pub record CallState : Type 0 where
   -- the parameters with the video's format, and whether the trace is the plain one
@@ -86,20 +83,9 @@ with_play s = record s { past = Play ∷ s.past }
 
 -- ---- texts
 
--- the picture n that was shown with its mark, and the line that tells its reference besides
-abbrev pub shown_texts : ℕ → Option ℕ → Shown Picture → Role → List ℕ
-shown_texts n reference shown =
-    then_also (on Pictures (frame_text (mark_of shown.mark) shown.picture))
-    (on Report (picture_text n (Some (mark_of shown.mark)) (Some reference) None))
-
--- those of the newest play
-abbrev pub newest_texts : ℕ → Option ℕ → List (Shown Picture) → Role → List ℕ
-newest_texts n reference [] = no_texts
-newest_texts n reference (shown ∷ plays) = shown_texts n reference shown
-
 -- what is written where picture n was played
 abbrev pub play_texts : Seen → ℕ → Role → List ℕ
-play_texts seen n = newest_texts n (reference_in seen.coded n) seen.plays
+play_texts seen n = newest_texts Pictures None n (reference_in seen.coded n) seen.plays
 
 -- ---- the end
 
@@ -132,10 +118,10 @@ abbrev pub bad_line : TraceFault → End
 bad_line fault =
     record { status = TraceRefused fault; taken = λ r. if is_role Events r then None else Some 0; texts = no_texts }
 
--- the line says this event, which is refused or has its step
-abbrev pub unless_refused : CallState → List ℕ → Event → Option Refusal → Step CallState → Step CallState
-unless_refused s trace e None step = step
-unless_refused s trace e (Some refusal) step = Ends (refused_line trace (fault_told (s.lines + 1) e refusal))
+-- the line of this number says this event, which is refused or has its step
+abbrev pub unless_refused : {State : Type 0} → ℕ → List ℕ → Event → Option Refusal → Step State → Step State
+unless_refused number trace e None step = step
+unless_refused number trace e (Some refusal) step = Ends (refused_line trace (fault_told number e refusal))
 
 -- the frame is sent that the line asks for, or refused
 abbrev pub captured_step : CallState → List ℕ → ℕ → Result (List ℕ) Y4mFault → Step CallState
@@ -166,18 +152,18 @@ module _ (view : View) where
   -- what the line says is done
   abbrev pub event_step : CallState → (Role → List ℕ) → List ℕ → Line → Step CallState
   event_step s inputs trace says.Nothing = Goes (after_line s trace) (line_turn trace no_texts)
-  event_step s inputs trace says.Send = unless_refused s trace Send (refusal_at s Send) (capture_step s trace (inputs Video))
+  event_step s inputs trace says.Send = unless_refused (s.lines + 1) trace Send (refusal_at s Send) (capture_step s trace (inputs Video))
   event_step s inputs trace (says.Packet n j) =
-      unless_refused s trace (Deliver n j) (refusal_at s (Deliver n j))
+      unless_refused (s.lines + 1) trace (Deliver n j) (refusal_at s (Deliver n j))
       (Goes (after_line (with_packet s n j) trace) (line_turn trace no_texts))
   event_step s inputs trace (says.All n) =
-      unless_refused s trace (Deliver n 0) (refusal_at s (Deliver n 0))
+      unless_refused (s.lines + 1) trace (Deliver n 0) (refusal_at s (Deliver n 0))
       (Goes (after_line (with_packets s n) trace) (line_turn trace no_texts))
   event_step s inputs trace (says.Back k) =
-      unless_refused s trace (Back k) (refusal_at s (Back k))
+      unless_refused (s.lines + 1) trace (Back k) (refusal_at s (Back k))
       (Goes (after_line (with_message s k) trace) (line_turn trace no_texts))
   event_step s inputs trace says.Play =
-      unless_refused s trace Play (refusal_at s Play)
+      unless_refused (s.lines + 1) trace Play (refusal_at s Play)
       (Goes (after_line (with_play s) trace) (line_turn trace (play_texts (view (with_play s)) (view s).played)))
 
   abbrev pub line_step : CallState → (Role → List ℕ) → List ℕ → Option Line → Step CallState
@@ -257,9 +243,13 @@ head_step t video (Err fault) = Ends (video_refusal Video no_bytes (VideoRefused
 abbrev pub call_begin : Terms → (Role → List ℕ) → Step CallState
 call_begin t inputs = head_step t (inputs Video) (head_of (inputs Video))
 
+-- how many lines a trace has at most
+abbrev pub most_lines : ℕ
+most_lines = 16777216
+
 -- how many turns there may be at most
 abbrev pub most_turns : Bool → ℕ
-most_turns plain = if plain then 1048576 else 16777216
+most_turns plain = if plain then 1048576 else most_lines
 
 -- it may still read: the last line had its newline
 abbrev pub may_read : CallState → Bool

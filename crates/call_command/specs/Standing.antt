@@ -1,19 +1,15 @@
 -- What the machine of a call keeps in mind, and what it is ready for.
-use Rattle.std.specs.Prelude.{◌≡◌, ◌≢◌, ℕ, ◌+◌, ◌-◌, ◌*◌, ◌≤◌, Bool, if◌then◌else◌, true, false, List, [], ◌++◌, length, Some, None, Option}
+use Rattle.std.specs.Prelude.{◌≡◌, ◌≢◌, ℕ, ◌+◌, ◌-◌, ◌*◌, ◌≤◌, Bool, if◌then◌else◌, true, false, List, [], ◌++◌, length, Some}
 use Rattle.h263_types.specs.Clocks.{period_of}
 use Rattle.h263_types.specs.Params.{IsParams}
 use Rattle.h263_types.specs.Sizes.{size_of_picture}
 use Rattle.h263_outside.specs.Desk.{Outside}
 use Rattle.h263_outside.specs.declared.desk.Role.{Role}
 use Rattle.h263_outside.specs.declared.desk.Role.TheVariants.{Video, Events, Pictures, Report}
-use Rattle.h263_types.specs.declared.Mark.{Mark}
-use Rattle.h263_planes.specs.Picture.{Picture}
 use Rattle.y4m.specs.Place.{Y4mPlace}
-use Rattle.y4m.specs.Text.{frame_text}
-use Rattle.call_report.specs.Text.{picture_text}
 use Rattle.desk_program.specs.Run.{left_after}
 use Rattle.desk_program.specs.Ends.{Tells}
-use Rattle.desk_program.specs.Texts.{on, then_also, of}
+use Rattle.desk_program.specs.Texts.{of}
 use Rattle.call_model.specs.IdealCall.{Event}
 use Rattle.call_model.specs.Receiving.{ReceiverEntry}
 use Rattle.call_encoding.specs.Frames.{Frame}
@@ -26,11 +22,6 @@ use Rattle.call_command.specs.declared.terms.Terms.{Terms}
 use Rattle.call_command.specs.declared.link.Link.{Link}
 use Rattle.call_command.specs.declared.world.World.{World}
 use Rattle.call_command.specs.Call.{CallState, line_size, after_line}
-
--- picture n was shown with this mark and had this reference: the picture, and its line
-abbrev pub row_texts : ℕ → Mark → Option ℕ → Picture → Role → List ℕ
-row_texts n mark reference picture =
-    then_also (on Pictures (frame_text mark picture)) (on Report (picture_text n (Some mark) (Some reference) None))
 
 -- ---- the ends of a call, and what carries it
 

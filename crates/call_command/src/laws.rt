@@ -1,9 +1,11 @@
 //! What a call comes to, and what its machine rests on. Each law is the contract of a function that
 //! does nothing else.
 ghost use Rattle.std.specs.Prelude.{◌≡◌, ◌≤◌, ℕ, List, [], false, true, Ok, Err, Some};
+ghost use Rattle.h263_types.specs.declared.blocks.Mb.{Mb};
 ghost use Rattle.h263_types.specs.declared.format.Format.{Format};
 ghost use Rattle.h263_types.specs.declared.params.Params.{Params};
 ghost use Rattle.h263_types.specs.Params.{IsParams};
+ghost use Rattle.h263_planes.specs.Picture.{Picture};
 ghost use Rattle.h263_outside.specs.Desk.{Rose};
 ghost use Rattle.h263_outside.specs.declared.desk.Role.{Role};
 ghost use Rattle.h263_outside.specs.declared.desk.Role.TheVariants.{Video};
@@ -12,8 +14,11 @@ ghost use Rattle.y4m.specs.Head.{head_of};
 ghost use Rattle.y4m.specs.Video.{video_fault, video_frames};
 ghost use Rattle.call_report.specs.declared.status.Status.TheVariants.{VideoRefused, Video2Refused};
 ghost use Rattle.call_decoding.specs.Rules.{rules_of};
+ghost use Rattle.call_decoding.specs.Styles.{Style};
 ghost use Rattle.call_encoding.specs.Frames.{Frame};
-ghost use Rattle.call_model.specs.IdealCall.{AllMayHappen, Event};
+ghost use Rattle.call_model.specs.Before.{Sends};
+ghost use Rattle.call_model.specs.Coding.{pictures_of};
+ghost use Rattle.call_model.specs.IdealCall.{AllMayHappen, AllMayHappenFrom, Event, Source, encoded};
 ghost use Rattle.coded_call.specs.Coding.{coding};
 ghost use Rattle.one_way.specs.Both.{steady};
 ghost use Rattle.one_way.specs.Laws.{EventLaws, NearLaws, WayLaws};
@@ -30,7 +35,7 @@ ghost use Rattle.call_command.specs.Recorded.{FollowsItsTrace, ShowsWhatArrived}
 use back_messages::MessageFault;
 use call_decoding::{Pictured, Styled};
 use call_encoding::Framed;
-use call_model::laws::{frames_by_events, later_frames, refusals, searches};
+use call_model::laws::{by_events, frames_by_events, later_frames, refusals, searches};
 use desk_program::laws::{step_laws, turn_laws};
 use h263_bits::Fault;
 use h263_outside::laws::calls;
@@ -56,13 +61,20 @@ pub fn a_call_shows_each_frame()
     frame_by_frame();
 }
 
-/// In a near call each picture that was played is marked exact where all its packets were delivered
-/// while it was open, and nowhere else, and was then shown as it is decoded.
+/// In a near call, whatever its pictures come from, each picture that was played is marked exact
+/// where all its packets were delivered while it was open, and nowhere else, and was then shown as it
+/// is decoded (`any`). So it is in a call of an encoder, which doesn't run out while frames are left
+/// (`frames`).
 pub fn what_arrived_is_shown()
-    ensures { (p : Params) (frames : List Frame) (past : List Event)
+    ensures any { (p : Params) (source : Source Style Mb Picture) (left : ℕ) (past : List Event)
+        → Sends source left
+        → AllMayHappenFrom (pictures_of (coding p)) (rules_of p) source left past
+        → ShowsWhatArrived p source past }
+    ensures frames { (p : Params) (frames : List Frame) (past : List Event)
         → AllMayHappen (coding p) (rules_of p) (steady p) frames past
-        → ShowsWhatArrived p frames past }
+        → ShowsWhatArrived p (encoded (coding p) (rules_of p) (steady p) frames) past }
 {
+    by_events::<Styled, Mb, Pictured>();
     frames_by_events::<Framed, Styled, Mb, Pictured, Fault, MessageFault>();
     searches();
 }

@@ -16,11 +16,11 @@ use Rattle.desk_program.specs.Ends.{IsPart, step_turns}
 use Rattle.desk_program.specs.Texts.{of}
 use Rattle.call_model.specs.IdealCall.{Event, Send, Deliver, Play}
 use Rattle.call_model.specs.Refusals.{Refusal}
-use Rattle.call_command.specs.Call.{bad_line, line_size}
+use Rattle.call_command.specs.Call.{bad_line, line_size, unless_refused}
 use Rattle.call_command.specs.Laws.{LineLaws, CoversLine}
 use Rattle.duplex_call.specs.declared.line.Party.{Party}
 use Rattle.duplex_call.specs.Lines.{party_event}
-use Rattle.duplex_command.specs.Duplex.{DuplexState, party_capture_step, party_captured_step, party_event_step, lettered_step, pictures_role, video_place_of, party_refusal, refused_party_video, duplex_trace_step, unless_refused, video_of}
+use Rattle.duplex_command.specs.Duplex.{DuplexState, party_capture_step, party_captured_step, party_event_step, lettered_step, pictures_role, video_place_of, party_refusal, refused_party_video, duplex_trace_step, video_of}
 
 abbrev IsLineTurn : List ℕ → Step DuplexState → Type 0
 IsLineTurn trace step = CoversLine trace (step_turns step)
@@ -33,7 +33,7 @@ more_size n m = omega arith
 
 module _ (s : DuplexState) (trace : List ℕ) where
   turn_unless : (e : Event) (o : Option Refusal) (step : Step DuplexState) → IsLineTurn trace step
-      → IsLineTurn trace (unless_refused s trace e o step)
+      → IsLineTurn trace (unless_refused (s.lines + 1) trace e o step)
   turn_unless e None step is = is
   turn_unless e (Some r) step is = tt
 

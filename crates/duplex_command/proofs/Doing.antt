@@ -31,8 +31,8 @@ use Rattle.duplex_ends.specs.Pair.{AreInCall, HoldsPair, IsInCall}
 use Rattle.duplex_ends.specs.Ways.{call_in, sides}
 use Rattle.duplex_ends.specs.declared.party.PartyEnds.{PartyEnds}
 use Rattle.duplex_command.specs.declared.station.Station.{Station}
-use Rattle.duplex_command.specs.Duplex.{DuplexState, after_party_line, party_capture_step, party_event_step, talk_may_read, video_place_of, play_step, play_texts, quiet_party_step, party_refusal, seen_of, unless_refused, with_party_frame, with_next}
-use Rattle.call_command.specs.Call.{line_size, line_turn}
+use Rattle.duplex_command.specs.Duplex.{DuplexState, after_party_line, party_capture_step, party_event_step, talk_may_read, video_place_of, play_step, party_play_texts, quiet_party_step, party_refusal, seen_of, with_party_frame, with_next}
+use Rattle.call_command.specs.Call.{line_size, line_turn, unless_refused}
 use Rattle.call_command.specs.Laws.{LineLaws}
 use Rattle.call_command.specs.Refused.{IsNotRefused, IsRefusedWith, fault_on_line, fault_told}
 use Rattle.call_command.specs.Turning.{IsChecked}
@@ -108,12 +108,12 @@ module _ (x : Party) (own far : Station) (line : ℕ) (trace_new : TracePlace) (
 
   module _ (laws : LineLaws) (told : Told) (fault : TraceFault) (fault_is : fault ≡ fault_on_line line told) where
     event_refused : (e : Event) (step : Step DuplexState) → IsAllowed (Err told) e (party_refusal x s e)
-        → Ended (unless_refused s trace e (party_refusal x s e) step) (TraceRefused fault) inputs before mid
+        → Ended (unless_refused (s.lines + 1) trace e (party_refusal x s e) step) (TraceRefused fault) inputs before mid
     event_refused e step refused =
         let told_so = refused.2 in
         line_refused s inputs before mid b.taken laws (TraceRefused fault) (fault_told (s.lines + 1) e refused.0) _
         (ap (λ (f : TraceFault). TraceRefused f) fault_is ∙ (λ i. TraceRefused (fault_on_line (b.number i) (told_so i))))
-        (ap (λ (o : Option Refusal). unless_refused s trace e o step) refused.1)
+        (ap (λ (o : Option Refusal). unless_refused (s.lines + 1) trace e o step) refused.1)
 
     pub line_is_refused : (event : Line) → IsChecked (Err told) event (λ e. party_refusal x s e)
         → Ended (step_of event) (TraceRefused fault) inputs before mid
@@ -127,8 +127,8 @@ module _ (x : Party) (own far : Station) (line : ℕ) (trace_new : TracePlace) (
   -- ---- an event that may happen
 
   pub step_is : (e : Event) (step : Step DuplexState) → party_refusal x s e ≡ None
-      → unless_refused s trace e (party_refusal x s e) step ≡ step
-  step_is e step none = ap (λ (o : Option Refusal). unless_refused s trace e o step) none
+      → unless_refused (s.lines + 1) trace e (party_refusal x s e) step ≡ step
+  step_is e step none = ap (λ (o : Option Refusal). unless_refused (s.lines + 1) trace e o step) none
 
   -- the stations where both ways are these
   pub stands_event : (own_new far_new : Station) (ways : WayRuns Frame) → own_new.video ≡ own.video
@@ -168,7 +168,7 @@ module _ (x : Party) (own far : Station) (line : ℕ) (trace_new : TracePlace) (
 
   module _ (new : Outside) (still : new.left ≡ mid.left) (none : party_refusal x s Play ≡ None) where
     abbrev shown : Role → List ℕ
-    shown = play_texts Pictures x (seen_of x (with_next x s)) (seen_of x s).played
+    shown = party_play_texts Pictures x (seen_of x (with_next x s)) (seen_of x s).played
 
     play_is : step_of says.Play ≡ Goes (after_party_line (with_next x s) trace) (line_turn trace shown)
     play_is = step_is Play (play_step Video Pictures VideoRefused x s trace) none
@@ -287,7 +287,7 @@ pub delivery_done : (x : Party) (own far : Station) (own_ends far_ends : PartyEn
     → (after : (Party → Params) → WayRuns Frame → WayRuns Frame)
     → ((s : DuplexState) (inputs : Role → List ℕ)
     → party_event_step Video Pictures VideoRefused x s (inputs Events) inputs said
-    ≡ unless_refused s (inputs Events) (Deliver n j) (party_refusal x s (Deliver n j))
+    ≡ unless_refused (s.lines + 1) (inputs Events) (Deliver n j) (party_refusal x s (Deliver n j))
     (quiet_party_step s (inputs Events) (after s.params s.ways)))
     → ((s : DuplexState) → HoldsPair s.params x own.ends far.ends s.ways → party_refusal x s (Deliver n j) ≡ None)
     → ((p : Party → Params) (ways : WayRuns Frame) (left : ℕ) → HoldsPair p x own.ends far.ends ways
@@ -319,7 +319,7 @@ frame_asked x own far own_new line room event r mid new is t none =
       gives = λ trace old s inputs b.
           subst (λ (step : Step DuplexState). TurnGives r step (λ next rest. StationsStand x own_new far trace next
           (rest Events)) talk_may_read true inputs old new)
-          (sym (ap (λ (o : Option Refusal). unless_refused s (inputs Events) Send o
+          (sym (ap (λ (o : Option Refusal). unless_refused (s.lines + 1) (inputs Events) Send o
           (party_capture_step Video Pictures VideoRefused x s
           (inputs Events) (inputs Video))) (none trace old s inputs b)))
           (t.gives trace old s inputs (record { read = b; none = none trace old s inputs b }));

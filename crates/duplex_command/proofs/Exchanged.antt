@@ -20,11 +20,12 @@ use Rattle.h263_planes.specs.Picture.{Picture}
 use Rattle.desk_program.specs.Run.{End, Step}
 use Rattle.desk_program.specs.Run.Step.{Goes, Ends}
 use Rattle.desk_program.specs.Texts.{and_of, no_texts, of}
-use Rattle.call_command.specs.Call.{line_size, line_turn, refused_line}
+use Rattle.call_command.specs.Call.{line_size, line_turn, refused_line, unless_refused}
 use Rattle.loss_trace.specs.declared.fault.TraceFault.{TraceFault}
 use Rattle.duplex_call.specs.declared.line.Party.{Party}
 use Rattle.duplex_call.specs.Duplex.{WayRuns}
-use Rattle.duplex_command.specs.Duplex.{DuplexState, after_party_line, party_capture_step, party_captured_step, party_event_step, newest_texts, video_place_of, play_texts, quiet_party_step, party_refusal, seen_of, unless_refused, with_party_frame, with_next}
+use Rattle.call_command.specs.Rows.{newest_texts}
+use Rattle.duplex_command.specs.Duplex.{letter_of, DuplexState, after_party_line, party_capture_step, party_captured_step, party_event_step, video_place_of, party_play_texts, quiet_party_step, party_refusal, seen_of, with_party_frame, with_next}
 use Rattle.duplex_command.specs.Exchange.{for_second, second_step}
 
 -- ---- role by role
@@ -54,12 +55,12 @@ frame_taken n m = fun_ext by_role
     by_role Pictures2 = refl
 
 shown_texts : (x : Party) (n : ℕ) (reference : Option ℕ) (plays : List (Shown Picture))
-    → for_second (newest_texts Pictures x n reference plays) ≡ newest_texts Pictures2 x n reference plays
+    → for_second (newest_texts Pictures (Some (letter_of x)) n reference plays) ≡ newest_texts Pictures2 (Some (letter_of x)) n reference plays
 shown_texts x n reference [] = refl
 shown_texts x n reference (shown ∷ plays) = fun_ext by_role
   where
-    by_role : (r : Role) → newest_texts Pictures x n reference (shown ∷ plays) (exchanged r)
-        ≡ newest_texts Pictures2 x n reference (shown ∷ plays) r
+    by_role : (r : Role) → newest_texts Pictures (Some (letter_of x)) n reference (shown ∷ plays) (exchanged r)
+        ≡ newest_texts Pictures2 (Some (letter_of x)) n reference (shown ∷ plays) r
     by_role Video = refl
     by_role Events = refl
     by_role Pictures = refl
@@ -113,7 +114,7 @@ line_goes trace next first second texts =
 
 module _ (x : Party) (s : DuplexState) (trace : List ℕ) where
   event_unless : (e : Event) (o : Option Refusal) (first second : Step DuplexState) → second_step first ≡ second
-      → second_step (unless_refused s trace e o first) ≡ unless_refused s trace e o second
+      → second_step (unless_refused (s.lines + 1) trace e o first) ≡ unless_refused (s.lines + 1) trace e o second
   event_unless e None first second same = same
   event_unless e (Some r) first second same = line_refused trace _
 
@@ -152,6 +153,6 @@ module _ (x : Party) (s : DuplexState) (trace : List ℕ) where
   event_at_second inputs (says.Back k) = line_refused trace _
   event_at_second inputs says.Play =
       event_unless Play (party_refusal x s Play) _ _
-      (line_goes trace (after_party_line (with_next x s) trace) (play_texts Pictures x (seen_of x (with_next x s))
-      (seen_of x s).played) (play_texts Pictures2 x (seen_of x (with_next x s)) (seen_of x s).played)
+      (line_goes trace (after_party_line (with_next x s) trace) (party_play_texts Pictures x (seen_of x (with_next x s))
+      (seen_of x s).played) (party_play_texts Pictures2 x (seen_of x (with_next x s)) (seen_of x s).played)
       (shown_texts x (seen_of x s).played _ (seen_of x (with_next x s)).plays))

@@ -22,7 +22,8 @@ use Rattle.duplex_call.specs.declared.line.Party.TheVariants.{A, B}
 use Rattle.duplex_call.specs.Duplex.{WayRuns}
 use Rattle.duplex_call.specs.Lines.{party_event}
 use Rattle.duplex_command.specs.Begin.{duplex_run, heads_step, heads_taken}
-use Rattle.duplex_command.specs.Duplex.{DuplexState, VideoPlace, party_capture_step, party_captured_step, duplex_step, lettered_step, most_turns, party_step, pictures_role, video_place_of, play_step, quiet_party_step, party_refusal, refused_party_video, duplex_trace_step, unless_refused, video_of}
+use Rattle.duplex_command.specs.Duplex.{DuplexState, VideoPlace, party_capture_step, party_captured_step, duplex_step, lettered_step, party_step, pictures_role, video_place_of, play_step, quiet_party_step, party_refusal, refused_party_video, duplex_trace_step, video_of}
+use Rattle.call_command.specs.Call.{most_lines, unless_refused}
 
 first_is : (a b : Y4mFault) → VideoRefused a ≡ VideoRefused b → a ≡ b
 first_is a b is = cc is
@@ -77,7 +78,7 @@ module _ (frame_laws : FrameLaws) (fault : Y4mFault) where
       at_quiet B later ways ends = later _ _ ends
 
       at_end : (x : Party) (e : Event) (o : Option Refusal) (step : Step DuplexState)
-          → (Refuses x step → IsFaulty x s inputs) → Refuses x (unless_refused s trace e o step) → IsFaulty x s inputs
+          → (Refuses x step → IsFaulty x s inputs) → Refuses x (unless_refused (s.lines + 1) trace e o step) → IsFaulty x s inputs
       at_end x e None step goes ends = goes ends
       at_end A e (Some refusal) step goes ends = absurd (cc ends)
       at_end B e (Some refusal) step goes ends = absurd (cc ends)
@@ -174,7 +175,7 @@ module _ (frame_laws : FrameLaws) (fault : Y4mFault) where
   module _ (p : Params) (inputs : Role → List ℕ) where
     abbrev Ends : Party → Result Format Y4mFault → Result Format Y4mFault → Type 0
     Ends x a b =
-        (follow (heads_step p inputs a b) (λ next taken. run_of duplex_step most_turns next
+        (follow (heads_step p inputs a b) (λ next taken. run_of duplex_step most_lines next
         (left_after inputs taken))).last.status ≡ refused_party_video x fault
 
     pub first_refused : (duplex_run p inputs).last.status ≡ VideoRefused fault → video_fault (inputs Video) ≡ Some fault
@@ -190,7 +191,7 @@ module _ (frame_laws : FrameLaws) (fault : Y4mFault) where
             let size = head_size (inputs Video) in
             let taken : size + 0 ≡ size = omega arith in
             subst (λ (n : ℕ). fault_of f most_frames size (drop n (inputs Video)) ≡ Some fault) taken
-            (run_refused most_turns A _ (left_after inputs (heads_taken inputs)) ends)
+            (run_refused most_lines A _ (left_after inputs (heads_taken inputs)) ends)
 
     pub second_refused : (duplex_run p inputs).last.status ≡ Video2Refused fault → video_fault (inputs Video2)
         ≡ Some fault
@@ -206,4 +207,4 @@ module _ (frame_laws : FrameLaws) (fault : Y4mFault) where
             let size = head_size (inputs Video2) in
             let taken : 0 + size ≡ size = omega arith in
             subst (λ (n : ℕ). fault_of g most_frames size (drop n (inputs Video2)) ≡ Some fault) taken
-            (run_refused most_turns B _ (left_after inputs (heads_taken inputs)) ends)
+            (run_refused most_lines B _ (left_after inputs (heads_taken inputs)) ends)

@@ -25,6 +25,10 @@ use Rattle.duplex_command.specs.Begin.{duplex_run, heads_step, heads_taken, both
 use Rattle.duplex_command.specs.Duplex.{DuplexState, VideoPlace, duplex_step, duplex_at_start, pictures_role, video_place_of, video_of}
 use Rattle.duplex_command.specs.Recorded.{BothFollowTheirTrace, AreCallsEnded, party_call_after, fault_in, faults, party_film, line_events, ways_of, with_all_lettered}
 use Rattle.duplex_command.proofs.Recorded.{CallLaws, Comes, IsOn, run_comes, state}
+use Rattle.call_model.specs.IdealCall.{encoded}
+use Rattle.coded_call.specs.Coding.{coding}
+use Rattle.call_decoding.specs.Rules.{rules_of}
+use Rattle.one_way.specs.Both.{steady}
 
 video_is : (video : List ℕ) (f : Format) → head_of video ≡ Ok f
     → video_frames video ≡ frames_of f 1048576 (head_size video) (drop (head_size video) video)
@@ -50,7 +54,8 @@ module _ (q : Params) (f g : Format) (inputs : Role → List ℕ) where
 
   module _ (laws : CallLaws p captures) (frame_laws : FrameLaws) (arrived : (past : List Lettered)
       → AllMayHappenOf (sides p) captures past → (x : Party)
-      → ShowsWhatArrived (p x) (way x (ways_of p captures past)).frames (way x (ways_of p captures past)).past)
+      → ShowsWhatArrived (p x) (encoded (coding (p x)) (rules_of (p x)) (steady (p x))
+      (way x (ways_of p captures past)).frames) (way x (ways_of p captures past)).past)
       (head_a : head_of (inputs Video) ≡ Ok f) (head_b : head_of (inputs Video2) ≡ Ok g) where
     abbrev rest : DuplexState → (Role → ℕ) → Run
     rest next taken = run_of duplex_step 16777216 next (left_after inputs taken)

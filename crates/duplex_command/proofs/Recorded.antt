@@ -35,12 +35,12 @@ use Rattle.coded_call.specs.Coding.{coding}
 use Rattle.receiver_end.specs.Answers.{mark_of}
 use Rattle.desk_program.specs.Run.{Run, Step, Turn, left_after, follow, run_of, silence, text_of, texts_of, video_refusal}
 use Rattle.desk_program.specs.Run.Step.{Ends}
-use Rattle.desk_program.specs.Texts.{and_of, no_texts, of}
+use Rattle.desk_program.specs.Texts.{and_of, no_texts, of, only_at_ok}
 use Rattle.one_way.specs.Both.{steady}
 use Rattle.one_way.specs.Seen.{reference_in}
-use Rattle.call_command.specs.Call.{bad_line, line_size, line_turn}
+use Rattle.call_command.specs.Call.{bad_line, line_size, line_turn, unless_refused}
 use Rattle.call_command.specs.Laws.{FramesLeft}
-use Rattle.call_command.specs.Recorded.{shown_text, told}
+use Rattle.call_command.specs.Recorded.{shown_text}
 use Rattle.call_command.specs.Refused.{fault_told}
 use Rattle.duplex_call.specs.declared.line.Party.{Party}
 use Rattle.duplex_call.specs.declared.line.Party.TheVariants.{A, B}
@@ -48,7 +48,7 @@ use Rattle.duplex_call.specs.Duplex.{AllMayHappenOf, Lettered, WayRuns, other, w
 use Rattle.duplex_call.specs.Lines.{party_event}
 use Rattle.duplex_call.specs.Refused.{NoneWhereItMayHappenOf, first_of, heard_refusal, refusal_of}
 use Rattle.duplex_ends.specs.Ways.{call_in, sides, with_places, with_whole}
-use Rattle.duplex_command.specs.Duplex.{DuplexState, VideoPlace, after_party_line, both_counts, party_capture_step, party_captured_step, duplex_step, letter_of, lettered_step, party_step, pictures_role, video_place_of, play_step, play_texts, quiet_party_step, party_refusal, refused_party_video, seen_of, duplex_trace_step, unless_refused, video_of, with_party_frame, with_next}
+use Rattle.duplex_command.specs.Duplex.{DuplexState, VideoPlace, after_party_line, both_counts, party_capture_step, party_captured_step, duplex_step, letter_of, lettered_step, party_step, pictures_role, video_place_of, play_step, party_play_texts, quiet_party_step, party_refusal, refused_party_video, seen_of, duplex_trace_step, video_of, with_party_frame, with_next}
 use Rattle.duplex_command.specs.Recorded.{AreCallsEnded, IsPartyRefusal, IsRefusedPartyCapture, LineEvent, LetteredMayHappen, AllLetteredMayHappen, party_capture_told, bad_from, party_call_after, fault_in, and_event, line_events, told_line, told_lines, ways_of, with_event, with_lettered, with_all_lettered, with_party_packets}
 use Rattle.duplex_command.proofs.Brought.{IsKept, kept_all, kept_delivery, kept_places, near_packets, told_packets, ways_packets}
 
@@ -186,14 +186,14 @@ module _ (p : Party → Params) (captures : Party → List Picture) (broken : Pa
     pub may : AllLetteredMayHappen p captures past lines
     pub pictures : (x : Party) → shown_text (call x (Withs past lines)).plays ≡ shown_text (call x past).plays
         ++ text_of run (pictures_role x)
-    pub report : rows (Withs past lines) ++ told run.last.status (both_counts p (ways (Withs past lines)) Report)
+    pub report : rows (Withs past lines) ++ only_at_ok run.last.status (both_counts p (ways (Withs past lines)) Report)
         ≡ rows past ++ text_of run Report
     pub end : AreCallsEnded p captures broken fault (number + length lines) (Withs past lines) refused run.last.status
     pub others : Spares run.last.status run.last.taken
 
   comes_stopped : (past : List Lettered) → Near past
       → (E : List LineEvent) (F : Option TraceFault) (m : ℕ) (rest : DuplexState → (Role → ℕ) → Run)
-      (status : Status) (taken : Role → Option ℕ) → ((text : Text) → told status text ≡ []) → Spares status taken
+      (status : Status) (taken : Role → Option ℕ) → ((text : Text) → only_at_ok status text ≡ []) → Spares status taken
       → AreCallsEnded p captures broken F (m + 0) past E status
       → Comes past E F m (follow (Ends (record { status = status; taken = taken; texts = no_texts })) rest)
   comes_stopped past near E F m rest status taken silent spares end = record {
@@ -338,7 +338,7 @@ module _ (p : Party → Params) (captures : Party → List Picture) (broken : Pa
           → AreCallsEnded p captures broken F (lines + 1 + 0) past (line ∷ E) (TraceRefused (fault_told (lines + 1) e r))
 
       unless_comes : (line : LineEvent) (x : Party) (e : Event) (o : Option Refusal) (step : Step DuplexState)
-          → party_refusal x s e ≡ o → IsWhy line x e → (o ≡ None → Takes line step) → Takes line (unless_refused s trace e o step)
+          → party_refusal x s e ≡ o → IsWhy line x e → (o ≡ None → Takes line step) → Takes line (unless_refused (s.lines + 1) trace e o step)
       unless_comes line x e None step found why takes = takes refl
       unless_comes line x e (Some r) step found why takes = comes_faulty past near (line ∷ E) F (lines + 1) rest _ _
           (why r found)
@@ -467,7 +467,7 @@ module _ (p : Party → Params) (captures : Party → List Picture) (broken : Pa
       played_sent B B = refl
 
       abbrev play_turn : Party → Turn
-      play_turn x = line_turn trace (play_texts (pictures_role x) x (seen_of x (with_next x s)) (seen_of x s).played)
+      play_turn x = line_turn trace (party_play_texts (pictures_role x) x (seen_of x (with_next x s)) (seen_of x s).played)
 
       played_pictures : (x y : Party) → shown_text (call y (with_event p captures x Play past)).plays
           ≡ shown_text (call y past).plays ++ (play_turn x).texts (pictures_role y)
@@ -591,7 +591,7 @@ module _ (p : Party → Params) (captures : Party → List Picture) (broken : Pa
           faults A = on.fault A
           faults B = ap (λ (l : List ℕ). fault_at B (next_place B frame) l) (frame_gone B frame) ∙ still
 
-      untold : (x : Party) (fault : Y4mFault) (text : Text) → told (refused_party_video x fault) text ≡ []
+      untold : (x : Party) (fault : Y4mFault) (text : Text) → only_at_ok (refused_party_video x fault) text ≡ []
       untold A fault text = refl
       untold B fault text = refl
 

@@ -25,8 +25,9 @@ use Rattle.duplex_command.specs.declared.heads.Heads.{Heads}
 use Rattle.duplex_command.specs.declared.station.Station.{Station}
 use Rattle.duplex_command.specs.declared.talk.Talk.{Talk}
 use Rattle.duplex_command.specs.Begin.{HaveHeads, IsNewTalk, duplex_begin, heads_step, heads_taken, both_heads, in_formats}
-use Rattle.duplex_command.specs.Duplex.{DuplexState, duplex_at_start, talk_may_read, most_turns}
+use Rattle.duplex_command.specs.Duplex.{DuplexState, duplex_at_start, talk_may_read}
 use Rattle.duplex_command.specs.Standing.{StationReady, StationsReady, TalkStands, talk_lines_left, place_in_video}
+use Rattle.call_command.specs.Call.{most_lines}
 
 -- parameters stay in their ranges in another format
 in_format : (p : Params) (f : Format) → IsParams p → IsParams (record p { format = f })
@@ -91,7 +92,7 @@ module _ (p : Params) (heads : Heads) (m : Talk) (new : IsNewTalk p heads m)
     };
   }
 
-  pub all_may_come : talk_lines_left m ≡ most_turns
+  pub all_may_come : talk_lines_left m ≡ most_lines
   all_may_come = ap (λ (n : ℕ). 16777216 - n) new.lines
 
   -- ---- over a desk: the heads were read from old to mid, and written from mid to last

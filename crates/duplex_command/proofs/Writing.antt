@@ -1,5 +1,5 @@
--- A picture and its line, written one after the other, and the counts of both parties.
-use Rattle.std.proofs.Common.{◌≡◌, ℕ, List, Option, Some, Result, Ok, Err, OnErr, sym, ap, subst, ◌∙◌}
+-- The row of a picture that is played, and the counts of both parties.
+use Rattle.std.proofs.Common.{◌≡◌, ℕ, List, Option, Some, sym, ap, subst, ◌∙◌}
 use Rattle.h263_types.specs.declared.params.Params.{Params}
 use Rattle.h263_types.specs.declared.Mark.{Mark}
 use Rattle.h263_planes.specs.Picture.{Picture}
@@ -21,43 +21,24 @@ use Rattle.duplex_call.specs.Duplex.{WayRuns, with_play}
 use Rattle.duplex_ends.specs.Laws.{AfterPlay}
 use Rattle.duplex_ends.specs.Shown.{on_screen, shown_next}
 use Rattle.duplex_ends.specs.Ways.{call_in, sides}
-use Rattle.duplex_command.specs.declared.show.Row.{Row}
-use Rattle.duplex_command.specs.Duplex.{letter_of, newest_texts, play_texts}
-use Rattle.duplex_command.specs.Turning.{row_texts}
-
-pub on_err : {T E P : Type 0} (r : Result T E) → P → OnErr r P
-on_err (Ok x) p = tt
-on_err (Err e) p = p
-
-module _ (turns : TurnLaws) (row : Row) (picture : Picture) (old mid : Role → Option (List ℕ)) where
-  abbrev line : List ℕ
-  line = picture_text row.number (Some row.mark) (Some row.reference) (Some (letter_of row.party))
-
-  pub first_front : GainsFronts (on Pictures (frame_text row.mark picture)) old mid
-      → GainsFronts (row_texts row picture) old mid
-  first_front fronts = turns.front_of_first (on Pictures (frame_text row.mark picture)) (on Report line) old mid fronts
-
-  module _ (new : Role → Option (List ℕ)) (text : List ℕ) (text_is : text
-      ≡ line) (first : Gains (on Pictures (frame_text row.mark picture)) old mid) where
-    pub both_gain : Gains (on Report text) mid new → Gains (row_texts row picture) old new
-    both_gain gains =
-        turns.both_texts (on Pictures (frame_text row.mark picture)) (on Report line) old mid new first
-        (subst (λ (l : List ℕ). Gains (on Report l) mid new) text_is gains)
-
-    pub second_front : GainsFronts (on Report text) mid new → GainsFronts (row_texts row picture) old new
-    second_front fronts =
-        turns.front_of_second (on Pictures (frame_text row.mark picture)) (on Report line) old mid new first
-        (subst (λ (l : List ℕ). GainsFronts (on Report l) mid new) text_is fronts)
+use Rattle.call_command.specs.Rows.{newest_texts, row_texts}
+use Rattle.duplex_command.specs.Duplex.{letter_of, party_play_texts}
 
 -- the row of a play that is told so
 pub row_is : (p : Party → Params) (x : Party) (ways : WayRuns Frame) → AfterPlay p x ways
-    → (number : ℕ) (mark : Mark) (reference : Option ℕ) (picture : Picture)
+    → (letter number : ℕ) (mark : Mark) (reference : Option ℕ) (picture : Picture) → letter ≡ letter_of x
     → number ≡ (call_in p x ways).played → mark ≡ mark_of (shown_next p x ways).mark
     → reference ≡ reference_in (call_in p x ways).coded (call_in p x ways).played
     → picture ≡ on_screen p x (with_play (sides p) x ways)
-    → row_texts (record { party = x; number = number; mark = mark; reference = reference }) picture
-    ≡ play_texts Pictures x (in_call (call_in p x (with_play (sides p) x ways))) (call_in p x ways).played
-row_is p x ways laws number mark reference picture number_is mark_is reference_is shown =
+    → row_texts (record {
+      role = Pictures;
+      letter = Some letter;
+      number = number;
+      mark = mark;
+      reference = reference;
+    }) picture
+    ≡ party_play_texts Pictures x (in_call (call_in p x (with_play (sides p) x ways))) (call_in p x ways).played
+row_is p x ways laws letter number mark reference picture letter_is number_is mark_is reference_is shown =
     let after = call_in p x (with_play (sides p) x ways) in
     let n = (call_in p x ways).played in
     let picture_is : picture ≡ (shown_next p x ways).picture = shown
@@ -65,8 +46,8 @@ row_is p x ways laws number mark reference picture number_is mark_is reference_i
     let told : reference ≡ reference_in after.coded n = reference_is
     ∙ ap (λ coded. reference_in coded n) (sym laws.coded) in
     (λ i. then_also (on Pictures (frame_text (mark_is i) (picture_is i)))
-    (on Report (picture_text (number_is i) (Some (mark_is i)) (Some (told i)) (Some (letter_of x)))))
-    ∙ sym (ap (λ (plays : List (Shown Picture)). newest_texts Pictures x n (reference_in after.coded n) plays)
+    (on Report (picture_text (number_is i) (Some (mark_is i)) (Some (told i)) (Some (letter_is i)))))
+    ∙ sym (ap (λ (plays : List (Shown Picture)). newest_texts Pictures (Some (letter_of x)) n (reference_in after.coded n) plays)
     laws.plays)
 
 -- ---- two lines of the report

@@ -20,8 +20,9 @@ use Rattle.duplex_call.specs.declared.line.Party.TheVariants.{A, B}
 use Rattle.duplex_ends.specs.Pair.{IsNewParty}
 use Rattle.duplex_command.specs.declared.heads.Heads.{Heads}
 use Rattle.duplex_command.specs.declared.talk.Talk.{Talk}
-use Rattle.duplex_command.specs.Duplex.{DuplexState, duplex_step, duplex_at_start, most_turns}
+use Rattle.duplex_command.specs.Duplex.{DuplexState, duplex_step, duplex_at_start}
 use Rattle.duplex_command.specs.Standing.{DuplexOpens}
+use Rattle.call_command.specs.Call.{most_lines}
 
 -- the parameters of each party, with the format of its video
 abbrev pub in_formats : Params → Format → Format → Party → Params
@@ -53,7 +54,7 @@ duplex_begin p inputs = heads_step p inputs (head_of (inputs Video)) (head_of (i
 
 -- all that a call of two parties makes of its inputs
 abbrev pub duplex_run : Params → (Role → List ℕ) → Run
-duplex_run p inputs = run_from (duplex_begin p inputs) duplex_step most_turns inputs
+duplex_run p inputs = run_from (duplex_begin p inputs) duplex_step most_lines inputs
 
 -- ---- what is ready then
 

@@ -2,24 +2,20 @@
 use Rattle.std.specs.Prelude.{ℕ, ◌+◌, ◌-◌, Bool, false, not, nat_lt, codes, List, [], ◌∷◌, length, Option, Some, None, Result, Ok, Err, if◌then◌else◌}
 use Rattle.h263_types.specs.declared.params.Params.{Params}
 use Rattle.h263_planes.specs.Layout.{picture_of}
-use Rattle.h263_planes.specs.Picture.{Picture}
 use Rattle.h263_outside.specs.declared.desk.Role.{Role}
 use Rattle.h263_outside.specs.declared.desk.Role.TheVariants.{Video, Events, Pictures, Report, Video2, Pictures2}
 use Rattle.y4m.specs.declared.fault.Y4mFault.{Y4mFault}
 use Rattle.y4m.specs.Frame.{next_frame, frame_size}
-use Rattle.y4m.specs.Text.{frame_text}
 use Rattle.loss_trace.specs.declared.event.Event.{Event as Line}
 use Rattle.loss_trace.specs.declared.event.Event.TheVariants as says
 use Rattle.loss_trace.specs.declared.fault.TraceFault.TheVariants.{BadLine, TooMany, NoFrame}
 use Rattle.loss_trace.specs.Lines.{first_line, is_closed}
 use Rattle.call_report.specs.declared.status.Status.{Status}
 use Rattle.call_report.specs.declared.status.Status.TheVariants.{Ok as Fine, VideoRefused, Video2Refused}
-use Rattle.call_report.specs.Text.{Text, picture_text}
-use Rattle.call_model.specs.Coding.{Shown}
+use Rattle.call_report.specs.Text.{Text}
 use Rattle.call_model.specs.IdealCall.{Event, Send, Deliver, Play, Back}
 use Rattle.call_model.specs.Refusals.{Refusal}
 use Rattle.call_encoding.specs.Frames.{Frame}
-use Rattle.receiver_end.specs.Answers.{mark_of}
 use Rattle.desk_program.specs.Run.{End, Step, video_refusal}
 use Rattle.desk_program.specs.Run.Step.{Goes, Ends}
 use Rattle.desk_program.specs.Texts.{no_texts, on, then_also, of, and_of}
@@ -30,9 +26,9 @@ use Rattle.duplex_call.specs.Duplex.{WayRuns, no_runs, with_capture, with_delive
 use Rattle.duplex_call.specs.Lines.{party_event}
 use Rattle.duplex_call.specs.Refused.{refusal_of}
 use Rattle.call_command.specs.Counts.{call_text_of}
+use Rattle.call_command.specs.Rows.{newest_texts}
 use Rattle.duplex_ends.specs.Ways.{call_in, sides, with_whole}
-use Rattle.call_command.specs.Call.{bad_line, line_size, line_turn, refused_line}
-use Rattle.call_command.specs.Refused.{fault_told}
+use Rattle.call_command.specs.Call.{bad_line, line_size, line_turn, refused_line, unless_refused}
 
 -- where a party's video stands: the byte of its next frame, and how many frames may still come
 pub record VideoPlace : Type 0 where
@@ -84,21 +80,10 @@ seen_of x s = in_call (call_in s.params x s.ways)
 
 -- ---- texts
 
--- the picture n of a party that was shown with its mark, and the line that tells its reference
--- besides
-abbrev pub shown_texts : Role → Party → ℕ → Option ℕ → Shown Picture → Role → List ℕ
-shown_texts pictures x n reference shown =
-    then_also (on pictures (frame_text (mark_of shown.mark) shown.picture))
-    (on Report (picture_text n (Some (mark_of shown.mark)) (Some reference) (Some (letter_of x))))
-
--- those of the newest play
-abbrev pub newest_texts : Role → Party → ℕ → Option ℕ → List (Shown Picture) → Role → List ℕ
-newest_texts _ x n reference [] = no_texts
-newest_texts pictures x n reference (shown ∷ plays) = shown_texts pictures x n reference shown
-
 -- what is written where picture n of the party was played
-abbrev pub play_texts : Role → Party → Seen → ℕ → Role → List ℕ
-play_texts pictures x seen n = newest_texts pictures x n (reference_in seen.coded n) seen.plays
+abbrev pub party_play_texts : Role → Party → Seen → ℕ → Role → List ℕ
+party_play_texts pictures x seen n =
+    newest_texts pictures (Some (letter_of x)) n (reference_in seen.coded n) seen.plays
 
 -- the line of a party's counts
 abbrev pub played_word : Party → Text
@@ -121,12 +106,6 @@ both_played s = record { status = Fine; taken = λ _. Some 0; texts = both_count
 -- after the line
 abbrev pub after_party_line : DuplexState → List ℕ → DuplexState
 after_party_line s trace = record s { lines = s.lines + 1; ended = not (is_closed trace) }
-
--- the line says this event, which is refused or has its step
-abbrev pub unless_refused : DuplexState → List ℕ → Event → Option Refusal
-    → Step DuplexState → Step DuplexState
-unless_refused s trace e None step = step
-unless_refused s trace e (Some refusal) step = Ends (refused_line trace (fault_told (s.lines + 1) e refusal))
 
 -- a line that reads and writes nothing else: both ways are then these
 abbrev pub quiet_party_step : DuplexState → List ℕ → WayRuns Frame → Step DuplexState
@@ -176,22 +155,22 @@ module _ (video pictures : Role) (refuses : Y4mFault → Status) (x : Party) (s 
   abbrev pub play_step : Step DuplexState
   play_step =
       Goes (after_party_line (with_next x s) trace)
-      (line_turn trace (play_texts pictures x (seen_of x (with_next x s)) (seen_of x s).played))
+      (line_turn trace (party_play_texts pictures x (seen_of x (with_next x s)) (seen_of x s).played))
 
   -- a party's line says neither nothing nor that a message comes back
   abbrev pub party_event_step : (Role → List ℕ) → Line → Step DuplexState
   party_event_step inputs says.Nothing = quiet_party_step s trace s.ways
   party_event_step inputs says.Send =
-      unless_refused s trace Send (party_refusal x s Send) (party_capture_step (inputs video))
+      unless_refused (s.lines + 1) trace Send (party_refusal x s Send) (party_capture_step (inputs video))
   party_event_step inputs (says.Packet n j) =
-      unless_refused s trace (Deliver n j) (party_refusal x s (Deliver n j))
+      unless_refused (s.lines + 1) trace (Deliver n j) (party_refusal x s (Deliver n j))
       (quiet_party_step s trace (with_delivery (sides s.params) x n j s.ways))
   party_event_step inputs (says.All n) =
-      unless_refused s trace (Deliver n 0) (party_refusal x s (Deliver n 0))
+      unless_refused (s.lines + 1) trace (Deliver n 0) (party_refusal x s (Deliver n 0))
       (quiet_party_step s trace (with_whole s.params x n s.ways))
   party_event_step inputs (says.Back k) =
-      unless_refused s trace (Back k) (party_refusal x s (Back k)) (quiet_party_step s trace s.ways)
-  party_event_step inputs says.Play = unless_refused s trace Play (party_refusal x s Play) play_step
+      unless_refused (s.lines + 1) trace (Back k) (party_refusal x s (Back k)) (quiet_party_step s trace s.ways)
+  party_event_step inputs says.Play = unless_refused (s.lines + 1) trace Play (party_refusal x s Play) play_step
 
 -- what a party's line says is done
 abbrev pub party_step : Party → DuplexState → (Role → List ℕ) → Line → Step DuplexState
@@ -221,10 +200,6 @@ duplex_step s inputs = duplex_trace_step s inputs (inputs Events)
 -- it may still read: the last line had its newline
 abbrev pub talk_may_read : DuplexState → Bool
 talk_may_read s = not s.ended
-
--- how many turns there may be at most
-abbrev pub most_turns : ℕ
-most_turns = 16777216
 
 -- before the first line, where the videos' first frames are at these bytes
 abbrev pub duplex_at_start : (Party → Params) → ℕ → ℕ → DuplexState

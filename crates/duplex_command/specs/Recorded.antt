@@ -20,14 +20,14 @@ use Rattle.call_report.specs.declared.status.Status.TheVariants.{TraceRefused}
 use Rattle.call_report.specs.Text.{Text, picture_text}
 use Rattle.call_model.specs.Coding.{Shown}
 use Rattle.call_model.specs.CodedPictures.{Coded}
-use Rattle.call_model.specs.IdealCall.{Call, Event, Send, Deliver, Play, Back, slices_at}
+use Rattle.call_model.specs.IdealCall.{Back, Call, Deliver, Event, Play, Send, encoded, slices_at}
 use Rattle.call_model.specs.Refusals.{NoFrame, Refusal}
 use Rattle.call_decoding.specs.Styles.{Style}
 use Rattle.call_encoding.specs.Frames.{Frame}
 use Rattle.receiver_end.specs.Answers.{mark_of}
 use Rattle.desk_program.specs.Run.{Run, text_of}
 use Rattle.one_way.specs.Seen.{reference_in}
-use Rattle.call_command.specs.Recorded.{ShowsWhatArrived, read_out, shown_text, told}
+use Rattle.call_command.specs.Recorded.{ShowsWhatArrived, shown_text, trace_read_out}
 use Rattle.call_command.specs.Refused.{fault_told}
 use Rattle.duplex_call.specs.declared.line.Party.{Party}
 use Rattle.duplex_call.specs.Duplex.{AllMayHappenOf, MayHappenOf, Lettered, WayRuns, other, way, ways_after}
@@ -35,6 +35,10 @@ use Rattle.duplex_call.specs.Lines.{party_event}
 use Rattle.duplex_call.specs.Refused.{refusal_of}
 use Rattle.duplex_ends.specs.Ways.{call_in, sides}
 use Rattle.duplex_command.specs.Duplex.{both_counts, letter_of, pictures_role, refused_party_video, video_of}
+use Rattle.desk_program.specs.Texts.{only_at_ok}
+use Rattle.coded_call.specs.Coding.{coding}
+use Rattle.call_decoding.specs.Rules.{rules_of}
+use Rattle.one_way.specs.Both.{steady}
 
 -- the pictures of each party's video, as they are captured
 abbrev pub party_film : (Party → Params) → (Role → List ℕ) → Party → List Picture
@@ -168,9 +172,11 @@ module _ (p : Party → Params) (captures : Party → List Picture) where
     pub near : AllMayHappenOf (sides p) captures past
     pub pictures : (x : Party)
         → text_of run (pictures_role x) ≡ head_text (p x).format ++ shown_text (party_call_after x past).plays
-    pub report : text_of run Report ≡ told_lines past ++ told run.last.status (both_counts p (ways_of past) Report)
+    pub report : text_of run Report ≡ told_lines past ++ only_at_ok run.last.status (both_counts p (ways_of past) Report)
     pub arrived : (x : Party)
-        → ShowsWhatArrived (p x) (way x (ways_of past)).frames (way x (ways_of past)).past
+        → ShowsWhatArrived (p x)
+        (encoded (coding (p x)) (rules_of (p x)) (steady (p x)) (way x (ways_of past)).frames)
+        (way x (ways_of past)).past
 
   -- ---- its end
 
@@ -199,7 +205,7 @@ module _ (p : Party → Params) (captures : Party → List Picture) where
   -- is none, the trace is read out, up to its first fault
   abbrev pub AreCallsEnded : (Party → Option Y4mFault) → Option TraceFault → ℕ → List Lettered → List LineEvent
       → Status → Type 0
-  AreCallsEnded broken fault number past [] status = status ≡ read_out fault
+  AreCallsEnded broken fault number past [] status = status ≡ trace_read_out fault
   AreCallsEnded broken fault number past (None ∷ lines) status = ⊥
   AreCallsEnded broken fault number past (Some said ∷ lines) status = IsRefusedPartyLine broken number past said.0 said.1 status
 

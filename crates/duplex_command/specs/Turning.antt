@@ -1,29 +1,25 @@
 -- What a turn of a party does, by what it answers, on a desk where it is the first party.
 use Rattle.std.specs.Prelude.{◌≡◌, ℕ, ◌+◌, Bool, true, List, [], Some, None, Result, IfErr}
-use Rattle.h263_planes.specs.Picture.{Picture}
 use Rattle.h263_outside.specs.Desk.{Outside}
 use Rattle.h263_outside.specs.declared.desk.Role.{Role}
 use Rattle.h263_outside.specs.declared.desk.Role.TheVariants.{Video, Events, Pictures, Report}
-use Rattle.y4m.specs.Text.{frame_text}
 use Rattle.y4m.specs.declared.fault.Y4mFault.{Y4mFault}
 use Rattle.loss_trace.specs.Place.{TracePlace}
 use Rattle.call_report.specs.declared.status.Status.{Status}
 use Rattle.call_report.specs.declared.status.Status.TheVariants.{VideoRefused}
-use Rattle.call_report.specs.Text.{picture_text}
 use Rattle.call_model.specs.IdealCall.{Send}
 use Rattle.desk_program.specs.Run.{Step, left_after}
 use Rattle.desk_program.specs.Ends.{Falls, HasCause, IsStop, KeepsRoles, OnEnd, OnGoing, Tells, TurnGives, turn_status}
-use Rattle.desk_program.specs.Texts.{of, on, then_also}
+use Rattle.desk_program.specs.Texts.{of}
 use Rattle.call_command.specs.Call.{line_size}
 use Rattle.call_command.specs.Standing.{HasTaken}
 use Rattle.duplex_call.specs.declared.line.Party.{Party}
 use Rattle.duplex_call.specs.declared.line.Party.TheVariants.{A}
 use Rattle.duplex_ends.specs.Pair.{MayHappenNow}
 use Rattle.duplex_command.specs.declared.event.TraceLine.{TraceLine}
-use Rattle.duplex_command.specs.declared.show.Row.{Row}
 use Rattle.duplex_command.specs.declared.station.Station.{Station}
 use Rattle.duplex_command.specs.declared.talk.Talk.{Talk}
-use Rattle.duplex_command.specs.Duplex.{DuplexState, after_party_line, party_capture_step, duplex_step, party_event_step, letter_of, talk_may_read, party_step, party_refusal}
+use Rattle.duplex_command.specs.Duplex.{DuplexState, after_party_line, party_capture_step, duplex_step, party_event_step, talk_may_read, party_step, party_refusal}
 use Rattle.duplex_command.specs.Standing.{StationsReady, StationsStand, TalkReady, TalkStands, talk_lines_left}
 
 -- what is left of the trace after its first line
@@ -92,15 +88,6 @@ TakesPartyFrame x own far own_new line result mid new room =
     IsPartyTurn x own_new far result mid new room
     (λ trace. IsPartyAsked x own far line trace mid)
     (λ s inputs. party_capture_step Video Pictures VideoRefused x s (inputs Events) (inputs Video))
-
--- ---- texts
-
--- the picture that is shown, and its line
-abbrev pub row_texts : Row → Picture → Role → List ℕ
-row_texts row picture =
-    then_also (on Pictures (frame_text row.mark picture))
-    (on Report
-    (picture_text row.number (Some row.mark) (Some row.reference) (Some (letter_of row.party))))
 
 -- ---- a whole turn
 

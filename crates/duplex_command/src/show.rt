@@ -3,7 +3,6 @@
 ghost use Rattle.std.specs.Prelude.{◌≡◌, ◌<◌, ◌≤◌, ◌+◌, ℕ, true, length, OnOk, OnErr, IfErr};
 ghost use Rattle.h263_outside.specs.Desk.{OnlyWrites, Rose};
 ghost use Rattle.h263_outside.specs.declared.desk.Role.TheVariants.{Pictures, Report};
-ghost use Rattle.h263_planes.specs.Lent.{picture as lent};
 ghost use Rattle.h263_types.specs.declared.params.Params.{Params};
 ghost use Rattle.call_report.specs.View.{text_of};
 ghost use Rattle.call_command.specs.Counts.{call_text_of};
@@ -17,27 +16,14 @@ ghost use Rattle.duplex_call.specs.Duplex.{MayHappenOf, WayRuns, with_play};
 ghost use Rattle.duplex_ends.specs.Keeping.{KeepsInPlay};
 ghost use Rattle.duplex_ends.specs.Pair.{AreInCall, HoldsPair, MayHappenNow};
 ghost use Rattle.duplex_ends.specs.Ways.{call_in, sides};
-ghost use Rattle.duplex_command.specs.Duplex.{both_counts, letter_of, play_texts};
-ghost use Rattle.duplex_command.specs.Turning.{row_texts};
+ghost use Rattle.duplex_command.specs.Duplex.{both_counts, letter_of, party_play_texts};
 
-use call_command::counts_line;
-use call_report::{Line, Status, picture_line};
-use desk_program::{laws as desk_program_laws, put_line, put_picture};
+use call_command::{Row, counts_line, show};
+use call_report::{Line, Status};
+use desk_program::{laws as desk_program_laws, put_line};
 use duplex_call::Party;
 use duplex_ends::{PartyEnds, laws as duplex_ends_laws, play};
-use h263_outside::{Desk, laws as outside_laws};
-use h263_planes::PictureRef;
-use h263_types::Mark;
-
-/// What is told of a picture that is shown: its party, its number, its mark, and the reference of
-/// the picture that was sent.
-#[derive(Clone, Copy)]
-pub struct Row {
-    party: Party,
-    number: u32,
-    mark: Mark,
-    reference: Option<u32>,
-}
+use h263_outside::{Desk, Role, laws as outside_laws};
 
 // The letter of a party.
 fn letter(party: Party) -> u8
@@ -48,32 +34,6 @@ fn letter(party: Party) -> u8
         Party::A => b'a',
         Party::B => b'b',
     }
-}
-
-// Writes the picture that is shown, and its line.
-fn show<D: Desk>(desk: &mut D, row: &Row, picture: PictureRef<'_>) -> Result<(), Status>
-    requires pictures { (D.outside desk.old).attached Pictures ≡ true }
-    requires report { (D.outside desk.old).attached Report ≡ true }
-    ensures ok { OnOk result (Gains (row_texts row.now (lent picture.entry))
-        (D.outside desk.old).written (D.outside desk.new).written) }
-    ensures err { OnErr result (GainsFronts (row_texts row.now (lent picture.entry))
-        (D.outside desk.old).written (D.outside desk.new).written) }
-    ensures kind { IfErr result (λ status. status ≡ Status.WriteFault) }
-    ensures cause { OnErr result (Rose (D.outside desk.old).faults.write
-        (D.outside desk.new).faults.write) }
-    ensures rest { OnlyWrites (D.outside desk.old) (D.outside desk.new) }
-{
-    outside_laws::calls();
-    desk_program_laws::turn_laws();
-    put_picture(desk, row.mark, picture)?;
-    let letter = letter(row.party);
-    let line = picture_line(
-        row.number,
-        Some(row.mark),
-        Some(row.reference),
-        Some(letter),
-    );
-    put_line(desk, &line)
 }
 
 /// Plays the party's next picture, which was sent, and writes it with its line.
@@ -93,12 +53,12 @@ pub fn play_next<D: Desk>(
         → HoldsPair p x own.new far.new (with_play (sides p) x ways) }
     ensures ok { (p : Party → Params) (ways : WayRuns Frame) (left : ℕ)
         → HoldsPair p party own.old far.old ways → MayHappenOf (sides p) left party Play ways
-        → OnOk result (Gains (play_texts Pictures party
+        → OnOk result (Gains (party_play_texts Pictures party
         (in_call (call_in p party (with_play (sides p) party ways))) (call_in p party ways).played)
         (D.outside desk.old).written (D.outside desk.new).written) }
     ensures err { (p : Party → Params) (ways : WayRuns Frame) (left : ℕ)
         → HoldsPair p party own.old far.old ways → MayHappenOf (sides p) left party Play ways
-        → OnErr result (GainsFronts (play_texts Pictures party
+        → OnErr result (GainsFronts (party_play_texts Pictures party
         (in_call (call_in p party (with_play (sides p) party ways))) (call_in p party ways).played)
         (D.outside desk.old).written (D.outside desk.new).written) }
     ensures kind { IfErr result (λ status. status ≡ Status.WriteFault) }
@@ -111,7 +71,8 @@ pub fn play_next<D: Desk>(
     let reference = own.reference_of_next();
     let played = play(own, far);
     let row = Row {
-        party,
+        role: Role::Pictures,
+        letter: Some(letter(party)),
         number: played.number,
         mark: played.mark,
         reference,

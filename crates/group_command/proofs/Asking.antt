@@ -21,25 +21,26 @@ use Rattle.group_call.specs.Holding.{HoldsBroadcast}
 use Rattle.group_call.specs.Viewing.{ViewerRun}
 use Rattle.group_command.specs.declared.line.GroupLine.TheVariants.{ForAll}
 use Rattle.group_command.specs.declared.room.Room.{Room}
-use Rattle.group_command.specs.Group.{GroupState, group_capture_step, first_behind, group_line_step, room_may_read, unless_refused}
+use Rattle.group_command.specs.Group.{GroupState, group_capture_step, first_behind, group_line_step, room_may_read}
 use Rattle.group_command.specs.Standing.{AllWatch, RoomStandsAt, viewers_in}
 use Rattle.group_command.specs.Turning.{IsGroupRead, TakesGroupFrame, TakesGroupLine}
 use Rattle.group_command.proofs.Doing.{none_so}
 use Rattle.group_command.proofs.LineTurning.{line_refused}
 use Rattle.group_command.proofs.LineTurns.{gave_up}
+use Rattle.call_command.specs.Call.{unless_refused}
 
 -- a refusal of an event that a line says ends it
 pub event_refused : (m : Room) (line : ℕ) (now old : Outside) (s : GroupState) (inputs : Role → List ℕ)
     → IsGroupRead m line now old s inputs → LineLaws
     → (told : Told) (e : Event) (refusal : Option Refusal) (step : Step GroupState)
     → IsAllowed (Err told) e refusal
-    → Ended (unless_refused s (inputs Events) e refusal step) (TraceRefused (fault_on_line line told)) inputs old now
+    → Ended (unless_refused (s.lines + 1) (inputs Events) e refusal step) (TraceRefused (fault_on_line line told)) inputs old now
 event_refused m line now old s inputs b laws told e refusal step refused =
     let told_so = refused.2 in
     line_refused s inputs old now b.taken laws (TraceRefused (fault_on_line line told)) (fault_told (s.lines + 1) e refused.0)
     _
     (λ i. TraceRefused (fault_on_line (b.number i) (told_so i)))
-    (ap (λ (o : Option Refusal). unless_refused s (inputs Events) e o step) refused.1)
+    (ap (λ (o : Option Refusal). unless_refused (s.lines + 1) (inputs Events) e o step) refused.1)
 
 module _ (m : Room) (line : ℕ) (now : Outside) where
   -- what is said of a capture, where the machine stands
@@ -74,7 +75,7 @@ module _ (m : Room) (line : ℕ) (now : Outside) where
         let none : first_behind s.params s.run s.views
         ≡ None = none_so checked Send (first_behind s.params s.run s.views) free (says old s inputs b) in
         subst (λ (step : Step GroupState). TurnGives r step (RoomStandsAt m_new) room_may_read true inputs old new)
-        (sym (ap (λ (o : Option Refusal). unless_refused s (inputs Events) Send o
+        (sym (ap (λ (o : Option Refusal). unless_refused (s.lines + 1) (inputs Events) Send o
         (group_capture_step s (inputs Events) (inputs Video))) none))
         (t.gives old s inputs (record { read = b; none = none }));
     goes_on = t.goes_on;

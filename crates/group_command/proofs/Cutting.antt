@@ -13,13 +13,13 @@ use Rattle.desk_program.specs.Ends.{IsPart, step_turns}
 use Rattle.desk_program.specs.Texts.{of}
 use Rattle.call_model.specs.IdealCall.{Event, Send}
 use Rattle.call_model.specs.Refusals.{Refusal}
-use Rattle.call_command.specs.Call.{bad_line, line_size}
+use Rattle.call_command.specs.Call.{bad_line, line_size, unless_refused}
 use Rattle.call_command.specs.Laws.{LineLaws, CoversLine}
 use Rattle.group_call.specs.Refused.{view_refusal}
 use Rattle.group_command.specs.declared.line.GroupLine.{GroupLine}
 use Rattle.group_command.specs.declared.line.GroupLine.TheVariants.{Quiet, ForAll, Of}
 use Rattle.group_command.specs.Lines.{group_line}
-use Rattle.group_command.specs.Group.{GroupState, group_capture_step, group_captured_step, event_of, first_behind, group_line_step, group_trace_step, unless_refused, view_in}
+use Rattle.group_command.specs.Group.{GroupState, group_capture_step, group_captured_step, event_of, first_behind, group_line_step, group_trace_step, view_in}
 
 abbrev IsLineTurn : List ℕ → Step GroupState → Type 0
 IsLineTurn trace step = CoversLine trace (step_turns step)
@@ -32,7 +32,7 @@ more_size n m = omega arith
 
 module _ (s : GroupState) (trace : List ℕ) where
   turn_unless : (e : Event) (o : Option Refusal) (step : Step GroupState) → IsLineTurn trace step
-      → IsLineTurn trace (unless_refused s trace e o step)
+      → IsLineTurn trace (unless_refused (s.lines + 1) trace e o step)
   turn_unless e None step is = is
   turn_unless e (Some r) step is = tt
 

@@ -18,8 +18,9 @@ use Rattle.group_call.specs.Refused.{view_refusal}
 use Rattle.group_command.specs.declared.line.GroupLine.{GroupLine}
 use Rattle.group_command.specs.declared.line.GroupLine.TheVariants.{Quiet, ForAll, Of}
 use Rattle.group_command.specs.declared.terms.GroupTerms.{GroupTerms}
-use Rattle.group_command.specs.Group.{GroupState, group_capture_step, group_captured_step, event_of, first_behind, group_call_run, group_step, group_head_step, group_line_step, most_turns, group_trace_step, unless_refused, view_in}
+use Rattle.group_command.specs.Group.{GroupState, group_capture_step, group_captured_step, event_of, first_behind, group_call_run, group_step, group_head_step, group_line_step, group_trace_step, view_in}
 use Rattle.group_command.specs.Lines.{group_line}
+use Rattle.call_command.specs.Call.{most_lines, unless_refused}
 
 first_is : (a b : Y4mFault) → VideoRefused a ≡ VideoRefused b → a ≡ b
 first_is a b is = cc is
@@ -57,7 +58,7 @@ module _ (frame_laws : FrameLaws) (fault : Y4mFault) where
     Refuses step = (follow step rest).last.status ≡ VideoRefused fault
 
     at_end : (e : Event) (o : Option Refusal) (step : Step GroupState) → (Refuses step → IsFaulty s inputs)
-        → Refuses (unless_refused s (inputs Events) e o step) → IsFaulty s inputs
+        → Refuses (unless_refused (s.lines + 1) (inputs Events) e o step) → IsFaulty s inputs
     at_end e None step goes ends = goes ends
     at_end e (Some refusal) step goes ends = absurd (cc ends)
 
@@ -108,11 +109,11 @@ module _ (frame_laws : FrameLaws) (fault : Y4mFault) where
   video_refused t inputs ends = by_head (head_of (inputs Video)) ends
     where
       by_head : (r : Result Format Y4mFault)
-          → (follow (group_head_step t (inputs Video) r) (λ next taken. run_of group_step most_turns next
+          → (follow (group_head_step t (inputs Video) r) (λ next taken. run_of group_step most_lines next
           (left_after inputs taken))).last.status ≡ VideoRefused fault
           → fault_after_head r (head_size (inputs Video)) (drop (head_size (inputs Video)) (inputs Video)) ≡ Some fault
       by_head (Err broken) ends = ap (λ (x : Y4mFault). Some x) (first_is broken fault ends)
-      by_head (Ok f) ends = run_refused most_turns _ (left_after inputs (of Video (head_size (inputs Video)))) ends
+      by_head (Ok f) ends = run_refused most_lines _ (left_after inputs (of Video (head_size (inputs Video)))) ends
 
 module _ (fault : Y4mFault) where
   module _ (s : GroupState) (inputs : Role → List ℕ) (rest : GroupState → (Role → ℕ) → Run)
@@ -121,7 +122,7 @@ module _ (fault : Y4mFault) where
     Second step = (follow step rest).last.status ≡ Video2Refused fault
 
     second_unless : (e : Event) (o : Option Refusal) (step : Step GroupState) → (Second step → ⊥)
-        → Second (unless_refused s (inputs Events) e o step) → ⊥
+        → Second (unless_refused (s.lines + 1) (inputs Events) e o step) → ⊥
     second_unless e None step goes ends = goes ends
     second_unless e (Some refusal) step goes ends = absurd (cc ends)
 
@@ -163,7 +164,7 @@ module _ (fault : Y4mFault) where
   no_second t inputs ends = by_head (head_of (inputs Video)) ends
     where
       by_head : (r : Result Format Y4mFault)
-          → (follow (group_head_step t (inputs Video) r) (λ next taken. run_of group_step most_turns next
+          → (follow (group_head_step t (inputs Video) r) (λ next taken. run_of group_step most_lines next
           (left_after inputs taken))).last.status ≡ Video2Refused fault → ⊥
-      by_head (Ok f) ends = run_has_one most_turns _ _ ends
+      by_head (Ok f) ends = run_has_one most_lines _ _ ends
       by_head (Err broken) ends = absurd (cc ends)

@@ -14,12 +14,12 @@ use Rattle.y4m.specs.Head.{head_of, head_size}
 use Rattle.y4m.specs.Laws.{FrameLaws}
 use Rattle.y4m.specs.Text.{head_text}
 use Rattle.y4m.specs.Video.{fault_after_head, fault_of, frames_after_head, frames_of, video_fault, video_frames}
-use Rattle.call_model.specs.Before.{ArrivedByEvents, CountsByEvents, ExactByEvents, Sends, ShownByEvents}
+use Rattle.call_model.specs.Before.{Sends}
 use Rattle.call_model.specs.Coding.{pictures_of}
 use Rattle.call_model.specs.CodedPictures.{Coded, picture_at}
-use Rattle.call_model.specs.Numbers.{AllBelowIs}
+use Rattle.call_model.specs.IdealCall.{AllMayHappenFrom, Event, Source}
 use Rattle.call_command.specs.Call.{line_size}
-use Rattle.call_command.specs.Recorded.{film}
+use Rattle.call_command.specs.Recorded.{ShowsWhatArrived, film}
 use Rattle.call_decoding.specs.Rules.{rules_of}
 use Rattle.call_decoding.specs.Styles.{Style}
 use Rattle.call_encoding.specs.Frames.{Frame}
@@ -29,8 +29,7 @@ use Rattle.desk_program.specs.Texts.{of}
 use Rattle.group_call.specs.Viewing.{no_view}
 use Rattle.group_command.specs.declared.terms.GroupTerms.{GroupTerms}
 use Rattle.group_command.specs.Group.{GroupState, group_at_start, group_call_run, group_step, group_head_step, viewers_heads, pictures_at, view_in}
-use Rattle.group_command.specs.Recorded.{GroupFollowsItsTrace, Happening, IsGroupEnd, ShowsWhatReached, call_with, events_at, group_at, lines_fault, group_lines, one_by_one, with_all_said}
-use Rattle.group_command.proofs.Arriving.{exact_is, shows_is}
+use Rattle.group_command.specs.Recorded.{GroupFollowsItsTrace, Happening, IsGroupEnd, ShowsWhatReached, events_at, group_at, lines_fault, group_lines, one_by_one, with_all_said}
 use Rattle.group_command.proofs.Lives as life
 use Rattle.group_command.proofs.Lived.{all_start}
 use Rattle.group_command.proofs.Recorded.{Comes, RunLaws, in_places, run_comes}
@@ -47,17 +46,11 @@ unfolding video_fault
 fault_is video f is = ap (λ (r : Result Format Y4mFault). fault_after_head r (head_size video)
     (drop (head_size video) video)) is
 
--- what the laws say of an ideal call by its events
-pub record EventLaws (p : Params) : Type 0 where
-  pub counts : (coded : List (Coded Style Mb Picture)) → CountsByEvents (pictures_of (coding p)) (rules_of p)
-      (one_by_one coded)
-  pub arrived : (coded : List (Coded Style Mb Picture)) → ArrivedByEvents (pictures_of (coding p)) (rules_of p)
-      (one_by_one coded)
-  pub exact : (coded : List (Coded Style Mb Picture)) → ExactByEvents (pictures_of (coding p)) (rules_of p)
-      (one_by_one coded)
-  pub stays : (coded : List (Coded Style Mb Picture)) → ShownByEvents (pictures_of (coding p)) (rules_of p)
-      (one_by_one coded)
-  pub below : AllBelowIs
+-- what arrived of a call that sends these pictures is shown
+abbrev Arrived : Params → Type 0
+Arrived p =
+    (source : Source Style Mb Picture) (left : ℕ) (past : List Event) → Sends source left
+    → AllMayHappenFrom (pictures_of (coding p)) (rules_of p) source left past → ShowsWhatArrived p source past
 
 -- there is a picture for each capture
 sends_all : (coded : List (Coded Style Mb Picture)) → Sends (one_by_one coded) (length coded)
@@ -98,7 +91,7 @@ module _ (t : GroupTerms) (f : Format) (inputs : Role → List ℕ) where
   abbrev broken : Option Y4mFault
   broken = video_fault (inputs Video)
 
-  module _ (laws : RunLaws p) (events : EventLaws p) (frame_laws : FrameLaws) (some : 1 ≤ t.receivers)
+  module _ (laws : RunLaws p) (arrived : Arrived p) (frame_laws : FrameLaws) (some : 1 ≤ t.receivers)
       (few : t.receivers ≤ 3) (head : head_of (inputs Video) ≡ Ok f) where
     abbrev rest : GroupState → (Role → ℕ) → Run
     rest next taken = run_of group_step 16777216 next (left_after inputs taken)
@@ -148,14 +141,10 @@ module _ (t : GroupTerms) (f : Format) (inputs : Role → List ℕ) where
         let happened = events_at k past in
         let near = life.near_now p laws.groups.views k (group_at p count frames past) happened
         (view_in comes.views k) (lives k below) in
-        let c = call_with p coded happened in
+        let all = arrived (one_by_one coded) (length coded) happened (sends_all coded) near in
         record {
-          exact = exact_is (pictures_of (coding p)) (rules_of p) (one_by_one coded) (length coded) (sends_all coded)
-              (events.counts coded) (events.arrived coded) (events.exact coded) (events.stays coded) events.below
-              happened near;
-          shows = λ n lower all. shows_is (pictures_of (coding p)) (rules_of p) (one_by_one coded) (length coded)
-              (sends_all coded) (events.counts coded) (events.arrived coded) (events.exact coded) (events.stays coded)
-              events.below happened near n lower all
+          exact = all.exact;
+          shows = λ n lower reached. all.shows n lower reached
               ∙ ap (λ (l : List (Coded Style Mb Picture)). picture_at l n) (lives k below).own;
         }
 

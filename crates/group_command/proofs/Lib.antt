@@ -15,7 +15,6 @@ pub mod Asking
 pub mod Owning
 pub mod RoomTurning
 pub mod FaultOfVideo
-pub mod Arriving
 pub mod Lives
 pub mod Meeting
 pub mod Referring

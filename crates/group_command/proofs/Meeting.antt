@@ -31,7 +31,8 @@ use Rattle.one_way.specs.Seen.{reference_in}
 use Rattle.group_sender.specs.Holding.{Groups, group_after_saying}
 use Rattle.group_call.specs.Refused.{unless_left, view_refusal}
 use Rattle.group_call.specs.Viewing.{ViewerRun, packets_in}
-use Rattle.group_command.specs.Group.{counts_of_view, group_heard, pictures_at, played_texts, shown_texts}
+use Rattle.call_command.specs.Rows.{shown_texts}
+use Rattle.group_command.specs.Group.{counts_of_view, group_heard, pictures_at, played_texts}
 use Rattle.group_command.specs.Recorded.{after_note, call_with, counts_line, if_own, next_shown}
 use Rattle.group_command.proofs.Lives as life
 use Rattle.group_command.proofs.Lives.{Lives, ViewLaws}
@@ -73,7 +74,7 @@ abbrev pub if_shown : Bool → Shown Picture → Text
 if_shown b shown = if b then frame_text (mark_of shown.mark) shown.picture else []
 
 pub pictures_texts : (k j n : ℕ) (reference : Option ℕ) (shown : Shown Picture) → k < 3 → j < 3
-    → shown_texts k n reference shown (pictures_at j) ≡ if_shown (eqb k j) shown
+    → shown_texts (pictures_at k) (Some (49 + k)) n reference shown (pictures_at j) ≡ if_shown (eqb k j) shown
 pictures_texts zero zero n r shown low lower = append-nil _
 pictures_texts zero (suc zero) n r shown low lower = refl
 pictures_texts zero (suc (suc zero)) n r shown low lower = refl
@@ -87,7 +88,7 @@ pictures_texts (suc (suc (suc k))) j n r shown low lower = absurd (omega (arith,
 pictures_texts k (suc (suc (suc j))) n r shown low lower = absurd (omega (arith, lower))
 
 pub report_texts : (k n : ℕ) (reference : Option ℕ) (shown : Shown Picture)
-    → shown_texts k n reference shown Report
+    → shown_texts (pictures_at k) (Some (49 + k)) n reference shown Report
     ≡ picture_text n (Some (mark_of shown.mark)) (Some reference) (Some (49 + k))
 report_texts zero n r shown = refl
 report_texts (suc zero) n r shown = refl
@@ -189,13 +190,13 @@ module _ (p : Params) (laws : ViewLaws p) (k : ℕ) (run : Groups) (events : Lis
       ∙ note_heard p k m run c.said
 
   pub texts_are : played < length run.coded → (place : ℕ)
-      → played_texts p place run view ≡ shown_texts place c.played (reference_in c.coded c.played) (next_shown p c)
+      → played_texts p place run view ≡ shown_texts (pictures_at place) (Some (49 + place)) c.played (reference_in c.coded c.played) (next_shown p c)
   texts_are some place =
       let may : c.played < length c.coded = omega (arith, some, played_is, coded_is) in
       let shown = (life.follows p laws k run events view l).shows may in
       let plays = played_is in
       let own = sym l.own in
-      λ i. shown_texts place (plays i) (reference_in (own i) (plays i)) (shown i)
+      λ i. shown_texts (pictures_at place) (Some (49 + place)) (plays i) (reference_in (own i) (plays i)) (shown i)
 
   pub counts_are : (place : ℕ) → counts_of_view p run place view ≡ counts_line place c
   counts_are place =

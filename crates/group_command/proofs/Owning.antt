@@ -26,10 +26,11 @@ use Rattle.group_call.specs.Viewing.{ViewerRun}
 use Rattle.group_command.specs.declared.event.OwnLine.{OwnLine}
 use Rattle.group_command.specs.declared.room.Room.{Room}
 use Rattle.group_command.specs.declared.viewers.Viewers.{Viewers}
-use Rattle.group_command.specs.Group.{GroupState, event_of, room_may_read, own_step, quiet_group_step, texts_after, unless_refused, view_in, with_own_event}
+use Rattle.group_command.specs.Group.{GroupState, event_of, room_may_read, own_step, quiet_group_step, texts_after, view_in, with_own_event}
 use Rattle.group_command.specs.Standing.{AllWatch, AreViewing, GroupOpens, RoomReady, RoomStandsAt, and_then, viewers_in}
 use Rattle.group_command.specs.Turning.{HasLine, IsGroupRead, KeepsCast, MayTake, OwnGives}
 use Rattle.group_command.proofs.LineTurning.{line_goes, line_refused}
+use Rattle.call_command.specs.Call.{unless_refused}
 
 few_half : (clock : Clock) → half_of clock ≤ 512
 few_half Standard = omega arith
@@ -117,11 +118,11 @@ module _ (m : Room) (said : OwnLine) (mid old new : Outside) (s : GroupState) (i
       subst (λ (z : Status). GivesUp (phase z) z step true inputs old new) (sym told_so)
       (line_refused s inputs old new taken laws (TraceRefused (fault_told (s.lines + 1) e r)) (fault_told (s.lines + 1) e r)
       step refl
-      (ap (λ (o : Option Refusal). unless_refused s trace e o (quiet_group_step trace texts (with_own_event s said.place said.event))) is))
+      (ap (λ (o : Option Refusal). unless_refused (s.lines + 1) trace e o (quiet_group_step trace texts (with_own_event s said.place said.event))) is))
   own_gave_up cast viewers status (inr (none, kind, fronts)) =
       subst (λ (z : Status). GivesUp (phase z) z step true inputs old new) (sym kind)
       (subst (λ (x : Step GroupState). GainsFronts (step_texts x) old.written new.written)
-      (sym (ap (λ (o : Option Refusal). unless_refused s trace e o
+      (sym (ap (λ (o : Option Refusal). unless_refused (s.lines + 1) trace e o
       (quiet_group_step trace texts (with_own_event s said.place said.event))) none))
       (subst (λ (w : Role → Option (List ℕ)). GainsFronts texts w new.written) b.taken.written fronts))
 
@@ -131,7 +132,7 @@ module _ (m : Room) (said : OwnLine) (mid old new : Outside) (s : GroupState) (i
       let stood = b.stood in
       line_goes s inputs old mid b.taken (with_own_event s said.place said.event) texts step
       (RoomStandsAt (record m { cast = cast; viewers = viewers }))
-      (ap (λ (o : Option Refusal). unless_refused s trace e o (quiet_group_step trace texts (with_own_event s said.place said.event))) none)
+      (ap (λ (o : Option Refusal). unless_refused (s.lines + 1) trace e o (quiet_group_step trace texts (with_own_event s said.place said.event))) none)
       (record {
         params = stood.params;
         place = stood.place;

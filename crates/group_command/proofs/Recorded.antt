@@ -28,11 +28,11 @@ use Rattle.call_encoding.specs.Frames.{Frame}
 use Rattle.receiver_end.specs.State as receiver_end
 use Rattle.desk_program.specs.Run.{Run, Step, Turn, left_after, follow, run_of, silence, taken_of, text_of, texts_of}
 use Rattle.desk_program.specs.Run.Step.{Ends}
-use Rattle.desk_program.specs.Texts.{and_of, no_texts, of, on}
+use Rattle.desk_program.specs.Texts.{and_of, no_texts, of, on, only_at_ok}
 use Rattle.one_way.specs.Both.{bare, steady}
 use Rattle.one_way.specs.Seen.{reference_in}
-use Rattle.call_command.specs.Call.{bad_line, line_size, line_turn}
-use Rattle.call_command.specs.Recorded.{capture_told, film, shown_text, told}
+use Rattle.call_command.specs.Call.{bad_line, line_size, line_turn, unless_refused}
+use Rattle.call_command.specs.Recorded.{capture_told, film, shown_text}
 use Rattle.call_command.specs.Refused.{fault_told}
 use Rattle.group_sender.specs.Holding.{Groups, group_after_code}
 use Rattle.group_call.specs.One.{one_sends}
@@ -42,7 +42,8 @@ use Rattle.group_command.specs.declared.line.GroupLine.{GroupLine}
 use Rattle.group_command.specs.declared.line.GroupLine.TheVariants.{Quiet, ForAll, Of}
 use Rattle.group_command.specs.declared.line.OwnEvent.{OwnEvent}
 use Rattle.group_command.specs.declared.line.OwnEvent.TheVariants as own
-use Rattle.group_command.specs.Group.{GroupState, all_viewers_played, group_capture_step, group_captured_step, counts_from, event_of, first_behind, group_step, group_line_step, or_refused, own_step, pictures_at, quiet_group_step, run_after, shown_texts, texts_after, group_trace_step, unless_refused, view_after, view_in, with_own_event}
+use Rattle.call_command.specs.Rows.{shown_texts}
+use Rattle.group_command.specs.Group.{GroupState, all_viewers_played, group_capture_step, group_captured_step, counts_from, event_of, first_behind, group_step, group_line_step, or_refused, own_step, pictures_at, quiet_group_step, run_after, texts_after, group_trace_step, view_after, view_in, with_own_event}
 use Rattle.group_command.specs.Lines.{group_line}
 use Rattle.group_command.specs.Turning.{IsThere}
 use Rattle.group_command.specs.Recorded.{Captured, Happening, IsGroupEnd, LineMayBe, LinesMayBe, Played, Reached, Returned, after_note, and_line, bad_line_or, call_at, call_with, counts_lines, events_at, far_from, group_at, lines_fault, group_lines, if_own, next_shown, its_refusal, play_lines, with_all_said, with_said, with_slices}
@@ -216,7 +217,7 @@ module _ (p : Params) (count : ℕ) (frames : List Frame) (broken : Option Y4mFa
     pub may : LinesMayBe p count frames past lines
     pub pictures : (k : ℕ) → k < count → shown_text (call k (Withs past lines)).plays ≡ shown_text (call k past).plays
         ++ text_of run (pictures_at k)
-    pub report : rows (Withs past lines) ++ told run.last.status (counted (Withs past lines))
+    pub report : rows (Withs past lines) ++ only_at_ok run.last.status (counted (Withs past lines))
         ≡ rows past ++ text_of run Report
     pub end : IsGroupEnd p count frames broken fault (number + length lines) (Withs past lines) refused run.last.status
     pub others : (fault : Y4mFault) → run.last.status ≡ VideoRefused fault → run.last.taken Events
@@ -227,7 +228,7 @@ module _ (p : Params) (count : ℕ) (frames : List Frame) (broken : Option Y4mFa
 
   module _ (past : List Happening) (views : List ViewerRun) (all : Live past views) where
     comes_stopped : (E : List GroupLine) (F : Option TraceFault) (m : ℕ) (text : List ℕ) (rest : GroupState → (Role
-        → ℕ) → Run) (status : Status) (taken : Role → Option ℕ) → ((counts : Text) → told status counts ≡ [])
+        → ℕ) → Run) (status : Status) (taken : Role → Option ℕ) → ((counts : Text) → only_at_ok status counts ≡ [])
         → ((fault : Y4mFault) → status ≡ VideoRefused fault → taken Events ≡ Some (line_size text))
         → IsGroupEnd p count frames broken F (m + 0) past E status
         → Comes past E F m text (follow (stopped status taken) rest)
@@ -376,7 +377,7 @@ module _ (p : Params) (count : ℕ) (frames : List Frame) (broken : Option Y4mFa
       unless_comes : (line : GroupLine) (e : Event) (o : Option Refusal) (step : Step GroupState)
           → ((r : Refusal) → o ≡ Some r → IsGroupEnd p count frames broken F (lines + 1 + 0) past (line ∷ E)
           (TraceRefused (fault_told (lines + 1) e r)))
-          → (o ≡ None → Takes line step) → Takes line (unless_refused s trace e o step)
+          → (o ≡ None → Takes line step) → Takes line (unless_refused (s.lines + 1) trace e o step)
       unless_comes line e None step why takes = takes refl
       unless_comes line e (Some r) step why takes =
           comes_faulty past views all (line ∷ E) F (lines + 1) trace rest _ _ (why r refl)
@@ -503,7 +504,7 @@ module _ (p : Params) (count : ℕ) (frames : List Frame) (broken : Option Y4mFa
               coded_is p laws.groups.views k (group past) (events_at k past) (view k) l,
             ) in
             let texts : texts_after p k (group past) (view k) own.Play
-            ≡ shown_texts k c.played (reference_in c.coded c.played) (next_shown p c) =
+            ≡ shown_texts (pictures_at k) (Some (49 + k)) c.played (reference_in c.coded c.played) (next_shown p c) =
             texts_are p laws.groups.views k (group past) (events_at k past) (view k) l some_sent k in
             own_goes own.Play (group past) (Played k ∷ past) refl (there, may) refl refl
             (played_by_all p count frames laws.groups in_places past views all k there may) refl

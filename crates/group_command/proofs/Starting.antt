@@ -28,8 +28,9 @@ use Rattle.call_command.specs.Laws.{VideoLaws}
 use Rattle.group_command.specs.declared.room.Room.{Room}
 use Rattle.group_command.specs.declared.terms.GroupTerms.{GroupTerms}
 use Rattle.group_command.specs.Begin.{IsNewRoom}
-use Rattle.group_command.specs.Group.{GroupState, group_at_start, group_begin, group_head_step, viewers_heads, joined_by, room_may_read, most_turns}
+use Rattle.group_command.specs.Group.{GroupState, group_at_start, group_begin, group_head_step, viewers_heads, joined_by, room_may_read}
 use Rattle.group_command.specs.Standing.{AreViewing, GroupOpens, RoomReady, RoomStandsAt, room_lines_left}
+use Rattle.call_command.specs.Call.{most_lines}
 
 -- parameters stay in their ranges in another format
 pub in_format : (p : Params) (f : Format) → IsParams p → IsParams (record p { format = f })
@@ -164,7 +165,7 @@ module _ (turns : TurnLaws) (laws : VideoLaws) (t : GroupTerms) (inputs : Role
     }
 
 module _ (p : Params) (receivers : ℕ) (video : Y4mPlace) (m : Room) (new : IsNewRoom p receivers video m) where
-  pub all_may_come : room_lines_left m ≡ most_turns
+  pub all_may_come : room_lines_left m ≡ most_lines
   all_may_come = ap (λ (n : ℕ). 16777216 - n) new.lines
 
   pub ready_first : (attached : Role → Bool) → IsParams p → p.format ≡ video.format → video.more ≡ most_frames

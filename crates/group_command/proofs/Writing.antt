@@ -1,5 +1,5 @@
 -- The texts of a receiver's picture, and those of the counts.
-use Rattle.std.proofs.Common.{◌≡◌, ◌⊎◌, inl, inr, ℕ, zero, suc, ◌+◌, ◌<◌, ◌≤◌, List, ◌∷◌, length, codes, Option, Some, Result, Ok, Err, OnErr, refl, subst, arith}
+use Rattle.std.proofs.Common.{◌≡◌, ◌⊎◌, inl, inr, ℕ, zero, suc, ◌+◌, ◌<◌, ◌≤◌, List, ◌∷◌, length, codes, Option, Some, refl, subst, arith}
 use Rattle.std.proofs.lemmas.Bool.{cases_lt}
 use Rattle.h263_types.specs.declared.format.Format.{Format}
 use Rattle.h263_types.specs.declared.params.Params.{Params}
@@ -21,51 +21,29 @@ use Rattle.one_way.specs.Seen.{reference_in}
 use Rattle.one_way.specs.Counts.{AreCounted}
 use Rattle.one_way.specs.declared.tally.Tally.{Tally}
 use Rattle.call_command.specs.Counts.{counts_text_of, counts_with}
+use Rattle.call_command.specs.Rows.{row_texts}
 use Rattle.group_sender.specs.Holding.{Groups}
 use Rattle.group_call.specs.Viewing.{ViewerRun, view_play}
-use Rattle.group_command.specs.declared.show.OwnRow.{OwnRow}
 use Rattle.group_command.specs.Group.{counts_of_view, viewers_heads, pictures_at, played_texts}
-use Rattle.group_command.specs.Turning.{own_texts}
-
-pub on_err : {T E P : Type 0} (r : Result T E) → P → OnErr r P
-on_err (Ok x) p = tt
-on_err (Err e) p = p
-
-module _ (turns : TurnLaws) (row : OwnRow) (picture : Picture) (old mid : Role → Option (List ℕ)) where
-  abbrev role : Role
-  role = pictures_at row.place
-
-  abbrev line : List ℕ
-  line = picture_text row.number (Some row.mark) (Some row.reference) (Some (49 + row.place))
-
-  pub first_front : GainsFronts (on role (frame_text row.mark picture)) old mid
-      → GainsFronts (own_texts row picture) old mid
-  first_front fronts = turns.front_of_first (on role (frame_text row.mark picture)) (on Report line) old mid fronts
-
-  module _ (new : Role → Option (List ℕ)) (text : List ℕ) (text_is : text
-      ≡ line) (first : Gains (on role (frame_text row.mark picture)) old mid) where
-    pub both_gain : Gains (on Report text) mid new → Gains (own_texts row picture) old new
-    both_gain gains =
-        turns.both_texts (on role (frame_text row.mark picture)) (on Report line) old mid new first
-        (subst (λ (l : List ℕ). Gains (on Report l) mid new) text_is gains)
-
-    pub second_front : GainsFronts (on Report text) mid new → GainsFronts (own_texts row picture) old new
-    second_front fronts =
-        turns.front_of_second (on role (frame_text row.mark picture)) (on Report line) old mid new first
-        (subst (λ (l : List ℕ). GainsFronts (on Report l) mid new) text_is fronts)
 
 -- the row of a play that is told so
-pub row_is : (p : Params) (k : ℕ) (run : Groups) (view : ViewerRun) (number : ℕ) (mark : Mark) (reference : Option ℕ)
-    (picture : Picture)
+pub row_is : (p : Params) (k : ℕ) (run : Groups) (view : ViewerRun) (role : Role) (digit number : ℕ) (mark : Mark) (reference : Option ℕ)
+    (picture : Picture) → role ≡ pictures_at k → digit ≡ 49 + k
     → number ≡ (run_of p view.entries).played
     → mark ≡ mark_of (played_mark (decoding p.format) (rules_of p) (run_of p view.entries))
     → reference ≡ reference_in run.coded (run_of p view.entries).played
     → picture ≡ (run_of p (view_play p view).entries).screen
-    → own_texts (record { place = k; number = number; mark = mark; reference = reference }) picture
+    → row_texts (record {
+      role = role;
+      letter = Some digit;
+      number = number;
+      mark = mark;
+      reference = reference;
+    }) picture
     ≡ played_texts p k run view
-row_is p k run view number mark reference picture number_is mark_is reference_is shown =
-    λ i. then_also (on (pictures_at k) (frame_text (mark_is i) (shown i)))
-    (on Report (picture_text (number_is i) (Some (mark_is i)) (Some (reference_is i)) (Some (49 + k))))
+row_is p k run view role digit number mark reference picture role_is digit_is number_is mark_is reference_is shown =
+    λ i. then_also (on (role_is i) (frame_text (mark_is i) (shown i)))
+    (on Report (picture_text (number_is i) (Some (mark_is i)) (Some (reference_is i)) (Some (digit_is i))))
 
 -- the reference of the picture that is played next
 pub reference_next : (run : Groups) (n played : ℕ) → n ≡ played → {reference : Option ℕ}

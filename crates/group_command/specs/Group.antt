@@ -4,28 +4,25 @@ use Rattle.std.specs.Option.{option_map_or}
 use Rattle.h263_types.specs.declared.format.Format.{Format}
 use Rattle.h263_types.specs.declared.params.Params.{Params}
 use Rattle.h263_planes.specs.Layout.{picture_of}
-use Rattle.h263_planes.specs.Picture.{Picture}
 use Rattle.h263_outside.specs.declared.desk.Role.{Role}
 use Rattle.h263_outside.specs.declared.desk.Role.TheVariants.{Video, Events, Pictures, Report, Pictures2, Wire}
 use Rattle.y4m.specs.declared.fault.Y4mFault.{Y4mFault}
 use Rattle.y4m.specs.Frame.{next_frame, frame_size}
 use Rattle.y4m.specs.Head.{head_of, head_size}
-use Rattle.y4m.specs.Text.{frame_text, head_text}
+use Rattle.y4m.specs.Text.{head_text}
 use Rattle.loss_trace.specs.declared.fault.TraceFault.TheVariants.{BadLine, TooMany, NoFrame}
 use Rattle.loss_trace.specs.Lines.{first_line, is_closed}
 use Rattle.call_report.specs.declared.status.Status.TheVariants.{Ok as Fine, VideoRefused}
-use Rattle.call_report.specs.Text.{Text, picture_text}
-use Rattle.call_model.specs.Coding.{Shown}
+use Rattle.call_report.specs.Text.{Text}
 use Rattle.call_model.specs.IdealCall.{Event, Send, Deliver, Play, Back}
 use Rattle.call_model.specs.JoinedRun.{SaidMessage}
 use Rattle.call_model.specs.Refusals.{Refusal}
-use Rattle.call_command.specs.Call.{bad_line, line_size, line_turn, refused_line}
+use Rattle.call_command.specs.Call.{bad_line, line_size, line_turn, most_lines, refused_line, unless_refused}
 use Rattle.call_command.specs.Counts.{counts_text_of}
-use Rattle.call_command.specs.Refused.{fault_told}
+use Rattle.call_command.specs.Rows.{newest_texts}
 use Rattle.desk_program.specs.Run.{End, Run, Step, run_from, video_refusal}
 use Rattle.desk_program.specs.Run.Step.{Goes, Ends}
 use Rattle.desk_program.specs.Texts.{no_bytes, no_texts, on, then_also, of, and_of}
-use Rattle.receiver_end.specs.Answers.{mark_of}
 use Rattle.receiver_end.specs.State as receiver_end
 use Rattle.one_way.specs.Both.{bare, steady}
 use Rattle.one_way.specs.Counts.{count_of, one_exact, one_held, one_patched}
@@ -63,16 +60,6 @@ abbrev pub view_in : List ViewerRun → ℕ → ViewerRun
 view_in views k = slice_index_or views k no_view
 
 -- ---- texts
-
--- the picture n that the receiver at place k has shown, and the line that tells it
-abbrev pub shown_texts : ℕ → ℕ → Option ℕ → Shown Picture → Role → List ℕ
-shown_texts k n reference shown =
-    then_also (on (pictures_at k) (frame_text (mark_of shown.mark) shown.picture))
-    (on Report (picture_text n (Some (mark_of shown.mark)) (Some reference) (Some (49 + k))))
-
-abbrev pub newest_texts : ℕ → ℕ → Option ℕ → List (Shown Picture) → Role → List ℕ
-newest_texts k n reference [] = no_texts
-newest_texts k n reference (shown ∷ plays) = shown_texts k n reference shown
 
 -- the line of the counts of the receiver at place k
 abbrev pub counts_of_view : Params → Groups → ℕ → ViewerRun → Text
@@ -120,7 +107,7 @@ module _ (p : Params) (k : ℕ) (run : Groups) (view : ViewerRun) where
   abbrev pub played_texts : Role → List ℕ
   played_texts =
       let played = (receiver_end.run_of p view.entries).played in
-      newest_texts k played (reference_in run.coded played) (view_play p view).plays
+      newest_texts (pictures_at k) (Some (49 + k)) played (reference_in run.coded played) (view_play p view).plays
 
   abbrev pub texts_after : OwnEvent → Role → List ℕ
   texts_after (own.Packet n j) = no_texts
@@ -133,11 +120,6 @@ module _ (p : Params) (k : ℕ) (run : Groups) (view : ViewerRun) where
 -- after the line
 abbrev pub after_group_line : GroupState → List ℕ → GroupState
 after_group_line s trace = record s { lines = s.lines + 1; ended = not (is_closed trace) }
-
--- the line says this event, which is refused or has its step
-abbrev pub unless_refused : GroupState → List ℕ → Event → Option Refusal → Step GroupState → Step GroupState
-unless_refused s trace e None step = step
-unless_refused s trace e (Some refusal) step = Ends (refused_line trace (fault_told (s.lines + 1) e refusal))
 
 -- the first of two refusals
 abbrev pub or_refused : Option Refusal → Option Refusal → Option Refusal
@@ -192,7 +174,7 @@ module _ (s : GroupState) (trace : List ℕ) where
   -- the receiver's event is refused, or done
   abbrev pub own_step : ℕ → OwnEvent → Step GroupState
   own_step k e =
-      unless_refused s trace (event_of e) (view_refusal s.params s.run (view_in s.views k) (event_of e))
+      unless_refused (s.lines + 1) trace (event_of e) (view_refusal s.params s.run (view_in s.views k) (event_of e))
       (quiet_group_step trace (texts_after s.params k s.run (view_in s.views k) e) (with_own_event s k e))
 
 -- a line is bad, or empty, or a capture, or an event of a receiver
@@ -200,7 +182,7 @@ abbrev pub group_line_step : GroupState → (Role → List ℕ) → Option Group
 group_line_step s inputs None = Ends (bad_line (BadLine (s.lines + 1)))
 group_line_step s inputs (Some Quiet) = quiet_group_step (inputs Events) no_texts s
 group_line_step s inputs (Some ForAll) =
-    unless_refused s (inputs Events) Send (first_behind s.params s.run s.views) (group_capture_step s (inputs Events) (inputs Video))
+    unless_refused (s.lines + 1) (inputs Events) Send (first_behind s.params s.run s.views) (group_capture_step s (inputs Events) (inputs Video))
 group_line_step s inputs (Some (Of k event)) = own_step s (inputs Events) k event
 
 -- a trace has 16,777,216 lines at most
@@ -253,10 +235,6 @@ group_head_step t video (Err fault) = Ends (video_refusal Video no_bytes (VideoR
 abbrev pub group_begin : GroupTerms → (Role → List ℕ) → Step GroupState
 group_begin t inputs = group_head_step t (inputs Video) (head_of (inputs Video))
 
--- how many turns there may be at most
-abbrev pub most_turns : ℕ
-most_turns = 16777216
-
 -- all that a group's call makes of its inputs
 abbrev pub group_call_run : GroupTerms → (Role → List ℕ) → Run
-group_call_run t inputs = run_from (group_begin t inputs) group_step most_turns inputs
+group_call_run t inputs = run_from (group_begin t inputs) group_step most_lines inputs

@@ -17,7 +17,7 @@ use Rattle.call_report.specs.declared.status.Status.{Status}
 use Rattle.call_report.specs.declared.status.Status.TheVariants.{TraceRefused, VideoRefused}
 use Rattle.call_report.specs.Text.{Text, picture_text}
 use Rattle.call_model.specs.Before as before
-use Rattle.call_model.specs.Before.{WasDelivered, played_before, slices_before}
+use Rattle.call_model.specs.Before.{played_before}
 use Rattle.call_model.specs.Coding.{Exact, Shown, pictures_of}
 use Rattle.call_model.specs.CodedPictures.{Coded, depth_at, is_among, picture_at}
 use Rattle.call_model.specs.Coding.{window}
@@ -35,7 +35,7 @@ use Rattle.one_way.specs.Counts.{count_of, one_exact, one_held, one_patched}
 use Rattle.one_way.specs.Seen.{reference_in}
 use Rattle.call_command.specs.Call.{line_size}
 use Rattle.call_command.specs.Counts.{counts_text_of}
-use Rattle.call_command.specs.Recorded.{capture_told, film, read_out, shown_text, told}
+use Rattle.call_command.specs.Recorded.{AllDelivered, capture_told, film, shown_text, trace_read_out}
 use Rattle.call_command.specs.Refused.{fault_told}
 use Rattle.group_sender.specs.Holding.{Groups, group_after_saying}
 use Rattle.group_call.specs.One.{one_sends}
@@ -46,6 +46,7 @@ use Rattle.group_command.specs.declared.line.OwnEvent.{OwnEvent}
 use Rattle.group_command.specs.declared.line.OwnEvent.TheVariants as own
 use Rattle.group_command.specs.Group.{event_of, joined_by, or_refused, pictures_at}
 use Rattle.group_command.specs.Lines.{group_line}
+use Rattle.desk_program.specs.Texts.{only_at_ok}
 
 -- ---- a trace
 
@@ -109,19 +110,13 @@ after_note p k note run =
     option_map_or
     (λ (note : NumberedMessage). group_after_saying p k (write_message (travelling (rules_of p) note)) run) note run
 
--- each packet of picture n was delivered while the picture was open
-abbrev pub AllReached : Params → List (Coded Style Mb Picture) → List Event → ℕ → Type 0
-AllReached p coded past n =
-    (j : ℕ) → j < slices_before (pictures_of (coding p)) (rules_of p) (one_by_one coded) past n
-    → WasDelivered (pictures_of (coding p)) (rules_of p) (one_by_one coded) past n j
-
 -- After these events of its call a picture that was played is marked exact where all its packets were
 -- delivered while it was open, and nowhere else, and was then shown as the sender has it.
 pub record ShowsWhatReached (p : Params) (coded : List (Coded Style Mb Picture)) (past : List Event) : Type 0 where
   pub exact : (n : ℕ) → n < played_before past
       → (before.mark_of (pictures_of (coding p)) (rules_of p) (one_by_one coded) past n ≡ Some Exact)
-      ↔ AllReached p coded past n
-  pub shows : (n : ℕ) → n < played_before past → AllReached p coded past n
+      ↔ AllDelivered p (one_by_one coded) past n
+  pub shows : (n : ℕ) → n < played_before past → AllDelivered p (one_by_one coded) past n
       → before.shown (pictures_of (coding p)) (rules_of p) (one_by_one coded) past n ≡ picture_at coded n
 
 -- ---- texts
@@ -250,7 +245,7 @@ module _ (p : Params) (count : ℕ) (frames : List Frame) where
     pub pictures : (k : ℕ) → k < count
         → text_of run (pictures_at k) ≡ head_text p.format ++ shown_text (call_at k past).plays
     pub report : text_of run Report
-        ≡ play_lines past ++ told run.last.status (counts_lines count 0 past)
+        ≡ play_lines past ++ only_at_ok run.last.status (counts_lines count 0 past)
     pub arrived : (k : ℕ) → k < count → ShowsWhatReached p (group_at past).coded (events_at k past)
 
   -- ---- its end
@@ -288,7 +283,7 @@ module _ (p : Params) (count : ℕ) (frames : List Frame) where
   -- where the next line, which has this number, says an event, that is refused; where there is none, the
   -- trace is read out, up to its first fault
   abbrev pub IsGroupEnd : Option Y4mFault → Option TraceFault → ℕ → List Happening → List GroupLine → Status → Type 0
-  IsGroupEnd broken fault number past [] status = status ≡ read_out fault
+  IsGroupEnd broken fault number past [] status = status ≡ trace_read_out fault
   IsGroupEnd broken fault number past (line ∷ lines) status = IsRefusedGroupLine broken number past line status
 
 -- The lines that it accepts are the first ones of the trace, one in each turn but the first, which reads the

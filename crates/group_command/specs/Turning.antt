@@ -4,11 +4,8 @@ use Rattle.h263_types.specs.declared.params.Params.{Params}
 use Rattle.h263_outside.specs.Desk.{Outside}
 use Rattle.h263_outside.specs.declared.desk.Role.{Role}
 use Rattle.h263_outside.specs.declared.desk.Role.TheVariants.{Video, Events, Report}
-use Rattle.h263_planes.specs.Picture.{Picture}
-use Rattle.y4m.specs.Text.{frame_text}
 use Rattle.call_report.specs.declared.status.Status.{Status}
 use Rattle.call_report.specs.declared.status.Status.TheVariants.{TraceRefused, WriteFault}
-use Rattle.call_report.specs.Text.{picture_text}
 use Rattle.call_model.specs.IdealCall.{Event}
 use Rattle.call_model.specs.Refusals.{Refusal}
 use Rattle.call_command.specs.Call.{line_size}
@@ -16,7 +13,7 @@ use Rattle.call_command.specs.Refused.{fault_told}
 use Rattle.call_command.specs.Standing.{HasTaken}
 use Rattle.desk_program.specs.Ends.{Falls, Gains, GainsFronts, HasCause, IsStop, KeepsRoles, OnEnd, OnGoing, Tells, TurnGives, turn_status}
 use Rattle.desk_program.specs.Run.{Step, left_after}
-use Rattle.desk_program.specs.Texts.{no_texts, of, on, then_also}
+use Rattle.desk_program.specs.Texts.{no_texts, of, on}
 use Rattle.group_call.specs.declared.broadcast.Broadcast.{Broadcast}
 use Rattle.group_call.specs.declared.viewer.Viewer.{Viewer}
 use Rattle.group_sender.specs.Holding.{Groups}
@@ -24,7 +21,6 @@ use Rattle.group_call.specs.Refused.{view_refusal}
 use Rattle.group_call.specs.Viewing.{ViewerRun}
 use Rattle.group_call.specs.Holding.{HoldsBroadcast, IsCasting, params_in, pictures_in, sent_in}
 use Rattle.group_command.specs.declared.room.Room.{Room}
-use Rattle.group_command.specs.declared.show.OwnRow.{OwnRow}
 use Rattle.group_command.specs.declared.event.OwnLine.{OwnLine}
 use Rattle.group_command.specs.declared.line.GroupLine.{GroupLine}
 use Rattle.group_command.specs.declared.line.GroupLine.TheVariants.{Quiet, ForAll, Of}
@@ -39,12 +35,6 @@ counts_if None p run k view = no_texts
 counts_if (Some viewer) p run k view = on Report (counts_of_view p run k view)
 
 -- ---- an event
-
--- the picture that a receiver shows, and its line
-abbrev pub own_texts : OwnRow → Picture → Role → List ℕ
-own_texts row picture =
-    then_also (on (pictures_at row.place) (frame_text row.mark picture))
-    (on Report (picture_text row.number (Some row.mark) (Some row.reference) (Some (49 + row.place))))
 
 -- It was done: its texts are written, and it is then so. Or it was refused, and nothing was written; or
 -- it was done, but its texts couldn't be written.

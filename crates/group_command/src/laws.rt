@@ -21,10 +21,10 @@ ghost use Rattle.group_command.specs.Group.{group_call_run};
 ghost use Rattle.group_command.specs.Recorded.{GroupFollowsItsTrace};
 
 use back_messages::MessageFault;
-use call_command::laws::{line_laws, video_laws};
+use call_command::laws::{line_laws, video_laws, what_arrived_is_shown};
 use call_decoding::{Pictured, Styled};
 use call_encoding::Framed;
-use call_model::laws::{by_events, refusals, searches};
+use call_model::laws::refusals;
 use desk_program::laws::{step_laws, turn_laws};
 use group_call::laws::{viewers_are_heard, viewers_follow};
 use group_sender::laws::newest_of_all;
@@ -54,13 +54,12 @@ pub fn a_group_follows_its_trace()
         → group_call_run t inputs
         ≡ record { turns = []; last = video_refusal Video no_bytes (VideoRefused fault) } }
 {
-    by_events::<Styled, Mb, Pictured>();
-    searches();
     refusals::<Framed, Styled, Mb, Pictured, Fault, MessageFault>();
     message_laws();
     newest_of_all::<Framed, Styled, Mb, Pictured, MessageFault>();
     viewers_follow();
     viewers_are_heard();
+    what_arrived_is_shown();
     line_laws();
     frame_by_frame();
 }

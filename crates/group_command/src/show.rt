@@ -1,10 +1,9 @@
 //! What a group's call writes.
 ghost use Rattle.std.specs.Prelude.{◌≡◌, ◌+◌, ◌^◌, ◌<◌, ◌≤◌, ◌∷◌, codes, length, true, OnOk, OnErr, IfErr};
-ghost use Rattle.h263_outside.specs.Desk.{GainsFront, IsOutput, OnlyWrites, Rose, appended};
+ghost use Rattle.h263_outside.specs.Desk.{IsOutput, OnlyWrites, Rose};
 ghost use Rattle.h263_outside.specs.declared.desk.Role.TheVariants.{Report};
-ghost use Rattle.h263_planes.specs.Lent.{picture as lent};
 ghost use Rattle.h263_types.specs.declared.params.Params.{Params};
-ghost use Rattle.y4m.specs.Text.{frame_text, head_text, mark_text};
+ghost use Rattle.y4m.specs.Text.{head_text};
 ghost use Rattle.desk_program.specs.Ends.{Gains, GainsFronts};
 ghost use Rattle.desk_program.specs.Texts.{on};
 ghost use Rattle.receiver_end.specs.State.{run_of};
@@ -13,15 +12,14 @@ ghost use Rattle.group_sender.specs.Holding.{Groups};
 ghost use Rattle.group_call.specs.Holding.{HoldsBroadcast, HoldsViewer, told_count};
 ghost use Rattle.group_call.specs.Viewing.{ViewerRun, view_play};
 ghost use Rattle.group_command.specs.Group.{counts_of_view, pictures_at, played_texts};
-ghost use Rattle.group_command.specs.Turning.{OpensFor, own_texts};
+ghost use Rattle.group_command.specs.Turning.{OpensFor};
 
-use call_command::counts_line;
-use call_report::{Status, picture_line};
-use desk_program::{laws as desk_program_laws, put, put_line};
+use call_command::{Row, counts_line, show};
+use call_report::Status;
+use desk_program::{put, put_line};
 use group_call::{Broadcast, Viewer};
-use h263_outside::{Desk, Failed, Role, laws as outside_laws, write_all};
-use h263_planes::PictureRef;
-use h263_types::{Format, Mark};
+use h263_outside::{Desk, Role};
+use h263_types::Format;
 
 // Where the pictures go of the receiver at this place.
 fn pictures_at(place: u32) -> Role
@@ -45,16 +43,6 @@ fn head_of(format: Format) -> &'static [u8]
     }
 }
 
-fn mark_of(mark: Mark) -> &'static [u8]
-    ensures { result.now ≡ mark_text mark }
-{
-    match mark {
-        Mark::Exact => b"FRAME XEXACT\n",
-        Mark::Patched => b"FRAME XPATCHED\n",
-        Mark::Held => b"FRAME XHELD\n",
-    }
-}
-
 /// Writes the line that the pictures of the receiver at this place begin with.
 pub fn put_own_head<D: Desk>(desk: &mut D, place: u32, format: Format) -> Result<(), Status>
     requires { (D.outside desk.old).attached (pictures_at place) ≡ true }
@@ -70,52 +58,6 @@ pub fn put_own_head<D: Desk>(desk: &mut D, place: u32, format: Format) -> Result
     put(desk, pictures_at(place), head_of(format))
 }
 
-// Writes a picture of the receiver at this place, with the line of its mark.
-fn write_own<D: Desk>(
-    desk: &mut D,
-    place: u32,
-    mark: Mark,
-    picture: PictureRef<'_>,
-) -> Result<(), Failed>
-    requires { (D.outside desk.old).attached (pictures_at place) ≡ true }
-    ensures text { OnOk result ((D.outside desk.new).written ≡ appended
-        (D.outside desk.old).written (pictures_at place) (frame_text mark (lent picture.entry))) }
-    ensures prefix { OnErr result (GainsFront (pictures_at place) (frame_text mark (lent picture.entry))
-        (D.outside desk.old).written (D.outside desk.new).written) }
-    ensures cause { OnErr result
-        (Rose (D.outside desk.old).faults.write (D.outside desk.new).faults.write) }
-    ensures rest { OnlyWrites (D.outside desk.old) (D.outside desk.new) }
-{
-    outside_laws::calls();
-    outside_laws::fronts_of_two();
-    write_all(desk, pictures_at(place), mark_of(mark))?;
-    write_all(desk, pictures_at(place), picture.bytes())
-}
-
-fn put_own_picture<D: Desk>(
-    desk: &mut D,
-    place: u32,
-    mark: Mark,
-    picture: PictureRef<'_>,
-) -> Result<(), Status>
-    requires { (D.outside desk.old).attached (pictures_at place) ≡ true }
-    ensures ok { OnOk result (Gains (on (pictures_at place) (frame_text mark (lent picture.entry)))
-        (D.outside desk.old).written (D.outside desk.new).written) }
-    ensures err { OnErr result
-        (GainsFronts (on (pictures_at place) (frame_text mark (lent picture.entry)))
-        (D.outside desk.old).written (D.outside desk.new).written) }
-    ensures kind { IfErr result (λ status. status ≡ Status.WriteFault) }
-    ensures cause { OnErr result
-        (Rose (D.outside desk.old).faults.write (D.outside desk.new).faults.write) }
-    ensures rest { OnlyWrites (D.outside desk.old) (D.outside desk.new) }
-{
-    desk_program_laws::turn_laws();
-    match write_own(desk, place, mark, picture) {
-        Ok(()) => Ok(()),
-        Err(_) => Err(Status::WriteFault),
-    }
-}
-
 // Its number, from 1 on, as a digit.
 fn digit_of(place: u32) -> u8
     requires { place < 3 }
@@ -127,37 +69,6 @@ fn digit_of(place: u32) -> u8
         1 => b'2',
         _ => b'3',
     }
-}
-
-/// What is told of a picture that is shown: the place of its receiver, its number, its mark, and the
-/// reference of the picture that was sent.
-#[derive(Clone, Copy)]
-pub struct OwnRow {
-    place: u32,
-    number: u32,
-    mark: Mark,
-    reference: Option<u32>,
-}
-
-// Writes the picture that is shown, and its line.
-fn show<D: Desk>(desk: &mut D, row: &OwnRow, picture: PictureRef<'_>) -> Result<(), Status>
-    requires place { row.now.place < 3 }
-    requires opens { OpensFor row.now.place (D.outside desk.old).attached }
-    ensures ok { OnOk result (Gains (own_texts row.now (lent picture.entry))
-        (D.outside desk.old).written (D.outside desk.new).written) }
-    ensures err { OnErr result (GainsFronts (own_texts row.now (lent picture.entry))
-        (D.outside desk.old).written (D.outside desk.new).written) }
-    ensures kind { IfErr result (λ status. status ≡ Status.WriteFault) }
-    ensures cause { OnErr result
-        (Rose (D.outside desk.old).faults.write (D.outside desk.new).faults.write) }
-    ensures rest { OnlyWrites (D.outside desk.old) (D.outside desk.new) }
-{
-    outside_laws::calls();
-    desk_program_laws::turn_laws();
-    put_own_picture(desk, row.place, row.mark, picture)?;
-    let digit = digit_of(row.place);
-    let line = picture_line(row.number, Some(row.mark), Some(row.reference), Some(digit));
-    put_line(desk, &line)
 }
 
 /// Plays the next picture of the receiver at this place, which was sent, and writes it with its line.
@@ -195,8 +106,9 @@ pub fn play_next<D: Desk>(
 {
     let reference = cast.reference_of(viewer.played());
     let played = viewer.play();
-    let row = OwnRow {
-        place,
+    let row = Row {
+        role: pictures_at(place),
+        letter: Some(digit_of(place)),
         number: played.number,
         mark: played.mark,
         reference,

@@ -123,7 +123,7 @@ run_of (Recv params false) inputs = run_from (recv_begin params inputs) recv_ste
 run_of (Recv params true) inputs = run_from (join_begin params inputs) join_step 16777216 inputs
 run_of (Demo params seed frames) inputs =
     run_from (demo_begin (demo_terms params seed frames) inputs) demo_step
-    (demo.most_turns (demo_terms params seed frames)) inputs
+    (demo.made_turns (demo_terms params seed frames)) inputs
 run_of (Rate target bucket) inputs =
     run_from (rate_begin (bucket_of target bucket) inputs) rate_step 16777216 inputs
 run_of (Audit params) inputs = run_from (audit_begin params inputs) audit_step 16777216 inputs

@@ -13,9 +13,9 @@ use Rattle.event_logs.specs.Entry.{begun, bytes_of, entry_in, reach, reach_of}
 use Rattle.event_logs.specs.Log.{Found, fault_from, fault_of, found_from, found_of, log_entries, log_fault}
 use Rattle.desk_program.specs.Run.{Run, Step, left_after, follow, run_of, silence, text_of, texts_of}
 use Rattle.desk_program.specs.Run.Step.{Goes}
-use Rattle.desk_program.specs.Texts.{of}
+use Rattle.desk_program.specs.Texts.{of, only_at_ok}
 use Rattle.log_command.specs.Log.{LogRules, LogState, after_entry, entry_step, entry_turn, log_run, log_step, other_step, refused_log, step_in}
-use Rattle.log_command.specs.Followed.{FollowsItsLog, IsEnd, IsPacketEntry, mind_after, mind_with, text_after, text_with, told, turns_over}
+use Rattle.log_command.specs.Followed.{FollowsItsLog, IsEnd, IsPacketEntry, mind_after, mind_with, text_after, text_with, turns_over}
 
 -- a whole entry reaches to the end of its bytes
 reach_is : (side : Side) (log : List ℕ) (e : Entry) → entry_in side log ≡ Some e → reach side log ≡ 3 + bytes_of e
@@ -34,7 +34,7 @@ module _ {State : Type 0} (does : LogRules State) where
     pub read : ahead ≡ accepted ++ refused
     pub turns : run.turns ≡ turns_over does mind accepted
     pub texts : (r : Role) → text_of run r ≡ text_after does mind accepted r
-        ++ told run.last.status (does.end_text (mind_after does mind accepted) r)
+        ++ only_at_ok run.last.status (does.end_text (mind_after does mind accepted) r)
     pub end : IsEnd fault (does.plays (mind_after does mind accepted)) refused run.last.status
 
   comes_refused : (mind : State) (E : List Found) (F : Option LogFault) (rest : LogState State → (Role → ℕ)
@@ -71,7 +71,7 @@ module _ {State : Type 0} (does : LogRules State) where
             append_assoc (text r) (texts_of run.turns r) (run.last.texts r)
             ∙ ap (λ (l : List ℕ). text r ++ l) (comes.texts r)
             ∙ sym (append_assoc (text r) (text_after does now comes.accepted r)
-            (told run.last.status (does.end_text (mind_after does now comes.accepted) r)));
+            (only_at_ok run.last.status (does.end_text (mind_after does now comes.accepted) r)));
         end = comes.end;
       }
 

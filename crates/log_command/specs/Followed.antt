@@ -12,7 +12,7 @@ use Rattle.event_logs.specs.Log.{Found, log_entries, log_fault}
 use Rattle.call_report.specs.declared.status.Status.{Status}
 use Rattle.call_report.specs.declared.status.Status.TheVariants.{Ok as Fine, LogRefused}
 use Rattle.desk_program.specs.Run.{Turn, Run, text_of}
-use Rattle.desk_program.specs.Texts.{no_bytes}
+use Rattle.desk_program.specs.Texts.{log_read_out, no_bytes, only_at_ok}
 use Rattle.log_command.specs.Log.{LogRules, entry_turn}
 
 -- this entry is a packet
@@ -20,20 +20,10 @@ abbrev pub IsPacketEntry : Entry → Type 0
 IsPacketEntry (Packet len) = Unit {0}
 IsPacketEntry _ = ⊥
 
--- what is told where a log ends with `Ok`
-abbrev pub told : Status → List ℕ → List ℕ
-told Fine text = text
-told _ text = []
-
--- how a log that is read out ends a command
-abbrev pub read_out : Option LogFault → Status
-read_out None = Fine
-read_out (Some fault) = LogRefused fault
-
 -- The log is read out, up to its first fault; or the next entry is no packet, and there were as many
 -- plays as there may be.
 abbrev pub IsEnd : Option LogFault → ℕ → List Found → Status → Type 0
-IsEnd fault plays [] status = status ≡ read_out fault
+IsEnd fault plays [] status = status ≡ log_read_out fault
 IsEnd fault plays (found ∷ more) status =
     (IsPacketEntry found.entry → ⊥) × (1048576 ≤ plays) × (status ≡ LogRefused (TooMany found.at))
 
@@ -82,6 +72,6 @@ module _ {State : Type 0} (rules : LogRules State) where
     pub turns : run.turns ≡ head_turn head ∷ turns_over first accepted
     pub texts : (r : Role) → text_of run r
         ≡ head r ++ (text_after first accepted r
-        ++ told run.last.status (rules.end_text (mind_after first accepted) r))
+        ++ only_at_ok run.last.status (rules.end_text (mind_after first accepted) r))
     pub end : IsEnd (log_fault rules.side (inputs Events))
         (rules.plays (mind_after first accepted)) refused run.last.status

@@ -7,8 +7,8 @@ use Rattle.event_logs.specs.declared.entry.Entry.TheVariants.{Capture, Back, Pac
 use Rattle.event_logs.specs.declared.entry.Side.TheVariants.{Recv as OfReceiver}
 use Rattle.event_logs.specs.Log.{Found, log_fault}
 use Rattle.desk_program.specs.Run.{Run}
-use Rattle.desk_program.specs.Texts.{no_texts}
-use Rattle.log_command.specs.Followed.{FollowsItsLog, IsEnd, mind_after, mind_with, text_after, text_with, told, turns_over}
+use Rattle.desk_program.specs.Texts.{no_texts, only_at_ok}
+use Rattle.log_command.specs.Followed.{FollowsItsLog, IsEnd, mind_after, mind_with, text_after, text_with, turns_over}
 use Rattle.rate_control.specs.declared.meter.Metered.{Metered}
 use Rattle.rate_control.specs.declared.meter.Metered.TheVariants.{Same, Ended, Refused}
 use Rattle.rate_control.specs.declared.meter.Totals.{Totals}
@@ -89,12 +89,12 @@ module _ (b : Bucket) where
           ∙ one_turn_each (length f.accepted);
       report =
           f.texts Report
-          ∙ ap (λ (l : List ℕ). l ++ told run.last.status
+          ∙ ap (λ (l : List ℕ). l ++ only_at_ok run.last.status
           (rate_rules.end_text (mind_after rate_rules (nothing_measured b) f.accepted) Report))
           (texts_are f.accepted [] 0)
           ∙ ap (λ (s : RateState). answer_lines b.target [] f.accepted
-          ++ told run.last.status (rate_rules.end_text s Report)) minds
-          ∙ ap (λ (l : List ℕ). answer_lines b.target [] f.accepted ++ told run.last.status l)
+          ++ only_at_ok run.last.status (rate_rules.end_text s Report)) minds
+          ∙ ap (λ (l : List ℕ). answer_lines b.target [] f.accepted ++ only_at_ok run.last.status l)
           (closes (totals_of b.target b.bucket (measured_packets [] f.accepted)));
       end = subst (λ (s : RateState). IsEnd (log_fault OfReceiver (inputs Events)) (rate_rules.plays s) f.refused
           run.last.status) minds f.end;

@@ -8,13 +8,14 @@ use Rattle.event_logs.specs.declared.entry.Entry.TheVariants.{Capture, Back, Pac
 use Rattle.event_logs.specs.declared.entry.Side.TheVariants.{Recv as OfReceiver}
 use Rattle.event_logs.specs.Log.{Found, log_entries, log_fault}
 use Rattle.desk_program.specs.Run.{Run, text_of}
-use Rattle.log_command.specs.Followed.{IsEnd, told}
+use Rattle.log_command.specs.Followed.{IsEnd}
 use Rattle.rate_control.specs.declared.meter.Metered.{Metered}
 use Rattle.rate_control.specs.declared.meter.Metered.TheVariants.{Same, Ended, Refused}
 use Rattle.rate_control.specs.declared.meter.Totals.{Totals}
 use Rattle.rate_control.specs.Metering.{metered, totals_of}
 use Rattle.rate_control.specs.Text.{picture_line, totals_line}
 use Rattle.rate_command.specs.declared.rate.Bucket.{Bucket}
+use Rattle.desk_program.specs.Texts.{only_at_ok}
 
 -- ---- what a log has
 
@@ -81,5 +82,5 @@ pub record MeasuresItsLog (b : Bucket) (inputs : Role → List ℕ) (run : Run) 
   pub taken : length run.turns ≡ length accepted + 1
   pub report : text_of run Report
       ≡ answer_lines b.target [] accepted
-      ++ told run.last.status (closing_lines (totals_of b.target b.bucket (measured_packets [] accepted)))
+      ++ only_at_ok run.last.status (closing_lines (totals_of b.target b.bucket (measured_packets [] accepted)))
   pub end : IsEnd (log_fault OfReceiver (inputs Events)) (plays_after 0 accepted) refused run.last.status

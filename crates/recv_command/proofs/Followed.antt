@@ -16,9 +16,9 @@ use Rattle.call_model.specs.Receiving.{ReceiverEntry, PlayNext}
 use Rattle.receiver_end.specs.Answers.{mark_of, said_by}
 use Rattle.receiver_end.specs.State.{run_of, answer_after, mark_after, message_after}
 use Rattle.desk_program.specs.Run.{Run, text_of}
-use Rattle.desk_program.specs.Texts.{on}
+use Rattle.desk_program.specs.Texts.{on, only_at_ok}
 use Rattle.log_command.specs.Log.{LogRules}
-use Rattle.log_command.specs.Followed.{FollowsItsLog, IsEnd, mind_after, mind_with, text_after, text_with, told, turns_over}
+use Rattle.log_command.specs.Followed.{FollowsItsLog, IsEnd, mind_after, mind_with, text_after, text_with, turns_over}
 use Rattle.recv_command.specs.Followed.{ReceivesItsLog, counted, heard_as, said_entry, messages_text, pictures_text, receiver_play_lines, with_receiver_entries}
 use Rattle.recv_command.specs.Recv.{RecvState, nothing_heard, recv_rules}
 use Rattle.recv_command.specs.Said.{said_message_text}
@@ -38,7 +38,7 @@ no_line_said None = refl
 no_line_said (Some message) = refl
 
 -- where nothing is told at the end, nothing is told
-told_nothing : (status : Status) → told status [] ≡ []
+told_nothing : (status : Status) → only_at_ok status [] ≡ []
 told_nothing stops.Ok = refl
 told_nothing stops.OutOfMemory = refl
 told_nothing stops.Usage = refl
@@ -93,7 +93,7 @@ module _ {State : Type 0} (rules : LogRules State) (at : List ReceiverEntry → 
     past = with_receiver_entries start f.accepted
 
     abbrev end_text : State → Role → List ℕ
-    end_text s r = told run.last.status (rules.end_text s r)
+    end_text s r = only_at_ok run.last.status (rules.end_text s r)
 
     pub texts_at : (r : Role) (text : List ReceiverEntry → List ℕ) → text_after rules (at start) f.accepted r
         ≡ text past → text_of run r ≡ head r ++ (text past ++ end_text (at past) r)
@@ -110,7 +110,7 @@ module _ {State : Type 0} (rules : LogRules State) (at : List ReceiverEntry → 
     pub quiet_end : (r : Role) (text : List ReceiverEntry → List ℕ) → rules.end_text (at past) r ≡ []
         → text past ++ end_text (at past) r ≡ text past
     quiet_end r text none =
-        ap (λ (l : List ℕ). text past ++ told run.last.status l) none
+        ap (λ (l : List ℕ). text past ++ only_at_ok run.last.status l) none
         ∙ ap (λ (l : List ℕ). text past ++ l) (told_nothing run.last.status) ∙ append-nil (text past)
 
 module _ (p : Params) where
@@ -188,7 +188,7 @@ module _ (p : Params) where
     text_at : (r : Role) (text : List ReceiverEntry → List ℕ) → text_after recv_rules (nothing_heard p) f.accepted r
         ≡ text (with_receiver_entries [] f.accepted)
         → text_of run r ≡ head r ++ (text (with_receiver_entries [] f.accepted)
-        ++ told run.last.status (recv_rules.end_text (state (with_receiver_entries [] f.accepted)) r))
+        ++ only_at_ok run.last.status (recv_rules.end_text (state (with_receiver_entries [] f.accepted)) r))
     text_at r text is = texts_at recv_rules state mind_is [] head inputs run f r text is
 
     pub receives : ReceivesItsLog p inputs run

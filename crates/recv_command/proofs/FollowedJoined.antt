@@ -10,8 +10,8 @@ use Rattle.event_logs.specs.declared.entry.Entry.{Entry}
 use Rattle.event_logs.specs.declared.entry.Entry.TheVariants as log_entry
 use Rattle.call_model.specs.Receiving.{ReceiverEntry, Packet}
 use Rattle.desk_program.specs.Run.{Run, text_of}
-use Rattle.desk_program.specs.Texts.{no_texts, on, then_also}
-use Rattle.log_command.specs.Followed.{FollowsItsLog, mind_with, text_after, text_with, told}
+use Rattle.desk_program.specs.Texts.{no_texts, on, only_at_ok, then_also}
+use Rattle.log_command.specs.Followed.{FollowsItsLog, mind_with, text_after, text_with}
 use Rattle.payload_join.specs.Run.{given_next}
 use Rattle.recv_command.specs.Followed.{JoinsItsLog, heard_as, joins_counted, messages_text, pictures_text, receiver_play_lines, with_receiver_entries}
 use Rattle.recv_command.specs.Join.{Delivering, JoinState, delivers_next, join_rules, packets_among, through}
@@ -104,7 +104,7 @@ module _ (p : Params) where
 
     text_at : (r : Role) (text : List ReceiverEntry → List ℕ) → text_after join_rules (joined []) f.accepted r
         ≡ text past
-        → text_of run r ≡ head r ++ (text past ++ told run.last.status (join_rules.end_text (joined past) r))
+        → text_of run r ≡ head r ++ (text past ++ only_at_ok run.last.status (join_rules.end_text (joined past) r))
     text_at r text is = texts_at join_rules joined mind_is [] head inputs run f r text is
 
     pub joins : JoinsItsLog p inputs run

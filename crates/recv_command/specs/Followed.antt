@@ -18,13 +18,14 @@ use Rattle.call_encoding.specs.Messages.{write_message}
 use Rattle.receiver_end.specs.Answers.{mark_of, said_by}
 use Rattle.receiver_end.specs.State.{run_of, answer_after, mark_after, message_after}
 use Rattle.desk_program.specs.Run.{Run, text_of}
-use Rattle.log_command.specs.Followed.{IsEnd, told}
+use Rattle.log_command.specs.Followed.{IsEnd}
 use Rattle.payload_join.specs.Run.{given_next, took_next}
 use Rattle.recv_command.specs.declared.join_tally.JoinTally.{JoinTally}
 use Rattle.recv_command.specs.declared.tally.Tally.{Tally}
 use Rattle.recv_command.specs.Join.{packets_among, through}
 use Rattle.recv_command.specs.JoinTally.{join_text, nothing_taken, with_joined, with_took}
 use Rattle.recv_command.specs.Tally.{nothing_heard_counted, with_mark, with_answer, receiver_counts}
+use Rattle.desk_program.specs.Texts.{only_at_ok}
 
 -- an entry of a receiver's log as the receiver has it: a packet, or a play
 abbrev pub heard_as : Entry → List ℕ → ReceiverEntry
@@ -82,7 +83,7 @@ module _ (p : Params) where
     pub wire : text_of run Wire ≡ messages_text past
     pub report : text_of run Report
         ≡ receiver_play_lines past
-        ++ told run.last.status (receiver_counts (run_of p past).played (counted past))
+        ++ only_at_ok run.last.status (receiver_counts (run_of p past).played (counted past))
 
   -- The entries that it accepts are the first ones of the log, one in each turn but the first, which
   -- writes the head. Over them the run is the receiver's, and it ends because of what comes after
@@ -117,7 +118,7 @@ pub record JoinsItsLog (p : Params) (inputs : Role → List ℕ) (run : Run) : T
   pub wire : text_of run Wire ≡ messages_text p (through p.format (with_receiver_entries [] accepted))
   pub report : text_of run Report
       ≡ receiver_play_lines p (through p.format (with_receiver_entries [] accepted))
-      ++ told run.last.status
+      ++ only_at_ok run.last.status
       (join_text (joins_counted p.format (packets_among (with_receiver_entries [] accepted)))
       ++ receiver_counts (run_of p (through p.format (with_receiver_entries [] accepted))).played
       (counted p (through p.format (with_receiver_entries [] accepted))))

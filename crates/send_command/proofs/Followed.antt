@@ -25,14 +25,14 @@ use Rattle.call_encoding.specs.Frames.{Frame}
 use Rattle.sender_end.specs.Stands.{packets_after}
 use Rattle.desk_program.specs.Run.{End, Run, Step, Turn, left_after, follow, run_from, run_of, silence, text_of, texts_of}
 use Rattle.desk_program.specs.Run.Step.{Ends}
-use Rattle.desk_program.specs.Texts.{and_of, no_texts, of}
+use Rattle.desk_program.specs.Texts.{and_of, no_texts, of, only_at_ok}
 use Rattle.fitted_sender.specs.declared.aim.Aim.{Aim}
 use Rattle.send_command.specs.declared.sending.Sending.{Sending}
 use Rattle.fitted_sender.specs.Aiming.{sent_by}
 use Rattle.send_command.specs.Aimed.{aim_at_start}
 use Rattle.send_command.specs.Send.{SendState, sender_read_all, bad_entry, entry_capture_step, capture_texts, captured, sender_entry_step, feedback_step, send_at_start, sender_frame_step, send_head_step, sender_log_step, most_entries, packets_text, send_begin, send_step}
 use Rattle.send_command.specs.Tally.{sender_counts}
-use Rattle.send_command.specs.Followed.{IsSenderEnd, SendsItsLog, Spares, counted, sender_film, frames_after, frames_with, no_frame_left, past_with, sent_lines, sent_text, told, with_sender_entries}
+use Rattle.send_command.specs.Followed.{IsSenderEnd, SendsItsLog, Spares, counted, sender_film, frames_after, frames_with, no_frame_left, past_with, sent_lines, sent_text, with_sender_entries}
 
 -- ---- the entry that stands first
 
@@ -107,7 +107,7 @@ module _ (p : Params) (aim : Aim) (spelled : IsSpelled) where
     pub taken : length run.turns ≡ length accepted
     pub wire : sent_text p aim (with_sender_entries frames past accepted) ≡ sent_text p aim past ++ text_of run Wire
     pub report : sent_lines p aim (with_sender_entries frames past accepted)
-        ++ told run.last.status (sender_counts (counted p aim (with_sender_entries frames past accepted)))
+        ++ only_at_ok run.last.status (sender_counts (counted p aim (with_sender_entries frames past accepted)))
         ≡ sent_lines p aim past ++ text_of run Report
     pub end : IsSenderEnd fault broken (frames_after frames accepted) refused run.last.status
     pub others : Spares run.last.status run.last.taken
@@ -117,7 +117,7 @@ module _ (p : Params) (aim : Aim) (spelled : IsSpelled) where
 
   comes_stopped : (frames : List Frame) (past : List (SenderEntry Frame)) (E : List Found) (F : Option LogFault)
       (B : Option Y4mFault) (rest : SendState → (Role → ℕ) → Run)
-      (status : Status) (taken : Role → Option ℕ) → ((text : List ℕ) → told status text ≡ [])
+      (status : Status) (taken : Role → Option ℕ) → ((text : List ℕ) → only_at_ok status text ≡ [])
       → IsSenderEnd F B frames E status → Spares status taken
       → Comes frames past E F B (follow (stopped (record { status = status; taken = taken; texts = no_texts })) rest)
   comes_stopped frames past E F B rest status taken silent end spares = record {
@@ -134,7 +134,7 @@ module _ (p : Params) (aim : Aim) (spelled : IsSpelled) where
   -- at a capture for which no frame is left
   comes_unfilmed : (frames : List Frame) (past : List (SenderEntry Frame)) (found : Found) (E : List Found)
       (F : Option LogFault) (B : Option Y4mFault) (rest : SendState → (Role → ℕ) → Run)
-      (status : Status) (taken : Role → Option ℕ) → ((text : List ℕ) → told status text ≡ [])
+      (status : Status) (taken : Role → Option ℕ) → ((text : List ℕ) → only_at_ok status text ≡ [])
       → found.entry ≡ log_entry.Capture → frames ≡ [] → status ≡ no_frame_left B found.at → Spares status taken
       → Comes frames past (found ∷ E) F B
       (follow (stopped (record { status = status; taken = taken; texts = no_texts })) rest)

@@ -26,6 +26,7 @@ use Rattle.fitted_sender.specs.Aiming.{next_sent, sent_by}
 use Rattle.send_command.specs.declared.tally.Tally.{Tally}
 use Rattle.send_command.specs.Send.{captured, packets_text}
 use Rattle.send_command.specs.Tally.{nothing_sent_counted, with_sent_picture, with_reply, sender_counts}
+use Rattle.desk_program.specs.Texts.{log_read_out, only_at_ok}
 
 -- the frames of a video, as they are captured
 abbrev pub sender_film : Params → List (List ℕ) → List Frame
@@ -89,16 +90,6 @@ module _ (p : Params) (aim : Aim) where
       with_reply (feedback_answer (rules_of p) (length (sent_by p aim past).run.run.coded)
       (read_message p.clock bytes)) (counted past)
 
--- what is told where a log ends with `Ok`
-abbrev pub told : Status → List ℕ → List ℕ
-told Fine text = text
-told _ text = []
-
--- how a log that is read out ends a sender
-abbrev pub read_out : Option LogFault → Status
-read_out None = Fine
-read_out (Some fault) = LogRefused fault
-
 -- how a capture ends it for which no frame is left
 abbrev pub no_frame_left : Option Y4mFault → ℕ → Status
 no_frame_left None at = LogRefused (NoFrame at)
@@ -107,7 +98,7 @@ no_frame_left (Some fault) at = VideoRefused fault
 -- The log is read out, up to its first fault; or the next entry is a capture, and no frame is left for
 -- it: the video is at its end, or its next frame is refused.
 abbrev pub IsSenderEnd : Option LogFault → Option Y4mFault → List Frame → List Found → Status → Type 0
-IsSenderEnd fault broken frames [] status = status ≡ read_out fault
+IsSenderEnd fault broken frames [] status = status ≡ log_read_out fault
 IsSenderEnd fault broken frames (found ∷ more) status =
     (found.entry ≡ log_entry.Capture) × (frames ≡ []) × (status ≡ no_frame_left broken found.at)
 
@@ -134,7 +125,7 @@ pub record SendsItsLog (p : Params) (aim : Aim) (inputs : Role → List ℕ) (ru
       ≡ sent_text p aim (with_sender_entries (sender_film p (video_frames (inputs Video))) [] accepted)
   pub report : text_of run Report
       ≡ sent_lines p aim (with_sender_entries (sender_film p (video_frames (inputs Video))) [] accepted)
-      ++ told run.last.status
+      ++ only_at_ok run.last.status
       (sender_counts (counted p aim (with_sender_entries (sender_film p (video_frames (inputs Video))) [] accepted)))
   pub end : IsSenderEnd (log_fault sides.Send (inputs Events)) (video_fault (inputs Video))
       (frames_after (sender_film p (video_frames (inputs Video))) accepted) refused run.last.status

@@ -30,7 +30,7 @@ returns-clause-trace c = λ p inputs f g first second.
       gone = c.line_laws.ensures.gone;
     })
     c.frame_by_frame.ensures
-    (λ past near x. c.what_arrived_is_shown.ensures (q x) (way x (ways_of q captures past)).frames
+    (λ past near x. c.what_arrived_is_shown.ensures.frames (q x) (way x (ways_of q captures past)).frames
     (way x (ways_of q captures past)).past (c.each_way_is_near.ensures (sides q) captures past near x))
     first second
 

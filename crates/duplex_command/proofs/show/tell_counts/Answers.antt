@@ -3,7 +3,8 @@ use Rattle.std.proofs.lemmas.Result.{on_err_weaker, on_ok_weaker}
 use Rattle.call_report.specs.View.{text_of}
 use Rattle.duplex_call.specs.declared.line.Party.TheVariants.{A, B}
 use Rattle.duplex_command.specs.Duplex.{party_counts}
-use Rattle.duplex_command.proofs.Writing.{lines_cut, lines_front, lines_gain, on_err}
+use Rattle.duplex_command.proofs.Heading.{on_err}
+use Rattle.duplex_command.proofs.Writing.{lines_cut, lines_front, lines_gain}
 use Rattle.duplex_command.proofs.show.tell_counts.Goals as goal
 
 pub returns-in_err-put_line-clause-err : goal.returns-in_err-put_line-clause-err

@@ -2,14 +2,11 @@ use Rattle.std.proofs.Common.{Result, ap}
 use Rattle.h263_outside.specs.declared.desk.Role.TheVariants.{Video}
 use Rattle.h263_types.specs.declared.format.Format.{Format}
 use Rattle.y4m.specs.declared.fault.Y4mFault.{Y4mFault}
-use Rattle.call_model.specs.Coding.{pictures_of}
 use Rattle.call_decoding.specs.Rules.{rules_of}
 use Rattle.call_decoding.specs.Samples.{pictures}
 use Rattle.call_encoding.specs.Encoding.{encoding}
-use Rattle.coded_call.specs.Coding.{coding}
 use Rattle.desk_program.specs.Run.{left_after, follow, run_of}
 use Rattle.group_command.specs.Group.{group_step, group_head_step}
-use Rattle.group_command.specs.Recorded.{one_by_one}
 use Rattle.group_command.proofs.Followed.{follows}
 use Rattle.group_command.proofs.Starting.{in_format}
 use Rattle.group_command.proofs.laws.a_group_follows_its_trace.Goals as goal
@@ -18,7 +15,6 @@ pub returns-clause-trace : goal.returns-clause-trace
 returns-clause-trace c = λ t inputs f in_range some few head.
     let p = record t.params { format = f } in
     let ranged = in_format t.params f in_range in
-    let by = c.by_events.ensures in
     follows t f inputs
     (record {
       groups = record {
@@ -36,13 +32,7 @@ returns-clause-trace c = λ t inputs f in_range some few head.
       none = c.refusals.ensures.ideal (rules_of p);
       gone = c.line_laws.ensures.gone;
     })
-    (record {
-      counts = λ coded. by.counts (pictures_of (coding p)) (rules_of p) (one_by_one coded);
-      arrived = λ coded. by.arrived (pictures_of (coding p)) (rules_of p) (one_by_one coded);
-      exact = λ coded. by.exact (pictures_of (coding p)) (rules_of p) (one_by_one coded);
-      stays = λ coded. by.stays (pictures_of (coding p)) (rules_of p) (one_by_one coded);
-      below = c.searches.ensures.all_below;
-    })
+    (c.what_arrived_is_shown.ensures.any p)
     c.frame_by_frame.ensures some few head
 
 pub returns-clause-no_head : goal.returns-clause-no_head

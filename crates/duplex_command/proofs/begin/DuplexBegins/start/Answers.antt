@@ -4,9 +4,10 @@ use Rattle.h263_types.specs.declared.format.Format.{Format}
 use Rattle.call_report.specs.declared.status.Status.TheVariants.{OutOfMemory}
 use Rattle.desk_program.specs.Ends.{Gains, GainsFronts}
 use Rattle.duplex_command.specs.Begin.{duplex_begin, duplex_run, both_heads, in_formats}
-use Rattle.duplex_command.specs.Duplex.{duplex_step, talk_may_read, most_turns}
+use Rattle.duplex_command.specs.Duplex.{duplex_step, talk_may_read}
 use Rattle.duplex_command.proofs.Starting.{all_may_come, ends_so, heads_cut, heads_go, starved_cause, stations_ready}
 use Rattle.duplex_command.proofs.begin.DuplexBegins.start.Goals as goal
+use Rattle.call_command.specs.Call.{most_lines}
 
 pub returns-in_err-heads-clause-ends : goal.returns-in_err-heads-clause-ends
 returns-in_err-heads-clause-ends g c = λ inputs told.
@@ -16,7 +17,7 @@ returns-in_err-heads-clause-ends g c = λ inputs told.
     let new = outside c.read_heads.new.desk in
     ends_so c.from_residual.result c.in_err-heads.field-0.0 (duplex_run p inputs) inputs old.written new
     c.from_residual.ensures.1
-    (c.run_laws.ensures.gives_up (duplex_begin p inputs) duplex_step most_turns inputs old new c.in_err-heads.field-0.0
+    (c.run_laws.ensures.gives_up (duplex_begin p inputs) duplex_step most_lines inputs old new c.in_err-heads.field-0.0
     (c.in_err-heads.ensures.stops p inputs told))
 
 pub returns-in_err-talk-clause-ends : goal.returns-in_err-talk-clause-ends
@@ -27,7 +28,7 @@ returns-in_err-talk-clause-ends g c = λ inputs told.
     let new = outside c.read_heads.new.desk in
     ends_so c.from_residual-in_err-talk.result OutOfMemory (duplex_run p inputs) inputs old.written new
     c.from_residual-in_err-talk.ensures.1
-    (c.run_laws.ensures.gives_up (duplex_begin p inputs) duplex_step most_turns inputs old new OutOfMemory
+    (c.run_laws.ensures.gives_up (duplex_begin p inputs) duplex_step most_lines inputs old new OutOfMemory
     c.read_heads.ensures.rest.written)
 
 pub returns-in-Err-clause-ends : goal.returns-in-Err-clause-ends
@@ -42,7 +43,7 @@ returns-in-Err-clause-ends g c = λ inputs told.
     c.format-2.ensures
     (subst (λ (f : Format). GainsFronts (both_heads f c.format-2.result) mid.written new.written) c.format.ensures
     c.in-Err.ensures.err) in
-    c.run_laws.ensures.gives_up (duplex_begin p inputs) duplex_step most_turns inputs old new c.in-Err.status
+    c.run_laws.ensures.gives_up (duplex_begin p inputs) duplex_step most_lines inputs old new c.in-Err.status
     (heads_cut p heads inputs old mid (c.in_ok-heads.ensures.reads inputs told) c.read_heads.ensures.rest.written
     c.in-Err.status new c.in-Err.ensures.kind cut)
 
@@ -60,7 +61,7 @@ returns-clause-goes g c = λ inputs told.
     let gains = subst (λ (g : Format). Gains (both_heads heads.a.format g) mid.written new.written) c.format-2.ensures
     (subst (λ (f : Format). Gains (both_heads f c.format-2.result) mid.written new.written) c.format.ensures
     c.in_default.ensures.ok) in
-    c.run_laws.ensures.begins talk (duplex_begin p inputs) duplex_step talk_may_read most_turns inputs old new
+    c.run_laws.ensures.begins talk (duplex_begin p inputs) duplex_step talk_may_read most_lines inputs old new
     (all_may_come p heads talk c.in_ok-talk.ensures laws c.requires.params says.more_a says.more_b)
     (heads_go p heads talk c.in_ok-talk.ensures laws c.requires.params says.more_a says.more_b inputs old mid
     (says.reads inputs told) c.read_heads.ensures.rest.written new c.write_heads.ensures.rest.left gains)
