@@ -4,6 +4,7 @@ mod Half
 mod Agreeing
 mod Writing
 mod Lines
+mod LongLines
 mod FrameTurning
 mod Counting
 mod Readying

@@ -1,5 +1,5 @@
 -- What holds of a call by both ends, of a video, and of the turns of lines.
-use Rattle.std.specs.Prelude.{◌≡◌, ◌≢◌, ℕ, ◌+◌, ◌≤◌, true, false, List, [], ◌∷◌, take, drop, Some, None, Ok}
+use Rattle.std.specs.Prelude.{◌≡◌, ◌≢◌, ℕ, ◌+◌, ◌≤◌, ◌<◌, true, false, List, [], ◌∷◌, length, take, drop, Some, None, Ok}
 use Rattle.h263_outside.specs.Desk.{Outside}
 use Rattle.h263_outside.specs.declared.desk.Role.{Role}
 use Rattle.h263_outside.specs.declared.desk.Role.TheVariants.{Events, Video}
@@ -10,6 +10,7 @@ use Rattle.loss_trace.specs.Lines.{NoNewline, later_lines, is_closed}
 use Rattle.loss_trace.specs.Reader.{IsOver}
 use Rattle.loss_trace.specs.declared.fault.TraceFault.{TraceFault}
 use Rattle.loss_trace.specs.Place.{TracePlace}
+use Rattle.loss_trace.specs.Reading.{event_in}
 use Rattle.call_report.specs.declared.status.Status.TheVariants.{Ok as Fine, TraceRefused}
 use Rattle.call_model.specs.Coding.{Rules}
 use Rattle.call_model.specs.IdealCall.{Send, Deliver, Play}
@@ -76,6 +77,8 @@ pub record IsPlayedOut (inputs : Role → List ℕ) (old mid new : Outside) : Ty
       → EndsBy (record { status = Fine; taken = λ _. Some 0; texts = texts }) Fine inputs old new
 
 pub record LineLaws : Type 0 where
+  -- a text of more than 17 bytes says no event
+  pub long : (text : List ℕ) → 17 < length text → event_in text ≡ None
   -- what stands after the first line: nothing where it has no newline
   pub gone : (trace : List ℕ) → drop (line_size trace) trace ≡ later_lines trace
   pub last : (trace : List ℕ) → is_closed trace ≡ false → drop (line_size trace) trace ≡ []

@@ -40,6 +40,7 @@ use desk_program::laws::{step_laws, turn_laws};
 use h263_bits::Fault;
 use h263_outside::laws::calls;
 use h263_types::Mb;
+use loss_trace::laws::exact_lines;
 use one_way::laws as one_way_laws;
 use y4m::laws::{cut_after, frame_by_frame};
 
@@ -166,6 +167,7 @@ pub fn line_laws()
     ensures { LineLaws }
 {
     turn_laws();
+    exact_lines();
 }
 
 /// How many frames there are to be sent matters to a capture alone.

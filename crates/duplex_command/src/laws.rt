@@ -8,9 +8,6 @@ ghost use Rattle.y4m.specs.declared.fault.Y4mFault.{Y4mFault};
 ghost use Rattle.y4m.specs.Head.{head_of, head_size};
 ghost use Rattle.y4m.specs.Video.{video_fault};
 ghost use Rattle.call_report.specs.declared.status.Status.TheVariants.{VideoRefused, Video2Refused};
-ghost use Rattle.loss_trace.specs.declared.event.Event.{Event};
-ghost use Rattle.loss_trace.specs.Line.{IsLine};
-ghost use Rattle.loss_trace.specs.Reading.{event_in};
 ghost use Rattle.desk_program.specs.Laws.{StepLaws, TurnLaws};
 ghost use Rattle.call_command.specs.Laws.{LineLaws, VideoLaws};
 ghost use Rattle.duplex_call.specs.declared.line.Party.{Party};
@@ -37,7 +34,6 @@ use duplex_call::laws::{each_way_is_near, four_stores as four_stores_of, two_way
 use h263_bits::Fault;
 use h263_outside::laws::calls;
 use h263_types::Mb;
-use loss_trace::laws::exact_lines;
 use y4m::laws::frame_by_frame;
 
 /// Over a recorded trace, whatever bytes the trace and both videos are made of, a call of two
@@ -80,16 +76,14 @@ pub fn refused_exactly()
 }
 
 /// What a turn rests on: how its reads and writes add up (`turns`, `steps`), a fault that rose
-/// stays (`rose`), what is left of the video (`video`) and of the trace (`lines`), what a line says
-/// (`read`), and which events are refused (`refused`).
+/// stays (`rose`), what is left of the video (`video`) and of the trace (`lines`), and which events
+/// are refused (`refused`).
 pub fn turning()
     ensures turns { TurnLaws }
     ensures steps { StepLaws }
     ensures rose { (a b c : ℕ) → a ≤ b → Rose b c → Rose a c }
     ensures video { VideoLaws }
     ensures lines { LineLaws }
-    ensures read { (line : List ℕ) (event : Event) → event_in line ≡ Some event
-        → IsLine event line }
     ensures refused { (p : Party → Params) → NoneWhereItMayHappenOf (sides p) }
 {
     turn_laws();
@@ -97,7 +91,6 @@ pub fn turning()
     calls();
     video_laws();
     line_laws();
-    exact_lines();
     refused_exactly();
 }
 

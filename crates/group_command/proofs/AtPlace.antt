@@ -26,12 +26,6 @@ event_so : (r : Result Unit Status) (line : ℕ) (e : Event) (refusal : Option R
 event_so (Ok u) line e refusal P Q texts old new so gives = (gives.0, so gives.1, gives.2)
 event_so (Err status) line e refusal P Q texts old new so gives = gives
 
-pub place_is_2 : (k : ℕ) → (k ≡ 0 → ⊥) → (k ≡ 1 → ⊥) → k < 3 → k ≡ 2
-place_is_2 zero none one few = absurd (none refl)
-place_is_2 (suc zero) none one few = absurd (one refl)
-place_is_2 (suc (suc zero)) none one few = refl
-place_is_2 (suc (suc (suc k))) none one few = absurd (omega (arith, few))
-
 -- which of them are there
 
 pub second_there : (second third : Option Viewer) → InOrder second third

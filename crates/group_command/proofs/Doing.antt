@@ -40,11 +40,6 @@ pub none_so : (r : Result Unit Told) (e : Event) (refusal : Option Refusal) → 
 none_so (Ok u) e refusal free allowed = allowed
 none_so (Err told) e refusal free allowed = absurd free
 
--- and what holds where it is allowed holds
-pub may_so : {P : Type 0} (r : Result Unit Told) → IsNotRefused r → OnOk r P → P
-may_so (Ok u) free may = may
-may_so (Err told) free may = absurd free
-
 module _ (line : ℕ) (e : Event) (refusal : Option Refusal) (after : Type 0) (texts : Role → List ℕ) (old new : Role
     → Option (List ℕ)) where
   pub refused_gives : (r : Result Unit Status) (status : Status) (checked : Result Unit Told)
@@ -115,9 +110,6 @@ module _ (p : Params) (run : Groups) (view : ViewerRun) where
   abbrev abouts : List ℕ
   abouts = map (λ (told : SaidMessage). told.about) view.told
 
-  twice_half : (half period : ℕ) → period ≡ half_of p.clock + half_of p.clock → period ≡ period_of p.clock
-  twice_half half period is = omega (arith, is)
-
   -- the packets of a picture that may reach the receiver are kept
   pub is_cast : (cast : Broadcast) (n j : ℕ) → pictures_in cast ≡ period_of p.clock → sent ≤ played + half_of p.clock
       → view_refusal p run view (Deliver n j) ≡ None → IsCast cast sent n
@@ -169,9 +161,6 @@ few_mbs SubQcif = omega arith
 few_mbs Qcif = omega arith
 few_mbs Cif = omega arith
 
-pub few_places : (cast : Broadcast) → IsCasting cast → places_in cast ≤ 396
-few_places cast k = omega (arith, k.holds.most, few_mbs k.params.format)
-
 -- ---- an event, by which it is
 
 module _ (r : Result Unit Status) (line k : ℕ) (p : Params) (run : Groups) (view : ViewerRun) (Holds : Groups
@@ -184,6 +173,3 @@ module _ (r : Result Unit Status) (line k : ℕ) (p : Params) (run : Groups) (vi
 
   pub of_event : (event said : OwnEvent) → event ≡ said → Gives said → Gives event
   of_event event said is gives = subst Gives (sym is) gives
-
-pub keeps_cast : (cast : Broadcast) → KeepsCast cast cast
-keeps_cast cast = record { params = refl; sent = refl; kept = refl; casting = λ k. k }

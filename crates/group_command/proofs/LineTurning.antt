@@ -1,5 +1,5 @@
 -- The turns of lines, by what the reader of the trace says and what was written.
-use Rattle.std.proofs.Common.{◌≡◌, ℕ, ◌+◌, ◌<◌, ◌≤◌, Bool, true, false, not, List, [], ◌∷◌, length, take, drop, codes, Option, Some, None, Ok, Err, refl, sym, ap, ◌∙◌, subst, arith, lit≤, length-append}
+use Rattle.std.proofs.Common.{◌≡◌, ℕ, ◌+◌, ◌<◌, ◌≤◌, Bool, true, false, not, List, [], ◌∷◌, length, take, drop, codes, Option, Some, None, Ok, Err, refl, sym, ap, ◌∙◌, subst, arith}
 use Rattle.std.specs.Prelude.{nat_le, if◌then◌else◌}
 use Rattle.std.specs.Str.{bytes_eq}
 use Rattle.std.proofs.lemmas.Slice.Eq.{bytes_eq-Decides}
@@ -7,14 +7,11 @@ use Rattle.std.proofs.lemmas.Bool.{lt-ltb, le-ltb, not-true}
 use Rattle.h263_outside.specs.Desk.{Outside}
 use Rattle.h263_outside.specs.declared.desk.Role.{Role}
 use Rattle.h263_outside.specs.declared.desk.Role.TheVariants.{Events}
-use Rattle.loss_trace.specs.declared.event.Event.{Event as Line}
-use Rattle.loss_trace.specs.declared.event.Event.TheVariants as says
 use Rattle.loss_trace.specs.declared.fault.TraceFault.{TraceFault}
 use Rattle.loss_trace.specs.declared.fault.TraceFault.TheVariants.{BadLine, TooMany}
 use Rattle.loss_trace.specs.declared.fault.TraceStop.{TraceStop}
 use Rattle.loss_trace.specs.declared.fault.TraceStop.TheVariants as stops
 use Rattle.loss_trace.specs.Place.{TracePlace}
-use Rattle.loss_trace.specs.Line.{IsLine, IsPart, Number, Part, Spell, Word, parts_of}
 use Rattle.loss_trace.specs.Lines.{first_line, is_closed}
 use Rattle.loss_trace.specs.Reader.{BytesGive, Moves, Passes}
 use Rattle.loss_trace.specs.Reading.{event_in}
@@ -38,52 +35,9 @@ use Rattle.group_command.proofs.Cutting.{trace_part}
 
 -- ---- a line of more than 64 bytes says no event
 
-abbrev most_of : Part → ℕ
-most_of (Word word) = length word
-most_of (Number n) = 7
-
-abbrev most : List Part → ℕ
-most [] = 0
-most (part ∷ parts) = most_of part + most parts
-
-part_len : (part : Part) (bytes : List ℕ) → IsPart part bytes → length bytes ≤ most_of part
-part_len (Word word) bytes is = omega (arith, ap (λ (l : List ℕ). length l) is)
-part_len (Number n) bytes is = is.few
-
-parts_len : (parts : List Part) (bytes : List ℕ) → Spell parts bytes → length bytes ≤ most parts
-parts_len [] bytes none = omega (arith, ap (λ (l : List ℕ). length l) none)
-parts_len (part ∷ parts) bytes (front, rest, whole, is, h) =
-    omega (
-      arith,
-      ap (λ (l : List ℕ). length l) whole,
-      length-append front rest,
-      part_len part front is,
-      parts_len parts rest h,
-    )
-
-event_len : (event : Line) → most (parts_of event) ≤ 17
-event_len says.Nothing = lit≤ tt
-event_len says.Send = lit≤ tt
-event_len (says.Packet n i) = lit≤ tt
-event_len (says.All n) = lit≤ tt
-event_len (says.Back n) = lit≤ tt
-event_len says.Play = lit≤ tt
-
-abbrev pub ReadLines : Type 0
-ReadLines = (line : List ℕ) (event : Line) → event_in line ≡ Some event → IsLine event line
-
-module _ (read : ReadLines) where
-  none_or : (rest : List ℕ) (o : Option Line) → event_in rest ≡ o → 17 < length rest → o ≡ None
-  none_or rest None is long = refl
-  none_or rest (Some event) is long = absurd (omega (
-    arith,
-    parts_len (parts_of event) rest (read rest event is),
-    event_len event,
-    long,
-  ))
-
+module _ (laws : LineLaws) where
   long_own : (k : ℕ) (line : List ℕ) → 64 < length line → of_one k (event_in (drop 2 line)) ≡ None
-  long_own k line long = ap (of_one k) (none_or (drop 2 line) (event_in (drop 2 line)) refl (two_less line long))
+  long_own k line long = ap (of_one k) (laws.long (drop 2 line) (two_less line long))
     where
       two_less : (l : List ℕ) → 64 < length l → 17 < length (drop 2 l)
       two_less [] long = absurd (omega (arith, long))
@@ -230,26 +184,26 @@ module _ (laws : LineLaws) (s : GroupState) (inputs : Role
       → Ended step (TraceRefused fault) inputs old mid
   bad_ends fault step is = record { last = bad_line fault; is = is; by = laws.bad fault inputs old mid read }
 
-  pub trace_stops : ReadLines → (buf : List ℕ) (stop : TraceStop)
+  pub trace_stops : (buf : List ℕ) (stop : TraceStop)
       → BytesGive (Err stop) reader (inputs Events) buf after (mid.left Events) → Moves {A = ℕ} (Err stop) reader after
       → GivesUp (phase (trace_stop stop)) (trace_stop stop) (group_step s inputs) (room_may_read s) inputs old mid
-  trace_stops lines buf stops.Read e moves = record {
+  trace_stops buf stops.Read e moves = record {
     part = of Events e.taken;
     partly = trace_part laws s inputs e.taken e.free;
     could = going moves.0;
     left = laws.some inputs old mid e.taken read e.gone;
     written = read.written;
   }
-  trace_stops lines buf (stops.Bad line) e moves =
+  trace_stops buf (stops.Bad line) e moves =
       bad_ends (BadLine line) _
       (line_is s inputs (inputs Events) None (some_bytes (inputs Events) e.0) (omega (arith, moves.1, at.lines_are))
-      (long_is_bad lines (length s.views) (first_line (inputs Events)) e.0)
+      (long_is_bad laws (length s.views) (first_line (inputs Events)) e.0)
       ∙ ap (λ (n : ℕ). step_of (bad_line (BadLine n))) (ap (λ (n : ℕ). n + 1) at.lines_are ∙ sym moves.2))
     where
       some_bytes : (trace : List ℕ) → 64 < length (first_line trace) → 0 < length trace
       some_bytes [] long = absurd (omega (arith, long))
       some_bytes (b ∷ trace) long = omega arith
-  trace_stops lines buf (stops.TooMany line) e moves =
+  trace_stops buf (stops.TooMany line) e moves =
       bad_ends (TooMany line) _
       (many_is s inputs (inputs Events) e.0 (at.lines_are ∙ moves.1)
       ∙ ap (λ (n : ℕ). step_of (bad_line (TooMany n))) (omega (arith, at.lines_are, moves.1, moves.2)))

@@ -31,23 +31,6 @@ module _ (m : Room) (mid new : Outside) (Begins : Outside → GroupState → (Ro
         rest = rest;
       })
 
-  -- one that can't write
-  pub was_cut : (r : Result Bool Status) (status : Status) → IsErrAnd r (λ z. z ≡ status)
-      → status ≡ WriteFault → Rose mid.faults.write new.faults.write → KeepsRoles mid new
-      → ((old : Outside) (s : GroupState) (inputs : Role → List ℕ) → Begins old s inputs
-      → GainsFronts (step_texts (step s inputs)) old.written new.written)
-      → IsLineTurn m r mid new Begins step
-  was_cut (Ok b) status is kind rose rest gives = absurd is
-  was_cut (Err z) status is kind rose rest gives =
-      subst (λ (w : Status). IsLineTurn m (Err w) mid new Begins step) (sym (is ∙ kind)) (record {
-        gives = gives;
-        goes_on = tt;
-        ready = tt;
-        stop = tt;
-        cause = rose;
-        rest = rest;
-      })
-
   -- one that goes on
   pub went_on : RoomReady m new.attached → KeepsRoles mid new
       → ((old : Outside) (s : GroupState) (inputs : Role → List ℕ) → Begins old s inputs

@@ -39,26 +39,6 @@ pub moved : (r known : Result (Option (ℕ × ℕ)) TraceStop) (old new : TraceP
     → Moves known old new
 moved r known old new is moves = subst (λ (q : Result (Option (ℕ × ℕ)) TraceStop). Moves q old new) is moves
 
--- what holds in any case holds where it is asked
-pub where_going : (r : Result Bool Status) (P : Type 0) → P → OnGoing r P
-where_going (Ok true) P p = p
-where_going (Ok false) P p = tt
-where_going (Err status) P p = tt
-
-pub where_settled : (r : Result Bool Status) (P : Type 0) → P → OnSettled r P
-where_settled (Ok true) P p = tt
-where_settled (Ok false) P p = p
-where_settled (Err status) P p = by_phase (phase status)
-  where
-    by_phase : (ph : Phase) → OnceSettled ph P
-    by_phase finished = p
-    by_phase refused = p
-    by_phase unread = tt
-    by_phase unwritten = tt
-    by_phase starved = tt
-    by_phase unasked = tt
-    by_phase (unopened role) = tt
-
 module _ (x y : Room) (old new : Outside) where
   -- one that gives up
   pub turn_gave_up : (r : Result Bool Status) (status : Status) → IsErrAnd r (λ z. z ≡ status) → IsStop status

@@ -78,19 +78,6 @@ watch_still p run later (viewer ∷ viewers) (view ∷ views) same w = (
 watch_still p run later [] (view ∷ views) same w = absurd w
 watch_still p run later (viewer ∷ viewers) [] same w = absurd w
 
-pub watched_at : (p : Params) (run : Groups) (k : ℕ) (viewer : Viewer) (viewers : List Viewer) (views : List ViewerRun)
-    → slice_get viewers k ≡ Some viewer → AllWatch p run viewers views → Watches p run viewer (view_in views k)
-watched_at p run zero viewer [] views is w = absurd (cc is)
-watched_at p run (suc k) viewer [] views is w = absurd (cc is)
-watched_at p run zero viewer (other ∷ viewers) [] is w = absurd w
-watched_at p run (suc k) viewer (other ∷ viewers) [] is w = absurd w
-watched_at p run zero viewer (other ∷ viewers) (view ∷ views) is w = subst (λ (o : Viewer). Watches p run o view)
-    (some_is is) w.0
-  where
-    some_is : {x y : Viewer} → Some x ≡ Some y → x ≡ y
-    some_is is = cc is
-watched_at p run (suc k) viewer (other ∷ viewers) (view ∷ views) is w = watched_at p run k viewer viewers views is w.1
-
 -- one receiver has done something, and the group has coded nothing
 pub watch_set : (p : Params) (run later : Groups) (k : ℕ) (viewer : Viewer) (view : ViewerRun) (viewers : List Viewer)
     (views : List ViewerRun) → length later.coded ≡ length run.coded
@@ -115,25 +102,6 @@ none_watched p run viewer none holds = record { holds = holds; near = omega (ari
 
 pub one_line_later : (sent line : ℕ) (viewer : Viewer) → IsViewing sent (line - 1) viewer → IsViewing sent line viewer
 one_line_later sent line viewer v = one_later sent (line - 1) line viewer (omega arith) v
-
-pub still_viewing : (sent line more : ℕ) (old new : Viewer) → new.receiver.played ≡ old.receiver.played
-    → new.tally ≡ old.tally → told_count new ≤ told_count old + more → more ≤ 400 → 1 ≤ line
-    → IsViewing sent (line - 1) old → IsViewing sent line new
-still_viewing sent line more old new played tally told few some v = record {
-  played = omega (arith, v.played, played);
-  counted = ap total_of tally ∙ v.counted ∙ sym played;
-  told = omega (arith, told, few, some, v.told);
-}
-
-pub played_viewing : (sent line : ℕ) (old new : Viewer) → new.receiver.played ≡ old.receiver.played + 1
-    → total_of new.tally ≡ total_of old.tally + 1 → told_count new ≤ told_count old + 1 → 1 ≤ line
-    → old.receiver.played < sent
-    → IsViewing sent (line - 1) old → IsViewing sent line new
-played_viewing sent line old new played counted told some ahead v = record {
-  played = omega (arith, ahead, played);
-  counted = omega (arith, counted, v.counted, played);
-  told = omega (arith, told, some, v.told);
-}
 
 pub line_before : (line : ℕ) → line - 1 ≤ line
 line_before line = omega arith

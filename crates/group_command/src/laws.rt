@@ -7,9 +7,6 @@ ghost use Rattle.y4m.specs.Head.{head_of};
 ghost use Rattle.y4m.specs.Video.{video_fault};
 ghost use Rattle.call_report.specs.declared.status.Status.TheVariants.{VideoRefused, Video2Refused};
 ghost use Rattle.h263_outside.specs.Desk.{Rose};
-ghost use Rattle.loss_trace.specs.declared.event.Event.{Event};
-ghost use Rattle.loss_trace.specs.Line.{IsLine};
-ghost use Rattle.loss_trace.specs.Reading.{event_in};
 ghost use Rattle.h263_types.specs.declared.format.Format.{Format};
 ghost use Rattle.h263_types.specs.Params.{IsParams};
 ghost use Rattle.desk_program.specs.Run.{video_refusal};
@@ -31,7 +28,6 @@ use group_sender::laws::newest_of_all;
 use h263_bits::Fault;
 use h263_outside::laws::calls;
 use h263_types::Mb;
-use loss_trace::laws::exact_lines;
 use one_way::laws::message_laws;
 use y4m::laws::frame_by_frame;
 
@@ -65,23 +61,19 @@ pub fn a_group_follows_its_trace()
 }
 
 /// What a turn rests on: how its reads and writes add up (`turns`, `steps`), a fault that rose
-/// stays (`rose`), what is left of the video (`video`) and of the trace (`lines`), and what a line
-/// says (`read`).
+/// stays (`rose`), what is left of the video (`video`) and of the trace (`lines`).
 pub fn turning()
     ensures turns { TurnLaws }
     ensures steps { StepLaws }
     ensures rose { (a b c : ℕ) → a ≤ b → Rose b c → Rose a c }
     ensures video { VideoLaws }
     ensures lines { LineLaws }
-    ensures read { (line : List ℕ) (event : Event) → event_in line ≡ Some event
-        → IsLine event line }
 {
     turn_laws();
     step_laws();
     calls();
     video_laws();
     line_laws();
-    exact_lines();
 }
 
 /// A video that is refused has that fault, and no earlier one.

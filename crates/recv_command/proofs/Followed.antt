@@ -19,7 +19,7 @@ use Rattle.desk_program.specs.Run.{Run, text_of}
 use Rattle.desk_program.specs.Texts.{on, only_at_ok}
 use Rattle.log_command.specs.Log.{LogRules}
 use Rattle.log_command.specs.Followed.{FollowsItsLog, IsEnd, mind_after, mind_with, text_after, text_with, turns_over}
-use Rattle.recv_command.specs.Followed.{ReceivesItsLog, counted, heard_as, said_entry, messages_text, pictures_text, receiver_play_lines, with_receiver_entries}
+use Rattle.recv_command.specs.Followed.{ReceivesItsLog, counted_heard, heard_as, said_entry, messages_text, pictures_text, receiver_play_lines, with_receiver_entries}
 use Rattle.recv_command.specs.Recv.{RecvState, nothing_heard, recv_rules}
 use Rattle.recv_command.specs.Said.{said_message_text}
 
@@ -116,7 +116,7 @@ module _ {State : Type 0} (rules : LogRules State) (at : List ReceiverEntry → 
 module _ (p : Params) where
   -- what the command keeps in mind after these packets and plays
   abbrev pub state : List ReceiverEntry → RecvState
-  state past = record { params = p; past = past; tally = counted p past }
+  state past = record { params = p; past = past; tally = counted_heard p past }
 
   mind_is : (past : List ReceiverEntry) (e : Entry) (bytes : List ℕ) → mind_with recv_rules (state past) e bytes
       ≡ state (heard_as e bytes ∷ past)

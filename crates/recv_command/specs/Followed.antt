@@ -70,10 +70,10 @@ module _ (p : Params) where
       ++ picture_text (run_of p past).played (Some (mark_of (mark_after p past))) None None
 
   -- what is counted: each play by its mark, and each packet by its answer
-  abbrev pub counted : List ReceiverEntry → Tally
-  counted [] = nothing_heard_counted
-  counted (Packet bytes ∷ past) = with_answer (answer_after p past bytes) (counted past)
-  counted (PlayNext ∷ past) = with_mark (mark_of (mark_after p past)) (counted past)
+  abbrev pub counted_heard : List ReceiverEntry → Tally
+  counted_heard [] = nothing_heard_counted
+  counted_heard (Packet bytes ∷ past) = with_answer (answer_after p past bytes) (counted_heard past)
+  counted_heard (PlayNext ∷ past) = with_mark (mark_of (mark_after p past)) (counted_heard past)
 
   -- The run is the receiver's over these packets and plays: its pictures are the head and then what
   -- the plays showed, its wire has what was said, and its report the lines of the plays, with the
@@ -83,7 +83,7 @@ module _ (p : Params) where
     pub wire : text_of run Wire ≡ messages_text past
     pub report : text_of run Report
         ≡ receiver_play_lines past
-        ++ only_at_ok run.last.status (receiver_counts (run_of p past).played (counted past))
+        ++ only_at_ok run.last.status (receiver_counts (run_of p past).played (counted_heard past))
 
   -- The entries that it accepts are the first ones of the log, one in each turn but the first, which
   -- writes the head. Over them the run is the receiver's, and it ends because of what comes after
@@ -121,6 +121,6 @@ pub record JoinsItsLog (p : Params) (inputs : Role → List ℕ) (run : Run) : T
       ++ only_at_ok run.last.status
       (join_text (joins_counted p.format (packets_among (with_receiver_entries [] accepted)))
       ++ receiver_counts (run_of p (through p.format (with_receiver_entries [] accepted))).played
-      (counted p (through p.format (with_receiver_entries [] accepted))))
+      (counted_heard p (through p.format (with_receiver_entries [] accepted))))
   pub end : IsEnd (log_fault OfReceiver (inputs Events))
       (run_of p (through p.format (with_receiver_entries [] accepted))).played refused run.last.status

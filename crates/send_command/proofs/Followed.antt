@@ -32,7 +32,7 @@ use Rattle.fitted_sender.specs.Aiming.{sent_by}
 use Rattle.send_command.specs.Aimed.{aim_at_start}
 use Rattle.send_command.specs.Send.{SendState, sender_read_all, bad_entry, entry_capture_step, capture_texts, captured, sender_entry_step, feedback_step, send_at_start, sender_frame_step, send_head_step, sender_log_step, most_entries, packets_text, send_begin, send_step}
 use Rattle.send_command.specs.Tally.{sender_counts}
-use Rattle.send_command.specs.Followed.{IsSenderEnd, SendsItsLog, Spares, counted, sender_film, frames_after, frames_with, no_frame_left, past_with, sent_lines, sent_text, with_sender_entries}
+use Rattle.send_command.specs.Followed.{IsSenderEnd, SendsItsLog, Spares, counted_sent, sender_film, frames_after, frames_with, no_frame_left, past_with, sent_lines, sent_text, with_sender_entries}
 
 -- ---- the entry that stands first
 
@@ -107,7 +107,7 @@ module _ (p : Params) (aim : Aim) (spelled : IsSpelled) where
     pub taken : length run.turns ≡ length accepted
     pub wire : sent_text p aim (with_sender_entries frames past accepted) ≡ sent_text p aim past ++ text_of run Wire
     pub report : sent_lines p aim (with_sender_entries frames past accepted)
-        ++ only_at_ok run.last.status (sender_counts (counted p aim (with_sender_entries frames past accepted)))
+        ++ only_at_ok run.last.status (sender_counts (counted_sent p aim (with_sender_entries frames past accepted)))
         ≡ sent_lines p aim past ++ text_of run Report
     pub end : IsSenderEnd fault broken (frames_after frames accepted) refused run.last.status
     pub others : Spares run.last.status run.last.taken
@@ -126,7 +126,7 @@ module _ (p : Params) (aim : Aim) (spelled : IsSpelled) where
     read = refl;
     taken = refl;
     wire = sym (append-nil (sent_text p aim past));
-    report = ap (λ (l : List ℕ). sent_lines p aim past ++ l) (silent (sender_counts (counted p aim past)));
+    report = ap (λ (l : List ℕ). sent_lines p aim past ++ l) (silent (sender_counts (counted_sent p aim past)));
     end = end;
     others = spares;
   }
@@ -143,7 +143,7 @@ module _ (p : Params) (aim : Aim) (spelled : IsSpelled) where
 
   comes_end : (frames : List Frame) (past : List (SenderEntry Frame)) (B : Option Y4mFault) (rest : SendState
       → (Role → ℕ) → Run)
-      → Comes frames past [] None B (follow (stopped (sender_read_all (counted p aim past))) rest)
+      → Comes frames past [] None B (follow (stopped (sender_read_all (counted_sent p aim past))) rest)
   comes_end frames past B rest = record {
     accepted = [];
     refused = [];
@@ -190,7 +190,7 @@ module _ (p : Params) (aim : Aim) (spelled : IsSpelled) where
       record {
         params = p;
         sent = sent_by p aim past;
-        tally = counted p aim past;
+        tally = counted_sent p aim past;
         at = at;
         read = read;
         video_at = video_at;

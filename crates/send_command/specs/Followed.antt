@@ -82,13 +82,13 @@ module _ (p : Params) (aim : Aim) where
   sent_lines (Feedback bytes ∷ past) = sent_lines past
 
   -- what is counted: the pictures with their packets, and feedback by its answer
-  abbrev pub counted : List (SenderEntry Frame) → Tally
-  counted [] = nothing_sent_counted
-  counted (Capture frame ∷ past) =
-      with_sent_picture (length (packets_after p (sent_by p aim (Capture frame ∷ past)).run)) (counted past)
-  counted (Feedback bytes ∷ past) =
+  abbrev pub counted_sent : List (SenderEntry Frame) → Tally
+  counted_sent [] = nothing_sent_counted
+  counted_sent (Capture frame ∷ past) =
+      with_sent_picture (length (packets_after p (sent_by p aim (Capture frame ∷ past)).run)) (counted_sent past)
+  counted_sent (Feedback bytes ∷ past) =
       with_reply (feedback_answer (rules_of p) (length (sent_by p aim past).run.run.coded)
-      (read_message p.clock bytes)) (counted past)
+      (read_message p.clock bytes)) (counted_sent past)
 
 -- how a capture ends it for which no frame is left
 abbrev pub no_frame_left : Option Y4mFault → ℕ → Status
@@ -126,7 +126,7 @@ pub record SendsItsLog (p : Params) (aim : Aim) (inputs : Role → List ℕ) (ru
   pub report : text_of run Report
       ≡ sent_lines p aim (with_sender_entries (sender_film p (video_frames (inputs Video))) [] accepted)
       ++ only_at_ok run.last.status
-      (sender_counts (counted p aim (with_sender_entries (sender_film p (video_frames (inputs Video))) [] accepted)))
+      (sender_counts (counted_sent p aim (with_sender_entries (sender_film p (video_frames (inputs Video))) [] accepted)))
   pub end : IsSenderEnd (log_fault sides.Send (inputs Events)) (video_fault (inputs Video))
       (frames_after (sender_film p (video_frames (inputs Video))) accepted) refused run.last.status
   pub others : Spares run.last.status run.last.taken

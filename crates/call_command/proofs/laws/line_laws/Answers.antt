@@ -1,10 +1,12 @@
 use Rattle.call_command.proofs.Lines.{bad_by, frame_held, has_taken, line_gone, line_part, nothing_after, over_by, refused_by, some_read}
+use Rattle.call_command.proofs.LongLines.{says_nothing}
 use Rattle.call_command.proofs.laws.line_laws.Goals as goal
 
 pub returns : goal.returns
 returns c =
     let turns = c.turn_laws.ensures in
     record {
+      long = says_nothing c.exact_lines.ensures.read;
       gone = line_gone;
       last = nothing_after;
       line_part = line_part;

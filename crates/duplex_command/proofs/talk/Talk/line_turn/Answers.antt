@@ -33,7 +33,7 @@ returns-in_err-line g c =
     }) m.trace c.raw.new.self (record {
       lines_are = k.lines;
       ended_is = k.ended;
-    }) c.turning.ensures.read c.raw.new.buf stop
+    }) c.raw.new.buf stop
     (c.in_err-line.ensures.gives (inputs Events) (told Events refl)) c.in_err-line.ensures.moves)
 
 pub returns-in_err-tell_counts : goal.returns-in_err-tell_counts
